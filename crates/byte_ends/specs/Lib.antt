@@ -1,0 +1,5 @@
+pub mod Failures
+pub mod Ends
+pub mod Broken
+pub mod ReadAll
+pub mod Lines

@@ -1,0 +1,11 @@
+pub mod Slots
+pub mod LifeOrder
+pub mod Registers
+pub mod Change
+pub mod Codes
+pub mod Written
+pub mod StateOf
+pub mod StateLaws
+pub mod Status
+pub mod Views
+pub mod Parts

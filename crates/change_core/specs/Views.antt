@@ -1,0 +1,27 @@
+-- What Gerrit and Zuul see of a change (Gerrit, "Review Labels" and "Changes"; Zuul, "Gerrit driver").
+use Rattle.std.specs.Prelude.{◌≤◌, ℕ, Option, None, Some, MatchOption, IsSome, if◌then◌else◌}
+use Rattle.std.specs.FinMap as map
+use Rattle.review_ops.specs.Timestamp.{Timestamp}
+use Rattle.change_core.specs.Change.{Change}
+use Rattle.change_core.specs.declared.life.Life.{Life}
+use Rattle.change_core.specs.declared.life.Life.TheVariants as life
+use Rattle.change_core.specs.declared.life.Status.{Status}
+use Rattle.change_core.specs.declared.life.Status.TheVariants.{New, Abandoned, Merged}
+
+-- the patch set is known
+abbrev pub IsKnownSet : Change → ℕ → Type 0
+IsKnownSet change set = IsSome (map.get change.sets set)
+
+-- the current patch set is the greatest known one, where one is known
+abbrev pub IsCurrent : Change → Option ℕ → Type 0
+IsCurrent change current = MatchOption current ((set : ℕ) → ¬ IsKnownSet change set) (λ set. IsKnownSet change set × ((other : ℕ) → IsKnownSet change other → other ≤ set))
+
+-- what the newest abandon or restore says
+abbrev pub status_by : Option (Timestamp × Life) → Status
+status_by None = New
+status_by (Some (stamp, life.Abandoned)) = Abandoned
+status_by (Some (stamp, life.Restored)) = New
+
+-- merged is final
+abbrev pub status_of : Change → Status
+status_of change = if change.merged then Merged else status_by change.life

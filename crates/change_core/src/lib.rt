@@ -1,0 +1,12 @@
+//! The state of one Gerrit change: last-writer-wins registers and a grow-only flag, joined as a lattice.
+#![tactic(auto)]
+
+mod commit;
+mod life;
+mod state;
+mod vote_slot;
+
+pub use commit::Commit;
+pub use life::{Life, Status};
+pub use state::ChangeState;
+pub use vote_slot::VoteSlot;

@@ -1,0 +1,211 @@
+ghost use Rattle.std.specs.Prelude.{◌≡◌, ◌↔◌, IsTrue, IfOk, OnOk, OnErr, string_bytes};
+ghost use Rattle.std.specs.Ordering.{ord_max};
+ghost use Rattle.lattice_core.specs.JoinMap.{put_joined};
+ghost use Rattle.change_core.specs.Change.{no_change, effect_of, change_joined, patch_order, vote_order};
+ghost use Rattle.change_core.specs.Parts.{sets_shown, votes_shown};
+ghost use Rattle.change_core.specs.Views.{status_of};
+
+use super::commit::Commit;
+use super::life::{Life, Status};
+use super::vote_slot::VoteSlot;
+use lattice_core::{Flag, Greatest, Join, JoinMap, Keep, NoMemory, Register};
+use review_ops::{Draft, Op, Stamp};
+use std::alloc::{Allocator, Global};
+use std::marker::Model;
+
+/// The state of one change: what the operations on it add up to, in whatever order they came. Contracts see a `Change`: whether it is
+/// merged, the newest abandon or restore, and the registers of its patch sets and of its votes.
+#[derive(Drop)]
+pub struct ChangeState<A: Allocator + Copy = Global> {
+    merged: Flag,
+    life: Greatest<Stamp, Life>,
+    sets: JoinMap<u32, Register<Stamp, Commit<A>>, A>,
+    votes: JoinMap<VoteSlot<A>, Register<Stamp, i8>, A>,
+}
+
+impl<A: Allocator + Copy> Model for ChangeState<A> {
+    ghost use Rattle.change_core.specs.Change.{Change};
+    ghost use Rattle.change_core.specs.Codes.{change_code};
+
+    ghost Value = { Change };
+
+    ghost coded = { change_code };
+
+    ghost use Rattle.change_core.specs.Parts.{change_of_parts};
+
+    ghost view = { λ c. change_of_parts c.merged c.life c.sets c.votes };
+}
+
+impl<A: Allocator + Copy> ChangeState<A> {
+    /// The state of no operation.
+    pub fn new(alloc: A) -> ChangeState<A>
+        ensures { result ≡ no_change }
+    {
+        ChangeState {
+            merged: Flag::new(false),
+            life: Greatest::new(),
+            sets: JoinMap::new(alloc),
+            votes: JoinMap::new(alloc),
+        }
+    }
+
+    /// Joins the effect of an operation into the state. The operation's change isn't looked at. Where memory is refused nothing changes.
+    pub fn take(&mut self, op: &Op<A>) -> Result<(), NoMemory>
+        ensures ok { OnOk result (self.new ≡ change_joined self.old (effect_of op.now)) }
+        ensures err { OnErr result (self.new ≡ self.old) }
+    {
+        let stamp = op.stamp();
+        match op.body().draft() {
+            Draft::PatchSet {
+                set,
+                message,
+                parent,
+                ..
+            } => write_set(&mut self.sets, stamp, *set, message, *parent),
+            Draft::Vote {
+                set,
+                label,
+                voter,
+                value,
+                ..
+            } => write_vote(&mut self.votes, stamp, *set, label, voter, *value),
+            Draft::Withdraw {
+                set,
+                label,
+                voter,
+                ..
+            } => write_vote(&mut self.votes, stamp, *set, label, voter, 0),
+            Draft::Abandon { .. } => self.life.join(Greatest::of(stamp, Life::Abandoned)),
+            Draft::Restore { .. } => self.life.join(Greatest::of(stamp, Life::Restored)),
+            Draft::Merged { .. } => self.merged.join(Flag::new(true)),
+        }
+    }
+
+    /// The status, as Gerrit has it: merged is final, else the newest abandon or restore decides.
+    pub fn status(&self) -> Status
+        ensures { result ≡ status_of self.now }
+    {
+        if self.merged.is_raised() {
+            return Status::Merged;
+        }
+        match self.life() {
+            Some((_, Life::Abandoned)) => Status::Abandoned,
+            _ => Status::New,
+        }
+    }
+
+    /// Whether the status is NEW.
+    pub fn is_open(&self) -> bool
+        ensures { IsTrue result ↔ (status_of self.now ≡ Status.New) }
+    {
+        matches!(self.status(), Status::New)
+    }
+
+    /// The winning abandon or restore, with its stamp.
+    pub fn life(&self) -> Option<(Stamp, Life)>
+        ensures { result ≡ self.now.life }
+    {
+        let register = self.life.get()?;
+        Some((*register.key(), *register.value()))
+    }
+
+    /// The registers of the known patch sets.
+    pub fn sets(&self) -> &JoinMap<u32, Register<Stamp, Commit<A>>, A>
+        ensures { sets_shown result.now ≡ self.now.sets }
+    {
+        &self.sets
+    }
+
+    /// The registers of the slots with a vote or a withdrawn vote, by patch set, label and voter.
+    pub fn votes(&self) -> &JoinMap<VoteSlot<A>, Register<Stamp, i8>, A>
+        ensures { votes_shown result.now ≡ self.now.votes }
+    {
+        &self.votes
+    }
+}
+
+/// Joined part by part. After a refusal the state lies between the old one and the join.
+impl<A: Allocator + Copy> Join for ChangeState<A> {
+    ghost use Rattle.change_core.specs.Change.{Change, change_joined, changes_join};
+
+    ghost Shape = { Change };
+
+    ghost shape = { λ c. c };
+
+    ghost joined = { change_joined };
+
+    ghost laws = { changes_join };
+
+    fn join(&mut self, other: ChangeState<A>) -> Result<(), NoMemory> {
+        let ChangeState {
+            merged,
+            life,
+            sets,
+            votes,
+        } = other;
+        self.merged.join(merged)?;
+        self.life.join(life)?;
+        self.sets.join(sets)?;
+        self.votes.join(votes)
+    }
+
+    fn covers(&self, other: &ChangeState<A>) -> bool {
+        self.merged.covers(&other.merged)
+            && self.life.covers(&other.life)
+            && self.sets.covers(&other.sets)
+            && self.votes.covers(&other.votes)
+    }
+
+    fn same(&self, other: &ChangeState<A>) -> bool {
+        self.merged.same(&other.merged)
+            && self.life.same(&other.life)
+            && self.sets.same(&other.sets)
+            && self.votes.same(&other.votes)
+    }
+
+    fn copy(&self) -> Result<ChangeState<A>, NoMemory> {
+        let merged = self.merged;
+        let life = self.life.copy()?;
+        let sets = self.sets.copy()?;
+        let votes = self.votes.copy()?;
+        Ok(ChangeState {
+            merged,
+            life,
+            sets,
+            votes,
+        })
+    }
+}
+
+/// Writes a commit to the register of its patch set.
+fn write_set<A: Allocator + Copy>(
+    sets: &mut JoinMap<u32, Register<Stamp, Commit<A>>, A>,
+    stamp: Stamp,
+    set: u32,
+    message: &String<A>,
+    parent: Option<u32>,
+) -> Result<(), NoMemory>
+    ensures ok { OnOk result (sets_shown sets.new ≡ put_joined (ord_max patch_order) (sets_shown sets.old) set (stamp, record { message = string_bytes message.now; parent = parent })) }
+    ensures err { OnErr result (sets_shown sets.new ≡ sets_shown sets.old) }
+{
+    let message = message.copy()?;
+    let register = Register::new(stamp, Commit { message, parent });
+    sets.join_at(set, register)
+}
+
+/// Writes a score to the register of its slot.
+fn write_vote<A: Allocator + Copy>(
+    votes: &mut JoinMap<VoteSlot<A>, Register<Stamp, i8>, A>,
+    stamp: Stamp,
+    set: u32,
+    label: &String<A>,
+    voter: &String<A>,
+    value: i8,
+) -> Result<(), NoMemory>
+    ensures ok { OnOk result (votes_shown votes.new ≡ put_joined (ord_max vote_order) (votes_shown votes.old) (record { set = set; label = string_bytes label.now; voter = string_bytes voter.now }) (stamp, value)) }
+    ensures err { OnErr result (votes_shown votes.new ≡ votes_shown votes.old) }
+{
+    let label = label.copy()?;
+    let voter = voter.copy()?;
+    votes.join_at(VoteSlot { set, label, voter }, Register::new(stamp, value))
+}

@@ -1,0 +1,12 @@
+mod Bads
+mod Blanks
+mod Collected
+mod Copies
+mod Forms
+mod Names
+mod Numbers
+mod Numerals
+mod Patches
+mod Projects
+mod Texts
+mod Values

@@ -1,0 +1,4 @@
+pub mod AtKey
+pub mod Exits
+pub mod Pairs
+pub mod Walks

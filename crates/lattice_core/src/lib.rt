@@ -1,0 +1,32 @@
+//! States that replicas merge by a join: in whatever order, grouping and number they are joined, the same state comes out.
+//!
+//! `Join` is the trait of such states, with its laws. `Flag`, `Register` and `Greatest` are the least of them; `Both` and
+//! `JoinMap` are made of others, and their laws follow from those of their parts. `Keep` is the trait of what they hold: keys
+//! and values with an exact order. Contracts speak of shapes: what values are, wherever they lie in memory.
+#![tactic(auto)]
+
+mod both;
+mod flag;
+mod greatest;
+mod join;
+mod join_map;
+mod keep;
+mod laws;
+mod memory;
+mod register;
+
+pub use both::Both;
+pub use flag::Flag;
+pub use greatest::Greatest;
+pub use join::{Join, join_all};
+pub use join_map::JoinMap;
+pub use keep::Keep;
+pub use laws::{
+    covering_is_the_order_of_the_join, lists_join_in_any_order, maps_join_key_by_key,
+    registers_join_to_the_greatest,
+};
+pub use memory::NoMemory;
+pub use register::Register;
+
+#[cfg(test)]
+mod tests;

@@ -1,0 +1,11 @@
+pub mod Fields
+pub mod Entries
+pub mod BadKeys
+pub mod Fits
+pub mod Taken
+pub mod Once
+pub mod Written
+pub mod Found
+pub mod Spelled
+pub mod Fronts
+pub mod Lines

@@ -1,0 +1,18 @@
+ghost use Rattle.op_text.specs.Text.{IsOneLine, body_text, operation_text};
+ghost use Rattle.review_ops.specs.Good.{IsGood};
+ghost use Rattle.review_ops.specs.Operation.{Operation};
+ghost use Rattle.review_ops.specs.Deed.{Deed};
+ghost use Rattle.review_ops.specs.Timestamp.{IsNumbered};
+ghost use Rattle.op_text.specs.Spelling.{SpellsBody, SpellsOperation};
+
+/// A law: the text of each operation stands on one line, and spells the operation.
+pub fn operations_are_spelled()
+    ensures line { (op : Operation) → IsNumbered op.stamp → IsGood op.deed → IsOneLine (operation_text op) }
+    ensures spells { (op : Operation) → IsNumbered op.stamp → IsGood op.deed → SpellsOperation (operation_text op) op }
+{}
+
+/// A law: the text of each good body stands on one line, and spells the body.
+pub fn bodies_are_spelled()
+    ensures line { (deed : Deed) → IsGood deed → IsOneLine (body_text deed) }
+    ensures spells { (deed : Deed) → IsGood deed → SpellsBody (body_text deed) deed }
+{}

@@ -1,0 +1,35 @@
+-- A journal is a set of operations: the grow-only set of Shapiro, Preguiça, Baquero and Zawirski (INRIA RR-7506, 2011, 3.3.1). It is
+-- given by the list of its arrivals, each operation once, in the order in which it first came.
+use Rattle.std.specs.Prelude.{◌≡◌, Bool, true, false, List, [], ◌∷◌, ◌++◌, if◌then◌else◌}
+use Rattle.std.specs.Ordering.{eq_by_cmp}
+use Rattle.std.specs.List.{list_any}
+use Rattle.review_ops.specs.Operation.{Operation, operation_cmp}
+use Rattle.replica_core.specs.declared.taken.Taken.{Taken}
+use Rattle.replica_core.specs.declared.taken.Taken.TheVariants.{New, Known}
+
+-- whether two are one operation: one stamp and one body
+abbrev pub same_operation : Operation → Operation → Bool
+same_operation = eq_by_cmp operation_cmp
+
+-- whether the journal has the operation
+abbrev pub has : List Operation → Operation → Bool
+has journal op = list_any (λ arrived. same_operation arrived op) journal
+
+-- the journal once the operation has come: it is added where it is new
+abbrev pub arrived : List Operation → Operation → List Operation
+arrived journal op = if has journal op then journal else journal ++ op ∷ []
+
+-- the journal once these have come, one after the other
+abbrev pub all_arrived : List Operation → List Operation → List Operation
+all_arrived journal [] = journal
+all_arrived journal (op ∷ ops) = all_arrived (arrived journal op) ops
+
+-- no operation stands twice
+abbrev pub AreApart : List Operation → Type 0
+AreApart [] = Unit {0}
+AreApart (op ∷ journal) = (has journal op ≡ false) × AreApart journal
+
+-- how the coming of an operation is answered
+abbrev pub taken_of : Bool → Taken
+taken_of true = Known
+taken_of false = New

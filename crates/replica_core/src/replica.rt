@@ -1,0 +1,118 @@
+ghost use Rattle.std.specs.Prelude.{◌≡◌, IfOk, OnOk, OnErr, [], length};
+ghost use Rattle.std.specs.Option.{option_copied};
+ghost use Rattle.std.specs.FinMap.{get};
+ghost use Rattle.replica_core.specs.Journal.{has, arrived, taken_of};
+ghost use Rattle.replica_core.specs.State.{state_of, state_shown, with_effect};
+
+use super::taken::Taken;
+use change_core::ChangeState;
+use lattice_core::{JoinMap, NoMemory};
+use review_ops::Op;
+use std::alloc::{Allocator, Global};
+use std::marker::Model;
+
+/// The journal of a site, and the state that it joins to. Contracts see the arrivals: each operation of the journal once, in the order in
+/// which it first came.
+#[derive(Drop)]
+pub struct Replica<A: Allocator + Copy = Global> {
+    arrivals: Vec<Op<A>, A>,
+    state: JoinMap<u32, ChangeState<A>, A>,
+    alloc: A,
+}
+
+impl<A: Allocator + Copy> Model for Replica<A> {
+    ghost use Rattle.std.specs.Prelude.{List};
+    ghost use Rattle.review_ops.specs.Operation.{Operation};
+    ghost use Rattle.replica_core.specs.Record.{IsRecord};
+
+    ghost Value = { List Operation };
+
+    ghost view = { λ r. r.arrivals.items };
+
+    ghost invariant = { λ r. IsRecord r.arrivals.items r.state };
+}
+
+impl<A: Allocator + Copy> Replica<A> {
+    /// The replica with an empty journal.
+    pub fn new(alloc: A) -> Replica<A>
+        ensures { result ≡ [] }
+    {
+        Replica {
+            arrivals: Vec::new(alloc),
+            state: JoinMap::new(alloc),
+            alloc,
+        }
+    }
+
+    /// Adds an operation to the journal and joins it into the state of its change, in place. Where memory is refused nothing changes.
+    pub fn take(&mut self, op: Op<A>) -> Result<Taken, NoMemory>
+        ensures ok { IfOk result (λ taken. (self.new ≡ arrived self.old op) × (taken ≡ taken_of (has self.old op))) }
+        ensures err { OnErr result (self.new ≡ self.old) }
+    {
+        if self.has(&op) {
+            return Ok(Taken::Known);
+        }
+        self.arrivals.try_reserve(1)?;
+        join_effect(&mut self.state, self.alloc, &op)?;
+        self.arrivals.push(op)?;
+        Ok(Taken::New)
+    }
+
+    /// Whether the journal has this operation.
+    pub fn has(&self, op: &Op<A>) -> bool
+        ensures { result ≡ has self.now op.now }
+    {
+        self.arrivals.iter().any(|arrived| arrived == op)
+    }
+
+    /// How many operations the journal has.
+    pub fn len(&self) -> usize
+        ensures { result ≡ length self.now }
+    {
+        self.arrivals.len()
+    }
+
+    /// The operations of the journal, each once, in the order in which they first came.
+    pub fn as_slice(&self) -> &[Op<A>]
+        ensures { result.now ≡ self.now }
+    {
+        self.arrivals.as_slice()
+    }
+
+    /// The allocator that the journal and the state take memory from.
+    pub fn allocator(&self) -> A {
+        self.alloc
+    }
+
+    /// The state of a change.
+    pub fn change(&self, number: u32) -> Option<&ChangeState<A>>
+        ensures { option_copied result ≡ get (state_of self.now) number }
+    {
+        self.state.get(&number)
+    }
+
+    /// The state of each change that an operation is on, in number order.
+    pub fn changes(&self) -> &JoinMap<u32, ChangeState<A>, A>
+        ensures { state_shown result.now ≡ state_of self.now }
+    {
+        &self.state
+    }
+}
+
+/// Joins the effect of an operation into the state of its change.
+fn join_effect<A: Allocator + Copy>(
+    state: &mut JoinMap<u32, ChangeState<A>, A>,
+    alloc: A,
+    op: &Op<A>,
+) -> Result<(), NoMemory>
+    ensures ok { OnOk result (state_shown state.new ≡ with_effect (state_shown state.old) op.now) }
+    ensures err { OnErr result (state_shown state.new ≡ state_shown state.old) }
+{
+    let number = op.body().change();
+    if let Some(change) = state.get_mut(&number) {
+        return change.take(op);
+    }
+    let mut change = ChangeState::new(alloc);
+    change.take(op)?;
+    state.put(number, change)
+}

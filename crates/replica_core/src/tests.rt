@@ -1,0 +1,275 @@
+//! Records worked out by hand, and what stands after refused memory.
+
+use super::front::{Front, Row};
+use super::replica::Replica;
+use super::state_text::WriteStateFault;
+use super::taken::Taken;
+use byte_ends::{Broken, Ends};
+use linked_list_allocator::LocalHeap;
+use review_ops::{Body, Draft, Op, Stamp};
+use std::alloc::{Allocator, Global};
+use std::process::Abort;
+use std::test::Fail;
+
+/// What a test lacks where memory is refused that it counts on.
+const MEMORY: &str = "memory";
+
+/// An operation with the time and sequence number `time`, of site 1 under start 1.
+fn stamped<A: Allocator + Copy>(time: u64, draft: Draft<A>) -> Option<Op<A>> {
+    let stamp = Stamp::new(time, 1, 1, time)?;
+    let body = Body::checked(draft).ok()?;
+    Some(Op::new(stamp, body))
+}
+
+fn text<A: Allocator + Copy>(alloc: A, text: &str) -> Option<String<A>> {
+    String::from_str(alloc, text).ok()
+}
+
+fn patch_set<A: Allocator + Copy>(
+    alloc: A,
+    time: u64,
+    message: &str,
+    parent: Option<u32>,
+) -> Option<Op<A>> {
+    let message = text(alloc, message)?;
+    stamped(
+        time,
+        Draft::PatchSet {
+            change: 101,
+            set: 1,
+            message,
+            parent,
+        },
+    )
+}
+
+fn vote<A: Allocator + Copy>(alloc: A, time: u64, value: i8) -> Option<Op<A>> {
+    let label = text(alloc, "Workflow")?;
+    let voter = text(alloc, "ann")?;
+    stamped(
+        time,
+        Draft::Vote {
+            change: 101,
+            set: 1,
+            label,
+            voter,
+            value,
+        },
+    )
+}
+
+fn withdrawal(alloc: Global, time: u64) -> Option<Op> {
+    let label = text(alloc, "workflow")?;
+    let voter = text(alloc, "ann")?;
+    stamped(
+        time,
+        Draft::Withdraw {
+            change: 101,
+            set: 1,
+            label,
+            voter,
+        },
+    )
+}
+
+/// The replicas that took the operations, the first in their order and the second in the other, print the text.
+fn assert_state(rt: &impl Abort, alloc: Global, ops: &[Op], wanted: &str) -> Result<(), Fail> {
+    let mut forth = Replica::new(alloc);
+    for op in ops {
+        assert_eq!(rt; forth.take(op.copy()?)?, Taken::New);
+    }
+    let mut back = Replica::new(alloc);
+    for op in ops.iter().rev() {
+        assert_eq!(rt; back.take(op.copy()?)?, Taken::New);
+        assert_eq!(rt; back.take(op.copy()?)?, Taken::Known);
+    }
+    for replica in [forth, back] {
+        let mut written = Ends::new(Vec::new(alloc));
+        replica.write_state(&mut written)?;
+        assert_eq!(rt; written.get_ref().as_slice(), wanted.as_bytes());
+        assert_eq!(rt; replica.len(), ops.len());
+    }
+    Ok(())
+}
+
+#[test]
+fn the_order_of_arrival_counts_for_nothing(rt: HostRuntime) -> Result<(), Fail> {
+    let alloc = rt.alloc();
+    let tie = [
+        patch_set(alloc, 1, "m", None).ok_or(MEMORY)?,
+        vote(alloc, 3, 1).ok_or(MEMORY)?,
+        vote(alloc, 3, 2).ok_or(MEMORY)?,
+    ];
+    assert_state(
+        &rt,
+        alloc,
+        tie.as_slice(),
+        "change 101 NEW\nset 101,1 1,1,1,1 \"m\"\nvote 101,1 workflow ann 2 3,1,1,3\nend 1\n",
+    )?;
+
+    let later = [
+        withdrawal(alloc, 4).ok_or(MEMORY)?,
+        vote(alloc, 5, 1).ok_or(MEMORY)?,
+    ];
+    assert_state(
+        &rt,
+        alloc,
+        later.as_slice(),
+        "change 101 NEW\nvote 101,1 workflow ann 1 5,1,1,5\nend 1\n",
+    )?;
+
+    let zero = [
+        vote(alloc, 6, 0).ok_or(MEMORY)?,
+        withdrawal(alloc, 6).ok_or(MEMORY)?,
+    ];
+    assert_state(
+        &rt,
+        alloc,
+        zero.as_slice(),
+        "change 101 NEW\nvote 101,1 workflow ann 0 6,1,1,6\nend 1\n",
+    )?;
+
+    let merged = [
+        patch_set(alloc, 1, "m", None).ok_or(MEMORY)?,
+        stamped(2, Draft::Merged { change: 101 }).ok_or(MEMORY)?,
+        stamped(3, Draft::Abandon { change: 101 }).ok_or(MEMORY)?,
+        stamped(4, Draft::Restore { change: 101 }).ok_or(MEMORY)?,
+    ];
+    assert_state(
+        &rt,
+        alloc,
+        merged.as_slice(),
+        "change 101 MERGED\nlife 101 restored 4,1,1,4\nset 101,1 1,1,1,1 \"m\"\nend 1\n",
+    )?;
+
+    let parents = [
+        patch_set(alloc, 1, "m", None).ok_or(MEMORY)?,
+        patch_set(alloc, 1, "m", Some(1)).ok_or(MEMORY)?,
+    ];
+    assert_state(
+        &rt,
+        alloc,
+        parents.as_slice(),
+        "change 101 NEW\nset 101,1 1,1,1,1 \"m\" parent 1\nend 1\n",
+    )?;
+
+    let messages = [
+        patch_set(alloc, 1, "m", Some(1)).ok_or(MEMORY)?,
+        patch_set(alloc, 1, "m", None).ok_or(MEMORY)?,
+        patch_set(alloc, 1, "n\n\"\\\t\u{1}", None).ok_or(MEMORY)?,
+    ];
+    assert_state(
+        &rt,
+        alloc,
+        messages.as_slice(),
+        "change 101 NEW\nset 101,1 1,1,1,1 \"n\\n\\\"\\\\\\t\\u0001\"\nend 1\n",
+    )
+}
+
+#[test]
+fn the_next_stamp_is_above_all(rt: HostRuntime) -> Result<(), Fail> {
+    let alloc = rt.alloc();
+    let mut replica = Replica::new(alloc);
+    assert_eq!(rt;
+        replica.next_stamp(2, 3)?,
+        Stamp::new(1, 2, 3, 1).ok_or("a stamp")?
+    );
+    replica.take(vote(alloc, 7, 1).ok_or(MEMORY)?)?;
+    assert_eq!(rt;
+        replica.next_stamp(1, 1)?,
+        Stamp::new(8, 1, 1, 8).ok_or("a stamp")?
+    );
+    assert_eq!(rt;
+        replica.next_stamp(1, 2)?,
+        Stamp::new(8, 1, 2, 1).ok_or("a stamp")?
+    );
+    assert_eq!(rt;
+        replica.next_stamp(2, 1)?,
+        Stamp::new(8, 2, 1, 1).ok_or("a stamp")?
+    );
+    let last = Stamp::new(9, 1, 1, u64::MAX).ok_or("a stamp")?;
+    let merged = Body::checked(Draft::Merged { change: 5 })?;
+    replica.take(Op::new(last, merged))?;
+    assert!(rt; replica.next_stamp(1, 1).is_err());
+    assert_eq!(rt;
+        replica.next_stamp(1, 2)?,
+        Stamp::new(10, 1, 2, 1).ok_or("a stamp")?
+    );
+    Ok(())
+}
+
+#[test]
+fn what_a_front_lacks_comes_in_order(rt: HostRuntime) -> Result<(), Fail> {
+    let alloc = rt.alloc();
+    let mut replica = Replica::new(alloc);
+    for time in [3, 1, 2] {
+        replica.take(vote(alloc, time, 1).ok_or(MEMORY)?)?;
+    }
+    let mut front = Front::new(alloc);
+    let row = Row { site: 1, start: 1 };
+    front.raise(row, 1)?;
+    front.raise(row, 0)?;
+    assert_eq!(rt; front.reach(row), 1);
+    assert_eq!(rt; front.reach(Row { site: 1, start: 2 }), 0);
+    let missing = replica.missing(&front, 1)?;
+    assert!(rt; missing.more);
+    let missing = replica.missing(&front, 2)?;
+    assert!(rt; !missing.more);
+    assert_eq!(rt; missing.ops.len(), 2);
+    assert_eq!(rt; missing.ops[0].stamp().seq(), 2);
+    assert_eq!(rt; missing.ops[1].stamp().seq(), 3);
+    Ok(())
+}
+
+/// Takes a patch set and a vote in a heap of this size, and says how many it took. What was refused left nothing behind.
+fn taken_in(rt: &impl Abort, alloc: Global, size: usize) -> Result<usize, Fail> {
+    let heap = LocalHeap::new(alloc, size)?;
+    let mut replica = Replica::new(&heap);
+    for time in [1, 2] {
+        let made = if time == 1 {
+            patch_set(&heap, time, "a message that takes room", None)
+        } else {
+            vote(&heap, time, 1)
+        };
+        let Some(op) = made else {
+            break;
+        };
+        let before = replica.len();
+        if replica.take(op).is_err() {
+            assert_eq!(rt; replica.len(), before);
+            let state = replica.change(101);
+            assert_eq!(rt; state.is_some(), before == 1);
+            assert!(rt; state.is_none_or(|change| change.votes().is_empty()));
+            break;
+        }
+    }
+    Ok(replica.len())
+}
+
+#[test]
+fn a_refused_take_changes_nothing(rt: HostRuntime) -> Result<(), Fail> {
+    let mut most = 0;
+    for steps in 0..256usize {
+        let taken = taken_in(&rt, rt.alloc(), steps * 64)?;
+        assert!(rt; taken >= most);
+        most = taken;
+    }
+    assert_eq!(rt; most, 2);
+    Ok(())
+}
+
+#[test]
+fn a_failing_writer_is_told(rt: HostRuntime) -> Result<(), Fail> {
+    let replica = Replica::new(rt.alloc());
+    let mut broken = Broken::at_call(Ends::new(Vec::new(rt.alloc())), 1);
+    assert_eq!(rt;
+        replica.write_state(&mut broken),
+        Err(WriteStateFault::WriteFault)
+    );
+    assert_eq!(rt; replica.write_state(&mut broken), Ok(()));
+    assert_eq!(rt;
+        broken.get_ref().get_ref().as_slice(),
+        b"end 0\n".as_slice()
+    );
+    Ok(())
+}

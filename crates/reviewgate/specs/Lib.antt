@@ -1,0 +1,3 @@
+pub mod ScriptLines
+pub mod Fields
+pub mod Faults
