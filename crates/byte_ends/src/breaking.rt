@@ -1,4 +1,4 @@
-ghost use Rattle.std.specs.Prelude.{◌≡◌, ◌≤◌, ◌<◌, length, true, false, IfOk, IsErr};
+ghost use Rattle.std.specs.Prelude.{◌≡◌, ℕ, ◌+◌, ◌≤◌, ◌<◌, ◌↔◌, List, length, fold, sum, true, false, IfOk, IsErr};
 ghost use Rattle.std.specs.Io.{ReadsAtMost, WritesAtMost};
 ghost use Rattle.std.specs.Io.KnownBytes.{ReadConsumes, WriteAppends};
 ghost use Rattle.byte_ends.specs.Failures.{CountsFailure};
@@ -210,3 +210,16 @@ impl<D: Drain> Drain for Broken<D> {
         self.due.failures_with(self.inner.failures())
     }
 }
+
+/// The one failure comes at the nth call, or at the first call on some bytes once n - 1 bytes have
+/// moved, and no other comes. `moves` are how many bytes the calls before it have moved.
+pub fn broken_fails_once()
+    ensures call { (n : ℕ) (moves : List ℕ) (length_now : ℕ)
+        → (is_due (fold due_after (Due.AtCall n) moves) length_now ≡ true)
+        ↔ (length moves + 1 ≡ n) }
+    ensures byte { (n : ℕ) (moves : List ℕ) (length_now : ℕ)
+        → (is_due (fold due_after (Due.BeforeByte n) moves) length_now ≡ true)
+        ↔ ((sum moves + 1 ≡ n) × (0 < length_now)) }
+    ensures over { (moves : List ℕ) (length_now : ℕ)
+        → is_due (fold due_after Due.Past moves) length_now ≡ false }
+{}

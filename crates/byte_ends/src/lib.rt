@@ -12,7 +12,7 @@ mod tests;
 mod traits;
 mod whole;
 
-pub use breaking::{Broken, Due};
+pub use breaking::{Broken, Due, broken_fails_once};
 pub use cut::Lines;
 pub use faults::{Failed, ReadAllFault};
 pub use over_std::Ends;

@@ -1,5 +1,6 @@
 use super::{
-    Broken, Drain, Ends, Failed, ReadAllFault, Source, none_failed_means_ok, read_all, write_all,
+    Broken, Drain, Ends, Failed, ReadAllFault, Source, broken_fails_once, none_failed_means_ok,
+    read_all, write_all,
 };
 use linked_list_allocator::LocalHeap;
 use std::test::Fail;
@@ -69,6 +70,7 @@ fn reading_fails_before_each_byte(rt: HostRuntime) -> Result<(), Fail> {
 // A source fails at its second call, and before its third byte.
 #[test]
 fn a_broken_source_goes_on(rt: HostRuntime) {
+    broken_fails_once();
     let mut piece = [0u8; 3];
     let mut source = Broken::at_call(Ends::new(b"abcd".as_slice()), 2);
     assert_eq!(rt; source.read(&mut piece), Ok(3));

@@ -7,8 +7,8 @@ use super::faults::{Failed, ReadAllFault};
 use super::traits::{Drain, Source};
 use std::alloc::Allocator;
 
-/// Writes all bytes of the slice. Where a write fails, it has taken those before it, and nothing is
-/// tried again.
+/// Writes all bytes of the slice, by as many writes as the drain needs. Where one fails, the drain
+/// has taken what the writes before it took, and nothing is tried again. Takes no memory.
 pub fn write_all<D: Drain>(drain: &mut D, bytes: &[u8]) -> Result<(), Failed>
     ensures ok { OnOk result (Appends (D.taken drain.old) (D.taken drain.new) bytes.now) }
     // Some front of the bytes was taken, not all.

@@ -19,10 +19,11 @@ pub record SpellsChange (digits : List ℕ) (change : ℕ) : Type 0 where
   pub at_least : 1 ≤ change
   pub at_most : change ≤ 4294967295
 
--- what may follow the `/` after a change's number: nothing, or a patch set's number, and perhaps a `/`
+-- what may follow the `/` after a change's number: nothing, a patch set's number, or such a number and a `/`
 abbrev pub IsPatch : List ℕ → Type 0
 IsPatch patch = (patch ≡ []) ⊎ (IsNumeral patch ⊎ ((digits : List ℕ) × IsNumeral digits × (patch ≡ digits ++ codes "/")))
 
+-- what may follow a change's number: nothing, or a `/` and what may follow that
 abbrev pub IsTail : List ℕ → Type 0
 IsTail tail = (tail ≡ []) ⊎ ((patch : List ℕ) × IsPatch patch × (tail ≡ codes "/" ++ patch))
 

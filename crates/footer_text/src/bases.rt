@@ -64,8 +64,8 @@ impl<A: Allocator> Model for Bases<A> {
 }
 
 impl<A: Allocator + Copy> Bases<A> {
-    /// Copies the texts. Where they are no bases, the answer is BadBase (1) with the place of the
-    /// first bad one, and no memory was asked for. NoMemory is 2.
+    /// Copies the texts, in time linear in their bytes. Where they are no bases, the answer is
+    /// BadBase (1) with the place of the first bad one, and no memory was asked for. NoMemory is 2.
     pub fn new(alloc: A, texts: &[&str]) -> Result<Bases<A>, BasesFault>
         ensures { IsBasesAnswer (map (λ text. text.now) texts.now) result }
     {
@@ -84,7 +84,7 @@ impl<A: Allocator + Copy> Bases<A> {
         Ok(Bases { texts: kept })
     }
 
-    /// How many there are, 1 to 8.
+    /// How many there are, 1 to 8. Takes no memory, as `get` and `iter`.
     pub fn len(&self) -> usize
         ensures length { result ≡ length self.now }
         ensures bases { AreBases self.now }
@@ -120,7 +120,7 @@ impl<A: Allocator + Copy> Bases<A> {
         None
     }
 
-    /// Equal bases.
+    /// Equal bases, in time linear in their bytes.
     pub fn copy(&self) -> Result<Bases<A>, NoMemory>
         ensures { IfOk result (λ copy. copy ≡ self.now) }
     {

@@ -74,7 +74,7 @@ fn change_number(digits: &str) -> Option<u32>
     Some(number as u32)
 }
 
-// Nothing, or a patch set's number, and perhaps a `/`.
+// Nothing, a patch set's number, or such a number and a `/`.
 fn is_patch(patch: &str) -> bool
     ensures { IsTrue result ↔ IsPatch patch.now }
 {

@@ -8,8 +8,14 @@ const REVIEW: &str = "https://review.example.org/";
 
 // The lines of a message: the third ends in a carriage return, the fifth in two blanks, and the
 // sixth is indented.
-const MESSAGE: &str =
-    "Fix it\n\nDEPENDS-ON:https://review.example.org/#/c/12/3/\r\nDepends-On: https://review.example.org/c/a/b/+/12\ndepends-on:   https://review.example.org/12  \n  Depends-On: https://review.example.org/13\nDepends-On: https://other.example.org/14\nDepends-On: https://review.example.org/4294967296\nDepends-On: https://review.example.org/9\n";
+const MESSAGE: &str = "Fix it\n\n\
+    DEPENDS-ON:https://review.example.org/#/c/12/3/\r\n\
+    Depends-On: https://review.example.org/c/a/b/+/12\n\
+    depends-on:   https://review.example.org/12  \n\
+    \x20 Depends-On: https://review.example.org/13\n\
+    Depends-On: https://other.example.org/14\n\
+    Depends-On: https://review.example.org/4294967296\n\
+    Depends-On: https://review.example.org/9\n";
 
 #[test]
 fn nine_lines(rt: HostRuntime) -> Result<(), Fail> {

@@ -11,7 +11,9 @@ ghost use Rattle.op_text.specs.Spelling.{HoldsDeed, HoldsStamp, SpellsBody, Spel
 
 use super::fault::OpTextFault;
 use super::field::{Field, Form, Kind};
+use super::quick::guessed_op;
 use super::shape::{found, object_of, shaped};
+use super::write::write_op;
 use review_ops::{Body, Draft, Op, Stamp};
 use serde_json::{Map, Value};
 use std::alloc::Global;
@@ -33,7 +35,8 @@ pub fn read_body(alloc: Global, bytes: &[u8]) -> Result<Draft, OpTextFault>
 
 /// Reads the text of an operation. The label of a vote is kept in lower case. What the text spells is read, unless memory
 /// runs out. Refusals: 1 `NotJson` and 2 `BadShape` as those of `read_body`; 3 `BadBody`, the body that the text spells
-/// isn't good, with the cause that `Body::checked` answers; 4 `NoMemory`. It costs the length of the text.
+/// isn't good, with the cause that `Body::checked` answers; 4 `NoMemory`. It costs the length of the text, and least where
+/// the text is as `write_op` writes it.
 pub fn read_op(alloc: Global, bytes: &[u8]) -> Result<Op, OpTextFault>
     ensures spelled { IfOk result (SpellsOperation bytes.now) }
     ensures refused { IfErr result (IsRefusalOf Form.Operation bytes.now) }
@@ -58,11 +61,28 @@ fn spelled_operation(alloc: Global, bytes: &[u8]) -> Result<Op, OpTextFault>
     ensures spelled { IfOk result (SpellsOperation bytes.now) }
     ensures refused { IfErr result (IsRefusalOf Form.Operation bytes.now) }
 {
+    if let Some(op) = as_written(alloc, bytes) {
+        return Ok(op);
+    }
     let members = object_of(alloc, bytes)?;
     let kind = shaped(alloc, &members, Form::Operation)?;
     let stamp = stamp_of(&members);
     let body = Body::checked(draft_of(members, kind)).map_err(OpTextFault::BadBody)?;
     Ok(Op::new(stamp, body))
+}
+
+/// The operation of a text as `write_op` writes it, which costs much less than reading any JSON. Other texts that spell an
+/// operation get no answer, and so does a text for which memory runs out.
+fn as_written(alloc: Global, bytes: &[u8]) -> Option<Op>
+    ensures { IfSome result (SpellsOperation bytes.now) }
+{
+    let op = guessed_op(alloc, bytes)?;
+    let written = write_op(alloc, &op).ok()?;
+    if written.as_bytes() == bytes {
+        Some(op)
+    } else {
+        None
+    }
 }
 
 /// The stamp in the members of an operation.

@@ -25,6 +25,13 @@ fn echoed(alloc: Global, text: &[u8]) -> Result<String, Fail> {
     }
 }
 
+/// The text behind a blank.
+fn with_blank(alloc: Global, text: &str) -> Result<String, AllocError> {
+    let mut spaced = String::from_str(alloc, " ")?;
+    spaced.push_str(text)?;
+    Ok(spaced)
+}
+
 /// What reading a body and checking it gives: its text, or the fault.
 fn echoed_body(alloc: Global, text: &[u8]) -> Result<String, Fail> {
     match read_body(alloc, text) {
@@ -50,6 +57,10 @@ fn written_as_read(rt: HostRuntime) -> Result<(), Fail> {
         r#"{"change":1,"message":"","op":"patchset","seq":3,"set":1,"site":1,"start":1,"time":2}"#,
     ] {
         let written = echoed(rt.alloc(), text.as_bytes())?;
+        assert_eq!(rt; written.as_str(), text);
+        // One blank more, and it isn't as it was written.
+        let spaced = with_blank(rt.alloc(), text)?;
+        let written = echoed(rt.alloc(), spaced.as_bytes())?;
         assert_eq!(rt; written.as_str(), text);
     }
     Ok(())

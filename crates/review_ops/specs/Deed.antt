@@ -75,7 +75,7 @@ value_of (abandon change) = None
 value_of (restore change) = None
 value_of (merged change) = None
 
--- the deed as it is kept: with its label in lower case (the project's own, since Gerrit's labels differ by more than case)
+-- the deed as it is kept: with its label in lower case, so that labels which differ in case alone are one (the project's own)
 abbrev pub kept_deed : Deed → Deed
 kept_deed (patch_set change set message parent) = patch_set change set message parent
 kept_deed (vote change set label voter value) = vote change set (map to_ascii_lowercase label) voter value

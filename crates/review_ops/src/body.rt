@@ -78,7 +78,8 @@ impl<A: Allocator + Copy> Body<A> {
         ensures value { deed_of result ≡ self }
         ensures good { IsGood self }
     {
-        self.draft
+        let Body { draft } = self;
+        draft
     }
 
     /// An equal body, with texts of its own on the same allocator. It costs the length of the texts.
