@@ -1,5 +1,5 @@
 -- What Gerrit and Zuul see of a change (Gerrit, "Review Labels" and "Changes"; Zuul, "Gerrit driver").
-use Rattle.std.specs.Prelude.{◌≤◌, ℕ, Option, None, Some, MatchOption, IsSome, if◌then◌else◌}
+use Rattle.std.specs.Prelude.{ℕ, List, Option, None, Some, IsSome, option_map, option_and_then, if◌then◌else◌}
 use Rattle.std.specs.FinMap as map
 use Rattle.review_ops.specs.Timestamp.{Timestamp}
 use Rattle.change_core.specs.Change.{Change}
@@ -12,9 +12,12 @@ use Rattle.change_core.specs.declared.life.Status.TheVariants.{New, Abandoned, M
 abbrev pub IsKnownSet : Change → ℕ → Type 0
 IsKnownSet change set = IsSome (map.get change.sets set)
 
--- the current patch set is the greatest known one, where one is known
-abbrev pub IsCurrent : Change → Option ℕ → Type 0
-IsCurrent change current = MatchOption current ((set : ℕ) → ¬ IsKnownSet change set) (λ set. IsKnownSet change set × ((other : ℕ) → IsKnownSet change other → other ≤ set))
+-- a patch set's message, and its parent's change
+abbrev pub message_of : Change → ℕ → Option (List ℕ)
+message_of change set = option_map (λ register. register.1.message) (map.get change.sets set)
+
+abbrev pub parent_of : Change → ℕ → Option ℕ
+parent_of change set = option_and_then (λ register. register.1.parent) (map.get change.sets set)
 
 -- what the newest abandon or restore says
 abbrev pub status_by : Option (Timestamp × Life) → Status

@@ -3,7 +3,8 @@ ghost use Rattle.std.specs.Ordering.{ord_max};
 ghost use Rattle.lattice_core.specs.JoinMap.{put_joined};
 ghost use Rattle.change_core.specs.Change.{no_change, effect_of, change_joined, patch_order, vote_order};
 ghost use Rattle.change_core.specs.Parts.{sets_shown, votes_shown};
-ghost use Rattle.change_core.specs.Views.{status_of};
+ghost use Rattle.std.specs.Option.{option_map};
+ghost use Rattle.change_core.specs.Views.{status_of, IsKnownSet, message_of, parent_of};
 
 use super::commit::Commit;
 use super::life::{Life, Status};
@@ -81,6 +82,15 @@ impl<A: Allocator + Copy> ChangeState<A> {
         }
     }
 
+    /// The state of one operation.
+    pub fn effect(alloc: A, op: &Op<A>) -> Result<ChangeState<A>, NoMemory>
+        ensures { IfOk result (λ state. state ≡ effect_of op.now) }
+    {
+        let mut state = ChangeState::new(alloc);
+        state.take(op)?;
+        Ok(state)
+    }
+
     /// The status, as Gerrit has it: merged is final, else the newest abandon or restore decides.
     pub fn status(&self) -> Status
         ensures { result ≡ status_of self.now }
@@ -107,6 +117,28 @@ impl<A: Allocator + Copy> ChangeState<A> {
     {
         let register = self.life.get()?;
         Some((*register.key(), *register.value()))
+    }
+
+    /// Whether the patch set is known. In logarithmic time.
+    pub fn has_set(&self, set: u32) -> bool
+        ensures { IsTrue result ↔ IsKnownSet self.now set }
+    {
+        self.sets.contains_key(&set)
+    }
+
+    /// The message of a patch set, where it is known. In logarithmic time.
+    pub fn message(&self, set: u32) -> Option<&str>
+        ensures { option_map (λ text. text.now) result ≡ message_of self.now set }
+    {
+        let register = self.sets.get(&set)?;
+        Some(register.value().message.as_str())
+    }
+
+    /// The change of a patch set's Git parent, where the patch set is known and names one. In logarithmic time.
+    pub fn parent(&self, set: u32) -> Option<u32>
+        ensures { result ≡ parent_of self.now set }
+    {
+        self.sets.get(&set)?.value().parent
     }
 
     /// The registers of the known patch sets.
