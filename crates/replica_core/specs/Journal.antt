@@ -3,6 +3,8 @@
 use Rattle.std.specs.Prelude.{◌≡◌, Bool, true, false, List, [], ◌∷◌, ◌++◌, if◌then◌else◌}
 use Rattle.std.specs.Ordering.{eq_by_cmp}
 use Rattle.std.specs.List.{list_any}
+use Rattle.std.specs.List.Sorted.{IsPermutation, IsSorted}
+use Rattle.review_ops.specs.Timestamp.{Timestamp, timestamp_cmp}
 use Rattle.review_ops.specs.Operation.{Operation, operation_cmp}
 use Rattle.replica_core.specs.declared.taken.Taken.{Taken}
 use Rattle.replica_core.specs.declared.taken.Taken.TheVariants.{New, Known}
@@ -15,6 +17,10 @@ same_operation = eq_by_cmp operation_cmp
 abbrev pub has : List Operation → Operation → Bool
 has journal op = list_any (λ arrived. same_operation arrived op) journal
 
+-- whether an operation of the journal has the stamp
+abbrev pub has_stamp : List Operation → Timestamp → Bool
+has_stamp journal stamp = list_any (λ arrived. eq_by_cmp timestamp_cmp arrived.stamp stamp) journal
+
 -- the journal once the operation has come: it is added where it is new
 abbrev pub arrived : List Operation → Operation → List Operation
 arrived journal op = if has journal op then journal else journal ++ op ∷ []
@@ -23,6 +29,11 @@ arrived journal op = if has journal op then journal else journal ++ op ∷ []
 abbrev pub all_arrived : List Operation → List Operation → List Operation
 all_arrived journal [] = journal
 all_arrived journal (op ∷ ops) = all_arrived (arrived journal op) ops
+
+-- the operations of a journal, in their order
+pub record IsInOrderOf (journal ordered : List Operation) : Type 0 where
+  pub same : IsPermutation journal ordered
+  pub sorted : IsSorted operation_cmp ordered
 
 -- no operation stands twice
 abbrev pub AreApart : List Operation → Type 0

@@ -14,4 +14,4 @@ pub use front::{Front, Row};
 pub use missing::Missing;
 pub use replica::Replica;
 pub use state_text::WriteStateFault;
-pub use taken::{ClockSpent, Taken};
+pub use taken::{ClockSpent, Partly, Taken};

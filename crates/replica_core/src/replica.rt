@@ -1,13 +1,14 @@
-ghost use Rattle.std.specs.Prelude.{◌≡◌, IfOk, OnOk, OnErr, [], length};
+ghost use Rattle.std.specs.Prelude.{◌≡◌, ◌↔◌, ◌<◌, Some, IsTrue, IfOk, slice_get, MatchResult, List, take, OnOk, OnErr, [], length};
 ghost use Rattle.std.specs.Option.{option_copied};
 ghost use Rattle.std.specs.FinMap.{get};
-ghost use Rattle.replica_core.specs.Journal.{has, arrived, taken_of};
+ghost use Rattle.review_ops.specs.Operation.{Operation};
+ghost use Rattle.replica_core.specs.Journal.{IsInOrderOf, all_arrived, has, has_stamp, arrived, taken_of};
 ghost use Rattle.replica_core.specs.State.{state_of, state_shown, with_effect};
 
-use super::taken::Taken;
+use super::taken::{Partly, Taken};
 use change_core::ChangeState;
-use lattice_core::{JoinMap, NoMemory};
-use review_ops::Op;
+use lattice_core::{Join, JoinMap, NoMemory};
+use review_ops::{Op, Stamp};
 use std::alloc::{Allocator, Global};
 use std::marker::Model;
 
@@ -58,6 +59,30 @@ impl<A: Allocator + Copy> Replica<A> {
         Ok(Taken::New)
     }
 
+    /// Takes in every operation of another replica, in the order of operations. Where memory is refused the first `taken` of them are in, and
+    /// nothing else.
+    pub fn absorb(&mut self, other: Replica<A>) -> Result<(), Partly>
+        ensures { (whole : List Operation) × IsInOrderOf other whole × MatchResult result
+            (λ _. self.new ≡ all_arrived self.old whole)
+            (λ partly. self.new ≡ all_arrived self.old (take partly.taken whole)) }
+    {
+        let Replica {
+            mut arrivals,
+            state: _,
+            alloc: _,
+        } = other;
+        arrivals.sort_unstable();
+        arrivals.reverse();
+        let mut taken = 0;
+        while let Some(op) = arrivals.pop() {
+            if self.take(op).is_err() {
+                return Err(Partly { taken });
+            }
+            taken += 1;
+        }
+        Ok(())
+    }
+
     /// Whether the journal has this operation.
     pub fn has(&self, op: &Op<A>) -> bool
         ensures { result ≡ has self.now op.now }
@@ -65,11 +90,55 @@ impl<A: Allocator + Copy> Replica<A> {
         self.arrivals.iter().any(|arrived| arrived == op)
     }
 
+    /// Whether the journal has an operation with this stamp.
+    pub fn has_stamp(&self, stamp: Stamp) -> bool
+        ensures { result ≡ has_stamp self.now stamp }
+    {
+        self.arrivals
+            .iter()
+            .any(|arrived| arrived.stamp().cmp(&stamp).is_eq())
+    }
+
+    /// Whether the two have equal states. Their journals may differ.
+    pub fn same_state(&self, other: &Replica<A>) -> bool
+        ensures { IsTrue result ↔ (state_of self.now ≡ state_of other.now) }
+    {
+        self.state.same(&other.state)
+    }
+
+    /// An equal replica: the same arrivals in the same order.
+    pub fn copy(&self) -> Result<Replica<A>, NoMemory>
+        ensures { IfOk result (λ copied. copied ≡ self.now) }
+    {
+        let arrivals = copy_ops(self.alloc, self.as_slice())?;
+        let state = self.state.copy()?;
+        Ok(Replica {
+            arrivals,
+            state,
+            alloc: self.alloc,
+        })
+    }
+
     /// How many operations the journal has.
     pub fn len(&self) -> usize
         ensures { result ≡ length self.now }
     {
         self.arrivals.len()
+    }
+
+    /// How many operations arrived, each counted once.
+    pub fn arrivals(&self) -> usize
+        ensures { result ≡ length self.now }
+    {
+        self.len()
+    }
+
+    /// The operation that came at a place, from 0 on, in the order in which they first came.
+    pub fn arrival(&self, place: usize) -> &Op<A>
+        requires { place < length self.now }
+        ensures { slice_get self.now place ≡ Some result.now }
+    {
+        &self.arrivals[place]
     }
 
     /// The operations of the journal, each once, in the order in which they first came.
@@ -115,4 +184,15 @@ fn join_effect<A: Allocator + Copy>(
     let mut change = ChangeState::new(alloc);
     change.take(op)?;
     state.put(number, change)
+}
+
+/// Copies of operations, in their order.
+fn copy_ops<A: Allocator + Copy>(alloc: A, ops: &[Op<A>]) -> Result<Vec<Op<A>, A>, NoMemory>
+    ensures { IfOk result (λ copies. copies.items ≡ ops.now) }
+{
+    let mut copies = Vec::with_capacity(alloc, ops.len())?;
+    for op in ops {
+        copies.push(op.copy()?)?;
+    }
+    Ok(copies)
 }

@@ -11,3 +11,11 @@ pub enum Taken {
 #[derive(Clone, Copy, Debug, PartialEq, Eq, Error)]
 #[error("no stamp is left")]
 pub struct ClockSpent;
+
+/// Memory was refused after so many operations of an absorbed journal, in the order of operations.
+#[derive(Clone, Copy, Debug, PartialEq, Eq, Error)]
+#[error("no memory after {taken} operations")]
+pub struct Partly {
+    /// How many of them are in.
+    pub taken: usize,
+}

@@ -259,6 +259,74 @@ fn a_refused_take_changes_nothing(rt: HostRuntime) -> Result<(), Fail> {
 }
 
 #[test]
+fn a_copy_is_equal_and_what_it_gains_is_absorbed(rt: HostRuntime) -> Result<(), Fail> {
+    let alloc = rt.alloc();
+    let mut first = Replica::new(alloc);
+    first.take(patch_set(alloc, 1, "m", None).ok_or(MEMORY)?)?;
+    let mut second = first.copy()?;
+    assert!(rt; second.same_state(&first));
+    assert!(rt; second.as_slice().eq(first.as_slice()));
+    for time in [3, 2] {
+        second.take(vote(alloc, time, 1).ok_or(MEMORY)?)?;
+    }
+    assert!(rt; !second.same_state(&first));
+    let third = Stamp::new(3, 1, 1, 3).ok_or("a stamp")?;
+    assert!(rt; second.has_stamp(third));
+    assert!(rt; !first.has_stamp(third));
+    first.take(withdrawal(alloc, 4).ok_or(MEMORY)?)?;
+    first.absorb(second)?;
+    assert_eq!(rt; first.arrivals(), 4);
+    for (op, seq) in first.as_slice().iter().zip([1, 4, 2, 3]) {
+        assert_eq!(rt; op.stamp().seq(), seq);
+    }
+    if 1 < first.len() {
+        assert_eq!(rt; first.arrival(1).stamp().seq(), 4);
+    }
+    Ok(())
+}
+
+/// Whether a heap of this size suffices for a replica to absorb one with three votes, and for a copy of both. What was refused left the
+/// first votes in.
+fn absorbed_in(rt: &impl Abort, alloc: Global, size: usize) -> Result<bool, Fail> {
+    let heap = LocalHeap::new(alloc, size)?;
+    let mut other = Replica::new(&heap);
+    for time in [3, 2, 1] {
+        let Some(op) = vote(&heap, time, 1) else {
+            return Ok(false);
+        };
+        if other.take(op).is_err() {
+            return Ok(false);
+        }
+    }
+    let mut replica = Replica::new(&heap);
+    let absorbed = match replica.absorb(other) {
+        Ok(()) => 3,
+        Err(partly) => partly.taken,
+    };
+    assert_eq!(rt; replica.len(), absorbed);
+    for (op, seq) in replica.as_slice().iter().zip([1, 2, 3]) {
+        assert_eq!(rt; op.stamp().seq(), seq);
+    }
+    let Ok(copied) = replica.copy() else {
+        return Ok(false);
+    };
+    assert!(rt; copied.same_state(&replica));
+    Ok(absorbed == 3)
+}
+
+#[test]
+fn a_refused_absorb_says_how_many_are_in(rt: HostRuntime) -> Result<(), Fail> {
+    let mut sufficed = false;
+    for steps in 0..256usize {
+        let suffices = absorbed_in(&rt, rt.alloc(), steps * 64)?;
+        assert!(rt; suffices || !sufficed);
+        sufficed = suffices;
+    }
+    assert!(rt; sufficed);
+    Ok(())
+}
+
+#[test]
 fn a_failing_writer_is_told(rt: HostRuntime) -> Result<(), Fail> {
     let replica = Replica::new(rt.alloc());
     let mut broken = Broken::at_call(Ends::new(Vec::new(rt.alloc())), 1);

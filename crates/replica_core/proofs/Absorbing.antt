@@ -1,0 +1,46 @@
+-- How a journal comes into another, one operation after the other.
+use Rattle.std.proofs.Common.{◌≡◌, ℕ, zero, suc, ◌+◌, Bool, true, false, List, [], ◌∷◌, ◌++◌, length, take, drop, reverse, Result, Ok, Err, refl, sym, ap, subst, ◌∙◌, add-one, arith}
+use Rattle.std.specs.Prelude.{is_err, OnErr, IfOk}
+use Rattle.std.specs.List.Sorted.{IsPermutation, IsSorted}
+use Rattle.std.proofs.lemmas.Bool.{false≢true}
+use Rattle.std.proofs.lemmas.List.{take-append-drop, append-nil, reverse-append}
+use Rattle.review_ops.specs.Operation.{Operation, operation_cmp}
+use Rattle.replica_core.specs.Journal.{arrived, all_arrived, IsInOrderOf}
+
+pub at_err : {T E P : Type 0} (r : Result T E) (failed : Bool) → failed ≡ is_err r → failed ≡ true → OnErr r P → P
+at_err (Ok x) failed is refused h = absurd (false≢true (sym is ∙ refused))
+at_err (Err e) failed is refused h = h
+
+pub at_ok : {T E : Type 0} {P : T → Type 0} {Q : Type 0} (r : Result T E) (failed : Bool) → failed ≡ is_err r → failed ≡ false → ((x : T) → P x → Q) → IfOk r P → Q
+at_ok (Ok x) failed is no_error f h = f x h
+at_ok (Err e) failed is no_error f h = absurd (false≢true (sym no_error ∙ is))
+
+pub all_arrived-push : (journal ops : List Operation) (op : Operation) → all_arrived journal (ops ++ op ∷ []) ≡ arrived (all_arrived journal ops) op
+all_arrived-push journal [] op = refl
+all_arrived-push journal (first ∷ ops) op = all_arrived-push (arrived journal first) ops op
+
+-- what comes next leaves the rest
+next_left : (xs : List Operation) (i : ℕ) (x : Operation) (rest : List Operation) → drop i xs ≡ x ∷ rest → (drop (suc i) xs ≡ rest) × (take (suc i) xs ≡ take i xs ++ x ∷ [])
+next_left xs zero x rest e = (ap (drop 1) e, ap (take 1) e)
+next_left [] (suc i) x rest e = cc
+next_left (y ∷ xs) (suc i) x rest e = let later = next_left xs i x rest e in (later.0, ap (λ l. y ∷ l) later.1)
+
+module _ (old : List Operation) (whole : List Operation) (taken : ℕ) where
+  -- one more of them is in
+  pub one_more_in : (left now : List Operation) (op : Operation) (self new : List Operation) → left ≡ now ++ op ∷ [] → reverse left ≡ drop taken whole → self ≡ all_arrived old (take taken whole) → new ≡ arrived self op
+      → (reverse now ≡ drop (taken + 1) whole) × (new ≡ all_arrived old (take (taken + 1) whole))
+  one_more_in left now op self new popped left_is done came =
+      let next = next_left whole taken op (reverse now) (sym left_is ∙ ap reverse popped ∙ reverse-append now (op ∷ [])) in (
+        sym next.0 ∙ ap (λ n. drop n whole) (sym (add-one taken)),
+        came ∙ ap (λ j. arrived j op) done ∙ sym (all_arrived-push old (take taken whole) op) ∙ ap (all_arrived old) (sym next.1 ∙ ap (λ n. take n whole) (sym (add-one taken))),
+      )
+
+  -- all of them are in
+  pub all_in : (left self : List Operation) → left ≡ [] → reverse left ≡ drop taken whole → self ≡ all_arrived old (take taken whole) → self ≡ all_arrived old whole
+  all_in left self none left_is done =
+      done ∙ ap (all_arrived old) (sym (append-nil (take taken whole)) ∙ ap (λ r. take taken whole ++ r) (ap reverse (sym none) ∙ left_is) ∙ take-append-drop taken whole)
+
+-- the operations of the other journal, sorted and turned round twice
+pub in_order : (other items ordered turned : List Operation) → items ≡ other → IsPermutation items ordered → IsSorted operation_cmp ordered → reverse turned ≡ ordered → IsInOrderOf other (reverse turned)
+in_order other items ordered turned is same sorted back =
+    subst (IsInOrderOf other) (sym back) (record { same = subst (λ j. IsPermutation j ordered) is same; sorted = sorted })
