@@ -1,6 +1,6 @@
 use super::{
-    Broken, Drain, Ends, Failed, ReadAllFault, Source, broken_fails_once, none_failed_means_ok,
-    read_all, write_all,
+    Broken, Drain, Ends, Failed, Lines, ReadAllFault, Source, broken_fails_once,
+    none_failed_means_ok, read_all, write_all,
 };
 use linked_list_allocator::LocalHeap;
 use std::test::Fail;
@@ -145,5 +145,16 @@ fn reading_without_memory(rt: HostRuntime) -> Result<(), Fail> {
         }
     }
     assert!(rt; false, "never enough memory");
+    Ok(())
+}
+
+#[test]
+fn lines_end_before_a_line_feed(rt: HostRuntime) -> Result<(), Fail> {
+    let mut lines = Lines::new(b"one\r\n\ntwo\r".as_slice());
+    assert_eq!(rt; lines.next_line(), Some(b"one".as_slice()));
+    assert_eq!(rt; lines.next_line(), Some(b"".as_slice()));
+    assert_eq!(rt; lines.next_line(), Some(b"two".as_slice()));
+    assert_eq!(rt; lines.next_line(), None);
+    assert_eq!(rt; Lines::new(b"".as_slice()).next_line(), None);
     Ok(())
 }
