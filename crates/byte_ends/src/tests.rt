@@ -5,6 +5,7 @@ use super::{
 use linked_list_allocator::LocalHeap;
 use std::test::Fail;
 
+// A body that only answers want of memory meets the contract of `read_all`: with ample memory the bytes come.
 #[test]
 fn reads_all_within_the_limit(rt: HostRuntime) -> Result<(), Fail> {
     none_failed_means_ok();
