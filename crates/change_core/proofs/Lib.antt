@@ -1,2 +1,4 @@
+pub mod FirstOfEach
 pub mod Joining
+pub mod LastEntry
 pub mod Taking

@@ -9,3 +9,5 @@ pub mod StateLaws
 pub mod Status
 pub mod Views
 pub mod Parts
+pub mod Votes
+pub mod VoteShown

@@ -1,5 +1,5 @@
 -- What Gerrit and Zuul see of a change (Gerrit, "Review Labels" and "Changes"; Zuul, "Gerrit driver").
-use Rattle.std.specs.Prelude.{ℕ, List, Option, None, Some, IsSome, option_map, option_and_then, if◌then◌else◌}
+use Rattle.std.specs.Prelude.{ℕ, ◌≤◌, List, Option, None, Some, IsSome, MatchOption, option_map, option_and_then, if◌then◌else◌}
 use Rattle.std.specs.FinMap as map
 use Rattle.review_ops.specs.Timestamp.{Timestamp}
 use Rattle.change_core.specs.Change.{Change}
@@ -11,6 +11,15 @@ use Rattle.change_core.specs.declared.life.Status.TheVariants.{New, Abandoned, M
 -- the patch set is known
 abbrev pub IsKnownSet : Change → ℕ → Type 0
 IsKnownSet change set = IsSome (map.get change.sets set)
+
+-- the greatest known patch set
+pub record IsGreatestKnown (change : Change) (current : ℕ) : Type 0 where
+  pub known : IsKnownSet change current
+  pub greatest : (set : ℕ) → IsKnownSet change set → set ≤ current
+
+-- the current patch set is the greatest known; there is none where none is known
+abbrev pub IsCurrent : Change → Option ℕ → Type 0
+IsCurrent change current = MatchOption current ((set : ℕ) → ¬ (IsKnownSet change set)) (IsGreatestKnown change)
 
 -- a patch set's message, and its parent's change
 abbrev pub message_of : Change → ℕ → Option (List ℕ)

@@ -4,9 +4,13 @@
 mod commit;
 mod life;
 mod state;
+#[cfg(test)]
+mod tests;
 mod vote_slot;
+mod votes;
 
 pub use commit::Commit;
 pub use life::{Life, Status};
 pub use state::ChangeState;
 pub use vote_slot::VoteSlot;
+pub use votes::{Approval, Approvals, Vote, VotedSets, Votes};

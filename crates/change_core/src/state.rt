@@ -4,11 +4,13 @@ ghost use Rattle.lattice_core.specs.JoinMap.{put_joined};
 ghost use Rattle.change_core.specs.Change.{no_change, effect_of, change_joined, patch_order, vote_order};
 ghost use Rattle.change_core.specs.Parts.{sets_shown, votes_shown};
 ghost use Rattle.std.specs.Option.{option_map};
-ghost use Rattle.change_core.specs.Views.{status_of, IsKnownSet, message_of, parent_of};
+ghost use Rattle.change_core.specs.Views.{status_of, IsKnownSet, IsCurrent, message_of, parent_of};
+ghost use Rattle.change_core.specs.Votes.{AreVotedSets, votes_of, approvals_of};
 
 use super::commit::Commit;
 use super::life::{Life, Status};
 use super::vote_slot::VoteSlot;
+use super::votes::{Approvals, VotedSets, Votes};
 use lattice_core::{Flag, Greatest, Join, JoinMap, Keep, NoMemory, Register};
 use review_ops::{Draft, Op, Stamp};
 use std::alloc::{Allocator, Global};
@@ -126,6 +128,14 @@ impl<A: Allocator + Copy> ChangeState<A> {
         self.sets.contains_key(&set)
     }
 
+    /// The greatest known patch set, where one is known.
+    pub fn current(&self) -> Option<u32>
+        ensures { IsCurrent self.now result }
+    {
+        let (set, _) = self.sets.iter().next_back()?;
+        Some(*set)
+    }
+
     /// The message of a patch set, where it is known. In logarithmic time.
     pub fn message(&self, set: u32) -> Option<&str>
         ensures { option_map (λ text. text.now) result ≡ message_of self.now set }
@@ -149,10 +159,34 @@ impl<A: Allocator + Copy> ChangeState<A> {
     }
 
     /// The registers of the slots with a vote or a withdrawn vote, by patch set, label and voter.
-    pub fn votes(&self) -> &JoinMap<VoteSlot<A>, Register<Stamp, i8>, A>
+    pub fn all_votes(&self) -> &JoinMap<VoteSlot<A>, Register<Stamp, i8>, A>
         ensures { votes_shown result.now ≡ self.now.votes }
     {
         &self.votes
+    }
+
+    /// The votes on a patch set, by label, then voter; a withdrawn vote is one of 0. To walk them takes time linear in all
+    /// votes of the change.
+    pub fn votes(&self, set: u32) -> Votes<'_, A>
+        ensures { result ≡ votes_of self.now set }
+    {
+        Votes::on(set, &self.votes)
+    }
+
+    /// The votes on a patch set that aren't 0, by label, then voter. To walk them takes time linear in all votes of the
+    /// change.
+    pub fn approvals(&self, set: u32) -> Approvals<'_, A>
+        ensures { result ≡ approvals_of self.now set }
+    {
+        Approvals::among(self.votes(set))
+    }
+
+    /// The patch sets with a vote or a withdrawn vote, known or not, in order, each once. To walk them takes time linear in
+    /// all votes of the change.
+    pub fn voted(&self) -> VotedSets<'_, A>
+        ensures { AreVotedSets self.now result }
+    {
+        VotedSets::among(&self.votes)
     }
 }
 
