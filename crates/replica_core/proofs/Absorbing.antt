@@ -1,11 +1,17 @@
 -- How a journal comes into another, one operation after the other.
-use Rattle.std.proofs.Common.{◌≡◌, ℕ, zero, suc, ◌+◌, Bool, true, false, List, [], ◌∷◌, ◌++◌, length, take, drop, reverse, Result, Ok, Err, refl, sym, ap, subst, ◌∙◌, add-one, arith}
+use Rattle.std.proofs.Common.{◌≡◌, ℕ, zero, suc, ◌+◌, Bool, true, false, List, [], ◌∷◌, ◌++◌, take, drop, reverse, Result, Ok, Err, refl, sym, ap, subst, ◌∙◌, add-one}
 use Rattle.std.specs.Prelude.{is_err, OnErr, IfOk}
 use Rattle.std.specs.List.Sorted.{IsPermutation, IsSorted}
 use Rattle.std.proofs.lemmas.Bool.{false≢true}
 use Rattle.std.proofs.lemmas.List.{take-append-drop, append-nil, reverse-append}
 use Rattle.review_ops.specs.Operation.{Operation, operation_cmp}
-use Rattle.replica_core.specs.Journal.{arrived, all_arrived, IsInOrderOf}
+use Rattle.review_ops.specs.Order.{operations_exact}
+use Rattle.replica_core.specs.Journal.{arrived, all_arrived, AreApart}
+use Rattle.replica_core.specs.InOrder.{IsInOrderOf, sorted_in_order}
+
+pub if_ok : {T E : Type 0} {P Q : T → Type 0} (r : Result T E) → ((x : T) → P x → Q x) → IfOk r P → IfOk r Q
+if_ok (Ok x) f h = f x h
+if_ok (Err e) f h = tt
 
 pub at_err : {T E P : Type 0} (r : Result T E) (failed : Bool) → failed ≡ is_err r → failed ≡ true → OnErr r P → P
 at_err (Ok x) failed is refused h = absurd (false≢true (sym is ∙ refused))
@@ -41,6 +47,6 @@ module _ (old : List Operation) (whole : List Operation) (taken : ℕ) where
       done ∙ ap (all_arrived old) (sym (append-nil (take taken whole)) ∙ ap (λ r. take taken whole ++ r) (ap reverse (sym none) ∙ left_is) ∙ take-append-drop taken whole)
 
 -- the operations of the other journal, sorted and turned round twice
-pub in_order : (other items ordered turned : List Operation) → items ≡ other → IsPermutation items ordered → IsSorted operation_cmp ordered → reverse turned ≡ ordered → IsInOrderOf other (reverse turned)
-in_order other items ordered turned is same sorted back =
-    subst (IsInOrderOf other) (sym back) (record { same = subst (λ j. IsPermutation j ordered) is same; sorted = sorted })
+pub in_order : (other items ordered turned : List Operation) → items ≡ other → AreApart items → IsPermutation items ordered → IsSorted operation_cmp ordered → reverse turned ≡ ordered → IsInOrderOf other (reverse turned)
+in_order other items ordered turned is apart same sorted back =
+    subst (IsInOrderOf other) (sym back) (sorted_in_order operations_exact other ordered (subst AreApart is apart) (subst (λ j. IsPermutation j ordered) is same) sorted)

@@ -1,19 +1,16 @@
 -- How an operation comes into a journal and a state.
 use Rattle.std.proofs.Common.{◌≡◌, ℕ, Bool, true, false, cond, ◌||◌, List, [], ◌∷◌, ◌++◌, Some, None, refl, sym, ap, subst, ◌∙◌}
-use Rattle.std.specs.declared.cmp.Ordering.{Ordering}
-use Rattle.std.specs.declared.cmp.Ordering.TheVariants.{Less, Equal, Greater}
-use Rattle.std.specs.Ordering.{nat_cmp, is_eq, eq_by_cmp}
-use Rattle.std.specs.Cmp.{eq_by_cmp_equiv}
+use Rattle.std.specs.Ordering.{nat_cmp, eq_by_cmp}
+use Rattle.std.specs.List.{AllByRecursion, IsDistinct}
 use Rattle.std.specs.FinMap.{get, insert, get-insert}
-use Rattle.std.proofs.lemmas.List.Folds.{list_any-append}
 use Rattle.std.proofs.lemmas.Bool.{false≢true}
 use Rattle.lattice_core.specs.Keep.{numbers_exact}
 use Rattle.lattice_core.specs.JoinMap.{joined_to, same_at_each_key}
 use Rattle.review_ops.specs.Deed.{change_of}
 use Rattle.review_ops.specs.Operation.{Operation}
-use Rattle.review_ops.specs.Order.{operations_exact}
 use Rattle.change_core.specs.Change.{Change, no_change, change_joined, effect_of}
 use Rattle.change_core.specs.StateLaws.{no_change-joined}
+use Rattle.replica_core.specs.Exact.{same_by_test}
 use Rattle.replica_core.specs.Journal.{has, same_operation, AreApart}
 use Rattle.replica_core.specs.Record.{IsRecord}
 use Rattle.replica_core.specs.State.{State, with_effect, state_of, state_shown}
@@ -33,37 +30,37 @@ effect_added old shown op number new number_is found new_is shown_is =
     ∙ ap (λ f. insert old number (joined_to change_joined f (effect_of op))) found
     ∙ ap (λ n. insert old n (joined_to change_joined (get old n) (effect_of op))) number_is
 
-equal : (r : Ordering) → is_eq r ≡ true → r ≡ Equal
-equal Less e = cc
-equal Equal e = refl
-equal Greater e = cc
-
 -- to put back what was there changes nothing
 pub put_back : (old : State) (number : ℕ) (was : Change) → Some was ≡ get old number → insert old number was ≡ old
 put_back old number was found = same_at_each_key numbers_exact (insert old number was) old (λ q.
     get-insert numbers_exact.total old number was q
     ∙ elim (eq_by_cmp nat_cmp q number) as (λ t. eq_by_cmp nat_cmp q number ≡ t → cond t (Some was) (get old q) ≡ get old q) [
-      | true ↦ λ e. found ∙ ap (get old) (sym (numbers_exact.exact q number (equal (nat_cmp q number) e)))
+      | true ↦ λ e. found ∙ ap (get old) (sym (same_by_test numbers_exact q number e))
       | false ↦ λ e. refl
     ] refl)
 
 pub unchanged_in_place : (old shown : State) (number : ℕ) (was new : Change) → Some was ≡ get old number → new ≡ was → shown ≡ insert old number new → shown ≡ old
 unchanged_in_place old shown number was new found new_is shown_is = shown_is ∙ ap (insert old number) new_is ∙ put_back old number was found
 
+-- a journal stays a set where what is new comes last
 neither : (a b : Bool) → (a || b) ≡ false → (a ≡ false) × (b ≡ false)
 neither true b e = absurd (false≢true (sym e))
 neither false b e = (refl, e)
 
-both_false : (a b : Bool) → a ≡ false → b ≡ false → (a || b) ≡ false
-both_false a b is_a is_b = ap (λ t. t || b) is_a ∙ is_b
+differs_too : (first op : Operation) (journal : List Operation) → AllByRecursion (λ other. same_operation first other ≡ false) journal → same_operation first op ≡ false → AllByRecursion (λ other. same_operation first other ≡ false) (journal ++ op ∷ [])
+differs_too first op [] all e = (e, tt)
+differs_too first op (other ∷ journal) all e = (all.0, differs_too first op journal all.1 e)
 
--- a journal stays a set where what is new comes last
+pub AreApart-nil : AreApart []
+unfolding IsDistinct
+AreApart-nil = tt
+
 pub AreApart-push : (journal : List Operation) (op : Operation) → has journal op ≡ false → AreApart journal → AreApart (journal ++ op ∷ [])
-AreApart-push [] op new apart = (refl, tt)
+unfolding IsDistinct
+AreApart-push [] op new apart = (tt, tt)
 AreApart-push (first ∷ journal) op new apart =
     let parts = neither (same_operation first op) (has journal op) new in
-    let turned : same_operation op first ≡ false = (eq_by_cmp_equiv operations_exact.total).symm op first ∙ parts.0 in
-    (list_any-append (λ other. same_operation other first) journal (op ∷ []) ∙ both_false _ _ apart.0 (both_false _ _ turned refl), AreApart-push journal op parts.1 apart.1)
+    (differs_too first op journal apart.0 parts.0, AreApart-push journal op parts.1 apart.1)
 
 -- what a replica keeps, once a new operation has come
 pub IsRecord-push : (journal grown : List Operation) (op : Operation) (old new : List (ℕ × Change)) → has journal op ≡ false → grown ≡ journal ++ op ∷ [] → state_shown new ≡ with_effect (state_shown old) op → IsRecord journal old → IsRecord grown new

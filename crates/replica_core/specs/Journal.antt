@@ -1,9 +1,8 @@
 -- A journal is a set of operations: the grow-only set of Shapiro, Preguiça, Baquero and Zawirski (INRIA RR-7506, 2011, 3.3.1). It is
 -- given by the list of its arrivals, each operation once, in the order in which it first came.
-use Rattle.std.specs.Prelude.{◌≡◌, Bool, true, false, List, [], ◌∷◌, ◌++◌, if◌then◌else◌}
+use Rattle.std.specs.Prelude.{Bool, true, false, List, [], ◌∷◌, ◌++◌, if◌then◌else◌}
 use Rattle.std.specs.Ordering.{eq_by_cmp}
-use Rattle.std.specs.List.{list_any}
-use Rattle.std.specs.List.Sorted.{IsPermutation, IsSorted}
+use Rattle.std.specs.List.{IsDistinct, list_any}
 use Rattle.review_ops.specs.Timestamp.{Timestamp, timestamp_cmp}
 use Rattle.review_ops.specs.Operation.{Operation, operation_cmp}
 use Rattle.replica_core.specs.declared.taken.Taken.{Taken}
@@ -30,15 +29,9 @@ abbrev pub all_arrived : List Operation → List Operation → List Operation
 all_arrived journal [] = journal
 all_arrived journal (op ∷ ops) = all_arrived (arrived journal op) ops
 
--- the operations of a journal, in their order
-pub record IsInOrderOf (journal ordered : List Operation) : Type 0 where
-  pub same : IsPermutation journal ordered
-  pub sorted : IsSorted operation_cmp ordered
-
 -- no operation stands twice
 abbrev pub AreApart : List Operation → Type 0
-AreApart [] = Unit {0}
-AreApart (op ∷ journal) = (has journal op ≡ false) × AreApart journal
+AreApart = IsDistinct same_operation
 
 -- how the coming of an operation is answered
 abbrev pub taken_of : Bool → Taken

@@ -3,3 +3,12 @@ pub mod State
 pub mod StateLaws
 pub mod Record
 pub mod Clock
+pub mod Exact
+pub mod InOrder
+pub mod Sets
+pub mod Front
+pub mod Places
+pub mod FrontShown
+pub mod FrontLaws
+pub mod Missing
+pub mod StateText

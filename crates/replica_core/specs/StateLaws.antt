@@ -1,8 +1,6 @@
 -- The state of a journal is that of its set of operations, and the state of a union is the join of the states.
-use Rattle.std.specs.Prelude.{◌≡◌, ℕ, true, false, cond, List, [], ◌∷◌, ◌++◌, Option, None, Some, fold, MatchOption}
-use Rattle.std.specs.declared.cmp.Ordering.{Ordering}
-use Rattle.std.specs.declared.cmp.Ordering.TheVariants.{Less, Equal, Greater}
-use Rattle.std.specs.Ordering.{nat_cmp, is_eq, eq_by_cmp}
+use Rattle.std.specs.Prelude.{◌≡◌, true, false, cond, List, [], ◌∷◌, ◌++◌, Option, None, Some, fold, MatchOption}
+use Rattle.std.specs.Ordering.{nat_cmp}
 use Rattle.std.specs.FinMap.{empty, get, get-empty}
 use Rattle.std.proofs.Common.{refl, sym, ap, ◌∙◌, subst}
 use Rattle.std.proofs.lemmas.List.Elements.{filter-append}
@@ -16,15 +14,8 @@ use Rattle.review_ops.specs.Operation.{Operation}
 use Rattle.change_core.specs.Change.{Change, change_joined, effect_of}
 use Rattle.change_core.specs.StateOf.{IsStateOf}
 use Rattle.change_core.specs.StateLaws.{state_of_both, state_of_one, state_of_unique}
+use Rattle.replica_core.specs.Exact.{same_by_test}
 use Rattle.replica_core.specs.State.{State, is_on, ops_on, IsJournalState, with_effect, state_of, states_joined}
-
-equal : (r : Ordering) → is_eq r ≡ true → r ≡ Equal
-equal Less e = cc
-equal Equal e = refl
-equal Greater e = cc
-
-same_number : (a b : ℕ) → eq_by_cmp nat_cmp a b ≡ true → a ≡ b
-same_number a b e = numbers_exact.exact a b (equal (nat_cmp a b) e)
 
 -- what a journal's operations on a change add up to, if there are any
 abbrev AddUpTo : List Operation → Option Change → Type 0
@@ -60,7 +51,7 @@ one_more journal state op is change =
     (subst (λ l. AddUpTo l (cond (is_on change op) (Some (joined_to change_joined (get state (change_of op.deed)) (effect_of op))) (get state change))) (sym (filter-append (is_on change) journal (op ∷ [])))
     (elim (is_on change op) as (λ t. is_on change op ≡ t → AddUpTo (ops_on change journal ++ cond t (op ∷ []) []) (cond t (Some (joined_to change_joined (get state (change_of op.deed)) (effect_of op))) (get state change))) [
       | true ↦ λ e. subst (AddUpTo (ops_on change journal ++ op ∷ []))
-          (ap (λ found. option_joined change_joined found (Some (effect_of op))) (ap (get state) (same_number change (change_of op.deed) e)) ∙ sym (joined_to_option (get state (change_of op.deed)) (effect_of op)))
+          (ap (λ found. option_joined change_joined found (Some (effect_of op))) (ap (get state) (same_by_test numbers_exact change (change_of op.deed) e)) ∙ sym (joined_to_option (get state (change_of op.deed)) (effect_of op)))
           (joined_AddUpTo (ops_on change journal) (op ∷ []) (get state change) (Some (effect_of op)) (is change) (no_more [] op [], state_of_one op))
       | false ↦ λ e. subst (λ l. AddUpTo l (get state change)) (sym (append-nil (ops_on change journal))) (is change)
     ] refl))

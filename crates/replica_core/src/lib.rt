@@ -3,6 +3,8 @@
 
 mod clock;
 mod front;
+mod gapless;
+mod laws;
 mod missing;
 mod replica;
 mod state_text;
@@ -10,7 +12,8 @@ mod taken;
 #[cfg(test)]
 mod tests;
 
-pub use front::{Front, Row};
+pub use front::{Front, Reach, Row};
+pub use laws::{a_journal_has_one_state, equal_journals_agree};
 pub use missing::Missing;
 pub use replica::Replica;
 pub use state_text::WriteStateFault;

@@ -2,7 +2,8 @@ ghost use Rattle.std.specs.Prelude.{◌≡◌, ◌↔◌, ◌<◌, Some, IsTrue,
 ghost use Rattle.std.specs.Option.{option_copied};
 ghost use Rattle.std.specs.FinMap.{get};
 ghost use Rattle.review_ops.specs.Operation.{Operation};
-ghost use Rattle.replica_core.specs.Journal.{IsInOrderOf, all_arrived, has, has_stamp, arrived, taken_of};
+ghost use Rattle.replica_core.specs.Journal.{AreApart, all_arrived, has, has_stamp, arrived, taken_of};
+ghost use Rattle.replica_core.specs.InOrder.{IsInOrderOf};
 ghost use Rattle.replica_core.specs.State.{state_of, state_shown, with_effect};
 
 use super::taken::{Partly, Taken};
@@ -143,7 +144,8 @@ impl<A: Allocator + Copy> Replica<A> {
 
     /// The operations of the journal, each once, in the order in which they first came.
     pub fn as_slice(&self) -> &[Op<A>]
-        ensures { result.now ≡ self.now }
+        ensures arrivals { result.now ≡ self.now }
+        ensures apart { AreApart self.now }
     {
         self.arrivals.as_slice()
     }

@@ -221,6 +221,52 @@ fn what_a_front_lacks_comes_in_order(rt: HostRuntime) -> Result<(), Fail> {
     Ok(())
 }
 
+/// A merge that a site stamped under a start, with the sequence number as its time.
+fn merged_at<A: Allocator + Copy>(site: u16, start: u32, seq: u64) -> Option<Op<A>> {
+    let stamp = Stamp::new(seq, site, start, seq)?;
+    let body = Body::checked(Draft::Merged { change: 5 }).ok()?;
+    Some(Op::new(stamp, body))
+}
+
+/// The places, as a row's site and start and a sequence number.
+fn front_rows(alloc: Global, replica: &Replica) -> Result<Vec<(u16, u32, u64)>, Fail> {
+    let mut rows = Vec::new(alloc);
+    let front = replica.front()?;
+    for (row, reach) in front.rows().iter() {
+        rows.push((row.site, row.start, reach.seq()))?;
+    }
+    Ok(rows)
+}
+
+#[test]
+fn a_front_goes_as_far_as_there_is_no_gap(rt: HostRuntime) -> Result<(), Fail> {
+    let alloc = rt.alloc();
+    let mut replica = Replica::new(alloc);
+    assert!(rt; front_rows(alloc, &replica)?.is_empty());
+    for place in [4, 2, 6] {
+        replica.take(merged_at(2, 1, place).ok_or(MEMORY)?)?;
+    }
+    assert!(rt; front_rows(alloc, &replica)?.is_empty());
+    for place in [1, 3] {
+        replica.take(merged_at(2, 1, place).ok_or(MEMORY)?)?;
+    }
+    assert_eq!(rt;
+        front_rows(alloc, &replica)?.as_slice(),
+        [(2, 1, 4)].as_slice()
+    );
+    replica.take(merged_at(1, 7, 1).ok_or(MEMORY)?)?;
+    replica.take(merged_at(1, 3, 1).ok_or(MEMORY)?)?;
+    replica.take(merged_at(2, 1, 5).ok_or(MEMORY)?)?;
+    assert_eq!(rt;
+        front_rows(alloc, &replica)?.as_slice(),
+        [(1, 3, 1), (1, 7, 1), (2, 1, 6)].as_slice()
+    );
+    let missing = replica.missing(&replica.front()?, 9)?;
+    assert!(rt; missing.ops.is_empty());
+    assert!(rt; !missing.more);
+    Ok(())
+}
+
 /// Takes a patch set and a vote in a heap of this size, and says how many it took. What was refused left nothing behind.
 fn taken_in(rt: &impl Abort, alloc: Global, size: usize) -> Result<usize, Fail> {
     let heap = LocalHeap::new(alloc, size)?;
@@ -239,7 +285,7 @@ fn taken_in(rt: &impl Abort, alloc: Global, size: usize) -> Result<usize, Fail> 
             assert_eq!(rt; replica.len(), before);
             let state = replica.change(101);
             assert_eq!(rt; state.is_some(), before == 1);
-            assert!(rt; state.is_none_or(|change| change.votes().is_empty()));
+            assert!(rt; state.is_none_or(|change| change.all_votes().is_empty()));
             break;
         }
     }
@@ -323,6 +369,69 @@ fn a_refused_absorb_says_how_many_are_in(rt: HostRuntime) -> Result<(), Fail> {
         sufficed = suffices;
     }
     assert!(rt; sufficed);
+    Ok(())
+}
+
+/// What a heap suffices for, of what a replica shows.
+#[derive(Clone, Copy, Debug, PartialEq, Eq, PartialOrd, Ord)]
+struct Shown {
+    front: bool,
+    missing: bool,
+    text: bool,
+}
+
+/// What a heap of this size suffices for, where it holds a replica with two votes. What was refused changed nothing and wrote nothing.
+fn shown_in(rt: &impl Abort, alloc: Global, size: usize) -> Result<Option<Shown>, Fail> {
+    let heap = LocalHeap::new(alloc, size)?;
+    let mut replica = Replica::new(&heap);
+    for time in [1, 2] {
+        let Some(op) = vote(&heap, time, 1) else {
+            return Ok(None);
+        };
+        if replica.take(op).is_err() {
+            return Ok(None);
+        }
+    }
+    let front = replica.front().is_ok();
+    let lacked = match replica.missing(&Front::new(&heap), 2) {
+        Ok(missing) => missing.ops.len() == 2 && !missing.more,
+        Err(_) => false,
+    };
+    let mut written = Ends::new(Vec::new(alloc));
+    let text = match replica.write_state(&mut written) {
+        Ok(()) => true,
+        Err(fault) => {
+            assert_eq!(rt; fault, WriteStateFault::NoMemory);
+            false
+        }
+    };
+    assert_eq!(rt; written.get_ref().is_empty(), !text);
+    assert_eq!(rt; replica.len(), 2);
+    Ok(Some(Shown {
+        front,
+        missing: lacked,
+        text,
+    }))
+}
+
+#[test]
+fn what_is_refused_is_not_shown(rt: HostRuntime) -> Result<(), Fail> {
+    let mut refused = Shown {
+        front: false,
+        missing: false,
+        text: false,
+    };
+    let mut last = refused;
+    for steps in 0..256usize {
+        if let Some(shown) = shown_in(&rt, rt.alloc(), steps * 32)? {
+            refused.front = refused.front || !shown.front;
+            refused.missing = refused.missing || !shown.missing;
+            refused.text = refused.text || !shown.text;
+            last = shown;
+        }
+    }
+    assert!(rt; refused.front && refused.missing && refused.text);
+    assert!(rt; last.front && last.missing && last.text);
     Ok(())
 }
 
