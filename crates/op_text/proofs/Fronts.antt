@@ -8,7 +8,7 @@ use Rattle.op_text.specs.declared.fault.OpTextFault.{OpTextFault}
 use Rattle.op_text.specs.declared.fault.OpTextFault.TheVariants.{NotJson, BadShape, BadBody, NoMemory}
 use Rattle.op_text.specs.Field.{number_in}
 use Rattle.op_text.specs.Shape.{NamesKey}
-use Rattle.op_text.specs.Front.{Entry, HoldsEntry, IsEntry, AreEntries, IsList, SpellsFront, IsFrontRefusal}
+use Rattle.op_text.specs.Front.{Entry, HoldsEntry, IsEntry, AreEntries, IsList, SpellsEntries, IsFrontRefusal}
 
 -- an entry's value is a list
 entry_items : (value : Data) (values : Items) (entry : Entry) → as_array value ≡ Some values → IsEntry value entry → HoldsEntry values entry
@@ -83,14 +83,14 @@ same_entries (item v values) (e ∷ es) (f ∷ fs) p q = λ i. same_entry v e f 
 same_list : (text : List ℕ) (u v : Items) → IsList text u → IsList text v → u ≡ v
 same_list text u v p q = let e : Some (array u) ≡ Some (array v) = sym p.value ∙ q.value in cc
 
-not_refused : (text : List ℕ) (entries : List Entry) (fault : OpTextFault) → SpellsFront text entries → IsFrontRefusal text fault → fault ≡ NoMemory
+not_refused : (text : List ℕ) (entries : List Entry) (fault : OpTextFault) → SpellsEntries text entries → IsFrontRefusal text fault → fault ≡ NoMemory
 not_refused text entries NotJson p h = absurd (h p.0 p.1)
 not_refused text entries (BadShape key) p h = absurd (h.3 entries (subst (λ values. AreEntries values entries) (same_list text p.0 h.1 p.1 h.2) p.2))
 not_refused text entries (BadBody fault) p h = absurd h
 not_refused text entries NoMemory p h = refl
 
-pub front_is_read : {T : Type 0} (shown : T → List Entry) (text : List ℕ) (result : Result T OpTextFault) → IfOk result (λ x. SpellsFront text (shown x)) → IfErr result (IsFrontRefusal text)
-    → (entries : List Entry) → SpellsFront text entries → MatchResult result (λ x. shown x ≡ entries) (λ fault. fault ≡ NoMemory)
+pub front_is_read : {T : Type 0} (shown : T → List Entry) (text : List ℕ) (result : Result T OpTextFault) → IfOk result (λ x. SpellsEntries text (shown x)) → IfErr result (IsFrontRefusal text)
+    → (entries : List Entry) → SpellsEntries text entries → MatchResult result (λ x. shown x ≡ entries) (λ fault. fault ≡ NoMemory)
 front_is_read shown text (Ok x) ok err entries p =
     same_entries p.0 (shown x) entries (subst (λ values. AreEntries values (shown x)) (same_list text ok.0 p.0 ok.1 p.1) ok.2) p.2
 front_is_read shown text (Err fault) ok err entries p = not_refused text entries fault p err

@@ -9,3 +9,4 @@ pub mod Found
 pub mod Spelled
 pub mod Fronts
 pub mod Lines
+pub mod FrontTexts

@@ -1,9 +1,8 @@
--- A text spells one body or operation at most, and what is spelled isn't refused.
-use Rattle.std.proofs.Common.{◌≡◌, ℕ, ℤ, pos, List, [], Option, Some, Result, Ok, Err, cond, eqb, get_or, unwrap_or, MatchResult, IfOk, IfErr, inl, inr, refl, sym, ap, ◌∙◌, subst}
+-- What is spelled isn't refused.
+use Rattle.std.proofs.Common.{◌≡◌, ℕ, List, Result, Ok, Err, MatchResult, IfOk, IfErr, inl, inr, refl, sym, ◌∙◌, subst}
 use Rattle.std.proofs.lemmas.Bool.{false≢true}
-use Rattle.serde_json.specs.Data.{Members, object}
-use Rattle.review_ops.specs.Timestamp.{Timestamp}
-use Rattle.review_ops.specs.Deed.{Deed, patch_set, vote, withdraw, abandon, restore, merged, change_of, set_of, message_of, parent_of, label_of, voter_of, value_of, kept_deed}
+use Rattle.serde_json.specs.Data.{Members}
+use Rattle.review_ops.specs.Deed.{Deed}
 use Rattle.review_ops.specs.Fault.{HasFault, IsFaultless-HasFault}
 use Rattle.review_ops.specs.Operation.{Operation}
 use Rattle.op_text.specs.declared.fault.OpTextFault.{OpTextFault}
@@ -11,81 +10,9 @@ use Rattle.op_text.specs.declared.fault.OpTextFault.TheVariants.{NotJson, BadSha
 use Rattle.op_text.specs.declared.field.Form.{Form}
 use Rattle.op_text.specs.declared.field.Form.TheVariants as form
 use Rattle.op_text.specs.declared.field.Kind.{Kind}
-use Rattle.op_text.specs.declared.field.Kind.TheVariants.{PatchSet, Vote, Withdraw, Abandon, Restore, Merged}
-use Rattle.op_text.specs.Field.{name_of}
-use Rattle.op_text.specs.Shape.{IsObject, NamesKind, HasShape, IsBadKey, IsNamedKey}
-use Rattle.op_text.specs.Spelling.{kind_of, HoldsDeed, HoldsStamp, SpellsBody, SpellsOperation, IsRefusalOf}
-
-some : {T : Type 0} (x y : T) → Some x ≡ Some y → x ≡ y
-some x y e = cc
-
--- ---- kinds have different names, by their first letter
-
-kind_by : ℕ → Kind
-kind_by letter = cond (eqb letter 112) PatchSet (cond (eqb letter 118) Vote (cond (eqb letter 119) Withdraw (cond (eqb letter 97) Abandon (cond (eqb letter 114) Restore Merged))))
-
-kind_by-name_of : (kind : Kind) → kind_by (get_or (name_of kind) 0 0) ≡ kind
-unfolding kind_by
-kind_by-name_of PatchSet = refl
-kind_by-name_of Vote = refl
-kind_by-name_of Withdraw = refl
-kind_by-name_of Abandon = refl
-kind_by-name_of Restore = refl
-kind_by-name_of Merged = refl
-
-same_kind : (held : Members) (a b : Kind) → NamesKind held a → NamesKind held b → a ≡ b
-same_kind held a b p q =
-    let names : name_of a ≡ name_of b = some (name_of a) (name_of b) (sym p ∙ q) in
-    sym (kind_by-name_of a) ∙ ap (λ name. kind_by (get_or name 0 0)) names ∙ kind_by-name_of b
-
--- ---- a deed is what its fields are
-
-deed_by : Kind → ℕ → Option ℕ → Option (List ℕ) → Option ℕ → Option (List ℕ) → Option (List ℕ) → Option ℤ → Deed
-deed_by PatchSet change set message parent label voter value = patch_set change (unwrap_or set 0) (unwrap_or message []) parent
-deed_by Vote change set message parent label voter value = vote change (unwrap_or set 0) (unwrap_or label []) (unwrap_or voter []) (unwrap_or value (pos 0))
-deed_by Withdraw change set message parent label voter value = withdraw change (unwrap_or set 0) (unwrap_or label []) (unwrap_or voter [])
-deed_by Abandon change set message parent label voter value = abandon change
-deed_by Restore change set message parent label voter value = restore change
-deed_by Merged change set message parent label voter value = merged change
-
-abbrev fields_of : Deed → Deed
-fields_of d = deed_by (kind_of d) (change_of d) (set_of d) (message_of d) (parent_of d) (label_of d) (voter_of d) (value_of d)
-
-deed_by-fields : (d : Deed) → fields_of d ≡ d
-unfolding deed_by
-deed_by-fields (patch_set change set message parent) = refl
-deed_by-fields (vote change set label voter value) = refl
-deed_by-fields (withdraw change set label voter) = refl
-deed_by-fields (abandon change) = refl
-deed_by-fields (restore change) = refl
-deed_by-fields (merged change) = refl
-
-same_deed : (held : Members) (d e : Deed) → HoldsDeed held d → HoldsDeed held e → d ≡ e
-same_deed held d e p q =
-    let kind = same_kind held (kind_of d) (kind_of e) p.kind q.kind in
-    let change = some (change_of d) (change_of e) (sym p.change ∙ q.change) in
-    let set = sym p.set ∙ q.set in
-    let message = sym p.message ∙ q.message in
-    let parent = sym p.parent ∙ q.parent in
-    let label = sym p.label ∙ q.label in
-    let voter = sym p.voter ∙ q.voter in
-    let value = sym p.value ∙ q.value in
-    sym (deed_by-fields d)
-    ∙ (λ i. deed_by (kind i) (change i) (set i) (message i) (parent i) (label i) (voter i) (value i))
-    ∙ deed_by-fields e
-
-same_stamp : (held : Members) (s t : Timestamp) → HoldsStamp held s → HoldsStamp held t → s ≡ t
-same_stamp held s t p q =
-    let time = some s.time t.time (sym p.time ∙ q.time) in
-    let site = some s.site t.site (sym p.site ∙ q.site) in
-    let start = some s.start t.start (sym p.start ∙ q.start) in
-    let seq = some s.seq t.seq (sym p.seq ∙ q.seq) in
-    λ i. record { time = time i; site = site i; start = start i; seq = seq i }
-
--- ---- one object has one shape
-
-same_members : (text : List ℕ) (m n : Members) → IsObject text m → IsObject text n → m ≡ n
-same_members text m n p q = let e : Some (object m) ≡ Some (object n) = sym p.value ∙ q.value in cc
+use Rattle.op_text.specs.Shape.{NamesKind, HasShape, IsBadKey, IsNamedKey}
+use Rattle.op_text.specs.Spelling.{kind_of, HoldsDeed, SpellsBody, SpellsOperation, IsRefusalOf}
+use Rattle.op_text.specs.OneSpelling.{same_kind, same_members, same_deed, one_body, one_operation}
 
 not_bad : (kind : Form) (named : Kind) (held : Members) (key : List ℕ) → HasShape kind named held → ¬ IsBadKey kind named held key
 not_bad kind named held key shape (inl bad) = false≢true (sym bad.2 ∙ shape.fields bad.0)
@@ -99,11 +26,6 @@ not_named kind named held key names shape (inr bad) =
 
 -- ---- bodies
 
-same_body : (text : List ℕ) (d e : Deed) → SpellsBody text d → SpellsBody text e → d ≡ e
-same_body text d e p q =
-    let same = same_members text p.0 q.0 p.1.object q.1.object in
-    same_deed q.0 d e (subst (λ m. HoldsDeed m d) same p.1.holds) q.1.holds
-
 body_not_refused : (text : List ℕ) (deed : Deed) (fault : OpTextFault) → SpellsBody text deed → IsRefusalOf form.Body text fault → fault ≡ NoMemory
 body_not_refused text deed NotJson p h = absurd (h p.0 p.1.object)
 body_not_refused text deed (BadShape key) p h =
@@ -114,18 +36,10 @@ body_not_refused text deed NoMemory p h = refl
 
 pub body_is_read : {T : Type 0} (view : T → Deed) (text : List ℕ) (result : Result T OpTextFault) → IfOk result (λ x. SpellsBody text (view x)) → IfErr result (IsRefusalOf form.Body text)
     → (deed : Deed) → SpellsBody text deed → MatchResult result (λ x. view x ≡ deed) (λ fault. fault ≡ NoMemory)
-body_is_read view text (Ok x) ok err deed p = same_body text (view x) deed ok p
+body_is_read view text (Ok x) ok err deed p = one_body text (view x) deed ok p
 body_is_read view text (Err fault) ok err deed p = body_not_refused text deed fault p err
 
 -- ---- operations
-
-same_operation : (text : List ℕ) (x y : Operation) → SpellsOperation text x → SpellsOperation text y → x ≡ y
-same_operation text x y p q =
-    let same = same_members text p.members q.members p.spells.object q.spells.object in
-    let stamp = same_stamp q.members x.stamp y.stamp (subst (λ m. HoldsStamp m x.stamp) same p.stamp) q.stamp in
-    let deed = same_deed q.members p.deed q.deed (subst (λ m. HoldsDeed m p.deed) same p.spells.holds) q.spells.holds in
-    let kept = p.kept ∙ ap kept_deed deed ∙ sym q.kept in
-    λ i. record { stamp = stamp i; deed = kept i }
 
 operation_not_refused : (text : List ℕ) (op : Operation) (fault : OpTextFault) → SpellsOperation text op → IsRefusalOf form.Operation text fault → fault ≡ NoMemory
 operation_not_refused text op NotJson p h = absurd (h p.members p.spells.object)
@@ -140,5 +54,5 @@ operation_not_refused text op NoMemory p h = refl
 
 pub operation_is_read : {T : Type 0} (view : T → Operation) (text : List ℕ) (result : Result T OpTextFault) → IfOk result (λ x. SpellsOperation text (view x)) → IfErr result (IsRefusalOf form.Operation text)
     → (op : Operation) → SpellsOperation text op → MatchResult result (λ x. view x ≡ op) (λ fault. fault ≡ NoMemory)
-operation_is_read view text (Ok x) ok err op p = same_operation text (view x) op ok p
+operation_is_read view text (Ok x) ok err op p = one_operation text (view x) op ok p
 operation_is_read view text (Err fault) ok err op p = operation_not_refused text op fault p err

@@ -5,3 +5,4 @@ pub mod Spelling
 pub mod Text
 pub mod Tokens
 pub mod Front
+pub mod OneSpelling

@@ -1,3 +1,4 @@
+ghost use Rattle.std.specs.Prelude.{◌≡◌, ℕ, List};
 ghost use Rattle.op_text.specs.Text.{IsOneLine, body_text, operation_text};
 ghost use Rattle.review_ops.specs.Good.{IsGood};
 ghost use Rattle.review_ops.specs.Operation.{Operation};
@@ -15,4 +16,10 @@ pub fn operations_are_spelled()
 pub fn bodies_are_spelled()
     ensures line { (deed : Deed) → IsGood deed → IsOneLine (body_text deed) }
     ensures spells { (deed : Deed) → IsGood deed → SpellsBody (body_text deed) deed }
+{}
+
+/// A law: a text spells one operation at most, and one body.
+pub fn texts_spell_once()
+    ensures operation { (text : List ℕ) (op other : Operation) → SpellsOperation text op → SpellsOperation text other → op ≡ other }
+    ensures body { (text : List ℕ) (deed other : Deed) → SpellsBody text deed → SpellsBody text other → deed ≡ other }
 {}

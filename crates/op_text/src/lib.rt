@@ -28,7 +28,7 @@ mod tests;
 mod write;
 
 pub use fault::OpTextFault;
-pub use front::read_front_entries;
-pub use laws::{bodies_are_spelled, operations_are_spelled};
+pub use front::{read_front, write_front};
+pub use laws::{bodies_are_spelled, operations_are_spelled, texts_spell_once};
 pub use read::{read_body, read_op};
 pub use write::{write_body, write_op};

@@ -1,4 +1,4 @@
-use super::{OpTextFault, read_body, read_front_entries, read_op, write_body, write_op};
+use super::{OpTextFault, read_body, read_front, read_op, write_body, write_front, write_op};
 use review_ops::{Body, Draft};
 use std::alloc::{AllocError, Global};
 use std::test::Fail;
@@ -272,26 +272,26 @@ fn limits(rt: HostRuntime) -> Result<(), Fail> {
     Ok(())
 }
 
-/// What reading a front's entries gives: the entries, or the fault.
-fn entries_of(alloc: Global, text: &str) -> Result<String, Fail> {
-    match read_front_entries(alloc, text.as_bytes()) {
-        Ok(entries) => Ok(format!(in alloc; "{entries:?}")?),
+/// What reading a front gives: its text, or the fault.
+fn echoed_front(alloc: Global, text: &str) -> Result<String, Fail> {
+    match read_front(alloc, text.as_bytes()) {
+        Ok(front) => Ok(write_front(alloc, &front)?),
         Err(fault) => Ok(said(alloc, &fault)?),
     }
 }
 
-// Entries are given as they stand: in any order, repeated, with a count of 0.
+// Entries may come in any order: the greatest number of a row counts, and 0 is as none.
 #[test]
 fn fronts(rt: HostRuntime) -> Result<(), Fail> {
     for (text, want) in [
         ("[]", "[]"),
-        (
-            " [ [2,1,5] , [1,1,3],[1,1,4], [1,1,0] ]",
-            "[(2, 1, 5), (1, 1, 3), (1, 1, 4), (1, 1, 0)]",
-        ),
+        (" [ [2,1,5] , [1,1,3] ]", "[[1,1,3],[2,1,5]]"),
+        ("[[1,1,3],[1,1,4],[1,2,0],[1,1,0]]", "[[1,1,4]]"),
+        ("[[7,7,0]]", "[]"),
+        ("[[10,1,1],[9,2,1],[9,1,1]]", "[[9,1,1],[9,2,1],[10,1,1]]"),
         (
             "[[65535,4294967295,18446744073709551615]]",
-            "[(65535, 4294967295, 18446744073709551615)]",
+            "[[65535,4294967295,18446744073709551615]]",
         ),
         ("{}", "1 NotJson"),
         ("[[1,1,1]", "1 NotJson"),
@@ -302,8 +302,14 @@ fn fronts(rt: HostRuntime) -> Result<(), Fail> {
         ("[[1,4294967296,1]]", "2 BadShape front"),
         ("[[1,1,1],[1,1,-1]]", "2 BadShape front"),
         ("[[1,1,1.0]]", "2 BadShape front"),
+        ("[[1,1,18446744073709551616]]", "2 BadShape front"),
+        ("[[1,1,1],7]", "2 BadShape front"),
+        ("[\"[1,1,1]\"]", "2 BadShape front"),
+        ("", "1 NotJson"),
+        ("null", "1 NotJson"),
+        ("[] []", "1 NotJson"),
     ] {
-        let printed = entries_of(rt.alloc(), text)?;
+        let printed = echoed_front(rt.alloc(), text)?;
         assert_eq!(rt; printed.as_str(), want, "{text}");
     }
     Ok(())
