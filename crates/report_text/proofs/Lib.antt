@@ -1,0 +1,6 @@
+mod Reading
+mod Numerals
+mod Sorted
+mod ReadBack
+mod Arrivals
+mod OneReading

@@ -1,0 +1,4 @@
+pub mod Fault
+pub mod Snapshot
+pub mod Reading
+pub mod Sound
