@@ -1,1 +1,7 @@
 pub mod Fault
+pub mod Numbered
+pub mod World
+pub mod Journals
+pub mod Step
+pub mod Convergence
+pub mod Passing

@@ -9,29 +9,35 @@ use thiserror::Error;
 /// What may happen in a world.
 #[derive(Drop)]
 pub enum Event<A: Allocator + Copy = Global> {
-    /// A site takes in an operation with this body.
+    /// A site stamps an operation with this body and takes it.
     Intake { site: u16, draft: Draft<A> },
-    /// A site packs what this front lacks.
+    /// A site packs what this front lacks: the first 256 operations of it.
     Send { site: u16, front: Front<A> },
     /// A site takes the operations of a packet.
     Deliver { packet: u64, site: u16 },
+    /// A site copies its journal.
+    Save { site: u16 },
+    /// A site goes back to the journal that it saved last, or to the empty one, under a new start.
+    Restart { site: u16, start: u32 },
 }
 
 /// What an event answers.
 #[derive(Clone, Copy, Debug, PartialEq, Eq)]
 pub enum Reply {
-    /// The operation that was taken in has this stamp.
-    Stamped(Stamp),
-    /// The packet's number, how many operations it has, and whether others are left.
+    /// The operation that an intake stamped and took has this stamp.
+    Took(Stamp),
+    /// The packet's number, from 1 on, how many operations it has, and whether others are left.
     Packet {
         number: u64,
         count: usize,
         more: bool,
     },
-    /// How many operations were new.
-    Took {
-        new: usize,
-    },
+    /// How many operations of the packet were new to the site.
+    Delivered(usize),
+    /// The journal is saved.
+    Saved,
+    /// The site runs under the new start.
+    Restarted,
 }
 
 /// Why an event changed nothing, but for `NoMemory`.

@@ -2,7 +2,12 @@
 #![tactic(auto)]
 
 mod event;
+mod laws;
+mod site;
+#[cfg(test)]
+mod tests;
 mod world;
 
 pub use event::{Event, Reply, WorldFault};
+pub use laws::{packets_pass_on_what_is_lacked, worlds_converge};
 pub use world::World;

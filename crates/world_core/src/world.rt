@@ -1,27 +1,48 @@
+ghost use Rattle.std.specs.Prelude.{◌≡◌, ◌⊎◌, ◌+◌, ◌<◌, IfOk, OnErr, MatchOption};
+ghost use Rattle.std.specs.Option.{option_copied, option_map};
+ghost use Rattle.review_ops.specs.Draft.{deed_of};
+ghost use Rattle.world_core.specs.Convergence.{ConvergesOn};
+ghost use Rattle.world_core.specs.Numbered.{numbered};
+ghost use Rattle.world_core.specs.World.{new_world};
+ghost use Rattle.world_core.specs.Step.{AtSite, IsIntake, IsSendAt, IsDeliveryOf, IsSave, IsRestart, Step, Run};
+
 use super::event::{Event, Reply, WorldFault};
+use super::site::Site;
 use lattice_core::NoMemory;
-use replica_core::{Front, Replica, Taken};
-use review_ops::{Body, Draft, Op};
+use replica_core::{Front, Replica};
+use review_ops::{Draft, Op};
 use std::alloc::{Allocator, Global};
+use std::marker::Model;
 
 /// How many operations a packet has at most.
-pub const PACKET_LIMIT: usize = 256;
+const PACKET_LIMIT: usize = 256;
 
-/// Sites that hold replicas, and the packets that they have sent. A packet stays for good: one that is never
-/// delivered is lost, one delivered twice is repeated.
+/// Sites that hold replicas, and the packets that they have sent. A packet stays for good: one that is never delivered is lost, one delivered
+/// twice is repeated. Contracts see the sites and the packets as lists.
 #[derive(Drop)]
 pub struct World<A: Allocator + Copy = Global> {
     alloc: A,
-    sites: Vec<Replica<A>, A>,
+    sites: Vec<Site<A>, A>,
     packets: Vec<Vec<Op<A>, A>, A>,
 }
 
+impl<A: Allocator + Copy> Model for World<A> {
+    ghost use Rattle.std.specs.Prelude.{map};
+    ghost use Rattle.world_core.specs.World.{WorldState};
+
+    ghost Value = { WorldState };
+
+    ghost view = { λ world. record { sites = world.sites.items; packets = map (λ packet. packet.items) world.packets.items } };
+}
+
 impl<A: Allocator + Copy> World<A> {
-    /// A world of sites numbered from 1, each with an empty journal and start 1.
-    pub fn new(alloc: A, sites: u16) -> Result<World<A>, NoMemory> {
+    /// A world of sites numbered from 1, each with an empty journal, an empty save and start 1, and no packets.
+    pub fn new(alloc: A, sites: u16) -> Result<World<A>, NoMemory>
+        ensures { IfOk result (λ world. world ≡ new_world sites) }
+    {
         let mut all = Vec::new(alloc);
         for _ in 0..sites {
-            all.push(Replica::new(alloc))?;
+            all.push(Site::new(alloc))?;
         }
         Ok(World {
             alloc,
@@ -30,58 +51,67 @@ impl<A: Allocator + Copy> World<A> {
         })
     }
 
-    /// The replica of a site.
-    pub fn replica(&self, site: u16) -> Option<&Replica<A>> {
-        let place = (site as usize).checked_sub(1)?;
-        self.sites.get(place)
+    /// The replica of a site, or none where there is no site of that number. It takes no memory.
+    pub fn replica(&self, site: u16) -> Option<&Replica<A>>
+        ensures { option_copied result ≡ option_map (λ at. at.journal) (numbered self.now.sites site) }
+    {
+        let place = place_of(site as u64, self.sites.len())?;
+        Some(self.sites[place].replica())
     }
 
-    /// The operations of a packet.
-    pub fn packet(&self, number: u64) -> Option<&[Op<A>]> {
-        let place = (number as usize).checked_sub(1)?;
-        match self.packets.get(place) {
-            Some(packet) => Some(packet.as_slice()),
-            None => None,
-        }
+    /// The operations of a packet, or none where there is no packet of that number. It takes no memory.
+    pub fn packet(&self, number: u64) -> Option<&[Op<A>]>
+        ensures { option_copied result ≡ numbered self.now.packets number }
+    {
+        let place = place_of(number, self.packets.len())?;
+        Some(self.packets[place].as_slice())
     }
 
     /// Lets an event happen.
-    pub fn step(&mut self, event: Event<A>) -> Result<Reply, WorldFault> {
+    pub fn step(&mut self, event: Event<A>) -> Result<Reply, WorldFault>
+        ensures { Step self.old event result self.new }
+    {
         match event {
             Event::Intake { site, draft } => self.intake(site, draft),
             Event::Send { site, front } => self.send(site, &front),
             Event::Deliver { packet, site } => self.deliver(packet, site),
+            Event::Save { site } => self.save(site),
+            Event::Restart { site, start } => self.restart(site, start),
         }
     }
 
-    /// Lets events happen in order, and answers what each answered.
+    /// Lets events happen in order, and answers what each answered. Want of memory for the answers comes before the first event, and changes
+    /// nothing.
     pub fn run(
         &mut self,
         events: Vec<Event<A>, A>,
-    ) -> Result<Vec<Result<Reply, WorldFault>, A>, NoMemory> {
-        let mut replies = Vec::with_capacity(self.alloc, events.len())?;
+    ) -> Result<Vec<Result<Reply, WorldFault>, A>, NoMemory>
+        ensures run { IfOk result (λ answers. Run self.old events.items answers.items self.new) }
+        ensures converges { IfOk result (λ answers. ConvergesOn self.old events.items answers.items self.new) }
+        ensures err { OnErr result (self.new ≡ self.old) }
+    {
+        let mut answers = Vec::with_capacity(self.alloc, events.len())?;
         for event in events {
-            replies.push(self.step(event))?;
+            answers.push(self.step(event))?;
         }
-        Ok(replies)
+        Ok(answers)
     }
 
-    fn intake(&mut self, site: u16, draft: Draft<A>) -> Result<Reply, WorldFault> {
-        let Some(replica) = site_mut(&mut self.sites, site) else {
+    /// A site stamps an operation and takes it.
+    fn intake(&mut self, site: u16, draft: Draft<A>) -> Result<Reply, WorldFault>
+        ensures { AtSite (IsIntake site (deed_of draft)) site self.old result self.new }
+    {
+        let Some(place) = place_of(site as u64, self.sites.len()) else {
             return Err(WorldFault::NoSite);
         };
-        let stamp = match replica.next_stamp(site, 1) {
-            Ok(stamp) => stamp,
-            Err(_) => return Err(WorldFault::ClockSpent),
-        };
-        let body = Body::checked(draft).map_err(WorldFault::BadBody)?;
-        match replica.take(Op::new(stamp, body)) {
-            Ok(_) => Ok(Reply::Stamped(stamp)),
-            Err(_) => Err(WorldFault::NoMemory(0)),
-        }
+        let at = &mut self.sites[place];
+        at.intake(site, draft)
     }
 
-    fn send(&mut self, site: u16, front: &Front<A>) -> Result<Reply, WorldFault> {
+    /// A site packs what a front lacks.
+    fn send(&mut self, site: u16, front: &Front<A>) -> Result<Reply, WorldFault>
+        ensures { IsSendAt site front.now self.old result self.new }
+    {
         let Some(replica) = self.replica(site) else {
             return Err(WorldFault::NoSite);
         };
@@ -100,47 +130,49 @@ impl<A: Allocator + Copy> World<A> {
         })
     }
 
-    fn deliver(&mut self, packet: u64, site: u16) -> Result<Reply, WorldFault> {
-        let Some(replica) = site_mut(&mut self.sites, site) else {
+    /// A site takes the operations of a packet.
+    fn deliver(&mut self, packet: u64, site: u16) -> Result<Reply, WorldFault>
+        ensures { AtSite (IsDeliveryOf (numbered self.old.packets packet)) site self.old result self.new }
+    {
+        let Some(place) = place_of(site as u64, self.sites.len()) else {
             return Err(WorldFault::NoSite);
         };
-        let ops = packet_at(&self.packets, packet).ok_or(WorldFault::NoPacket)?;
-        let mut new: usize = 0;
-        let mut taken: usize = 0;
-        for op in ops {
-            match take_copy(replica, op) {
-                Ok(Taken::New) => new += 1,
-                Ok(Taken::Known) => {}
-                Err(_) => return Err(WorldFault::NoMemory(taken)),
-            }
-            taken += 1;
-        }
-        Ok(Reply::Took { new })
+        let Some(packet) = place_of(packet, self.packets.len()) else {
+            return Err(WorldFault::NoPacket);
+        };
+        let at = &mut self.sites[place];
+        at.deliver(self.packets[packet].as_slice())
+    }
+
+    /// A site copies its journal.
+    fn save(&mut self, site: u16) -> Result<Reply, WorldFault>
+        ensures { AtSite IsSave site self.old result self.new }
+    {
+        let Some(place) = place_of(site as u64, self.sites.len()) else {
+            return Err(WorldFault::NoSite);
+        };
+        let at = &mut self.sites[place];
+        at.save()
+    }
+
+    /// A site goes back to what it saved.
+    fn restart(&mut self, site: u16, start: u32) -> Result<Reply, WorldFault>
+        ensures { AtSite (IsRestart start) site self.old result self.new }
+    {
+        let Some(place) = place_of(site as u64, self.sites.len()) else {
+            return Err(WorldFault::NoSite);
+        };
+        let at = &mut self.sites[place];
+        at.restart(start)
     }
 }
 
-/// The replica of a site.
-fn site_mut<A: Allocator + Copy>(
-    sites: &mut Vec<Replica<A>, A>,
-    site: u16,
-) -> Option<&mut Replica<A>> {
-    let place = (site as usize).checked_sub(1)?;
-    sites.get_mut(place)
-}
-
-/// The operations of a packet.
-fn packet_at<A: Allocator + Copy>(
-    packets: &Vec<Vec<Op<A>, A>, A>,
-    number: u64,
-) -> Option<&[Op<A>]> {
-    let place = (number as usize).checked_sub(1)?;
-    match packets.get(place) {
-        Some(packet) => Some(packet.as_slice()),
-        None => None,
+/// Where the thing of this number stands among so many, if there is one.
+fn place_of(number: u64, count: usize) -> Option<usize>
+    ensures { MatchOption result ((number ≡ 0) ⊎ (count < number)) (λ place. (number ≡ place + 1) × (place < count)) }
+{
+    if number == 0 || number > count as u64 {
+        return None;
     }
-}
-
-/// Takes a copy of an operation.
-fn take_copy<A: Allocator + Copy>(replica: &mut Replica<A>, op: &Op<A>) -> Result<Taken, NoMemory> {
-    replica.take(op.copy()?)
+    Some((number - 1) as usize)
 }
