@@ -1,0 +1,5 @@
+pub mod Bases
+pub mod Found
+pub mod Lists
+pub mod Spelled
+pub mod Votes

@@ -1,0 +1,80 @@
+-- Walks over lists of values, and over members.
+use Rattle.std.proofs.Common.{◌≡◌, ℕ, ◌+◌, ◌<◌, List, [], ◌∷◌, ◌++◌, length, get_or, take, drop, map, Bool, true, false, if◌then◌else◌, Option, Some, None, is_some, option_map, refl, sym, ap, ◌∙◌, append-nil}
+use Rattle.std.specs.List.{AllZip}
+use Rattle.std.proofs.lemmas.Bool.{false≢true}
+use Rattle.std.proofs.lemmas.List.{drop_more, take_more, map-append}
+use Rattle.std.proofs.lemmas.List.Elements.{filter_map-append}
+use Rattle.std.specs.List.{filter_map, cons_option}
+use Rattle.serde_json.specs.Data.{Data, null, boolean, number, string, array, object}
+use Rattle.serde_json.specs.Find.{as_array}
+use Rattle.serde_json.specs.View.{view, items_of, items_view}
+use Rattle.serde_json.specs.declared.value.Value.{Value}
+use Rattle.gate_rules.specs.Reading.{list_of, listed, each}
+use Rattle.gate_rules.specs.Walk.{Fault, or_later, first_in_list}
+
+pub list_of-items_of : (ds : List Data) → list_of (items_of ds) ≡ ds
+list_of-items_of [] = refl
+list_of-items_of (d ∷ ds) = ap (λ rest. d ∷ rest) (list_of-items_of ds)
+
+-- a list stands for its items, and any other value for itself
+pub listed_array : (d : Data) (values : List Value) → as_array d ≡ Some (items_view values) → map view values ≡ listed d
+listed_array (array ds) values is = let same : ds ≡ items_view values = cc in sym (ap list_of same ∙ list_of-items_of (map view values))
+listed_array null values is = absurd (false≢true (ap is_some is))
+listed_array (boolean b) values is = absurd (false≢true (ap is_some is))
+listed_array (number n) values is = absurd (false≢true (ap is_some is))
+listed_array (string s) values is = absurd (false≢true (ap is_some is))
+listed_array (object ms) values is = absurd (false≢true (ap is_some is))
+
+pub listed_other : (d : Data) → as_array d ≡ None → d ∷ [] ≡ listed d
+listed_other (array ds) is = absurd (false≢true (sym (ap is_some is)))
+listed_other null is = refl
+listed_other (boolean b) is = refl
+listed_other (number n) is = refl
+listed_other (string s) is = refl
+listed_other (object ms) is = refl
+
+-- ---- tests of each element
+
+pub each_at : {A : Type 0} (test : A → Bool) (xs : List A) (i : ℕ) (d : A) (b : Bool) → i < length xs → test (get_or xs i d) ≡ b
+    → each test (drop i xs) ≡ (if b then each test (drop (i + 1) xs) else false)
+each_at test xs i d b within is = ap (each test) (drop_more xs i d within) ∙ ap (λ t. if t then each test (drop (i + 1) xs) else false) is
+
+pub each_value : (test : Data → Bool) (vs : List Value) (i : ℕ) (d : Value) (b : Bool) → i < length vs → test (view (get_or vs i d)) ≡ b
+    → each test (map view (drop i vs)) ≡ (if b then each test (map view (drop (i + 1) vs)) else false)
+each_value test vs i d b within is = ap (λ xs. each test (map view xs)) (drop_more vs i d within) ∙ ap (λ t. if t then each test (map view (drop (i + 1) vs)) else false) is
+
+-- ---- what a function gives of values
+
+module _ {B : Type 0} (h : Data → Option B) (vs : List Value) (i : ℕ) (d : Value) (within : i < length vs) where
+  filtered_at : (o : Option B) → h (view (get_or vs i d)) ≡ o → filter_map h (map view (take (i + 1) vs)) ≡ filter_map h (map view (take i vs)) ++ cons_option o []
+  filtered_at o is =
+      ap (λ xs. filter_map h (map view xs)) (take_more vs i d within)
+      ∙ rw map-append (filter_map-append h (map view (take i vs)) (map view (get_or vs i d ∷ [])))
+      ∙ ap (λ given. filter_map h (map view (take i vs)) ++ cons_option given []) is
+
+  pub filtered_more : (b : B) → h (view (get_or vs i d)) ≡ Some b → filter_map h (map view (take (i + 1) vs)) ≡ filter_map h (map view (take i vs)) ++ b ∷ []
+  filtered_more b is = filtered_at (Some b) is
+
+  pub filtered_less : h (view (get_or vs i d)) ≡ None → filter_map h (map view (take (i + 1) vs)) ≡ filter_map h (map view (take i vs))
+  filtered_less is = filtered_at None is ∙ append-nil (filter_map h (map view (take i vs)))
+
+-- copies that look alike
+pub map-copies : {S X : Type 0} (f : S → X) (xs ys : List S) → AllZip (λ x y. f y ≡ f x) xs ys → map f ys ≡ map f xs
+map-copies f [] [] h = refl
+map-copies f [] (y ∷ ys) h = absurd h
+map-copies f (x ∷ xs) [] h = absurd h
+map-copies f (x ∷ xs) (y ∷ ys) h = ap (λ z. z ∷ map f ys) h.0 ∙ ap (λ l. f x ∷ l) (map-copies f xs ys h.1)
+
+-- ---- the first fault
+
+pub or_later_some : {A : Type 0} (f : A → Fault) (o : Option A) (later : Option Fault) → is_some o ≡ true → or_later (option_map f o) later ≡ option_map f o
+or_later_some f None later h = absurd (false≢true h)
+or_later_some f (Some fault) later h = refl
+
+pub or_later_none : {A : Type 0} (f : A → Fault) (o : Option A) (later : Option Fault) → is_some o ≡ false → or_later (option_map f o) later ≡ later
+or_later_none f None later h = refl
+or_later_none f (Some fault) later h = absurd (false≢true (sym h))
+
+pub fault_at : (judge : Data → Option Fault) (vs : List Value) (i : ℕ) (d : Value) → i < length vs
+    → first_in_list judge (map view (drop i vs)) ≡ or_later (judge (view (get_or vs i d))) (first_in_list judge (map view (drop (i + 1) vs)))
+fault_at judge vs i d within = ap (λ xs. first_in_list judge (map view xs)) (drop_more vs i d within)

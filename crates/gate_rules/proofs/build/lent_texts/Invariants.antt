@@ -1,0 +1,8 @@
+use Rattle.std.proofs.Common.{◌≡◌, map, take}
+use Rattle.serde_json.specs.View.{view}
+use Rattle.gate_rules.specs.Reading.{texts_of}
+use Rattle.gate_rules.proofs.build.lent_texts.Given as goal
+
+-- the texts so far
+abbrev pub invariant-loop-value : goal.invariant-loop-value
+invariant-loop-value l = map (λ text. text.now) l.texts.items ≡ texts_of (map view (take l.value-index l.values))

@@ -1,0 +1,62 @@
+ghost use Rattle.std.specs.Prelude.{◌≡◌};
+ghost use Rattle.gate_rules.specs.Fault.{number_of, name_of};
+ghost use Rattle.gate_rules.specs.declared.fault.GateFault.TheVariants.{NoMemory as OutOfMemory};
+
+use lattice_core::NoMemory;
+use thiserror::Error;
+
+/// Why a gate file isn't read.
+#[derive(Debug, Drop, Error)]
+pub enum GateFault {
+    /// 1: the bytes aren't UTF-8, or aren't the text of one JSON object.
+    #[error("no JSON object")]
+    NotJson,
+    /// 2: the key has no meaning in its place.
+    #[error("unknown key {0:?}")]
+    UnknownKey(String),
+    /// 3: the key's value is of another kind, or out of range; or `bases` is missing.
+    #[error("bad value of {0:?}")]
+    BadValue(String),
+    /// 4: Zuul knows the key, and this project doesn't support it.
+    #[error("unsupported key {0:?}")]
+    Unsupported(String),
+    /// 5: memory was refused.
+    #[error("no memory")]
+    NoMemory,
+}
+
+impl GateFault {
+    /// The fault's number in reports.
+    pub fn number(&self) -> u8
+        ensures { result ≡ number_of self.now }
+    {
+        match self {
+            GateFault::NotJson => 1,
+            GateFault::UnknownKey(_) => 2,
+            GateFault::BadValue(_) => 3,
+            GateFault::Unsupported(_) => 4,
+            GateFault::NoMemory => 5,
+        }
+    }
+
+    /// The fault's name in reports, without the key.
+    pub fn name(&self) -> &'static str
+        ensures { result.now ≡ name_of self.now }
+    {
+        match self {
+            GateFault::NotJson => "NotJson",
+            GateFault::UnknownKey(_) => "UnknownKey",
+            GateFault::BadValue(_) => "BadValue",
+            GateFault::Unsupported(_) => "Unsupported",
+            GateFault::NoMemory => "NoMemory",
+        }
+    }
+}
+
+impl From<NoMemory> for GateFault {
+    ghost from_gives = { λ _ fault. fault ≡ OutOfMemory };
+
+    fn from(_refused: NoMemory) -> GateFault {
+        GateFault::NoMemory
+    }
+}

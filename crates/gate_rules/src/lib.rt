@@ -1,0 +1,35 @@
+//! The rules of a gate: the settings of a gate file, and the conditions that an item has to meet.
+//!
+//! A gate file is one JSON object (RFC 8259), read as serde_json's `Value` reads it.
+//!
+//! | Key | Value |
+//! |---|---|
+//! | `bases` | required: a list of texts that `Bases::new` of `footer_text` accepts |
+//! | `connection` | a text; `gerrit` where it is absent |
+//! | `allow-circular-dependencies` | a boolean; false where it is absent |
+//! | `require`, `reject` | an object whose one possible member, named by the connection, is an object of conditions |
+//!
+//! The conditions are those of Zuul's Gerrit driver: `open` and `current-patchset` (booleans), `status` (a text or a list
+//! of texts), and `approval` (an object or a list of objects). An absent condition demands nothing. In an approval
+//! `username` is a text, and any other key of 1 to 64 ASCII letters, digits and `-` is a label, whose value is a whole
+//! number from -128 to 127 or a list of such numbers. `wip`, `hashtags`, `email`, `older-than` and `newer-than`, which
+//! Zuul has, are refused as not supported.
+#![tactic(auto)]
+
+mod build;
+mod condition;
+mod fault;
+mod gate;
+mod keys;
+mod laws;
+mod own;
+#[cfg(test)]
+mod tests;
+mod value;
+mod walk;
+
+pub use condition::{Clause, Condition, Side};
+pub use fault::GateFault;
+pub use gate::{Clauses, Gate, LabelValues, Pattern};
+pub use laws::the_first_fault_is_found;
+pub use own::Item;
