@@ -1,10 +1,9 @@
 -- What the fields of a line are, by their bytes.
-use Rattle.std.proofs.Common.{◌≡◌, ℕ, suc, ◌+◌, ◌-◌, ◌*◌, ◌<◌, ◌≤◌, ◌^◌, Bool, true, false, eqb, List, [], ◌∷◌, ◌++◌, length, take, drop, get_or, fold, Option, Some, None, Decides, refl, ap, sym, subst, ◌∙◌, arith}
-use Rattle.std.specs.Prelude.{IfNone, Contains}
+use Rattle.std.proofs.Common.{◌≡◌, ℕ, ◌+◌, ◌-◌, ◌*◌, ◌<◌, ◌≤◌, true, false, eqb, List, [], ◌∷◌, ◌++◌, length, take, drop, get_or, fold, Option, Some, None, refl, ap, sym, ◌∙◌, arith}
+use Rattle.std.specs.Prelude.{IfNone}
 use Rattle.std.specs.Cmp.Lexicographic.{pointwise}
 use Rattle.std.proofs.Math.Seq.{take-append_seam, drop-append_seam, get_or-append_seam}
 use Rattle.std.proofs.lemmas.List.{take-append-drop, take_rest, length-append}
-use Rattle.std.proofs.lemmas.List.Elements.{Contains-append_right}
 use Rattle.std.proofs.lemmas.List.Sums.{fold-append, fold_more}
 use Rattle.std.proofs.lemmas.Slice.Eq.{slice_eq-Decides}
 use Rattle.std.proofs.lemmas.Bool.Decides.{Decides-eqb}
@@ -20,7 +19,7 @@ if_none_always (Some x) p = tt
 texts_same : (xs ys : List ℕ) → pointwise eqb xs ys ≡ true → xs ≡ ys
 texts_same xs ys e = (slice_eq-Decides Decides-eqb xs ys _ refl).0 e
 
-same_texts : (xs ys : List ℕ) → xs ≡ ys → pointwise eqb xs ys ≡ true
+pub same_texts : (xs ys : List ℕ) → xs ≡ ys → pointwise eqb xs ys ≡ true
 same_texts xs ys e = (slice_eq-Decides Decides-eqb xs ys _ refl).1 e
 
 blank_first : (rest : List ℕ) → 0 < length rest → get_or rest 0 0 ≡ 32 → rest ≡ 32 ∷ take (length rest - 1) (drop 1 rest)

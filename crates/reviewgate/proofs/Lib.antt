@@ -1,1 +1,7 @@
 pub mod FieldLemmas
+mod Merging
+mod WrittenLines
+mod FooterReads
+pub mod Saying
+pub mod Runs
+mod Simulating

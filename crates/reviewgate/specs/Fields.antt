@@ -1,5 +1,5 @@
 -- The fields of a script's line.
-use Rattle.std.specs.Prelude.{◌≡◌, ◌≤◌, ℕ, ◌+◌, ◌-◌, ◌*◌, Bool, true, false, List, [], ◌∷◌, ◌++◌, All, length, fold, IsTrue, Contains}
+use Rattle.std.specs.Prelude.{◌≡◌, ◌≤◌, ℕ, ◌+◌, ◌-◌, ◌*◌, List, ◌∷◌, ◌++◌, All, length, fold, IsTrue, Contains}
 use Rattle.std.specs.Char.{is_ascii_digit}
 
 -- the number that digits write

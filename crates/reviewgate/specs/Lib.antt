@@ -1,3 +1,9 @@
 pub mod ScriptLines
 pub mod Fields
 pub mod Faults
+pub mod Files
+pub mod Merging
+pub mod FooterLines
+pub mod Script
+pub mod Playing
+pub mod Simulating

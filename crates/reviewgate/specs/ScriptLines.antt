@@ -1,5 +1,5 @@
 -- The lines of a script that say something, with their numbers.
-use Rattle.std.specs.Prelude.{ℕ, ◌+◌, Bool, true, false, List, [], ◌∷◌, ◌==◌, if◌then◌else◌}
+use Rattle.std.specs.Prelude.{ℕ, ◌+◌, Bool, true, List, [], ◌∷◌, ◌==◌, if◌then◌else◌}
 
 -- an empty line or a comment says nothing
 abbrev pub is_passed_over : List ℕ → Bool

@@ -3,7 +3,15 @@
 
 mod command_line;
 mod fields;
+#[cfg(test)]
+mod footer_tests;
+mod footers;
+mod merge;
+#[cfg(test)]
+mod merge_tests;
 mod named;
+#[cfg(test)]
+mod one_file;
 mod refusal;
 mod run;
 mod script;

@@ -2,7 +2,11 @@
 
 ghost use Rattle.std.specs.Prelude.{◌≡◌};
 ghost use Rattle.reviewgate.specs.Faults.{file_fault_number, file_fault_name, script_fault_number, script_fault_name};
+ghost use Rattle.reviewgate.specs.declared.refusal.Refusal.TheVariants.{Snapshot as Unread, Gate as BadGate, File as BadFile};
 
+use gate_rules::GateFault;
+use op_text::OpTextFault;
+use report_text::SnapFault;
 use std::fmt;
 use thiserror::Error;
 
@@ -83,10 +87,14 @@ impl ScriptFault {
 }
 
 /// Why a command ended with status 1, by the part of the program that refused.
-#[derive(Clone, Copy, Debug, PartialEq, Eq, Drop)]
+#[derive(Debug, Drop)]
 pub enum Refusal {
     Script(ScriptFault),
+    Snapshot(SnapFault),
+    Gate(GateFault),
     File(FileFault),
+    /// A message isn't UTF-8.
+    NotText,
     /// The output failed.
     Output,
     /// Memory was refused where no other part says so.
@@ -97,6 +105,9 @@ impl fmt::Display for Refusal {
     fn fmt<W: fmt::Write>(&self, f: &mut fmt::Formatter<W>) -> fmt::Result {
         match self {
             Refusal::Script(fault) => write_script(f, fault),
+            Refusal::Snapshot(fault) => write_snapshot_fault(f, fault),
+            Refusal::Gate(fault) => write_gate_fault(f, fault),
+            Refusal::NotText => write!(f, "file 9 NotText"),
             Refusal::File(fault) => write!(f, "file {} {}", fault.number(), fault.name()),
             Refusal::Output => write!(f, "output 1 WriteFault"),
             Refusal::Memory => write!(f, "memory 1 NoMemory"),
@@ -110,5 +121,67 @@ fn write_script<W: fmt::Write>(f: &mut fmt::Formatter<W>, fault: &ScriptFault) -
     match fault {
         ScriptFault::BadLine(line) => write!(f, " {line}"),
         _ => Ok(()),
+    }
+}
+
+/// The part, the number, the name, and of a bad line its number and the cause.
+fn write_snapshot_fault<W: fmt::Write>(
+    f: &mut fmt::Formatter<W>,
+    fault: &SnapFault,
+) -> fmt::Result {
+    write!(f, "snapshot {} {}", fault.number(), fault.name())?;
+    match fault {
+        SnapFault::BadLine(line, cause) => {
+            write!(f, " {line} {}", cause.name())?;
+            write_cause_details(f, cause)
+        }
+        _ => Ok(()),
+    }
+}
+
+/// The part, the number, the name, and the key if there is one.
+fn write_gate_fault<W: fmt::Write>(f: &mut fmt::Formatter<W>, fault: &GateFault) -> fmt::Result {
+    write!(f, "gate {} {}", fault.number(), fault.name())?;
+    match fault {
+        GateFault::UnknownKey(key) | GateFault::BadValue(key) | GateFault::Unsupported(key) => {
+            write!(f, " {key}")
+        }
+        GateFault::NotJson | GateFault::NoMemory => Ok(()),
+    }
+}
+
+/// The key that isn't as it should be, or the name of the body's fault.
+fn write_cause_details<W: fmt::Write>(
+    f: &mut fmt::Formatter<W>,
+    cause: &OpTextFault,
+) -> fmt::Result {
+    match cause {
+        OpTextFault::BadShape(key) => write!(f, " {key}"),
+        OpTextFault::BadBody(fault) => write!(f, " {}", fault.name()),
+        _ => Ok(()),
+    }
+}
+
+impl From<GateFault> for Refusal {
+    ghost from_gives = { λ fault refusal. refusal ≡ BadGate fault };
+
+    fn from(fault: GateFault) -> Refusal {
+        Refusal::Gate(fault)
+    }
+}
+
+impl From<FileFault> for Refusal {
+    ghost from_gives = { λ fault refusal. refusal ≡ BadFile fault };
+
+    fn from(fault: FileFault) -> Refusal {
+        Refusal::File(fault)
+    }
+}
+
+impl From<SnapFault> for Refusal {
+    ghost from_gives = { λ fault refusal. refusal ≡ Unread fault };
+
+    fn from(fault: SnapFault) -> Refusal {
+        Refusal::Snapshot(fault)
     }
 }

@@ -1,16 +1,21 @@
 //! The program, over any words, readers, writers and files.
 
+ghost use Rattle.reviewgate.specs.Files.{given};
+ghost use Rattle.reviewgate.specs.Simulating.{IsSimulated};
+
 use super::command_line::{Asked, read_words};
-use super::named::{Named, file_fault};
+use super::footers::footers;
+use super::merge::merge;
+use super::named::{Named, bytes_of};
 use super::refusal::Refusal;
 use super::script::read_script;
 use super::simulate::play;
-use byte_ends::{Drain, Source, read_all, write_all};
+use byte_ends::{Drain, Source, write_all};
 use std::alloc::Global;
 use std::convert::AsStr;
 
-/// The greatest length of a script, in bytes.
-pub const SCRIPT_LIMIT: usize = 1_048_576;
+/// The greatest length of a script, a gate file or a message file, in bytes.
+pub const TEXT_LIMIT: usize = 1_048_576;
 
 /// The status of a command that did what was asked.
 const DONE: u8 = 0;
@@ -34,6 +39,12 @@ pub fn run_words<S: AsStr, I: Source, O: Drain, E: Drain, N: Named>(
 ) -> u8 {
     let ended = match read_words(alloc, words) {
         Asked::Simulate { script } => simulate(alloc, script, input, output, files),
+        Asked::Merge { first, second } => merge(alloc, first, second, input, output, files),
+        Asked::Footers {
+            gate,
+            message,
+            change,
+        } => footers(alloc, gate, message, change, input, output, files),
         Asked::Help(text) => match write_all(output, text.as_bytes()) {
             Ok(()) => Ok(()),
             Err(_) => Err(Refusal::Output),
@@ -53,21 +64,25 @@ pub fn run_words<S: AsStr, I: Source, O: Drain, E: Drain, N: Named>(
     }
 }
 
-/// Plays the script of a name.
+/// Plays the script of a name. Refusals: `File` 6 `TooLong`, it has more than 1,048,576 bytes, 7 `ReadFault` and 8 `NoMemory`, and
+/// `Script` 1 `BadSites`, of all of which nothing is printed; else those of `play`.
 fn simulate<I: Source, O: Drain, N: Named>(
     alloc: Global,
     name: &str,
     input: &mut I,
     output: &mut O,
     files: &mut N,
-) -> Result<(), Refusal> {
-    let text = if name == "-" {
-        read_all(alloc, input, SCRIPT_LIMIT).map_err(file_fault)
-    } else {
-        files.read(name, SCRIPT_LIMIT)
+) -> Result<(), Refusal>
+    ensures { IsSimulated (given (I.left input.old) (N.told files.old) name.now) (O.taken output.old) (O.taken output.new) result }
+{
+    let text = match bytes_of(alloc, name, TEXT_LIMIT, input, files) {
+        Ok(text) => text,
+        Err(fault) => return Err(Refusal::File(fault)),
     };
-    let text = text.map_err(Refusal::File)?;
-    let script = read_script(alloc, text.as_slice()).map_err(Refusal::Script)?;
+    let script = match read_script(alloc, text.as_slice()) {
+        Ok(script) => script,
+        Err(fault) => return Err(Refusal::Script(fault)),
+    };
     play(alloc, script, output)
 }
 

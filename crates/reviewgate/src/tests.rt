@@ -1,5 +1,7 @@
 //! Scripts and what they print, worked out by hand.
 
+ghost use Rattle.std.specs.Prelude.{None};
+
 use super::named::Named;
 use super::refusal::FileFault;
 use super::run::run_words;
@@ -10,15 +12,22 @@ use std::test::Fail;
 
 /// Files of which none is there.
 #[derive(Drop)]
-struct NoFiles;
+struct NoFiles {
+    failures: u64,
+}
 
 impl Named for NoFiles {
+    ghost told = { λ files name. None };
+
+    ghost failed = { λ files. files.failures };
+
     fn read(&mut self, _name: &str, _limit: usize) -> Result<Vec<u8>, FileFault> {
+        self.failures = self.failures.saturating_add(1);
         Err(FileFault::ReadFault)
     }
 
     fn failures(&self) -> u64 {
-        0
+        self.failures
     }
 }
 
@@ -40,7 +49,7 @@ fn assert_plays(
         &mut Ends::new(script.as_bytes()),
         &mut written,
         &mut told,
-        &mut NoFiles,
+        &mut NoFiles { failures: 0 },
     );
     assert_eq!(rt; written.get_ref().as_slice(), output.as_bytes(), "{script}");
     assert_eq!(rt; told.get_ref().as_slice(), errors.as_bytes(), "{script}");
@@ -73,6 +82,65 @@ fn scripts_are_played(rt: HostRuntime) {
     for (script, status, output, errors) in cases {
         assert_plays(&rt, rt.alloc(), script, status, output, errors);
     }
+}
+
+#[test]
+fn fronts_say_what_packets_need_not_have(rt: HostRuntime) {
+    assert_plays(
+        &rt,
+        rt.alloc(),
+        "sites 2\nintake 1 {\"change\":5,\"op\":\"merged\"}\nsend 1 []\nintake 1 {\"change\":6,\"op\":\"merged\"}\n\
+         send 1 [[1,1,1]]\ndeliver 2 2\nfront 2\nsend 1 @2\ndeliver 3 2\nfront 2\n",
+        0,
+        "ok 1,1,1,1\npacket 1 1 done\nok 2,1,1,2\npacket 2 1 done\ntook 1\n[]\npacket 3 2 done\ntook 1\n[[1,1,2]]\n",
+        "",
+    );
+}
+
+#[test]
+fn sites_go_back_to_what_they_saved(rt: HostRuntime) {
+    assert_plays(
+        &rt,
+        rt.alloc(),
+        "sites 1\nintake 1 {\"change\":5,\"op\":\"merged\"}\nsave 1\nintake 1 {\"change\":6,\"op\":\"merged\"}\nrestart 1 1\n\
+         restart 1 2\nintake 1 {\"change\":7,\"op\":\"merged\"}\nfront 1\nrestart 2 1\ndeliver 1 1\n\
+         intake 1 {\"change\":0,\"op\":\"merged\"}\n",
+        0,
+        "ok 1,1,1,1\nsaved\nok 2,1,1,2\nno 3 StartUsed\nrestarted\nok 2,1,2,1\n[[1,1,1],[1,2,1]]\nno 1 NoSite\nno 2 NoPacket\n\
+         no 5 BadBody\n",
+        "",
+    );
+    assert_plays(
+        &rt,
+        rt.alloc(),
+        "sites 1\nsend 1 @2\nsave 0\ndeliver 0 1\nrestart 1 0\nrestart 1 4294967295\nrestart 1 4294967295\n",
+        0,
+        "no 1 NoSite\nno 1 NoSite\nno 2 NoPacket\nno 3 StartUsed\nrestarted\nno 3 StartUsed\n",
+        "",
+    );
+    assert_plays(
+        &rt,
+        rt.alloc(),
+        "sites 1\nsend 2 @1\nfront 2\nsend 1 @\n",
+        1,
+        "no 1 NoSite\nno 1 NoSite\n",
+        "reviewgate: script 2 BadLine 4\n",
+    );
+}
+
+#[test]
+fn long_journals_take_several_packets(rt: HostRuntime) -> Result<(), Fail> {
+    let alloc = rt.alloc();
+    let mut script = String::from_str(alloc, "sites 2\n")?;
+    let mut output = String::new(alloc);
+    for time in 1..=257u64 {
+        script.push_str("intake 1 {\"change\":5,\"op\":\"merged\"}\n")?;
+        write!(&mut output, "ok {time},1,1,{time}\n")?;
+    }
+    script.push_str("send 1 []\ndeliver 1 2\nsend 1 @2\ndeliver 2 2\ndeliver 1 2\n")?;
+    output.push_str("packet 1 256 more\ntook 256\npacket 2 1 done\ntook 1\ntook 0\n")?;
+    assert_plays(&rt, alloc, script.as_str(), 0, output.as_str(), "");
+    Ok(())
 }
 
 #[test]
@@ -145,7 +213,7 @@ fn words_that_ask_for_nothing_are_told(rt: HostRuntime) {
         &mut Ends::new(b"".as_slice()),
         &mut written,
         &mut told,
-        &mut NoFiles,
+        &mut NoFiles { failures: 0 },
     );
     assert_eq!(rt; ended, 2);
     assert!(rt; written.get_ref().is_empty());
@@ -163,7 +231,7 @@ fn help_is_printed_on_the_output(rt: HostRuntime) {
         &mut Ends::new(b"".as_slice()),
         &mut written,
         &mut told,
-        &mut NoFiles,
+        &mut NoFiles { failures: 0 },
     );
     assert_eq!(rt; ended, 0);
     assert!(rt; written.get_ref().len() > 0);
@@ -181,7 +249,7 @@ fn a_missing_file_and_broken_ends_are_refusals(rt: HostRuntime) -> Result<(), Fa
         &mut Ends::new(b"".as_slice()),
         &mut Ends::new(Vec::new(rt.alloc())),
         &mut told,
-        &mut NoFiles,
+        &mut NoFiles { failures: 0 },
     );
     assert_eq!(rt; ended, 1);
     assert_eq!(rt;
@@ -196,7 +264,7 @@ fn a_missing_file_and_broken_ends_are_refusals(rt: HostRuntime) -> Result<(), Fa
         &mut Broken::before_byte(Ends::new(b"sites 1\nstate 1\n".as_slice()), 3),
         &mut Ends::new(Vec::new(rt.alloc())),
         &mut told,
-        &mut NoFiles,
+        &mut NoFiles { failures: 0 },
     );
     assert_eq!(rt; ended, 1);
     assert_eq!(rt;
@@ -211,7 +279,7 @@ fn a_missing_file_and_broken_ends_are_refusals(rt: HostRuntime) -> Result<(), Fa
         &mut Ends::new(b"sites 1\nstate 1\n".as_slice()),
         &mut Broken::at_call(Ends::new(Vec::new(rt.alloc())), 1),
         &mut told,
-        &mut NoFiles,
+        &mut NoFiles { failures: 0 },
     );
     assert_eq!(rt; ended, 1);
     assert_eq!(rt;

@@ -1,0 +1,11 @@
+use Rattle.reviewgate.proofs.Saying.{no_deliver, deliver_unread, deliver_read}
+use Rattle.reviewgate.proofs.script.read_deliver.Goals as goal
+
+pub returns-in_default-clause-only : goal.returns-in_default-clause-only
+returns-in_default-clause-only c step said = absurd (no_deliver c.args.fields.now c.in_default.ensures.none step said)
+
+pub returns-in_err-site-clause-only : goal.returns-in_err-site-clause-only
+returns-in_err-site-clause-only c step said = absurd (deliver_unread c.args.fields.now c.in-Some.site.now c.in-Some.packet c.in-Some.ensures.found c.in_err-site.ensures.none step said)
+
+pub returns-clause-only : goal.returns-clause-only
+returns-clause-only c = deliver_read c.args.fields.now c.in-Some.site.now c.in-Some.packet c.in_ok-site.site c.in-Some.ensures.found c.in_ok-site.ensures.found

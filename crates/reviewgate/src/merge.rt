@@ -1,0 +1,132 @@
+//! Prints the snapshot of two together.
+
+ghost use Rattle.std.specs.Prelude.{◌≡◌, ℕ, List, false, IfOk, IfErr, IfSome, OnOk, MatchResult};
+ghost use Rattle.report_text.specs.Snapshot.{IsRefusal};
+ghost use Rattle.reviewgate.specs.Files.{given, is_input, left_after, snap_fault_of};
+ghost use Rattle.reviewgate.specs.Merging.{CountsMergeRefusal, CountsUnread, IsMergeRefusal, IsReadAs, IsUnread, PrintsMerged, PrintsRefused, failures};
+
+use super::named::{Named, bytes_of, is_input};
+use super::refusal::{FileFault, Refusal};
+use byte_ends::{Drain, Source};
+use replica_core::Replica;
+use report_text::{
+    SNAPSHOT_LIMIT, SnapFault, WriteSnapFault, operations_arrive_as_a_set, snapshot_of,
+    write_snapshot,
+};
+use std::alloc::Global;
+
+/// Prints the snapshot of two together: of the operations that stand in either, each once. The first is read whole and judged, then
+/// the second; `-` is the input, of which nothing is left for a second `-`. Refusals: `Snapshot`, one of the two isn't read, the
+/// first if it isn't; `Memory`, memory was refused once both were read; `Output`, the output failed. It costs what reading both
+/// costs, what the replica's `absorb` costs, and what writing costs.
+pub fn merge<I: Source, O: Drain, N: Named>(
+    alloc: Global,
+    first: &str,
+    second: &str,
+    input: &mut I,
+    output: &mut O,
+    files: &mut N,
+) -> Result<(), Refusal>
+    ensures merged { OnOk result (
+        IfSome (given (I.left input.old) (N.told files.old) first.now) (λ one.
+        IfSome (given (left_after first.now (I.left input.old)) (N.told files.old) second.now) (λ other.
+        PrintsMerged one other (O.taken output.old) (O.taken output.new)))) }
+    ensures refused { IfErr result (IsMergeRefusal
+        (given (I.left input.old) (N.told files.old) first.now)
+        (given (left_after first.now (I.left input.old)) (N.told files.old) second.now)) }
+    ensures printed { IfErr result (PrintsRefused
+        (given (I.left input.old) (N.told files.old) first.now)
+        (given (left_after first.now (I.left input.old)) (N.told files.old) second.now)
+        (O.taken output.old) (O.taken output.new)) }
+    ensures counted { let before = failures (I.failed input.old) (N.failed files.old) (O.failed output.old) in
+        let after = failures (I.failed input.new) (N.failed files.new) (O.failed output.new) in
+        MatchResult result (λ _. after ≡ before) (CountsMergeRefusal before after) }
+{
+    operations_arrive_as_a_set();
+    let (mut replica, other) = read_both(alloc, first, second, input, files)?;
+    let Ok(()) = replica.absorb(other) else {
+        return Err(Refusal::Memory);
+    };
+    match write_snapshot(alloc, &replica, output) {
+        Ok(()) => Ok(()),
+        Err(WriteSnapFault::WriteFault) => Err(Refusal::Output),
+        Err(WriteSnapFault::NoMemory) => Err(Refusal::Memory),
+    }
+}
+
+/// The replicas of two snapshots, of which the first is read and judged first.
+fn read_both<I: Source, N: Named>(
+    alloc: Global,
+    first: &str,
+    second: &str,
+    input: &mut I,
+    files: &mut N,
+) -> Result<(Replica, Replica), SnapFault>
+    ensures first { IfOk result (λ both. IsReadAs (given (I.left input.old) (N.told files.old) first.now) both.0) }
+    ensures second { IfOk result (λ both.
+        IsReadAs (given (left_after first.now (I.left input.old)) (N.told files.old) second.now) both.1) }
+    ensures err { IfErr result (IsUnread
+        (given (I.left input.old) (N.told files.old) first.now)
+        (given (left_after first.now (I.left input.old)) (N.told files.old) second.now)) }
+    ensures counted { MatchResult result
+        (λ _. (I.failed input.new ≡ I.failed input.old) × (N.failed files.new ≡ N.failed files.old))
+        (CountsUnread (I.failed input.old) (I.failed input.new) (N.failed files.old) (N.failed files.new)) }
+{
+    let replica = read_named(alloc, first, input, files)?;
+    let other = read_second(alloc, first, second, input, files)?;
+    Ok((replica, other))
+}
+
+/// The replica of the second snapshot, once the first was read: nothing is left of the input where the first name was its own.
+fn read_second<I: Source, N: Named>(
+    alloc: Global,
+    first: &str,
+    second: &str,
+    input: &mut I,
+    files: &mut N,
+) -> Result<Replica, SnapFault>
+    ensures ok { IfOk result (IsReadAs (given (left_after first.now (I.left input.old)) (N.told files.old) second.now)) }
+    ensures err { IfErr result (λ fault. IfSome (given (left_after first.now (I.left input.old)) (N.told files.old) second.now) (λ text. IsRefusal text fault)) }
+    ensures counted { MatchResult result
+        (λ _. (I.failed input.new ≡ I.failed input.old) × (N.failed files.new ≡ N.failed files.old))
+        (CountsUnread (I.failed input.old) (I.failed input.new) (N.failed files.old) (N.failed files.new)) }
+{
+    if is_input(first) && is_input(second) {
+        return snapshot_of(alloc, &[]);
+    }
+    read_named(alloc, second, input, files)
+}
+
+/// The replica of the snapshot of a name.
+fn read_named<I: Source, N: Named>(
+    alloc: Global,
+    name: &str,
+    input: &mut I,
+    files: &mut N,
+) -> Result<Replica, SnapFault>
+    ensures ok { IfOk result (IsReadAs (given (I.left input.old) (N.told files.old) name.now)) }
+    ensures err { IfErr result
+        (λ fault. IfSome (given (I.left input.old) (N.told files.old) name.now) (λ text. IsRefusal text fault)) }
+    ensures kept { (other : List ℕ) → N.told files.new other ≡ N.told files.old other }
+    ensures unread { is_input name.now ≡ false → I.left input.new ≡ I.left input.old }
+    ensures counted { MatchResult result
+        (λ _. (I.failed input.new ≡ I.failed input.old) × (N.failed files.new ≡ N.failed files.old))
+        (CountsUnread (I.failed input.old) (I.failed input.new) (N.failed files.old) (N.failed files.new)) }
+{
+    let text = match bytes_of(alloc, name, SNAPSHOT_LIMIT, input, files) {
+        Ok(text) => text,
+        Err(fault) => return Err(snap_fault(fault)),
+    };
+    snapshot_of(alloc, &text)
+}
+
+/// How it is told that a snapshot's bytes can't be had.
+fn snap_fault(fault: FileFault) -> SnapFault
+    ensures { result ≡ snap_fault_of fault }
+{
+    match fault {
+        FileFault::TooLong => SnapFault::TooLong,
+        FileFault::ReadFault => SnapFault::ReadFault,
+        FileFault::NoMemory => SnapFault::NoMemory,
+    }
+}

@@ -1,0 +1,40 @@
+//! A file for tests.
+
+ghost use Rattle.std.specs.Prelude.{None};
+
+use super::named::Named;
+use super::refusal::FileFault;
+use std::alloc::Global;
+
+/// The only file that is there.
+#[derive(Drop)]
+pub struct OneFile<'a> {
+    pub name: &'a str,
+    pub text: &'a [u8],
+    pub alloc: Global,
+    pub failures: u64,
+}
+
+impl Named for OneFile<'_> {
+    ghost told = { λ files name. None };
+
+    ghost failed = { λ files. files.failures };
+
+    fn read(&mut self, name: &str, limit: usize) -> Result<Vec<u8>, FileFault> {
+        if name != self.name {
+            self.failures = self.failures.saturating_add(1);
+            return Err(FileFault::ReadFault);
+        }
+        if self.text.len() > limit {
+            return Err(FileFault::TooLong);
+        }
+        match self.text.to_vec(self.alloc) {
+            Ok(bytes) => Ok(bytes),
+            Err(_) => Err(FileFault::NoMemory),
+        }
+    }
+
+    fn failures(&self) -> u64 {
+        self.failures
+    }
+}
