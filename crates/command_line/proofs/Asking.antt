@@ -1,0 +1,108 @@
+-- What a getter of clap's matches gives, over the rows that they show; and when no command was matched.
+use Rattle.std.proofs.Common.{◌≡◌, ◌≢◌, ◌⊎◌, ◌∙◌, ℕ, List, [], Option, None, Some, MatchOption, Ok, Err, Result, Bor, ap, sym, subst, IfSome, IfNone, arith, inl, inr, option_map, codes, slice_index}
+use Rattle.std.specs.Result.{result_ok}
+use Rattle.std.specs.Str.Parse.{ParsesUnsigned}
+use Rattle.clap.specs.Words.{IsAmong, Row, Text, fault_of, first_of, first_value, rows_of, subcommand_of}
+use Rattle.clap.specs.declared.error.kind.ErrorKind.{ErrorKind}
+use Rattle.clap.specs.declared.error.kind.ErrorKind.TheVariants.{DisplayHelp, DisplayVersion, OutOfMemory}
+use Rattle.clap.specs.declared.parser.matches.Found.{Found}
+use Rattle.clap.proofs.WalkLemmas.{first_value-rows}
+use Rattle.command_line.specs.declared.asked.Asked.{Asked}
+use Rattle.command_line.specs.declared.asked.Asked.TheVariants.{Simulate, Merge, Footers, Help, Usage, NoMemory}
+use Rattle.command_line.specs.Asking.{AsksHelp, Gives, GivesChange, IsAsked, IsAskedBy, IsCommand, IsFaulty, IsNoCommand, IsRefused, Matched, WritesNumber}
+use Rattle.command_line.specs.Commands.{program}
+
+-- ---- what a getter gives
+
+pub shown : (found : Found) (id : Text) (value : Option (Bor (List ℕ))) → option_map (λ s. s.now) value ≡ first_value found id → first_of id (rows_of found) ≡ option_map (λ s. s.now) value
+shown found id value gave = sym (first_value-rows found id) ∙ sym gave
+
+-- ---- commands of other names
+
+abbrev name_byte : Matched → ℕ
+name_byte None = 0
+name_byte (Some (name, rows)) = slice_index name 0
+
+abbrev rows_in : Matched → List Row
+rows_in None = []
+rows_in (Some (name, rows)) = rows
+
+not_given : (rows other : List Row) (id value : List ℕ) → rows ≡ other → first_of id rows ≡ None → ¬ Gives other id value
+not_given rows other id value same none given = let bad : None ≡ Some value = sym none ∙ ap (first_of id) same ∙ given in cc
+
+pub no_simulate : (rows : List Row) → first_of (codes "SCRIPT") rows ≡ None → IsNoCommand (Some (codes "simulate", rows))
+no_simulate rows none (Simulate script) (other, is, given) = not_given rows other (codes "SCRIPT") script.now (ap rows_in is) none given
+no_simulate rows none (Merge first second) (other, is, one, two) = let bad : 115 ≡ 109 = ap name_byte is in absurd (omega (arith, bad))
+no_simulate rows none (Footers gate message change) (other, is, one, two, of) = let bad : 115 ≡ 102 = ap name_byte is in absurd (omega (arith, bad))
+no_simulate rows none (Help text) not = not
+no_simulate rows none (Usage text) not = not
+no_simulate rows none NoMemory not = not
+
+pub no_merge : (rows : List Row) → (first_of (codes "FIRST") rows ≡ None) ⊎ (first_of (codes "SECOND") rows ≡ None) → IsNoCommand (Some (codes "merge", rows))
+no_merge rows none (Simulate script) (other, is, given) = let bad : 109 ≡ 115 = ap name_byte is in absurd (omega (arith, bad))
+no_merge rows (inl none) (Merge first second) (other, is, one, two) = not_given rows other (codes "FIRST") first.now (ap rows_in is) none one
+no_merge rows (inr none) (Merge first second) (other, is, one, two) = not_given rows other (codes "SECOND") second.now (ap rows_in is) none two
+no_merge rows none (Footers gate message change) (other, is, one, two, of) = let bad : 109 ≡ 102 = ap name_byte is in absurd (omega (arith, bad))
+no_merge rows none (Help text) not = not
+no_merge rows none (Usage text) not = not
+no_merge rows none NoMemory not = not
+
+abbrev pub LacksFooters : List Row → Type 0
+LacksFooters rows = (first_of (codes "GATE") rows ≡ None) ⊎ ((first_of (codes "FILE") rows ≡ None) ⊎ ((change : ℕ) → ¬ GivesChange rows change))
+
+pub no_footers : (rows : List Row) → LacksFooters rows → IsNoCommand (Some (codes "footers", rows))
+no_footers rows lacks (Simulate script) (other, is, given) = let bad : 102 ≡ 115 = ap name_byte is in absurd (omega (arith, bad))
+no_footers rows lacks (Merge first second) (other, is, one, two) = let bad : 102 ≡ 109 = ap name_byte is in absurd (omega (arith, bad))
+no_footers rows (inl none) (Footers gate message change) (other, is, one, two, of) = not_given rows other (codes "GATE") gate.now (ap rows_in is) none one
+no_footers rows (inr (inl none)) (Footers gate message change) (other, is, one, two, of) = not_given rows other (codes "FILE") message.now (ap rows_in is) none two
+no_footers rows (inr (inr none)) (Footers gate message change) (other, is, one, two, of) = none change (rw (ap rows_in is) of)
+no_footers rows lacks (Help text) not = not
+no_footers rows lacks (Usage text) not = not
+no_footers rows lacks NoMemory not = not
+
+-- ---- the change's number
+
+gives_text : (rows : List Row) (text : List ℕ) (change : ℕ) → first_of (codes "change") rows ≡ Some text → GivesChange rows change → WritesNumber text change
+gives_text rows text change given gives = subst (λ found. MatchOption found (change ≡ 0) (λ t. WritesNumber t change)) given gives
+
+pub change_written : (E : Type 0) (text : List ℕ) (change : ℕ) → ParsesUnsigned {E = E} 32 10 text (Ok change) → WritesNumber text change
+change_written E text change parses = (parses.0.0, parses.0.1, parses.1)
+
+pub change_unwritten : {E : Type 0} (text : List ℕ) (fault : E) → ParsesUnsigned 32 10 text (Err fault) → (change : ℕ) → ¬ WritesNumber text change
+change_unwritten text fault parses change writes = parses (writes.0, writes.1)
+
+-- the option that was read, by how its text was parsed
+pub change_read : {E : Type 0} (rows : List Row) (text : List ℕ) (read : Result ℕ E) (result : Option ℕ) → first_of (codes "change") rows ≡ Some text → ParsesUnsigned 32 10 text read → result ≡ result_ok read → IfSome result (GivesChange rows)
+change_read {E} rows text (Ok n) result given parses is = rw (is, given) (change_written E text n parses)
+change_read rows text (Err fault) result given parses is = rw is tt
+
+pub change_unread : {E : Type 0} (rows : List Row) (text : List ℕ) (read : Result ℕ E) (result : Option ℕ) → first_of (codes "change") rows ≡ Some text → ParsesUnsigned 32 10 text read → result ≡ result_ok read → IfNone result ((change : ℕ) → ¬ GivesChange rows change)
+change_unread rows text (Ok n) result given parses is = rw is tt
+change_unread rows text (Err fault) result given parses is = rw is (λ change gives. change_unwritten text fault parses change (gives_text rows text change given gives))
+
+-- ---- what the words ask for, by what was matched or by clap's fault
+
+pub asked_matched : (words : List Text) (matched : Matched) (asked : Asked) → matched ≡ subcommand_of program words → IsAskedBy matched asked → IsAsked words asked
+asked_matched words matched (Simulate script) same by = subst (λ m. IsCommand m (Simulate script)) same by
+asked_matched words matched (Merge first second) same by = subst (λ m. IsCommand m (Merge first second)) same by
+asked_matched words matched (Footers gate message change) same by = subst (λ m. IsCommand m (Footers gate message change)) same by
+asked_matched words matched (Help text) same by = absurd by
+asked_matched words matched (Usage text) same by = inr (subst IsNoCommand same by)
+asked_matched words matched NoMemory same by = by
+
+asks_help : (words : List Text) (kind : ErrorKind) → (kind ≡ OutOfMemory) ⊎ IsAmong kind (fault_of program words) → (kind ≡ DisplayHelp) ⊎ (kind ≡ DisplayVersion) → AsksHelp words
+asks_help words kind (inl memory) (inl help) = let bad : OutOfMemory ≡ DisplayHelp = sym memory ∙ help in cc
+asks_help words kind (inl memory) (inr version) = let bad : OutOfMemory ≡ DisplayVersion = sym memory ∙ version in cc
+asks_help words kind (inr among) asks = (kind, among, asks)
+
+is_faulty : (words : List Text) (kind : ErrorKind) → (kind ≡ OutOfMemory) ⊎ IsAmong kind (fault_of program words) → (kind ≢ OutOfMemory) × (kind ≢ DisplayHelp) × (kind ≢ DisplayVersion) → IsFaulty words
+is_faulty words kind (inl memory) not = absurd (not.0 memory)
+is_faulty words kind (inr among) not = (kind, among, not.1, not.2)
+
+pub asked_refused : (words : List Text) (kind : ErrorKind) (asked : Asked) → (kind ≡ OutOfMemory) ⊎ IsAmong kind (fault_of program words) → IsRefused kind asked → IsAsked words asked
+asked_refused words kind (Simulate script) has refused = absurd refused
+asked_refused words kind (Merge first second) has refused = absurd refused
+asked_refused words kind (Footers gate message change) has refused = absurd refused
+asked_refused words kind (Help text) has refused = asks_help words kind has refused
+asked_refused words kind (Usage text) has refused = inl (is_faulty words kind has refused)
+asked_refused words kind NoMemory has refused = refused

@@ -1,0 +1,87 @@
+-- What the words of a command line ask for. Which command words name, what they give its arguments, and what is wrong with them is clap's
+-- (docs.rs/clap), over the program's commands.
+use Rattle.std.specs.Prelude.{◌≡◌, ◌≢◌, ◌⊎◌, ◌<◌, ◌^◌, ℕ, List, MatchOption, Option, Some, codes}
+use Rattle.std.specs.Str.Parse.{IsNumeral, digits_value, without_leading_plus}
+use Rattle.clap.specs.Words.{Row, Text, first_of, subcommand_of, fault_of, IsAmong}
+use Rattle.clap.specs.declared.error.kind.ErrorKind.{ErrorKind}
+use Rattle.clap.specs.declared.error.kind.ErrorKind.TheVariants.{DisplayHelp, DisplayVersion, OutOfMemory}
+use Rattle.command_line.specs.declared.asked.Asked.{Asked}
+use Rattle.command_line.specs.declared.asked.Asked.TheVariants.{Simulate, Merge, Footers, Help, Usage, NoMemory}
+use Rattle.command_line.specs.Commands.{program}
+
+-- what clap matched: the command that the words name, if they name one, and the values of its arguments
+abbrev pub Matched : Type 0
+Matched = Option (List ℕ × List Row)
+
+-- the argument has this value
+abbrev pub Gives : List Row → List ℕ → List ℕ → Type 0
+Gives rows argument value = first_of argument rows ≡ Some value
+
+-- the text writes the number in decimal, and it has at most 32 bits
+abbrev pub WritesNumber : List ℕ → ℕ → Type 0
+WritesNumber text number =
+    let digits = without_leading_plus text in
+    IsNumeral 10 digits × (digits_value 10 digits < 2 ^ 32) × (number ≡ digits_value 10 digits)
+
+-- the change that the option gives, and 0 without it
+abbrev pub GivesChange : List Row → ℕ → Type 0
+GivesChange rows change = MatchOption (first_of (codes "change") rows) (change ≡ 0) (λ text. WritesNumber text change)
+
+-- what was matched is a command, with all that it needs
+abbrev pub IsCommand : Matched → Asked → Type 0
+IsCommand matched (Simulate script) = (rows : List Row) × (matched ≡ Some (codes "simulate", rows)) × Gives rows (codes "SCRIPT") script.now
+IsCommand matched (Merge first second) =
+    (rows : List Row) × (matched ≡ Some (codes "merge", rows)) × Gives rows (codes "FIRST") first.now × Gives rows (codes "SECOND") second.now
+IsCommand matched (Footers gate message change) =
+    (rows : List Row) × (matched ≡ Some (codes "footers", rows)) × Gives rows (codes "GATE") gate.now × Gives rows (codes "FILE") message.now × GivesChange rows change
+IsCommand matched (Help text) = ⊥
+IsCommand matched (Usage text) = ⊥
+IsCommand matched NoMemory = ⊥
+
+-- the words ask for help
+abbrev pub AsksHelp : List Text → Type 0
+AsksHelp words = (kind : ErrorKind) × IsAmong kind (fault_of program words) × ((kind ≡ DisplayHelp) ⊎ (kind ≡ DisplayVersion))
+
+-- something else is wrong with the words
+abbrev pub IsFaulty : List Text → Type 0
+IsFaulty words = (kind : ErrorKind) × IsAmong kind (fault_of program words) × (kind ≢ DisplayHelp) × (kind ≢ DisplayVersion)
+
+-- it is no command, or lacks something
+abbrev pub IsNoCommand : Matched → Type 0
+IsNoCommand matched = (asked : Asked) → ¬ IsCommand matched asked
+
+-- this is what the words ask for; memory may be refused at any words
+abbrev pub IsAsked : List Text → Asked → Type 0
+IsAsked words (Simulate script) = IsCommand (subcommand_of program words) (Simulate script)
+IsAsked words (Merge first second) = IsCommand (subcommand_of program words) (Merge first second)
+IsAsked words (Footers gate message change) = IsCommand (subcommand_of program words) (Footers gate message change)
+IsAsked words (Help text) = AsksHelp words
+IsAsked words (Usage text) = IsFaulty words ⊎ IsNoCommand (subcommand_of program words)
+IsAsked words NoMemory = Unit {0}
+
+-- the same of what was matched
+abbrev pub IsAskedBy : Matched → Asked → Type 0
+IsAskedBy matched (Simulate script) = IsCommand matched (Simulate script)
+IsAskedBy matched (Merge first second) = IsCommand matched (Merge first second)
+IsAskedBy matched (Footers gate message change) = IsCommand matched (Footers gate message change)
+IsAskedBy matched (Help text) = ⊥
+IsAskedBy matched (Usage text) = IsNoCommand matched
+IsAskedBy matched NoMemory = Unit {0}
+
+-- how a fault of this kind is told
+abbrev pub IsRefused : ErrorKind → Asked → Type 0
+IsRefused kind (Simulate script) = ⊥
+IsRefused kind (Merge first second) = ⊥
+IsRefused kind (Footers gate message change) = ⊥
+IsRefused kind (Help text) = (kind ≡ DisplayHelp) ⊎ (kind ≡ DisplayVersion)
+IsRefused kind (Usage text) = (kind ≢ OutOfMemory) × (kind ≢ DisplayHelp) × (kind ≢ DisplayVersion)
+IsRefused kind NoMemory = Unit {0}
+
+-- it is told that something is wrong, or memory was refused for that
+abbrev pub IsUsage : Asked → Type 0
+IsUsage (Simulate script) = ⊥
+IsUsage (Merge first second) = ⊥
+IsUsage (Footers gate message change) = ⊥
+IsUsage (Help text) = ⊥
+IsUsage (Usage text) = Unit {0}
+IsUsage NoMemory = Unit {0}

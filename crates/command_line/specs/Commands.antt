@@ -1,0 +1,42 @@
+-- The program's commands and their arguments, as clap's builders make them (docs.rs/clap). The commands are the project's own.
+use Rattle.std.specs.Prelude.{◌≡◌, ℕ, true, false, List, Some, codes}
+use Rattle.clap.specs.Words.{App, Rule, app_of, new_app, new_rule, rule_of, with_rule, with_subcommand}
+use Rattle.clap.specs.declared.builder.arg.Arg.{Arg}
+use Rattle.clap.specs.declared.builder.command.Command.{Command}
+use Rattle.clap.specs.declared.builder.command.Command.TheViews.{out-Command}
+
+-- an argument that stands alone and has to be given
+abbrev pub needed : List ℕ → Rule
+needed id = record (new_rule id) { required = true }
+
+-- `simulate SCRIPT`
+abbrev pub simulate_app : App
+simulate_app = with_rule (new_app (codes "simulate")) (needed (codes "SCRIPT"))
+
+-- `merge FIRST SECOND`
+abbrev pub merge_app : App
+merge_app = with_rule (with_rule (new_app (codes "merge")) (needed (codes "FIRST"))) (needed (codes "SECOND"))
+
+-- the option `--change N`
+abbrev pub change_rule : Rule
+change_rule = record (new_rule (codes "change")) { long = Some (codes "change"); value_names = 1 }
+
+-- `footers GATE FILE [--change N]`
+abbrev pub footers_app : App
+footers_app = with_rule (with_rule (with_rule (new_app (codes "footers")) (needed (codes "GATE"))) (needed (codes "FILE"))) change_rule
+
+-- the program, before it has its commands: its name isn't among the words, and a command has to be
+abbrev pub bare_app : App
+bare_app = record (new_app (codes "reviewgate")) { top = record (new_app (codes "reviewgate")).top { no_binary_name = true; subcommand_required = true } }
+
+-- the program
+abbrev pub program : App
+program = with_subcommand (with_subcommand (with_subcommand bare_app simulate_app.top) merge_app.top) footers_app.top
+
+-- an argument that clap reads by this rule, at its own command alone
+abbrev pub IsRule : Rule → Arg → Type 0
+IsRule rule arg = (rule_of arg ≡ rule) × (arg.global ≡ false)
+
+-- a command that clap reads so, with no argument that its subcommands take
+abbrev pub IsApp : App → Command → Type 0
+IsApp app command = (app_of command ≡ app) × ((out-Command command).has_globals ≡ false)

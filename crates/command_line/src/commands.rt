@@ -1,0 +1,92 @@
+//! The commands and their arguments.
+
+ghost use Rattle.std.specs.Prelude.{IfOk};
+ghost use Rattle.command_line.specs.Commands.{IsApp, IsRule, change_rule, footers_app, merge_app, needed, program, simulate_app};
+
+use clap::{Arg, Command};
+use std::alloc::{AllocError, Global};
+
+/// The program.
+pub fn commands<'a>(alloc: Global) -> Result<Command<'a>, AllocError>
+    ensures { IfOk result (IsApp program) }
+{
+    let simulate = simulate_command(alloc)?;
+    let merge = merge_command(alloc)?;
+    let footers = footers_command(alloc)?;
+    Command::new(alloc, "reviewgate")
+        .about("Keeps the review record of Gerrit changes at several sites")
+        .no_binary_name(true)
+        .subcommand_required(true)
+        .subcommand(simulate)?
+        .subcommand(merge)?
+        .subcommand(footers)
+}
+
+/// An argument that has to be given.
+fn file<'a>(alloc: Global, name: &'a str, help: &'a str) -> Arg<'a>
+    ensures { IsRule (needed name.entry.now) result }
+{
+    Arg::new(alloc, name).required(true).help(help)
+}
+
+/// `simulate SCRIPT`
+fn simulate_command<'a>(alloc: Global) -> Result<Command<'a>, AllocError>
+    ensures { IfOk result (IsApp simulate_app) }
+{
+    let script = file(
+        alloc,
+        "SCRIPT",
+        "The script's file, or - for standard input",
+    );
+    Command::new(alloc, "simulate")
+        .about("Plays a script of several sites and prints what each line answers")
+        .arg(script)
+}
+
+/// `merge FIRST SECOND`
+fn merge_command<'a>(alloc: Global) -> Result<Command<'a>, AllocError>
+    ensures { IfOk result (IsApp merge_app) }
+{
+    let first = file(
+        alloc,
+        "FIRST",
+        "The first snapshot's file, or - for standard input",
+    );
+    let second = file(
+        alloc,
+        "SECOND",
+        "The second snapshot's file, or - for standard input",
+    );
+    Command::new(alloc, "merge")
+        .about("Prints the snapshot of two together")
+        .arg(first)?
+        .arg(second)
+}
+
+/// `footers GATE FILE [--change N]`
+fn footers_command<'a>(alloc: Global) -> Result<Command<'a>, AllocError>
+    ensures { IfOk result (IsApp footers_app) }
+{
+    let gate = file(alloc, "GATE", "The gate file, or - for standard input");
+    let message = file(
+        alloc,
+        "FILE",
+        "The file of the commit message, or - for standard input",
+    );
+    let change = change_option(alloc);
+    Command::new(alloc, "footers")
+        .about("Prints the changes that a commit message depends on")
+        .arg(gate)?
+        .arg(message)?
+        .arg(change)
+}
+
+/// `--change N`
+fn change_option<'a>(alloc: Global) -> Arg<'a>
+    ensures { IsRule change_rule result }
+{
+    Arg::new(alloc, "change")
+        .long("change")
+        .value_name("N")
+        .help("The number of the message's own change")
+}
