@@ -5,3 +5,4 @@ mod FooterReads
 pub mod Saying
 pub mod Runs
 mod Simulating
+mod Running

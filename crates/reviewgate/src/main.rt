@@ -1,7 +1,6 @@
 //! `reviewgate`: the review record of Gerrit changes, kept at several sites.
 #![tactic(auto)]
 
-mod command_line;
 mod fields;
 #[cfg(test)]
 mod footer_tests;

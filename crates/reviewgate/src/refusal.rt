@@ -1,13 +1,14 @@
 //! Why a command ended with status 1.
 
-ghost use Rattle.std.specs.Prelude.{◌≡◌};
+ghost use Rattle.std.specs.Prelude.{◌≡◌, ◌++◌, IfOk, OnOk, string_bytes};
 ghost use Rattle.reviewgate.specs.Faults.{file_fault_number, file_fault_name, script_fault_number, script_fault_name};
-ghost use Rattle.reviewgate.specs.declared.refusal.Refusal.TheVariants.{Snapshot as Unread, Gate as BadGate, File as BadFile};
+ghost use Rattle.reviewgate.specs.declared.refusal.Refusal.TheVariants.{Script as BadScript, Snapshot as Unread, Gate as BadGate, File as BadFile};
+ghost use Rattle.reviewgate.specs.Refusals.{cause_detail, refusal_line, refusal_text, told};
 
 use gate_rules::GateFault;
 use op_text::OpTextFault;
 use report_text::SnapFault;
-use std::fmt;
+use std::alloc::{AllocError, Global};
 use thiserror::Error;
 
 /// Why a named file can't be had.
@@ -101,64 +102,90 @@ pub enum Refusal {
     Memory,
 }
 
-impl fmt::Display for Refusal {
-    fn fmt<W: fmt::Write>(&self, f: &mut fmt::Formatter<W>) -> fmt::Result {
-        match self {
-            Refusal::Script(fault) => write_script(f, fault),
-            Refusal::Snapshot(fault) => write_snapshot_fault(f, fault),
-            Refusal::Gate(fault) => write_gate_fault(f, fault),
-            Refusal::NotText => write!(f, "file 9 NotText"),
-            Refusal::File(fault) => write!(f, "file {} {}", fault.number(), fault.name()),
-            Refusal::Output => write!(f, "output 1 WriteFault"),
-            Refusal::Memory => write!(f, "memory 1 NoMemory"),
-        }
+impl Refusal {
+    /// The line that is printed of the refusal.
+    pub fn line(&self, alloc: Global) -> Result<String, AllocError>
+        ensures { IfOk result (λ line. string_bytes line ≡ refusal_line self.now) }
+    {
+        let mut line = String::from_str(alloc, "reviewgate: ")?;
+        write_refusal(&mut line, self)?;
+        line.push_str("\n")?;
+        Ok(line)
     }
 }
 
+/// The part that refused, the number, the name and the details.
+fn write_refusal(line: &mut String, refusal: &Refusal) -> Result<(), AllocError>
+    ensures { OnOk result (string_bytes line.new ≡ string_bytes line.old ++ refusal_text refusal.now) }
+{
+    match refusal {
+        Refusal::Script(fault) => write_script(line, fault),
+        Refusal::Snapshot(fault) => write_snapshot(line, fault),
+        Refusal::Gate(fault) => write_gate(line, fault),
+        Refusal::File(fault) => write_told(line, "file", fault.number(), fault.name()),
+        Refusal::NotText => line.push_str("file 9 NotText"),
+        Refusal::Output => line.push_str("output 1 WriteFault"),
+        Refusal::Memory => line.push_str("memory 1 NoMemory"),
+    }
+}
+
+/// The part, the number and the name.
+fn write_told(line: &mut String, part: &str, number: u8, name: &str) -> Result<(), AllocError>
+    ensures { OnOk result (string_bytes line.new ≡ string_bytes line.old ++ told part.now number name.now) }
+{
+    write!(line, "{part} {number} {name}")
+}
+
 /// The part, the number, the name and the line.
-fn write_script<W: fmt::Write>(f: &mut fmt::Formatter<W>, fault: &ScriptFault) -> fmt::Result {
-    write!(f, "script {} {}", fault.number(), fault.name())?;
+fn write_script(line: &mut String, fault: &ScriptFault) -> Result<(), AllocError>
+    ensures { OnOk result (string_bytes line.new ≡ string_bytes line.old ++ refusal_text (BadScript fault.now)) }
+{
+    write_told(line, "script", fault.number(), fault.name())?;
     match fault {
-        ScriptFault::BadLine(line) => write!(f, " {line}"),
-        _ => Ok(()),
+        ScriptFault::BadLine(number) => write!(line, " {number}"),
+        ScriptFault::BadSites | ScriptFault::NoMemory => Ok(()),
     }
 }
 
 /// The part, the number, the name, and of a bad line its number and the cause.
-fn write_snapshot_fault<W: fmt::Write>(
-    f: &mut fmt::Formatter<W>,
-    fault: &SnapFault,
-) -> fmt::Result {
-    write!(f, "snapshot {} {}", fault.number(), fault.name())?;
+fn write_snapshot(line: &mut String, fault: &SnapFault) -> Result<(), AllocError>
+    ensures { OnOk result (string_bytes line.new ≡ string_bytes line.old ++ refusal_text (Unread fault.now)) }
+{
+    write_told(line, "snapshot", fault.number(), fault.name())?;
     match fault {
-        SnapFault::BadLine(line, cause) => {
-            write!(f, " {line} {}", cause.name())?;
-            write_cause_details(f, cause)
+        SnapFault::BadLine(number, cause) => {
+            let name = cause.name();
+            write!(line, " {number} {name}")?;
+            write_cause_detail(line, cause)
         }
         _ => Ok(()),
-    }
-}
-
-/// The part, the number, the name, and the key if there is one.
-fn write_gate_fault<W: fmt::Write>(f: &mut fmt::Formatter<W>, fault: &GateFault) -> fmt::Result {
-    write!(f, "gate {} {}", fault.number(), fault.name())?;
-    match fault {
-        GateFault::UnknownKey(key) | GateFault::BadValue(key) | GateFault::Unsupported(key) => {
-            write!(f, " {key}")
-        }
-        GateFault::NotJson | GateFault::NoMemory => Ok(()),
     }
 }
 
 /// The key that isn't as it should be, or the name of the body's fault.
-fn write_cause_details<W: fmt::Write>(
-    f: &mut fmt::Formatter<W>,
-    cause: &OpTextFault,
-) -> fmt::Result {
+fn write_cause_detail(line: &mut String, cause: &OpTextFault) -> Result<(), AllocError>
+    ensures { OnOk result (string_bytes line.new ≡ string_bytes line.old ++ cause_detail cause.now) }
+{
     match cause {
-        OpTextFault::BadShape(key) => write!(f, " {key}"),
-        OpTextFault::BadBody(fault) => write!(f, " {}", fault.name()),
-        _ => Ok(()),
+        OpTextFault::BadShape(key) => write!(line, " {key}"),
+        OpTextFault::BadBody(fault) => {
+            let name = fault.name();
+            write!(line, " {name}")
+        }
+        OpTextFault::NotJson | OpTextFault::NoMemory => Ok(()),
+    }
+}
+
+/// The part, the number, the name, and the key if there is one.
+fn write_gate(line: &mut String, fault: &GateFault) -> Result<(), AllocError>
+    ensures { OnOk result (string_bytes line.new ≡ string_bytes line.old ++ refusal_text (BadGate fault.now)) }
+{
+    write_told(line, "gate", fault.number(), fault.name())?;
+    match fault {
+        GateFault::UnknownKey(key) | GateFault::BadValue(key) | GateFault::Unsupported(key) => {
+            write!(line, " {key}")
+        }
+        GateFault::NotJson | GateFault::NoMemory => Ok(()),
     }
 }
 

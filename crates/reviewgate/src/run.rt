@@ -1,16 +1,21 @@
 //! The program, over any words, readers, writers and files.
 
+ghost use Rattle.std.specs.Prelude.{◌⊎◌, map};
+ghost use Rattle.command_line.specs.Asking.{IsAsked};
+ghost use Rattle.command_line.specs.declared.asked.Asked.{Asked};
 ghost use Rattle.reviewgate.specs.Files.{given};
+ghost use Rattle.reviewgate.specs.Refusals.{refusal_line};
+ghost use Rattle.reviewgate.specs.Running.{Does, Ended, EndsWith, Shows, ends, memory_line, told};
 ghost use Rattle.reviewgate.specs.Simulating.{IsSimulated};
 
-use super::command_line::{Asked, read_words};
 use super::footers::footers;
 use super::merge::merge;
 use super::named::{Named, bytes_of};
 use super::refusal::Refusal;
 use super::script::read_script;
-use super::simulate::play;
+use super::simulate::{play, print};
 use byte_ends::{Drain, Source, write_all};
+use command_line::{Asked, read_words};
 use std::alloc::Global;
 use std::convert::AsStr;
 
@@ -26,9 +31,9 @@ const REFUSED: u8 = 1;
 /// The status of a usage fault.
 const MISUSED: u8 = 2;
 
-/// Runs the command that `words`, the arguments after the program's name, ask for. The file name `-` reads
-/// `input`. The answer is the exit status: 0 for success and for help, 1 for a refusal, of which one line is
-/// written to `errors`, 2 for words that ask for no command.
+/// Runs the command that `words`, the arguments after the program's name, ask for. The file name `-` reads `input`. The answer is the exit
+/// status: 0 for success and for help, 1 for a refusal, of which one line is written to `errors`, 2 for words that ask for no command, of
+/// which `errors` is told what `clap` says. What the error output can't take is lost.
 pub fn run_words<S: AsStr, I: Source, O: Drain, E: Drain, N: Named>(
     alloc: Global,
     words: &[S],
@@ -36,31 +41,50 @@ pub fn run_words<S: AsStr, I: Source, O: Drain, E: Drain, N: Named>(
     output: &mut O,
     errors: &mut E,
     files: &mut N,
-) -> u8 {
-    let ended = match read_words(alloc, words) {
+) -> u8
+    ensures { (asked : Asked) × IsAsked (map S.text words.now) asked × (ended : Ended)
+        × Does (record { input = I.left input.old; files = N.told files.old })
+        (ends (O.taken output.old) (I.failed input.old) (N.failed files.old) (O.failed output.old))
+        (ends (O.taken output.new) (I.failed input.new) (N.failed files.new) (O.failed output.new)) asked ended
+        × EndsWith (told (E.taken errors.old) (E.failed errors.old)) (told (E.taken errors.new) (E.failed errors.new)) asked ended result }
+{
+    let asked = read_words(alloc, words);
+    if let Asked::Usage(text) = &asked {
+        let _ = write_all(errors, text.as_bytes());
+        return MISUSED;
+    }
+    match do_asked(alloc, &asked, input, output, files) {
+        Ok(()) => DONE,
+        Err(refusal) => {
+            tell_refusal(alloc, &refusal, errors);
+            REFUSED
+        }
+    }
+}
+
+/// Does what the words ask for.
+fn do_asked<I: Source, O: Drain, N: Named>(
+    alloc: Global,
+    asked: &Asked<'_>,
+    input: &mut I,
+    output: &mut O,
+    files: &mut N,
+) -> Result<(), Refusal>
+    ensures { Does (record { input = I.left input.old; files = N.told files.old })
+        (ends (O.taken output.old) (I.failed input.old) (N.failed files.old) (O.failed output.old))
+        (ends (O.taken output.new) (I.failed input.new) (N.failed files.new) (O.failed output.new)) asked.now result }
+{
+    match asked {
         Asked::Simulate { script } => simulate(alloc, script, input, output, files),
         Asked::Merge { first, second } => merge(alloc, first, second, input, output, files),
         Asked::Footers {
             gate,
             message,
             change,
-        } => footers(alloc, gate, message, change, input, output, files),
-        Asked::Help(text) => match write_all(output, text.as_bytes()) {
-            Ok(()) => Ok(()),
-            Err(_) => Err(Refusal::Output),
-        },
-        Asked::Usage(text) => {
-            let _ = write_all(errors, text.as_bytes());
-            return MISUSED;
-        }
+        } => footers(alloc, gate, message, *change, input, output, files),
+        Asked::Help(text) => print(output, text.as_bytes()),
+        Asked::Usage(_) => Ok(()),
         Asked::NoMemory => Err(Refusal::Memory),
-    };
-    match ended {
-        Ok(()) => DONE,
-        Err(refusal) => {
-            write_refusal(alloc, &refusal, errors);
-            REFUSED
-        }
     }
 }
 
@@ -86,9 +110,13 @@ fn simulate<I: Source, O: Drain, N: Named>(
     play(alloc, script, output)
 }
 
-/// The line of a refusal. What the error output can't take is lost.
-fn write_refusal<E: Drain>(alloc: Global, refusal: &Refusal, errors: &mut E) {
-    match format!(in alloc; "reviewgate: {refusal}\n") {
+/// Tells the error output of a refusal. What it can't take is lost.
+fn tell_refusal<E: Drain>(alloc: Global, refusal: &Refusal, errors: &mut E)
+    ensures { let old = told (E.taken errors.old) (E.failed errors.old) in
+        let new = told (E.taken errors.new) (E.failed errors.new) in
+        Shows (refusal_line refusal.now) old new ⊎ Shows memory_line old new }
+{
+    match refusal.line(alloc) {
         Ok(line) => {
             let _ = write_all(errors, line.as_bytes());
         }

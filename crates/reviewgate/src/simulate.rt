@@ -239,7 +239,7 @@ fn write_answer(text: &mut String, answer: &Result<Reply, WorldFault>) -> Result
 }
 
 /// Writes all of a text.
-fn print<D: Drain>(output: &mut D, text: &[u8]) -> Result<(), Refusal>
+pub fn print<D: Drain>(output: &mut D, text: &[u8]) -> Result<(), Refusal>
     ensures { Prints text.now (D.taken output.old) (D.taken output.new) result }
 {
     match write_all(output, text) {

@@ -1,0 +1,70 @@
+-- How a refusal is printed: the part of the program that refused, the number and the name of the fault, and its details.
+use Rattle.std.specs.Prelude.{ℕ, List, [], ◌++◌, codes, decimal, string_bytes}
+use Rattle.gate_rules.specs.Fault as gate
+use Rattle.gate_rules.specs.declared.fault.GateFault.{GateFault}
+use Rattle.gate_rules.specs.declared.fault.GateFault.TheVariants as GateFaults
+use Rattle.op_text.specs.Fault as operation
+use Rattle.op_text.specs.declared.fault.OpTextFault.{OpTextFault}
+use Rattle.op_text.specs.declared.fault.OpTextFault.TheVariants as OpTextFaults
+use Rattle.report_text.specs.Fault as snapshot
+use Rattle.report_text.specs.declared.fault.SnapFault.{SnapFault}
+use Rattle.report_text.specs.declared.fault.SnapFault.TheVariants as SnapFaults
+use Rattle.review_ops.specs.Fault as body
+use Rattle.reviewgate.specs.Faults.{file_fault_name, file_fault_number, script_fault_name, script_fault_number}
+use Rattle.reviewgate.specs.declared.refusal.Refusal.{Refusal}
+use Rattle.reviewgate.specs.declared.refusal.Refusal.TheVariants.{Script, Snapshot, Gate, File, NotText, Output, Memory}
+use Rattle.reviewgate.specs.declared.refusal.ScriptFault.{ScriptFault}
+use Rattle.reviewgate.specs.declared.refusal.ScriptFault.TheVariants.{BadSites, BadLine, NoMemory}
+
+-- the part, the number and the name, with blanks between them
+abbrev pub told : List ℕ → ℕ → List ℕ → List ℕ
+told part number name = part ++ codes " " ++ decimal number ++ codes " " ++ name
+
+-- a detail stands after a blank
+abbrev pub detail : List ℕ → List ℕ
+detail text = codes " " ++ text
+
+-- the number of a bad line
+abbrev pub script_detail : ScriptFault → List ℕ
+script_detail BadSites = []
+script_detail (BadLine line) = detail (decimal line)
+script_detail NoMemory = []
+
+-- the key, where a fault has one
+abbrev pub gate_detail : GateFault → List ℕ
+gate_detail GateFaults.NotJson = []
+gate_detail (GateFaults.UnknownKey key) = detail (string_bytes key)
+gate_detail (GateFaults.BadValue key) = detail (string_bytes key)
+gate_detail (GateFaults.Unsupported key) = detail (string_bytes key)
+gate_detail GateFaults.NoMemory = []
+
+-- the key that isn't as it should be, or the name of the body's fault
+abbrev pub cause_detail : OpTextFault → List ℕ
+cause_detail OpTextFaults.NotJson = []
+cause_detail (OpTextFaults.BadShape key) = detail (string_bytes key)
+cause_detail (OpTextFaults.BadBody fault) = detail (body.name_of fault)
+cause_detail OpTextFaults.NoMemory = []
+
+-- of a bad line its number, and the cause with its detail
+abbrev pub snapshot_detail : SnapFault → List ℕ
+snapshot_detail SnapFaults.BadHeader = []
+snapshot_detail (SnapFaults.BadLine line cause) = detail (decimal line) ++ detail (operation.name_of cause) ++ cause_detail cause
+snapshot_detail SnapFaults.NoEnd = []
+snapshot_detail SnapFaults.BadCount = []
+snapshot_detail SnapFaults.AfterEnd = []
+snapshot_detail SnapFaults.TooLong = []
+snapshot_detail SnapFaults.ReadFault = []
+snapshot_detail SnapFaults.NoMemory = []
+
+abbrev pub refusal_text : Refusal → List ℕ
+refusal_text (Script fault) = told (codes "script") (script_fault_number fault) (script_fault_name fault) ++ script_detail fault
+refusal_text (Snapshot fault) = told (codes "snapshot") (snapshot.number_of fault) (snapshot.name_of fault) ++ snapshot_detail fault
+refusal_text (Gate fault) = told (codes "gate") (gate.number_of fault) (gate.name_of fault) ++ gate_detail fault
+refusal_text (File fault) = told (codes "file") (file_fault_number fault) (file_fault_name fault)
+refusal_text NotText = codes "file 9 NotText"
+refusal_text Output = codes "output 1 WriteFault"
+refusal_text Memory = codes "memory 1 NoMemory"
+
+-- one line of the error output
+abbrev pub refusal_line : Refusal → List ℕ
+refusal_line refusal = codes "reviewgate: " ++ refusal_text refusal ++ codes "\n"
