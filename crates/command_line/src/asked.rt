@@ -11,9 +11,11 @@ use clap::error::ErrorKind;
 use std::alloc::Global;
 use std::convert::AsStr;
 
-/// What is wrong with words that name no command with all that it needs.
-const MISSING: &str =
-    "error: a command is missing, or what it needs; a change is a number from 0 to 4294967295\n";
+/// What is wrong with words that lack something.
+const MISSING: &str = "error: a command and what it needs are missing\n";
+
+/// What is wrong with a change that is no number.
+const NO_NUMBER: &str = "error: the change has to be a number from 0 to 4294967295\n";
 
 /// What the words ask for.
 #[derive(Drop)]
@@ -62,15 +64,15 @@ fn asked_by<'a>(alloc: Global, matches: &ArgMatches<'a>) -> Asked<'a>
     let Some((name, found)) = matches.subcommand() else {
         return usage(alloc, MISSING);
     };
-    let asked = match name {
-        "simulate" => asked_to_simulate(found),
-        "merge" => asked_to_merge(found),
-        "footers" => asked_for_footers(found),
-        _ => None,
+    let (asked, wrong) = match name {
+        "simulate" => (asked_to_simulate(found), MISSING),
+        "merge" => (asked_to_merge(found), MISSING),
+        "footers" => (asked_for_footers(found), NO_NUMBER),
+        _ => (None, MISSING),
     };
     match asked {
         Some(asked) => asked,
-        None => usage(alloc, MISSING),
+        None => usage(alloc, wrong),
     }
 }
 
