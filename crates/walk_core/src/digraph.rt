@@ -1,6 +1,7 @@
 ghost use Rattle.std.specs.Prelude.{◌≡◌, ◌↔◌, ◌<◌, ℕ, List, Contains, IfOk, length, map};
 ghost use Rattle.walk_core.specs.Digraphs.{AreDistances, AreOnCycles, HasEdge, IsWithin, ends_of};
 
+use super::distances::distances_to;
 use lattice_core::NoMemory;
 use std::alloc::{Allocator, Global};
 use std::marker::Model;
@@ -47,10 +48,11 @@ impl<A: Allocator + Copy> Digraph<A> {
         self.ends.len()
     }
 
-    /// The ends of a node's edges.
+    /// The ends of a node's edges. Each is a node.
     pub fn ends(&self, node: usize) -> &[usize]
         requires { node < length self.now }
-        ensures { result.now ≡ ends_of self.now node }
+        ensures row { result.now ≡ ends_of self.now node }
+        ensures within { (end : ℕ) → Contains result.now end → end < length self.now }
     {
         self.ends[node].as_slice()
     }
@@ -58,7 +60,8 @@ impl<A: Allocator + Copy> Digraph<A> {
     /// The nodes that have an edge to a node.
     pub fn namers(&self, node: usize) -> &[usize]
         requires { node < length self.now }
-        ensures { (namer : ℕ) → Contains result.now namer ↔ HasEdge self.now namer node }
+        ensures row { (namer : ℕ) → Contains result.now namer ↔ HasEdge self.now namer node }
+        ensures within { (namer : ℕ) → Contains result.now namer → namer < length self.now }
     {
         self.namers[node].as_slice()
     }
@@ -69,7 +72,7 @@ impl<A: Allocator + Copy> Digraph<A> {
         requires { length marked.now ≡ length self.now }
         ensures { IfOk result (λ distances. AreDistances self.now marked.now distances.items) }
     {
-        Err(NoMemory)
+        distances_to(self.alloc, self, marked)
     }
 
     /// Which nodes are on a cycle. It takes time and memory that grow with the nodes and edges.
@@ -80,10 +83,48 @@ impl<A: Allocator + Copy> Digraph<A> {
     }
 }
 
-/// The rows of the graph with each edge turned round.
+/// The rows of the graph with each edge turned round: each lists the nodes that have an edge to its own, in their order.
 fn turned_round<A: Allocator + Copy>(
     alloc: A,
     ends: &[Vec<usize, A>],
 ) -> Result<Vec<Vec<usize, A>, A>, NoMemory> {
-    Err(NoMemory)
+    let mut namers = empty_rows(alloc, ends.len())?;
+    for (node, row) in ends.iter().enumerate() {
+        name_ends(&mut namers, node, row.as_slice())?;
+    }
+    Ok(namers)
+}
+
+/// So many rows without an end.
+pub(crate) fn empty_rows<A: Allocator + Copy>(
+    alloc: A,
+    count: usize,
+) -> Result<Vec<Vec<usize, A>, A>, NoMemory> {
+    let mut rows = Vec::with_capacity(alloc, count)?;
+    for _ in 0..count {
+        rows.push(Vec::new(alloc))?;
+    }
+    Ok(rows)
+}
+
+/// Adds an edge from each of the ends to the node.
+fn name_ends<A: Allocator + Copy>(
+    namers: &mut Vec<Vec<usize, A>, A>,
+    node: usize,
+    ends: &[usize],
+) -> Result<(), NoMemory> {
+    for end in ends {
+        add_edge(namers, *end, node)?;
+    }
+    Ok(())
+}
+
+/// Adds an edge to a graph, given by its rows.
+pub(crate) fn add_edge<A: Allocator + Copy>(
+    rows: &mut Vec<Vec<usize, A>, A>,
+    from: usize,
+    to: usize,
+) -> Result<(), NoMemory> {
+    rows[from].push(to)?;
+    Ok(())
 }

@@ -2,7 +2,10 @@
 #![tactic(auto)]
 
 mod digraph;
+mod distances;
 mod laws;
+#[cfg(test)]
+mod tests;
 
 pub use digraph::Digraph;
 pub use laws::{distances_go_down, reaching_goes_on};

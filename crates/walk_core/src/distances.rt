@@ -1,0 +1,83 @@
+//! Distances over a graph, found by levels: first the marked nodes, then the nodes that have an edge to one of those, and so on.
+
+use super::digraph::Digraph;
+use lattice_core::NoMemory;
+use std::alloc::{Allocator, Global};
+use std::mem;
+
+/// How far a search has come: the distance of each node that it has reached, and the nodes of its last level.
+#[derive(Drop)]
+struct Search<A: Allocator + Copy = Global> {
+    distances: Vec<Option<usize>, A>,
+    level: Vec<usize, A>,
+}
+
+impl<A: Allocator + Copy> Search<A> {
+    /// A search that has reached none of so many nodes.
+    fn new(alloc: A, nodes: usize) -> Result<Search<A>, NoMemory> {
+        let distances = vec![in alloc; None; nodes]?;
+        let level = Vec::new(alloc);
+        Ok(Search { distances, level })
+    }
+
+    /// Puts the node into the last level, at this distance, where it wasn't reached before.
+    fn reach(&mut self, node: usize, distance: usize) -> Result<(), NoMemory> {
+        if self.distances[node].is_none() {
+            self.level.push(node)?;
+            self.distances[node] = Some(distance);
+        }
+        Ok(())
+    }
+
+    /// Puts those of the nodes into the last level that weren't reached before.
+    fn reach_all(&mut self, nodes: &[usize], distance: usize) -> Result<(), NoMemory> {
+        for node in nodes {
+            self.reach(*node, distance)?;
+        }
+        Ok(())
+    }
+
+    /// Puts the marked nodes into the last level, at the distance 0.
+    fn reach_marked(&mut self, marked: &[bool]) -> Result<(), NoMemory> {
+        for (node, is_marked) in marked.iter().enumerate() {
+            if *is_marked {
+                self.reach(node, 0)?;
+            }
+        }
+        Ok(())
+    }
+
+    /// Puts into the last level what has an edge to one of the nodes and wasn't reached before.
+    fn reach_namers(
+        &mut self,
+        graph: &Digraph<A>,
+        nodes: &[usize],
+        distance: usize,
+    ) -> Result<(), NoMemory> {
+        for node in nodes {
+            self.reach_all(graph.namers(*node), distance)?;
+        }
+        Ok(())
+    }
+}
+
+/// The distance of each node to the marked ones, as `Digraph::distances` tells it.
+pub fn distances_to<A: Allocator + Copy>(
+    alloc: A,
+    graph: &Digraph<A>,
+    marked: &[bool],
+) -> Result<Vec<Option<usize>, A>, NoMemory> {
+    let mut search = Search::new(alloc, graph.len())?;
+    search.reach_marked(marked)?;
+    let mut distance = 0;
+    while !search.level.is_empty() {
+        let level = mem::replace(&mut search.level, Vec::new(alloc));
+        distance += 1;
+        search.reach_namers(graph, level.as_slice(), distance)?;
+    }
+    let Search {
+        distances,
+        level: _,
+    } = search;
+    Ok(distances)
+}
