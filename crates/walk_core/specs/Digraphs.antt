@@ -1,5 +1,5 @@
 -- Directed graphs over the numbers of their nodes: the list of each node's row, which is the list of the ends of its edges.
-use Rattle.std.specs.Prelude.{◌≡◌, ◌↔◌, ◌<◌, ℕ, Bool, true, List, [], Option, None, Some, Contains, length, slice_get}
+use Rattle.std.specs.Prelude.{◌≡◌, ◌↔◌, ◌⊎◌, ◌<◌, ℕ, Bool, true, List, [], Option, None, Some, Contains, length, slice_get}
 use Rattle.walk_core.specs.Walks.{Leads, IsDistance, IsOnCycle, IsEdge}
 
 abbrev pub row : Option (List ℕ) → List ℕ
@@ -22,6 +22,11 @@ IsWithin graph = (x y : ℕ) → HasEdge graph x y → y < length graph
 pub record IsReversed (graph reversed : List (List ℕ)) : Type 0 where
   pub nodes : length reversed ≡ length graph
   pub edges : (x y : ℕ) → HasEdge graph x y ↔ HasEdge reversed y x
+
+-- the graph with further edges
+pub record AddsEdges (graph : List (List ℕ)) (E : ℕ → ℕ → Type 0) (after : List (List ℕ)) : Type 0 where
+  pub nodes : length after ≡ length graph
+  pub edges : (x y : ℕ) → HasEdge after x y ↔ (HasEdge graph x y ⊎ E x y)
 
 abbrev pub IsMarked : List Bool → ℕ → Type 0
 IsMarked marked x = slice_get marked x ≡ Some true

@@ -1,2 +1,4 @@
 pub mod Walks
 pub mod Digraphs
+pub mod Edges
+pub mod Levels

@@ -1,5 +1,5 @@
-ghost use Rattle.std.specs.Prelude.{◌≡◌, ◌↔◌, ◌<◌, ℕ, List, Contains, IfOk, length, map};
-ghost use Rattle.walk_core.specs.Digraphs.{AreDistances, AreOnCycles, HasEdge, IsWithin, ends_of};
+ghost use Rattle.std.specs.Prelude.{◌≡◌, ◌↔◌, ◌<◌, ℕ, List, [], All, Contains, IfOk, OnOk, length, map, replicate};
+ghost use Rattle.walk_core.specs.Digraphs.{AddsEdges, AreDistances, AreOnCycles, HasEdge, IsReversed, IsWithin, ends_of};
 
 use super::distances::distances_to;
 use lattice_core::NoMemory;
@@ -52,7 +52,7 @@ impl<A: Allocator + Copy> Digraph<A> {
     pub fn ends(&self, node: usize) -> &[usize]
         requires { node < length self.now }
         ensures row { result.now ≡ ends_of self.now node }
-        ensures within { (end : ℕ) → Contains result.now end → end < length self.now }
+        ensures within { All (λ end. end < length self.now) result.now }
     {
         self.ends[node].as_slice()
     }
@@ -61,7 +61,7 @@ impl<A: Allocator + Copy> Digraph<A> {
     pub fn namers(&self, node: usize) -> &[usize]
         requires { node < length self.now }
         ensures row { (namer : ℕ) → Contains result.now namer ↔ HasEdge self.now namer node }
-        ensures within { (namer : ℕ) → Contains result.now namer → namer < length self.now }
+        ensures within { All (λ namer. namer < length self.now) result.now }
     {
         self.namers[node].as_slice()
     }
@@ -87,7 +87,10 @@ impl<A: Allocator + Copy> Digraph<A> {
 fn turned_round<A: Allocator + Copy>(
     alloc: A,
     ends: &[Vec<usize, A>],
-) -> Result<Vec<Vec<usize, A>, A>, NoMemory> {
+) -> Result<Vec<Vec<usize, A>, A>, NoMemory>
+    requires { IsWithin (map (λ row. row.items) ends.now) }
+    ensures { IfOk result (λ namers. IsReversed (map (λ row. row.items) ends.now) (map (λ row. row.items) namers.items)) }
+{
     let mut namers = empty_rows(alloc, ends.len())?;
     for (node, row) in ends.iter().enumerate() {
         name_ends(&mut namers, node, row.as_slice())?;
@@ -99,7 +102,9 @@ fn turned_round<A: Allocator + Copy>(
 pub(crate) fn empty_rows<A: Allocator + Copy>(
     alloc: A,
     count: usize,
-) -> Result<Vec<Vec<usize, A>, A>, NoMemory> {
+) -> Result<Vec<Vec<usize, A>, A>, NoMemory>
+    ensures { IfOk result (λ rows. map (λ row. row.items) rows.items ≡ replicate count []) }
+{
     let mut rows = Vec::with_capacity(alloc, count)?;
     for _ in 0..count {
         rows.push(Vec::new(alloc))?;
@@ -112,7 +117,10 @@ fn name_ends<A: Allocator + Copy>(
     namers: &mut Vec<Vec<usize, A>, A>,
     node: usize,
     ends: &[usize],
-) -> Result<(), NoMemory> {
+) -> Result<(), NoMemory>
+    requires { All (λ end. end < length namers.old.items) ends.now }
+    ensures { OnOk result (AddsEdges (map (λ row. row.items) namers.old.items) (λ x y. Contains ends.now x × (y ≡ node)) (map (λ row. row.items) namers.new.items)) }
+{
     for end in ends {
         add_edge(namers, *end, node)?;
     }
@@ -124,7 +132,10 @@ pub(crate) fn add_edge<A: Allocator + Copy>(
     rows: &mut Vec<Vec<usize, A>, A>,
     from: usize,
     to: usize,
-) -> Result<(), NoMemory> {
+) -> Result<(), NoMemory>
+    requires { from < length rows.old.items }
+    ensures { OnOk result (AddsEdges (map (λ row. row.items) rows.old.items) (λ x y. (x ≡ from) × (y ≡ to)) (map (λ row. row.items) rows.new.items)) }
+{
     rows[from].push(to)?;
     Ok(())
 }

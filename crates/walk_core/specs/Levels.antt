@@ -1,0 +1,45 @@
+-- A search by levels: what it has found, and what one of its steps does.
+use Rattle.std.specs.Prelude.{◌≡◌, ◌↔◌, ◌⊎◌, ◌+◌, ◌≤◌, ℕ, Bool, true, false, List, Option, None, Some, Contains, count_by, length, slice_get}
+use Rattle.walk_core.specs.Walks.{Leads, IsDistance}
+use Rattle.walk_core.specs.Digraphs.{HasEdge, IsMarked}
+
+abbrev pub HasDistance : List (Option ℕ) → ℕ → ℕ → Type 0
+HasDistance distances x n = slice_get distances x ≡ Some (Some n)
+
+abbrev pub is_unreached : Option ℕ → Bool
+is_unreached None = true
+is_unreached (Some n) = false
+
+-- how many nodes have no distance yet
+abbrev pub unreached : List (Option ℕ) → ℕ
+unreached distances = count_by is_unreached distances
+
+-- the node has no distance before, has the distance n now, and is in the last level
+pub record IsNew (n : ℕ) (before : List (Option ℕ)) (level : List ℕ) (x : ℕ) : Type 0 where
+  pub unknown : (m : ℕ) → ¬ HasDistance before x m
+  pub listed : Contains level x
+
+-- a step of the search: each node of P has a distance now, which is n if it had none, and the last level has grown by just the nodes that are new
+pub record Reaches (P : ℕ → Type 0) (n : ℕ) (before : List (Option ℕ)) (level : List ℕ) (after : List (Option ℕ)) (grown : List ℕ) : Type 0 where
+  pub nodes : length after ≡ length before
+  pub all : (x : ℕ) → P x → (m : ℕ) × HasDistance after x m
+  pub kept : (x m : ℕ) → HasDistance before x m → HasDistance after x m
+  pub new : (x m : ℕ) → HasDistance after x m → HasDistance before x m ⊎ ((m ≡ n) × P x × IsNew n before grown x)
+  pub level_kept : (x : ℕ) → Contains level x → Contains grown x
+  pub level_new : (x : ℕ) → Contains grown x → Contains level x ⊎ HasDistance after x n
+  pub balance : length grown + unreached after ≡ length level + unreached before
+
+-- what an edge leads to one of the nodes from
+abbrev pub LeadsInto : List (List ℕ) → List ℕ → ℕ → Type 0
+LeadsInto graph nodes x = (y : ℕ) × Contains nodes y × HasEdge graph x y
+
+-- the distances up to n are known, and no others
+pub record AreKnownTo (graph : List (List ℕ)) (marked : List Bool) (n : ℕ) (distances : List (Option ℕ)) : Type 0 where
+  pub nodes : length distances ≡ length graph
+  pub right : (x m : ℕ) → HasDistance distances x m → IsDistance (HasEdge graph) (IsMarked marked) m x
+  pub near : (x m : ℕ) → HasDistance distances x m → m ≤ n
+  pub found : (x m : ℕ) → m ≤ n → Leads (HasEdge graph) (IsMarked marked) m x → (k : ℕ) × HasDistance distances x k
+
+-- the nodes at the distance n
+abbrev pub IsLevel : List (Option ℕ) → ℕ → List ℕ → Type 0
+IsLevel distances n level = (x : ℕ) → Contains level x ↔ HasDistance distances x n
