@@ -6,22 +6,11 @@ use Rattle.std.proofs.lemmas.Bool.{cases_eq}
 use Rattle.std.proofs.lemmas.List.{map-set, length-map, length-set, length-replicate, get_or-set_same, take_more, take_all}
 use Rattle.std.proofs.lemmas.List.Elements.{Contains-push, Contains-push_cases, Contains-append_left, Contains-get_or}
 use Rattle.std.proofs.lemmas.Option.{slice_get-get_or, slice_get-map}
+use Rattle.walk_core.proofs.Writes.{slice_get-set_other, slice_get-set_same}
 use Rattle.walk_core.specs.Edges.{HasEdge-starts, IsReversed-ends, IsWithin-row}
 use Rattle.walk_core.specs.Digraphs.{row, ends_of, HasEdge, IsWithin, IsReversed, AddsEdges}
 
 -- ---- a row is written
-
-slice_get-set_other : {T : Type 0} (xs : List T) (i : ℕ) (y : T) (j : ℕ) → j ≢ i → slice_get (set xs i y) j ≡ slice_get xs j
-slice_get-set_other [] i y j ne = refl
-slice_get-set_other (x ∷ xs) zero y zero ne = absurd (ne refl)
-slice_get-set_other (x ∷ xs) zero y (suc j) ne = refl
-slice_get-set_other (x ∷ xs) (suc i) y zero ne = refl
-slice_get-set_other (x ∷ xs) (suc i) y (suc j) ne = slice_get-set_other xs i y j (λ e. ne (ap suc e))
-
-slice_get-set_same : {T : Type 0} (xs : List T) (i : ℕ) (y : T) → i < length xs → slice_get (set xs i y) i ≡ Some y
-slice_get-set_same xs i y within =
-    let longer : i < length (set xs i y) = omega (arith, length-set xs i y) in
-    slice_get-get_or (set xs i y) i y longer ∙ ap Some (get_or-set_same xs i y y within)
 
 module _ (graph : List (List ℕ)) (from to : ℕ) (ends : List ℕ) where
   ends_more : List ℕ → Type 0
@@ -99,7 +88,7 @@ module _ (E F G : ℕ → ℕ → Type 0) (graph mid after : List (List ℕ)) wh
 
 -- ---- the ends of one node are turned round
 
-Contains-more : (xs : List ℕ) (i x end : ℕ) → i < length xs → end ≡ get_or xs i end → Contains (take (i + 1) xs) x ↔ (Contains (take i xs) x ⊎ (x ≡ end))
+pub Contains-more : (xs : List ℕ) (i x end : ℕ) → i < length xs → end ≡ get_or xs i end → Contains (take (i + 1) xs) x ↔ (Contains (take i xs) x ⊎ (x ≡ end))
 Contains-more xs i x end within is =
     let more : take (i + 1) xs ≡ take i xs ++ end ∷ [] = take_more xs i end within ∙ ap (λ e. take i xs ++ e ∷ []) (sym is) in (
       λ has. elim (Contains-push_cases (take i xs) end x (subst (λ ys. Contains ys x) more has)) [ inl old ↦ inl old | inr same ↦ inr (sym same) ],

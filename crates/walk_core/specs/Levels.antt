@@ -20,7 +20,7 @@ pub record IsNew (n : ℕ) (before : List (Option ℕ)) (level : List ℕ) (x : 
   pub listed : Contains level x
 
 -- a step of the search: each node of P has a distance now, which is n if it had none, and the last level has grown by just the nodes that are new
-pub record Reaches (P : ℕ → Type 0) (n : ℕ) (before : List (Option ℕ)) (level : List ℕ) (after : List (Option ℕ)) (grown : List ℕ) : Type 0 where
+pub record Discovers (P : ℕ → Type 0) (n : ℕ) (before : List (Option ℕ)) (level : List ℕ) (after : List (Option ℕ)) (grown : List ℕ) : Type 0 where
   pub nodes : length after ≡ length before
   pub all : (x : ℕ) → P x → (m : ℕ) × HasDistance after x m
   pub kept : (x m : ℕ) → HasDistance before x m → HasDistance after x m

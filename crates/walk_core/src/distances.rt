@@ -1,5 +1,9 @@
 //! Distances over a graph, found by levels: first the marked nodes, then the nodes that have an edge to one of those, and so on.
 
+ghost use Rattle.std.specs.Prelude.{◌≡◌, ◌<◌, All, Contains, IfOk, None, OnOk, [], length, replicate};
+ghost use Rattle.walk_core.specs.Digraphs.{AreDistances, IsMarked};
+ghost use Rattle.walk_core.specs.Levels.{Discovers, LeadsInto};
+
 use super::digraph::Digraph;
 use lattice_core::NoMemory;
 use std::alloc::{Allocator, Global};
@@ -14,23 +18,32 @@ struct Search<A: Allocator + Copy = Global> {
 
 impl<A: Allocator + Copy> Search<A> {
     /// A search that has reached none of so many nodes.
-    fn new(alloc: A, nodes: usize) -> Result<Search<A>, NoMemory> {
+    fn new(alloc: A, nodes: usize) -> Result<Search<A>, NoMemory>
+        ensures { IfOk result (λ search. (search.distances.items ≡ replicate nodes None) × (search.level.items ≡ [])) }
+    {
         let distances = vec![in alloc; None; nodes]?;
         let level = Vec::new(alloc);
         Ok(Search { distances, level })
     }
 
     /// Puts the node into the last level, at this distance, where it wasn't reached before.
-    fn reach(&mut self, node: usize, distance: usize) -> Result<(), NoMemory> {
-        if self.distances[node].is_none() {
-            self.level.push(node)?;
-            self.distances[node] = Some(distance);
+    fn reach(&mut self, node: usize, distance: usize) -> Result<(), NoMemory>
+        requires { node < length self.old.distances.items }
+        ensures { OnOk result (Discovers (λ x. x ≡ node) distance self.old.distances.items self.old.level.items self.new.distances.items self.new.level.items) }
+    {
+        if self.distances[node].is_some() {
+            return Ok(());
         }
+        self.level.push(node)?;
+        self.distances[node] = Some(distance);
         Ok(())
     }
 
     /// Puts those of the nodes into the last level that weren't reached before.
-    fn reach_all(&mut self, nodes: &[usize], distance: usize) -> Result<(), NoMemory> {
+    fn reach_all(&mut self, nodes: &[usize], distance: usize) -> Result<(), NoMemory>
+        requires { All (λ node. node < length self.old.distances.items) nodes.now }
+        ensures { OnOk result (Discovers (Contains nodes.now) distance self.old.distances.items self.old.level.items self.new.distances.items self.new.level.items) }
+    {
         for node in nodes {
             self.reach(*node, distance)?;
         }
@@ -38,11 +51,15 @@ impl<A: Allocator + Copy> Search<A> {
     }
 
     /// Puts the marked nodes into the last level, at the distance 0.
-    fn reach_marked(&mut self, marked: &[bool]) -> Result<(), NoMemory> {
+    fn reach_marked(&mut self, marked: &[bool]) -> Result<(), NoMemory>
+        requires { length marked.now ≡ length self.old.distances.items }
+        ensures { OnOk result (Discovers (IsMarked marked.now) 0 self.old.distances.items self.old.level.items self.new.distances.items self.new.level.items) }
+    {
         for (node, is_marked) in marked.iter().enumerate() {
-            if *is_marked {
-                self.reach(node, 0)?;
+            if !*is_marked {
+                continue;
             }
+            self.reach(node, 0)?;
         }
         Ok(())
     }
@@ -53,7 +70,11 @@ impl<A: Allocator + Copy> Search<A> {
         graph: &Digraph<A>,
         nodes: &[usize],
         distance: usize,
-    ) -> Result<(), NoMemory> {
+    ) -> Result<(), NoMemory>
+        requires sized { length self.old.distances.items ≡ length graph.now }
+        requires within { All (λ node. node < length graph.now) nodes.now }
+        ensures { OnOk result (Discovers (LeadsInto graph.now nodes.now) distance self.old.distances.items self.old.level.items self.new.distances.items self.new.level.items) }
+    {
         for node in nodes {
             self.reach_all(graph.namers(*node), distance)?;
         }
@@ -66,7 +87,10 @@ pub fn distances_to<A: Allocator + Copy>(
     alloc: A,
     graph: &Digraph<A>,
     marked: &[bool],
-) -> Result<Vec<Option<usize>, A>, NoMemory> {
+) -> Result<Vec<Option<usize>, A>, NoMemory>
+    requires { length marked.now ≡ length graph.now }
+    ensures { IfOk result (λ distances. AreDistances graph.now marked.now distances.items) }
+{
     let mut search = Search::new(alloc, graph.len())?;
     search.reach_marked(marked)?;
     let mut distance = 0;
@@ -75,9 +99,5 @@ pub fn distances_to<A: Allocator + Copy>(
         distance += 1;
         search.reach_namers(graph, level.as_slice(), distance)?;
     }
-    let Search {
-        distances,
-        level: _,
-    } = search;
-    Ok(distances)
+    Ok(search.distances)
 }

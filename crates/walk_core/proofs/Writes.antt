@@ -1,0 +1,17 @@
+-- What is read of a list after a write.
+use Rattle.std.proofs.Common.{◌≡◌, ◌≢◌, ℕ, zero, suc, ◌<◌, List, [], ◌∷◌, length, set, Option, Some, refl, ap, ◌∙◌, arith}
+use Rattle.std.specs.List.{slice_get}
+use Rattle.std.proofs.lemmas.List.{length-set, get_or-set_same}
+use Rattle.std.proofs.lemmas.Option.{slice_get-get_or}
+
+pub slice_get-set_other : {T : Type 0} (xs : List T) (i : ℕ) (y : T) (j : ℕ) → j ≢ i → slice_get (set xs i y) j ≡ slice_get xs j
+slice_get-set_other [] i y j ne = refl
+slice_get-set_other (x ∷ xs) zero y zero ne = absurd (ne refl)
+slice_get-set_other (x ∷ xs) zero y (suc j) ne = refl
+slice_get-set_other (x ∷ xs) (suc i) y zero ne = refl
+slice_get-set_other (x ∷ xs) (suc i) y (suc j) ne = slice_get-set_other xs i y j (λ e. ne (ap suc e))
+
+pub slice_get-set_same : {T : Type 0} (xs : List T) (i : ℕ) (y : T) → i < length xs → slice_get (set xs i y) i ≡ Some y
+slice_get-set_same xs i y within =
+    let longer : i < length (set xs i y) = omega (arith, length-set xs i y) in
+    slice_get-get_or (set xs i y) i y longer ∙ ap Some (get_or-set_same xs i y y within)
