@@ -1,7 +1,8 @@
 //! What holds of every graph, whatever its nodes are. An edge is given by the list of the ends of each node's edges.
 
-ghost use Rattle.std.specs.Prelude.{◌≡◌, ◌≤◌, ℕ, Bool, List};
+ghost use Rattle.std.specs.Prelude.{◌≡◌, ◌↔◌, ◌≤◌, ℕ, Bool, List, Option, length, slice_get};
 ghost use Rattle.std.proofs.Common.{suc};
+ghost use Rattle.walk_core.specs.Digraphs.{AreDistances, HasEdge, IsMarked, IsWithin};
 ghost use Rattle.walk_core.specs.Walks.{BeginsFewest, IsDistance, IsEdge, IsOfKind, IsOnCycle, Leads, Reaches};
 
 /// A law: what is reached from a node that is reached is reached, so nodes that reach each other are on a cycle.
@@ -21,4 +22,23 @@ pub fn distances_go_down<N>()
         → IsDistance (IsEdge ends) (IsOfKind kind) (suc n) x → (y : N) × BeginsFewest (IsEdge ends) (IsOfKind kind) n x y }
     ensures no_nearer { (ends : N → List N) → (kind : N → Bool) → (n m : ℕ) → (x y : N)
         → IsEdge ends x y → IsDistance (IsEdge ends) (IsOfKind kind) n x → Leads (IsEdge ends) (IsOfKind kind) m y → n ≤ suc m }
+{}
+
+/// A law: the distances over a graph are one list. Just the marked nodes have the distance 0, from a node at a distance above 0 an edge leads to one
+/// at the distance below it, no edge leads nearer, and where an edge leads to a node with a distance, its start has one.
+pub fn distances_along_edges()
+    ensures once { (graph : List (List ℕ)) → (marked : List Bool) → (a b : List (Option ℕ))
+        → AreDistances graph marked a → AreDistances graph marked b → a ≡ b }
+    ensures zero { (graph : List (List ℕ)) → (marked : List Bool) → (distances : List (Option ℕ))
+        → AreDistances graph marked distances → length marked ≡ length graph → (x : ℕ)
+        → slice_get distances x ≡ Some (Some 0) ↔ IsMarked marked x }
+    ensures next { (graph : List (List ℕ)) → (marked : List Bool) → (distances : List (Option ℕ))
+        → AreDistances graph marked distances → IsWithin graph → (x n : ℕ)
+        → slice_get distances x ≡ Some (Some (suc n)) → (y : ℕ) × HasEdge graph x y × (slice_get distances y ≡ Some (Some n)) }
+    ensures no_nearer { (graph : List (List ℕ)) → (marked : List Bool) → (distances : List (Option ℕ))
+        → AreDistances graph marked distances → (x y m n : ℕ) → HasEdge graph x y
+        → slice_get distances x ≡ Some (Some n) → slice_get distances y ≡ Some (Some m) → n ≤ suc m }
+    ensures before { (graph : List (List ℕ)) → (marked : List Bool) → (distances : List (Option ℕ))
+        → AreDistances graph marked distances → (x y m : ℕ) → HasEdge graph x y
+        → slice_get distances y ≡ Some (Some m) → (n : ℕ) × (slice_get distances x ≡ Some (Some n)) }
 {}

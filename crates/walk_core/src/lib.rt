@@ -8,4 +8,4 @@ mod laws;
 mod tests;
 
 pub use digraph::Digraph;
-pub use laws::{distances_go_down, reaching_goes_on};
+pub use laws::{distances_along_edges, distances_go_down, reaching_goes_on};
