@@ -165,3 +165,14 @@ module _ (graph reversed : List (List ℕ)) (x : ℕ) (names : List ℕ) (turned
 
   pub lent_names_within : All (λ y. y < length graph) names
   lent_names_within k d within = HasEdge-starts graph _ x ((lent_names _).0 (Contains-get_or names k d within))
+
+-- ---- a graph that is built edge by edge
+
+pub IsWithin-empty : (n : ℕ) → IsWithin (replicate n [])
+IsWithin-empty n x y edge = let none = subst (λ xs. Contains xs y) (ends_of-replicate n x) edge in absurd (omega (arith, none.1))
+
+pub AddsEdges-within : (graph after : List (List ℕ)) (from to : ℕ) → IsWithin graph → to < length graph → AddsEdges graph (λ x y. (x ≡ from) × (y ≡ to)) after → IsWithin after
+AddsEdges-within graph after from to within below adds x y edge = elim ((adds.edges x y).0 edge) [
+  | inl old ↦ let h = within x y old in omega (arith, h, adds.nodes)
+  | inr is ↦ omega (arith, is.1, below, adds.nodes)
+]

@@ -1,5 +1,8 @@
 //! Small graphs whose distances are known, a slow plain program beside the search, and refused memory.
 
+ghost use Rattle.std.specs.Prelude.{◌≡◌, IfOk, OnOk, length, map};
+ghost use Rattle.walk_core.specs.Digraphs.{IsWithin};
+
 use super::digraph::{Digraph, add_edge, empty_rows};
 use lattice_core::NoMemory;
 use linked_list_allocator::LocalHeap;
@@ -7,17 +10,36 @@ use std::alloc::{Allocator, Global};
 use std::process::Abort;
 use std::test::Fail;
 
+/// Adds the edge, if it is one between nodes.
+fn add_if_within<A: Allocator + Copy>(
+    rows: &mut Vec<Vec<usize, A>, A>,
+    from: usize,
+    to: usize,
+) -> Result<(), NoMemory>
+    requires { IsWithin (map (λ row. row.items) rows.old.items) }
+    ensures { OnOk result ((length rows.new.items ≡ length rows.old.items) × IsWithin (map (λ row. row.items) rows.new.items)) }
+{
+    if from >= rows.len() {
+        return Ok(());
+    }
+    if to >= rows.len() {
+        return Ok(());
+    }
+    add_edge(rows, from, to)?;
+    Ok(())
+}
+
 /// The graph with so many nodes and those of the edges that are between them.
 fn graph_of<A: Allocator + Copy>(
     alloc: A,
     nodes: usize,
     edges: &[(usize, usize)],
-) -> Result<Digraph<A>, NoMemory> {
+) -> Result<Digraph<A>, NoMemory>
+    ensures { IfOk result (λ graph. length graph ≡ nodes) }
+{
     let mut rows = empty_rows(alloc, nodes)?;
     for (from, to) in edges {
-        if *from < nodes && *to < nodes {
-            add_edge(&mut rows, *from, *to)?;
-        }
+        add_if_within(&mut rows, *from, *to)?;
     }
     Digraph::new(alloc, rows)
 }
@@ -176,10 +198,10 @@ fn next_below(state: &mut u64, limit: u64) -> u64 {
     (*state >> 33).checked_rem(limit).unwrap_or(0)
 }
 
-/// A graph of so many nodes with about as many edges, the same for each state.
+/// Up to 14 edges between so many nodes.
 fn some_edges(alloc: Global, state: &mut u64, nodes: u64) -> Result<Vec<(usize, usize)>, NoMemory> {
     let mut edges = Vec::new(alloc);
-    for _ in 0..next_below(state, 2 * nodes + 1) {
+    for _ in 0..next_below(state, 15) {
         let from = next_below(state, nodes) as usize;
         let to = next_below(state, nodes) as usize;
         edges.push((from, to))?;
@@ -227,5 +249,38 @@ fn a_long_chain_takes_no_depth(rt: HostRuntime) -> Result<(), Fail> {
     }
     let distances = distances_of(alloc, edges.as_slice(), marked.as_slice())?;
     assert_eq!(rt; distances.as_slice().first().copied(), Some(Some(99_999)));
+    Ok(())
+}
+
+/// Whether a heap of this size suffices for a graph and its distances, which are right then. What was refused keeps no memory: the second time
+/// ends as the first.
+fn suffices(rt: &impl Abort, alloc: Global, size: usize) -> Result<bool, Fail> {
+    let heap = LocalHeap::new(alloc, size)?;
+    let edges = [(0, 1), (1, 2), (2, 0), (2, 3)];
+    let marked = [false, false, false, true];
+    let first = distances_of(&heap, &edges, &marked);
+    let done = first.is_ok();
+    if let Ok(distances) = first {
+        assert_eq!(rt;
+            distances.as_slice(),
+            [Some(3), Some(2), Some(1), Some(0)].as_slice()
+        );
+    }
+    let second = distances_of(&heap, &edges, &marked);
+    assert_eq!(rt; second.is_ok(), done);
+    Ok(done)
+}
+
+#[test]
+fn refused_memory_is_told_and_given_back(rt: HostRuntime) -> Result<(), Fail> {
+    let mut refused = 0;
+    for step in 0..128 {
+        if suffices(&rt, rt.alloc(), 16 * step)? {
+            break;
+        }
+        refused = step;
+    }
+    assert!(rt; refused > 8);
+    assert!(rt; suffices(&rt, rt.alloc(), 2048)?);
     Ok(())
 }
