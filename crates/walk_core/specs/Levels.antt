@@ -1,6 +1,7 @@
 -- A search by levels: what it has found, and what one of its steps does.
 use Rattle.std.specs.Prelude.{◌≡◌, ◌↔◌, ◌⊎◌, ◌+◌, ◌≤◌, ℕ, Bool, true, false, List, Option, None, Some, Contains, count_by, length, slice_get}
 use Rattle.walk_core.specs.Walks.{Leads, IsDistance}
+use Rattle.walk_core.specs.declared.distances.Search.{Search}
 use Rattle.walk_core.specs.Digraphs.{HasEdge, IsMarked}
 
 abbrev pub HasDistance : List (Option ℕ) → ℕ → ℕ → Type 0
@@ -14,22 +15,26 @@ is_unreached (Some n) = false
 abbrev pub unreached : List (Option ℕ) → ℕ
 unreached distances = count_by is_unreached distances
 
--- the node has no distance before, has the distance n now, and is in the last level
-pub record IsNew (n : ℕ) (before : List (Option ℕ)) (level : List ℕ) (x : ℕ) : Type 0 where
+-- the node had no distance, and is in the last level now
+pub record IsNew (before : List (Option ℕ)) (level : List ℕ) (x : ℕ) : Type 0 where
   pub unknown : (m : ℕ) → ¬ HasDistance before x m
   pub listed : Contains level x
 
--- a step of the search: each node of P has a distance now, which is n if it had none, and the last level has grown by just the nodes that are new
+-- a step of the search: the nodes of P have distances now, the new ones among them the distance n, and just those have come to the last level
 pub record Discovers (P : ℕ → Type 0) (n : ℕ) (before : List (Option ℕ)) (level : List ℕ) (after : List (Option ℕ)) (grown : List ℕ) : Type 0 where
   pub nodes : length after ≡ length before
   pub all : (x : ℕ) → P x → (m : ℕ) × HasDistance after x m
   pub kept : (x m : ℕ) → HasDistance before x m → HasDistance after x m
-  pub new : (x m : ℕ) → HasDistance after x m → HasDistance before x m ⊎ ((m ≡ n) × P x × IsNew n before grown x)
+  pub new : (x m : ℕ) → HasDistance after x m → HasDistance before x m ⊎ ((m ≡ n) × P x × IsNew before grown x)
   pub level_kept : (x : ℕ) → Contains level x → Contains grown x
   pub level_new : (x : ℕ) → Contains grown x → Contains level x ⊎ HasDistance after x n
   pub balance : length grown + unreached after ≡ length level + unreached before
 
--- what an edge leads to one of the nodes from
+-- the same, of a search before and after
+abbrev pub SearchReaches : {A : Type 0} → (ℕ → Type 0) → ℕ → Search A → Search A → Type 0
+SearchReaches P n before after = Discovers P n before.distances.items before.level.items after.distances.items after.level.items
+
+-- an edge leads from the node to one of these
 abbrev pub LeadsInto : List (List ℕ) → List ℕ → ℕ → Type 0
 LeadsInto graph nodes x = (y : ℕ) × Contains nodes y × HasEdge graph x y
 

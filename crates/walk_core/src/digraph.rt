@@ -89,7 +89,9 @@ fn turned_round<A: Allocator + Copy>(
     ends: &[Vec<usize, A>],
 ) -> Result<Vec<Vec<usize, A>, A>, NoMemory>
     requires { IsWithin (map (λ row. row.items) ends.now) }
-    ensures { IfOk result (λ namers. IsReversed (map (λ row. row.items) ends.now) (map (λ row. row.items) namers.items)) }
+    ensures { IfOk result (λ namers. IsReversed
+        (map (λ row. row.items) ends.now)
+        (map (λ row. row.items) namers.items)) }
 {
     let mut namers = empty_rows(alloc, ends.len())?;
     for (node, row) in ends.iter().enumerate() {
@@ -119,7 +121,10 @@ fn name_ends<A: Allocator + Copy>(
     ends: &[usize],
 ) -> Result<(), NoMemory>
     requires { All (λ end. end < length namers.old.items) ends.now }
-    ensures { OnOk result (AddsEdges (map (λ row. row.items) namers.old.items) (λ x y. Contains ends.now x × (y ≡ node)) (map (λ row. row.items) namers.new.items)) }
+    ensures { OnOk result (AddsEdges
+        (map (λ row. row.items) namers.old.items)
+        (λ x y. Contains ends.now x × (y ≡ node))
+        (map (λ row. row.items) namers.new.items)) }
 {
     for end in ends {
         add_edge(namers, *end, node)?;
@@ -134,7 +139,10 @@ pub(crate) fn add_edge<A: Allocator + Copy>(
     to: usize,
 ) -> Result<(), NoMemory>
     requires { from < length rows.old.items }
-    ensures { OnOk result (AddsEdges (map (λ row. row.items) rows.old.items) (λ x y. (x ≡ from) × (y ≡ to)) (map (λ row. row.items) rows.new.items)) }
+    ensures { OnOk result (AddsEdges
+        (map (λ row. row.items) rows.old.items)
+        (λ x y. (x ≡ from) × (y ≡ to))
+        (map (λ row. row.items) rows.new.items)) }
 {
     rows[from].push(to)?;
     Ok(())

@@ -2,7 +2,7 @@
 
 ghost use Rattle.std.specs.Prelude.{◌≡◌, ◌<◌, All, Contains, IfOk, None, OnOk, [], length, replicate};
 ghost use Rattle.walk_core.specs.Digraphs.{AreDistances, IsMarked};
-ghost use Rattle.walk_core.specs.Levels.{Discovers, LeadsInto};
+ghost use Rattle.walk_core.specs.Levels.{LeadsInto, SearchReaches};
 
 use super::digraph::Digraph;
 use lattice_core::NoMemory;
@@ -19,7 +19,8 @@ struct Search<A: Allocator + Copy = Global> {
 impl<A: Allocator + Copy> Search<A> {
     /// A search that has reached none of so many nodes.
     fn new(alloc: A, nodes: usize) -> Result<Search<A>, NoMemory>
-        ensures { IfOk result (λ search. (search.distances.items ≡ replicate nodes None) × (search.level.items ≡ [])) }
+        ensures { IfOk result (λ search.
+            (search.distances.items ≡ replicate nodes None) × (search.level.items ≡ [])) }
     {
         let distances = vec![in alloc; None; nodes]?;
         let level = Vec::new(alloc);
@@ -29,7 +30,7 @@ impl<A: Allocator + Copy> Search<A> {
     /// Puts the node into the last level, at this distance, where it wasn't reached before.
     fn reach(&mut self, node: usize, distance: usize) -> Result<(), NoMemory>
         requires { node < length self.old.distances.items }
-        ensures { OnOk result (Discovers (λ x. x ≡ node) distance self.old.distances.items self.old.level.items self.new.distances.items self.new.level.items) }
+        ensures { OnOk result (SearchReaches (λ x. x ≡ node) distance self.old self.new) }
     {
         if self.distances[node].is_some() {
             return Ok(());
@@ -42,7 +43,7 @@ impl<A: Allocator + Copy> Search<A> {
     /// Puts those of the nodes into the last level that weren't reached before.
     fn reach_all(&mut self, nodes: &[usize], distance: usize) -> Result<(), NoMemory>
         requires { All (λ node. node < length self.old.distances.items) nodes.now }
-        ensures { OnOk result (Discovers (Contains nodes.now) distance self.old.distances.items self.old.level.items self.new.distances.items self.new.level.items) }
+        ensures { OnOk result (SearchReaches (Contains nodes.now) distance self.old self.new) }
     {
         for node in nodes {
             self.reach(*node, distance)?;
@@ -53,7 +54,7 @@ impl<A: Allocator + Copy> Search<A> {
     /// Puts the marked nodes into the last level, at the distance 0.
     fn reach_marked(&mut self, marked: &[bool]) -> Result<(), NoMemory>
         requires { length marked.now ≡ length self.old.distances.items }
-        ensures { OnOk result (Discovers (IsMarked marked.now) 0 self.old.distances.items self.old.level.items self.new.distances.items self.new.level.items) }
+        ensures { OnOk result (SearchReaches (IsMarked marked.now) 0 self.old self.new) }
     {
         for (node, is_marked) in marked.iter().enumerate() {
             if !*is_marked {
@@ -73,7 +74,7 @@ impl<A: Allocator + Copy> Search<A> {
     ) -> Result<(), NoMemory>
         requires sized { length self.old.distances.items ≡ length graph.now }
         requires within { All (λ node. node < length graph.now) nodes.now }
-        ensures { OnOk result (Discovers (LeadsInto graph.now nodes.now) distance self.old.distances.items self.old.level.items self.new.distances.items self.new.level.items) }
+        ensures { OnOk result (SearchReaches (LeadsInto graph.now nodes.now) distance self.old self.new) }
     {
         for node in nodes {
             self.reach_all(graph.namers(*node), distance)?;

@@ -17,7 +17,8 @@ fn add_if_within<A: Allocator + Copy>(
     to: usize,
 ) -> Result<(), NoMemory>
     requires { IsWithin (map (λ row. row.items) rows.old.items) }
-    ensures { OnOk result ((length rows.new.items ≡ length rows.old.items) × IsWithin (map (λ row. row.items) rows.new.items)) }
+    ensures { OnOk result ((length rows.new.items ≡ length rows.old.items)
+        × IsWithin (map (λ row. row.items) rows.new.items)) }
 {
     if from >= rows.len() {
         return Ok(());
@@ -42,6 +43,16 @@ fn graph_of<A: Allocator + Copy>(
         add_if_within(&mut rows, *from, *to)?;
     }
     Digraph::new(alloc, rows)
+}
+
+#[test]
+fn namers_are_listed_in_order(rt: HostRuntime) -> Result<(), Fail> {
+    let graph = graph_of(rt.alloc(), 3, &[(2, 0), (0, 1), (1, 0), (2, 2), (2, 0)])?;
+    assert_eq!(rt; graph.len(), 3);
+    assert_eq!(rt; graph.ends(2), [0, 2, 0].as_slice());
+    assert_eq!(rt; graph.namers(0), [1, 2, 2].as_slice());
+    assert!(rt; graph.ends(1).len() == 1 && graph.namers(2).len() == 1);
+    Ok(())
 }
 
 /// The distances of the graph's nodes to the marked ones, of which there are as many as nodes.
@@ -239,7 +250,7 @@ fn four_hundred_graphs_as_the_plain_program(rt: HostRuntime) -> Result<(), Fail>
 }
 
 #[test]
-fn a_long_chain_takes_no_depth(rt: HostRuntime) -> Result<(), Fail> {
+fn a_chain_of_a_hundred_thousand_nodes_is_searched(rt: HostRuntime) -> Result<(), Fail> {
     let alloc = rt.alloc();
     let mut edges = Vec::new(alloc);
     let mut marked = Vec::new(alloc);
