@@ -1,9 +1,9 @@
 -- What an edge more does to the rows of a graph.
-use Rattle.std.proofs.Common.{◌≡◌, ◌≢◌, ◌↔◌, ◌⊎◌, inl, inr, ℕ, zero, suc, ◌+◌, ◌<◌, ◌≤◌, List, [], ◌∷◌, ◌++◌, length, map, replicate, set, get_or, take, Option, None, Some, refl, sym, ap, subst, ◌∙◌, arith}
-use Rattle.std.specs.List.{Contains, All, slice_get}
+use Rattle.std.proofs.Common.{◌≡◌, ◌≢◌, ◌↔◌, ◌⊎◌, inl, inr, ℕ, zero, suc, ◌+◌, ◌<◌, ◌≤◌, List, [], ◌∷◌, ◌++◌, length, map, replicate, set, get_or, take, refl, sym, ap, subst, ◌∙◌, arith}
+use Rattle.std.specs.List.{Contains, All}
 use Rattle.std.specs.Option.{option_map}
 use Rattle.std.proofs.lemmas.Bool.{cases_eq}
-use Rattle.std.proofs.lemmas.List.{map-set, length-map, length-set, length-replicate, get_or-set_same, take_more, take_all}
+use Rattle.std.proofs.lemmas.List.{map-set, length-map, length-set, length-replicate, take_more, take_all}
 use Rattle.std.proofs.lemmas.List.Elements.{Contains-push, Contains-push_cases, Contains-append_left, Contains-get_or}
 use Rattle.std.proofs.lemmas.Option.{slice_get-get_or, slice_get-map}
 use Rattle.walk_core.proofs.Writes.{slice_get-set_other, slice_get-set_same}
@@ -167,9 +167,6 @@ module _ (graph reversed : List (List ℕ)) (x : ℕ) (names : List ℕ) (turned
   lent_names_within k d within = HasEdge-starts graph _ x ((lent_names _).0 (Contains-get_or names k d within))
 
 -- ---- a graph that is built edge by edge
-
-pub IsWithin-empty : (n : ℕ) → IsWithin (replicate n [])
-IsWithin-empty n x y edge = let none = subst (λ xs. Contains xs y) (ends_of-replicate n x) edge in absurd (omega (arith, none.1))
 
 pub AddsEdges-within : (graph after : List (List ℕ)) (from to : ℕ) → IsWithin graph → to < length graph → AddsEdges graph (λ x y. (x ≡ from) × (y ≡ to)) after → IsWithin after
 AddsEdges-within graph after from to within below adds x y edge = elim ((adds.edges x y).0 edge) [

@@ -1,17 +1,17 @@
 -- A search by levels finds the distances: what its steps do together, and what is known after each level.
-use Rattle.std.proofs.Common.{◌≡◌, ◌≢◌, ◌↔◌, ◌⊎◌, inl, inr, ℕ, zero, suc, ◌+◌, ◌<◌, ◌≤◌, Bool, true, false, cond, is_some, List, [], ◌∷◌, ◌++◌, length, replicate, set, get_or, take, Option, None, Some, refl, sym, ap, subst, ◌∙◌, arith}
-use Rattle.std.specs.List.{Contains, All, slice_get, count_by}
-use Rattle.std.proofs.lemmas.Bool.{cases_eq, cases_lt}
-use Rattle.std.proofs.lemmas.List.{length-set, length-replicate, length_push, take_all}
+use Rattle.std.proofs.Common.{◌≡◌, ◌↔◌, ◌⊎◌, inl, inr, ℕ, zero, suc, ◌+◌, ◌<◌, ◌≤◌, Bool, true, false, cond, is_some, List, [], ◌∷◌, ◌++◌, length, replicate, set, get_or, take, Option, None, Some, refl, sym, ap, subst, ◌∙◌, arith}
+use Rattle.std.specs.List.{Contains, All, slice_get}
+use Rattle.std.proofs.lemmas.Bool.{cases_eq}
+use Rattle.std.proofs.lemmas.List.{length-set, length-replicate, length_push}
 use Rattle.std.proofs.lemmas.List.Sums.{sum_by-set, count_by-le-length}
 use Rattle.std.proofs.lemmas.List.Elements.{Contains-push, Contains-push_cases, Contains-append_left, Contains-get_or}
-use Rattle.std.proofs.lemmas.Option.{slice_get-get_or, slice_get_within, slice_get_read, get_or_from_slice_get}
+use Rattle.std.proofs.lemmas.Option.{slice_get_within, slice_get_read, get_or_from_slice_get}
 use Rattle.walk_core.proofs.Writes.{slice_get-set_other, slice_get-set_same}
 use Rattle.walk_core.proofs.EdgeLemmas.{Contains-more}
 use Rattle.walk_core.specs.Walks.{Leads, IsDistance, IsDistance-zero}
 use Rattle.walk_core.specs.Digraphs.{HasEdge, IsMarked, IsDistanceTo, AreDistances}
 use Rattle.walk_core.specs.Edges.{HasEdge-starts}
-use Rattle.walk_core.specs.Levels.{HasDistance, is_unreached, unreached, IsNew, Discovers, LeadsInto, AreKnownTo, IsLevel}
+use Rattle.walk_core.specs.Levels.{HasDistance, is_unreached, unreached, Discovers, LeadsInto, AreKnownTo, IsLevel}
 
 -- a node has one distance at most in a list
 same_distance : (distances : List (Option ℕ)) (x m n : ℕ) → HasDistance distances x m → HasDistance distances x n → m ≡ n
@@ -91,17 +91,6 @@ Discovers-then P Q R n before mid after level grown last both first second = rec
     | inr is ↦ inr is
   ];
   balance = second.balance ∙ first.balance;
-}
-
-pub Discovers-none : (P : ℕ → Type 0) (n : ℕ) (distances : List (Option ℕ)) (level : List ℕ) → ((x : ℕ) → ¬ P x) → Discovers P n distances level distances level
-Discovers-none P n distances level none = record {
-  nodes = refl;
-  all = λ x p. absurd (none x p);
-  kept = λ x m has. has;
-  new = λ x m has. inl has;
-  level_kept = λ x has. has;
-  level_new = λ x has. inl has;
-  balance = refl;
 }
 
 pub Discovers-alike : (P Q : ℕ → Type 0) (n : ℕ) (before after : List (Option ℕ)) (level grown : List ℕ) → ((x : ℕ) → P x ↔ Q x) → Discovers P n before level after grown → Discovers Q n before level after grown

@@ -1,5 +1,5 @@
 -- Directed graphs over the numbers of their nodes: the list of each node's row, which is the list of the ends of its edges.
-use Rattle.std.specs.Prelude.{◌≡◌, ◌↔◌, ◌⊎◌, ◌<◌, ℕ, Bool, true, List, [], Option, None, Some, Contains, length, slice_get}
+use Rattle.std.specs.Prelude.{◌≡◌, ◌↔◌, ◌⊎◌, ◌<◌, ℕ, Bool, true, List, [], Option, None, Some, length, slice_get}
 use Rattle.walk_core.specs.Walks.{Leads, IsDistance, IsOnCycle, IsEdge}
 
 abbrev pub row : Option (List ℕ) → List ℕ

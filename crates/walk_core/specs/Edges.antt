@@ -1,11 +1,11 @@
 -- Laws of edges between numbered nodes, and of the distances over them.
-use Rattle.std.specs.Prelude.{◌≡◌, ◌↔◌, ◌⊎◌, ◌<◌, ◌≤◌, ℕ, Bool, true, List, Option, None, Some, All, Contains, length, slice_get}
+use Rattle.std.specs.Prelude.{◌≡◌, ◌↔◌, ◌<◌, ◌≤◌, ℕ, Bool, true, List, Option, None, Some, All, Contains, length, slice_get}
 use Rattle.std.proofs.Common.{suc, refl, sym, ap, subst, get_or, inl, inr, arith, ◌∙◌}
 use Rattle.std.proofs.lemmas.Bool.{cases_lt}
 use Rattle.std.proofs.lemmas.List.Elements.{Contains-get_or}
 use Rattle.std.proofs.lemmas.List.{same_lists}
 use Rattle.std.proofs.lemmas.Option.{slice_get_past, slice_get_within, slice_get-get_or, get_or_from_slice_get}
-use Rattle.walk_core.specs.Walks.{Leads, IsDistance, IsDistance-next, IsDistance-edge, IsDistance-once, IsDistance-zero}
+use Rattle.walk_core.specs.Walks.{Leads, IsDistance-next, IsDistance-edge, IsDistance-once, IsDistance-zero}
 use Rattle.walk_core.specs.Digraphs.{row, ends_of, HasEdge, IsWithin, IsReversed, IsMarked, IsDistanceTo, AreDistances}
 
 -- an edge begins at a node

@@ -285,13 +285,13 @@ fn suffices(rt: &impl Abort, alloc: Global, size: usize) -> Result<bool, Fail> {
 #[test]
 fn refused_memory_is_told_and_given_back(rt: HostRuntime) -> Result<(), Fail> {
     let mut refused = 0;
-    for step in 0..128 {
-        if suffices(&rt, rt.alloc(), 16 * step)? {
+    for words in 0..256 {
+        if suffices(&rt, rt.alloc(), 8 * words)? {
             break;
         }
-        refused = step;
+        refused = words;
     }
-    assert!(rt; refused > 8);
+    assert!(rt; refused > 16);
     assert!(rt; suffices(&rt, rt.alloc(), 2048)?);
     Ok(())
 }

@@ -1,9 +1,9 @@
-use Rattle.std.proofs.Common.{◌≡◌, ◌<◌, ℕ, List, Vec, length, map, replicate, [], sym, ap, subst, ◌∙◌, arith}
+use Rattle.std.proofs.Common.{◌≡◌, ◌<◌, ℕ, Vec, length, map, [], sym, subst, ◌∙◌}
 use Rattle.std.proofs.lemmas.List.{length-map, length-replicate}
 use Rattle.std.specs.List.{All}
-use Rattle.walk_core.specs.Digraphs.{AddsEdges, ends_of}
+use Rattle.walk_core.specs.Digraphs.{ends_of}
 use Rattle.walk_core.specs.Edges.{IsWithin-row}
-use Rattle.walk_core.proofs.EdgeLemmas.{Turned, Turned-more, Turned-all, ends_of-read}
+use Rattle.walk_core.proofs.EdgeLemmas.{Turned-more, Turned-all, ends_of-read}
 use Rattle.walk_core.proofs.digraph.turned_round.Goals as goal
 
 pub name_ends-requires : goal.name_ends-requires
