@@ -1,3 +1,12 @@
 pub mod Writes
 pub mod EdgeLemmas
 pub mod LevelLemmas
+pub mod Turned
+pub mod Tasks
+pub mod Places
+pub mod Released
+pub mod Spreading
+pub mod SpreadReaches
+pub mod Members
+pub mod Settling
+pub mod Marks

@@ -1,4 +1,5 @@
 pub mod Walks
 pub mod Digraphs
+pub mod Components
 pub mod Edges
 pub mod Levels

@@ -1,6 +1,7 @@
 ghost use Rattle.std.specs.Prelude.{◌≡◌, ◌↔◌, ◌<◌, ℕ, List, [], All, Contains, IfOk, OnOk, length, map, replicate};
 ghost use Rattle.walk_core.specs.Digraphs.{AddsEdges, AreDistances, AreOnCycles, HasEdge, IsReversed, IsWithin, ends_of};
 
+use super::cycles::cycle_flags;
 use super::distances::distances_to;
 use lattice_core::NoMemory;
 use std::alloc::{Allocator, Global};
@@ -79,7 +80,7 @@ impl<A: Allocator + Copy> Digraph<A> {
     pub fn on_cycles(&self) -> Result<Vec<bool, A>, NoMemory>
         ensures { IfOk result (λ marked. AreOnCycles self.now marked.items) }
     {
-        Err(NoMemory)
+        cycle_flags(self.alloc, self)
     }
 }
 

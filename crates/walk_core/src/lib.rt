@@ -1,8 +1,13 @@
 //! Directed graphs: walks, distances and cycles.
 #![tactic(auto)]
 
+mod component;
+#[cfg(test)]
+mod cycle_tests;
+mod cycles;
 mod digraph;
 mod distances;
+mod finish;
 mod laws;
 #[cfg(test)]
 mod tests;

@@ -31,7 +31,7 @@ fn add_if_within<A: Allocator + Copy>(
 }
 
 /// The graph with so many nodes and those of the edges that are between them.
-fn graph_of<A: Allocator + Copy>(
+pub(super) fn graph_of<A: Allocator + Copy>(
     alloc: A,
     nodes: usize,
     edges: &[(usize, usize)],
@@ -202,7 +202,7 @@ fn relax(distances: &mut Vec<Option<usize>>, from: usize, to: usize) {
 }
 
 /// The next number of a fixed row of numbers, below a limit.
-fn next_below(state: &mut u64, limit: u64) -> u64 {
+pub(super) fn next_below(state: &mut u64, limit: u64) -> u64 {
     *state = state
         .wrapping_mul(6_364_136_223_846_793_005)
         .wrapping_add(1_442_695_040_888_963_407);
@@ -210,7 +210,11 @@ fn next_below(state: &mut u64, limit: u64) -> u64 {
 }
 
 /// Up to 14 edges between so many nodes.
-fn some_edges(alloc: Global, state: &mut u64, nodes: u64) -> Result<Vec<(usize, usize)>, NoMemory> {
+pub(super) fn some_edges(
+    alloc: Global,
+    state: &mut u64,
+    nodes: u64,
+) -> Result<Vec<(usize, usize)>, NoMemory> {
     let mut edges = Vec::new(alloc);
     for _ in 0..next_below(state, 15) {
         let from = next_below(state, nodes) as usize;
