@@ -1,7 +1,7 @@
 -- What is known of nodes at first, and what the marks say at last.
-use Rattle.std.proofs.Common.{◌≡◌, ◌≢◌, ◌⊎◌, inl, inr, ◌<◌, ◌++◌, ◌∷◌, [], ℕ, List, true, false, Some, refl, sym, ◌∙◌, ap, subst, length, map, arith}
+use Rattle.std.proofs.Common.{◌≡◌, ◌≢◌, ◌⊎◌, inl, inr, ◌<◌, ◌++◌, ◌∷◌, [], ℕ, List, true, false, Some, refl, sym, ◌∙◌, ap, subst, length, map, replicate, arith}
 use Rattle.std.specs.List.{Contains}
-use Rattle.std.proofs.lemmas.List.{length-map, get_or-map}
+use Rattle.std.proofs.lemmas.List.{length-map, get_or-map, length-replicate, get_or-replicate}
 use Rattle.std.proofs.lemmas.List.Elements.{Contains-push, Contains-append_left, Contains-push_cases}
 use Rattle.std.proofs.lemmas.Option.{slice_get_within, slice_get-get_or, get_or_from_slice_get}
 use Rattle.walk_core.specs.Walks.{IsOnCycle}
@@ -27,7 +27,7 @@ module _ (graph : List (List ℕ)) (places : List Place) (size : length places �
   none_on : (x : ℕ) → place_of places x ≢ OnCycle
   none_on x is = let no_place : Waiting ≡ OnCycle = only_waiting x OnCycle (λ same. cc (same)) is in cc
 
-  pub settled_first : AreSettled graph places
+  settled_first : AreSettled graph places
   settled_first = record {
     size = size;
     sure = λ x is. let no_place : Waiting ≡ Behind = only_waiting x Behind (λ same. cc (same)) is in cc;
@@ -35,6 +35,11 @@ module _ (graph : List (List ℕ)) (places : List Place) (size : length places �
     off = none_off;
     whole = λ x y is connected. absurd (none_on x is);
   }
+
+pub settled_waiting : (graph : List (List ℕ)) (size : ℕ) → size ≡ length graph → AreSettled graph (replicate size Waiting)
+settled_waiting graph size same =
+    settled_first graph (replicate size Waiting) (length-replicate size Waiting ∙ same)
+    (λ x within. get_or-replicate size x Waiting OffCycle (omega (arith, within, length-replicate size Waiting)))
 
 -- ---- the nodes that wait come yet
 

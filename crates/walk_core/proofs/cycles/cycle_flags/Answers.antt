@@ -1,11 +1,10 @@
 use Rattle.std.proofs.Common.{◌≡◌, ◌≢◌, ℕ, length, map, arith}
-use Rattle.std.proofs.lemmas.List.{get_or-replicate}
 use Rattle.std.proofs.lemmas.Result.{IfOk-weaker}
 use Rattle.walk_core.specs.Digraphs.{AreOnCycles}
 use Rattle.walk_core.specs.Components.{place_of, is_on_cycle}
-use Rattle.walk_core.specs.declared.component.Place.TheVariants.{Waiting, OffCycle}
+use Rattle.walk_core.specs.declared.component.Place.TheVariants.{Waiting}
 use Rattle.walk_core.proofs.Places.{place_within}
-use Rattle.walk_core.proofs.Marks.{settled_first, node_taken, rest_within, ahead_settled, are_on_cycles}
+use Rattle.walk_core.proofs.Marks.{settled_waiting, node_taken, rest_within, ahead_settled, are_on_cycles}
 use Rattle.walk_core.proofs.cycles.cycle_flags.Goals as goal
 
 pub loop-node-init : goal.loop-node-init
@@ -14,7 +13,7 @@ loop-node-init g c =
     let size : length places ≡ length c.args.graph.now = omega (arith, c.in_ok-places.ensures.len, c.len.ensures, c.in_ok-places.places.ok) in
     let all = c.in_ok-places.ensures.items_if_clones_equal (λ place same. same) in
     record {
-      settled = settled_first c.args.graph.now places size (λ x within. rw all (get_or-replicate c.len.result x Waiting OffCycle (omega (arith, within, size, c.len.ensures))));
+      settled = rw all (settled_waiting c.args.graph.now c.len.result c.len.ensures);
       ahead = λ x is. (c.in_ok-order.ensures x).1 (omega (arith, place_within places x Waiting (λ same. cc (same)) is, size));
       within = λ x here. (c.in_ok-order.ensures x).0 here;
     }
