@@ -1,0 +1,58 @@
+ghost use Rattle.std.specs.Prelude.{◌≡◌, ◌≢◌, ◌++◌, ◌≤◌, ℕ, IfOk, OnOk, MatchOption, Contains, flat_map};
+ghost use Rattle.std.specs.Ordering.{is_lt};
+ghost use Rattle.std.specs.List.Sorted.{IsStrictlySortedBy};
+ghost use Rattle.replica_core.specs.State.{state_of};
+ghost use Rattle.graph_core.specs.Order.{item_cmp};
+ghost use Rattle.graph_core.specs.ItemGraph.{AreItems, IsAt};
+
+use change_core::ChangeState;
+use gate_rules::Item;
+use lattice_core::NoMemory;
+use replica_core::Replica;
+use std::alloc::Global;
+
+/// The items of a replica, in order.
+pub fn items_of(alloc: Global, replica: &Replica) -> Result<Vec<Item>, NoMemory>
+    ensures { IfOk result (λ items. AreItems (state_of replica.now) items.items) }
+{
+    let mut items = Vec::new(alloc);
+    for (number, change) in replica.changes() {
+        add_items(&mut items, *number, change)?;
+    }
+    Ok(items)
+}
+
+/// Adds the items of a change.
+fn add_items(items: &mut Vec<Item>, change: u32, state: &ChangeState) -> Result<(), NoMemory> {
+    for (set, _) in state.sets() {
+        items.push(Item { change, set: *set })?;
+    }
+    Ok(())
+}
+
+/// Whether an item stands before another.
+pub fn is_before(item: &Item, other: &Item) -> bool
+    ensures { result ≡ is_lt (item_cmp item.now other.now) }
+{
+    item.change < other.change || item.change == other.change && item.set < other.set
+}
+
+/// The place of an item of the list.
+pub fn place_of(items: &[Item], item: Item) -> usize
+    requires in_order { IsStrictlySortedBy item_cmp items.now }
+    requires there { Contains items.now item }
+    ensures { IsAt items.now result item }
+{
+    items.partition_point(|other| is_before(other, &item))
+}
+
+/// The place of the last item of a change, if it has any.
+pub fn last_of(items: &[Item], change: u32) -> Option<usize>
+    requires { IsStrictlySortedBy item_cmp items.now }
+{
+    let after = items.partition_point(|item| item.change <= change);
+    if after == 0 || items[after - 1].change != change {
+        return None;
+    }
+    Some(after - 1)
+}

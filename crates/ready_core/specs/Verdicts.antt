@@ -1,0 +1,27 @@
+-- What evaluating a state under a gate gives.
+use Rattle.std.specs.Prelude.{◌≡◌, ◌↔◌, ◌⊎◌, ℕ, List, Contains, map}
+use Rattle.std.specs.List.Sorted.{IsStrictlySortedBy}
+use Rattle.gate_rules.specs.Rules.{GateRules}
+use Rattle.gate_rules.specs.Items.{IsItem}
+use Rattle.gate_rules.specs.declared.own.Item.{Item}
+use Rattle.replica_core.specs.State.{State}
+use Rattle.graph_core.specs.Order.{item_cmp}
+use Rattle.ready_core.specs.declared.verdicts.Left.{Left}
+use Rattle.ready_core.specs.Refusals.{IsReady, IsRefused}
+
+-- the items that are ready, and those left out, each with its refusal
+pub record Judged : Type 0 where
+  pub ready : List Item
+  pub out : List Left
+
+abbrev pub items_out : List Left → List Item
+items_out = map (λ left. left.item)
+
+-- the verdicts are those of the state under the gate: just the items that some closed set of eligible items has are ready, each other one is
+-- left out for its refusal, and both lists are in order, each item once
+pub record AreVerdicts (gate : GateRules) (state : State) (verdicts : Judged) : Type 0 where
+  pub ready : (item : Item) → Contains verdicts.ready item ↔ IsReady gate state item
+  pub out : (item : Item) → Contains (items_out verdicts.out) item ↔ (IsItem state item × ¬ IsReady gate state item)
+  pub refused : (left : Left) → Contains verdicts.out left → IsRefused gate state left.item left.refusal left.rank
+  pub ready_in_order : IsStrictlySortedBy item_cmp verdicts.ready
+  pub out_in_order : IsStrictlySortedBy item_cmp (items_out verdicts.out)

@@ -1,0 +1,22 @@
+//! Which items of a replica are ready under a gate, and why each other one isn't.
+//!
+//! An item is eligible where it breaks no condition of its own, waits for no unknown change, and is on no cycle, unless the gate allows cycles.
+//! The ready items are the union of all sets of eligible items that hold the current items of what their members wait for. Each other item has
+//! one refusal and a rank, by the first of these causes:
+//!
+//! | Refusal | Cause | Rank |
+//! |---|---|---|
+//! | `Own` | the first condition that the item breaks | 0 |
+//! | `Cycle` | it is on a cycle, and the gate allows none | 0 |
+//! | `Unknown` | the least change that it waits for and of which no patch set is known | 0 |
+//! | `Dependency` | the least change that begins a shortest walk to an item that isn't eligible | the length of that walk |
+#![tactic(auto)]
+
+mod causes;
+mod evaluate;
+#[cfg(test)]
+mod tests;
+mod verdicts;
+
+pub use evaluate::evaluate;
+pub use verdicts::{Left, Refusal, Verdicts};

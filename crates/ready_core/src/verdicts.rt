@@ -1,0 +1,50 @@
+ghost use Rattle.std.specs.Prelude.{◌≡◌};
+
+use gate_rules::{Condition, Item};
+use std::marker::Model;
+
+/// Why an item is left out.
+#[derive(Clone, Copy, Debug, PartialEq, Eq)]
+pub enum Refusal {
+    /// It breaks this condition of its own.
+    Own(Condition),
+    /// It is on a cycle, and the gate allows none.
+    Cycle,
+    /// It waits for this change, of which no patch set is known.
+    Unknown(u32),
+    /// It waits for this change, whose current item is left out, too.
+    Dependency(u32),
+}
+
+/// An item that is left out.
+#[derive(Clone, Copy, Debug, PartialEq, Eq)]
+pub struct Left {
+    pub item: Item,
+    pub refusal: Refusal,
+    /// How many items stand between this one and what is wrong: 0 where the item itself isn't eligible, and one more than that of the change that
+    /// a `Dependency` names.
+    pub rank: usize,
+}
+
+/// What evaluating a replica gives. Contracts see the two lists.
+#[derive(Debug, Drop)]
+pub struct Verdicts {
+    ready: Vec<Item>,
+    out: Vec<Left>,
+}
+
+impl Verdicts {
+    pub(crate) fn new(ready: Vec<Item>, out: Vec<Left>) -> Verdicts {
+        Verdicts { ready, out }
+    }
+
+    /// The items that are ready, in order. Takes no memory, as `out`.
+    pub fn ready(&self) -> &[Item] {
+        self.ready.as_slice()
+    }
+
+    /// The other items, in order, each with its refusal and its rank.
+    pub fn out(&self) -> &[Left] {
+        self.out.as_slice()
+    }
+}
