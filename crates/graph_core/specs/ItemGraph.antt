@@ -1,10 +1,9 @@
 -- The items of a state with what they wait for, as lists: at each place an item, the changes that it waits for, the places of their
 -- current items, and whether it is on a cycle.
-use Rattle.std.specs.Prelude.{◌≡◌, ◌↔◌, ℕ, Bool, true, List, [], ◌∷◌, Some, length, slice_get, Contains, if◌then◌else◌, ◌==◌}
-use Rattle.std.specs.List.{list_any}
+use Rattle.std.specs.Prelude.{◌≡◌, ◌↔◌, ℕ, Bool, List, [], ◌∷◌, Some, slice_get, Contains, IsTrue, if◌then◌else◌, ◌==◌}
+use Rattle.std.specs.List.{list_any, AllZip}
 use Rattle.std.specs.List.Sorted.{IsStrictlyIncreasing, IsStrictlySortedBy}
 use Rattle.walk_core.specs.Walks.{IsOnCycle}
-use Rattle.walk_core.specs.Digraphs.{HasEdge, IsMarked, ends_of}
 use Rattle.gate_rules.specs.Rules.{GateRules}
 use Rattle.gate_rules.specs.Items.{IsItem}
 use Rattle.gate_rules.specs.declared.own.Item.{Item}
@@ -32,24 +31,24 @@ pub record AreTargets (gate : GateRules) (state : State) (item : Item) (targets 
   pub increasing : IsStrictlyIncreasing targets
   pub each : (number : ℕ) → Contains targets number ↔ IsTarget gate state item number
 
--- some item stands at the one place and another at the other, and the one depends on the other
-pub record IsDependencyAt (E : Item → Item → Type 0) (items : List Item) (place end : ℕ) : Type 0 where
-  pub item : Item
+-- at the place stands the end of an edge of the item
+pub record EndsAt (E : Item → Item → Type 0) (items : List Item) (item : Item) (place : ℕ) : Type 0 where
   pub other : Item
-  pub here : IsAt items place item
-  pub there : IsAt items end other
+  pub there : IsAt items place other
   pub edge : E item other
 
--- the graph is that of the state under the gate
+-- the list has just the places of the ends of the item's edges, in order, each once
+pub record AreEnds (E : Item → Item → Type 0) (items : List Item) (item : Item) (ends : List ℕ) : Type 0 where
+  pub increasing : IsStrictlyIncreasing ends
+  pub each : (place : ℕ) → Contains ends place ↔ EndsAt E items item place
+
+-- the graph is that of the state under the gate: its items, and with each of them what it waits for, where the edges to that end, and whether
+-- it is on a cycle of edges
 pub record IsGraphOf (gate : GateRules) (state : State) (graph : ItemGraph) : Type 0 where
   pub items : AreItems state graph.items
-  pub rows : length graph.targets ≡ length graph.items
-  pub targets : (place : ℕ) (item : Item) → IsAt graph.items place item → AreTargets gate state item (ends_of graph.targets place)
-  pub nodes : length graph.ends ≡ length graph.items
-  pub ends : (place end : ℕ) → HasEdge graph.ends place end ↔ IsDependencyAt (IsDependency gate state) graph.items place end
-  pub in_order : (place : ℕ) → IsStrictlyIncreasing (ends_of graph.ends place)
-  pub flags : length graph.on_cycle ≡ length graph.items
-  pub on_cycle : (place : ℕ) (item : Item) → IsAt graph.items place item → IsMarked graph.on_cycle place ↔ IsOnCycle (IsDependency gate state) item
+  pub targets : AllZip (AreTargets gate state) graph.items graph.targets
+  pub ends : AllZip (AreEnds (IsDependency gate state) graph.items) graph.items graph.ends
+  pub on_cycle : AllZip (λ item flag. IsTrue flag ↔ IsOnCycle (IsDependency gate state) item) graph.items graph.on_cycle
 
 abbrev pub has : List ℕ → ℕ → Bool
 has targets number = list_any (λ target. target == number) targets
@@ -59,3 +58,9 @@ abbrev pub namers_of : List Item → List (List ℕ) → ℕ → List Item
 namers_of [] rows number = []
 namers_of (item ∷ items) [] number = []
 namers_of (item ∷ items) (targets ∷ rows) number = if has targets number then item ∷ namers_of items rows number else namers_of items rows number
+
+-- the item and the other stand at one place of lists side by side
+pub record StandsAt {X : Type 0} (items : List Item) (others : List X) (item : Item) (other : X) : Type 0 where
+  pub place : ℕ
+  pub here : IsAt items place item
+  pub there : slice_get others place ≡ Some other

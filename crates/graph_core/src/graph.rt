@@ -1,7 +1,7 @@
-ghost use Rattle.std.specs.Prelude.{◌≡◌, ◌<◌, ℕ, IfOk, Some, length, slice_get, Contains, map};
+ghost use Rattle.std.specs.Prelude.{◌≡◌, ◌<◌, ℕ, Bool, IfOk, Contains, length};
 ghost use Rattle.replica_core.specs.State.{state_of};
 ghost use Rattle.walk_core.specs.Digraphs.{ends_of};
-ghost use Rattle.graph_core.specs.ItemGraph.{IsGraphOf, IsAt, namers_of};
+ghost use Rattle.graph_core.specs.ItemGraph.{IsGraphOf, StandsAt, namers_of};
 
 use super::items::{items_of, place_of};
 use super::namers::all_namers;
@@ -11,9 +11,11 @@ use lattice_core::NoMemory;
 use replica_core::Replica;
 use std::alloc::Global;
 use std::collections::BTreeMap;
+use std::marker::Model;
 use walk_core::Digraph;
 
-/// The items of a replica with what they wait for under a gate. Contracts see an `ItemGraph`.
+/// The items of a replica with what they wait for under a gate. Contracts see lists side by side: the items, and with each the changes that it
+/// waits for, the places of their current items, and whether it is on a cycle.
 #[derive(Drop)]
 pub struct Graph {
     items: Vec<Item>,
@@ -23,12 +25,32 @@ pub struct Graph {
     namers: BTreeMap<u32, Vec<Item>>,
 }
 
+impl Model for Graph {
+    ghost use Rattle.std.specs.Prelude.{map};
+    ghost use Rattle.graph_core.specs.ItemGraph.{ItemGraph};
+    ghost use Rattle.graph_core.specs.Kept.{IsKept};
+
+    ghost Value = { ItemGraph };
+
+    ghost view = { λ graph. record {
+      items = graph.items.items;
+      targets = map (λ row. row.items) graph.targets.items;
+      ends = graph.digraph;
+      on_cycle = graph.on_cycle.items;
+    } };
+
+    ghost invariant = { λ graph. IsKept graph.items.items (map (λ row. row.items) graph.targets.items) graph.digraph
+        graph.on_cycle.items graph.namers };
+}
+
 impl Graph {
-    /// The graph of a replica under a gate. It costs the bytes of the messages, and time and memory that grow with items and targets, but for a
-    /// logarithm.
-    pub fn build(alloc: Global, replica: &Replica, gate: &Gate) -> Result<Graph, NoMemory> {
+    /// The graph of a replica under a gate. It costs the bytes of the messages, and time and memory that grow with the items and what they wait
+    /// for, but for a logarithm.
+    pub fn build(alloc: Global, replica: &Replica, gate: &Gate) -> Result<Graph, NoMemory>
+        ensures { IfOk result (IsGraphOf gate.now (state_of replica.now)) }
+    {
         let items = items_of(alloc, replica)?;
-        let targets = all_targets(alloc, gate.bases(), replica, items.as_slice())?;
+        let targets = all_targets(alloc, gate, replica, items.as_slice())?;
         let ends = all_ends(alloc, items.as_slice(), targets.as_slice())?;
         let namers = all_namers(alloc, items.as_slice(), targets.as_slice())?;
         let digraph = Digraph::new(alloc, ends)?;
@@ -43,17 +65,24 @@ impl Graph {
     }
 
     /// The items, in order. This and the calls below take no memory.
-    pub fn items(&self) -> &[Item] {
+    pub fn items(&self) -> &[Item]
+        ensures { result.now ≡ self.now.items }
+    {
         self.items.as_slice()
     }
 
     /// The changes that an item waits for, in order, each once. In logarithmic time.
-    pub fn targets(&self, item: Item) -> &[u32] {
+    pub fn targets(&self, item: Item) -> &[u32]
+        requires { Contains self.now.items item }
+        ensures { StandsAt self.now.items self.now.targets item result.now }
+    {
         self.targets_at(place_of(self.items.as_slice(), item))
     }
 
     /// The items that wait for a change, in order. In logarithmic time.
-    pub fn namers(&self, change: u32) -> &[Item] {
+    pub fn namers(&self, change: u32) -> &[Item]
+        ensures { result.now ≡ namers_of self.now.items self.now.targets change }
+    {
         match self.namers.get(&change) {
             Some(items) => items.as_slice(),
             None => &[],
@@ -61,23 +90,35 @@ impl Graph {
     }
 
     /// Whether an item is on a cycle. In logarithmic time.
-    pub fn on_cycle(&self, item: Item) -> bool {
+    pub fn on_cycle(&self, item: Item) -> bool
+        requires { Contains self.now.items item }
+        ensures { StandsAt self.now.items self.now.on_cycle item result }
+    {
         self.on_cycle[place_of(self.items.as_slice(), item)]
     }
 
-    /// The changes that the item at a place waits for.
-    pub fn targets_at(&self, place: usize) -> &[u32] {
+    /// The changes that the item at a place waits for, in order, each once.
+    pub fn targets_at(&self, place: usize) -> &[u32]
+        requires { place < length self.now.items }
+        ensures { result.now ≡ ends_of self.now.targets place }
+    {
         self.targets[place].as_slice()
     }
 
     /// The graph over places: an edge leads from an item's place to that of the current item of each change that it waits for, where one is
     /// known.
-    pub fn digraph(&self) -> &Digraph {
+    pub fn digraph(&self) -> &Digraph
+        ensures nodes { length self.now.ends ≡ length self.now.items }
+        ensures ends { result.now ≡ self.now.ends }
+    {
         &self.digraph
     }
 
     /// Which places have an item on a cycle.
-    pub fn on_cycles(&self) -> &[bool] {
+    pub fn on_cycles(&self) -> &[bool]
+        ensures places { length self.now.on_cycle ≡ length self.now.items }
+        ensures flags { result.now ≡ self.now.on_cycle }
+    {
         self.on_cycle.as_slice()
     }
 }

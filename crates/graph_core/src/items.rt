@@ -4,6 +4,8 @@ ghost use Rattle.std.specs.List.Sorted.{IsStrictlySortedBy};
 ghost use Rattle.replica_core.specs.State.{state_of};
 ghost use Rattle.graph_core.specs.Order.{item_cmp};
 ghost use Rattle.graph_core.specs.ItemGraph.{AreItems, IsAt};
+ghost use Rattle.graph_core.specs.Listed.{IsLastOf, items_in};
+ghost use Rattle.gate_rules.specs.declared.own.Item.{Item};
 
 use change_core::ChangeState;
 use gate_rules::Item;
@@ -23,7 +25,9 @@ pub fn items_of(alloc: Global, replica: &Replica) -> Result<Vec<Item>, NoMemory>
 }
 
 /// Adds the items of a change.
-fn add_items(items: &mut Vec<Item>, change: u32, state: &ChangeState) -> Result<(), NoMemory> {
+fn add_items(items: &mut Vec<Item>, change: u32, state: &ChangeState) -> Result<(), NoMemory>
+    ensures { OnOk result (items.new.items ≡ items.old.items ++ items_in (change, state.now)) }
+{
     for (set, _) in state.sets() {
         items.push(Item { change, set: *set })?;
     }
@@ -49,10 +53,14 @@ pub fn place_of(items: &[Item], item: Item) -> usize
 /// The place of the last item of a change, if it has any.
 pub fn last_of(items: &[Item], change: u32) -> Option<usize>
     requires { IsStrictlySortedBy item_cmp items.now }
+    ensures { MatchOption result ((place : ℕ) (item : Item) → IsAt items.now place item → item.change ≢ change)
+        (IsLastOf items.now change) }
 {
-    let after = items.partition_point(|item| item.change <= change);
-    if after == 0 || items[after - 1].change != change {
+    let place = items
+        .partition_point(|item| item.change <= change)
+        .checked_sub(1)?;
+    if items[place].change != change {
         return None;
     }
-    Some(after - 1)
+    Some(place)
 }

@@ -1,76 +1,130 @@
-ghost use Rattle.std.specs.Prelude.{◌≡◌, IfOk, length};
+ghost use Rattle.std.specs.Prelude.{◌≡◌, ◌≢◌, ◌↔◌, ℕ, IfOk, MatchOption, All, Contains, Some};
+ghost use Rattle.std.specs.FinMap.{get};
+ghost use Rattle.std.specs.List.{AllZip};
+ghost use Rattle.std.specs.List.Sorted.{IsStrictlyIncreasing, IsStrictlySortedBy};
+ghost use Rattle.change_core.specs.Views.{parent_of};
+ghost use Rattle.replica_core.specs.State.{state_of};
+ghost use Rattle.gate_rules.specs.Items.{IsItem};
+ghost use Rattle.graph_core.specs.Order.{item_cmp};
+ghost use Rattle.graph_core.specs.Dependencies.{Names};
+ghost use Rattle.graph_core.specs.ItemGraph.{AreTargets};
+ghost use Rattle.graph_core.specs.Listed.{ArePlaces};
+ghost use Rattle.graph_core.specs.Merged.{merged_in};
 
 use super::items::last_of;
-use change_core::Status;
-use footer_text::{Bases, depends};
-use gate_rules::Item;
+use change_core::{ChangeState, Status};
+use footer_text::{Footers, depends};
+use gate_rules::{Gate, Item};
 use lattice_core::NoMemory;
 use replica_core::Replica;
 use std::alloc::Global;
 
 /// Whether a change is merged.
-fn is_merged(replica: &Replica, number: u32) -> bool {
+fn is_merged(replica: &Replica, number: u32) -> bool
+    ensures { result ≡ merged_in (get (state_of replica.now) number) }
+{
     match replica.change(number) {
         Some(change) => matches!(change.status(), Status::Merged),
         None => false,
     }
 }
 
+/// The change of the item's Git parent, unless it is the item's own.
+fn other_parent(change: &ChangeState, item: Item) -> Option<u32>
+    ensures { MatchOption result ((number : ℕ) → parent_of change.now item.set ≡ Some number → number ≡ item.change)
+        (λ number. (parent_of change.now item.set ≡ Some number) × (number ≢ item.change)) }
+{
+    let parent = change.parent(item.set)?;
+    if parent == item.change {
+        return None;
+    }
+    Some(parent)
+}
+
+/// The changes that an item names, in no order.
+fn names_of(alloc: Global, gate: &Gate, replica: &Replica, item: Item) -> Result<Vec<u32>, NoMemory>
+    requires { IsItem (state_of replica.now) item }
+    ensures { IfOk result (λ names. (number : ℕ)
+        → Contains names.items number ↔ Names gate.now (state_of replica.now) item number) }
+{
+    let change = replica.change(item.change).unwrap();
+    let message = change.message(item.set).unwrap();
+    let Footers {
+        needs: mut names,
+        ignored: _,
+    } = depends(alloc, gate.bases(), item.change, message)?;
+    let Some(parent) = other_parent(change, item) else {
+        return Ok(names);
+    };
+    names.push(parent)?;
+    Ok(names)
+}
+
 /// The changes that an item waits for, in order.
 pub fn targets_of(
     alloc: Global,
-    bases: &Bases,
+    gate: &Gate,
     replica: &Replica,
     item: Item,
-) -> Result<Vec<u32>, NoMemory> {
-    let change = replica.change(item.change).unwrap();
-    let message = change.message(item.set).unwrap();
-    let mut numbers = depends(alloc, bases, item.change, message)?.needs;
-    if let Some(parent) = change.parent(item.set) {
-        if parent != item.change {
-            numbers.push(parent)?;
-        }
-    }
-    numbers.retain(|number| !is_merged(replica, *number));
-    numbers.sort_unstable();
-    numbers.dedup();
-    Ok(numbers)
+) -> Result<Vec<u32>, NoMemory>
+    requires { IsItem (state_of replica.now) item }
+    ensures { IfOk result (λ targets. AreTargets gate.now (state_of replica.now) item targets.items) }
+{
+    let mut targets = names_of(alloc, gate, replica, item)?;
+    targets.retain(|number| !is_merged(replica, *number));
+    targets.sort_unstable();
+    targets.dedup();
+    Ok(targets)
 }
 
 /// The changes that each of the items waits for.
 pub fn all_targets(
     alloc: Global,
-    bases: &Bases,
+    gate: &Gate,
     replica: &Replica,
     items: &[Item],
-) -> Result<Vec<Vec<u32>>, NoMemory> {
+) -> Result<Vec<Vec<u32>>, NoMemory>
+    requires { All (IsItem (state_of replica.now)) items.now }
+    ensures { IfOk result (λ rows. AllZip
+        (λ item row. AreTargets gate.now (state_of replica.now) item row.items) items.now rows.items) }
+{
     let mut rows = Vec::with_capacity(alloc, items.len())?;
     for item in items {
-        rows.push(targets_of(alloc, bases, replica, *item)?)?;
+        rows.push(targets_of(alloc, gate, replica, *item)?)?;
     }
     Ok(rows)
 }
 
-/// The places of the current items of some changes.
-fn current_places(alloc: Global, items: &[Item], targets: &[u32]) -> Result<Vec<usize>, NoMemory> {
+/// The places of the last items of some changes.
+fn places_of(alloc: Global, items: &[Item], numbers: &[u32]) -> Result<Vec<usize>, NoMemory>
+    requires in_order { IsStrictlySortedBy item_cmp items.now }
+    requires increasing { IsStrictlyIncreasing numbers.now }
+    ensures { IfOk result (λ places. ArePlaces items.now numbers.now places.items) }
+{
     let mut places = Vec::new(alloc);
-    for target in targets {
-        if let Some(place) = last_of(items, *target) {
-            places.push(place)?;
-        }
+    for number in numbers {
+        let Some(place) = last_of(items, *number) else {
+            continue;
+        };
+        places.push(place)?;
     }
     Ok(places)
 }
 
-/// The places of the current items of what each item waits for.
+/// The places of the last items of the changes in each row.
 pub fn all_ends(
     alloc: Global,
     items: &[Item],
     rows: &[Vec<u32>],
-) -> Result<Vec<Vec<usize>>, NoMemory> {
+) -> Result<Vec<Vec<usize>>, NoMemory>
+    requires in_order { IsStrictlySortedBy item_cmp items.now }
+    requires increasing { All (λ row. IsStrictlyIncreasing row.items) rows.now }
+    ensures { IfOk result (λ ends. AllZip
+        (λ row places. ArePlaces items.now row.items places.items) rows.now ends.items) }
+{
     let mut ends = Vec::with_capacity(alloc, rows.len())?;
-    for targets in rows {
-        ends.push(current_places(alloc, items, targets.as_slice())?)?;
+    for row in rows {
+        ends.push(places_of(alloc, items, row.as_slice())?)?;
     }
     Ok(ends)
 }

@@ -87,8 +87,9 @@ fn by_item(rt: HostRuntime) -> Result<(), Fail> {
     take(&mut replica, 1, patch_set(alloc, 1, 1, &[2], None)?)?;
     take(&mut replica, 2, patch_set(alloc, 2, 1, &[3, 1], None)?)?;
     let graph = graph_of(alloc, &replica)?;
-    assert!(rt; graph.items().len() == 2);
-    let item = graph.items()[1];
+    let items = graph.items();
+    assert!(rt; items.len() == 2);
+    let item = items[1];
     assert_eq!(rt; graph.targets(item), [1, 3].as_slice());
     assert!(rt; graph.on_cycle(item));
     Ok(())

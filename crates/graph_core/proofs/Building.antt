@@ -1,0 +1,126 @@
+-- The rows that the code makes are those of the dependencies.
+use Rattle.std.proofs.Common.{◌≡◌, ◌<◌, ◌≤◌, ◌⊎◌, ◌↔◌, ℕ, List, map, length, Contains, Some, refl, sym, ap, ◌∙◌, subst, arith, inl, inr}
+use Rattle.std.specs.Prelude.{All, IsSome}
+use Rattle.std.specs.declared.cmp.Ordering.{Ordering}
+use Rattle.std.specs.declared.cmp.Ordering.TheVariants.{Less, Equal, Greater}
+use Rattle.std.specs.Ordering.{nat_cmp, ordering_then, MatchOrdering}
+use Rattle.std.specs.FinMap as finite
+use Rattle.std.specs.List.{AllZip}
+use Rattle.std.specs.List.Sorted.{IsStrictlySortedBy, IsStrictlyIncreasing}
+use Rattle.std.proofs.lemmas.Cmp.{ranked}
+use Rattle.std.proofs.lemmas.List.Elements.{Contains-get_or}
+use Rattle.change_core.specs.Change.{Change}
+use Rattle.change_core.specs.Views.{IsKnownSet, IsGreatestKnown}
+use Rattle.gate_rules.specs.Rules.{GateRules}
+use Rattle.gate_rules.specs.Items.{IsItem}
+use Rattle.gate_rules.specs.declared.own.Item.{Item}
+use Rattle.replica_core.specs.State.{State}
+use Rattle.graph_core.specs.Order.{item_cmp}
+use Rattle.graph_core.specs.Dependencies.{IsTarget, IsDependency, IsCurrentItem}
+use Rattle.graph_core.specs.ItemGraph.{IsAt, AreItems, AreTargets, AreEnds, EndsAt}
+use Rattle.graph_core.specs.Listed.{IsLastOf, ArePlaces}
+use Rattle.graph_core.specs.ZipLaws.{length-AllZip, AllZip-chain, AllZip-map, All-AllZip}
+use Rattle.graph_core.specs.PlaceLaws.{Contains-at, at_Contains, one_item, sorted_at, earlier_or_same}
+
+pub all_are_items : (state : State) (items : List Item) → AreItems state items → All (IsItem state) items
+all_are_items state items are = λ k d within. (are.each _).0 (Contains-get_or items k d within)
+
+-- the current item of a change is an item
+pub current_is_item : (state : State) (item : Item) → IsCurrentItem state item → IsItem state item
+current_is_item state item is = (is.change, is.stands, is.greatest.known)
+
+-- patch sets of one change stand by their numbers
+lower_of : (r : Ordering) (a b : ℕ) → MatchOrdering r (a < b) (a ≡ b) (b < a) → r ≡ Less → a < b
+lower_of Less a b ranks e = ranks
+lower_of Equal a b ranks e = cc
+lower_of Greater a b ranks e = cc
+
+then_second : (r s : Ordering) (m n : ℕ) → MatchOrdering r (m < n) (m ≡ n) (n < m) → m ≡ n → ordering_then r s ≡ Less → s ≡ Less
+then_second Less s m n ranks same e = absurd (omega (arith, ranks, same))
+then_second Equal s m n ranks same e = e
+then_second Greater s m n ranks same e = absurd (omega (arith, ranks, same))
+
+lower_set : (a b : Item) → a.change ≡ b.change → item_cmp a b ≡ Less → a.set < b.set
+lower_set a b same less = lower_of (nat_cmp a.set b.set) a.set b.set (ranked a.set b.set (nat_cmp a.set b.set) refl)
+    (then_second (nat_cmp a.change b.change) (nat_cmp a.set b.set) a.change b.change (ranked a.change b.change (nat_cmp a.change b.change) refl) same less)
+
+at_most : (m n : ℕ) → ¬ (n < m) → m ≤ n
+at_most m n h = omega (arith, h)
+
+module _ (state : State) (items : List Item) (are : AreItems state items) where
+  -- the last item of a change is its current one
+  last_is_current : (number place : ℕ) (last : IsLastOf items number place) → IsCurrentItem state last.item
+  last_is_current number place last =
+      let is = (are.each last.item).0 (Contains-at items place last.item last.here) in
+      record { change = is.0; stands = is.1; greatest = record { known = is.2; greatest = λ set known. none_later is.0 is.1 set known } } where
+        none_later : (change : Change) → finite.get state last.item.change ≡ Some change → (set : ℕ) → IsKnownSet change set → set ≤ last.item.set
+        none_later change stands set known =
+            let other : Item = record { change = last.item.change; set = set } in
+            let found = at_Contains items other ((are.each other).1 (change, stands, known)) in
+            elim (earlier_or_same found.0 place (last.last found.0 other found.1 last.of)) [
+              | inl earlier ↦ let lower = lower_set other last.item refl (sorted_at item_cmp items are.in_order found.0 place other last.item earlier found.1 last.here) in omega (arith, lower)
+              | inr same ↦ let e = ap (λ (i : Item). i.set) (one_item items place other last.item (subst (λ p. IsAt items p other) same found.1) last.here) in omega (arith, e)
+            ]
+
+  -- and the current one stands last
+  current_is_last : (other : Item) (place : ℕ) → IsAt items place other → IsCurrentItem state other → IsLastOf items other.change place
+  current_is_last other place here current = record {
+    item = other;
+    here = here;
+    of = refl;
+    last = λ later item there same. at_most later place (λ behind.
+        let is = (are.each item).0 (Contains-at items later item there) in
+        let e = one_change is.0 current.change (ap (finite.get state) (sym same) ∙ is.1) current.stands in
+        let known : IsKnownSet current.change item.set = subst (λ c. IsKnownSet c item.set) e is.2 in
+        let most = current.greatest.greatest item.set known in
+        let lower = lower_set other item (sym same) (sorted_at item_cmp items are.in_order place later other item behind here there) in
+        omega (arith, most, lower));
+  } where
+    one_change : (a b : Change) → finite.get state other.change ≡ Some a → finite.get state other.change ≡ Some b → a ≡ b
+    one_change a b p q = cc
+
+  module _ (gate : GateRules) where
+    pub held_by_items : (item other : Item) → IsDependency gate state item other → Contains items other
+    held_by_items item other edge = (are.each other).1 (current_is_item state other edge.1)
+
+    -- the places of the targets' last items are those of the ends of the item's edges
+    pub AreEnds-places : (item : Item) (targets places : List ℕ) → AreTargets gate state item targets → ArePlaces items targets places → AreEnds (IsDependency gate state) items item places
+    AreEnds-places item targets places wants at = record {
+      increasing = at.increasing;
+      each = λ place. (
+        λ c.
+            let found = (at.each place).0 c in
+            record {
+              other = found.2.item;
+              there = found.2.here;
+              edge = (subst (IsTarget gate state item) (sym found.2.of) ((wants.each found.0).0 found.1), last_is_current found.0 place found.2);
+            },
+        λ end. (at.each place).1 (end.other.change, (wants.each end.other.change).1 end.edge.0, current_is_last end.other place end.there end.edge.1),
+      );
+    }
+
+-- ---- the rows of a graph, as slices lend them
+module _ {V W : Type 0} (numbers_in : V → List ℕ) (places_in : W → List ℕ) (gate : GateRules) (state : State) (items : List Item) (rows : List V) where
+  module _ (lent : List Item) (same : lent ≡ items) (wants : AllZip (λ item row. AreTargets gate state item (numbers_in row)) lent rows) where
+    its_rows : AllZip (λ item row. AreTargets gate state item (numbers_in row)) items rows
+    its_rows = subst (λ l. AllZip (λ item row. AreTargets gate state item (numbers_in row)) l rows) same wants
+
+    pub as_many_rows : length rows ≡ length items
+    as_many_rows = length-AllZip (λ item row. AreTargets gate state item (numbers_in row)) items rows its_rows
+
+    pub rows_rise : All (λ row. IsStrictlyIncreasing (numbers_in row)) rows
+    rows_rise = All-AllZip (λ item row. AreTargets gate state item (numbers_in row)) (λ row. IsStrictlyIncreasing (numbers_in row)) items rows (λ item row is. is.increasing) its_rows
+
+    pub target_rows : AllZip (AreTargets gate state) items (map numbers_in rows)
+    target_rows = AllZip-map (AreTargets gate state) numbers_in items rows its_rows
+
+    pub end_rows : AreItems state items → (lent_items : List Item) (lent_rows : List V) (ends : List W) → lent_items ≡ items → lent_rows ≡ rows
+        → AllZip (λ row places. ArePlaces lent_items (numbers_in row) (places_in places)) lent_rows ends
+        → AllZip (AreEnds (IsDependency gate state) items) items (map places_in ends)
+    end_rows are lent_items lent_rows ends same_items same_rows at =
+        AllZip-map (AreEnds (IsDependency gate state) items) places_in items ends
+        (AllZip-chain (λ item row. AreTargets gate state item (numbers_in row)) (λ row places. ArePlaces items (numbers_in row) (places_in places))
+        (λ item places. AreEnds (IsDependency gate state) items item (places_in places)) items rows ends
+        (λ item row places is its. AreEnds-places state items are gate item (numbers_in row) (places_in places) is its) its_rows
+        (subst (λ l. AllZip (λ row places. ArePlaces items (numbers_in row) (places_in places)) l ends) same_rows
+        (subst (λ l. AllZip (λ row places. ArePlaces l (numbers_in row) (places_in places)) lent_rows ends) same_items at)))

@@ -1,0 +1,111 @@
+-- The places of the last items of some changes, one change after the other.
+use Rattle.std.proofs.Common.{◌≡◌, ◌≢◌, ◌<◌, ◌≤◌, ◌+◌, ◌⊎◌, ◌↔◌, ℕ, cond, eqb, ltb, List, [], ◌∷◌, ◌++◌, take, length, get_or, Contains, refl, sym, ap, ◌∙◌, subst, arith, inl, inr}
+use Rattle.std.specs.declared.cmp.Ordering.{Ordering}
+use Rattle.std.specs.declared.cmp.Ordering.TheVariants.{Less, Equal, Greater}
+use Rattle.std.specs.Ordering.{nat_cmp}
+use Rattle.std.specs.List.{AllZip}
+use Rattle.std.specs.List.Sorted.{IsStrictlyIncreasing, IsStrictlySortedBy}
+use Rattle.std.proofs.lemmas.Bool.{lt-ltb}
+use Rattle.std.proofs.lemmas.List.{get_or-take, get_or_default, length-take-le, take_more}
+use Rattle.std.proofs.lemmas.List.Elements.{Contains-push, Contains-push_cases, Contains-append_left}
+use Rattle.std.proofs.lemmas.List.Kept.{AllPairs-from_increasing}
+use Rattle.std.proofs.lemmas.Map.Keys.{sorted_from_strictly_increasing, IsStrictlyIncreasing-from_sorted}
+use Rattle.gate_rules.specs.declared.own.Item.{Item}
+use Rattle.graph_core.specs.Order.{item_cmp}
+use Rattle.graph_core.specs.ItemGraph.{IsAt}
+use Rattle.graph_core.specs.Listed.{IsLastOf, ArePlaces}
+use Rattle.graph_core.specs.MemberLaws.{Contains-cons_cases, Contains-none}
+use Rattle.graph_core.specs.PlaceLaws.{changes_rise}
+use Rattle.graph_core.proofs.Listing.{sorted_append}
+
+less_is : (m n : ℕ) → m < n → nat_cmp m n ≡ Less
+less_is m n h = ap (λ b. cond b Less (cond (eqb m n) Equal Greater)) (lt-ltb m n h)
+
+single : (n : ℕ) → IsStrictlySortedBy nat_cmp (n ∷ [])
+unfolding IsStrictlySortedBy
+single n = (tt, tt)
+
+increasing_push : (xs : List ℕ) (n : ℕ) → IsStrictlyIncreasing xs → ((m : ℕ) → Contains xs m → m < n) → IsStrictlyIncreasing (xs ++ n ∷ [])
+increasing_push xs n rising above =
+    IsStrictlyIncreasing-from_sorted (xs ++ n ∷ []) (sorted_append nat_cmp xs (n ∷ []) (sorted_from_strictly_increasing xs rising) (single n)
+    (λ m k in_xs is_n. elim (Contains-cons_cases n [] k is_n) [
+      | inl same ↦ subst (λ l. nat_cmp m l ≡ Less) same (less_is m n (above m in_xs))
+      | inr none ↦ absurd (Contains-none k none)
+    ]))
+
+-- what stands before a place of a rising list is less than what stands there
+pub taken_below : (xs : List ℕ) (i : ℕ) → IsStrictlyIncreasing xs → i < length xs → (m : ℕ) → Contains (take i xs) m → m < get_or xs i 0
+taken_below xs i rising within m c =
+    let k_less : c.0 < i = omega (arith, c.1, length-take-le i xs (omega (arith, within))) in
+    let here : get_or xs c.0 m ≡ m = sym (get_or-take i xs c.0 m k_less) ∙ c.2 in
+    let same : get_or xs c.0 0 ≡ m = get_or_default xs c.0 0 m (omega (arith, k_less, within)) ∙ here in
+    subst (λ l. l < get_or xs i 0) same (AllPairs-from_increasing xs rising c.0 i 0 k_less within)
+
+least_place : (a b : ℕ) → ¬ (a < b) → ¬ (b < a) → a ≡ b
+least_place a b p q = omega (arith, p, q)
+
+less_unless : (a b : ℕ) → ¬ (b ≤ a) → a < b
+less_unless a b h = omega (arith, h)
+
+module _ (items : List Item) (sorted : IsStrictlySortedBy item_cmp items) where
+  -- a change has one last item
+  one_last : (number a b : ℕ) → IsLastOf items number a → IsLastOf items number b → a ≡ b
+  one_last number a b p q = omega (arith, p.last b q.item q.here q.of, q.last a p.item p.here p.of)
+
+  -- the last item of a lesser change stands before
+  last_before : (m n a b : ℕ) → m < n → IsLastOf items m a → IsLastOf items n b → a < b
+  last_before m n a b h p q = less_unless a b (λ back.
+      let rises = changes_rise items sorted b a q.item p.item back q.here p.here in
+      omega (arith, h, rises, p.of, q.of))
+
+  pub ArePlaces-none : (numbers places : List ℕ) (number : ℕ) → ArePlaces items numbers places
+      → ((place : ℕ) (item : Item) → IsAt items place item → item.change ≢ number) → ArePlaces items (numbers ++ number ∷ []) places
+  ArePlaces-none numbers places number are none = record {
+    increasing = are.increasing;
+    each = λ place. (
+      λ c. let found = (are.each place).0 c in (found.0, Contains-append_left numbers (number ∷ []) found.0 found.1, found.2),
+      λ found. elim (Contains-push_cases numbers number found.0 found.1) [
+        | inl before ↦ (are.each place).1 (found.0, before, found.2)
+        | inr same ↦ absurd (none place found.2.item found.2.here (found.2.of ∙ sym same))
+      ],
+    );
+  }
+
+  pub ArePlaces-one : (numbers places : List ℕ) (number place : ℕ) → ArePlaces items numbers places
+      → ((m : ℕ) → Contains numbers m → m < number) → IsLastOf items number place → ArePlaces items (numbers ++ number ∷ []) (places ++ place ∷ [])
+  ArePlaces-one numbers places number place are above last = record {
+    increasing = increasing_push places place are.increasing (λ other c.
+        let found = (are.each other).0 c in last_before found.0 number other place (above found.0 found.1) found.2 last);
+    each = λ other. (
+      λ c. elim (Contains-push_cases places place other c) [
+        | inl before ↦ let found = (are.each other).0 before in (found.0, Contains-append_left numbers (number ∷ []) found.0 found.1, found.2)
+        | inr same ↦ (number, Contains-push numbers number, subst (IsLastOf items number) same last)
+      ],
+      λ found. elim (Contains-push_cases numbers number found.0 found.1) [
+        | inl before ↦ Contains-append_left places (place ∷ []) other ((are.each other).1 (found.0, before, found.2))
+        | inr same ↦ subst (Contains (places ++ place ∷ [])) (one_last found.0 place other (subst (λ n. IsLastOf items n place) same last) found.2) (Contains-push places place)
+      ],
+    );
+  }
+
+  -- one change more of a rising list
+  pub places_more_none : (numbers places : List ℕ) (i : ℕ) → i < length numbers → ArePlaces items (take i numbers) places
+      → ((place : ℕ) (item : Item) → IsAt items place item → item.change ≢ get_or numbers i 0) → ArePlaces items (take (i + 1) numbers) places
+  places_more_none numbers places i within are none =
+      subst (λ l. ArePlaces items l places) (sym (take_more numbers i 0 within)) (ArePlaces-none (take i numbers) places (get_or numbers i 0) are none)
+
+  pub places_more : (numbers places : List ℕ) (i place : ℕ) → IsStrictlyIncreasing numbers → i < length numbers → ArePlaces items (take i numbers) places
+      → IsLastOf items (get_or numbers i 0) place → ArePlaces items (take (i + 1) numbers) (places ++ place ∷ [])
+  places_more numbers places i place rising within are last =
+      subst (λ l. ArePlaces items l (places ++ place ∷ [])) (sym (take_more numbers i 0 within))
+      (ArePlaces-one (take i numbers) places (get_or numbers i 0) place are (taken_below numbers i rising within) last)
+
+-- one row more
+all_zip_push : {X Y : Type 0} (R : X → Y → Type 0) (xs : List X) (ys : List Y) (x : X) (y : Y) → AllZip R xs ys → R x y → AllZip R (xs ++ x ∷ []) (ys ++ y ∷ [])
+all_zip_push R [] [] x y all r = (r, tt)
+all_zip_push R [] (b ∷ ys) x y all r = absurd all
+all_zip_push R (a ∷ xs) [] x y all r = absurd all
+all_zip_push R (a ∷ xs) (b ∷ ys) x y all r = (all.0, all_zip_push R xs ys x y all.1 r)
+
+pub all_zip_at : {X Y : Type 0} (R : X → Y → Type 0) (xs : List X) (ys : List Y) (i : ℕ) (d : X) (y : Y) → i < length xs → AllZip R (take i xs) ys → R (get_or xs i d) y → AllZip R (take (i + 1) xs) (ys ++ y ∷ [])
+all_zip_at R xs ys i d y within so_far r = subst (λ l. AllZip R l (ys ++ y ∷ [])) (sym (take_more xs i d within)) (all_zip_push R (take i xs) ys (get_or xs i d) y so_far r)
