@@ -19,20 +19,9 @@ use Rattle.gate_rules.specs.declared.own.Item.{Item}
 use Rattle.replica_core.specs.State.{State}
 use Rattle.graph_core.specs.Order.{item_cmp}
 use Rattle.graph_core.specs.ItemGraph.{AreItems}
-use Rattle.graph_core.specs.MemberLaws.{Contains-cons_cases, Contains-first, Contains-later, Contains-none, Contains-of_map, Contains-to_map, Contains-of_flat_map, Contains-to_flat_map}
+use Rattle.graph_core.specs.MemberLaws.{Contains-cons_cases, Contains-first, Contains-later, Contains-none, Contains-of_map, Contains-to_map, Contains-of_flat_map, Contains-to_flat_map, sorted_append}
+use Rattle.graph_core.specs.EntryLaws.{get-entry, entry-get, some_of, is_some_of}
 use Rattle.graph_core.specs.Listed.{item_of, items_in, all_items}
-
--- ---- entries and what a map has
-module _ {X : Type 0} (m : FinMap nat_cmp X) (key : ℕ) (value : X) where
-  get-entry : Contains (entries m) (key, value) → get m key ≡ Some value
-  get-entry c =
-      All-contains (λ e. get m e.0 ≡ Some e.1) (entries m) (key, value)
-      (All-from_recursion (λ e. get m e.0 ≡ Some e.1) (entries m) ((AllByRecursion-entries numbers_exact (λ q v. get m q ≡ Some v) m).0 (λ q v found. found))) c
-
-  entry-get : get m key ≡ Some value → Contains (entries m) (key, value)
-  entry-get found =
-      (AllByRecursion-entries numbers_exact (λ q v. Contains (entries m) (q, v)) m).1
-      (recursion_from_All (λ e. Contains (entries m) (e.0, e.1)) (entries m) (λ k d less. Contains-get_or (entries m) k d less)) key value found
 
 -- ---- lists in order
 first_of_both : (a b : Bool) → T (a && b) → T a
@@ -47,16 +36,6 @@ less : (r : Ordering) → T (is_lt r) → r ≡ Less
 less Less h = refl
 less Equal h = absurd h
 less Greater h = absurd h
-
-pub sorted_append : {X : Type 0} (cmp : X → X → Ordering) (xs ys : List X) → IsStrictlySortedBy cmp xs → IsStrictlySortedBy cmp ys → ((x y : X) → Contains xs x → Contains ys y → cmp x y ≡ Less) → IsStrictlySortedBy cmp (xs ++ ys)
-unfolding IsStrictlySortedBy
-sorted_append cmp [] ys sorted_xs sorted_ys across = sorted_ys
-sorted_append cmp (x ∷ xs) ys sorted_xs sorted_ys across = (
-  recursion_from_All (λ y. cmp x y ≡ Less) (xs ++ ys) (All-append (λ y. cmp x y ≡ Less) xs ys
-      (All-from_recursion (λ y. cmp x y ≡ Less) xs sorted_xs.0)
-      (λ k d h. across x _ (Contains-first x xs) (Contains-get_or ys k d h))),
-  sorted_append cmp xs ys sorted_xs.1 sorted_ys (λ z y in_xs in_ys. across z y (Contains-later x xs z in_xs) in_ys),
-)
 
 above : {X : Type 0} (key : ℕ) (es : List (ℕ × X)) → T (below_all nat_cmp key es) → (e : ℕ × X) → Contains es e → nat_cmp key e.0 ≡ Less
 above key [] h e c = absurd (Contains-none e c)
@@ -97,14 +76,6 @@ changes_in_order (e ∷ es) sorted = sorted_append item_cmp (items_in e) (flat_m
     lower_change x y (subst (λ n. nat_cmp n y.change ≡ Less) (change_of_listed e x in_e) (subst (λ n. nat_cmp e.0 n ≡ Less) (change_of_listed found.0 y found.2) lower)))
 
 -- ---- the items are those of the state
-some_of : {X : Type 0} (o : Option X) → IsSome o → (x : X) × (o ≡ Some x)
-some_of None is = cc
-some_of (Some x) is = (x, refl)
-
-is_some_of : {X : Type 0} (o : Option X) (x : X) → o ≡ Some x → IsSome o
-is_some_of None x e = cc
-is_some_of (Some y) x e = refl
-
 listed_is_item : (state : State) (item : Item) → Contains (all_items state) item → IsItem state item
 listed_is_item state item c =
     let e = Contains-of_flat_map items_in (entries state) item c in

@@ -3,7 +3,6 @@ use Rattle.std.proofs.Common.{◌≡◌, ◌≢◌, ◌<◌, ◌≤◌, ◌+◌,
 use Rattle.std.specs.declared.cmp.Ordering.{Ordering}
 use Rattle.std.specs.declared.cmp.Ordering.TheVariants.{Less, Equal, Greater}
 use Rattle.std.specs.Ordering.{nat_cmp}
-use Rattle.std.specs.List.{AllZip}
 use Rattle.std.specs.List.Sorted.{IsStrictlyIncreasing, IsStrictlySortedBy}
 use Rattle.std.proofs.lemmas.Bool.{lt-ltb}
 use Rattle.std.proofs.lemmas.List.{get_or-take, get_or_default, length-take-le, take_more}
@@ -14,24 +13,15 @@ use Rattle.gate_rules.specs.declared.own.Item.{Item}
 use Rattle.graph_core.specs.Order.{item_cmp}
 use Rattle.graph_core.specs.ItemGraph.{IsAt}
 use Rattle.graph_core.specs.Listed.{IsLastOf, ArePlaces}
-use Rattle.graph_core.specs.MemberLaws.{Contains-cons_cases, Contains-none}
+use Rattle.graph_core.specs.MemberLaws.{sorted_push}
 use Rattle.graph_core.specs.PlaceLaws.{changes_rise}
-use Rattle.graph_core.proofs.Listing.{sorted_append}
 
 less_is : (m n : ℕ) → m < n → nat_cmp m n ≡ Less
 less_is m n h = ap (λ b. cond b Less (cond (eqb m n) Equal Greater)) (lt-ltb m n h)
 
-single : (n : ℕ) → IsStrictlySortedBy nat_cmp (n ∷ [])
-unfolding IsStrictlySortedBy
-single n = (tt, tt)
-
 increasing_push : (xs : List ℕ) (n : ℕ) → IsStrictlyIncreasing xs → ((m : ℕ) → Contains xs m → m < n) → IsStrictlyIncreasing (xs ++ n ∷ [])
 increasing_push xs n rising above =
-    IsStrictlyIncreasing-from_sorted (xs ++ n ∷ []) (sorted_append nat_cmp xs (n ∷ []) (sorted_from_strictly_increasing xs rising) (single n)
-    (λ m k in_xs is_n. elim (Contains-cons_cases n [] k is_n) [
-      | inl same ↦ subst (λ l. nat_cmp m l ≡ Less) same (less_is m n (above m in_xs))
-      | inr none ↦ absurd (Contains-none k none)
-    ]))
+    IsStrictlyIncreasing-from_sorted (xs ++ n ∷ []) (sorted_push nat_cmp xs n (sorted_from_strictly_increasing xs rising) (λ m c. less_is m n (above m c)))
 
 -- what stands before a place of a rising list is less than what stands there
 pub taken_below : (xs : List ℕ) (i : ℕ) → IsStrictlyIncreasing xs → i < length xs → (m : ℕ) → Contains (take i xs) m → m < get_or xs i 0
@@ -99,13 +89,3 @@ module _ (items : List Item) (sorted : IsStrictlySortedBy item_cmp items) where
   places_more numbers places i place rising within are last =
       subst (λ l. ArePlaces items l (places ++ place ∷ [])) (sym (take_more numbers i 0 within))
       (ArePlaces-one (take i numbers) places (get_or numbers i 0) place are (taken_below numbers i rising within) last)
-
--- one row more
-all_zip_push : {X Y : Type 0} (R : X → Y → Type 0) (xs : List X) (ys : List Y) (x : X) (y : Y) → AllZip R xs ys → R x y → AllZip R (xs ++ x ∷ []) (ys ++ y ∷ [])
-all_zip_push R [] [] x y all r = (r, tt)
-all_zip_push R [] (b ∷ ys) x y all r = absurd all
-all_zip_push R (a ∷ xs) [] x y all r = absurd all
-all_zip_push R (a ∷ xs) (b ∷ ys) x y all r = (all.0, all_zip_push R xs ys x y all.1 r)
-
-pub all_zip_at : {X Y : Type 0} (R : X → Y → Type 0) (xs : List X) (ys : List Y) (i : ℕ) (d : X) (y : Y) → i < length xs → AllZip R (take i xs) ys → R (get_or xs i d) y → AllZip R (take (i + 1) xs) (ys ++ y ∷ [])
-all_zip_at R xs ys i d y within so_far r = subst (λ l. AllZip R l (ys ++ y ∷ [])) (sym (take_more xs i d within)) (all_zip_push R (take i xs) ys (get_or xs i d) y so_far r)

@@ -8,3 +8,4 @@ pub mod MemberLaws
 pub mod Kept
 pub mod ZipLaws
 pub mod WalkLaws
+pub mod EntryLaws

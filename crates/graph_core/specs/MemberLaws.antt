@@ -1,7 +1,11 @@
 -- Members of lists that are made of others.
 use Rattle.std.specs.Prelude.{◌≡◌, ◌<◌, ◌⊎◌, ℕ, Bool, true, false, cond, List, [], ◌∷◌, ◌++◌, map, flat_map, filter, length, Contains}
 use Rattle.std.proofs.Common.{zero, suc, refl, sym, ap, ◌∙◌, subst, arith, inl, inr}
-use Rattle.std.proofs.lemmas.List.Elements.{Contains-append_left, Contains-append_right, Contains-append_cases}
+use Rattle.std.specs.declared.cmp.Ordering.{Ordering}
+use Rattle.std.specs.declared.cmp.Ordering.TheVariants.{Less}
+use Rattle.std.specs.List.{All, AllByRecursion}
+use Rattle.std.specs.List.Sorted.{IsStrictlySortedBy}
+use Rattle.std.proofs.lemmas.List.Elements.{All-append, All-from_recursion, recursion_from_All, Contains-get_or, Contains-append_left, Contains-append_right, Contains-append_cases}
 
 pub Contains-cons_cases : {X : Type 0} (x : X) (xs : List X) (y : X) → Contains (x ∷ xs) y → (x ≡ y) ⊎ Contains xs y
 Contains-cons_cases x xs y (zero, less, e) = inl e
@@ -70,3 +74,25 @@ keeps_by false p y xs x e passed rest c = elim (Contains-cons_cases y xs x c) [
 pub Contains-to_filter : {X : Type 0} (p : X → Bool) (xs : List X) (x : X) → Contains xs x → p x ≡ true → Contains (filter p xs) x
 Contains-to_filter p [] x c passed = absurd (Contains-none x c)
 Contains-to_filter p (y ∷ ys) x c passed = keeps_by (p y) p y ys x refl passed (λ later. Contains-to_filter p ys x later passed) c
+
+-- lists in order, the members of the one before those of the other
+pub sorted_append : {X : Type 0} (cmp : X → X → Ordering) (xs ys : List X) → IsStrictlySortedBy cmp xs → IsStrictlySortedBy cmp ys → ((x y : X) → Contains xs x → Contains ys y → cmp x y ≡ Less) → IsStrictlySortedBy cmp (xs ++ ys)
+unfolding IsStrictlySortedBy
+sorted_append cmp [] ys sorted_xs sorted_ys across = sorted_ys
+sorted_append cmp (x ∷ xs) ys sorted_xs sorted_ys across = (
+  recursion_from_All (λ y. cmp x y ≡ Less) (xs ++ ys) (All-append (λ y. cmp x y ≡ Less) xs ys
+      (All-from_recursion (λ y. cmp x y ≡ Less) xs sorted_xs.0)
+      (λ k d h. across x _ (Contains-first x xs) (Contains-get_or ys k d h))),
+  sorted_append cmp xs ys sorted_xs.1 sorted_ys (λ z y in_xs in_ys. across z y (Contains-later x xs z in_xs) in_ys),
+)
+
+alone : {X : Type 0} (cmp : X → X → Ordering) (y : X) → IsStrictlySortedBy cmp (y ∷ [])
+unfolding IsStrictlySortedBy
+alone cmp y = (tt, tt)
+
+-- an element behind all of a list in order
+pub sorted_push : {X : Type 0} (cmp : X → X → Ordering) (xs : List X) (y : X) → IsStrictlySortedBy cmp xs → ((x : X) → Contains xs x → cmp x y ≡ Less) → IsStrictlySortedBy cmp (xs ++ y ∷ [])
+sorted_push cmp xs y sorted before = sorted_append cmp xs (y ∷ []) sorted (alone cmp y) (λ x z in_xs is_y. elim (Contains-cons_cases y [] z is_y) [
+  | inl same ↦ subst (λ w. cmp x w ≡ Less) same (before x in_xs)
+  | inr none ↦ absurd (Contains-none z none)
+])

@@ -1,7 +1,8 @@
 -- Lists that stand side by side, element by element.
-use Rattle.std.specs.Prelude.{◌≡◌, ◌<◌, ℕ, List, [], ◌∷◌, Some, None, map, length, slice_get, Contains, All}
+use Rattle.std.specs.Prelude.{◌≡◌, ◌<◌, ◌+◌, ℕ, List, [], ◌∷◌, ◌++◌, take, Some, None, map, length, slice_get, Contains, All}
 use Rattle.std.specs.List.{AllZip, AllByRecursion}
-use Rattle.std.proofs.Common.{zero, suc, refl, sym, ap, ◌∙◌, subst, arith}
+use Rattle.std.proofs.Common.{zero, suc, refl, sym, ap, ◌∙◌, subst, arith, get_or}
+use Rattle.std.proofs.lemmas.List.{take_more}
 use Rattle.std.proofs.lemmas.List.Elements.{All-from_recursion}
 
 pub length-AllZip : {X Y : Type 0} (R : X → Y → Type 0) (xs : List X) (ys : List Y) → AllZip R xs ys → length ys ≡ length xs
@@ -57,3 +58,13 @@ right_by_recursion R P (x ∷ xs) (y ∷ ys) gives all = (gives x y all.0, right
 
 pub All-AllZip : {X Y : Type 0} (R : X → Y → Type 0) (P : Y → Type 0) (xs : List X) (ys : List Y) → ((x : X) (y : Y) → R x y → P y) → AllZip R xs ys → All P ys
 All-AllZip R P xs ys gives all = All-from_recursion P ys (right_by_recursion R P xs ys gives all)
+
+-- one pair more
+AllZip-push : {X Y : Type 0} (R : X → Y → Type 0) (xs : List X) (ys : List Y) (x : X) (y : Y) → AllZip R xs ys → R x y → AllZip R (xs ++ x ∷ []) (ys ++ y ∷ [])
+AllZip-push R [] [] x y all r = (r, tt)
+AllZip-push R [] (b ∷ ys) x y all r = absurd all
+AllZip-push R (a ∷ xs) [] x y all r = absurd all
+AllZip-push R (a ∷ xs) (b ∷ ys) x y all r = (all.0, AllZip-push R xs ys x y all.1 r)
+
+pub AllZip-more : {X Y : Type 0} (R : X → Y → Type 0) (xs : List X) (ys : List Y) (i : ℕ) (d : X) (y : Y) → i < length xs → AllZip R (take i xs) ys → R (get_or xs i d) y → AllZip R (take (i + 1) xs) (ys ++ y ∷ [])
+AllZip-more R xs ys i d y within so_far r = subst (λ l. AllZip R l (ys ++ y ∷ [])) (sym (take_more xs i d within)) (AllZip-push R (take i xs) ys (get_or xs i d) y so_far r)

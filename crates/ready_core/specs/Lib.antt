@@ -1,3 +1,4 @@
 pub mod Closed
 pub mod Refusals
 pub mod Verdicts
+pub mod Causes

@@ -22,13 +22,17 @@ IsFree gate state item = IsOwn gate state item None
 abbrev pub IsOffCycles : GateRules → State → Item → Type 0
 IsOffCycles gate state item = gate.cycles ≡ false → ¬ IsOnCycle (IsDependency gate state) item
 
+-- the item is on a cycle, and none is allowed
+abbrev pub IsOnBarredCycle : GateRules → State → Item → Type 0
+IsOnBarredCycle gate state item = (gate.cycles ≡ false) × IsOnCycle (IsDependency gate state) item
+
 -- the item waits for a change of which no patch set is known
 pub record IsUnknownTarget (gate : GateRules) (state : State) (item : Item) (number : ℕ) : Type 0 where
   pub target : IsTarget gate state item number
   pub unknown : ¬ IsKnown state number
 
 pub record IsEligible (gate : GateRules) (state : State) (item : Item) : Type 0 where
-  pub item : IsItem state item
+  pub there : IsItem state item
   pub own : IsFree gate state item
   pub off : IsOffCycles gate state item
   pub known : (number : ℕ) → ¬ IsUnknownTarget gate state item number
@@ -65,7 +69,7 @@ pub record IsLeastNearest (gate : GateRules) (state : State) (item : Item) (numb
 -- why an item is left out, the first of four causes that holds, and its rank
 abbrev pub IsRefused : GateRules → State → Item → Refusal → ℕ → Type 0
 IsRefused gate state item (Own condition) rank = IsOwn gate state item (Some condition) × (rank ≡ 0)
-IsRefused gate state item Cycle rank = IsFree gate state item × (gate.cycles ≡ false) × IsOnCycle (IsDependency gate state) item × (rank ≡ 0)
+IsRefused gate state item Cycle rank = IsFree gate state item × IsOnBarredCycle gate state item × (rank ≡ 0)
 IsRefused gate state item (Unknown number) rank =
     IsFree gate state item × IsOffCycles gate state item × IsLeastUnknown gate state item number × (rank ≡ 0)
 IsRefused gate state item (Dependency number) rank = IsEligible gate state item × IsLeastNearest gate state item number rank

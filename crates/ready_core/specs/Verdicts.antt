@@ -1,12 +1,16 @@
 -- What evaluating a state under a gate gives.
 use Rattle.std.specs.Prelude.{◌≡◌, ◌↔◌, ◌⊎◌, ℕ, List, Contains, map}
+use Rattle.std.proofs.Common.{suc}
 use Rattle.std.specs.List.Sorted.{IsStrictlySortedBy}
 use Rattle.gate_rules.specs.Rules.{GateRules}
 use Rattle.gate_rules.specs.Items.{IsItem}
 use Rattle.gate_rules.specs.declared.own.Item.{Item}
 use Rattle.replica_core.specs.State.{State}
 use Rattle.graph_core.specs.Order.{item_cmp}
+use Rattle.graph_core.specs.Dependencies.{IsCurrentItem}
 use Rattle.ready_core.specs.declared.verdicts.Left.{Left}
+use Rattle.ready_core.specs.declared.verdicts.Refusal.{Refusal}
+use Rattle.ready_core.specs.declared.verdicts.Refusal.TheVariants.{Own, Cycle, Unknown, Dependency}
 use Rattle.ready_core.specs.Refusals.{IsReady, IsRefused}
 
 -- the items that are ready, and those left out, each with its refusal
@@ -25,3 +29,21 @@ pub record AreVerdicts (gate : GateRules) (state : State) (verdicts : Judged) : 
   pub refused : (left : Left) → Contains verdicts.out left → IsRefused gate state left.item left.refusal left.rank
   pub ready_in_order : IsStrictlySortedBy item_cmp verdicts.ready
   pub out_in_order : IsStrictlySortedBy item_cmp (items_out verdicts.out)
+
+-- the change's current item is left out with this rank
+pub record IsLeftAt (state : State) (verdicts : Judged) (number rest : ℕ) : Type 0 where
+  pub next : Left
+  pub out : Contains verdicts.out next
+  pub current : IsCurrentItem state next.item
+  pub of : next.item.change ≡ number
+  pub rank : next.rank ≡ rest
+
+-- where the item is left out for a dependency, that is left out with the rank below
+abbrev pub LeadsFrom : State → Judged → Refusal → ℕ → Type 0
+LeadsFrom state verdicts (Own condition) rank = rank ≡ 0
+LeadsFrom state verdicts Cycle rank = rank ≡ 0
+LeadsFrom state verdicts (Unknown number) rank = rank ≡ 0
+LeadsFrom state verdicts (Dependency number) rank = (rest : ℕ) × (rank ≡ suc rest) × IsLeftAt state verdicts number rest
+
+abbrev pub LeadsOn : State → Judged → Left → Type 0
+LeadsOn state verdicts left = LeadsFrom state verdicts left.refusal left.rank

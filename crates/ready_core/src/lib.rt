@@ -13,10 +13,15 @@
 #![tactic(auto)]
 
 mod causes;
-mod evaluate;
+mod judge;
+mod laws;
 #[cfg(test)]
 mod tests;
 mod verdicts;
 
-pub use evaluate::evaluate;
+pub use judge::evaluate;
+pub use laws::{
+    closed_sets_are_safe, dependencies_lead_to_a_cause, ready_items_are_the_greatest_closed_set,
+    safe_nodes_are_closed, verdicts_are_unique,
+};
 pub use verdicts::{Left, Refusal, Verdicts};

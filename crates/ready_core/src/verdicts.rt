@@ -33,18 +33,32 @@ pub struct Verdicts {
     out: Vec<Left>,
 }
 
+impl Model for Verdicts {
+    ghost use Rattle.ready_core.specs.Verdicts.{Judged};
+
+    ghost Value = { Judged };
+
+    ghost view = { λ verdicts. record { ready = verdicts.ready.items; out = verdicts.out.items } };
+}
+
 impl Verdicts {
-    pub(crate) fn new(ready: Vec<Item>, out: Vec<Left>) -> Verdicts {
+    pub(crate) fn new(ready: Vec<Item>, out: Vec<Left>) -> Verdicts
+        ensures { result ≡ record { ready = ready.items; out = out.items } }
+    {
         Verdicts { ready, out }
     }
 
     /// The items that are ready, in order. Takes no memory, as `out`.
-    pub fn ready(&self) -> &[Item] {
+    pub fn ready(&self) -> &[Item]
+        ensures { result.now ≡ self.now.ready }
+    {
         self.ready.as_slice()
     }
 
     /// The other items, in order, each with its refusal and its rank.
-    pub fn out(&self) -> &[Left] {
+    pub fn out(&self) -> &[Left]
+        ensures { result.now ≡ self.now.out }
+    {
         self.out.as_slice()
     }
 }

@@ -1,0 +1,87 @@
+-- The entries of finite maps, and what the maps have at their keys; a change with a known patch set has a greatest one.
+use Rattle.std.specs.Prelude.{◌≡◌, ◌<◌, ◌≤◌, ◌⊎◌, ℕ, List, [], ◌∷◌, Option, Some, None, IsSome, Contains}
+use Rattle.std.specs.Ordering.{nat_cmp}
+use Rattle.std.specs.FinMap.{FinMap, get, entries}
+use Rattle.std.proofs.Common.{refl, subst, arith, inl, inr}
+use Rattle.std.proofs.lemmas.Bool.{cases_lt}
+use Rattle.std.proofs.lemmas.List.Elements.{All-contains, All-from_recursion, recursion_from_All, Contains-get_or}
+use Rattle.lattice_core.specs.Keep.{numbers_exact}
+use Rattle.lattice_core.specs.JoinMap.{AllByRecursion-entries}
+use Rattle.change_core.specs.Change.{Change}
+use Rattle.change_core.specs.Views.{IsKnownSet, IsGreatestKnown}
+use Rattle.graph_core.specs.MemberLaws.{Contains-cons_cases, Contains-first, Contains-later, Contains-none}
+
+module _ {X : Type 0} (m : FinMap nat_cmp X) (key : ℕ) (value : X) where
+  pub get-entry : Contains (entries m) (key, value) → get m key ≡ Some value
+  get-entry c =
+      All-contains (λ e. get m e.0 ≡ Some e.1) (entries m) (key, value)
+      (All-from_recursion (λ e. get m e.0 ≡ Some e.1) (entries m) ((AllByRecursion-entries numbers_exact (λ q v. get m q ≡ Some v) m).0 (λ q v found. found))) c
+
+  pub entry-get : get m key ≡ Some value → Contains (entries m) (key, value)
+  entry-get found =
+      (AllByRecursion-entries numbers_exact (λ q v. Contains (entries m) (q, v)) m).1
+      (recursion_from_All (λ e. Contains (entries m) (e.0, e.1)) (entries m) (λ k d less. Contains-get_or (entries m) k d less)) key value found
+
+pub some_of : {X : Type 0} (o : Option X) → IsSome o → (x : X) × (o ≡ Some x)
+some_of None is = cc
+some_of (Some x) is = (x, refl)
+
+pub is_some_of : {X : Type 0} (o : Option X) (x : X) → o ≡ Some x → IsSome o
+is_some_of None x e = cc
+is_some_of (Some y) x e = refl
+
+-- ---- the greatest key
+record IsGreatestOf {X : Type 0} (es : List (ℕ × X)) (e : ℕ × X) : Type 0 where
+  has : Contains es e
+  greatest : (f : ℕ × X) → Contains es f → f.0 ≤ e.0
+
+one_alone : {X : Type 0} (e : ℕ × X) → IsGreatestOf (e ∷ []) e
+one_alone e = record {
+  has = Contains-first e [];
+  greatest = λ f c. elim (Contains-cons_cases e [] f c) [ inl same ↦ subst (λ g. g.0 ≤ e.0) same (omega arith) | inr none ↦ absurd (Contains-none f none) ];
+}
+
+greatest_entry : {X : Type 0} (e : ℕ × X) (es : List (ℕ × X)) → (g : ℕ × X) × IsGreatestOf (e ∷ es) g
+greatest_entry e [] = (e, one_alone e)
+greatest_entry e (f ∷ fs) =
+    let rest = greatest_entry f fs in
+    elim (cases_lt e.0 rest.0.0) [
+      | inl less ↦ (
+        rest.0,
+        record {
+          has = Contains-later e (f ∷ fs) rest.0 rest.1.has;
+          greatest = λ h c. elim (Contains-cons_cases e (f ∷ fs) h c) [
+            | inl same ↦ subst (λ g. g.0 ≤ rest.0.0) same (omega (arith, less))
+            | inr later ↦ rest.1.greatest h later
+          ];
+        },
+      )
+      | inr not_less ↦ (
+        e,
+        record {
+          has = Contains-first e (f ∷ fs);
+          greatest = λ h c. elim (Contains-cons_cases e (f ∷ fs) h c) [
+            | inl same ↦ subst (λ g. g.0 ≤ e.0) same (omega arith)
+            | inr later ↦ let below = rest.1.greatest h later in omega (arith, below, not_less)
+          ];
+        },
+      )
+    ]
+
+greatest_of_some : {X : Type 0} (es : List (ℕ × X)) (e : ℕ × X) → Contains es e → (g : ℕ × X) × IsGreatestOf es g
+greatest_of_some [] e c = absurd (Contains-none e c)
+greatest_of_some (f ∷ fs) e c = greatest_entry f fs
+
+-- a change with a known patch set has a greatest one
+pub greatest_known : (change : Change) (set : ℕ) → IsKnownSet change set → (current : ℕ) × IsGreatestKnown change current
+greatest_known change set known =
+    let patch = some_of (get change.sets set) known in
+    let found = greatest_of_some (entries change.sets) (set, patch.0) (entry-get change.sets set patch.0 patch.1) in (
+      found.0.0,
+      record {
+        known = is_some_of (get change.sets found.0.0) found.0.1 (get-entry change.sets found.0.0 found.0.1 found.1.has);
+        greatest = λ other is.
+            let its = some_of (get change.sets other) is in
+            found.1.greatest (other, its.0) (entry-get change.sets other its.0 its.1);
+      },
+    )

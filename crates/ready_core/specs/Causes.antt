@@ -1,0 +1,76 @@
+-- What the search for verdicts knows of the items in turn.
+use Rattle.std.specs.Prelude.{◌≡◌, ◌≢◌, ◌<◌, ◌≤◌, ◌↔◌, ℕ, Bool, List, Option, None, Some, map, is_some, length, slice_get, Contains}
+use Rattle.std.specs.List.{AllZip}
+use Rattle.std.specs.List.Sorted.{IsStrictlySortedBy}
+use Rattle.walk_core.specs.Digraphs.{AreDistances, IsWithin}
+use Rattle.gate_rules.specs.Rules.{GateRules}
+use Rattle.gate_rules.specs.declared.own.Item.{Item}
+use Rattle.replica_core.specs.State.{State}
+use Rattle.graph_core.specs.Order.{item_cmp}
+use Rattle.graph_core.specs.Dependencies.{IsDependency, IsKnown}
+use Rattle.graph_core.specs.ItemGraph.{ItemGraph, IsAt, IsGraphOf}
+use Rattle.ready_core.specs.declared.verdicts.Refusal.{Refusal}
+use Rattle.ready_core.specs.declared.verdicts.Left.{Left}
+use Rattle.ready_core.specs.Closed.{IsSafe}
+use Rattle.ready_core.specs.Refusals.{IsEligible, IsRefused}
+use Rattle.ready_core.specs.Verdicts.{items_out}
+
+-- the least of the changes of which no patch set is known
+pub record IsFirstUnknown (state : State) (numbers : List ℕ) (number : ℕ) : Type 0 where
+  pub has : Contains numbers number
+  pub unknown : ¬ IsKnown state number
+  pub least : (other : ℕ) → Contains numbers other → ¬ IsKnown state other → number ≤ other
+
+-- why the item isn't eligible, or none where it is
+abbrev pub IsCauseOf : GateRules → State → Item → Option Refusal → Type 0
+IsCauseOf gate state item None = IsEligible gate state item
+IsCauseOf gate state item (Some refusal) = IsRefused gate state item refusal 0
+
+abbrev pub AreCauses : GateRules → State → List Item → List (Option Refusal) → Type 0
+AreCauses gate state items causes = AllZip (IsCauseOf gate state) items causes
+
+abbrev pub flags_of : List (Option Refusal) → List Bool
+flags_of causes = map is_some causes
+
+-- how far each place is from one with a cause
+abbrev pub AreRanks : List (List ℕ) → List (Option Refusal) → List (Option ℕ) → Type 0
+AreRanks ends causes ranks = AreDistances ends (flags_of causes) ranks
+
+abbrev pub HasRank : List (Option ℕ) → ℕ → ℕ → Type 0
+HasRank ranks place rank = slice_get ranks place ≡ Some (Some rank)
+
+-- what was searched of a graph: why each of its items isn't eligible, and how far each is from one that isn't
+pub record AreSearched (graph : ItemGraph) (causes : List (Option Refusal)) (ranks : List (Option ℕ)) : Type 0 where
+  pub causes_of_all : length causes ≡ length graph.items
+  pub nodes : length graph.ends ≡ length graph.items
+  pub within : IsWithin graph.ends
+  pub distances : AreRanks graph.ends causes ranks
+
+-- the first of the places with a rank
+pub record IsNearest (ranks : List (Option ℕ)) (places : List ℕ) (wanted place : ℕ) : Type 0 where
+  pub index : ℕ
+  pub here : slice_get places index ≡ Some place
+  pub rank : HasRank ranks place wanted
+  pub first : (earlier other : ℕ) → earlier < index → slice_get places earlier ≡ Some other → ¬ HasRank ranks other wanted
+
+-- the item stands at one of the first places
+pub record StandsBefore (items : List Item) (count : ℕ) (item : Item) : Type 0 where
+  pub place : ℕ
+  pub before : place < count
+  pub here : IsAt items place item
+
+abbrev pub IsSafeItem : GateRules → State → Item → Type 0
+IsSafeItem gate state = IsSafe (IsDependency gate state) (IsEligible gate state)
+
+-- the verdicts on the items at the first places
+pub record AreJudged (gate : GateRules) (state : State) (items : List Item) (count : ℕ) (safe : List Item) (left_out : List Left) : Type 0 where
+  pub ready : (item : Item) → Contains safe item ↔ (StandsBefore items count item × IsSafeItem gate state item)
+  pub out : (item : Item) → Contains (items_out left_out) item ↔ (StandsBefore items count item × ¬ IsSafeItem gate state item)
+  pub refused : (left : Left) → Contains left_out left → IsRefused gate state left.item left.refusal left.rank
+  pub ready_in_order : IsStrictlySortedBy item_cmp safe
+  pub out_in_order : IsStrictlySortedBy item_cmp (items_out left_out)
+
+-- the same, of whatever gate and state the graph and the causes are of
+abbrev pub AreJudgedBy : ItemGraph → List (Option Refusal) → ℕ → List Item → List Left → Type 0
+AreJudgedBy graph causes count ready out =
+    (gate : GateRules) (state : State) → IsGraphOf gate state graph → AreCauses gate state graph.items causes → AreJudged gate state graph.items count ready out

@@ -1,0 +1,112 @@
+ghost use Rattle.std.specs.Prelude.{◌≡◌, ◌<◌, ◌↔◌, ℕ, IsTrue, IfOk, MatchOption, All, Contains, length};
+ghost use Rattle.replica_core.specs.State.{State, state_of};
+ghost use Rattle.walk_core.specs.Digraphs.{ends_of};
+ghost use Rattle.gate_rules.specs.Rules.{GateRules};
+ghost use Rattle.gate_rules.specs.declared.own.Item.{Item};
+ghost use Rattle.graph_core.specs.ItemGraph.{IsAt, IsGraphOf};
+ghost use Rattle.ready_core.specs.Refusals.{IsRefused};
+ghost use Rattle.ready_core.specs.Verdicts.{AreVerdicts};
+ghost use Rattle.ready_core.specs.Causes.{AreCauses, AreJudgedBy, AreSearched, HasRank, IsNearest};
+
+use super::causes::{all_causes, flags_of};
+use super::verdicts::{Left, Refusal, Verdicts};
+use gate_rules::{Gate, Item};
+use graph_core::Graph;
+use lattice_core::NoMemory;
+use replica_core::Replica;
+use std::alloc::Global;
+
+/// Which items of a replica are ready under a gate, and why each other one isn't. It costs the bytes of the messages, the votes on each change
+/// times its patch sets and the gate's patterns, and time and memory that grow with the items and what they wait for, but for a logarithm.
+pub fn evaluate(alloc: Global, replica: &Replica, gate: &Gate) -> Result<Verdicts, NoMemory>
+    ensures { IfOk result (AreVerdicts gate.now (state_of replica.now)) }
+{
+    let graph = Graph::build(alloc, replica, gate)?;
+    let causes = all_causes(alloc, replica, gate, &graph)?;
+    let ineligible = flags_of(alloc, causes.as_slice())?;
+    let ranks = graph.digraph().distances(ineligible.as_slice())?;
+    judged(alloc, &graph, causes.as_slice(), ranks.as_slice())
+}
+
+/// The verdicts, by why each item isn't eligible and how far it is from one that isn't.
+fn judged(
+    alloc: Global,
+    graph: &Graph,
+    causes: &[Option<Refusal>],
+    ranks: &[Option<usize>],
+) -> Result<Verdicts, NoMemory>
+    requires { AreSearched graph.now causes.now ranks.now }
+    ensures { IfOk result (λ verdicts. AreJudgedBy graph.now causes.now (length graph.now.items) verdicts.ready verdicts.out) }
+{
+    let items = graph.items();
+    let mut ready = Vec::new(alloc);
+    let mut out = Vec::new(alloc);
+    for place in 0..items.len() {
+        let Some(rank) = ranks[place] else {
+            ready.push(items[place])?;
+            continue;
+        };
+        let refusal = refusal_of(graph, causes, ranks, place, rank);
+        out.push(Left {
+            item: items[place],
+            refusal,
+            rank,
+        })?;
+    }
+    Ok(Verdicts::new(ready, out))
+}
+
+/// Why the item at a place, so far from one that isn't eligible, is left out.
+fn refusal_of(
+    graph: &Graph,
+    causes: &[Option<Refusal>],
+    ranks: &[Option<usize>],
+    place: usize,
+    rank: usize,
+) -> Refusal
+    requires searched { AreSearched graph.now causes.now ranks.now }
+    requires rank { HasRank ranks.now place rank }
+    requires place { place < length graph.now.items }
+    ensures { (gate : GateRules) (state : State) (item : Item) → IsGraphOf gate state graph.now
+        → AreCauses gate state graph.now.items causes.now → IsAt graph.now.items place item
+        → IsRefused gate state item result rank }
+{
+    if let Some(refusal) = causes[place] {
+        return refusal;
+    }
+    let end = nearest(graph.digraph().ends(place), ranks, rank - 1).unwrap();
+    Refusal::Dependency(change_at(graph.items(), end))
+}
+
+/// The change of the item at a place.
+fn change_at(items: &[Item], place: usize) -> u32
+    requires { place < length items.now }
+    ensures { (item : Item) → IsAt items.now place item → result ≡ item.change }
+{
+    items[place].change
+}
+
+/// The first of some places that has a rank.
+fn nearest(places: &[usize], ranks: &[Option<usize>], wanted: usize) -> Option<usize>
+    requires { All (λ place. place < length ranks.now) places.now }
+    ensures { MatchOption result ((place : ℕ) → Contains places.now place → ¬ HasRank ranks.now place wanted)
+        (IsNearest ranks.now places.now wanted) }
+{
+    for place in places {
+        if has_rank(ranks, *place, wanted) {
+            return Some(*place);
+        }
+    }
+    None
+}
+
+/// Whether a place has a rank.
+fn has_rank(ranks: &[Option<usize>], place: usize, wanted: usize) -> bool
+    requires { place < length ranks.now }
+    ensures { IsTrue result ↔ HasRank ranks.now place wanted }
+{
+    match ranks[place] {
+        Some(rank) => rank == wanted,
+        None => false,
+    }
+}
