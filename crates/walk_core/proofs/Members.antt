@@ -56,7 +56,7 @@ module _ (graph : List (List ℕ)) (node : ℕ) (start : List Place) (settled : 
             let found = (forth.moved x (connected_found x c)).is in
             elim (released.each x) [
               | inl same ↦ same ∙ found
-              | inr freed ↦ let no_place : OnCycle ≡ Behind = sym found ∙ freed.0 in cc
+              | inr freed ↦ let no_place : OnCycle ≡ Behind = sym found ∙ freed.was in cc
             ]
 
         released_waits : (x : ℕ) → Contains behind x → place_of forth_places x ≡ place_of back_places x → place_of end x ≡ place_of start x
@@ -64,13 +64,13 @@ module _ (graph : List (List ℕ)) (node : ℕ) (start : List Place) (settled : 
             let found = back.moved x here in
             elim (released.each x) [
               | inl kept ↦ absurd (released.all x here (kept ∙ same ∙ found.is))
-              | inr freed ↦ freed.1 ∙ sym found.was
+              | inr freed ↦ freed.is ∙ sym found.was
             ]
 
         kept_stays : (x : ℕ) → place_of back_places x ≡ place_of start x → place_of forth_places x ≡ place_of back_places x → place_of end x ≡ place_of start x
         kept_stays x first next = elim (released.each x) [
           | inl kept ↦ kept ∙ next ∙ first
-          | inr freed ↦ absurd (settled.sure x (sym first ∙ sym next ∙ freed.0))
+          | inr freed ↦ absurd (settled.sure x (sym first ∙ sym next ∙ freed.was))
         ]
 
         each_member : (x : ℕ) → (place_of end x ≡ place_of start x) ⊎ IsMember graph node start end x

@@ -52,10 +52,16 @@ pub record HasSpread (E : ℕ → ℕ → Type 0) (sought found : Place) (start 
   pub moved : (x : ℕ) → Contains nodes x → IsFound E sought found start before after x
   pub closed : (x y : ℕ) → ((x ≡ start) ⊎ Contains nodes x) → E x y → place_of after y ≢ sought
 
--- of these nodes those wait again that were behind, and nothing else changed
+-- a node of these that was behind waits again
+pub record IsReleased (nodes : List ℕ) (before after : List Place) (x : ℕ) : Type 0 where
+  pub listed : Contains nodes x
+  pub was : place_of before x ≡ Behind
+  pub is : place_of after x ≡ Waiting
+
+-- of these nodes all that were behind wait again, and nothing else changed
 pub record AreReleased (nodes : List ℕ) (before after : List Place) : Type 0 where
   pub size : length after ≡ length before
-  pub each : (x : ℕ) → (place_of after x ≡ place_of before x) ⊎ ((place_of before x ≡ Behind) × (place_of after x ≡ Waiting))
+  pub each : (x : ℕ) → (place_of after x ≡ place_of before x) ⊎ IsReleased nodes before after x
   pub all : (x : ℕ) → Contains nodes x → place_of after x ≢ Behind
 
 -- ---- a component
