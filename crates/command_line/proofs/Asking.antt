@@ -8,7 +8,7 @@ use Rattle.clap.specs.declared.error.kind.ErrorKind.TheVariants.{DisplayHelp, Di
 use Rattle.clap.specs.declared.parser.matches.Found.{Found}
 use Rattle.clap.proofs.WalkLemmas.{first_value-rows}
 use Rattle.command_line.specs.declared.asked.Asked.{Asked}
-use Rattle.command_line.specs.declared.asked.Asked.TheVariants.{Simulate, Merge, Footers, Help, Usage, NoMemory}
+use Rattle.command_line.specs.declared.asked.Asked.TheVariants.{Simulate, Ready, Merge, Footers, Help, Usage, NoMemory}
 use Rattle.command_line.specs.Asking.{AsksHelp, Gives, GivesChange, IsAsked, IsAskedBy, IsCommand, IsFaulty, IsNoCommand, IsRefused, Matched, WritesNumber}
 use Rattle.command_line.specs.Commands.{program}
 
@@ -31,7 +31,8 @@ not_given : (rows other : List Row) (id value : List ℕ) → rows ≡ other →
 not_given rows other id value same none given = let bad : None ≡ Some value = sym none ∙ ap (first_of id) same ∙ given in cc
 
 pub no_simulate : (rows : List Row) → first_of (codes "SCRIPT") rows ≡ None → IsNoCommand (Some (codes "simulate", rows))
-no_simulate rows none (Simulate script) (other, is, given) = not_given rows other (codes "SCRIPT") script.now (ap rows_in is) none given
+no_simulate rows none (Simulate script gate) (other, is, given, under) = not_given rows other (codes "SCRIPT") script.now (ap rows_in is) none given
+no_simulate rows none (Ready gate snapshot) (other, is, one, two) = let bad : 115 ≡ 114 = ap name_byte is in absurd (omega (arith, bad))
 no_simulate rows none (Merge first second) (other, is, one, two) = let bad : 115 ≡ 109 = ap name_byte is in absurd (omega (arith, bad))
 no_simulate rows none (Footers gate message change) (other, is, one, two, of) = let bad : 115 ≡ 102 = ap name_byte is in absurd (omega (arith, bad))
 no_simulate rows none (Help text) not = not
@@ -39,7 +40,8 @@ no_simulate rows none (Usage text) not = not
 no_simulate rows none NoMemory not = not
 
 pub no_merge : (rows : List Row) → (first_of (codes "FIRST") rows ≡ None) ⊎ (first_of (codes "SECOND") rows ≡ None) → IsNoCommand (Some (codes "merge", rows))
-no_merge rows none (Simulate script) (other, is, given) = let bad : 109 ≡ 115 = ap name_byte is in absurd (omega (arith, bad))
+no_merge rows none (Simulate script gate) (other, is, given, under) = let bad : 109 ≡ 115 = ap name_byte is in absurd (omega (arith, bad))
+no_merge rows none (Ready gate snapshot) (other, is, one, two) = let bad : 109 ≡ 114 = ap name_byte is in absurd (omega (arith, bad))
 no_merge rows (inl none) (Merge first second) (other, is, one, two) = not_given rows other (codes "FIRST") first.now (ap rows_in is) none one
 no_merge rows (inr none) (Merge first second) (other, is, one, two) = not_given rows other (codes "SECOND") second.now (ap rows_in is) none two
 no_merge rows none (Footers gate message change) (other, is, one, two, of) = let bad : 109 ≡ 102 = ap name_byte is in absurd (omega (arith, bad))
@@ -47,11 +49,22 @@ no_merge rows none (Help text) not = not
 no_merge rows none (Usage text) not = not
 no_merge rows none NoMemory not = not
 
+pub no_ready : (rows : List Row) → (first_of (codes "GATE") rows ≡ None) ⊎ (first_of (codes "SNAPSHOT") rows ≡ None) → IsNoCommand (Some (codes "ready", rows))
+no_ready rows none (Simulate script gate) (other, is, given, under) = let bad : 114 ≡ 115 = ap name_byte is in absurd (omega (arith, bad))
+no_ready rows (inl none) (Ready gate snapshot) (other, is, one, two) = not_given rows other (codes "GATE") gate.now (ap rows_in is) none one
+no_ready rows (inr none) (Ready gate snapshot) (other, is, one, two) = not_given rows other (codes "SNAPSHOT") snapshot.now (ap rows_in is) none two
+no_ready rows none (Merge first second) (other, is, one, two) = let bad : 114 ≡ 109 = ap name_byte is in absurd (omega (arith, bad))
+no_ready rows none (Footers gate message change) (other, is, one, two, of) = let bad : 114 ≡ 102 = ap name_byte is in absurd (omega (arith, bad))
+no_ready rows none (Help text) not = not
+no_ready rows none (Usage text) not = not
+no_ready rows none NoMemory not = not
+
 abbrev pub LacksFooters : List Row → Type 0
 LacksFooters rows = (first_of (codes "GATE") rows ≡ None) ⊎ ((first_of (codes "FILE") rows ≡ None) ⊎ ((change : ℕ) → ¬ GivesChange rows change))
 
 pub no_footers : (rows : List Row) → LacksFooters rows → IsNoCommand (Some (codes "footers", rows))
-no_footers rows lacks (Simulate script) (other, is, given) = let bad : 102 ≡ 115 = ap name_byte is in absurd (omega (arith, bad))
+no_footers rows lacks (Simulate script gate) (other, is, given, under) = let bad : 102 ≡ 115 = ap name_byte is in absurd (omega (arith, bad))
+no_footers rows lacks (Ready gate snapshot) (other, is, one, two) = let bad : 102 ≡ 114 = ap name_byte is in absurd (omega (arith, bad))
 no_footers rows lacks (Merge first second) (other, is, one, two) = let bad : 102 ≡ 109 = ap name_byte is in absurd (omega (arith, bad))
 no_footers rows (inl none) (Footers gate message change) (other, is, one, two, of) = not_given rows other (codes "GATE") gate.now (ap rows_in is) none one
 no_footers rows (inr (inl none)) (Footers gate message change) (other, is, one, two, of) = not_given rows other (codes "FILE") message.now (ap rows_in is) none two
@@ -83,7 +96,8 @@ change_unread rows text (Err fault) result given parses is = rw is (λ change gi
 -- ---- what the words ask for, by what was matched or by clap's fault
 
 pub asked_matched : (words : List Text) (matched : Matched) (asked : Asked) → matched ≡ subcommand_of program words → IsAskedBy matched asked → IsAsked words asked
-asked_matched words matched (Simulate script) same by = subst (λ m. IsCommand m (Simulate script)) same by
+asked_matched words matched (Simulate script gate) same by = subst (λ m. IsCommand m (Simulate script gate)) same by
+asked_matched words matched (Ready gate snapshot) same by = subst (λ m. IsCommand m (Ready gate snapshot)) same by
 asked_matched words matched (Merge first second) same by = subst (λ m. IsCommand m (Merge first second)) same by
 asked_matched words matched (Footers gate message change) same by = subst (λ m. IsCommand m (Footers gate message change)) same by
 asked_matched words matched (Help text) same by = absurd by
@@ -100,7 +114,8 @@ is_faulty words kind (inl memory) not = absurd (not.0 memory)
 is_faulty words kind (inr among) not = (kind, among, not.1, not.2)
 
 pub asked_refused : (words : List Text) (kind : ErrorKind) (asked : Asked) → (kind ≡ OutOfMemory) ⊎ IsAmong kind (fault_of program words) → IsRefused kind asked → IsAsked words asked
-asked_refused words kind (Simulate script) has refused = absurd refused
+asked_refused words kind (Simulate script gate) has refused = absurd refused
+asked_refused words kind (Ready gate snapshot) has refused = absurd refused
 asked_refused words kind (Merge first second) has refused = absurd refused
 asked_refused words kind (Footers gate message change) has refused = absurd refused
 asked_refused words kind (Help text) has refused = asks_help words kind has refused

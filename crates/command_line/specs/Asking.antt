@@ -1,12 +1,12 @@
 -- What the words of a command line ask for. Which command words name, what they give its arguments, and what is wrong with them is clap's
 -- (docs.rs/clap), over the program's commands.
-use Rattle.std.specs.Prelude.{◌≡◌, ◌≢◌, ◌⊎◌, ◌<◌, ◌^◌, ℕ, List, MatchOption, Option, Some, codes}
+use Rattle.std.specs.Prelude.{◌≡◌, ◌≢◌, ◌⊎◌, ◌<◌, ◌^◌, ℕ, List, MatchOption, Option, Some, codes, option_map}
 use Rattle.std.specs.Str.Parse.{IsNumeral, digits_value, without_leading_plus}
 use Rattle.clap.specs.Words.{Row, Text, first_of, subcommand_of, fault_of, IsAmong}
 use Rattle.clap.specs.declared.error.kind.ErrorKind.{ErrorKind}
 use Rattle.clap.specs.declared.error.kind.ErrorKind.TheVariants.{DisplayHelp, DisplayVersion, OutOfMemory}
 use Rattle.command_line.specs.declared.asked.Asked.{Asked}
-use Rattle.command_line.specs.declared.asked.Asked.TheVariants.{Simulate, Merge, Footers, Help, Usage, NoMemory}
+use Rattle.command_line.specs.declared.asked.Asked.TheVariants.{Simulate, Ready, Merge, Footers, Help, Usage, NoMemory}
 use Rattle.command_line.specs.Commands.{program}
 
 -- what clap matched: the command that the words name, if they name one, and the values of its arguments
@@ -29,7 +29,10 @@ GivesChange rows change = MatchOption (first_of (codes "change") rows) (change �
 
 -- what was matched is a command, with all that it needs
 abbrev pub IsCommand : Matched → Asked → Type 0
-IsCommand matched (Simulate script) = (rows : List Row) × (matched ≡ Some (codes "simulate", rows)) × Gives rows (codes "SCRIPT") script.now
+IsCommand matched (Simulate script gate) =
+    (rows : List Row) × (matched ≡ Some (codes "simulate", rows)) × Gives rows (codes "SCRIPT") script.now × (first_of (codes "GATE") rows ≡ option_map (λ name. name.now) gate)
+IsCommand matched (Ready gate snapshot) =
+    (rows : List Row) × (matched ≡ Some (codes "ready", rows)) × Gives rows (codes "GATE") gate.now × Gives rows (codes "SNAPSHOT") snapshot.now
 IsCommand matched (Merge first second) =
     (rows : List Row) × (matched ≡ Some (codes "merge", rows)) × Gives rows (codes "FIRST") first.now × Gives rows (codes "SECOND") second.now
 IsCommand matched (Footers gate message change) =
@@ -52,7 +55,8 @@ IsNoCommand matched = (asked : Asked) → ¬ IsCommand matched asked
 
 -- this is what the words ask for; memory may be refused at any words
 abbrev pub IsAsked : List Text → Asked → Type 0
-IsAsked words (Simulate script) = IsCommand (subcommand_of program words) (Simulate script)
+IsAsked words (Simulate script gate) = IsCommand (subcommand_of program words) (Simulate script gate)
+IsAsked words (Ready gate snapshot) = IsCommand (subcommand_of program words) (Ready gate snapshot)
 IsAsked words (Merge first second) = IsCommand (subcommand_of program words) (Merge first second)
 IsAsked words (Footers gate message change) = IsCommand (subcommand_of program words) (Footers gate message change)
 IsAsked words (Help text) = AsksHelp words
@@ -61,7 +65,8 @@ IsAsked words NoMemory = Unit {0}
 
 -- the same of what was matched
 abbrev pub IsAskedBy : Matched → Asked → Type 0
-IsAskedBy matched (Simulate script) = IsCommand matched (Simulate script)
+IsAskedBy matched (Simulate script gate) = IsCommand matched (Simulate script gate)
+IsAskedBy matched (Ready gate snapshot) = IsCommand matched (Ready gate snapshot)
 IsAskedBy matched (Merge first second) = IsCommand matched (Merge first second)
 IsAskedBy matched (Footers gate message change) = IsCommand matched (Footers gate message change)
 IsAskedBy matched (Help text) = ⊥
@@ -70,7 +75,8 @@ IsAskedBy matched NoMemory = Unit {0}
 
 -- how a fault of this kind is told
 abbrev pub IsRefused : ErrorKind → Asked → Type 0
-IsRefused kind (Simulate script) = ⊥
+IsRefused kind (Simulate script gate) = ⊥
+IsRefused kind (Ready gate snapshot) = ⊥
 IsRefused kind (Merge first second) = ⊥
 IsRefused kind (Footers gate message change) = ⊥
 IsRefused kind (Help text) = (kind ≡ DisplayHelp) ⊎ (kind ≡ DisplayVersion)
@@ -79,7 +85,8 @@ IsRefused kind NoMemory = Unit {0}
 
 -- it is told that something is wrong, or memory was refused for that
 abbrev pub IsUsage : Asked → Type 0
-IsUsage (Simulate script) = ⊥
+IsUsage (Simulate script gate) = ⊥
+IsUsage (Ready gate snapshot) = ⊥
 IsUsage (Merge first second) = ⊥
 IsUsage (Footers gate message change) = ⊥
 IsUsage (Help text) = ⊥

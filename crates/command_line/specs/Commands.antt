@@ -9,9 +9,13 @@ use Rattle.clap.specs.declared.builder.command.Command.TheViews.{out-Command}
 abbrev pub needed : List ℕ → Rule
 needed id = record (new_rule id) { required = true }
 
--- `simulate SCRIPT`
+-- `simulate SCRIPT [GATE]`
 abbrev pub simulate_app : App
-simulate_app = with_rule (new_app (codes "simulate")) (needed (codes "SCRIPT"))
+simulate_app = with_rule (with_rule (new_app (codes "simulate")) (needed (codes "SCRIPT"))) (new_rule (codes "GATE"))
+
+-- `ready GATE SNAPSHOT`
+abbrev pub ready_app : App
+ready_app = with_rule (with_rule (new_app (codes "ready")) (needed (codes "GATE"))) (needed (codes "SNAPSHOT"))
 
 -- `merge FIRST SECOND`
 abbrev pub merge_app : App
@@ -31,7 +35,7 @@ bare_app = record (new_app (codes "reviewgate")) { top = record (new_app (codes 
 
 -- the program
 abbrev pub program : App
-program = with_subcommand (with_subcommand (with_subcommand bare_app simulate_app.top) merge_app.top) footers_app.top
+program = with_subcommand (with_subcommand (with_subcommand (with_subcommand bare_app simulate_app.top) ready_app.top) merge_app.top) footers_app.top
 
 -- an argument that clap reads by this rule, at its own command alone
 abbrev pub IsRule : Rule → Arg → Type 0

@@ -20,9 +20,15 @@ const NO_NUMBER: &str = "error: the change has to be a number from 0 to 42949672
 /// What the words ask for.
 #[derive(Drop)]
 pub enum Asked<'a> {
-    /// To play the script of this name.
+    /// To play the script of this name, with reports under a gate file where one is named.
     Simulate {
         script: &'a str,
+        gate: Option<&'a str>,
+    },
+    /// To print the report of a snapshot under a gate file.
+    Ready {
+        gate: &'a str,
+        snapshot: &'a str,
     },
     /// To print the snapshot of the two of these names together.
     Merge {
@@ -66,6 +72,7 @@ fn asked_by<'a>(alloc: Global, matches: &ArgMatches<'a>) -> Asked<'a>
     };
     let (asked, wrong) = match name {
         "simulate" => (asked_to_simulate(found), MISSING),
+        "ready" => (asked_for_report(found), MISSING),
         "merge" => (asked_to_merge(found), MISSING),
         "footers" => (asked_for_footers(found), NO_NUMBER),
         _ => (None, MISSING),
@@ -76,13 +83,24 @@ fn asked_by<'a>(alloc: Global, matches: &ArgMatches<'a>) -> Asked<'a>
     }
 }
 
-/// `simulate SCRIPT`
+/// `simulate SCRIPT [GATE]`
 fn asked_to_simulate<'a>(found: &ArgMatches<'a>) -> Option<Asked<'a>>
     ensures some { IfSome result (IsCommand (Some (codes "simulate", rows_of (found_of found.now)))) }
     ensures none { IfNone result (IsNoCommand (Some (codes "simulate", rows_of (found_of found.now)))) }
 {
     let script = found.get_str("SCRIPT")?;
-    Some(Asked::Simulate { script })
+    let gate = found.get_str("GATE");
+    Some(Asked::Simulate { script, gate })
+}
+
+/// `ready GATE SNAPSHOT`
+fn asked_for_report<'a>(found: &ArgMatches<'a>) -> Option<Asked<'a>>
+    ensures some { IfSome result (IsCommand (Some (codes "ready", rows_of (found_of found.now)))) }
+    ensures none { IfNone result (IsNoCommand (Some (codes "ready", rows_of (found_of found.now)))) }
+{
+    let gate = found.get_str("GATE")?;
+    let snapshot = found.get_str("SNAPSHOT")?;
+    Some(Asked::Ready { gate, snapshot })
 }
 
 /// `merge FIRST SECOND`

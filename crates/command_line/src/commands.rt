@@ -1,7 +1,8 @@
 //! The commands and their arguments.
 
-ghost use Rattle.std.specs.Prelude.{IfOk};
-ghost use Rattle.command_line.specs.Commands.{IsApp, IsRule, change_rule, footers_app, merge_app, needed, program, simulate_app};
+ghost use Rattle.std.specs.Prelude.{IfOk, codes};
+ghost use Rattle.clap.specs.Words.{new_rule};
+ghost use Rattle.command_line.specs.Commands.{IsApp, IsRule, change_rule, footers_app, merge_app, needed, program, ready_app, simulate_app};
 
 use clap::{Arg, Command};
 use std::alloc::{AllocError, Global};
@@ -11,6 +12,7 @@ pub fn commands<'a>(alloc: Global) -> Result<Command<'a>, AllocError>
     ensures { IfOk result (IsApp program) }
 {
     let simulate = simulate_command(alloc)?;
+    let ready = ready_command(alloc)?;
     let merge = merge_command(alloc)?;
     let footers = footers_command(alloc)?;
     Command::new(alloc, "reviewgate")
@@ -18,6 +20,7 @@ pub fn commands<'a>(alloc: Global) -> Result<Command<'a>, AllocError>
         .no_binary_name(true)
         .subcommand_required(true)
         .subcommand(simulate)?
+        .subcommand(ready)?
         .subcommand(merge)?
         .subcommand(footers)
 }
@@ -29,7 +32,7 @@ fn file<'a>(alloc: Global, name: &'a str, help: &'a str) -> Arg<'a>
     Arg::new(alloc, name).required(true).help(help)
 }
 
-/// `simulate SCRIPT`
+/// `simulate SCRIPT [GATE]`
 fn simulate_command<'a>(alloc: Global) -> Result<Command<'a>, AllocError>
     ensures { IfOk result (IsApp simulate_app) }
 {
@@ -40,7 +43,31 @@ fn simulate_command<'a>(alloc: Global) -> Result<Command<'a>, AllocError>
     );
     Command::new(alloc, "simulate")
         .about("Plays a script of several sites and prints what each line answers")
-        .arg(script)
+        .arg(script)?
+        .arg(gate_for_reports(alloc))
+}
+
+/// An argument that may be left out.
+fn gate_for_reports<'a>(alloc: Global) -> Arg<'a>
+    ensures { IsRule (new_rule (codes "GATE")) result }
+{
+    Arg::new(alloc, "GATE").help("The gate file for the script's reports, or - for standard input")
+}
+
+/// `ready GATE SNAPSHOT`
+fn ready_command<'a>(alloc: Global) -> Result<Command<'a>, AllocError>
+    ensures { IfOk result (IsApp ready_app) }
+{
+    let gate = file(alloc, "GATE", "The gate file, or - for standard input");
+    let snapshot = file(
+        alloc,
+        "SNAPSHOT",
+        "The snapshot's file, or - for standard input",
+    );
+    Command::new(alloc, "ready")
+        .about("Prints which items may be enqueued, and why each other one waits")
+        .arg(gate)?
+        .arg(snapshot)
 }
 
 /// `merge FIRST SECOND`

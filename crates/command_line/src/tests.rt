@@ -7,7 +7,8 @@ use std::test::Fail;
 /// The name of the first file that is asked for, or in its place what else is answered.
 fn first_name<'a>(asked: &Asked<'a>) -> &'a str {
     match asked {
-        Asked::Simulate { script } => script,
+        Asked::Simulate { script, .. } => script,
+        Asked::Ready { gate, .. } => gate,
         Asked::Merge { first, .. } => first,
         Asked::Footers { gate, .. } => gate,
         Asked::Help(_) => "help",
@@ -18,6 +19,11 @@ fn first_name<'a>(asked: &Asked<'a>) -> &'a str {
 
 fn second_name<'a>(asked: &Asked<'a>) -> &'a str {
     match asked {
+        Asked::Simulate {
+            gate: Some(gate),
+            ..
+        } => gate,
+        Asked::Ready { snapshot, .. } => snapshot,
         Asked::Merge { second, .. } => second,
         Asked::Footers { message, .. } => message,
         _ => "",
@@ -29,6 +35,14 @@ fn files_are_named_in_their_order(rt: HostRuntime) -> Result<(), Fail> {
     let alloc = rt.alloc();
     let words = ["simulate", "-"];
     assert_eq!(rt; first_name(&read_words(alloc, words.as_slice())), "-");
+    let words = ["simulate", "s", "g"];
+    let asked = read_words(alloc, words.as_slice());
+    assert_eq!(rt; first_name(&asked), "s");
+    assert_eq!(rt; second_name(&asked), "g");
+    let words = ["ready", "g", "-"];
+    let asked = read_words(alloc, words.as_slice());
+    assert_eq!(rt; first_name(&asked), "g");
+    assert_eq!(rt; second_name(&asked), "-");
     let words = ["merge", "a", "b"];
     let asked = read_words(alloc, words.as_slice());
     assert_eq!(rt; first_name(&asked), "a");
@@ -72,11 +86,19 @@ fn other_words_ask_for_nothing(rt: HostRuntime) -> Result<(), Fail> {
     let alloc = rt.alloc();
     let none: [&str; 0] = [];
     assert_eq!(rt; first_name(&read_words(alloc, none.as_slice())), "usage");
-    for word in ["simulate", "merge", "footers", "serve", "-x", "--version"] {
+    for word in [
+        "simulate",
+        "ready",
+        "merge",
+        "footers",
+        "serve",
+        "-x",
+        "--version",
+    ] {
         let words = [word];
         assert_eq!(rt; first_name(&read_words(alloc, words.as_slice())), "usage");
     }
-    let words = ["simulate", "a", "b"];
+    let words = ["simulate", "a", "b", "c"];
     assert_eq!(rt; first_name(&read_words(alloc, words.as_slice())), "usage");
     for words in [["--help", ""], ["merge", "-h"], ["help", "merge"]] {
         let shown = if words[1].is_empty() { 1 } else { 2 };

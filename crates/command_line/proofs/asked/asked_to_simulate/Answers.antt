@@ -12,5 +12,6 @@ returns-in_err-script-clause-none c =
 
 pub returns-clause-some : goal.returns-clause-some
 returns-clause-some c =
-    let given = shown (found_of c.args.found.now) (codes "SCRIPT") c.get_str.result c.get_str.ensures in
-    search (rules, given)
+    let one = shown (found_of c.args.found.now) (codes "SCRIPT") c.get_str.result c.get_str.ensures in
+    let two = shown (found_of c.args.found.now) (codes "GATE") c.get_str-gate.result c.get_str-gate.ensures in
+    search (rules, one, two)
