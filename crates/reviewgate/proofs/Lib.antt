@@ -6,3 +6,4 @@ pub mod Saying
 pub mod Runs
 mod Simulating
 mod Running
+mod Reporting

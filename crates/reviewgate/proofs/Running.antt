@@ -6,7 +6,7 @@ use Rattle.std.specs.Io.KnownBytes.{Appends}
 use Rattle.byte_ends.specs.Failures.{CountsFailure}
 use Rattle.byte_ends.specs.declared.faults.Failed.{Failed}
 use Rattle.command_line.specs.declared.asked.Asked.{Asked}
-use Rattle.command_line.specs.declared.asked.Asked.TheVariants.{Simulate, Merge, Footers, Help, Usage, NoMemory}
+use Rattle.command_line.specs.declared.asked.Asked.TheVariants.{Simulate, Ready, Merge, Footers, Help, Usage, NoMemory}
 use Rattle.reviewgate.specs.Running.{CutsText, EndsWith, Shows, Tells, Told}
 use Rattle.reviewgate.specs.declared.refusal.Refusal.{Refusal}
 
@@ -16,7 +16,8 @@ shows text old new (Err fault) ok err counts = inr (err, counts)
 
 -- a command that was refused ends with status 1
 pub ends_refused : (T : Type 0) (old new : Told) (asked : Asked) (refusal : Refusal) → ((text : _) → asked ≢ Usage text) → Tells {T = T} old new (Err refusal) → EndsWith {T = T} old new asked (Err refusal) 1
-ends_refused T old new (Simulate script) refusal other tells = (tells, refl)
+ends_refused T old new (Simulate script gate) refusal other tells = (tells, refl)
+ends_refused T old new (Ready gate snapshot) refusal other tells = (tells, refl)
 ends_refused T old new (Merge first second) refusal other tells = (tells, refl)
 ends_refused T old new (Footers gate message change) refusal other tells = (tells, refl)
 ends_refused T old new (Help text) refusal other tells = (tells, refl)

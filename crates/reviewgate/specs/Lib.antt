@@ -8,4 +8,5 @@ pub mod FooterLines
 pub mod Script
 pub mod Playing
 pub mod Simulating
+pub mod Reporting
 pub mod Running

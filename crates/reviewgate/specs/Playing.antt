@@ -2,7 +2,10 @@
 use Rattle.std.specs.Prelude.{◌≡◌, ◌⊎◌, ◌<◌, ℕ, Bool, List, [], ◌∷◌, ◌++◌, Option, None, Some, MatchOption, Ok, Err, flat_map, length, map, take, IsErrOf, Result, codes, decimal, if◌then◌else◌}
 use Rattle.std.specs.Global.{Global}
 use Rattle.std.specs.Io.KnownBytes.{Appends}
+use Rattle.gate_rules.specs.Rules.{GateRules}
 use Rattle.op_text.specs.Front.{front_text}
+use Rattle.ready_core.specs.Verdicts.{AreVerdicts, Judged}
+use Rattle.report_text.specs.Report.{report_of}
 use Rattle.review_ops.specs.Operation.{Operation}
 use Rattle.review_ops.specs.Timestamp.{timestamp_text}
 use Rattle.replica_core.specs.Front.{Reaches, IsFront}
@@ -20,7 +23,7 @@ use Rattle.reviewgate.specs.declared.refusal.Refusal.{Refusal}
 use Rattle.reviewgate.specs.declared.refusal.Refusal.TheVariants.{Script, Snapshot, Gate, File, NotText, Output, Memory}
 use Rattle.reviewgate.specs.declared.refusal.ScriptFault.TheVariants.{BadSites, BadLine, NoMemory}
 use Rattle.reviewgate.specs.declared.script.Step.{Step}
-use Rattle.reviewgate.specs.declared.script.Step.TheVariants.{Happens, SendTo, State, Front}
+use Rattle.reviewgate.specs.declared.script.Step.TheVariants.{Happens, SendTo, State, Front, Ready}
 
 -- ---- one line for one answer
 
@@ -67,11 +70,16 @@ ShowsState journal printed = (printed ≡ state_text (state_of journal)) ⊎ (pr
 abbrev pub ShowsFront : List Operation → List ℕ → Type 0
 ShowsFront journal printed = ((front : Reaches) × IsFront journal front × (printed ≡ front_text front ++ codes "\n")) ⊎ (printed ≡ no_memory)
 
+-- the report of the journal's state under the gate is shown, or memory doesn't suffice for it
+abbrev pub ShowsReport : GateRules → List Operation → List ℕ → Type 0
+ShowsReport gate journal printed = ((verdicts : Judged) × AreVerdicts gate (state_of journal) verdicts × (printed ≡ report_of verdicts)) ⊎ (printed ≡ no_memory)
+
 abbrev pub PlaysStep : WorldState → Step → List ℕ → WorldState → Type 0
 PlaysStep old (Happens event) printed new = PlaysEvent old event printed new
 PlaysStep old (SendTo site receiver) printed new = MatchOption (numbered old.sites receiver) ((printed ≡ no_site) × (new ≡ old)) (λ at. PlaysSendTo site at.journal old printed new)
 PlaysStep old (State site) printed new = MatchOption (numbered old.sites site) (printed ≡ no_site) (λ at. ShowsState at.journal printed) × (new ≡ old)
 PlaysStep old (Front site) printed new = MatchOption (numbered old.sites site) (printed ≡ no_site) (λ at. ShowsFront at.journal printed) × (new ≡ old)
+PlaysStep old (Ready site gate) printed new = MatchOption (numbered old.sites site) (printed ≡ no_site) (λ at. ShowsReport gate.now at.journal printed) × (new ≡ old)
 
 -- ---- a run: one step after the other, each from the world that the one before left, and their texts in that order
 

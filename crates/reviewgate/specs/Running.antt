@@ -1,14 +1,15 @@
 -- What the program does with its words, and the status that it ends with.
-use Rattle.std.specs.Prelude.{◌≡◌, ◌⊎◌, ◌<◌, ℕ, List, Option, IfSome, IsErrOf, Result, Ok, Err, codes, length, string_bytes, take}
+use Rattle.std.specs.Prelude.{◌≡◌, ◌⊎◌, ◌<◌, ℕ, List, Option, IfSome, IsErrOf, Result, Ok, Err, codes, length, option_map, string_bytes, take}
 use Rattle.std.specs.Io.KnownBytes.{Appends}
 use Rattle.byte_ends.specs.Failures.{OneFailed}
 use Rattle.command_line.specs.declared.asked.Asked.{Asked}
-use Rattle.command_line.specs.declared.asked.Asked.TheVariants.{Simulate, Merge, Footers, Help, Usage, NoMemory}
+use Rattle.command_line.specs.declared.asked.Asked.TheVariants.{Simulate, Ready, Merge, Footers, Help, Usage, NoMemory}
 use Rattle.reviewgate.specs.Files.{given, left_after}
 use Rattle.reviewgate.specs.FooterLines.{CountsFootersRefusal, IsFootersRefusal, PrintsFooters, PrintsFootersRefused}
 use Rattle.reviewgate.specs.Merging.{CountsMergeRefusal, Failures, failures, IsMergeRefusal, PrintsMerged, PrintsRefused}
 use Rattle.reviewgate.specs.Playing.{Prints}
 use Rattle.reviewgate.specs.Refusals.{refusal_line}
+use Rattle.reviewgate.specs.Reporting.{CountsReadyRefusal, IsReadyRefusal, PrintsReadyRefused, PrintsReport}
 use Rattle.reviewgate.specs.Simulating.{IsSimulated}
 use Rattle.reviewgate.specs.declared.refusal.Refusal.{Refusal}
 use Rattle.reviewgate.specs.declared.refusal.Refusal.TheVariants.{Memory}
@@ -37,6 +38,13 @@ named inputs name = given inputs.input inputs.files name
 abbrev pub named_second : Inputs → List ℕ → List ℕ → Option (List ℕ)
 named_second inputs first second = given (left_after first inputs.input) inputs.files second
 
+-- how `ready` ends
+abbrev pub IsReadyEnd : {T : Type 0} → Option (List ℕ) → Option (List ℕ) → Ends → Ends → Result T Refusal → Type 0
+IsReadyEnd gate snapshot old new (Ok done) =
+    IfSome gate (λ one. IfSome snapshot (λ text. PrintsReport one text old.printed new.printed)) × (new.failed ≡ old.failed)
+IsReadyEnd gate snapshot old new (Err refusal) =
+    IsReadyRefusal gate snapshot refusal × PrintsReadyRefused gate snapshot old.printed new.printed refusal × CountsReadyRefusal old.failed new.failed refusal
+
 -- how `merge` ends
 abbrev pub IsMergeEnd : {T : Type 0} → Option (List ℕ) → Option (List ℕ) → Ends → Ends → Result T Refusal → Type 0
 IsMergeEnd first second old new (Ok done) =
@@ -53,7 +61,9 @@ IsFootersEnd gate change message old new (Err refusal) =
 
 -- what is asked for is done, and ends so
 abbrev pub Does : {T : Type 0} → Inputs → Ends → Ends → Asked → Result T Refusal → Type 0
-Does inputs old new (Simulate script) ended = IsSimulated (named inputs script.now) old.printed new.printed ended
+Does inputs old new (Simulate script gate) ended =
+    IsSimulated (named inputs script.now) (option_map (λ name. named_second inputs script.now name.now) gate) old.printed new.printed ended
+Does inputs old new (Ready gate snapshot) ended = IsReadyEnd (named inputs gate.now) (named_second inputs gate.now snapshot.now) old new ended
 Does inputs old new (Merge first second) ended = IsMergeEnd (named inputs first.now) (named_second inputs first.now second.now) old new ended
 Does inputs old new (Footers gate message change) ended =
     IsFootersEnd (named inputs gate.now) change (named_second inputs gate.now message.now) old new ended
@@ -95,7 +105,8 @@ status_of (Err refusal) = 1
 
 -- how the program ends: words that ask for no command end it with status 2
 abbrev pub EndsWith : {T : Type 0} → Told → Told → Asked → Result T Refusal → ℕ → Type 0
-EndsWith old new (Simulate script) ended status = Tells old new ended × (status ≡ status_of ended)
+EndsWith old new (Ready gate snapshot) ended status = Tells old new ended × (status ≡ status_of ended)
+EndsWith old new (Simulate script gate) ended status = Tells old new ended × (status ≡ status_of ended)
 EndsWith old new (Merge first second) ended status = Tells old new ended × (status ≡ status_of ended)
 EndsWith old new (Footers gate message change) ended status = Tells old new ended × (status ≡ status_of ended)
 EndsWith old new (Help text) ended status = Tells old new ended × (status ≡ status_of ended)

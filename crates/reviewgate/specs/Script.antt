@@ -1,6 +1,8 @@
--- What the lines of a script say. The grammar is the project's own.
+-- What the lines of a script say. The grammar is the project's own. A `ready` line says something only where a gate is given, which its reports
+-- are made under.
 use Rattle.std.specs.Prelude.{◌≡◌, ◌≤◌, ◌==◌, ℕ, Bool, true, false, List, [], ◌∷◌, Option, None, Some, Result, Ok, Err, codes}
 use Rattle.byte_ends.specs.Lines.{lines_of}
+use Rattle.gate_rules.specs.Rules.{GateRules}
 use Rattle.op_text.specs.declared.fault.OpTextFault.{OpTextFault}
 use Rattle.op_text.specs.declared.fault.OpTextFault.TheVariants as text
 use Rattle.op_text.specs.Front.{SpellsFront}
@@ -12,7 +14,7 @@ use Rattle.reviewgate.specs.declared.refusal.ScriptFault.TheVariants.{BadSites, 
 use Rattle.reviewgate.specs.declared.script.LineFault.{LineFault}
 use Rattle.reviewgate.specs.declared.script.LineFault.TheVariants as line
 use Rattle.reviewgate.specs.declared.script.Step.{Step}
-use Rattle.reviewgate.specs.declared.script.Step.TheVariants.{Happens, SendTo, State, Front}
+use Rattle.reviewgate.specs.declared.script.Step.TheVariants.{Happens, SendTo, State, Front, Ready}
 use Rattle.reviewgate.specs.Fields.{IsAfterWord, IsNumberField, IsSplit}
 use Rattle.reviewgate.specs.ScriptLines.{spoken_after}
 
@@ -51,40 +53,44 @@ word_of (Happens (Restart site start)) = codes "restart"
 word_of (SendTo site receiver) = codes "send"
 word_of (State site) = codes "state"
 word_of (Front site) = codes "front"
+word_of (Ready site gate) = codes "ready"
 
 -- what follows the word and a blank
-abbrev pub SayStep : List ℕ → Step → Type 0
+abbrev pub SayStep : Option GateRules → List ℕ → Step → Type 0
 -- `SITE BODY`
-SayStep fields (Happens (Intake site draft)) = (body : List ℕ) × IsNumberBefore fields most_site site body × SpellsBody body (deed_of draft)
+SayStep given fields (Happens (Intake site draft)) = (body : List ℕ) × IsNumberBefore fields most_site site body × SpellsBody body (deed_of draft)
 -- `SITE FRONT`
-SayStep fields (Happens (Send site front)) = (given : List ℕ) × IsNumberBefore fields most_site site given × (names_site given ≡ false) × SpellsFront given front
+SayStep given fields (Happens (Send site front)) = (text : List ℕ) × IsNumberBefore fields most_site site text × (names_site text ≡ false) × SpellsFront text front
 -- `PACKET SITE`
-SayStep fields (Happens (Deliver packet site)) = (field : List ℕ) × IsNumberBefore fields most_packet packet field × IsNumberField field most_site site
+SayStep given fields (Happens (Deliver packet site)) = (field : List ℕ) × IsNumberBefore fields most_packet packet field × IsNumberField field most_site site
 -- `SITE`
-SayStep fields (Happens (Save site)) = IsNumberField fields most_site site
+SayStep given fields (Happens (Save site)) = IsNumberField fields most_site site
 -- `SITE START`
-SayStep fields (Happens (Restart site start)) = (field : List ℕ) × IsNumberBefore fields most_site site field × IsNumberField field most_start start
+SayStep given fields (Happens (Restart site start)) = (field : List ℕ) × IsNumberBefore fields most_site site field × IsNumberField field most_start start
 -- `SITE @SITE`
-SayStep fields (SendTo site receiver) = (field : List ℕ) × IsNumberBefore fields most_site site (64 ∷ field) × IsNumberField field most_site receiver
+SayStep given fields (SendTo site receiver) = (field : List ℕ) × IsNumberBefore fields most_site site (64 ∷ field) × IsNumberField field most_site receiver
 -- `SITE`
-SayStep fields (State site) = IsNumberField fields most_site site
-SayStep fields (Front site) = IsNumberField fields most_site site
+SayStep given fields (State site) = IsNumberField fields most_site site
+SayStep given fields (Front site) = IsNumberField fields most_site site
+-- `SITE`, where a gate is given
+SayStep given fields (Ready site gate) = IsNumberField fields most_site site × (given ≡ Some gate.now)
 
 -- the line is the step's word, a blank and its fields
-abbrev pub SaysStep : List ℕ → Step → Type 0
-SaysStep line step = (fields : List ℕ) × IsAfterWord line (word_of step) fields × SayStep fields step
+abbrev pub SaysStep : Option GateRules → List ℕ → Step → Type 0
+SaysStep given line step = (fields : List ℕ) × IsAfterWord line (word_of step) fields × SayStep given fields step
 
 -- the same of a line that begins with this word
-abbrev pub IsSaidAfter : List ℕ → List ℕ → Step → Type 0
-IsSaidAfter word fields step = (word_of step ≡ word) × SayStep fields step
+abbrev pub IsSaidAfter : Option GateRules → List ℕ → List ℕ → Step → Type 0
+IsSaidAfter given word fields step = (word_of step ≡ word) × SayStep given fields step
 
 -- the line says no step
-abbrev pub SaysNoStep : List ℕ → Type 0
-SaysNoStep line = (step : Step) → ¬ SaysStep line step
+abbrev pub SaysNoStep : Option GateRules → List ℕ → Type 0
+SaysNoStep given line = (step : Step) → ¬ SaysStep given line step
 
--- steps that ask for the same: drafts of the same deed are as good as one
+-- steps that ask for the same: drafts of the same deed are as good as one, and so are gates with the same rules
 abbrev pub IsSameStep : Step → Step → Type 0
 IsSameStep (Happens (Intake site draft)) (Happens (Intake other another)) = (site ≡ other) × (deed_of draft ≡ deed_of another)
+IsSameStep (Ready site gate) (Ready other another) = (site ≡ other) × (gate.now ≡ another.now)
 IsSameStep step other = step ≡ other
 
 -- why nothing is asked for where a body or a front isn't read
@@ -109,23 +115,23 @@ pub record SaysSites (line : List ℕ) (sites : ℕ) : Type 0 where
   pub some : 1 ≤ sites
 
 -- the lines say these steps, one each, up to the first that says none, whose number is given
-abbrev pub SaySteps : List (ℕ × List ℕ) → List Step → Option ℕ → Type 0
-SaySteps [] [] bad = bad ≡ None
-SaySteps [] (step ∷ steps) bad = ⊥
-SaySteps (next ∷ lines) [] bad = (bad ≡ Some next.0) × SaysNoStep next.1
-SaySteps (next ∷ lines) (step ∷ steps) bad = SaysStep next.1 step × SaySteps lines steps bad
+abbrev pub SaySteps : Option GateRules → List (ℕ × List ℕ) → List Step → Option ℕ → Type 0
+SaySteps given [] [] bad = bad ≡ None
+SaySteps given [] (step ∷ steps) bad = ⊥
+SaySteps given (next ∷ lines) [] bad = (bad ≡ Some next.0) × SaysNoStep given next.1
+SaySteps given (next ∷ lines) (step ∷ steps) bad = SaysStep given next.1 step × SaySteps given lines steps bad
 
 -- the first line says how many sites there are, and the lines after it say the steps
-abbrev pub SpeaksScript : List (ℕ × List ℕ) → ℕ → List Step → Option ℕ → Type 0
-SpeaksScript [] sites steps bad = ⊥
-SpeaksScript (first ∷ lines) sites steps bad = SaysSites first.1 sites × SaySteps lines steps bad
+abbrev pub SpeaksScript : Option GateRules → List (ℕ × List ℕ) → ℕ → List Step → Option ℕ → Type 0
+SpeaksScript given [] sites steps bad = ⊥
+SpeaksScript given (first ∷ lines) sites steps bad = SaysSites first.1 sites × SaySteps given lines steps bad
 
 -- the text's lines that say something, with their numbers from 1 on
 abbrev pub spoken : List ℕ → List (ℕ × List ℕ)
 spoken text = spoken_after 0 (lines_of text)
 
-abbrev pub SaysScript : List ℕ → ℕ → List Step → Option ℕ → Type 0
-SaysScript text sites steps bad = SpeaksScript (spoken text) sites steps bad
+abbrev pub SaysScript : Option GateRules → List ℕ → ℕ → List Step → Option ℕ → Type 0
+SaysScript given text sites steps bad = SpeaksScript given (spoken text) sites steps bad
 
 -- the first line that says something isn't `sites N`, or there is none
 abbrev pub SpeaksNoSites : List (ℕ × List ℕ) → Type 0

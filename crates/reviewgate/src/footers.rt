@@ -6,6 +6,7 @@ ghost use Rattle.gate_rules.specs.Spelling.{SpellsGate};
 ghost use Rattle.reviewgate.specs.Files.{given, is_input, left_after};
 ghost use Rattle.reviewgate.specs.FooterLines.{CountsFirst, CountsFootersRefusal, CountsUnreadFile, IsFirst, IsFootersRefusal, PrintsFooters, PrintsFootersRefused, footers_text, ignored_line, most_bytes, need_line};
 ghost use Rattle.reviewgate.specs.Merging.{failures};
+ghost use Rattle.reviewgate.specs.Reporting.{IsGateRefusal};
 
 use super::named::{Named, bytes_of, is_input};
 use super::refusal::{FileFault, Refusal};
@@ -64,7 +65,7 @@ pub fn footers<I: Source, O: Drain, N: Named>(
 }
 
 /// The gate of a name.
-fn read_gate<I: Source, N: Named>(
+pub fn read_gate<I: Source, N: Named>(
     alloc: Global,
     name: &str,
     input: &mut I,
@@ -73,6 +74,7 @@ fn read_gate<I: Source, N: Named>(
     ensures ok { IfOk result (λ gate. IfSome (given (I.left input.old) (N.told files.old) name.now) (λ text. SpellsGate text gate)) }
     ensures refused { (message : Option (List ℕ)) → IfErr result (IsFootersRefusal (given (I.left input.old) (N.told files.old) name.now) message) }
     ensures first { IfErr result IsFirst }
+    ensures gate { IfErr result (IsGateRefusal (given (I.left input.old) (N.told files.old) name.now)) }
     ensures kept { (other : List ℕ) → N.told files.new other ≡ N.told files.old other }
     ensures unread { is_input name.now ≡ false → I.left input.new ≡ I.left input.old }
     ensures counted { MatchResult result
@@ -80,6 +82,22 @@ fn read_gate<I: Source, N: Named>(
         (CountsFirst (I.failed input.old) (I.failed input.new) (N.failed files.old) (N.failed files.new)) }
 {
     let text = bytes_of(alloc, name, TEXT_LIMIT, input, files)?;
+    let gate = Gate::read(alloc, text.as_slice())?;
+    Ok(gate)
+}
+
+/// The gate of the second name, once the first was read: nothing is left of the input where the first name was its own.
+pub fn read_second_gate<I: Source, N: Named>(
+    alloc: Global,
+    first: &str,
+    second: &str,
+    input: &mut I,
+    files: &mut N,
+) -> Result<Gate, Refusal>
+    ensures ok { IfOk result (λ gate. IfSome (given (left_after first.now (I.left input.old)) (N.told files.old) second.now) (λ text. SpellsGate text gate)) }
+    ensures refused { IfErr result (IsGateRefusal (given (left_after first.now (I.left input.old)) (N.told files.old) second.now)) }
+{
+    let text = second_bytes(alloc, first, second, input, files)?;
     let gate = Gate::read(alloc, text.as_slice())?;
     Ok(gate)
 }

@@ -11,6 +11,9 @@ mod merge_tests;
 mod named;
 #[cfg(test)]
 mod one_file;
+mod ready;
+#[cfg(test)]
+mod ready_tests;
 mod refusal;
 mod run;
 mod script;

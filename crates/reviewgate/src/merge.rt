@@ -78,7 +78,7 @@ fn read_both<I: Source, N: Named>(
 }
 
 /// The replica of the second snapshot, once the first was read: nothing is left of the input where the first name was its own.
-fn read_second<I: Source, N: Named>(
+pub fn read_second<I: Source, N: Named>(
     alloc: Global,
     first: &str,
     second: &str,

@@ -1,21 +1,24 @@
 //! The program, over any words, readers, writers and files.
 
-ghost use Rattle.std.specs.Prelude.{◌⊎◌, map};
+ghost use Rattle.std.specs.Prelude.{◌⊎◌, IfErr, IfOk, IsSomeAnd, map, option_map};
 ghost use Rattle.command_line.specs.Asking.{IsAsked};
 ghost use Rattle.command_line.specs.declared.asked.Asked.{Asked};
-ghost use Rattle.reviewgate.specs.Files.{given};
+ghost use Rattle.reviewgate.specs.Files.{given, left_after};
 ghost use Rattle.reviewgate.specs.Refusals.{refusal_line};
+ghost use Rattle.reviewgate.specs.Reporting.{IsGateRefusal};
 ghost use Rattle.reviewgate.specs.Running.{Does, Ended, EndsWith, Shows, ends, memory_line, told};
-ghost use Rattle.reviewgate.specs.Simulating.{IsSimulated};
+ghost use Rattle.reviewgate.specs.Simulating.{GivesGate, IsSimulated};
 
-use super::footers::footers;
+use super::footers::{footers, read_second_gate};
 use super::merge::merge;
 use super::named::{Named, bytes_of};
+use super::ready::ready;
 use super::refusal::Refusal;
 use super::script::read_script;
 use super::simulate::{play, print};
 use byte_ends::{Drain, Source, write_all};
 use command_line::{Asked, read_words};
+use gate_rules::Gate;
 use std::alloc::Global;
 use std::convert::AsStr;
 
@@ -75,7 +78,8 @@ fn do_asked<I: Source, O: Drain, N: Named>(
         (ends (O.taken output.new) (I.failed input.new) (N.failed files.new) (O.failed output.new)) asked.now result }
 {
     match asked {
-        Asked::Simulate { script } => simulate(alloc, script, input, output, files),
+        Asked::Simulate { script, gate } => simulate(alloc, script, *gate, input, output, files),
+        Asked::Ready { gate, snapshot } => ready(alloc, gate, snapshot, input, output, files),
         Asked::Merge { first, second } => merge(alloc, first, second, input, output, files),
         Asked::Footers {
             gate,
@@ -88,26 +92,48 @@ fn do_asked<I: Source, O: Drain, N: Named>(
     }
 }
 
-/// Plays the script of a name. Refusals: `File` 6 `TooLong`, it has more than 1,048,576 bytes, 7 `ReadFault` and 8 `NoMemory`, and
-/// `Script` 1 `BadSites`, of all of which nothing is printed; else those of `play`.
+/// Plays the script of a name, with reports under the gate of another, where that is named. The script's bytes are read first, then the gate
+/// is read and judged, then the script is. Refusals: `File` 6 `TooLong`, one of the two has more than 1,048,576 bytes, 7 `ReadFault` and 8
+/// `NoMemory`, `Gate`, the gate file says no gate, and `Script` 1 `BadSites`, of all of which nothing is printed; else those of `play`.
 fn simulate<I: Source, O: Drain, N: Named>(
     alloc: Global,
     name: &str,
+    gate: Option<&str>,
     input: &mut I,
     output: &mut O,
     files: &mut N,
 ) -> Result<(), Refusal>
-    ensures { IsSimulated (given (I.left input.old) (N.told files.old) name.now) (O.taken output.old) (O.taken output.new) result }
+    ensures { IsSimulated (given (I.left input.old) (N.told files.old) name.now)
+        (option_map (λ file. given (left_after name.now (I.left input.old)) (N.told files.old) file.now) gate.entry)
+        (O.taken output.old) (O.taken output.new) result }
 {
-    let text = match bytes_of(alloc, name, TEXT_LIMIT, input, files) {
-        Ok(text) => text,
-        Err(fault) => return Err(Refusal::File(fault)),
+    let text = bytes_of(alloc, name, TEXT_LIMIT, input, files)?;
+    let rules = gate_for(alloc, name, gate, input, files)?;
+    match read_script(alloc, text.as_slice(), rules.as_ref()) {
+        Ok(script) => play(alloc, script, output),
+        Err(fault) => Err(Refusal::Script(fault)),
+    }
+}
+
+/// The gate of a name, where one is given, once the script was read.
+fn gate_for<I: Source, N: Named>(
+    alloc: Global,
+    script: &str,
+    gate: Option<&str>,
+    input: &mut I,
+    files: &mut N,
+) -> Result<Option<Gate>, Refusal>
+    ensures ok { IfOk result (GivesGate
+        (option_map (λ file. given (left_after script.now (I.left input.old)) (N.told files.old) file.now) gate.entry)) }
+    ensures refused { IfErr result (λ refusal. IsSomeAnd
+        (option_map (λ file. given (left_after script.now (I.left input.old)) (N.told files.old) file.now) gate.entry)
+        (λ told. IsGateRefusal told refusal)) }
+{
+    let Some(name) = gate else {
+        return Ok(None);
     };
-    let script = match read_script(alloc, text.as_slice()) {
-        Ok(script) => script,
-        Err(fault) => return Err(Refusal::Script(fault)),
-    };
-    play(alloc, script, output)
+    let rules = read_second_gate(alloc, script, name, input, files)?;
+    Ok(Some(rules))
 }
 
 /// Tells the error output of a refusal. What it can't take is lost.

@@ -1,12 +1,15 @@
 //! What the lines of a script say.
 
-ghost use Rattle.std.specs.Prelude.{◌≡◌, ℕ, false, List, ◌∷◌, IfOk, IfErr, IfSome, IfNone, codes};
+ghost use Rattle.std.specs.Prelude.{◌≡◌, ℕ, false, List, ◌∷◌, IfOk, IfErr, IfSome, IfNone, Option, codes};
+ghost use Rattle.std.specs.Option.{option_copied};
+ghost use Rattle.gate_rules.specs.Rules.{GateRules};
 ghost use Rattle.reviewgate.specs.Fields.{IsNumberField};
 ghost use Rattle.reviewgate.specs.Script.{IsNumberBefore, IsRead, IsSaidAfter, IsUnreadScript, SaysScript, SaysSites, SaysStep, line_fault_of, most_site, names_site};
 
 use super::fields::{after_word, read_number, split_field};
 use super::refusal::ScriptFault;
 use super::script_lines::ScriptLines;
+use gate_rules::Gate;
 use op_text::{OpTextFault, read_body, read_front};
 use std::alloc::{AllocError, Global};
 use world_core::Event;
@@ -22,7 +25,7 @@ const MOST_START: u64 = 4_294_967_295;
 
 /// What a line asks for.
 #[derive(Drop)]
-pub enum Step {
+pub enum Step<'a> {
     /// Something happens in the world.
     Happens(Event),
     /// A site packs what the front of another lacks, as it is at that moment.
@@ -31,15 +34,17 @@ pub enum Step {
     State { site: u16 },
     /// The front of a site is printed.
     Front { site: u16 },
+    /// The report of a site is printed, under a gate.
+    Ready { site: u16, gate: &'a Gate },
 }
 
 /// A script, as far as it can be played.
 #[derive(Drop)]
-pub struct Script {
+pub struct Script<'a> {
     /// How many sites there are, 1 to 64.
     pub sites: u16,
     /// What its lines ask for, in order.
-    pub steps: Vec<Step>,
+    pub steps: Vec<Step<'a>>,
     /// The number of the line at which the script ends because it says no step, if there is one.
     pub bad_line: Option<u64>,
 }
@@ -58,10 +63,14 @@ impl From<AllocError> for LineFault {
 }
 
 /// Reads a script: its first line that says something is `sites N`, N from 1 to 64, and each later one says a step, up to the first that
-/// says none. Refusals: 1 `BadSites`, the first line says no number of sites, or there is none; 3 `NoMemory`. It costs the length of the
+/// says none. A `ready` line says a step only where a gate is given. Refusals: 1 `BadSites`, the first line says no number of sites, or there is none; 3 `NoMemory`. It costs the length of the
 /// text.
-pub fn read_script(alloc: Global, text: &[u8]) -> Result<Script, ScriptFault>
-    ensures says { IfOk result (λ script. SaysScript text.now script.sites script.steps.items script.bad_line) }
+pub fn read_script<'a>(
+    alloc: Global,
+    text: &[u8],
+    gate: Option<&'a Gate>,
+) -> Result<Script<'a>, ScriptFault>
+    ensures says { IfOk result (λ script. SaysScript (option_copied gate.entry) text.now script.sites script.steps.items script.bad_line) }
     ensures unread { IfErr result (IsUnreadScript text.now) }
 {
     let mut lines = ScriptLines::new(text);
@@ -77,7 +86,7 @@ pub fn read_script(alloc: Global, text: &[u8]) -> Result<Script, ScriptFault>
         bad_line: None,
     };
     while let Some((number, line)) = lines.next_line() {
-        match read_step(alloc, line) {
+        match read_step(alloc, line, gate) {
             Ok(step) => {
                 if script.steps.push(step).is_err() {
                     return Err(ScriptFault::NoMemory);
@@ -107,10 +116,10 @@ fn read_sites(line: &[u8]) -> Option<u16>
 }
 
 /// What a line asks for.
-fn read_step(alloc: Global, line: &[u8]) -> Result<Step, LineFault>
-    ensures says { IfOk result (SaysStep line.now) }
+fn read_step<'a>(alloc: Global, line: &[u8], gate: Option<&'a Gate>) -> Result<Step<'a>, LineFault>
+    ensures says { IfOk result (SaysStep (option_copied gate.entry) line.now) }
     // What a line says is read.
-    ensures only { (step : Step) → SaysStep line.now step → IsRead step result }
+    ensures only { (step : Step) → SaysStep (option_copied gate.entry) line.now step → IsRead step result }
 {
     if let Some(fields) = after_word(line, b"intake") {
         return read_intake(alloc, fields);
@@ -136,13 +145,28 @@ fn read_step(alloc: Global, line: &[u8]) -> Result<Step, LineFault>
         let site = read_site(field)?;
         return Ok(Step::Front { site });
     }
+    if let Some(field) = after_word(line, b"ready") {
+        return read_ready(field, gate);
+    }
     Err(LineFault::Bad)
 }
 
+/// `SITE`, under the gate that is given
+fn read_ready<'a>(field: &[u8], gate: Option<&'a Gate>) -> Result<Step<'a>, LineFault>
+    ensures says { IfOk result (IsSaidAfter (option_copied gate.entry) (codes "ready") field.now) }
+    ensures only { (step : Step) → IsSaidAfter (option_copied gate.entry) (codes "ready") field.now step → IsRead step result }
+{
+    let Some(gate) = gate else {
+        return Err(LineFault::Bad);
+    };
+    let site = read_site(field)?;
+    Ok(Step::Ready { site, gate })
+}
+
 /// `SITE BODY`
-fn read_intake(alloc: Global, fields: &[u8]) -> Result<Step, LineFault>
-    ensures says { IfOk result (IsSaidAfter (codes "intake") fields.now) }
-    ensures only { (step : Step) → IsSaidAfter (codes "intake") fields.now step → IsRead step result }
+fn read_intake<'a>(alloc: Global, fields: &[u8]) -> Result<Step<'a>, LineFault>
+    ensures says { (gate : Option GateRules) → IfOk result (IsSaidAfter gate (codes "intake") fields.now) }
+    ensures only { (gate : Option GateRules) → (step : Step) → IsSaidAfter gate (codes "intake") fields.now step → IsRead step result }
 {
     let Some((site, body)) = site_before(fields) else {
         return Err(LineFault::Bad);
@@ -154,9 +178,9 @@ fn read_intake(alloc: Global, fields: &[u8]) -> Result<Step, LineFault>
 }
 
 /// `SITE FRONT` or `SITE @SITE`
-fn read_send(alloc: Global, fields: &[u8]) -> Result<Step, LineFault>
-    ensures says { IfOk result (IsSaidAfter (codes "send") fields.now) }
-    ensures only { (step : Step) → IsSaidAfter (codes "send") fields.now step → IsRead step result }
+fn read_send<'a>(alloc: Global, fields: &[u8]) -> Result<Step<'a>, LineFault>
+    ensures says { (gate : Option GateRules) → IfOk result (IsSaidAfter gate (codes "send") fields.now) }
+    ensures only { (gate : Option GateRules) → (step : Step) → IsSaidAfter gate (codes "send") fields.now step → IsRead step result }
 {
     let Some((site, front)) = site_before(fields) else {
         return Err(LineFault::Bad);
@@ -193,9 +217,9 @@ fn line_fault(fault: &OpTextFault) -> LineFault
 }
 
 /// `SITE START`
-fn read_restart(fields: &[u8]) -> Result<Step, LineFault>
-    ensures says { IfOk result (IsSaidAfter (codes "restart") fields.now) }
-    ensures only { (step : Step) → IsSaidAfter (codes "restart") fields.now step → IsRead step result }
+fn read_restart<'a>(fields: &[u8]) -> Result<Step<'a>, LineFault>
+    ensures says { (gate : Option GateRules) → IfOk result (IsSaidAfter gate (codes "restart") fields.now) }
+    ensures only { (gate : Option GateRules) → (step : Step) → IsSaidAfter gate (codes "restart") fields.now step → IsRead step result }
 {
     let Some((site, start)) = site_before(fields) else {
         return Err(LineFault::Bad);
@@ -208,9 +232,9 @@ fn read_restart(fields: &[u8]) -> Result<Step, LineFault>
 }
 
 /// `PACKET SITE`
-fn read_deliver(fields: &[u8]) -> Result<Step, LineFault>
-    ensures says { IfOk result (IsSaidAfter (codes "deliver") fields.now) }
-    ensures only { (step : Step) → IsSaidAfter (codes "deliver") fields.now step → IsRead step result }
+fn read_deliver<'a>(fields: &[u8]) -> Result<Step<'a>, LineFault>
+    ensures says { (gate : Option GateRules) → IfOk result (IsSaidAfter gate (codes "deliver") fields.now) }
+    ensures only { (gate : Option GateRules) → (step : Step) → IsSaidAfter gate (codes "deliver") fields.now step → IsRead step result }
 {
     let Some((packet, site)) = number_before(fields, u64::MAX) else {
         return Err(LineFault::Bad);

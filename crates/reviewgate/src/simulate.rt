@@ -4,14 +4,17 @@ ghost use Rattle.std.specs.Prelude.{◌≡◌, ◌++◌, ◌∷◌, [], ℕ, Lis
 ghost use Rattle.op_text.specs.Front.{front_text};
 ghost use Rattle.replica_core.specs.Front.{Reaches, IsFront};
 ghost use Rattle.world_core.specs.World.{new_world};
-ghost use Rattle.reviewgate.specs.Playing.{GoesOrStops, Prints, PrintsAnswers, PrintsRun, ShowsFront, ShowsState, StopsScript, answer_line};
+ghost use Rattle.reviewgate.specs.Playing.{GoesOrStops, Prints, PrintsAnswers, PrintsRun, ShowsFront, ShowsReport, ShowsState, StopsScript, answer_line};
 
 use super::refusal::{Refusal, ScriptFault};
 use super::script::{Script, Step};
 use byte_ends::{Drain, write_all};
+use gate_rules::Gate;
 use lattice_core::NoMemory;
 use op_text::write_front;
+use ready_core::evaluate;
 use replica_core::{Replica, WriteStateFault};
+use report_text::{WriteReportFault, write_report};
 use std::alloc::{AllocError, Global};
 use std::mem;
 use world_core::{Event, Reply, World, WorldFault};
@@ -26,10 +29,10 @@ const NO_MEMORY: &str = "no 6 NoMemory\n";
 /// at a line that says nothing, once the lines before it are answered; `Script` 3 `NoMemory`, the sites or the lines couldn't be held, and
 /// what some first lines print was printed; `Output`, the output failed, and has taken some front of what some first lines print. It costs
 /// what the events cost.
-pub fn play<D: Drain>(alloc: Global, script: Script, output: &mut D) -> Result<(), Refusal>
-    ensures played { OnOk result ((script.bad_line ≡ None)
-        × PrintsRun (new_world script.sites) script.steps.items (D.taken output.old) (D.taken output.new)) }
-    ensures stopped { IfErr result (StopsScript script.sites script.steps.items script.bad_line (D.taken output.old) (D.taken output.new)) }
+pub fn play<D: Drain>(alloc: Global, script: Script<'_>, output: &mut D) -> Result<(), Refusal>
+    ensures played { OnOk result ((script.entry.bad_line ≡ None)
+        × PrintsRun (new_world script.entry.sites) script.entry.steps.items (D.taken output.old) (D.taken output.new)) }
+    ensures stopped { IfErr result (StopsScript script.entry.sites script.entry.steps.items script.entry.bad_line (D.taken output.old) (D.taken output.new)) }
 {
     let Script {
         sites,
@@ -64,8 +67,8 @@ struct Stage {
 
 impl Stage {
     /// Plays what a line asks for.
-    fn play_step<D: Drain>(&mut self, step: Step, output: &mut D) -> Result<(), Refusal>
-        ensures { GoesOrStops self.old.world (map Step.Happens self.old.events.items ++ step ∷ [])
+    fn play_step<D: Drain>(&mut self, step: Step<'_>, output: &mut D) -> Result<(), Refusal>
+        ensures { GoesOrStops self.old.world (map Step.Happens self.old.events.items ++ step.entry ∷ [])
             self.new.world self.new.events.items (D.taken output.old) (D.taken output.new) result }
     {
         match step {
@@ -76,6 +79,7 @@ impl Stage {
             Step::SendTo { site, receiver } => self.send_to(site, receiver, output),
             Step::State { site } => self.print_state(site, output),
             Step::Front { site } => self.print_front(site, output),
+            Step::Ready { site, gate } => self.print_report(site, gate, output),
         }
     }
 
@@ -140,6 +144,23 @@ impl Stage {
             None => print(output, NO_SITE.as_bytes()),
         }
     }
+
+    /// Prints the report of a site under a gate.
+    fn print_report<D: Drain>(
+        &mut self,
+        site: u16,
+        gate: &Gate,
+        output: &mut D,
+    ) -> Result<(), Refusal>
+        ensures { GoesOrStops self.old.world (map Step.Happens self.old.events.items ++ Step.Ready site gate.entry ∷ [])
+            self.new.world self.new.events.items (D.taken output.old) (D.taken output.new) result }
+    {
+        self.play_events(output)?;
+        match self.world.replica(site) {
+            Some(replica) => show_report(self.alloc, replica, gate, output),
+            None => print(output, NO_SITE.as_bytes()),
+        }
+    }
 }
 
 /// One event.
@@ -187,6 +208,24 @@ fn show_front<D: Drain>(alloc: Global, replica: &Replica, output: &mut D) -> Res
     match front_line(alloc, replica) {
         Ok(line) => print(output, line.as_bytes()),
         Err(_) => print(output, NO_MEMORY.as_bytes()),
+    }
+}
+
+/// Prints the report of a replica under a gate, or that memory doesn't suffice for it.
+fn show_report<D: Drain>(
+    alloc: Global,
+    replica: &Replica,
+    gate: &Gate,
+    output: &mut D,
+) -> Result<(), Refusal>
+    ensures { (text : List ℕ) × ShowsReport gate.now replica.now text × Prints text (D.taken output.old) (D.taken output.new) result }
+{
+    let Ok(verdicts) = evaluate(alloc, replica, gate) else {
+        return print(output, NO_MEMORY.as_bytes());
+    };
+    match write_report(&verdicts, output) {
+        Ok(()) => Ok(()),
+        Err(WriteReportFault::WriteFault) => Err(Refusal::Output),
     }
 }
 

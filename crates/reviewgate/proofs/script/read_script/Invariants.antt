@@ -1,4 +1,5 @@
 use Rattle.std.proofs.Common.{◌≡◌, length, ◌++◌, ℕ, List, Option, None}
+use Rattle.std.specs.Option.{option_copied}
 use Rattle.reviewgate.specs.declared.script.Step.{Step}
 use Rattle.reviewgate.specs.Script.{SaySteps}
 use Rattle.reviewgate.proofs.script.read_script.Given as goal
@@ -7,7 +8,7 @@ use Rattle.reviewgate.proofs.script.read_script.Given as goal
 abbrev pub invariant-loop-number : goal.invariant-loop-number
 invariant-loop-number l =
     record {
-      told : (steps : List Step) (bad : Option ℕ) → SaySteps l.lines steps bad → SaySteps l.initial.lines (l.script.steps.items ++ steps) bad;
+      told : (steps : List Step) (bad : Option ℕ) → SaySteps (option_copied l.gate) l.lines steps bad → SaySteps (option_copied l.gate) l.initial.lines (l.script.steps.items ++ steps) bad;
       sites : l.script.sites ≡ l.initial.script.sites;
       none : l.script.bad_line ≡ None;
     }
