@@ -21,6 +21,10 @@ pub at_ok : {T E : Type 0} {P : T → Type 0} {Q : Type 0} (r : Result T E) (fai
 at_ok (Ok x) failed is no_error f h = f x h
 at_ok (Err e) failed is no_error f h = absurd (false≢true (sym no_error ∙ is))
 
+pub on_err_always : {T E P : Type 0} (r : Result T E) → P → OnErr r P
+on_err_always (Ok x) p = tt
+on_err_always (Err e) p = p
+
 pub all_arrived-push : (journal ops : List Operation) (op : Operation) → all_arrived journal (ops ++ op ∷ []) ≡ arrived (all_arrived journal ops) op
 all_arrived-push journal [] op = refl
 all_arrived-push journal (first ∷ ops) op = all_arrived-push (arrived journal first) ops op

@@ -11,7 +11,15 @@ use Rattle.review_ops.specs.Operation.{Operation}
 use Rattle.change_core.specs.Change.{Change, no_change, change_joined, effect_of}
 use Rattle.change_core.specs.StateLaws.{no_change-joined}
 use Rattle.replica_core.specs.Exact.{same_by_test}
-use Rattle.replica_core.specs.Journal.{has, same_operation, AreApart}
+use Rattle.std.proofs.Common.{map, max}
+use Rattle.std.proofs.lemmas.List.{map-append}
+use Rattle.std.proofs.lemmas.List.Sums.{fold-append}
+use Rattle.replica_core.specs.Clock.{greatest, times}
+use Rattle.replica_core.specs.Journal.{has, same_operation, AreApart, arrived, taken_of}
+use Rattle.replica_core.specs.declared.taken.Taken.{Taken}
+use Rattle.replica_core.specs.declared.taken.Taken.TheVariants.{New, Known}
+use Rattle.replica_core.specs.RowLine.{RowLine}
+use Rattle.replica_core.specs.Lines.{AreLines}
 use Rattle.replica_core.specs.Record.{IsRecord}
 use Rattle.replica_core.specs.State.{State, with_effect, state_of, state_shown}
 use Rattle.replica_core.specs.StateLaws.{state_of-push}
@@ -62,9 +70,42 @@ AreApart-push (first ∷ journal) op new apart =
     let parts = neither (same_operation first op) (has journal op) new in
     (differs_too first op journal apart.0 parts.0, AreApart-push journal op parts.1 apart.1)
 
--- what a replica keeps, once a new operation has come
-pub IsRecord-push : (journal grown : List Operation) (op : Operation) (old new : List (ℕ × Change)) → has journal op ≡ false → grown ≡ journal ++ op ∷ [] → state_shown new ≡ with_effect (state_shown old) op → IsRecord journal old → IsRecord grown new
-IsRecord-push journal grown op old new is_new grown_is new_is kept = record {
-  state = new_is ∙ ap (λ s. with_effect s op) kept.state ∙ sym (state_of-push journal op) ∙ ap state_of (sym grown_is);
-  apart = subst AreApart (sym grown_is) (AreApart-push journal op is_new kept.apart);
+-- ---- what a replica keeps, once an operation has come
+known_of : (b : Bool) (taken : Taken) → taken ≡ taken_of b → taken ≡ Known → b ≡ true
+known_of true taken is known = refl
+known_of false taken is known = let e : New ≡ Known = sym is ∙ known in cc
+
+new_of : (b : Bool) (taken : Taken) → taken ≡ taken_of b → taken ≡ New → b ≡ false
+new_of true taken is new = let e : Known ≡ New = sym is ∙ new in cc
+new_of false taken is new = refl
+
+latest-push : (journal : List Operation) (op : Operation) → greatest (times (journal ++ op ∷ [])) ≡ max (greatest (times journal)) op.stamp.time
+latest-push journal op = ap greatest (map-append (λ (o : Operation). o.stamp.time) journal (op ∷ [])) ∙ fold-append max 0 (times journal) (op.stamp.time ∷ [])
+
+-- the state, the set and the time of a journal that is the same
+pub record_same : (journal after : List Operation) (lines after_lines : List RowLine) (latest : ℕ) (changes after_changes : List (ℕ × Change)) → after ≡ journal → AreLines after after_lines → state_shown after_changes ≡ state_shown changes
+    → IsRecord journal lines latest changes → IsRecord after after_lines latest after_changes
+record_same journal after lines after_lines latest changes after_changes same are shown kept = record {
+  state = shown ∙ kept.state ∙ ap state_of (sym same);
+  apart = subst AreApart (sym same) kept.apart;
+  lines = are;
+  latest = kept.latest ∙ ap (λ j. greatest (times j)) (sym same);
 }
+
+module _ (journal after : List Operation) (lines after_lines : List RowLine) (latest : ℕ) (changes after_changes : List (ℕ × Change)) (op : Operation) (taken : Taken) (is : taken ≡ taken_of (has journal op)) (came : after ≡ arrived journal op)
+    (are : AreLines after after_lines) (shown : state_shown after_changes ≡ cond (has journal op) (state_shown changes) (with_effect (state_shown changes) op)) (kept : IsRecord journal lines latest changes) where
+  pub record_known : taken ≡ Known → IsRecord after after_lines latest after_changes
+  record_known e =
+      let known = known_of (has journal op) taken is e in
+      record_same journal after lines after_lines latest changes after_changes (came ∙ ap (λ t. cond t journal (journal ++ op ∷ [])) known) are (shown ∙ ap (λ t. cond t (state_shown changes) (with_effect (state_shown changes) op)) known) kept
+
+  pub record_new : taken ≡ New → (after_latest : ℕ) → after_latest ≡ max latest op.stamp.time → IsRecord after after_lines after_latest after_changes
+  record_new e after_latest latest_is =
+      let new = new_of (has journal op) taken is e in
+      let grown : after ≡ journal ++ op ∷ [] = came ∙ ap (λ t. cond t journal (journal ++ op ∷ [])) new in
+      record {
+        state = shown ∙ ap (λ t. cond t (state_shown changes) (with_effect (state_shown changes) op)) new ∙ ap (λ s. with_effect s op) kept.state ∙ sym (state_of-push journal op) ∙ ap state_of (sym grown);
+        apart = subst AreApart (sym grown) (AreApart-push journal op new kept.apart);
+        lines = are;
+        latest = latest_is ∙ ap (λ n. max n op.stamp.time) kept.latest ∙ sym (latest-push journal op) ∙ ap (λ j. greatest (times j)) (sym grown);
+      }

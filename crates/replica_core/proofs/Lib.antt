@@ -1,8 +1,14 @@
+pub mod Ranked
+pub mod Sought
+pub mod Filed
+pub mod Greatest
+pub mod LineLists
+pub mod Filing
+pub mod Growing
+pub mod Lookups
+pub mod Reaching
 pub mod Effects
-pub mod ClockLemmas
 pub mod Absorbing
 pub mod Fronts
-pub mod Rows
-pub mod PlaceLemmas
 pub mod Lacking
 pub mod StateLines

@@ -63,7 +63,7 @@ module _ (test : Operation → Bool) where
   kept_false true x op rest later e fails is = is ∙ nothing_kept (test op) later (ap test (sym (same_is_equal x op e)) ∙ fails)
   kept_false false x op rest later e fails is = is
 
-  has-filter : (xs : List Operation) (op : Operation) → has (filter test xs) op ≡ (test op && has xs op)
+  pub has-filter : (xs : List Operation) (op : Operation) → has (filter test xs) op ≡ (test op && has xs op)
   has-filter [] op = elim (test op) as (λ t. false ≡ (t && false)) [ true ↦ refl | false ↦ refl ]
   has-filter (x ∷ xs) op = elim (test x) as (λ t. test x ≡ t → has (cond t (x ∷ filter test xs) (filter test xs)) op ≡ (test op && (same_operation x op || has xs op))) [
     | true ↦ λ e. kept_true (same_operation x op) x op (has (filter test xs) op) (has xs op) refl e (has-filter xs op)
@@ -97,13 +97,13 @@ module _ (read : Operation → ℕ) where
   reached_at true x op whole e first later rest h = subst (λ o. read o ≤ whole) (same_is_equal x op e) first
   reached_at false x op whole e first later rest h = rest h
 
-  reached : (xs : List Operation) (a : ℕ) (op : Operation) → has xs op ≡ true → read op ≤ fold max a (map read xs)
+  pub reached : (xs : List Operation) (a : ℕ) (op : Operation) → has xs op ≡ true → read op ≤ fold max a (map read xs)
   reached [] a op h = absurd (false≢true h)
   reached (x ∷ xs) a op h =
       reached_at (same_operation x op) x op (fold max (max a (read x)) (map read xs)) refl
       (omega (arith, le-max_right a (read x), from_start xs (max a (read x)))) (has xs op) (reached xs (max a (read x)) op) h
 
-  bounded : (xs : List Operation) (a b : ℕ) → a ≤ b → ((op : Operation) → has xs op ≡ true → read op ≤ b) → fold max a (map read xs) ≤ b
+  pub bounded : (xs : List Operation) (a b : ℕ) → a ≤ b → ((op : Operation) → has xs op ≡ true → read op ≤ b) → fold max a (map read xs) ≤ b
   bounded [] a b start all = start
   bounded (x ∷ xs) a b start all =
       bounded xs (max a (read x)) b (max-le start (all x (ap (λ t. t || has xs x) (same_itself x)))) (λ op h. all op (elim (same_operation x op) as (λ t. (t || has xs op) ≡ true) [ true ↦ refl | false ↦ h ]))

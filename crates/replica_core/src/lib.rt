@@ -5,7 +5,10 @@ mod clock;
 mod front;
 mod gapless;
 mod laws;
+mod line;
 mod missing;
+#[cfg(test)]
+mod plain;
 mod replica;
 mod state_text;
 mod taken;

@@ -1,11 +1,14 @@
-ghost use Rattle.std.specs.Prelude.{◌≡◌, ◌↔◌, ◌<◌, Some, IsTrue, IfOk, slice_get, MatchResult, List, take, OnOk, OnErr, [], length};
+ghost use Rattle.std.specs.Prelude.{◌≡◌, ◌↔◌, ◌<◌, Some, IsTrue, IfOk, slice_get, MatchResult, List, take, OnOk, OnErr, [], length, ℕ, slice_index_or, if◌then◌else◌};
 ghost use Rattle.std.specs.Option.{option_copied};
 ghost use Rattle.std.specs.FinMap.{get};
 ghost use Rattle.review_ops.specs.Operation.{Operation};
 ghost use Rattle.replica_core.specs.Journal.{AreApart, all_arrived, has, has_stamp, arrived, taken_of};
 ghost use Rattle.replica_core.specs.InOrder.{IsInOrderOf};
+ghost use Rattle.replica_core.specs.Lines.{rows_of, row_of, IsLine, AreLines};
 ghost use Rattle.replica_core.specs.State.{state_of, state_shown, with_effect};
 
+use super::front::Row;
+use super::line::{Line, climbed, find_line, open_line, row_of};
 use super::taken::{Partly, Taken};
 use change_core::ChangeState;
 use lattice_core::{Join, JoinMap, NoMemory};
@@ -14,10 +17,13 @@ use std::alloc::{Allocator, Global};
 use std::marker::Model;
 
 /// The journal of a site, and the state that it joins to. Contracts see the arrivals: each operation of the journal once, in the order in
-/// which it first came.
+/// which it first came. Beside the arrivals a line for each row says where the row's operations stand among them, so that only `absorb`,
+/// `copy` and `write_state` walk the whole.
 #[derive(Drop)]
 pub struct Replica<A: Allocator + Copy = Global> {
-    arrivals: Vec<Op<A>, A>,
+    pub(super) arrivals: Vec<Op<A>, A>,
+    pub(super) lines: Vec<Line<A>, A>,
+    pub(super) latest: u64,
     state: JoinMap<u32, ChangeState<A>, A>,
     alloc: A,
 }
@@ -31,7 +37,7 @@ impl<A: Allocator + Copy> Model for Replica<A> {
 
     ghost view = { λ r. r.arrivals.items };
 
-    ghost invariant = { λ r. IsRecord r.arrivals.items r.state };
+    ghost invariant = { λ r. IsRecord r.arrivals.items r.lines.items r.latest r.state };
 }
 
 impl<A: Allocator + Copy> Replica<A> {
@@ -41,27 +47,42 @@ impl<A: Allocator + Copy> Replica<A> {
     {
         Replica {
             arrivals: Vec::new(alloc),
+            lines: Vec::new(alloc),
+            latest: 0,
             state: JoinMap::new(alloc),
             alloc,
         }
     }
 
-    /// Adds an operation to the journal and joins it into the state of its change, in place. Where memory is refused nothing changes.
+    /// Adds an operation to the journal and joins it into the state of its change, in place. Where memory is refused nothing changes. In time
+    /// logarithmic in the rows, in the operations of its row and in the state; in its row it is a push where it comes last, else the places
+    /// of those after it move.
     pub fn take(&mut self, op: Op<A>) -> Result<Taken, NoMemory>
         ensures ok { IfOk result (λ taken. (self.new ≡ arrived self.old op) × (taken ≡ taken_of (has self.old op))) }
         ensures err { OnErr result (self.new ≡ self.old) }
     {
-        if self.has(&op) {
-            return Ok(Taken::Known);
+        let time = op.stamp().time();
+        let index = open_line(&mut self.lines, self.alloc, row_of(&op))?;
+        let lines = &mut self.lines;
+        match file_at(
+            lines,
+            index,
+            &mut self.arrivals,
+            &mut self.state,
+            self.alloc,
+            op,
+        )? {
+            Taken::Known => Ok(Taken::Known),
+            Taken::New => {
+                self.latest = self.latest.max(time);
+                Ok(Taken::New)
+            }
         }
-        self.arrivals.try_reserve(1)?;
-        join_effect(&mut self.state, self.alloc, &op)?;
-        self.arrivals.push(op)?;
-        Ok(Taken::New)
     }
 
     /// Takes in every operation of another replica, in the order of operations. Where memory is refused the first `taken` of them are in, and
-    /// nothing else.
+    /// nothing else. It sorts the other's arrivals where they stand, which takes no memory, and time linear in them where they came in order,
+    /// and then takes one after the other.
     pub fn absorb(&mut self, other: Replica<A>) -> Result<(), Partly>
         ensures { (whole : List Operation) × IsInOrderOf other whole × MatchResult result
             (λ _. self.new ≡ all_arrived self.old whole)
@@ -69,6 +90,8 @@ impl<A: Allocator + Copy> Replica<A> {
     {
         let Replica {
             mut arrivals,
+            lines: _,
+            latest: _,
             state: _,
             alloc: _,
         } = other;
@@ -84,20 +107,28 @@ impl<A: Allocator + Copy> Replica<A> {
         Ok(())
     }
 
-    /// Whether the journal has this operation.
+    /// Whether the journal has this operation. In time logarithmic in the rows and in the operations of its row.
     pub fn has(&self, op: &Op<A>) -> bool
         ensures { result ≡ has self.now op.now }
     {
-        self.arrivals.iter().any(|arrived| arrived == op)
+        let Ok(index) = find_line(self.lines.as_slice(), row_of(op)) else {
+            return false;
+        };
+        self.lines[index].has(self.arrivals.as_slice(), op)
     }
 
-    /// Whether the journal has an operation with this stamp.
+    /// Whether the journal has an operation with this stamp. In time logarithmic in the rows and in the operations of its row.
     pub fn has_stamp(&self, stamp: Stamp) -> bool
         ensures { result ≡ has_stamp self.now stamp }
     {
-        self.arrivals
-            .iter()
-            .any(|arrived| arrived.stamp().cmp(&stamp).is_eq())
+        let row = Row {
+            site: stamp.site(),
+            start: stamp.start(),
+        };
+        let Ok(index) = find_line(self.lines.as_slice(), row) else {
+            return false;
+        };
+        self.lines[index].has_stamp(self.arrivals.as_slice(), stamp)
     }
 
     /// Whether the two have equal states. Their journals may differ.
@@ -107,14 +138,17 @@ impl<A: Allocator + Copy> Replica<A> {
         self.state.same(&other.state)
     }
 
-    /// An equal replica: the same arrivals in the same order.
+    /// An equal replica: the same arrivals in the same order. It costs the journal and the state.
     pub fn copy(&self) -> Result<Replica<A>, NoMemory>
         ensures { IfOk result (λ copied. copied ≡ self.now) }
     {
         let arrivals = copy_ops(self.alloc, self.as_slice())?;
+        let lines = copy_lines(self.alloc, self.lines.as_slice())?;
         let state = self.state.copy()?;
         Ok(Replica {
             arrivals,
+            lines,
+            latest: self.latest,
             state,
             alloc: self.alloc,
         })
@@ -168,6 +202,71 @@ impl<A: Allocator + Copy> Replica<A> {
     {
         &self.state
     }
+}
+
+/// Adds an operation to the line of its row, to the arrivals and to the state, unless it stands there. Where memory is refused nothing changes.
+fn file_at<A: Allocator + Copy>(
+    lines: &mut Vec<Line<A>, A>,
+    index: usize,
+    arrivals: &mut Vec<Op<A>, A>,
+    state: &mut JoinMap<u32, ChangeState<A>, A>,
+    alloc: A,
+    op: Op<A>,
+) -> Result<Taken, NoMemory>
+    requires lines { AreLines arrivals.old.items lines.old.items }
+    requires index { index < length lines.old.items }
+    requires row { (d : ℕ × ℕ) → slice_index_or (rows_of lines.old.items) index d ≡ (op.stamp.site, op.stamp.start) }
+    ensures ok { IfOk result (λ taken. (taken ≡ taken_of (has arrivals.old.items op))
+        × (arrivals.new.items ≡ arrived arrivals.old.items op)
+        × AreLines arrivals.new.items lines.new.items
+        × (state_shown state.new ≡ (if has arrivals.old.items op then state_shown state.old else with_effect (state_shown state.old) op))) }
+    ensures err { OnErr result ((arrivals.new.items ≡ arrivals.old.items) × (lines.new.items ≡ lines.old.items)
+        × (state_shown state.new ≡ state_shown state.old)) }
+{
+    let line = &mut lines[index];
+    file(line, arrivals, state, alloc, op)
+}
+
+/// Adds an operation to the line of its row, to the arrivals and to the state, unless it stands there. Where memory is refused nothing changes.
+fn file<A: Allocator + Copy>(
+    line: &mut Line<A>,
+    arrivals: &mut Vec<Op<A>, A>,
+    state: &mut JoinMap<u32, ChangeState<A>, A>,
+    alloc: A,
+    op: Op<A>,
+) -> Result<Taken, NoMemory>
+    requires line { IsLine arrivals.old.items line.old }
+    requires row { row_of line.old ≡ (op.stamp.site, op.stamp.start) }
+    ensures ok { IfOk result (λ taken. (taken ≡ taken_of (has arrivals.old.items op))
+        × (arrivals.new.items ≡ arrived arrivals.old.items op)
+        × IsLine arrivals.new.items line.new
+        × (row_of line.new ≡ row_of line.old)
+        × (state_shown state.new ≡ (if has arrivals.old.items op then state_shown state.old else with_effect (state_shown state.old) op))) }
+    ensures err { OnErr result ((arrivals.new.items ≡ arrivals.old.items) × (line.new ≡ line.old)
+        × (state_shown state.new ≡ state_shown state.old)) }
+{
+    let index = line.rank_of(arrivals.as_slice(), &op);
+    if line.has_at(arrivals.as_slice(), index, &op) {
+        return Ok(Taken::Known);
+    }
+    arrivals.try_reserve(1)?;
+    line.places.try_reserve(1)?;
+    join_effect(state, alloc, &op)?;
+    line.places.insert(index, arrivals.len())?;
+    arrivals.push(op)?;
+    line.reach = climbed(arrivals.as_slice(), line);
+    Ok(Taken::New)
+}
+
+/// Copies of lines, in their order.
+fn copy_lines<A: Allocator + Copy>(alloc: A, lines: &[Line<A>]) -> Result<Vec<Line<A>, A>, NoMemory>
+    ensures { IfOk result (λ copies. copies.items ≡ lines.now) }
+{
+    let mut copies = Vec::with_capacity(alloc, lines.len())?;
+    for line in lines {
+        copies.push(line.copy(alloc)?)?;
+    }
+    Ok(copies)
 }
 
 /// Joins the effect of an operation into the state of its change.

@@ -1,6 +1,7 @@
 //! Records worked out by hand, and what stands after refused memory.
 
 use super::front::{Front, Row};
+use super::plain::{Plain, row_of};
 use super::replica::Replica;
 use super::state_text::WriteStateFault;
 use super::taken::Taken;
@@ -295,8 +296,8 @@ fn taken_in(rt: &impl Abort, alloc: Global, size: usize) -> Result<usize, Fail> 
 #[test]
 fn a_refused_take_changes_nothing(rt: HostRuntime) -> Result<(), Fail> {
     let mut most = 0;
-    for steps in 0..256usize {
-        let taken = taken_in(&rt, rt.alloc(), steps * 64)?;
+    for steps in 0..2048usize {
+        let taken = taken_in(&rt, rt.alloc(), steps * 8)?;
         assert!(rt; taken >= most);
         most = taken;
     }
@@ -328,6 +329,40 @@ fn a_copy_is_equal_and_what_it_gains_is_absorbed(rt: HostRuntime) -> Result<(), 
     if 1 < first.len() {
         assert_eq!(rt; first.arrival(1).stamp().seq(), 4);
     }
+    Ok(())
+}
+
+/// Takes a merge of the change with this number, stamped with it.
+fn take_merge(replica: &mut Replica, number: u32) {
+    let seq = u64::from(number);
+    let stamp = Stamp::new(seq, 1, 1, seq);
+    let body = Body::checked(Draft::Merged { change: number });
+    if let (Some(stamp), Ok(body)) = (stamp, body) {
+        let _ = replica.take(Op::new(stamp, body));
+    }
+}
+
+/// The replica that took the first merges, as many as `count`.
+fn merges(alloc: Global, count: u32) -> Replica {
+    let mut replica = Replica::new(alloc);
+    for number in 0..count {
+        take_merge(&mut replica, number.saturating_add(1));
+    }
+    replica
+}
+
+#[test]
+fn what_has_all_is_absorbed_into_a_part_of_it(rt: HostRuntime) -> Result<(), Fail> {
+    let whole = merges(rt.alloc(), 5);
+    let mut part = merges(rt.alloc(), 3);
+    assert_eq!(rt; part.len(), 3);
+    assert!(rt; !part.same_state(&whole));
+    part.absorb(merges(rt.alloc(), 5))?;
+    assert_eq!(rt; part.len(), 5);
+    assert!(rt; part.same_state(&whole));
+    let copied = part.copy()?;
+    assert!(rt; copied.same_state(&whole));
+    assert!(rt; copied.as_slice().eq(whole.as_slice()));
     Ok(())
 }
 
@@ -363,8 +398,8 @@ fn absorbed_in(rt: &impl Abort, alloc: Global, size: usize) -> Result<bool, Fail
 #[test]
 fn a_refused_absorb_says_how_many_are_in(rt: HostRuntime) -> Result<(), Fail> {
     let mut sufficed = false;
-    for steps in 0..256usize {
-        let suffices = absorbed_in(&rt, rt.alloc(), steps * 64)?;
+    for steps in 0..2048usize {
+        let suffices = absorbed_in(&rt, rt.alloc(), steps * 8)?;
         assert!(rt; suffices || !sufficed);
         sufficed = suffices;
     }
@@ -422,8 +457,8 @@ fn what_is_refused_is_not_shown(rt: HostRuntime) -> Result<(), Fail> {
         text: false,
     };
     let mut last = refused;
-    for steps in 0..256usize {
-        if let Some(shown) = shown_in(&rt, rt.alloc(), steps * 32)? {
+    for steps in 0..1024usize {
+        if let Some(shown) = shown_in(&rt, rt.alloc(), steps * 8)? {
             refused.front = refused.front || !shown.front;
             refused.missing = refused.missing || !shown.missing;
             refused.text = refused.text || !shown.text;
@@ -449,4 +484,141 @@ fn a_failing_writer_is_told(rt: HostRuntime) -> Result<(), Fail> {
         b"end 0\n".as_slice()
     );
     Ok(())
+}
+
+/// Numbers that look thrown, the same in each run: Marsaglia's xorshift.
+#[derive(Drop)]
+struct Dice {
+    state: u64,
+}
+
+impl Dice {
+    /// A number below `sides`.
+    fn throw(&mut self, sides: u64) -> u64 {
+        self.state ^= self.state << 13;
+        self.state ^= self.state >> 7;
+        self.state ^= self.state << 17;
+        self.state.checked_rem(sides).unwrap_or(0)
+    }
+}
+
+/// An operation of one of six rows. Stamps come again, with equal and with other bodies; few have the greatest sequence number.
+fn thrown(dice: &mut Dice) -> Option<Op> {
+    let site = u16::try_from(dice.throw(3)).ok()?;
+    let start = u32::try_from(dice.throw(2)).ok()?;
+    let seq = match dice.throw(1024) {
+        0 => u64::MAX,
+        _ => dice.throw(40),
+    };
+    let stamp = Stamp::new(dice.throw(5), site, start, seq)?;
+    let change = u32::try_from(dice.throw(3)).ok()?;
+    let draft = match dice.throw(2) {
+        0 => Draft::Abandon { change },
+        _ => Draft::Merged { change },
+    };
+    Some(Op::new(stamp, Body::checked(draft).ok()?))
+}
+
+/// Both answer alike what a row's reach and next stamp are.
+fn assert_row_alike(rt: &impl Abort, replica: &Replica, plain: &Plain, front: &Front, row: Row) {
+    assert_eq!(rt; front.reach(row), plain.reach(row));
+    let next = replica.next_stamp(row.site, row.start).ok();
+    assert_eq!(rt;
+        next.map(|stamp| (stamp.time(), stamp.seq())),
+        plain.next(row)
+    );
+}
+
+/// Both answer alike what a front lacks.
+fn assert_lacked_alike(
+    rt: &impl Abort,
+    replica: &Replica,
+    lacked: &[Op],
+    front: &Front,
+    limit: usize,
+) -> Result<(), Fail> {
+    let missing = replica.missing(front, limit)?;
+    assert_eq!(rt; missing.more, limit < lacked.len());
+    assert!(rt; missing.ops.iter().eq(lacked.iter().take(limit)));
+    Ok(())
+}
+
+/// Both answer alike, of the whole journal and past a front that reaches into some rows.
+fn assert_alike(
+    rt: &impl Abort,
+    alloc: Global,
+    replica: &Replica,
+    plain: &Plain,
+    dice: &mut Dice,
+) -> Result<(), Fail> {
+    assert!(rt; replica.as_slice().eq(plain.ops.as_slice()));
+    let front = replica.front()?;
+    let mut part = Front::new(alloc);
+    for site in 0..4u16 {
+        for start in 0..3u32 {
+            let row = Row { site, start };
+            assert_row_alike(rt, replica, plain, &front, row);
+            part.raise(row, dice.throw(front.reach(row).saturating_add(3)))?;
+        }
+    }
+    let lacked = plain.missing(alloc, &part)?;
+    for limit in [0, 1, 256, lacked.len(), usize::MAX] {
+        assert_lacked_alike(rt, replica, lacked.as_slice(), &part, limit)?;
+    }
+    Ok(())
+}
+
+/// Both take an operation, and answer alike whether it is there before and after.
+fn take_both(
+    rt: &impl Abort,
+    replica: &mut Replica,
+    plain: &mut Plain,
+    op: Op,
+) -> Result<(), Fail> {
+    assert_eq!(rt; replica.has(&op), plain.has(&op));
+    assert_eq!(rt; replica.has_stamp(op.stamp()), plain.has_stamp(op.stamp()));
+    let taken = replica.take(op.copy()?)?;
+    assert_eq!(rt; taken == Taken::New, plain.take(op)?);
+    Ok(())
+}
+
+#[test]
+fn lines_answer_as_a_list_does(rt: HostRuntime) -> Result<(), Fail> {
+    let alloc = rt.alloc();
+    let mut dice = Dice {
+        state: 88172645463325252,
+    };
+    let mut replica = Replica::new(alloc);
+    let mut plain = Plain::new(alloc);
+    for count in 0..4096u32 {
+        if let Some(op) = thrown(&mut dice) {
+            take_both(&rt, &mut replica, &mut plain, op)?;
+        }
+        if count % 64 == 0 {
+            assert_alike(&rt, alloc, &replica, &plain, &mut dice)?;
+        }
+    }
+    assert_alike(&rt, alloc, &replica.copy()?, &plain, &mut dice)
+}
+
+#[test]
+fn what_is_absorbed_comes_in_order(rt: HostRuntime) -> Result<(), Fail> {
+    let alloc = rt.alloc();
+    let mut dice = Dice {
+        state: 362436069362436069,
+    };
+    let mut replica = Replica::new(alloc);
+    let mut other = Replica::new(alloc);
+    let mut plain = Plain::new(alloc);
+    for _ in 0..256u32 {
+        if let Some(op) = thrown(&mut dice) {
+            take_both(&rt, &mut replica, &mut plain, op)?;
+        }
+        if let Some(op) = thrown(&mut dice) {
+            other.take(op)?;
+        }
+    }
+    plain.absorb(alloc, other.as_slice())?;
+    replica.absorb(other)?;
+    assert_alike(&rt, alloc, &replica, &plain, &mut dice)
 }

@@ -1,6 +1,6 @@
-use Rattle.std.proofs.Common.{take}
-use Rattle.replica_core.specs.Places.{IsFrontOf}
+use Rattle.std.proofs.Common.{◌≡◌, take}
+use Rattle.replica_core.specs.Lines.{front_of}
 use Rattle.replica_core.proofs.gapless.front_of.Given as goal
 
-abbrev pub invariant-loop-place : goal.invariant-loop-place
-invariant-loop-place g l = IsFrontOf (take l.place-index l.places) l.front
+abbrev pub invariant-loop-line : goal.invariant-loop-line
+invariant-loop-line g l = l.front ≡ front_of (take l.line-index l.lines)

@@ -1,8 +1,12 @@
-use Rattle.std.proofs.Common.{◌∙◌, ap, map, subst}
-use Rattle.replica_core.specs.Places.{place_of, IsFrontOf}
+use Rattle.std.proofs.Common.{◌∙◌, ap, sym, subst}
+use Rattle.replica_core.specs.Front.{IsFront}
+use Rattle.replica_core.specs.Lines.{front_of}
 use Rattle.replica_core.proofs.Absorbing.{if_ok}
-use Rattle.replica_core.proofs.PlaceLemmas.{IsFront-from_places}
+use Rattle.replica_core.proofs.Reaching.{IsFront-lines}
 use Rattle.replica_core.proofs.replica.Replica.front.Goals as goal
 
 pub returns : goal.returns
-returns g c = if_ok c.front_of.result (λ front is. IsFront-from_places c.args.self.now c.in_ok-places.places.items c.sort_unstable.new.self.items front (c.in_ok-places.ensures ∙ ap (map place_of) c.as_slice.ensures.arrivals) c.sort_unstable.ensures.permutation (subst (λ l. IsFrontOf l front) c.as_slice-2.ensures.value is)) c.front_of.ensures
+returns g c =
+    let journal = c.self.inside.arrivals.items in
+    let lines = c.self.inside.lines.items in
+    if_ok c.front_of.result (λ front is. subst (IsFront c.args.self.now) (sym (is ∙ ap front_of c.as_slice.ensures.value)) (subst (λ j. IsFront j (front_of lines)) c.self.view_is (IsFront-lines journal lines c.self.invariant.lines))) c.front_of.ensures

@@ -1,20 +1,52 @@
-use Rattle.std.proofs.Common.{rules, ◌∙◌, filter, length, ap, subst, nat_lt}
-use Rattle.std.specs.Ordering.{is_lt}
-use Rattle.std.proofs.lemmas.List.Sorted.{ranks_by, answers_always}
-use Rattle.std.specs.List.Sorted.{IsPermutation}
-use Rattle.replica_core.specs.InOrder.{sorted_in_order}
-use Rattle.replica_core.specs.Missing.{is_past, row_by_row, row_by_row_exact}
-use Rattle.replica_core.proofs.Lacking.{AreApart-filter}
+use Rattle.std.proofs.Common.{◌∙◌, ◌≡◌, ap, sym, subst, ◌≤◌, length, true}
+use Rattle.std.proofs.lemmas.List.{take_all}
+use Rattle.std.specs.Prelude.{nat_lt}
+use Rattle.replica_core.specs.Front.{reach_of}
+use Rattle.replica_core.specs.Lines.{ops_of}
+use Rattle.replica_core.specs.Missing.{IsMissing}
+use Rattle.replica_core.specs.Searches.{ops_past}
+use Rattle.replica_core.proofs.Lacking.{past, lacked, IsMissing-lines, stopped, gone_on, nothing_left}
 use Rattle.replica_core.proofs.replica.Replica.missing.Goals as goal
+
+pub returns-then-branch : goal.returns-then-branch
+returns-then-branch g c =
+    let journal = c.self.inside.arrivals.items in
+    let lines = c.deref-line-items.result.now in
+    let front = c.args.front.now in
+    let line = c.line-item.result in
+    let i = c.loop-line.line-index in
+    let reach = c.reach-reach.ensures ∙ ap (λ row. reach_of front row.site row.start) c.row.ensures in
+    let is = ap (λ n. ops_past n (ops_of c.as_slice.result.now line)) reach ∙ ap (λ j. past j front line) c.as_slice.ensures.value in
+    let parts = stopped journal front lines i line c.loop-line-test.true c.line-item.is c.loop-line.ops.items (ops_past c.reach-reach.result (ops_of c.as_slice.result.now line)) c.copy_past.new.copies.items c.args.limit c.in_ok-copy_past.field-0
+    c.loop-line.invariant.copied is c.in_ok-copy_past.ensures.0 c.in_ok-copy_past.ensures.1 c.if-branch.true in (
+      lacked journal front lines,
+      subst (λ j. IsMissing j front (lacked journal front lines)) c.self.view_is (subst (λ ls. IsMissing journal front (lacked journal front ls)) (sym c.deref-line-items.ensures.value) (IsMissing-lines journal front c.self.inside.lines.items c.self.invariant.lines)),
+      parts.0,
+      parts.1,
+    )
+
+pub loop-line-preserved : goal.loop-line-preserved
+loop-line-preserved g c =
+    let journal = c.self.inside.arrivals.items in
+    let lines = c.deref-line-items.result.now in
+    let front = c.args.front.now in
+    let line = c.line-item.result in
+    let i = c.loop-line.line-index in
+    let reach = c.reach-reach.ensures ∙ ap (λ row. reach_of front row.site row.start) c.row.ensures in
+    let is = ap (λ n. ops_past n (ops_of c.as_slice.result.now line)) reach ∙ ap (λ j. past j front line) c.as_slice.ensures.value in
+    let parts = gone_on journal front lines i line c.loop-line-test.true c.line-item.is c.loop-line.ops.items (ops_past c.reach-reach.result (ops_of c.as_slice.result.now line)) c.copy_past.new.copies.items c.args.limit c.in_ok-copy_past.field-0
+    c.loop-line.invariant.copied is c.in_ok-copy_past.ensures.0 c.in_ok-copy_past.ensures.1 c.if-branch.false in
+    record { copied = parts.0; room = parts.1 }
 
 pub returns : goal.returns
 returns g c =
-    let all = c.sort_unstable_by.new.self.items in (
-      all,
-      sorted_in_order row_by_row_exact (filter (is_past c.args.front.now) c.args.self.now) all
-          (AreApart-filter (is_past c.args.front.now) c.args.self.now c.as_slice.ensures.apart)
-          (subst (λ l. IsPermutation l all) (c.in_ok-ops.ensures ∙ ap (filter (is_past c.args.front.now)) c.as_slice.ensures.arrivals) c.sort_unstable_by.ensures.permutation)
-          (c.sort_unstable_by.ensures.sorted (λ x y. is_lt (row_by_row x y)) (ranks_by row_by_row_exact.total (λ op. op)) (answers_always _ _ _ (λ f a r f' called. search rules))),
-      c.truncate.ensures.items,
-      ap (nat_lt c.args.limit) (ap length c.as_slice-2.ensures.value),
+    let journal = c.self.inside.arrivals.items in
+    let lines = c.deref-line-items.result.now in
+    let front = c.args.front.now in
+    let all : c.loop-line.ops.items ≡ lacked journal front lines = c.loop-line.invariant.copied ∙ ap (lacked journal front) (take_all c.loop-line.line-index lines c.loop-line-test.false) in
+    let parts = nothing_left (lacked journal front lines) c.args.limit (subst (λ l. length l ≤ c.args.limit) all c.loop-line.invariant.room) in (
+      lacked journal front lines,
+      subst (λ j. IsMissing j front (lacked journal front lines)) c.self.view_is (subst (λ ls. IsMissing journal front (lacked journal front ls)) (sym c.deref-line-items.ensures.value) (IsMissing-lines journal front c.self.inside.lines.items c.self.invariant.lines)),
+      all ∙ parts.0,
+      parts.1,
     )

@@ -1,0 +1,60 @@
+-- What the line of a row says of the whole journal.
+use Rattle.std.proofs.Common.{◌≡◌, ◌<◌, ◌&&◌, ◌==◌, ℕ, Bool, true, false, List, length, get_or, filter, refl, sym, ap, subst, ◌∙◌, eq-eqb}
+use Rattle.std.specs.Ordering.{eq_by_cmp}
+use Rattle.std.specs.List.{Any, All, Contains, list_any}
+use Rattle.std.proofs.lemmas.Bool.{false≢true}
+use Rattle.std.proofs.lemmas.List.Folds.{Any-from_list_any}
+use Rattle.review_ops.specs.Timestamp.{Timestamp, timestamp_cmp, timestamps_exact}
+use Rattle.review_ops.specs.Operation.{Operation}
+use Rattle.replica_core.specs.Clock.{is_of}
+use Rattle.replica_core.specs.Exact.{same_by_test, false_unless}
+use Rattle.replica_core.specs.Journal.{has, has_stamp}
+use Rattle.replica_core.specs.Sets.{any_alike, has-from_Contains}
+use Rattle.replica_core.specs.RowLine.{RowLine}
+use Rattle.replica_core.specs.Lines.{ops_of, row_of, rows_of, IsFiled, IsLine, AreLines}
+use Rattle.replica_core.proofs.Sought.{has_it}
+use Rattle.replica_core.proofs.Greatest.{kept_any}
+use Rattle.replica_core.proofs.LineLists.{row_at}
+
+module _ (journal : List Operation) (lines : List RowLine) (are : AreLines journal lines) (index : ℕ) (inside : index < length lines) (line : RowLine) (there : line ≡ get_or lines index line) where
+  pub line_at : IsLine journal line
+  line_at = subst (IsLine journal) (sym there) (are.each index line inside)
+
+  pub row_found : (row : ℕ × ℕ) → ((d : ℕ × ℕ) → get_or (rows_of lines) index d ≡ row) → row_of line ≡ row
+  row_found row at = ap row_of there ∙ sym (row_at lines index inside row line) ∙ at row
+
+module _ (journal : List Operation) (line : RowLine) (filed : IsFiled journal line) (stamp : Timestamp) (row : row_of line ≡ (stamp.site, stamp.start)) where
+  of_stamp : (op : Operation) → has_it stamp op ≡ true → is_of line.site line.start op ≡ true
+  of_stamp op e =
+      let same : op.stamp ≡ stamp = same_by_test timestamps_exact op.stamp stamp e in
+      ap (λ t. t && op.stamp.start == line.start) (eq-eqb op.stamp.site line.site (ap (λ s. s.site) same ∙ sym (ap (λ r. r.0) row)))
+      ∙ eq-eqb op.stamp.start line.start (ap (λ s. s.start) same ∙ sym (ap (λ r. r.1) row))
+
+  of_both : (is of : Bool) → (is ≡ true → of ≡ true) → (of && is) ≡ is
+  of_both true of h = ap (λ t. t && true) (h refl)
+  of_both false true h = refl
+  of_both false false h = refl
+
+  pub has_stamp_row : has_stamp (ops_of journal line) stamp ≡ has_stamp journal stamp
+  has_stamp_row =
+      any_alike (has_it stamp) (ops_of journal line) (filter (is_of line.site line.start) journal) filed.ordered.members
+      ∙ kept_any journal line filed (has_it stamp) (is_of line.site line.start) journal
+      ∙ ap (λ f. list_any f journal) (λ i op. of_both (has_it stamp op) (is_of line.site line.start op) (of_stamp op) i)
+
+module _ (journal : List Operation) (lines : List RowLine) (are : AreLines journal lines) where
+  pub has_none : (op : Operation) → (Contains (rows_of lines) (op.stamp.site, op.stamp.start) → ⊥) → has journal op ≡ false
+  has_none op none = false_unless (has journal op) (λ h. none (are.whole op h))
+
+  pub has_stamp_none : (stamp : Timestamp) → (Contains (rows_of lines) (stamp.site, stamp.start) → ⊥) → has_stamp journal stamp ≡ false
+  has_stamp_none stamp none = false_unless (has_stamp journal stamp) (λ h.
+      let found : Any (λ op. has_it stamp op ≡ true) journal = Any-from_list_any (has_it stamp) journal h in
+      let same : found.1.stamp ≡ stamp = same_by_test timestamps_exact found.1.stamp stamp found.4 in
+      none (subst (Contains (rows_of lines)) (ap (λ s. (s.site, s.start)) same) (are.whole found.1 (has-from_Contains journal found.1 (found.0, found.2, found.3)))))
+
+-- what the search for a line found, in the lines themselves
+pub found_in : (slice lines : List RowLine) → slice ≡ lines → (index : ℕ) (row want : ℕ × ℕ) → row ≡ want
+    → (index < length slice) × ((d : ℕ × ℕ) → get_or (rows_of slice) index d ≡ row) → (index < length lines) × ((d : ℕ × ℕ) → get_or (rows_of lines) index d ≡ want)
+found_in slice lines same index row want equal found = (subst (λ l. index < length l) same found.0, λ d. ap (λ l. get_or (rows_of l) index d) (sym same) ∙ found.1 d ∙ equal)
+
+pub none_in : (slice lines : List RowLine) → slice ≡ lines → (row want : ℕ × ℕ) → row ≡ want → (Contains (rows_of slice) row → ⊥) → Contains (rows_of lines) want → ⊥
+none_in slice lines same row want equal none there = none (subst (λ l. Contains (rows_of l) row) (sym same) (subst (Contains (rows_of lines)) (sym equal) there))
