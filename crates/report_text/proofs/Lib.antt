@@ -4,3 +4,5 @@ mod Sorted
 mod ReadBack
 mod Arrivals
 mod OneReading
+mod Passing
+mod OneReport

@@ -6,6 +6,8 @@ use Rattle.report_text.specs.declared.fault.SnapFault.{SnapFault}
 use Rattle.report_text.specs.declared.fault.SnapFault.TheVariants.{BadHeader, BadLine, NoEnd, BadCount, AfterEnd, TooLong, ReadFault, NoMemory}
 use Rattle.report_text.specs.declared.fault.WriteSnapFault.{WriteSnapFault}
 use Rattle.report_text.specs.declared.fault.WriteSnapFault.TheVariants as write
+use Rattle.report_text.specs.declared.fault.WriteReportFault.{WriteReportFault}
+use Rattle.report_text.specs.declared.fault.WriteReportFault.TheVariants as write_report
 
 abbrev pub number_of : SnapFault → ℕ
 number_of BadHeader = 1
@@ -47,3 +49,9 @@ write_number_of write.NoMemory = 2
 abbrev pub write_name_of : WriteSnapFault → List ℕ
 write_name_of write.WriteFault = codes "WriteFault"
 write_name_of write.NoMemory = codes "NoMemory"
+
+abbrev pub write_report_number_of : WriteReportFault → ℕ
+write_report_number_of write_report.WriteFault = 1
+
+abbrev pub write_report_name_of : WriteReportFault → List ℕ
+write_report_name_of write_report.WriteFault = codes "WriteFault"

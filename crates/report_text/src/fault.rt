@@ -1,5 +1,5 @@
 ghost use Rattle.std.specs.Prelude.{◌≡◌};
-ghost use Rattle.report_text.specs.Fault.{number_of, name_of, bytes_number_of, bytes_name_of, write_number_of, write_name_of, snap_fault_of};
+ghost use Rattle.report_text.specs.Fault.{number_of, name_of, bytes_number_of, bytes_name_of, write_number_of, write_name_of, write_report_number_of, write_report_name_of, snap_fault_of};
 ghost use Rattle.report_text.specs.declared.fault.WriteSnapFault.TheVariants.{WriteFault as WriteFailed, NoMemory as OutOfMemory};
 
 use byte_ends::Failed;
@@ -60,6 +60,14 @@ pub enum WriteSnapFault {
     /// 2: memory was refused.
     #[error("no memory")]
     NoMemory,
+}
+
+/// Why a report isn't written.
+#[derive(Clone, Copy, Debug, PartialEq, Eq, Error)]
+pub enum WriteReportFault {
+    /// 1: the drain failed.
+    #[error("the drain failed")]
+    WriteFault,
 }
 
 impl BytesFault {
@@ -142,6 +150,26 @@ impl WriteSnapFault {
     }
 }
 
+impl WriteReportFault {
+    /// The fault's number in reports.
+    pub fn number(&self) -> u8
+        ensures { result ≡ write_report_number_of self.now }
+    {
+        match self {
+            WriteReportFault::WriteFault => 1,
+        }
+    }
+
+    /// The fault's name in reports.
+    pub fn name(&self) -> &'static str
+        ensures { result.now ≡ write_report_name_of self.now }
+    {
+        match self {
+            WriteReportFault::WriteFault => "WriteFault",
+        }
+    }
+}
+
 impl From<BytesFault> for SnapFault {
     ghost from_gives = { λ fault given. given ≡ snap_fault_of fault };
 
@@ -167,5 +195,11 @@ impl From<NoMemory> for WriteSnapFault {
 
     fn from(_refused: NoMemory) -> WriteSnapFault {
         WriteSnapFault::NoMemory
+    }
+}
+
+impl From<Failed> for WriteReportFault {
+    fn from(_failed: Failed) -> WriteReportFault {
+        WriteReportFault::WriteFault
     }
 }

@@ -1,10 +1,13 @@
-ghost use Rattle.std.specs.Prelude.{◌≡◌, ◌<◌, ◌^◌, ◌||◌, ℕ, List, length};
+ghost use Rattle.std.specs.Prelude.{◌≡◌, ◌<◌, ◌^◌, ◌||◌, ℕ, List, length, map};
 ghost use Rattle.byte_ends.specs.Lines.{lines_of};
 ghost use Rattle.review_ops.specs.Operation.{Operation};
 ghost use Rattle.replica_core.specs.Journal.{has, all_arrived};
 ghost use Rattle.replica_core.specs.InOrder.{IsInOrderOf};
 ghost use Rattle.report_text.specs.Snapshot.{SaysOperations, snapshot_text};
 ghost use Rattle.report_text.specs.Sound.{AreSound};
+ghost use Rattle.ready_core.specs.Verdicts.{Judged};
+ghost use Rattle.report_text.specs.Report.{report_of};
+ghost use Rattle.report_text.specs.Told.{AreSmall, told};
 
 use op_text::operations_are_spelled;
 
@@ -32,4 +35,11 @@ pub fn operations_arrive_as_a_set()
 pub fn lines_have_one_reading()
     ensures { (lines : List (List ℕ)) → (ops others : List Operation)
         → SaysOperations lines ops → SaysOperations lines others → ops ≡ others }
+{}
+
+/// A law: the text of a report tells which items are ready, and the refusal of each other item.
+pub fn reports_have_one_reading()
+    ensures { (verdicts others : Judged) → AreSmall verdicts → AreSmall others
+        → report_of verdicts ≡ report_of others
+        → (verdicts.ready ≡ others.ready) × (map told verdicts.out ≡ map told others.out) }
 {}

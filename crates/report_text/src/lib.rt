@@ -1,20 +1,25 @@
-//! The texts of snapshots.
+//! The texts of snapshots and reports.
 #![tactic(auto)]
 
 mod end_line;
 mod fault;
 mod laws;
+mod page;
 mod read;
+mod report;
+#[cfg(test)]
+mod report_tests;
 #[cfg(test)]
 mod tests;
 mod whole;
 mod write;
 
-pub use fault::{BytesFault, SnapFault, WriteSnapFault};
+pub use fault::{BytesFault, SnapFault, WriteReportFault, WriteSnapFault};
 pub use laws::{
-    lines_have_one_reading, operations_arrive_as_a_set, snapshots_are_one,
-    snapshots_say_their_operations,
+    lines_have_one_reading, operations_arrive_as_a_set, reports_have_one_reading,
+    snapshots_are_one, snapshots_say_their_operations,
 };
 pub use read::{SNAPSHOT_LIMIT, read_snapshot, snapshot_of};
+pub use report::write_report;
 pub use whole::read_all;
 pub use write::write_snapshot;

@@ -1,0 +1,54 @@
+-- The text of a report: which items are ready under a gate, and why each other item isn't. The names of conditions are the keys of Zuul's
+-- Gerrit driver (zuul-ci.org/docs, "Gerrit", pipeline requirements); the form is the project's own.
+use Rattle.std.specs.Prelude.{ℕ, List, ◌++◌, codes, length, flat_map}
+use Rattle.std.specs.Fmt.{decimal}
+use Rattle.gate_rules.specs.declared.own.Item.{Item}
+use Rattle.gate_rules.specs.declared.condition.Side.{Side}
+use Rattle.gate_rules.specs.declared.condition.Side.TheVariants.{Require, Reject}
+use Rattle.gate_rules.specs.declared.condition.Clause.{Clause}
+use Rattle.gate_rules.specs.declared.condition.Clause.TheVariants.{OpenState, CurrentSet, StatusIn, Approval}
+use Rattle.ready_core.specs.declared.verdicts.Left.{Left}
+use Rattle.ready_core.specs.declared.verdicts.Refusal.{Refusal}
+use Rattle.ready_core.specs.declared.verdicts.Refusal.TheVariants.{Own, Cycle, Unknown, Dependency}
+use Rattle.ready_core.specs.Verdicts.{Judged}
+use Rattle.report_text.specs.Snapshot.{as_line}
+
+-- ---- the words of a refusal
+
+abbrev pub side_name : Side → List ℕ
+side_name Require = codes "require"
+side_name Reject = codes "reject"
+
+-- approvals are counted from 1, as in the condition itself
+abbrev pub clause_text : Clause → List ℕ
+clause_text OpenState = codes "open"
+clause_text CurrentSet = codes "current-patchset"
+clause_text StatusIn = codes "status"
+clause_text (Approval number) = codes "approval " ++ decimal number
+
+abbrev pub refusal_text : Refusal → List ℕ
+refusal_text (Own condition) = side_name condition.side ++ codes " " ++ clause_text condition.clause
+refusal_text Cycle = codes "cycle"
+refusal_text (Unknown number) = codes "unknown " ++ decimal number
+refusal_text (Dependency number) = codes "dependency " ++ decimal number
+
+-- ---- the lines
+
+-- the change and the patch set, as `101,2`
+abbrev pub item_text : Item → List ℕ
+item_text item = decimal item.change ++ codes "," ++ decimal item.set
+
+abbrev pub ready_line : Item → List ℕ
+ready_line item = as_line (codes "ready " ++ item_text item)
+
+abbrev pub out_line : Left → List ℕ
+out_line left = as_line (codes "out " ++ item_text left.item ++ codes " " ++ refusal_text left.refusal)
+
+-- with the numbers of both kinds of line
+abbrev pub end_line : ℕ → ℕ → List ℕ
+end_line ready out = as_line (codes "end " ++ decimal ready ++ codes " " ++ decimal out)
+
+-- the items that are ready, one a line, then the others, each with its refusal, and the end line
+abbrev pub report_of : Judged → List ℕ
+report_of verdicts =
+    flat_map ready_line verdicts.ready ++ flat_map out_line verdicts.out ++ end_line (length verdicts.ready) (length verdicts.out)

@@ -1,0 +1,40 @@
+-- What the text of a report tells of its verdicts.
+use Rattle.std.specs.Prelude.{ℕ, ◌<◌, ◌^◌}
+use Rattle.std.specs.List.{AllByRecursion}
+use Rattle.gate_rules.specs.declared.own.Item.{Item}
+use Rattle.gate_rules.specs.declared.condition.Clause.{Clause}
+use Rattle.gate_rules.specs.declared.condition.Clause.TheVariants.{OpenState, CurrentSet, StatusIn, Approval}
+use Rattle.ready_core.specs.declared.verdicts.Left.{Left}
+use Rattle.ready_core.specs.declared.verdicts.Refusal.{Refusal}
+use Rattle.ready_core.specs.declared.verdicts.Refusal.TheVariants.{Own, Cycle, Unknown, Dependency}
+use Rattle.ready_core.specs.Verdicts.{Judged}
+
+-- an item that is left out is told with its refusal, and without its rank
+abbrev pub told : Left → Item × Refusal
+told left = (left.item, left.refusal)
+
+-- ---- every number has at most 64 bits, as those of verdicts have
+
+pub record IsSmallItem (item : Item) : Type 0 where
+  pub change : item.change < 2 ^ 64
+  pub set : item.set < 2 ^ 64
+
+abbrev pub IsSmallClause : Clause → Type 0
+IsSmallClause OpenState = Unit {0}
+IsSmallClause CurrentSet = Unit {0}
+IsSmallClause StatusIn = Unit {0}
+IsSmallClause (Approval number) = number < 2 ^ 64
+
+abbrev pub IsSmallRefusal : Refusal → Type 0
+IsSmallRefusal (Own condition) = IsSmallClause condition.clause
+IsSmallRefusal Cycle = Unit {0}
+IsSmallRefusal (Unknown number) = number < 2 ^ 64
+IsSmallRefusal (Dependency number) = number < 2 ^ 64
+
+pub record IsSmallLeft (left : Left) : Type 0 where
+  pub item : IsSmallItem left.item
+  pub refusal : IsSmallRefusal left.refusal
+
+pub record AreSmall (verdicts : Judged) : Type 0 where
+  pub ready : AllByRecursion IsSmallItem verdicts.ready
+  pub out : AllByRecursion IsSmallLeft verdicts.out
