@@ -16,6 +16,8 @@ mod causes;
 mod judge;
 mod laws;
 #[cfg(test)]
+mod plain;
+#[cfg(test)]
 mod tests;
 mod verdicts;
 

@@ -7,22 +7,22 @@ use std::process::Abort;
 use std::test::Fail;
 
 // A gate that wants two approvals on the current patch set of an open change, and one that also lets items on a cycle in.
-const GATE: &str =
+pub(super) const GATE: &str =
     r#"{"bases":["https://review.example.org/"],"reject":{"gerrit":{"approval":[{"Code-Review":-2}]}},"require":{"gerrit":{"open":true,"current-patchset":true,"approval":[{"Workflow":1},{"Verified":[1,2],"username":"zuul"}]}}}"#;
 
-const CYCLES: &str =
+pub(super) const CYCLES: &str =
     r#"{"allow-circular-dependencies":true,"bases":["https://review.example.org/"],"reject":{"gerrit":{"approval":[{"Code-Review":-2}]}},"require":{"gerrit":{"open":true,"current-patchset":true,"approval":[{"Workflow":1},{"Verified":[1,2],"username":"zuul"}]}}}"#;
 
 /// A record whose operations come one after the other.
 #[derive(Drop)]
-struct Review {
-    replica: Replica,
+pub(super) struct Review {
+    pub(super) replica: Replica,
     alloc: Global,
     time: u64,
 }
 
 impl Review {
-    fn new(alloc: Global) -> Review {
+    pub(super) fn new(alloc: Global) -> Review {
         Review {
             replica: Replica::new(alloc),
             alloc,
@@ -31,7 +31,7 @@ impl Review {
     }
 
     /// Takes in the next operation.
-    fn take(&mut self, draft: Draft) -> Result<(), Fail> {
+    pub(super) fn take(&mut self, draft: Draft) -> Result<(), Fail> {
         self.time = self.time.saturating_add(1);
         let stamp = Stamp::new(self.time, 1, 1, self.time).ok_or("a stamp")?;
         let body = Body::checked(draft).map_err(|_| "a body")?;
@@ -42,7 +42,7 @@ impl Review {
     }
 
     /// A patch set whose message has a footer for each of these changes.
-    fn patch_set(
+    pub(super) fn patch_set(
         &mut self,
         change: u32,
         set: u32,
@@ -81,7 +81,7 @@ impl Review {
     }
 
     /// The two approvals that the gate wants on a first patch set.
-    fn both(&mut self, change: u32) -> Result<(), Fail> {
+    pub(super) fn both(&mut self, change: u32) -> Result<(), Fail> {
         self.vote(change, 1, "Workflow", "ann", 1)?;
         self.vote(change, 1, "Verified", "zuul", 1)
     }

@@ -1,0 +1,255 @@
+//! A slow plain program beside the search, and the two compared.
+
+use super::tests::{CYCLES, GATE, Review};
+use super::{Left, Refusal, evaluate};
+use gate_rules::{Clause, Condition, Gate, Item, Side};
+use lattice_core::NoMemory;
+use review_ops::Draft;
+use std::alloc::Global;
+use std::process::Abort;
+use std::test::Fail;
+
+/// Changes with the numbers from 1 on, each with one patch set, and which of them needs which.
+#[derive(Drop)]
+struct Case {
+    changes: u32,
+    approved: Vec<bool>,
+    merged: Vec<bool>,
+    edges: Vec<(u32, u32)>,
+    cycles: bool,
+    alloc: Global,
+}
+
+/// What is listed for a change.
+fn listed<T: Copy>(list: &[T], change: u32) -> Option<T> {
+    if change == 0 {
+        return None;
+    }
+    list.get(change as usize - 1).copied()
+}
+
+/// The first condition of the gate's side that a change breaks.
+fn required(clause: Clause) -> Option<Refusal> {
+    Some(Refusal::Own(Condition {
+        side: Side::Require,
+        clause,
+    }))
+}
+
+impl Case {
+    /// Whether the first change waits for the second.
+    fn waits(&self, from: u32, to: u32) -> bool {
+        from != to && listed(self.merged.as_slice(), to) != Some(true)
+    }
+
+    /// Whether a change comes back to itself, by repeated relaxing.
+    fn comes_back(&self, change: u32) -> Result<bool, NoMemory> {
+        let mut reached = Vec::new(self.alloc);
+        reached.push(change)?;
+        let mut back = false;
+        for _ in 0..self.approved.len() {
+            for (from, to) in &self.edges {
+                if self.waits(*from, *to) && reached.as_slice().contains(from) {
+                    back = back || *to == change;
+                    reached.push(*to)?;
+                }
+            }
+            reached.sort_unstable();
+            reached.dedup();
+        }
+        Ok(back)
+    }
+
+    /// The least of the changes that a change waits for and that pass the test.
+    fn least(&self, change: u32, passes: &[bool], wanted: bool) -> Option<u32> {
+        let mut least = None;
+        for (from, to) in &self.edges {
+            let passed = listed(passes, *to).unwrap_or(false) == wanted;
+            if *from == change && self.waits(*from, *to) && passed {
+                least = Some(least.map_or(*to, |other: u32| other.min(*to)));
+            }
+        }
+        least
+    }
+
+    /// Why a change's item isn't eligible.
+    fn cause(&self, change: u32, known: &[bool]) -> Result<Option<Refusal>, NoMemory> {
+        if listed(self.merged.as_slice(), change) == Some(true) {
+            return Ok(required(Clause::OpenState));
+        }
+        if listed(self.approved.as_slice(), change) != Some(true) {
+            return Ok(required(Clause::Approval(1)));
+        }
+        if !self.cycles && self.comes_back(change)? {
+            return Ok(Some(Refusal::Cycle));
+        }
+        Ok(self.least(change, known, false).map(Refusal::Unknown))
+    }
+
+    /// Each change that has no refusal yet and waits for one that was refused in the round before is refused, round by round, until there is no
+    /// such change.
+    fn refusals(&self) -> Result<Vec<Option<(Refusal, usize)>>, NoMemory> {
+        let known = vec![in self.alloc; true; self.approved.len()]?;
+        let mut refusals = Vec::new(self.alloc);
+        for change in 1..=self.changes {
+            let cause = self.cause(change, known.as_slice())?;
+            refusals.push(cause.map(|refusal| (refusal, 0)))?;
+        }
+        for rank in 0..self.approved.len() {
+            refusals = self.next_round(refusals.as_slice(), rank)?;
+        }
+        Ok(refusals)
+    }
+
+    fn next_round(
+        &self,
+        refusals: &[Option<(Refusal, usize)>],
+        rank: usize,
+    ) -> Result<Vec<Option<(Refusal, usize)>>, NoMemory> {
+        let mut newest = Vec::new(self.alloc);
+        for refusal in refusals {
+            newest.push(matches!(refusal, Some((_, of)) if *of == rank))?;
+        }
+        let mut next = Vec::new(self.alloc);
+        for (change, refusal) in (1u32..).zip(refusals) {
+            let waits = self.least(change, newest.as_slice(), true);
+            let told = waits.map(|number| (Refusal::Dependency(number), rank.saturating_add(1)));
+            next.push(refusal.or(told))?;
+        }
+        Ok(next)
+    }
+
+    /// The operations of the case.
+    fn review(&self) -> Result<Review, Fail> {
+        let mut review = Review::new(self.alloc);
+        for change in 1..=self.changes {
+            let mut needs = Vec::new(self.alloc);
+            for (from, to) in &self.edges {
+                if *from == change {
+                    needs.push(*to)?;
+                }
+            }
+            review.patch_set(change, 1, needs.as_slice(), None)?;
+            if listed(self.approved.as_slice(), change) == Some(true) {
+                review.both(change)?;
+            }
+            if listed(self.merged.as_slice(), change) == Some(true) {
+                review.take(Draft::Merged { change })?;
+            }
+        }
+        Ok(review)
+    }
+}
+
+/// Both programs say the same of a case.
+fn assert_plain(rt: &impl Abort, case: &Case) -> Result<(), Fail> {
+    let text = if case.cycles { CYCLES } else { GATE };
+    let gate = Gate::read(case.alloc, text.as_bytes()).map_err(|_| "a gate")?;
+    let review = case.review()?;
+    let verdicts = evaluate(case.alloc, &review.replica, &gate).map_err(|_| "no memory")?;
+    let refusals = case.refusals().map_err(|_| "no memory")?;
+    let mut ready = Vec::new(case.alloc);
+    let mut out = Vec::new(case.alloc);
+    for (change, refusal) in (1u32..).zip(refusals.as_slice()) {
+        let item = Item { change, set: 1 };
+        match *refusal {
+            None => ready.push(item)?,
+            Some((refusal, rank)) => out.push(Left {
+                item,
+                refusal,
+                rank,
+            })?,
+        }
+    }
+    assert_eq!(rt; verdicts.ready(), ready.as_slice());
+    assert_eq!(rt; verdicts.out(), out.as_slice());
+    Ok(())
+}
+
+/// The next binary digit of a number.
+fn digit(number: &mut u32) -> bool {
+    let odd = *number % 2 == 1;
+    *number /= 2;
+    odd
+}
+
+/// The case whose edges, approvals and gate are the binary digits of a number. The changes may need each other and one that isn't known.
+fn numbered(alloc: Global, changes: u32, number: u32) -> Result<Case, Fail> {
+    let mut digits = number;
+    let mut case = Case {
+        changes,
+        approved: Vec::new(alloc),
+        merged: Vec::new(alloc),
+        edges: Vec::new(alloc),
+        cycles: digit(&mut digits),
+        alloc,
+    };
+    for change in 1..=changes {
+        case.approved.push(digit(&mut digits))?;
+        case.merged.push(false)?;
+        for to in 1..=changes {
+            if to != change && digit(&mut digits) {
+                case.edges.push((change, to))?;
+            }
+        }
+        if digit(&mut digits) {
+            case.edges.push((change, 9))?;
+        }
+    }
+    Ok(case)
+}
+
+fn assert_numbered(rt: &impl Abort, alloc: Global, changes: u32, cases: u32) -> Result<(), Fail> {
+    for number in 0..cases {
+        let case = numbered(alloc, changes, number)?;
+        assert_plain(rt, &case)?;
+    }
+    Ok(())
+}
+
+#[test]
+fn all_graphs_of_three_items_as_the_plain_program(rt: HostRuntime) -> Result<(), Fail> {
+    assert_numbered(&rt, rt.alloc(), 1, 8)?;
+    assert_numbered(&rt, rt.alloc(), 2, 128)?;
+    assert_numbered(&rt, rt.alloc(), 3, 8192)
+}
+
+/// The next number of a fixed row of numbers, below a limit.
+fn next_below(state: &mut u64, limit: u32) -> u32 {
+    *state = state
+        .wrapping_mul(6_364_136_223_846_793_005)
+        .wrapping_add(1_442_695_040_888_963_407);
+    ((*state >> 33) as u32).checked_rem(limit).unwrap_or(0)
+}
+
+/// A case of up to eight changes, of which some are merged, some are not approved, and some need one that isn't known.
+fn some_case(alloc: Global, state: &mut u64) -> Result<Case, Fail> {
+    let mut case = Case {
+        changes: next_below(state, 9),
+        approved: Vec::new(alloc),
+        merged: Vec::new(alloc),
+        edges: Vec::new(alloc),
+        cycles: next_below(state, 2) == 0,
+        alloc,
+    };
+    for _ in 0..case.changes {
+        case.approved.push(next_below(state, 4) != 0)?;
+        case.merged.push(next_below(state, 8) == 0)?;
+    }
+    for _ in 0..next_below(state, 14) {
+        let from = next_below(state, case.changes).saturating_add(1);
+        let to = next_below(state, 9).saturating_add(1);
+        case.edges.push((from, to))?;
+    }
+    Ok(case)
+}
+
+#[test]
+fn four_hundred_graphs_as_the_plain_program(rt: HostRuntime) -> Result<(), Fail> {
+    let mut state = 3;
+    for _ in 0..400 {
+        let case = some_case(rt.alloc(), &mut state)?;
+        assert_plain(&rt, &case)?;
+    }
+    Ok(())
+}
