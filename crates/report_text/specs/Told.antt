@@ -1,5 +1,5 @@
 -- What the text of a report tells of its verdicts.
-use Rattle.std.specs.Prelude.{ℕ, ◌<◌, ◌^◌}
+use Rattle.std.specs.Prelude.{◌<◌, ◌^◌}
 use Rattle.std.specs.List.{AllByRecursion}
 use Rattle.gate_rules.specs.declared.own.Item.{Item}
 use Rattle.gate_rules.specs.declared.condition.Clause.{Clause}

@@ -3,13 +3,16 @@ ghost use Rattle.byte_ends.specs.Lines.{lines_of};
 ghost use Rattle.review_ops.specs.Operation.{Operation};
 ghost use Rattle.replica_core.specs.Journal.{has, all_arrived};
 ghost use Rattle.replica_core.specs.InOrder.{IsInOrderOf};
+ghost use Rattle.replica_core.specs.State.{State};
+ghost use Rattle.gate_rules.specs.Rules.{GateRules};
+ghost use Rattle.ready_core.specs.Verdicts.{AreVerdicts, Judged};
 ghost use Rattle.report_text.specs.Snapshot.{SaysOperations, snapshot_text};
 ghost use Rattle.report_text.specs.Sound.{AreSound};
-ghost use Rattle.ready_core.specs.Verdicts.{Judged};
 ghost use Rattle.report_text.specs.Report.{report_of};
 ghost use Rattle.report_text.specs.Told.{AreSmall, told};
 
 use op_text::operations_are_spelled;
+use ready_core::verdicts_are_unique;
 
 /// A law: the text of a snapshot says its operations.
 pub fn snapshots_say_their_operations()
@@ -43,3 +46,12 @@ pub fn reports_have_one_reading()
         → report_of verdicts ≡ report_of others
         → (verdicts.ready ≡ others.ready) × (map told verdicts.out ≡ map told others.out) }
 {}
+
+/// A law: under one gate equal states print equal reports.
+pub fn equal_states_print_equal_reports()
+    ensures { (gate : GateRules) → (state other : State) → (verdicts others : Judged) → state ≡ other
+        → AreVerdicts gate state verdicts → AreVerdicts gate other others
+        → report_of verdicts ≡ report_of others }
+{
+    verdicts_are_unique();
+}

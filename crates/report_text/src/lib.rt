@@ -16,8 +16,8 @@ mod write;
 
 pub use fault::{BytesFault, SnapFault, WriteReportFault, WriteSnapFault};
 pub use laws::{
-    lines_have_one_reading, operations_arrive_as_a_set, reports_have_one_reading,
-    snapshots_are_one, snapshots_say_their_operations,
+    equal_states_print_equal_reports, lines_have_one_reading, operations_arrive_as_a_set,
+    reports_have_one_reading, snapshots_are_one, snapshots_say_their_operations,
 };
 pub use read::{SNAPSHOT_LIMIT, read_snapshot, snapshot_of};
 pub use report::write_report;

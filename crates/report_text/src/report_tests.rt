@@ -1,7 +1,9 @@
 use super::page::Page;
 use super::read::snapshot_of;
 use super::report::{add_end, add_out, add_ready, write_ready};
-use super::{WriteReportFault, reports_have_one_reading, write_report};
+use super::{
+    WriteReportFault, equal_states_print_equal_reports, reports_have_one_reading, write_report,
+};
 use byte_ends::{Broken, Ends, Failed};
 use gate_rules::{Clause, Condition, Gate, Item, Side};
 use ready_core::{Left, Refusal, Verdicts, evaluate};
@@ -179,6 +181,7 @@ fn pages_are_written_whole(rt: HostRuntime) -> Result<(), Fail> {
 #[test]
 fn the_fault_has_a_number_and_a_name(rt: HostRuntime) {
     reports_have_one_reading();
+    equal_states_print_equal_reports();
     assert_eq!(rt; WriteReportFault::WriteFault.number(), 1);
     assert_eq!(rt; WriteReportFault::WriteFault.name(), "WriteFault");
 }
