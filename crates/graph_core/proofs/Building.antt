@@ -1,23 +1,23 @@
 -- The rows that the code makes are those of the dependencies.
-use Rattle.std.proofs.Common.{◌≡◌, ◌<◌, ◌≤◌, ◌⊎◌, ◌↔◌, ℕ, List, map, length, Contains, Some, refl, sym, ap, ◌∙◌, subst, arith, inl, inr}
-use Rattle.std.specs.Prelude.{All, IsSome}
+use Rattle.std.proofs.Common.{◌≡◌, ◌<◌, ◌≤◌, ℕ, List, map, length, Contains, Some, refl, sym, ap, ◌∙◌, subst, arith, inl, inr}
+use Rattle.std.specs.Prelude.{All}
 use Rattle.std.specs.declared.cmp.Ordering.{Ordering}
 use Rattle.std.specs.declared.cmp.Ordering.TheVariants.{Less, Equal, Greater}
 use Rattle.std.specs.Ordering.{nat_cmp, ordering_then, MatchOrdering}
 use Rattle.std.specs.FinMap as finite
 use Rattle.std.specs.List.{AllZip}
-use Rattle.std.specs.List.Sorted.{IsStrictlySortedBy, IsStrictlyIncreasing}
+use Rattle.std.specs.List.Sorted.{IsStrictlyIncreasing}
 use Rattle.std.proofs.lemmas.Cmp.{ranked}
 use Rattle.std.proofs.lemmas.List.Elements.{Contains-get_or}
 use Rattle.change_core.specs.Change.{Change}
-use Rattle.change_core.specs.Views.{IsKnownSet, IsGreatestKnown}
+use Rattle.change_core.specs.Views.{IsKnownSet}
 use Rattle.gate_rules.specs.Rules.{GateRules}
 use Rattle.gate_rules.specs.Items.{IsItem}
 use Rattle.gate_rules.specs.declared.own.Item.{Item}
 use Rattle.replica_core.specs.State.{State}
 use Rattle.graph_core.specs.Order.{item_cmp}
 use Rattle.graph_core.specs.Dependencies.{IsTarget, IsDependency, IsCurrentItem}
-use Rattle.graph_core.specs.ItemGraph.{IsAt, AreItems, AreTargets, AreEnds, EndsAt}
+use Rattle.graph_core.specs.ItemGraph.{IsAt, AreItems, AreTargets, AreEnds}
 use Rattle.graph_core.specs.Listed.{IsLastOf, ArePlaces}
 use Rattle.graph_core.specs.ZipLaws.{length-AllZip, AllZip-chain, AllZip-map, All-AllZip}
 use Rattle.graph_core.specs.PlaceLaws.{Contains-at, at_Contains, one_item, sorted_at, earlier_or_same}

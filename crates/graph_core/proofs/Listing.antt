@@ -1,16 +1,13 @@
 -- The items listed change by change are just the items of the state, in order.
-use Rattle.std.proofs.Common.{◌≡◌, ◌<◌, ◌⊎◌, ◌↔◌, ℕ, zero, suc, Bool, true, false, ◌&&◌, T, List, [], ◌∷◌, ◌++◌, map, flat_map, length, Contains, Option, Some, None, IsSome, append-nil, refl, sym, ap, ◌∙◌, subst, arith, inl, inr}
+use Rattle.std.proofs.Common.{◌≡◌, ℕ, Bool, true, false, ◌&&◌, T, List, [], ◌∷◌, ◌++◌, map, flat_map, Contains, append-nil, refl, sym, ap, ◌∙◌, subst, inl, inr}
 use Rattle.std.specs.declared.cmp.Ordering.{Ordering}
 use Rattle.std.specs.declared.cmp.Ordering.TheVariants.{Less, Equal, Greater}
 use Rattle.std.specs.Ordering.{nat_cmp, ordering_then, is_lt}
 use Rattle.std.specs.Cmp.{nat_cmp_total, tied_itself}
-use Rattle.std.specs.List.{All, AllByRecursion}
 use Rattle.std.specs.List.Sorted.{IsStrictlySortedBy}
-use Rattle.std.specs.FinMap.{FinMap, get, entries, is_sorted, entries_sorted}
+use Rattle.std.specs.FinMap.{get, entries, is_sorted, entries_sorted}
 use Rattle.std.specs.FinMap.Entries.{below_all}
-use Rattle.std.proofs.lemmas.List.Elements.{All-append, All-contains, All-from_recursion, recursion_from_All, Contains-get_or, Contains-append_left, Contains-append_right, Contains-append_cases}
-use Rattle.lattice_core.specs.Keep.{numbers_exact}
-use Rattle.lattice_core.specs.JoinMap.{AllByRecursion-entries}
+use Rattle.std.proofs.lemmas.List.Elements.{recursion_from_All, Contains-get_or}
 use Rattle.review_ops.specs.Timestamp.{Timestamp}
 use Rattle.change_core.specs.Slots.{Patch}
 use Rattle.change_core.specs.Change.{Change}
@@ -19,7 +16,7 @@ use Rattle.gate_rules.specs.declared.own.Item.{Item}
 use Rattle.replica_core.specs.State.{State}
 use Rattle.graph_core.specs.Order.{item_cmp}
 use Rattle.graph_core.specs.ItemGraph.{AreItems}
-use Rattle.graph_core.specs.MemberLaws.{Contains-cons_cases, Contains-first, Contains-later, Contains-none, Contains-of_map, Contains-to_map, Contains-of_flat_map, Contains-to_flat_map, sorted_append}
+use Rattle.graph_core.specs.MemberLaws.{Contains-cons_cases, Contains-none, Contains-of_map, Contains-to_map, Contains-of_flat_map, Contains-to_flat_map, sorted_append}
 use Rattle.graph_core.specs.EntryLaws.{get-entry, entry-get, some_of, is_some_of}
 use Rattle.graph_core.specs.Listed.{item_of, items_in, all_items}
 

@@ -1,9 +1,9 @@
 -- The items that wait for a change, one item after the other.
-use Rattle.std.proofs.Common.{◌≡◌, ◌≢◌, ◌<◌, ◌≤◌, ◌+◌, ◌==◌, ℕ, Bool, true, false, ◌||◌, cond, eqb, List, [], ◌∷◌, ◌++◌, map, take, length, get_or, Contains, append-nil, refl, sym, ap, ◌∙◌, subst, arith}
-use Rattle.std.specs.List.{Any, list_any}
+use Rattle.std.proofs.Common.{◌≡◌, ◌<◌, ◌+◌, ℕ, Bool, true, false, ◌||◌, cond, eqb, List, [], ◌∷◌, ◌++◌, map, take, length, get_or, Contains, append-nil, refl, sym, ap, ◌∙◌, subst, arith}
+use Rattle.std.specs.List.{Any}
 use Rattle.std.specs.List.Sorted.{IsStrictlyIncreasing}
 use Rattle.std.proofs.lemmas.Bool.{false≢true, eqb-true}
-use Rattle.std.proofs.lemmas.List.{length-take-le, take_more, take-map, get_or-map}
+use Rattle.std.proofs.lemmas.List.{length-take-le, take_more, get_or-map}
 use Rattle.std.proofs.lemmas.List.Folds.{Any-from_list_any, list_any-append}
 use Rattle.gate_rules.specs.declared.own.Item.{Item}
 use Rattle.graph_core.specs.ItemGraph.{has, namers_of}

@@ -1,5 +1,5 @@
 -- What an item waits for, from what it names.
-use Rattle.std.proofs.Common.{◌≡◌, ◌≢◌, ◌⊎◌, ◌↔◌, ℕ, Bool, true, false, not, List, [], ◌∷◌, ◌++◌, Contains, filter, Option, Some, None, eqb, refl, sym, ap, ◌∙◌, subst, inl, inr}
+use Rattle.std.proofs.Common.{◌≡◌, ◌≢◌, ◌↔◌, ℕ, Bool, true, false, not, List, [], ◌∷◌, ◌++◌, Contains, filter, Option, Some, None, eqb, refl, sym, ap, ◌∙◌, subst, inl, inr}
 use Rattle.std.specs.FinMap as finite
 use Rattle.std.specs.Ordering.{nat_cmp}
 use Rattle.std.specs.List.Retain.{IsFiltered, DiffersFromLast}
@@ -18,7 +18,7 @@ use Rattle.footer_text.specs.Footers.{AreFooters, MessageNeeds}
 use Rattle.gate_rules.specs.Rules.{GateRules}
 use Rattle.gate_rules.specs.declared.own.Item.{Item}
 use Rattle.replica_core.specs.State.{State}
-use Rattle.graph_core.specs.Dependencies.{IsNeeded, IsParent, IsMerged, Names, IsTarget}
+use Rattle.graph_core.specs.Dependencies.{IsNeeded, IsParent, IsMerged, Names}
 use Rattle.graph_core.specs.ItemGraph.{AreTargets}
 use Rattle.graph_core.specs.MemberLaws.{Contains-of_filter, Contains-to_filter}
 use Rattle.graph_core.specs.Merged.{is_final, merged_in}

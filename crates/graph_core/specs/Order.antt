@@ -1,5 +1,4 @@
 -- The order of items: by change, then by patch set.
-use Rattle.std.specs.Prelude.{ℕ}
 use Rattle.std.specs.declared.cmp.Ordering.{Ordering}
 use Rattle.std.specs.Ordering.{nat_cmp, ordering_then}
 use Rattle.gate_rules.specs.declared.own.Item.{Item}

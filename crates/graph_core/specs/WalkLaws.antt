@@ -1,12 +1,12 @@
 -- Walks over places and walks over items are one: each item has one place, and an edge leads from place to place just where one leads from
 -- item to item.
-use Rattle.std.specs.Prelude.{◌≡◌, ◌↔◌, ◌<◌, ℕ, Bool, true, IsTrue, List, [], Option, None, Some, length, slice_get, Contains}
+use Rattle.std.specs.Prelude.{◌≡◌, ◌↔◌, ◌<◌, ℕ, Bool, true, IsTrue, List, Option, None, Some, slice_get, Contains}
 use Rattle.std.specs.List.{AllZip}
 use Rattle.std.specs.List.Sorted.{IsStrictlySortedBy}
 use Rattle.std.proofs.Common.{zero, suc, refl, sym, ap, ◌∙◌, subst}
 use Rattle.std.proofs.lemmas.Option.{slice_get_within}
 use Rattle.walk_core.specs.Walks.{Leads, IsOnCycle}
-use Rattle.walk_core.specs.Digraphs.{HasEdge, IsWithin, AreOnCycles, IsMarked, ends_of, row}
+use Rattle.walk_core.specs.Digraphs.{HasEdge, IsWithin, AreOnCycles, row}
 use Rattle.gate_rules.specs.declared.own.Item.{Item}
 use Rattle.graph_core.specs.Order.{item_cmp}
 use Rattle.graph_core.specs.ItemGraph.{IsAt, EndsAt, AreEnds}

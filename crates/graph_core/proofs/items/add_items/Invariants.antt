@@ -1,5 +1,4 @@
 use Rattle.std.proofs.Common.{◌≡◌, ◌++◌, map}
-use Rattle.std.specs.FinMap.{entries}
 use Rattle.change_core.specs.Parts.{patch_of}
 use Rattle.graph_core.specs.Listed.{item_of, items_in}
 use Rattle.graph_core.proofs.items.add_items.Given as goal

@@ -1,4 +1,4 @@
-use Rattle.std.proofs.Common.{[], ℕ, List, map, sym, ◌∙◌, arith}
+use Rattle.std.proofs.Common.{[], map, sym, ◌∙◌, arith}
 use Rattle.std.proofs.lemmas.List.{length-map}
 use Rattle.graph_core.proofs.Naming.{namers_more, shown_at}
 use Rattle.graph_core.proofs.namers.all_namers.Goals as goal

@@ -1,7 +1,6 @@
-use Rattle.std.proofs.Common.{◌≡◌, List, Contains, sym, ap, ◌∙◌, subst}
+use Rattle.std.proofs.Common.{sym, ap, ◌∙◌}
 use Rattle.std.specs.Option.{option_copied, option_map}
 use Rattle.graph_core.proofs.Waiting.{names_alone, names_with}
-use Rattle.graph_core.specs.Dependencies.{Names}
 use Rattle.replica_core.specs.State.{state_of}
 use Rattle.graph_core.proofs.targets.names_of.Goals as goal
 

@@ -1,9 +1,8 @@
-use Rattle.std.proofs.Common.{◌≡◌, ◌∙◌, ℕ, List, Vec, Global, map, subst, sym, ap, length}
+use Rattle.std.proofs.Common.{◌∙◌, ℕ, List, Vec, Global, map, subst, sym, ap, length}
 use Rattle.std.specs.Prelude.{All}
 use Rattle.std.specs.List.{AllZip}
 use Rattle.std.specs.List.Sorted.{IsStrictlyIncreasing}
 use Rattle.std.proofs.lemmas.List.{length-map}
-use Rattle.walk_core.specs.Digraphs.{AreOnCycles}
 use Rattle.gate_rules.specs.Items.{IsItem}
 use Rattle.replica_core.specs.State.{state_of}
 use Rattle.graph_core.specs.Dependencies.{IsDependency}
