@@ -1,7 +1,6 @@
 -- Why an item isn't eligible, from what the graph and the searches say of it.
-use Rattle.std.proofs.Common.{◌≡◌, ◌<◌, ◌≤◌, ◌↔◌, ℕ, Bool, true, false, List, Contains, Some, None, refl, sym, ap, ◌∙◌, subst}
-use Rattle.std.specs.Prelude.{slice_get, length, MatchBool, IsTrue, slice_index_or}
-use Rattle.std.specs.List.{AllZip}
+use Rattle.std.proofs.Common.{◌≡◌, ◌<◌, ◌↔◌, ℕ, Bool, true, false, List, Contains, sym, ap, ◌∙◌, subst}
+use Rattle.std.specs.Prelude.{length, MatchBool, IsTrue, slice_index_or}
 use Rattle.std.proofs.lemmas.Bool.{false≢true}
 use Rattle.std.proofs.lemmas.Option.{slice_get_within, get_or_from_slice_get}
 use Rattle.walk_core.specs.Walks.{IsOnCycle}
@@ -10,7 +9,7 @@ use Rattle.gate_rules.specs.Rules.{GateRules}
 use Rattle.gate_rules.specs.Items.{IsItem}
 use Rattle.gate_rules.specs.declared.own.Item.{Item}
 use Rattle.replica_core.specs.State.{State}
-use Rattle.graph_core.specs.Dependencies.{IsDependency, IsKnown, IsTarget}
+use Rattle.graph_core.specs.Dependencies.{IsDependency, IsKnown}
 use Rattle.graph_core.specs.ItemGraph.{ItemGraph, IsAt, IsGraphOf, AreTargets}
 use Rattle.graph_core.specs.PlaceLaws.{Contains-at}
 use Rattle.graph_core.specs.ZipLaws.{AllZip-at}

@@ -1,6 +1,6 @@
 -- A dependency that is told leads on to its current item.
-use Rattle.std.proofs.Common.{◌≡◌, ◌<◌, ℕ, List, map, Contains, suc, refl, sym, ap, ◌∙◌, subst}
-use Rattle.walk_core.specs.Walks.{IsDistance, IsDistance-once}
+use Rattle.std.proofs.Common.{ℕ, sym, ap, subst}
+use Rattle.walk_core.specs.Walks.{IsDistance-once}
 use Rattle.gate_rules.specs.Rules.{GateRules}
 use Rattle.gate_rules.specs.Items.{IsItem}
 use Rattle.gate_rules.specs.declared.own.Item.{Item}

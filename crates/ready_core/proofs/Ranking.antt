@@ -1,28 +1,25 @@
 -- What the searched ranks say of the items.
-use Rattle.std.proofs.Common.{◌≡◌, ◌<◌, ◌≤◌, ◌+◌, ◌-◌, ◌⊎◌, ◌↔◌, ℕ, Bool, true, false, List, map, length, get_or, Contains, Option, Some, None, is_some, zero, suc, refl, sym, ap, ◌∙◌, subst, arith, inl, inr}
+use Rattle.std.proofs.Common.{◌≡◌, ◌<◌, ◌≤◌, ◌-◌, ℕ, Bool, true, false, List, length, get_or, Contains, Option, Some, None, is_some, zero, suc, refl, sym, ap, ◌∙◌, subst, arith, inl, inr}
 use Rattle.std.specs.Prelude.{slice_get, option_map, All, MatchOption, IsSome}
-use Rattle.std.specs.List.{AllZip}
-use Rattle.std.specs.List.Sorted.{IsStrictlyIncreasing, IsStrictlySortedBy}
-use Rattle.std.proofs.lemmas.List.{get_or_default, length-map}
+use Rattle.std.specs.List.Sorted.{IsStrictlyIncreasing}
+use Rattle.std.proofs.lemmas.List.{length-map}
 use Rattle.std.proofs.lemmas.List.Elements.{All-contains}
 use Rattle.std.proofs.lemmas.List.Kept.{AllPairs-from_increasing}
 use Rattle.std.proofs.lemmas.Option.{slice_get-map, slice_get_within, slice_get-get_or, get_or_from_slice_get}
-use Rattle.walk_core.specs.Walks.{Leads, IsDistance, IsDistance-once, BeginsFewest}
-use Rattle.walk_core.specs.Digraphs.{HasEdge, IsMarked, IsWithin, ends_of, row}
-use Rattle.walk_core.specs.Edges.{AreDistances-zero, AreDistances-next, HasEdge-starts}
+use Rattle.walk_core.specs.Walks.{Leads, IsDistance-once}
+use Rattle.walk_core.specs.Digraphs.{HasEdge, IsMarked, ends_of, row}
+use Rattle.walk_core.specs.Edges.{AreDistances-zero, AreDistances-next}
 use Rattle.gate_rules.specs.Rules.{GateRules}
-use Rattle.gate_rules.specs.Items.{IsItem}
 use Rattle.gate_rules.specs.declared.own.Item.{Item}
 use Rattle.replica_core.specs.State.{State}
-use Rattle.graph_core.specs.Order.{item_cmp}
-use Rattle.graph_core.specs.Dependencies.{IsDependency, IsCurrentItem}
+use Rattle.graph_core.specs.Dependencies.{IsDependency}
 use Rattle.graph_core.specs.ItemGraph.{ItemGraph, IsAt, IsGraphOf, AreEnds}
 use Rattle.graph_core.specs.PlaceLaws.{Contains-at, at_Contains, at_below, one_item, changes_rise, earlier_or_same}
 use Rattle.graph_core.specs.WalkLaws.{edge_between, edge_at, Leads-items, Leads-places}
-use Rattle.graph_core.specs.ZipLaws.{AllZip-at, length-AllZip}
+use Rattle.graph_core.specs.ZipLaws.{AllZip-at}
 use Rattle.ready_core.specs.declared.verdicts.Refusal.{Refusal}
 use Rattle.ready_core.specs.declared.verdicts.Refusal.TheVariants.{Dependency}
-use Rattle.ready_core.specs.Refusals.{IsEligible, IsIneligible, IsRefused, IsRank, BeginsShortest, IsLeastNearest}
+use Rattle.ready_core.specs.Refusals.{IsEligible, IsIneligible, IsRefused, IsRank}
 use Rattle.ready_core.specs.Causes.{IsCauseOf, AreCauses, AreSearched, HasRank, IsNearest, IsSafeItem, flags_of}
 use Rattle.ready_core.proofs.Refusing.{refused_ineligible}
 

@@ -1,10 +1,9 @@
 -- What a refusal says of its item.
-use Rattle.std.proofs.Common.{◌≡◌, ◌<◌, ◌≤◌, ℕ, Some, None, Option, zero, suc, refl, sym, ap, ◌∙◌, subst, arith}
-use Rattle.walk_core.specs.Walks.{IsDistance, IsDistance-zero}
-use Rattle.change_core.specs.Change.{Change}
+use Rattle.std.proofs.Common.{◌≡◌, ℕ, Some, suc, sym, subst, arith}
+use Rattle.walk_core.specs.Walks.{IsDistance-zero}
 use Rattle.gate_rules.specs.Rules.{GateRules}
 use Rattle.gate_rules.specs.Items.{IsItem}
-use Rattle.gate_rules.specs.Own.{IsOwn, IsFirstBroken, IsBroken, standing_of}
+use Rattle.gate_rules.specs.Own.{IsOwn}
 use Rattle.gate_rules.specs.declared.own.Item.{Item}
 use Rattle.gate_rules.specs.declared.condition.Condition.{Condition}
 use Rattle.replica_core.specs.State.{State}
@@ -12,7 +11,7 @@ use Rattle.graph_core.specs.Dependencies.{IsDependency}
 use Rattle.graph_core.specs.EntryLaws.{greatest_known}
 use Rattle.ready_core.specs.declared.verdicts.Refusal.{Refusal}
 use Rattle.ready_core.specs.declared.verdicts.Refusal.TheVariants.{Own, Cycle, Unknown, Dependency}
-use Rattle.ready_core.specs.Refusals.{IsFree, IsEligible, IsIneligible, IsRefused, IsRank}
+use Rattle.ready_core.specs.Refusals.{IsFree, IsIneligible, IsRefused, IsRank}
 
 -- an item that breaks a condition isn't free
 pub own_excludes : (gate : GateRules) (state : State) (item : Item) (condition : Condition) → IsItem state item → IsOwn gate state item (Some condition) → ¬ IsFree gate state item

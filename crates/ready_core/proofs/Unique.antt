@@ -1,18 +1,17 @@
 -- One state has one list of verdicts under one gate.
-use Rattle.std.proofs.Common.{◌≡◌, ◌<◌, ◌≤◌, ◌⊎◌, ◌↔◌, ℕ, Bool, true, false, List, [], ◌∷◌, map, Contains, Some, None, suc, refl, sym, ap, ◌∙◌, subst, arith, inl, inr}
+use Rattle.std.proofs.Common.{◌≡◌, ◌≤◌, ◌⊎◌, ◌↔◌, ℕ, true, List, [], ◌∷◌, Contains, Some, suc, refl, sym, ap, ◌∙◌, subst, arith, inl, inr}
 use Rattle.std.specs.Prelude.{nat_lt}
 use Rattle.std.specs.declared.cmp.Ordering.{Ordering}
-use Rattle.std.specs.declared.cmp.Ordering.TheVariants.{Less, Equal, Greater}
+use Rattle.std.specs.declared.cmp.Ordering.TheVariants.{Less}
 use Rattle.std.specs.Cmp.{IsTotalOrder}
 use Rattle.std.specs.List.{AllByRecursion}
 use Rattle.std.specs.List.Sorted.{IsStrictlySortedBy}
 use Rattle.std.proofs.lemmas.Bool.{lt-ltb, cases_lt}
 use Rattle.std.proofs.lemmas.List.Elements.{All-from_recursion, All-contains}
 use Rattle.walk_core.specs.Walks.{IsDistance-once}
-use Rattle.change_core.specs.Change.{Change}
 use Rattle.gate_rules.specs.Rules.{GateRules}
 use Rattle.gate_rules.specs.Items.{IsItem}
-use Rattle.gate_rules.specs.Own.{IsOwn, IsFirstBroken, IsBroken, ItemStanding, standing_of, before, clause_before, side_before}
+use Rattle.gate_rules.specs.Own.{IsOwn, IsFirstBroken, ItemStanding, standing_of, clause_before, side_before}
 use Rattle.gate_rules.specs.declared.own.Item.{Item}
 use Rattle.gate_rules.specs.declared.condition.Condition.{Condition}
 use Rattle.gate_rules.specs.declared.condition.Clause.{Clause}
@@ -20,17 +19,16 @@ use Rattle.gate_rules.specs.declared.condition.Clause.TheVariants.{OpenState, Cu
 use Rattle.gate_rules.specs.declared.condition.Side.{Side}
 use Rattle.gate_rules.specs.declared.condition.Side.TheVariants.{Require, Reject}
 use Rattle.replica_core.specs.State.{State}
-use Rattle.graph_core.specs.Order.{item_cmp}
 use Rattle.graph_core.specs.Dependencies.{IsDependency}
 use Rattle.graph_core.specs.EntryLaws.{greatest_known}
-use Rattle.graph_core.specs.MemberLaws.{Contains-cons_cases, Contains-first, Contains-later, Contains-none, Contains-of_map, Contains-to_map}
+use Rattle.graph_core.specs.MemberLaws.{Contains-cons_cases, Contains-first, Contains-later, Contains-none, Contains-to_map}
 use Rattle.graph_core.specs.PlaceLaws.{items_total, not_below_itself, earlier_or_same}
 use Rattle.ready_core.specs.declared.verdicts.Refusal.{Refusal}
 use Rattle.ready_core.specs.declared.verdicts.Refusal.TheVariants.{Own, Cycle, Unknown, Dependency}
 use Rattle.ready_core.specs.declared.verdicts.Left.{Left}
 use Rattle.ready_core.specs.Refusals.{IsIneligible, IsRefused, BeginsShortest}
 use Rattle.ready_core.specs.Verdicts.{AreVerdicts, Judged, items_out}
-use Rattle.ready_core.proofs.Refusing.{own_excludes, refused_rank, refused_ineligible}
+use Rattle.ready_core.proofs.Refusing.{own_excludes, refused_rank}
 
 -- ---- one list in order has some members
 module _ {X : Type 0} {cmp : X → X → Ordering} (total : IsTotalOrder cmp) where

@@ -1,7 +1,7 @@
 -- Which items Zuul may enqueue, and why another one isn't among them. An item goes in with what it waits for: the ready items are the
 -- union of all closed sets of eligible items (`Closed`), so that items on a cycle go in together where the gate allows cycles (Zuul's
 -- `allow-circular-dependencies`). What an item left out is told, and its rank, are this project's own.
-use Rattle.std.specs.Prelude.{◌≡◌, ◌≤◌, ◌⊎◌, ℕ, false, None, Some}
+use Rattle.std.specs.Prelude.{◌≡◌, ◌≤◌, ℕ, false, None, Some}
 use Rattle.std.proofs.Common.{suc}
 use Rattle.walk_core.specs.Walks.{BeginsFewest, IsDistance, IsOnCycle}
 use Rattle.gate_rules.specs.Rules.{GateRules}

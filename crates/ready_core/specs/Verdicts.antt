@@ -1,5 +1,5 @@
 -- What evaluating a state under a gate gives.
-use Rattle.std.specs.Prelude.{◌≡◌, ◌↔◌, ◌⊎◌, ℕ, List, Contains, map}
+use Rattle.std.specs.Prelude.{◌≡◌, ◌↔◌, ℕ, List, Contains, map}
 use Rattle.std.proofs.Common.{suc}
 use Rattle.std.specs.List.Sorted.{IsStrictlySortedBy}
 use Rattle.gate_rules.specs.Rules.{GateRules}

@@ -1,4 +1,4 @@
-use Rattle.std.proofs.Common.{sym, ap, ◌∙◌, false}
+use Rattle.std.proofs.Common.{sym, ap, false}
 use Rattle.std.specs.Prelude.{slice_index_or}
 use Rattle.ready_core.proofs.Causing.{barred_here}
 use Rattle.ready_core.proofs.causes.is_barred.Goals as goal

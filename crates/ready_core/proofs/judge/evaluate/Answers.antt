@@ -1,7 +1,7 @@
-use Rattle.std.proofs.Common.{◌≡◌, ◌∙◌, sym, ap, subst, length, is_some}
+use Rattle.std.proofs.Common.{◌∙◌, sym, ap, subst, length, is_some}
 use Rattle.std.proofs.lemmas.List.{length-map}
 use Rattle.std.proofs.lemmas.Result.{IfOk-weaker}
-use Rattle.walk_core.specs.Digraphs.{AreDistances, IsWithin}
+use Rattle.walk_core.specs.Digraphs.{AreDistances}
 use Rattle.replica_core.specs.State.{state_of}
 use Rattle.graph_core.specs.Dependencies.{IsDependency}
 use Rattle.graph_core.specs.WalkLaws.{ends_within}

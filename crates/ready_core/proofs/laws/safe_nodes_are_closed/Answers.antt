@@ -1,7 +1,7 @@
-use Rattle.std.proofs.Common.{◌≡◌, ◌⊎◌, Bool, true, false, List, Contains, refl, inl, inr}
+use Rattle.std.proofs.Common.{◌≡◌, ◌⊎◌, Bool, true, false, refl, inl, inr}
 use Rattle.std.proofs.lemmas.Bool.{false≢true}
 use Rattle.walk_core.specs.Walks.{IsEdge, IsOfKind}
-use Rattle.ready_core.specs.Closed.{IsDecided, IsClosed-AreSafe, IsInClosedSet-AreSafe}
+use Rattle.ready_core.specs.Closed.{IsClosed-AreSafe, IsInClosedSet-AreSafe}
 use Rattle.ready_core.proofs.laws.safe_nodes_are_closed.Goals as goal
 
 either : (b : Bool) → (b ≡ true) ⊎ ¬ (b ≡ true)
