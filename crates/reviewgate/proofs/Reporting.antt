@@ -8,7 +8,7 @@ use Rattle.replica_core.specs.State.{state_of}
 use Rattle.report_text.specs.Report.{report_of}
 use Rattle.review_ops.specs.Operation.{Operation}
 use Rattle.reviewgate.specs.Files.{is_input, given, left_after}
-use Rattle.reviewgate.specs.Merging.{IsReadAs}
+use Rattle.reviewgate.specs.Merging.{IsReadAs, IsSnapshot}
 use Rattle.reviewgate.specs.Reporting.{AreReported, CutsReport, PrintsReport}
 use Rattle.reviewgate.proofs.FooterReads.{same_given}
 
@@ -17,6 +17,10 @@ pub same_gate : (name : List ℕ) (gate : Option (Bor (List ℕ))) (left left' :
     → option_map (λ (file : Bor (List ℕ)). given (left_after name left') told' file.now) gate ≡ option_map (λ (file : Bor (List ℕ)). given (left_after name left) told file.now) gate
 same_gate name None left left' told told' kept unread = refl
 same_gate name (Some file) left left' told told' kept unread = ap Some (same_given name file.now left left' told told' kept unread)
+
+pub is_snapshot : (told : Option (List ℕ)) (journal : List Operation) → IsReadAs told journal → IfSome told IsSnapshot
+is_snapshot None journal read = tt
+is_snapshot (Some text) journal read = (read.0, read.1)
 
 module _ (gate : GateRules) (journal : List Operation) (verdicts : Judged) (judged : AreVerdicts gate (state_of journal) verdicts) (old new : Option (List ℕ)) where
   reported : (one text : List ℕ) → SpellsGate one gate → IsReadAs (Some text) journal → AreReported one text verdicts
