@@ -11,7 +11,7 @@ use Rattle.review_ops.specs.Operation.{Operation}
 use Rattle.change_core.specs.Change.{Change, no_change, change_joined, effect_of}
 use Rattle.change_core.specs.StateLaws.{no_change-joined}
 use Rattle.replica_core.specs.Exact.{same_by_test}
-use Rattle.std.proofs.Common.{map, max}
+use Rattle.std.proofs.Common.{max}
 use Rattle.std.proofs.lemmas.List.{map-append}
 use Rattle.std.proofs.lemmas.List.Sums.{fold-append}
 use Rattle.replica_core.specs.Clock.{greatest, times}

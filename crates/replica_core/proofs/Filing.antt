@@ -1,12 +1,12 @@
 -- How an operation comes into the line of its row.
-use Rattle.std.proofs.Common.{◌≡◌, ◌≤◌, ◌<◌, ◌+◌, ◌&&◌, ◌||◌, ◌==◌, ℕ, Bool, true, false, cond, List, [], ◌∷◌, ◌++◌, length, get_or, take, drop, map, filter, refl, sym, ap, subst, ◌∙◌, arith, eq-eqb}
+use Rattle.std.proofs.Common.{◌≡◌, ◌≤◌, ◌<◌, ◌&&◌, ◌||◌, ◌==◌, ℕ, Bool, true, false, cond, List, [], ◌∷◌, ◌++◌, length, get_or, take, drop, map, filter, refl, sym, ap, subst, ◌∙◌, arith, eq-eqb}
 use Rattle.std.specs.declared.cmp.Ordering.TheVariants.{Equal}
-use Rattle.std.specs.List.{All, AllByRecursion, Contains, insert, list_any}
+use Rattle.std.specs.List.{All, AllByRecursion, insert, list_any}
 use Rattle.std.proofs.lemmas.Bool.{false≢true}
 use Rattle.std.proofs.lemmas.List.{length-append, take-map, drop-map, map-append, take-append-drop}
 use Rattle.std.proofs.Math.ListN.{get_or-append}
 use Rattle.std.proofs.Math.Seq.{get_or-append_seam}
-use Rattle.std.proofs.lemmas.List.Elements.{recursion_from_All, All-append, All-cons, All-take, All-drop, All-weaker, All-head, All-tail, All-same, filter-append, Contains-get_or}
+use Rattle.std.proofs.lemmas.List.Elements.{recursion_from_All, All-append, All-cons, All-take, All-drop, All-weaker, All-head, All-tail, filter-append, Contains-get_or}
 use Rattle.std.proofs.lemmas.List.Folds.{list_any-append}
 use Rattle.review_ops.specs.Operation.{Operation}
 use Rattle.replica_core.specs.Clock.{is_of}
@@ -16,10 +16,10 @@ use Rattle.replica_core.specs.Journal.{same_operation, has}
 use Rattle.replica_core.specs.Missing.{row_by_row, row_by_row_exact}
 use Rattle.replica_core.specs.Ranks.{rank}
 use Rattle.replica_core.specs.RowLine.{RowLine}
-use Rattle.replica_core.specs.Lines.{op_at, ops_at, ops_of, row_of, IsFiled, IsGapless, IsLine}
+use Rattle.replica_core.specs.Lines.{op_at, ops_at, ops_of, row_of, IsFiled}
 use Rattle.replica_core.specs.Searches.{is_below}
 use Rattle.replica_core.specs.Sets.{has-from_Contains}
-use Rattle.replica_core.proofs.Ranked.{rank-le, sorted_inserted}
+use Rattle.replica_core.proofs.Ranked.{sorted_inserted}
 use Rattle.replica_core.proofs.Filed.{has_of}
 
 -- ---- one more at an index

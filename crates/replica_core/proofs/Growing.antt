@@ -1,10 +1,10 @@
 -- The lines of a journal to which an operation comes: its own line has changed, the others are as they were.
-use Rattle.std.proofs.Common.{◌≡◌, ◌≤◌, ◌<◌, ◌+◌, ◌&&◌, ◌||◌, ◌==◌, ◌⊎◌, inl, inr, ℕ, Bool, true, false, cond, List, [], ◌∷◌, ◌++◌, length, get_or, set, map, filter, refl, sym, ap, subst, ◌∙◌, arith, get_or-set_other, get_or-set_same, eq-eqb}
+use Rattle.std.proofs.Common.{◌≡◌, ◌<◌, ◌+◌, ◌&&◌, ◌||◌, ◌==◌, inl, inr, ℕ, Bool, true, false, cond, List, [], ◌∷◌, ◌++◌, length, get_or, set, filter, refl, sym, ap, subst, ◌∙◌, arith, get_or-set_other, get_or-set_same}
 use Rattle.std.specs.declared.cmp.Ordering.TheVariants.{Less, Equal}
 use Rattle.std.specs.Cmp.{tied_itself}
-use Rattle.std.specs.List.{All, Contains, list_any}
+use Rattle.std.specs.List.{Contains}
 use Rattle.std.specs.List.Sorted.{IsStrictlySortedBy}
-use Rattle.std.proofs.lemmas.Bool.{false≢true, cases_lt, eqb-true, eqb-false}
+use Rattle.std.proofs.lemmas.Bool.{cases_lt, eqb-true, eqb-false}
 use Rattle.std.proofs.lemmas.List.{length-map, append-nil}
 use Rattle.std.proofs.Math.ListN.{length-set}
 use Rattle.std.proofs.Math.Seq.{map-set_same}
@@ -19,7 +19,7 @@ use Rattle.replica_core.specs.InOrder.{IsInOrder, same_is_equal}
 use Rattle.replica_core.specs.Journal.{same_operation, has, arrived}
 use Rattle.replica_core.specs.Missing.{row_by_row}
 use Rattle.replica_core.specs.RowLine.{RowLine}
-use Rattle.replica_core.specs.Lines.{ops_of, row_of, rows_of, IsFiled, IsGapless, IsLine, AreLines}
+use Rattle.replica_core.specs.Lines.{ops_of, row_of, rows_of, IsLine, AreLines}
 use Rattle.replica_core.proofs.Sought.{site_of, start_of}
 use Rattle.replica_core.proofs.LineLists.{row_at}
 use Rattle.replica_core.proofs.Filing.{ops_at-grown, still_inside}

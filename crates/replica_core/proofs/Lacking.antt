@@ -1,12 +1,12 @@
 -- What a front lacks, line by line.
-use Rattle.std.proofs.Common.{◌≡◌, ◌≤◌, ◌<◌, ◌+◌, ◌-◌, ◌&&◌, ◌||◌, ◌==◌, inl, inr, min, ℕ, suc, zero, Bool, true, false, cond, List, [], ◌∷◌, ◌++◌, flat_map, filter, take, drop, map, length, get_or, refl, sym, ap, subst, ◌∙◌, arith, eq-eqb}
+use Rattle.std.proofs.Common.{◌≡◌, ◌≤◌, ◌<◌, ◌+◌, ◌-◌, ◌&&◌, ◌||◌, ◌==◌, inl, inr, min, ℕ, suc, zero, Bool, true, false, cond, List, [], ◌∷◌, ◌++◌, flat_map, filter, take, drop, length, get_or, refl, sym, ap, subst, ◌∙◌, arith, eq-eqb}
 use Rattle.std.specs.Prelude.{nat_lt}
 use Rattle.std.specs.declared.cmp.Ordering.{Ordering}
 use Rattle.std.specs.declared.cmp.Ordering.TheVariants.{Less, Equal, Greater}
 use Rattle.std.specs.Ordering.{ordering_then, nat_cmp}
-use Rattle.std.specs.List.{All, AllByRecursion, Contains, list_any}
+use Rattle.std.specs.List.{All, AllByRecursion, list_any}
 use Rattle.std.specs.List.Sorted.{IsStrictlySortedBy}
-use Rattle.std.proofs.lemmas.Bool.{false≢true, cases_lt, ltb-true, ltb-false, lt-ltb, le-ltb}
+use Rattle.std.proofs.lemmas.Bool.{cases_lt, ltb-true, ltb-false, lt-ltb, le-ltb}
 use Rattle.std.proofs.lemmas.Bool.Decides.{nat_tests}
 use Rattle.std.proofs.Math.Nat.{min-eq_left, min-eq_right}
 use Rattle.std.proofs.lemmas.List.{length-map, length-append, take-map, take_all, take_more, take-append-le, take-append-drop, append-nil}
@@ -18,7 +18,6 @@ use Rattle.review_ops.specs.Deed.{deed_cmp}
 use Rattle.review_ops.specs.Operation.{Operation}
 use Rattle.replica_core.specs.Clock.{is_of}
 use Rattle.replica_core.specs.Front.{Reaches, row_order, reach_of}
-use Rattle.replica_core.specs.InOrder.{IsInOrder}
 use Rattle.replica_core.specs.Journal.{same_operation, has}
 use Rattle.replica_core.specs.Missing.{row_by_row, is_past, IsMissing}
 use Rattle.replica_core.specs.Sets.{has-filter}

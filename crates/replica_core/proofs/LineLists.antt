@@ -1,13 +1,13 @@
 -- The lines of a journal: where one stands, and one more of them.
-use Rattle.std.proofs.Common.{◌≡◌, ◌≤◌, ◌<◌, ◌+◌, ◌&&◌, ◌==◌, ◌⊎◌, inl, inr, ℕ, zero, suc, Bool, true, false, List, [], ◌∷◌, ◌++◌, Result, Ok, Err, length, get_or, take, drop, map, filter, refl, sym, ap, subst, ◌∙◌, arith}
+use Rattle.std.proofs.Common.{◌≡◌, ◌≤◌, ◌<◌, ◌+◌, ◌&&◌, ◌==◌, inl, inr, ℕ, Bool, true, false, List, [], ◌∷◌, ◌++◌, Result, Ok, Err, length, get_or, take, drop, filter, refl, sym, ap, subst, ◌∙◌, arith}
 use Rattle.std.specs.Prelude.{MatchResult}
 use Rattle.std.specs.declared.cmp.Ordering.{Ordering}
 use Rattle.std.specs.declared.cmp.Ordering.TheVariants.{Less, Equal, Greater}
-use Rattle.std.specs.Ordering.{is_lt, ordering_index, ordering_reverse}
+use Rattle.std.specs.Ordering.{is_lt, ordering_reverse}
 use Rattle.std.specs.Cmp.{tied_itself}
-use Rattle.std.specs.List.{Any, All, AllByRecursion, Contains, HoldsAt, insert, list_any}
-use Rattle.std.specs.List.Sorted.{IsStrictlySortedBy, IsPartitionPoint, IsBinarySearchResult, IsSearchInRange, IsSortedBy, IsNonDecreasingBy}
-use Rattle.std.proofs.lemmas.Bool.{false≢true, cases_lt, eqb-true}
+use Rattle.std.specs.List.{Any, Contains, insert}
+use Rattle.std.specs.List.Sorted.{IsStrictlySortedBy, IsPartitionPoint, IsBinarySearchResult, IsSearchInRange, IsSortedBy}
+use Rattle.std.proofs.lemmas.Bool.{cases_lt}
 use Rattle.std.proofs.lemmas.List.{get_or-map, length-map, take-map, drop-map, map-append}
 use Rattle.std.proofs.lemmas.List.Edits.{length-insert, get_or-insert_at, get_or-insert_below, get_or-insert_above}
 use Rattle.std.proofs.lemmas.List.Elements.{recursion_from_All, All-append, All-cons, All-nil, All-take, All-drop, Contains-get_or}
@@ -22,7 +22,7 @@ use Rattle.replica_core.specs.Journal.{has}
 use Rattle.replica_core.specs.Missing.{row_by_row}
 use Rattle.replica_core.specs.Ranks.{rank}
 use Rattle.replica_core.specs.RowLine.{RowLine}
-use Rattle.replica_core.specs.Lines.{row_of, rows_of, IsFiled, IsGapless, IsLine, AreLines}
+use Rattle.replica_core.specs.Lines.{row_of, rows_of, IsLine, AreLines}
 use Rattle.replica_core.specs.Sets.{has-filter, has-from_Contains, greatest_alike}
 use Rattle.replica_core.proofs.Ranked.{rank-le, rank-point, sorted_inserted}
 use Rattle.replica_core.proofs.Sought.{both, site_of, start_of}

@@ -1,10 +1,8 @@
 -- What the line of a row says of the whole journal.
 use Rattle.std.proofs.Common.{◌≡◌, ◌<◌, ◌&&◌, ◌==◌, ℕ, Bool, true, false, List, length, get_or, filter, refl, sym, ap, subst, ◌∙◌, eq-eqb}
-use Rattle.std.specs.Ordering.{eq_by_cmp}
-use Rattle.std.specs.List.{Any, All, Contains, list_any}
-use Rattle.std.proofs.lemmas.Bool.{false≢true}
+use Rattle.std.specs.List.{Any, Contains, list_any}
 use Rattle.std.proofs.lemmas.List.Folds.{Any-from_list_any}
-use Rattle.review_ops.specs.Timestamp.{Timestamp, timestamp_cmp, timestamps_exact}
+use Rattle.review_ops.specs.Timestamp.{Timestamp, timestamps_exact}
 use Rattle.review_ops.specs.Operation.{Operation}
 use Rattle.replica_core.specs.Clock.{is_of}
 use Rattle.replica_core.specs.Exact.{same_by_test, false_unless}

@@ -1,21 +1,19 @@
 -- The front that has the reach of each line is that of the journal.
-use Rattle.std.proofs.Common.{◌≡◌, ◌≤◌, ◌<◌, ◌+◌, ◌&&◌, ◌||◌, ◌==◌, ◌⊎◌, inl, inr, ℕ, Bool, true, false, cond, max, List, [], ◌∷◌, Option, None, Some, fold, filter, map, length, get_or, refl, sym, ap, subst, ◌∙◌, arith, eq-eqb}
+use Rattle.std.proofs.Common.{◌≡◌, ◌≤◌, ◌<◌, ◌&&◌, ◌||◌, ◌==◌, inl, inr, ℕ, Bool, true, false, cond, max, List, [], ◌∷◌, Option, None, Some, fold, length, get_or, refl, sym, ap, subst, ◌∙◌, arith, eq-eqb}
 use Rattle.std.specs.Prelude.{IfSome}
 use Rattle.std.specs.Option.{unwrap_or}
 use Rattle.std.specs.FinMap.{empty, get, get-empty}
-use Rattle.std.specs.List.{Any, All, Contains, list_any}
+use Rattle.std.specs.List.{All, Contains, list_any}
 use Rattle.std.proofs.Math.Nat.{max-eq_left, max-eq_right, zero-max}
 use Rattle.std.proofs.lemmas.Bool.{false≢true, eqb-true, cases_lt}
 use Rattle.std.proofs.lemmas.List.Elements.{All-head, All-tail}
 use Rattle.std.proofs.lemmas.List.Folds.{list_any_at}
 use Rattle.std.proofs.lemmas.List.{length-map}
 use Rattle.review_ops.specs.Operation.{Operation}
-use Rattle.replica_core.specs.Clock.{is_of}
-use Rattle.replica_core.specs.Exact.{false_unless}
-use Rattle.replica_core.specs.Front.{Reaches, row_order, reach_of, raised, holds, IsReach, ReachesInto, IsFront, AreReached}
+use Rattle.replica_core.specs.Front.{Reaches, row_order, reach_of, holds, ReachesInto, IsFront, AreReached}
 use Rattle.replica_core.specs.FrontLaws.{reach_of-raised, AreReached-empty, AreReached-raised}
 use Rattle.replica_core.specs.RowLine.{RowLine}
-use Rattle.replica_core.specs.Lines.{raised_by, front_of, row_of, rows_of, IsGapless, IsLine, AreLines}
+use Rattle.replica_core.specs.Lines.{raised_by, front_of, row_of, rows_of, IsGapless, AreLines}
 use Rattle.replica_core.proofs.Sought.{both}
 use Rattle.replica_core.proofs.LineLists.{none_held, row_at, empty_line}
 

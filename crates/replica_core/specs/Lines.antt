@@ -4,7 +4,6 @@ use Rattle.std.specs.List.{All, Contains}
 use Rattle.std.specs.List.Sorted.{IsStrictlySortedBy}
 use Rattle.std.specs.FinMap.{empty}
 use Rattle.review_ops.specs.Deed.{merged}
-use Rattle.review_ops.specs.Timestamp.{Timestamp}
 use Rattle.review_ops.specs.Operation.{Operation}
 use Rattle.replica_core.specs.Journal.{has}
 use Rattle.replica_core.specs.Clock.{is_of}

@@ -1,5 +1,5 @@
 -- What is looked for in a line, by tests that the first of its operations pass and the later ones don't.
-use Rattle.std.specs.Prelude.{◌==◌, ◌&&◌, ◌||◌, ℕ, Bool, false, not, nat_lt, List, Option, None, Some, map, slice_get, filter}
+use Rattle.std.specs.Prelude.{◌==◌, ◌&&◌, ◌||◌, ℕ, Bool, false, not, nat_lt, List, Option, None, Some, slice_get, filter}
 use Rattle.std.specs.Ordering.{is_lt}
 use Rattle.review_ops.specs.Timestamp.{Timestamp}
 use Rattle.review_ops.specs.Operation.{Operation}

@@ -57,13 +57,6 @@ impl<A: Allocator + Copy> Line<A> {
         self.row
     }
 
-    /// Where the row's operations stand among the arrivals.
-    pub(super) fn places(&self) -> &[usize]
-        ensures { result.now ≡ self.now.places }
-    {
-        self.places.as_slice()
-    }
-
     /// The sequence number up to which there is no gap.
     pub(super) fn reach(&self) -> u64
         ensures { result ≡ self.now.reach }

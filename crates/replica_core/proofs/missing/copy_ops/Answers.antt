@@ -1,4 +1,3 @@
-use Rattle.std.proofs.Common.{get_or}
 use Rattle.replica_core.proofs.Filed.{copied_more}
 use Rattle.replica_core.proofs.missing.copy_ops.Goals as goal
 

@@ -1,4 +1,4 @@
-use Rattle.std.proofs.Common.{◌∙◌, ap, length, arith}
+use Rattle.std.proofs.Common.{arith}
 use Rattle.replica_core.specs.Lines.{ops_of}
 use Rattle.replica_core.specs.Searches.{ops_past}
 use Rattle.replica_core.proofs.Lacking.{copied_past}

@@ -1,4 +1,4 @@
-use Rattle.std.proofs.Common.{◌∙◌, ◌≡◌, ap, sym, subst}
+use Rattle.std.proofs.Common.{◌∙◌, ◌≡◌, sym, subst}
 use Rattle.replica_core.specs.Lines.{AreLines}
 use Rattle.replica_core.proofs.Effects.{record_same}
 use Rattle.replica_core.proofs.replica.Replica.copy.Goals as goal

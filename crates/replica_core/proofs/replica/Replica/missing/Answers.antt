@@ -1,6 +1,5 @@
-use Rattle.std.proofs.Common.{◌∙◌, ◌≡◌, ap, sym, subst, ◌≤◌, length, true}
+use Rattle.std.proofs.Common.{◌∙◌, ◌≡◌, ap, sym, subst, ◌≤◌, length}
 use Rattle.std.proofs.lemmas.List.{take_all}
-use Rattle.std.specs.Prelude.{nat_lt}
 use Rattle.replica_core.specs.Front.{reach_of}
 use Rattle.replica_core.specs.Lines.{ops_of}
 use Rattle.replica_core.specs.Missing.{IsMissing}

@@ -1,5 +1,4 @@
 use Rattle.std.proofs.Common.{◌∙◌, [], ap, sym, subst}
-use Rattle.std.specs.List.Sorted.{IsStrictlySortedBy}
 use Rattle.replica_core.specs.Clock.{greatest, times}
 use Rattle.replica_core.specs.Journal.{AreApart}
 use Rattle.replica_core.specs.Lines.{AreLines}
