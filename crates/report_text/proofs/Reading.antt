@@ -134,15 +134,15 @@ at_line text rest done whole other says = by_front says.front says.later says.fo
 -- ---- the state of a reading
 
 -- some operations of the lines have been read, and arrived in the journal
-pub record Reading (lines rest : List (List ℕ)) (journal : List Operation) (count : ℕ) : Type 0 where
+pub record Reading (base : List Operation) (lines rest : List (List ℕ)) (journal : List Operation) (count : ℕ) : Type 0 where
   pub ops : List Operation
   pub begins : BeginsWith lines ops rest
-  pub taken : journal ≡ all_arrived [] ops
+  pub taken : journal ≡ all_arrived base ops
   pub counted : length ops ≡ count
   pub only : (whole : List Operation) → SaysOperations lines whole → SaysFrom rest ops whole
 
-pub Reading-start : {lines rest : List (List ℕ)} (first : List ℕ) → lines ≡ first ∷ rest → IsHeader first → Reading lines rest [] 0
-Reading-start first e header = record {
+pub Reading-start : {lines rest : List (List ℕ)} (base : List Operation) (first : List ℕ) → lines ≡ first ∷ rest → IsHeader first → Reading base lines rest base 0
+Reading-start base first e header = record {
   ops = [];
   begins = record { first = first; front = []; form = e; header = header; operations = tt };
   taken = refl;
@@ -151,24 +151,24 @@ Reading-start first e header = record {
 }
 
 -- the operation of one more line arrives
-pub Reading-more : {lines : List (List ℕ)} {journal : List Operation} {count : ℕ} (text : List ℕ) (rest : List (List ℕ)) (op : Operation)
-    → Reading lines (text ∷ rest) journal count → IsNoEndLine text → SpellsOperation text op → ((o : Operation) → SpellsOperation text o → o ≡ op) → Reading lines rest (arrived journal op) (count + 1)
-Reading-more text rest op reading other spells one = record {
+pub Reading-more : {base : List Operation} {lines : List (List ℕ)} {journal : List Operation} {count : ℕ} (text : List ℕ) (rest : List (List ℕ)) (op : Operation)
+    → Reading base lines (text ∷ rest) journal count → IsNoEndLine text → SpellsOperation text op → ((o : Operation) → SpellsOperation text o → o ≡ op) → Reading base lines rest (arrived journal op) (count + 1)
+Reading-more {base} text rest op reading other spells one = record {
   ops = reading.ops ++ op ∷ [];
   begins = BeginsWith-push text op reading.begins (record { other = other; spells = spells });
-  taken = ap (λ j. arrived j op) reading.taken ∙ sym (all_arrived-push [] reading.ops op);
+  taken = ap (λ j. arrived j op) reading.taken ∙ sym (all_arrived-push base reading.ops op);
   counted = omega (arith, length-append reading.ops (op ∷ []), reading.counted);
   only = λ whole says.
       let at = at_line text rest reading.ops whole other (reading.only whole says) in
       subst (λ o. SaysFrom rest (reading.ops ++ o ∷ []) whole) (one at.op at.spells) at.says;
 }
 
-pub Reading-whole : {lines : List (List ℕ)} {journal : List Operation} {count : ℕ} (last : List ℕ) (rest : List (List ℕ)) (n : ℕ)
-    → Reading lines (last ∷ rest) journal count → IsEndLine last n → (whole : List Operation) → SaysOperations lines whole → journal ≡ all_arrived [] whole
-Reading-whole last rest n reading is whole says = reading.taken ∙ ap (all_arrived []) (sym (at_end last rest reading.ops whole n is (reading.only whole says)).all)
+pub Reading-whole : {base : List Operation} {lines : List (List ℕ)} {journal : List Operation} {count : ℕ} (last : List ℕ) (rest : List (List ℕ)) (n : ℕ)
+    → Reading base lines (last ∷ rest) journal count → IsEndLine last n → (whole : List Operation) → SaysOperations lines whole → journal ≡ all_arrived base whole
+Reading-whole {base} last rest n reading is whole says = reading.taken ∙ ap (all_arrived base) (sym (at_end last rest reading.ops whole n is (reading.only whole says)).all)
 
-pub Reading-no_bad_end : {lines : List (List ℕ)} {journal : List Operation} {count : ℕ} (last : List ℕ) (rest : List (List ℕ)) (n : ℕ) (fault : SnapFault)
-    → Reading lines (last ∷ rest) journal count → IsEndLine last n → IsEndFault n count rest fault → (whole : List Operation) → ¬ SaysOperations lines whole
+pub Reading-no_bad_end : {base : List Operation} {lines : List (List ℕ)} {journal : List Operation} {count : ℕ} (last : List ℕ) (rest : List (List ℕ)) (n : ℕ) (fault : SnapFault)
+    → Reading base lines (last ∷ rest) journal count → IsEndLine last n → IsEndFault n count rest fault → (whole : List Operation) → ¬ SaysOperations lines whole
 Reading-no_bad_end last rest n BadHeader reading is bad whole says = bad
 Reading-no_bad_end last rest n (BadLine k cause) reading is bad whole says = bad
 Reading-no_bad_end last rest n NoEnd reading is bad whole says = bad
@@ -182,11 +182,11 @@ Reading-no_bad_end last rest n TooLong reading is bad whole says = bad
 Reading-no_bad_end last rest n ReadFault reading is bad whole says = bad
 Reading-no_bad_end last rest n NoMemory reading is bad whole says = bad
 
-pub Reading-nothing : {lines : List (List ℕ)} {journal : List Operation} {count : ℕ} → Reading lines [] journal count → (whole : List Operation) → ¬ SaysOperations lines whole
+pub Reading-nothing : {base : List Operation} {lines : List (List ℕ)} {journal : List Operation} {count : ℕ} → Reading base lines [] journal count → (whole : List Operation) → ¬ SaysOperations lines whole
 Reading-nothing reading whole says = none_left (reading.only whole says)
 
-pub Reading-no_bad_line : {lines : List (List ℕ)} {journal : List Operation} {count : ℕ} (text : List ℕ) (rest : List (List ℕ)) (n : ℕ) (fault : SnapFault)
-    → Reading lines (text ∷ rest) journal count → IsNoEndLine text → IsLineFault text n fault → (whole : List Operation) → SaysOperations lines whole → fault ≡ NoMemory
+pub Reading-no_bad_line : {base : List Operation} {lines : List (List ℕ)} {journal : List Operation} {count : ℕ} (text : List ℕ) (rest : List (List ℕ)) (n : ℕ) (fault : SnapFault)
+    → Reading base lines (text ∷ rest) journal count → IsNoEndLine text → IsLineFault text n fault → (whole : List Operation) → SaysOperations lines whole → fault ≡ NoMemory
 Reading-no_bad_line text rest n BadHeader reading other bad whole says = absurd bad
 Reading-no_bad_line text rest n (BadLine m cause) reading other bad whole says =
     let at = at_line text rest reading.ops whole other (reading.only whole says) in absurd (bad.2 at.op at.spells)

@@ -19,7 +19,7 @@ pub use laws::{
     equal_states_print_equal_reports, lines_have_one_reading, operations_arrive_as_a_set,
     reports_have_one_reading, snapshots_are_one, snapshots_say_their_operations,
 };
-pub use read::{SNAPSHOT_LIMIT, read_snapshot, snapshot_of};
+pub use read::{SNAPSHOT_LIMIT, read_snapshot, snapshot_of, snapshot_onto};
 pub use report::write_report;
 pub use whole::read_all;
 pub use write::write_snapshot;

@@ -55,17 +55,34 @@ pub fn snapshot_of(alloc: Global, text: &[u8]) -> Result<Replica, SnapFault>
         → MatchResult result
         (λ replica. replica ≡ all_arrived [] ops) (λ fault. fault ≡ SnapFault.NoMemory) }
 {
-    replica_of(alloc, text)
+    snapshot_onto(Replica::new(alloc), text)
 }
 
-/// The replica of a text, of any length.
-fn replica_of(alloc: Global, text: &[u8]) -> Result<Replica, SnapFault>
-    ensures ok { IfOk result (λ replica. (ops : List Operation)
-        × SaysOperations (lines_of text.now) ops × (replica ≡ all_arrived [] ops)) }
+/// Reads the text of a snapshot, as `snapshot_of` does, into a replica that is given up for it: its operations arrive, in the order
+/// of their lines, after what the replica has. Neither the replica nor anything of the text is handed out of a refusal. It costs the
+/// bytes, and what the replica's `take` costs for each operation; what the replica has already takes no memory again.
+pub fn snapshot_onto(replica: Replica, text: &[u8]) -> Result<Replica, SnapFault>
+    requires { length text.now ≤ most_bytes }
+    ensures ok { IfOk result (λ both. (ops : List Operation)
+        × SaysOperations (lines_of text.now) ops × (both ≡ all_arrived replica ops)) }
+    ensures err { IfErr result (λ fault. IsRefusal text.now fault × IsOfText fault) }
+
+    // What says operations is read.
+    ensures only { (ops : List Operation) → SaysOperations (lines_of text.now) ops
+        → MatchResult result
+        (λ both. both ≡ all_arrived replica ops) (λ fault. fault ≡ SnapFault.NoMemory) }
+{
+    read_onto(replica, text)
+}
+
+/// The replica to which the operations of a text, of any length, came.
+fn read_onto(mut replica: Replica, text: &[u8]) -> Result<Replica, SnapFault>
+    ensures ok { IfOk result (λ both. (ops : List Operation)
+        × SaysOperations (lines_of text.now) ops × (both ≡ all_arrived replica ops)) }
     ensures err { IfErr result (IsFirstFault (lines_of text.now)) }
     ensures only { (ops : List Operation) → SaysOperations (lines_of text.now) ops
         → MatchResult result
-        (λ replica. replica ≡ all_arrived [] ops) (λ fault. fault ≡ SnapFault.NoMemory) }
+        (λ both. both ≡ all_arrived replica ops) (λ fault. fault ≡ SnapFault.NoMemory) }
 {
     let mut lines = Lines::new(text);
     let Some(first) = lines.next_line() else {
@@ -74,7 +91,7 @@ fn replica_of(alloc: Global, text: &[u8]) -> Result<Replica, SnapFault>
     if !is_header(first) {
         return Err(SnapFault::BadHeader);
     }
-    let mut replica = Replica::new(alloc);
+    let alloc = replica.allocator();
     let mut count = 0u64;
     while let Some(line) = lines.next_line() {
         if let Some(said) = claimed(line) {

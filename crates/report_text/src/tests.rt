@@ -1,7 +1,7 @@
 use super::{
     BytesFault, SnapFault, WriteSnapFault, lines_have_one_reading, operations_arrive_as_a_set,
-    read_all, read_snapshot, snapshot_of, snapshots_are_one, snapshots_say_their_operations,
-    write_snapshot,
+    read_all, read_snapshot, snapshot_of, snapshot_onto, snapshots_are_one,
+    snapshots_say_their_operations, write_snapshot,
 };
 use byte_ends::{Broken, Ends};
 use linked_list_allocator::LocalHeap;
@@ -94,6 +94,24 @@ fn a_text_is_read_as_its_source_is(rt: HostRuntime) -> Result<(), Fail> {
         Err(fault) => fault.number(),
     };
     assert_eq!(rt; number, 1);
+    Ok(())
+}
+
+// A snapshot is read into a replica that has operations already: they keep their places, and what both have comes once.
+#[test]
+fn a_text_is_read_onto_a_replica(rt: HostRuntime) -> Result<(), Fail> {
+    let alloc = rt.alloc();
+    let one = format!(in alloc; "reviewgate 2\n{SECOND}\nend 1")?;
+    let both = format!(in alloc; "reviewgate 2\n{FIRST}\n{SECOND}\n{FIRST}\nend 3")?;
+    let replica = snapshot_onto(snapshot_of(alloc, one.as_bytes())?, both.as_bytes())?;
+    assert_eq!(rt; replica.len(), 2);
+    assert_eq!(rt; replica.as_slice()[0].stamp().time(), 3);
+    assert_eq!(rt; replica.as_slice()[1].stamp().time(), 2);
+    let number = match snapshot_onto(replica, b"reviewgate 2\n") {
+        Ok(_) => 0,
+        Err(fault) => fault.number(),
+    };
+    assert_eq!(rt; number, 3);
     Ok(())
 }
 
