@@ -1,24 +1,33 @@
--- What is printed of two snapshots is the union of both.
+-- What is read of a name, and that what is printed of two snapshots is the union of both.
 use Rattle.std.proofs.Common.{◌≡◌, ℕ, ◌<◌, ◌||◌, List, [], ◌++◌, Option, None, Some, IfSome, take, length, sym, ap, ◌∙◌, subst}
 use Rattle.std.specs.Io.KnownBytes.{Appends}
 use Rattle.std.proofs.lemmas.List.Folds.{list_any-append}
 use Rattle.review_ops.specs.Operation.{Operation}
 use Rattle.replica_core.specs.Journal.{same_operation, has, all_arrived}
 use Rattle.replica_core.specs.InOrder.{IsInOrderOf}
-use Rattle.report_text.specs.Snapshot.{snapshot_text}
-use Rattle.reviewgate.specs.Merging.{IsReadAs, AreMerged, PrintsMerged, CutsMerged}
+use Rattle.report_text.specs.Snapshot.{IsOfText, IsRefusal, snapshot_text}
+use Rattle.report_text.specs.declared.fault.SnapFault.{SnapFault}
+use Rattle.reviewgate.specs.Merging.{IsReadAs, IsReadOnto, IsReadBoth, AreMerged, PrintsMerged, CutsMerged}
+
+-- what the bytes are refused by is a refusal of what is told to be them
+pub read_refusal : (told : Option (List ℕ)) (bytes : List ℕ) → IfSome told (λ text. bytes ≡ text) → (fault : SnapFault) → IsRefusal bytes fault × IsOfText fault → IfSome told (λ text. IsRefusal text fault)
+read_refusal None bytes same fault is = tt
+read_refusal (Some text) bytes same fault is = subst (λ t. IsRefusal t fault) same is.0
+
+-- what is read onto nothing, from an end that gives what another gave
+pub read_alone : {told told' : Option (List ℕ)} {before : List Operation} (journal : List Operation) → before ≡ [] → told' ≡ told → IsReadOnto before told' journal → IsReadAs told journal
+read_alone {told} {told'} {before} journal empty moved read = subst (λ t. IsReadAs t journal) moved (subst (λ b. IsReadOnto b told' journal) empty read)
 
 module _ (as_set : (journal ops : List Operation) (op : Operation) → has (all_arrived journal ops) op ≡ (has journal op || has ops op)) where
-  -- what the first journal has once those of the second came
-  has-union : (ops others whole : List Operation) → IsInOrderOf (all_arrived [] others) whole → (op : Operation) → has (all_arrived (all_arrived [] ops) whole) op ≡ has (ops ++ others) op
-  has-union ops others whole moved op =
-      as_set (all_arrived [] ops) whole op
-      ∙ ap (λ t. t || has whole op) (as_set [] ops op)
-      ∙ ap (λ t. has ops op || t) (moved.members op ∙ as_set [] others op)
+  -- what a journal has to which those of the first and then those of the second came
+  has-union : (ops others : List Operation) (op : Operation) → has (all_arrived (all_arrived [] ops) others) op ≡ has (ops ++ others) op
+  has-union ops others op =
+      as_set (all_arrived [] ops) others op
+      ∙ ap (λ t. t || has others op) (as_set [] ops op)
       ∙ sym (list_any-append (λ o. same_operation o op) ops others)
 
-  are_merged : (one two : List ℕ) (journal other whole both : List Operation) → IsReadAs (Some one) journal → IsReadAs (Some two) other → IsInOrderOf other whole → IsInOrderOf (all_arrived journal whole) both → AreMerged one two both
-  are_merged one two journal other whole both first second moved ordered = record {
+  are_merged : (one two : List ℕ) (journal both : List Operation) → IsReadBoth (Some one) (Some two) journal → IsInOrderOf journal both → AreMerged one two both
+  are_merged one two journal both (before, first, second) ordered = record {
     ops = first.0;
     others = second.0;
     of_first = first.1;
@@ -27,22 +36,22 @@ module _ (as_set : (journal ops : List Operation) (op : Operation) → has (all_
       sorted = ordered.sorted;
       members = λ op.
           ordered.members op
-          ∙ ap (λ j. has (all_arrived j whole) op) first.2
-          ∙ has-union first.0 second.0 whole (subst (λ j. IsInOrderOf j whole) second.2 moved) op;
+          ∙ ap (λ j. has j op) (second.2 ∙ ap (λ j. all_arrived j second.0) first.2)
+          ∙ has-union first.0 second.0 op;
     };
   }
 
-  pub prints_merged : (first second : Option (List ℕ)) (journal other whole both : List Operation) (old new : Option (List ℕ))
-      → IsReadAs first journal → IsReadAs second other → IsInOrderOf other whole → IsInOrderOf (all_arrived journal whole) both → Appends old new (snapshot_text both)
+  pub prints_merged : (first second : Option (List ℕ)) (journal both : List Operation) (old new : Option (List ℕ))
+      → IsReadBoth first second journal → IsInOrderOf journal both → Appends old new (snapshot_text both)
       → IfSome first (λ one. IfSome second (λ two. PrintsMerged one two old new))
-  prints_merged None second journal other whole both old new p q moved ordered written = tt
-  prints_merged (Some one) None journal other whole both old new p q moved ordered written = tt
-  prints_merged (Some one) (Some two) journal other whole both old new p q moved ordered written = (both, are_merged one two journal other whole both p q moved ordered, written)
+  prints_merged None second journal both old new read ordered written = tt
+  prints_merged (Some one) None journal both old new read ordered written = tt
+  prints_merged (Some one) (Some two) journal both old new read ordered written = (both, are_merged one two journal both read ordered, written)
 
-  pub cuts_merged : (first second : Option (List ℕ)) (journal other whole both : List Operation) (old new : Option (List ℕ)) (count : ℕ)
-      → IsReadAs first journal → IsReadAs second other → IsInOrderOf other whole → IsInOrderOf (all_arrived journal whole) both
+  pub cuts_merged : (first second : Option (List ℕ)) (journal both : List Operation) (old new : Option (List ℕ)) (count : ℕ)
+      → IsReadBoth first second journal → IsInOrderOf journal both
       → count < length (snapshot_text both) → Appends old new (take count (snapshot_text both))
       → IfSome first (λ one. IfSome second (λ two. CutsMerged one two old new))
-  cuts_merged None second journal other whole both old new count p q moved ordered less written = tt
-  cuts_merged (Some one) None journal other whole both old new count p q moved ordered less written = tt
-  cuts_merged (Some one) (Some two) journal other whole both old new count p q moved ordered less written = (both, are_merged one two journal other whole both p q moved ordered, count, less, written)
+  cuts_merged None second journal both old new count read ordered less written = tt
+  cuts_merged (Some one) None journal both old new count read ordered less written = tt
+  cuts_merged (Some one) (Some two) journal both old new count read ordered less written = (both, are_merged one two journal both read ordered, count, less, written)

@@ -19,9 +19,17 @@ pub record IsSnapshotOf (text : List ℕ) (ops : List Operation) : Type 0 where
 abbrev pub IsSnapshot : List ℕ → Type 0
 IsSnapshot text = (ops : List Operation) × IsSnapshotOf text ops
 
--- the journal has what the told text says, which came in the order of its lines
+-- the journal has what another had, and then what the told text says, which came in the order of its lines
+abbrev pub IsReadOnto : List Operation → Option (List ℕ) → List Operation → Type 0
+IsReadOnto before told journal = IfSome told (λ text. (ops : List Operation) × IsSnapshotOf text ops × (journal ≡ all_arrived before ops))
+
+-- the journal has what the told text says, and no more
 abbrev pub IsReadAs : Option (List ℕ) → List Operation → Type 0
-IsReadAs told journal = IfSome told (λ text. (ops : List Operation) × IsSnapshotOf text ops × (journal ≡ all_arrived [] ops))
+IsReadAs = IsReadOnto []
+
+-- the journal has what the first told text says, and then what the second does
+abbrev pub IsReadBoth : Option (List ℕ) → Option (List ℕ) → List Operation → Type 0
+IsReadBoth first second journal = (before : List Operation) × IsReadAs first before × IsReadOnto before second journal
 
 -- the operations of two snapshots, put in order, each once: those of either, and no others
 pub record AreMerged (first second : List ℕ) (both : List Operation) : Type 0 where

@@ -3,22 +3,22 @@
 ghost use Rattle.std.specs.Prelude.{◌≡◌, ℕ, List, false, IfOk, IfErr, IfSome, OnOk, MatchResult};
 ghost use Rattle.report_text.specs.Snapshot.{IsRefusal};
 ghost use Rattle.reviewgate.specs.Files.{given, is_input, left_after, snap_fault_of};
-ghost use Rattle.reviewgate.specs.Merging.{CountsMergeRefusal, CountsUnread, IsMergeRefusal, IsReadAs, IsUnread, PrintsMerged, PrintsRefused, failures};
+ghost use Rattle.reviewgate.specs.Merging.{CountsMergeRefusal, CountsUnread, IsMergeRefusal, IsReadBoth, IsReadOnto, IsUnread, PrintsMerged, PrintsRefused, failures};
 
 use super::named::{Named, bytes_of, is_input};
 use super::refusal::{FileFault, Refusal};
 use byte_ends::{Drain, Source};
 use replica_core::Replica;
 use report_text::{
-    SNAPSHOT_LIMIT, SnapFault, WriteSnapFault, operations_arrive_as_a_set, snapshot_of,
+    SNAPSHOT_LIMIT, SnapFault, WriteSnapFault, operations_arrive_as_a_set, snapshot_onto,
     write_snapshot,
 };
 use std::alloc::Global;
 
 /// Prints the snapshot of two together: of the operations that stand in either, each once. The first is read whole and judged, then
 /// the second; `-` is the input, of which nothing is left for a second `-`. Refusals: `Snapshot`, one of the two isn't read, the
-/// first if it isn't; `Memory`, memory was refused once both were read; `Output`, the output failed. It costs what reading both
-/// costs, what the replica's `absorb` costs, and what writing costs.
+/// first if it isn't; `Memory`, memory was refused once both were read; `Output`, the output failed. The second is read into the
+/// replica of the first, so that one journal and one state are held. It costs what reading both costs, and what writing costs.
 pub fn merge<I: Source, O: Drain, N: Named>(
     alloc: Global,
     first: &str,
@@ -43,10 +43,7 @@ pub fn merge<I: Source, O: Drain, N: Named>(
         MatchResult result (λ _. after ≡ before) (CountsMergeRefusal before after) }
 {
     operations_arrive_as_a_set();
-    let (mut replica, other) = read_both(alloc, first, second, input, files)?;
-    let Ok(()) = replica.absorb(other) else {
-        return Err(Refusal::Memory);
-    };
+    let replica = read_both(alloc, first, second, input, files)?;
     match write_snapshot(alloc, &replica, output) {
         Ok(()) => Ok(()),
         Err(WriteSnapFault::WriteFault) => Err(Refusal::Output),
@@ -54,17 +51,17 @@ pub fn merge<I: Source, O: Drain, N: Named>(
     }
 }
 
-/// The replicas of two snapshots, of which the first is read and judged first.
+/// The replica of two snapshots, of which the first is read and judged first.
 fn read_both<I: Source, N: Named>(
     alloc: Global,
     first: &str,
     second: &str,
     input: &mut I,
     files: &mut N,
-) -> Result<(Replica, Replica), SnapFault>
-    ensures first { IfOk result (λ both. IsReadAs (given (I.left input.old) (N.told files.old) first.now) both.0) }
-    ensures second { IfOk result (λ both.
-        IsReadAs (given (left_after first.now (I.left input.old)) (N.told files.old) second.now) both.1) }
+) -> Result<Replica, SnapFault>
+    ensures both { IfOk result (IsReadBoth
+        (given (I.left input.old) (N.told files.old) first.now)
+        (given (left_after first.now (I.left input.old)) (N.told files.old) second.now)) }
     ensures err { IfErr result (IsUnread
         (given (I.left input.old) (N.told files.old) first.now)
         (given (left_after first.now (I.left input.old)) (N.told files.old) second.now)) }
@@ -72,39 +69,38 @@ fn read_both<I: Source, N: Named>(
         (λ _. (I.failed input.new ≡ I.failed input.old) × (N.failed files.new ≡ N.failed files.old))
         (CountsUnread (I.failed input.old) (I.failed input.new) (N.failed files.old) (N.failed files.new)) }
 {
-    let replica = read_named(alloc, first, input, files)?;
-    let other = read_second(alloc, first, second, input, files)?;
-    Ok((replica, other))
+    let before = read_onto(Replica::new(alloc), first, input, files)?;
+    read_second(before, first, second, input, files)
 }
 
-/// The replica of the second snapshot, once the first was read: nothing is left of the input where the first name was its own.
+/// Reads the second snapshot into a replica, once the first was read: nothing is left of the input where the first name was its own.
 pub fn read_second<I: Source, N: Named>(
-    alloc: Global,
+    replica: Replica,
     first: &str,
     second: &str,
     input: &mut I,
     files: &mut N,
 ) -> Result<Replica, SnapFault>
-    ensures ok { IfOk result (IsReadAs (given (left_after first.now (I.left input.old)) (N.told files.old) second.now)) }
+    ensures ok { IfOk result (IsReadOnto replica (given (left_after first.now (I.left input.old)) (N.told files.old) second.now)) }
     ensures err { IfErr result (λ fault. IfSome (given (left_after first.now (I.left input.old)) (N.told files.old) second.now) (λ text. IsRefusal text fault)) }
     ensures counted { MatchResult result
         (λ _. (I.failed input.new ≡ I.failed input.old) × (N.failed files.new ≡ N.failed files.old))
         (CountsUnread (I.failed input.old) (I.failed input.new) (N.failed files.old) (N.failed files.new)) }
 {
     if is_input(first) && is_input(second) {
-        return snapshot_of(alloc, &[]);
+        return snapshot_onto(replica, &[]);
     }
-    read_named(alloc, second, input, files)
+    read_onto(replica, second, input, files)
 }
 
-/// The replica of the snapshot of a name.
-fn read_named<I: Source, N: Named>(
-    alloc: Global,
+/// Reads the snapshot of a name into a replica.
+fn read_onto<I: Source, N: Named>(
+    replica: Replica,
     name: &str,
     input: &mut I,
     files: &mut N,
 ) -> Result<Replica, SnapFault>
-    ensures ok { IfOk result (IsReadAs (given (I.left input.old) (N.told files.old) name.now)) }
+    ensures ok { IfOk result (IsReadOnto replica (given (I.left input.old) (N.told files.old) name.now)) }
     ensures err { IfErr result
         (λ fault. IfSome (given (I.left input.old) (N.told files.old) name.now) (λ text. IsRefusal text fault)) }
     ensures kept { (other : List ℕ) → N.told files.new other ≡ N.told files.old other }
@@ -113,11 +109,11 @@ fn read_named<I: Source, N: Named>(
         (λ _. (I.failed input.new ≡ I.failed input.old) × (N.failed files.new ≡ N.failed files.old))
         (CountsUnread (I.failed input.old) (I.failed input.new) (N.failed files.old) (N.failed files.new)) }
 {
-    let text = match bytes_of(alloc, name, SNAPSHOT_LIMIT, input, files) {
+    let text = match bytes_of(replica.allocator(), name, SNAPSHOT_LIMIT, input, files) {
         Ok(text) => text,
         Err(fault) => return Err(snap_fault(fault)),
     };
-    snapshot_of(alloc, &text)
+    snapshot_onto(replica, &text)
 }
 
 /// How it is told that a snapshot's bytes can't be had.

@@ -11,6 +11,7 @@ use super::named::Named;
 use super::refusal::Refusal;
 use byte_ends::{Drain, Source};
 use ready_core::evaluate;
+use replica_core::Replica;
 use report_text::write_report;
 use std::alloc::Global;
 
@@ -42,7 +43,7 @@ pub fn ready<I: Source, O: Drain, N: Named>(
         MatchResult result (λ _. after ≡ before) (CountsReadyRefusal before after) }
 {
     let rules = read_gate(alloc, gate, input, files)?;
-    let replica = read_second(alloc, gate, snapshot, input, files)?;
+    let replica = read_second(Replica::new(alloc), gate, snapshot, input, files)?;
     let Ok(verdicts) = evaluate(alloc, &replica, &rules) else {
         return Err(Refusal::Memory);
     };
