@@ -1,0 +1,4 @@
+pub mod Fault
+pub mod Fields
+pub mod ScriptLines
+pub mod Script

@@ -1,0 +1,26 @@
+//! The texts of scripts: what their lines ask of a world of sites.
+//!
+//! A script is read line by line. Empty lines and those that begin with `#` are passed over. The first of the others is `sites N`, with N from 1 to 64, and
+//! each later one is one of these, with one blank between its fields:
+//!
+//! | Line | What it asks for |
+//! |---|---|
+//! | `intake SITE BODY` | a site takes in a body |
+//! | `send SITE FRONT` | a site packs what a front lacks |
+//! | `send SITE @RECEIVER` | a site packs what the front of another lacks |
+//! | `deliver PACKET SITE` | a packet comes to a site |
+//! | `save SITE` | a site saves its record |
+//! | `restart SITE START` | a site starts again from what it saved |
+//! | `state SITE`, `front SITE` | the state or the front of a site is printed |
+//! | `ready SITE` | the report of a site is printed, where a gate is given |
+#![tactic(auto)]
+
+mod fault;
+mod fields;
+mod script;
+mod script_lines;
+#[cfg(test)]
+mod tests;
+
+pub use fault::ScriptFault;
+pub use script::{Script, Step, read_script};

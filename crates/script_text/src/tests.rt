@@ -1,0 +1,134 @@
+//! What the lines of scripts say, worked out by hand.
+
+use super::{ScriptFault, Step, read_script};
+use gate_rules::Gate;
+use std::alloc::{AllocError, Global};
+use std::test::Fail;
+use world_core::Event;
+
+/// A gate that wants open changes.
+const GATE: &[u8] = br#"{"bases":["https://r/"],"require":{"gerrit":{"open":true}}}"#;
+
+/// An event in words.
+fn event_in_words(alloc: Global, event: &Event) -> Result<String, AllocError> {
+    match event {
+        Event::Intake { site, draft } => {
+            let change = draft.change();
+            format!(in alloc; "{site} takes in change {change}")
+        }
+        Event::Send { site, front } => {
+            let rows = front.rows().len();
+            format!(in alloc; "{site} packs what {rows} rows lack")
+        }
+        Event::Deliver { packet, site } => format!(in alloc; "packet {packet} comes to {site}"),
+        Event::Save { site } => format!(in alloc; "{site} saves"),
+        Event::Restart { site, start } => format!(in alloc; "{site} restarts as {start}"),
+    }
+}
+
+/// A step in words.
+fn in_words(alloc: Global, step: &Step<'_>) -> Result<String, AllocError> {
+    match step {
+        Step::Happens(event) => event_in_words(alloc, event),
+        Step::SendTo { site, receiver } => format!(in alloc; "{site} packs what {receiver} lacks"),
+        Step::State { site } => format!(in alloc; "the state of {site}"),
+        Step::Front { site } => format!(in alloc; "the front of {site}"),
+        Step::Ready { site, .. } => format!(in alloc; "the report of {site}"),
+    }
+}
+
+/// What a line says behind `sites 1`, in words.
+fn said(alloc: Global, line: &str, gate: Option<&Gate>) -> Result<String, Fail> {
+    let mut text = String::from_str(alloc, "sites 1\n")?;
+    text.push_str(line)?;
+    let script = read_script(alloc, text.as_bytes(), gate)?;
+    match script.steps.as_slice().first() {
+        Some(step) => Ok(in_words(alloc, step)?),
+        None => Ok(String::from_str(alloc, "nothing")?),
+    }
+}
+
+#[test]
+fn lines_say_their_steps(rt: HostRuntime) -> Result<(), Fail> {
+    let cases = [
+        (
+            "intake 65535 {\"change\":7,\"op\":\"merged\"}",
+            "65535 takes in change 7",
+        ),
+        ("send 1 []", "1 packs what 0 rows lack"),
+        ("send 1 [[1,1,5],[2,1,3]]", "1 packs what 2 rows lack"),
+        ("send 2 @3", "2 packs what 3 lacks"),
+        (
+            "deliver 18446744073709551615 2",
+            "packet 18446744073709551615 comes to 2",
+        ),
+        ("save 00000000000000000001", "1 saves"),
+        ("restart 1 4294967295", "1 restarts as 4294967295"),
+        ("state 2\r\n", "the state of 2"),
+        ("\n# a comment\nfront 3\n", "the front of 3"),
+    ];
+    for (line, words) in cases {
+        let found = said(rt.alloc(), line, None)?;
+        assert_eq!(rt; found.as_str(), words, "{line}");
+    }
+    Ok(())
+}
+
+#[test]
+fn other_lines_say_nothing(rt: HostRuntime) -> Result<(), Fail> {
+    let cases = [
+        "sites 1",
+        "state",
+        "state  1",
+        "state 1 ",
+        "state +1",
+        "state 65536",
+        "state 000000000000000000001",
+        "intake 1 {\"change\":7}",
+        "send 1 @",
+        "deliver 18446744073709551616 1",
+        "restart 1 4294967296",
+        "State 1",
+    ];
+    for line in cases {
+        let found = said(rt.alloc(), line, None)?;
+        assert_eq!(rt; found.as_str(), "nothing", "{line}");
+    }
+    Ok(())
+}
+
+#[test]
+fn reports_are_asked_for_under_a_gate(rt: HostRuntime) -> Result<(), Fail> {
+    let gate = Gate::read(rt.alloc(), GATE)?;
+    let under = said(rt.alloc(), "ready 1", Some(&gate))?;
+    assert_eq!(rt; under.as_str(), "the report of 1");
+    let without = said(rt.alloc(), "ready 1", None)?;
+    assert_eq!(rt; without.as_str(), "nothing");
+    Ok(())
+}
+
+#[test]
+fn a_bad_line_ends_a_script(rt: HostRuntime) -> Result<(), Fail> {
+    let text = b"# two\nsites 2\n\nstate 1\nstate\nstate 2\n".as_slice();
+    let script = read_script(rt.alloc(), text, None)?;
+    assert_eq!(rt; script.sites, 2);
+    assert_eq!(rt; script.steps.len(), 1);
+    assert_eq!(rt; script.bad_line, Some(5));
+    Ok(())
+}
+
+#[test]
+fn a_script_begins_with_its_sites(rt: HostRuntime) {
+    for text in [
+        "",
+        "# none\n",
+        "sites 0\n",
+        "sites 65\n",
+        "state 1\nsites 1\n",
+    ] {
+        match read_script(rt.alloc(), text.as_bytes(), None) {
+            Ok(_) => assert!(rt; false, "{text}"),
+            Err(fault) => assert_eq!(rt; fault, ScriptFault::BadSites, "{text}"),
+        }
+    }
+}
