@@ -1,19 +1,22 @@
 -- What a script's text says is what is played.
-use Rattle.std.proofs.Common.{◌≡◌, ◌⊎◌, inl, inr, ◌<◌, ℕ, List, Option, None, Some, Ok, Err, length, refl, ap, sym, ◌∙◌, subst}
-use Rattle.std.specs.Prelude.{IfErr, IfSome, IsErrOf, IsSomeAnd, OnOk, Result}
+use Rattle.std.proofs.Common.{◌≡◌, inl, inr, ◌<◌, ℕ, List, Option, None, Some, length, refl, subst}
+use Rattle.std.specs.Prelude.{IfSome, IsSomeAnd}
 use Rattle.gate_rules.specs.Rules.{GateRules}
 use Rattle.world_core.specs.World.{new_world}
 use Rattle.reviewgate.specs.declared.refusal.FileFault.{FileFault}
 use Rattle.reviewgate.specs.declared.refusal.FileFault.TheVariants as file
 use Rattle.reviewgate.specs.declared.refusal.Refusal.{Refusal}
 use Rattle.reviewgate.specs.declared.refusal.Refusal.TheVariants.{Script, Snapshot, Gate, File, NotText, Output, Memory}
-use Rattle.reviewgate.specs.declared.refusal.ScriptFault.{ScriptFault}
-use Rattle.reviewgate.specs.declared.refusal.ScriptFault.TheVariants.{BadSites, BadLine, NoMemory}
-use Rattle.reviewgate.specs.declared.script.Step.{Step}
-use Rattle.reviewgate.specs.Playing.{PrintsRun, StopsScript}
-use Rattle.reviewgate.specs.Script.{IsUnreadScript, SaysScript, SpeaksNoSites, spoken}
+use Rattle.script_text.specs.declared.fault.ScriptFault.{ScriptFault}
+use Rattle.script_text.specs.declared.fault.ScriptFault.TheVariants.{BadSites, BadLine, NoMemory}
+use Rattle.script_text.specs.declared.script.Step.{Step}
+use Rattle.script_play.specs.declared.fault.PlayFault.{PlayFault}
+use Rattle.script_play.specs.declared.fault.PlayFault.TheVariants as play
+use Rattle.script_play.specs.Playing.{PrintsRun, StopsScript}
+use Rattle.script_text.specs.Script.{IsUnreadScript, SaysScript, SpeaksNoSites, spoken}
 use Rattle.reviewgate.specs.Reporting.{IsGateRefusal}
-use Rattle.reviewgate.specs.Simulating.{GivesGate, IsScript, IsSimulateRefusal, IsSimulated, most_script}
+use Rattle.reviewgate.specs.Refusals.{refusal_of}
+use Rattle.reviewgate.specs.Simulating.{GivesGate, IsScript, IsSimulateRefusal, PlaysScript, most_script}
 
 -- what holds of the text that was read holds of the text that is told
 told_of : (P : List ℕ → Type 0) (told : Option (List ℕ)) (text : List ℕ) → IfSome told (λ t. text ≡ t) → P text → IfSome told P
@@ -51,29 +54,18 @@ module _ (gate : Option (Option (List ℕ))) (under : Option GateRules) (gives :
   is_script told text sites steps bad other is same says =
       record { under = under; gives = gives; says = subst (λ b. SaysScript under told sites steps b) same (subst (λ x. SaysScript under x sites steps bad) is says) }
 
-  stopped : (told old new : Option (List ℕ)) (text : List ℕ) (sites : ℕ) (steps : List Step) (bad : Option ℕ) (refusal : Refusal) → IfSome told (λ t. text ≡ t) → SaysScript under text sites steps bad
-      → StopsScript sites steps bad old new refusal → IsSimulateRefusal told gate old new refusal
-  stopped None old new text sites steps bad (Script NoMemory) is says h = inr tt
-  stopped None old new text sites steps bad (Script BadSites) is says h = absurd h
-  stopped None old new text sites steps bad (Script (BadLine line)) is says h = tt
-  stopped None old new text sites steps bad (Snapshot fault) is says h = absurd h
-  stopped None old new text sites steps bad (Gate fault) is says h = absurd h
-  stopped None old new text sites steps bad NotText is says h = absurd h
-  stopped None old new text sites steps bad (File fault) is says h = absurd h
-  stopped None old new text sites steps bad Output is says h = tt
-  stopped None old new text sites steps bad Memory is says h = absurd h
-  stopped (Some t) old new text sites steps bad (Script NoMemory) is says h = inr (sites, steps, bad, is_script t text sites steps bad bad is refl says, h)
-  stopped (Some t) old new text sites steps bad (Script BadSites) is says h = absurd h
-  stopped (Some t) old new text sites steps bad (Script (BadLine line)) is says h = (sites, steps, is_script t text sites steps bad (Some line) is h.0 says, h.1)
-  stopped (Some t) old new text sites steps bad (Snapshot fault) is says h = absurd h
-  stopped (Some t) old new text sites steps bad (Gate fault) is says h = absurd h
-  stopped (Some t) old new text sites steps bad NotText is says h = absurd h
-  stopped (Some t) old new text sites steps bad (File fault) is says h = absurd h
-  stopped (Some t) old new text sites steps bad Output is says h = (sites, steps, bad, is_script t text sites steps bad bad is refl says, h)
-  stopped (Some t) old new text sites steps bad Memory is says h = absurd h
+  pub stopped : (told old new : Option (List ℕ)) (text : List ℕ) (sites : ℕ) (steps : List Step) (bad : Option ℕ) (fault : PlayFault) → IfSome told (λ t. text ≡ t) → SaysScript under text sites steps bad
+      → StopsScript sites steps bad old new fault → IsSimulateRefusal told gate old new (refusal_of fault)
+  stopped None old new text sites steps bad (play.Script NoMemory) is says h = inr tt
+  stopped None old new text sites steps bad (play.Script BadSites) is says h = absurd h
+  stopped None old new text sites steps bad (play.Script (BadLine line)) is says h = tt
+  stopped None old new text sites steps bad play.Output is says h = tt
+  stopped (Some t) old new text sites steps bad (play.Script NoMemory) is says h = inr (sites, steps, bad, is_script t text sites steps bad bad is refl says, h)
+  stopped (Some t) old new text sites steps bad (play.Script BadSites) is says h = absurd h
+  stopped (Some t) old new text sites steps bad (play.Script (BadLine line)) is says h = (sites, steps, is_script t text sites steps bad (Some line) is h.0 says, h.1)
+  stopped (Some t) old new text sites steps bad play.Output is says h = (sites, steps, bad, is_script t text sites steps bad bad is refl says, h)
 
-  pub simulated : {T : Type 0} (told old new : Option (List ℕ)) (text : List ℕ) (sites : ℕ) (steps : List Step) (bad : Option ℕ) (result : Result T Refusal) → IfSome told (λ t. text ≡ t) → SaysScript under text sites steps bad
-      → OnOk result ((bad ≡ None) × PrintsRun (new_world sites) steps old new) → IfErr result (StopsScript sites steps bad old new) → IsSimulated told gate old new result
-  simulated None old new text sites steps bad (Ok done) is says p q = tt
-  simulated (Some t) old new text sites steps bad (Ok done) is says p q = (sites, steps, is_script t text sites steps bad None is p.0 says, p.1)
-  simulated told old new text sites steps bad (Err refusal) is says p q = stopped told old new text sites steps bad refusal is says q
+  pub played : (told old new : Option (List ℕ)) (text : List ℕ) (sites : ℕ) (steps : List Step) (bad : Option ℕ) → IfSome told (λ t. text ≡ t) → SaysScript under text sites steps bad
+      → (bad ≡ None) × PrintsRun (new_world sites) steps old new → IfSome told (λ t. PlaysScript gate t old new)
+  played None old new text sites steps bad is says p = tt
+  played (Some t) old new text sites steps bad is says p = (sites, steps, is_script t text sites steps bad None is p.0 says, p.1)

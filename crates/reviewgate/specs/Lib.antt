@@ -1,12 +1,8 @@
-pub mod ScriptLines
-pub mod Fields
 pub mod Faults
 pub mod Refusals
 pub mod Files
 pub mod Merging
 pub mod FooterLines
-pub mod Script
-pub mod Playing
 pub mod Simulating
 pub mod Reporting
 pub mod Running

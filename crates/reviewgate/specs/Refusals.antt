@@ -10,11 +10,19 @@ use Rattle.report_text.specs.Fault as snapshot
 use Rattle.report_text.specs.declared.fault.SnapFault.{SnapFault}
 use Rattle.report_text.specs.declared.fault.SnapFault.TheVariants as SnapFaults
 use Rattle.review_ops.specs.Fault as body
-use Rattle.reviewgate.specs.Faults.{file_fault_name, file_fault_number, script_fault_name, script_fault_number}
+use Rattle.script_play.specs.declared.fault.PlayFault.{PlayFault}
+use Rattle.script_play.specs.declared.fault.PlayFault.TheVariants as PlayFaults
+use Rattle.script_text.specs.Fault as script
+use Rattle.script_text.specs.declared.fault.ScriptFault.{ScriptFault}
+use Rattle.script_text.specs.declared.fault.ScriptFault.TheVariants.{BadSites, BadLine, NoMemory}
+use Rattle.reviewgate.specs.Faults.{file_fault_name, file_fault_number}
 use Rattle.reviewgate.specs.declared.refusal.Refusal.{Refusal}
 use Rattle.reviewgate.specs.declared.refusal.Refusal.TheVariants.{Script, Snapshot, Gate, File, NotText, Output, Memory}
-use Rattle.reviewgate.specs.declared.refusal.ScriptFault.{ScriptFault}
-use Rattle.reviewgate.specs.declared.refusal.ScriptFault.TheVariants.{BadSites, BadLine, NoMemory}
+
+-- how it is told why a script isn't played to its end
+abbrev pub refusal_of : PlayFault → Refusal
+refusal_of (PlayFaults.Script fault) = Script fault
+refusal_of PlayFaults.Output = Output
 
 -- the part, the number and the name, with blanks between them
 abbrev pub told : List ℕ → ℕ → List ℕ → List ℕ
@@ -57,7 +65,7 @@ snapshot_detail SnapFaults.ReadFault = []
 snapshot_detail SnapFaults.NoMemory = []
 
 abbrev pub refusal_text : Refusal → List ℕ
-refusal_text (Script fault) = told (codes "script") (script_fault_number fault) (script_fault_name fault) ++ script_detail fault
+refusal_text (Script fault) = told (codes "script") (script.number_of fault) (script.name_of fault) ++ script_detail fault
 refusal_text (Snapshot fault) = told (codes "snapshot") (snapshot.number_of fault) (snapshot.name_of fault) ++ snapshot_detail fault
 refusal_text (Gate fault) = told (codes "gate") (gate.number_of fault) (gate.name_of fault) ++ gate_detail fault
 refusal_text (File fault) = told (codes "file") (file_fault_number fault) (file_fault_name fault)

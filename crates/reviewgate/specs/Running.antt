@@ -1,5 +1,5 @@
 -- What the program does with its words, and the status that it ends with.
-use Rattle.std.specs.Prelude.{◌≡◌, ◌⊎◌, ◌<◌, ℕ, List, Option, IfSome, IsErrOf, Result, Ok, Err, codes, length, option_map, string_bytes, take}
+use Rattle.std.specs.Prelude.{◌≡◌, ◌⊎◌, ◌<◌, ℕ, List, Option, IfSome, IsErrOf, Result, Ok, Err, length, option_map, string_bytes, take}
 use Rattle.std.specs.Io.KnownBytes.{Appends}
 use Rattle.byte_ends.specs.Failures.{OneFailed}
 use Rattle.command_line.specs.declared.asked.Asked.{Asked}
@@ -7,12 +7,11 @@ use Rattle.command_line.specs.declared.asked.Asked.TheVariants.{Simulate, Ready,
 use Rattle.reviewgate.specs.Files.{given, left_after}
 use Rattle.reviewgate.specs.FooterLines.{CountsFootersRefusal, IsFootersRefusal, PrintsFooters, PrintsFootersRefused}
 use Rattle.reviewgate.specs.Merging.{CountsMergeRefusal, Failures, failures, IsMergeRefusal, PrintsMerged, PrintsRefused}
-use Rattle.reviewgate.specs.Playing.{Prints}
 use Rattle.reviewgate.specs.Refusals.{refusal_line}
 use Rattle.reviewgate.specs.Reporting.{CountsReadyRefusal, IsReadyRefusal, PrintsReadyRefused, PrintsReport}
 use Rattle.reviewgate.specs.Simulating.{IsSimulated}
 use Rattle.reviewgate.specs.declared.refusal.Refusal.{Refusal}
-use Rattle.reviewgate.specs.declared.refusal.Refusal.TheVariants.{Memory}
+use Rattle.reviewgate.specs.declared.refusal.Refusal.TheVariants.{Memory, Output}
 
 -- what is read: the bytes that the input has left and those of each file, where they are told
 pub record Inputs : Type 0 where
@@ -58,6 +57,11 @@ IsFootersEnd gate change message old new (Ok done) =
     IfSome gate (λ one. IfSome message (λ text. PrintsFooters one change text old.printed new.printed)) × (new.failed ≡ old.failed)
 IsFootersEnd gate change message old new (Err refusal) =
     IsFootersRefusal gate message refusal × PrintsFootersRefused gate change message old.printed new.printed refusal × CountsFootersRefusal old.failed new.failed refusal
+
+-- all of the text was printed, or the output failed and took some front of it
+abbrev pub Prints : {T : Type 0} → List ℕ → Option (List ℕ) → Option (List ℕ) → Result T Refusal → Type 0
+Prints text old new (Ok done) = Appends old new text
+Prints text old new (Err refusal) = (refusal ≡ Output) × (count : ℕ) × (count < length text) × Appends old new (take count text)
 
 -- what is asked for is done, and ends so
 abbrev pub Does : {T : Type 0} → Inputs → Ends → Ends → Asked → Result T Refusal → Type 0

@@ -6,10 +6,10 @@ use Rattle.world_core.specs.World.{new_world}
 use Rattle.reviewgate.specs.declared.refusal.FileFault.TheVariants as file
 use Rattle.reviewgate.specs.declared.refusal.Refusal.{Refusal}
 use Rattle.reviewgate.specs.declared.refusal.Refusal.TheVariants.{Script, Snapshot, Gate, File, NotText, Output, Memory}
-use Rattle.reviewgate.specs.declared.refusal.ScriptFault.TheVariants.{BadSites, BadLine, NoMemory}
-use Rattle.reviewgate.specs.declared.script.Step.{Step}
-use Rattle.reviewgate.specs.Playing.{CutsRun, PrintsFirst, PrintsRun}
-use Rattle.reviewgate.specs.Script.{SaysScript, SpeaksNoSites, spoken}
+use Rattle.script_text.specs.declared.fault.ScriptFault.TheVariants.{BadSites, BadLine, NoMemory}
+use Rattle.script_text.specs.declared.script.Step.{Step}
+use Rattle.script_play.specs.Playing.{CutsRun, PrintsFirst, PrintsRun}
+use Rattle.script_text.specs.Script.{SaysScript, SpeaksNoSites, spoken}
 
 -- the most bytes that a script has
 abbrev pub most_script : ℕ

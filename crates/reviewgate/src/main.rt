@@ -1,7 +1,6 @@
 //! `reviewgate`: the review record of Gerrit changes, kept at several sites.
 #![tactic(auto)]
 
-mod fields;
 #[cfg(test)]
 mod footer_tests;
 mod footers;
@@ -16,9 +15,6 @@ mod ready;
 mod ready_tests;
 mod refusal;
 mod run;
-mod script;
-mod script_lines;
-mod simulate;
 #[cfg(test)]
 mod tests;
 

@@ -1,13 +1,15 @@
 //! Why a command ended with status 1.
 
 ghost use Rattle.std.specs.Prelude.{◌≡◌, ◌++◌, IfOk, OnOk, string_bytes};
-ghost use Rattle.reviewgate.specs.Faults.{file_fault_number, file_fault_name, script_fault_number, script_fault_name};
+ghost use Rattle.reviewgate.specs.Faults.{file_fault_number, file_fault_name};
 ghost use Rattle.reviewgate.specs.declared.refusal.Refusal.TheVariants.{Script as BadScript, Snapshot as Unread, Gate as BadGate, File as BadFile};
-ghost use Rattle.reviewgate.specs.Refusals.{cause_detail, refusal_line, refusal_text, told};
+ghost use Rattle.reviewgate.specs.Refusals.{cause_detail, refusal_line, refusal_of, refusal_text, told};
 
 use gate_rules::GateFault;
 use op_text::OpTextFault;
 use report_text::SnapFault;
+use script_play::PlayFault;
+use script_text::ScriptFault;
 use std::alloc::{AllocError, Global};
 use thiserror::Error;
 
@@ -45,44 +47,6 @@ impl FileFault {
             FileFault::TooLong => "TooLong",
             FileFault::ReadFault => "ReadFault",
             FileFault::NoMemory => "NoMemory",
-        }
-    }
-}
-
-/// Why a script isn't played to its end.
-#[derive(Clone, Copy, Debug, PartialEq, Eq, Error)]
-pub enum ScriptFault {
-    /// Its first line isn't `sites N` with N from 1 to 64.
-    #[error("the first line has to be `sites N`, with N from 1 to 64")]
-    BadSites,
-    /// The line of this number says nothing that can be played.
-    #[error("line {0} can't be played")]
-    BadLine(u64),
-    /// The sites or the lines couldn't be held.
-    #[error("no memory")]
-    NoMemory,
-}
-
-impl ScriptFault {
-    /// The number that is printed.
-    pub fn number(&self) -> u8
-        ensures { result ≡ script_fault_number self.now }
-    {
-        match self {
-            ScriptFault::BadSites => 1,
-            ScriptFault::BadLine(_) => 2,
-            ScriptFault::NoMemory => 3,
-        }
-    }
-
-    /// The name that is printed.
-    pub fn name(&self) -> &'static str
-        ensures { result.now ≡ script_fault_name self.now }
-    {
-        match self {
-            ScriptFault::BadSites => "BadSites",
-            ScriptFault::BadLine(_) => "BadLine",
-            ScriptFault::NoMemory => "NoMemory",
         }
     }
 }
@@ -186,6 +150,25 @@ fn write_gate(line: &mut String, fault: &GateFault) -> Result<(), AllocError>
             write!(line, " {key}")
         }
         GateFault::NotJson | GateFault::NoMemory => Ok(()),
+    }
+}
+
+impl From<ScriptFault> for Refusal {
+    ghost from_gives = { λ fault refusal. refusal ≡ BadScript fault };
+
+    fn from(fault: ScriptFault) -> Refusal {
+        Refusal::Script(fault)
+    }
+}
+
+impl From<PlayFault> for Refusal {
+    ghost from_gives = { λ fault refusal. refusal ≡ refusal_of fault };
+
+    fn from(fault: PlayFault) -> Refusal {
+        match fault {
+            PlayFault::Script(fault) => Refusal::Script(fault),
+            PlayFault::Output => Refusal::Output,
+        }
     }
 }
 

@@ -6,7 +6,7 @@ ghost use Rattle.command_line.specs.declared.asked.Asked.{Asked};
 ghost use Rattle.reviewgate.specs.Files.{given, left_after};
 ghost use Rattle.reviewgate.specs.Refusals.{refusal_line};
 ghost use Rattle.reviewgate.specs.Reporting.{IsGateRefusal};
-ghost use Rattle.reviewgate.specs.Running.{Does, Ended, EndsWith, Shows, ends, memory_line, told};
+ghost use Rattle.reviewgate.specs.Running.{Does, Ended, EndsWith, Prints, Shows, ends, memory_line, told};
 ghost use Rattle.reviewgate.specs.Simulating.{GivesGate, IsSimulated};
 
 use super::footers::{footers, read_second_gate};
@@ -14,11 +14,11 @@ use super::merge::merge;
 use super::named::{Named, bytes_of};
 use super::ready::ready;
 use super::refusal::Refusal;
-use super::script::read_script;
-use super::simulate::{play, print};
 use byte_ends::{Drain, Source, write_all};
 use command_line::{Asked, read_words};
 use gate_rules::Gate;
+use script_play::play;
+use script_text::read_script;
 use std::alloc::Global;
 use std::convert::AsStr;
 
@@ -109,10 +109,9 @@ fn simulate<I: Source, O: Drain, N: Named>(
 {
     let text = bytes_of(alloc, name, TEXT_LIMIT, input, files)?;
     let rules = gate_for(alloc, name, gate, input, files)?;
-    match read_script(alloc, text.as_slice(), rules.as_ref()) {
-        Ok(script) => play(alloc, script, output),
-        Err(fault) => Err(Refusal::Script(fault)),
-    }
+    let script = read_script(alloc, text.as_slice(), rules.as_ref())?;
+    play(alloc, script, output)?;
+    Ok(())
 }
 
 /// The gate of a name, where one is given, once the script was read.
@@ -134,6 +133,16 @@ fn gate_for<I: Source, N: Named>(
     };
     let rules = read_second_gate(alloc, script, name, input, files)?;
     Ok(Some(rules))
+}
+
+/// Writes all of a text.
+fn print<O: Drain>(output: &mut O, text: &[u8]) -> Result<(), Refusal>
+    ensures { Prints text.now (O.taken output.old) (O.taken output.new) result }
+{
+    match write_all(output, text) {
+        Ok(()) => Ok(()),
+        Err(_) => Err(Refusal::Output),
+    }
 }
 
 /// Tells the error output of a refusal. What it can't take is lost.

@@ -1,0 +1,148 @@
+-- What a script's steps print, one after the other. The texts are the project's own; the world is world_core's machine.
+use Rattle.std.specs.Prelude.{◌≡◌, ◌⊎◌, ◌<◌, ℕ, Bool, List, [], ◌∷◌, ◌++◌, Option, Some, MatchOption, Ok, Err, flat_map, length, map, take, IsErrOf, Result, codes, decimal, if◌then◌else◌}
+use Rattle.std.specs.Global.{Global}
+use Rattle.std.specs.Io.KnownBytes.{Appends}
+use Rattle.gate_rules.specs.Rules.{GateRules}
+use Rattle.op_text.specs.Front.{front_text}
+use Rattle.ready_core.specs.Verdicts.{AreVerdicts, Judged}
+use Rattle.report_text.specs.Report.{report_of}
+use Rattle.review_ops.specs.Operation.{Operation}
+use Rattle.review_ops.specs.Timestamp.{timestamp_text}
+use Rattle.replica_core.specs.Front.{Reaches, IsFront}
+use Rattle.replica_core.specs.State.{state_of}
+use Rattle.replica_core.specs.StateText.{state_text}
+use Rattle.world_core.specs.declared.event.Event.{Event}
+use Rattle.world_core.specs.declared.event.Event.TheVariants.{Send}
+use Rattle.world_core.specs.declared.event.Reply.{Reply}
+use Rattle.world_core.specs.declared.event.Reply.TheVariants.{Took, Packet, Delivered, Saved, Restarted}
+use Rattle.world_core.specs.Fault.{name_of, number_of}
+use Rattle.world_core.specs.Numbered.{numbered}
+use Rattle.world_core.specs.Step.{Answer, Run, Step as MayAnswer}
+use Rattle.world_core.specs.World.{WorldState, new_world}
+use Rattle.script_play.specs.declared.fault.PlayFault.{PlayFault}
+use Rattle.script_play.specs.declared.fault.PlayFault.TheVariants.{Script, Output}
+use Rattle.script_text.specs.declared.fault.ScriptFault.TheVariants.{BadSites, BadLine, NoMemory}
+use Rattle.script_text.specs.declared.script.Step.{Step}
+use Rattle.script_text.specs.declared.script.Step.TheVariants.{Happens, SendTo, State, Front, Ready}
+
+-- ---- one line for one answer
+
+abbrev pub rest_word : Bool → List ℕ
+rest_word more = if more then codes "more" else codes "done"
+
+abbrev pub reply_text : Reply → List ℕ
+reply_text (Took stamp) = codes "ok " ++ timestamp_text stamp
+reply_text (Packet number count more) = codes "packet " ++ decimal number ++ codes " " ++ decimal count ++ codes " " ++ rest_word more
+reply_text (Delivered count) = codes "took " ++ decimal count
+reply_text Saved = codes "saved"
+reply_text Restarted = codes "restarted"
+
+abbrev pub answer_text : Answer → List ℕ
+answer_text (Ok reply) = reply_text reply
+answer_text (Err fault) = codes "no " ++ decimal (number_of fault) ++ codes " " ++ name_of fault
+
+abbrev pub answer_line : Answer → List ℕ
+answer_line answer = answer_text answer ++ codes "\n"
+
+-- what is printed of a site that isn't there, and where memory doesn't suffice for what is to be shown
+abbrev pub no_site : List ℕ
+no_site = codes "no 1 NoSite\n"
+
+abbrev pub no_memory : List ℕ
+no_memory = codes "no 6 NoMemory\n"
+
+-- ---- a step, from the old world to the new one
+
+-- the event happens, and its answer is printed
+abbrev pub PlaysEvent : WorldState → Event Global → List ℕ → WorldState → Type 0
+PlaysEvent old event printed new = (answer : Answer) × MayAnswer old event answer new × (printed ≡ answer_line answer)
+
+-- a site sends what another lacks by its front now, or memory doesn't suffice for the front
+abbrev pub PlaysSendTo : ℕ → List Operation → WorldState → List ℕ → WorldState → Type 0
+PlaysSendTo site journal old printed new =
+    ((front : Reaches) × IsFront journal front × PlaysEvent old (Send site front) printed new) ⊎ ((printed ≡ no_memory) × (new ≡ old))
+
+-- the state text is shown, or memory doesn't suffice for it
+abbrev pub ShowsState : List Operation → List ℕ → Type 0
+ShowsState journal printed = (printed ≡ state_text (state_of journal)) ⊎ (printed ≡ no_memory)
+
+-- the front's text is shown on a line, or memory doesn't suffice for it
+abbrev pub ShowsFront : List Operation → List ℕ → Type 0
+ShowsFront journal printed = ((front : Reaches) × IsFront journal front × (printed ≡ front_text front ++ codes "\n")) ⊎ (printed ≡ no_memory)
+
+-- the report of the journal's state under the gate is shown, or memory doesn't suffice for it
+abbrev pub ShowsReport : GateRules → List Operation → List ℕ → Type 0
+ShowsReport gate journal printed = ((verdicts : Judged) × AreVerdicts gate (state_of journal) verdicts × (printed ≡ report_of verdicts)) ⊎ (printed ≡ no_memory)
+
+abbrev pub PlaysStep : WorldState → Step → List ℕ → WorldState → Type 0
+PlaysStep old (Happens event) printed new = PlaysEvent old event printed new
+PlaysStep old (SendTo site receiver) printed new = MatchOption (numbered old.sites receiver) ((printed ≡ no_site) × (new ≡ old)) (λ at. PlaysSendTo site at.journal old printed new)
+PlaysStep old (State site) printed new = MatchOption (numbered old.sites site) (printed ≡ no_site) (λ at. ShowsState at.journal printed) × (new ≡ old)
+PlaysStep old (Front site) printed new = MatchOption (numbered old.sites site) (printed ≡ no_site) (λ at. ShowsFront at.journal printed) × (new ≡ old)
+PlaysStep old (Ready site gate) printed new = MatchOption (numbered old.sites site) (printed ≡ no_site) (λ at. ShowsReport gate.now at.journal printed) × (new ≡ old)
+
+-- ---- a run: one step after the other, each from the world that the one before left, and their texts in that order
+
+abbrev pub Plays : WorldState → List Step → List ℕ → WorldState → Type 0
+Plays old [] printed new = (printed ≡ []) × (new ≡ old)
+Plays old (step ∷ steps) printed new =
+    (text : List ℕ) × (mid : WorldState) × (rest : List ℕ) × PlaysStep old step text mid × Plays mid steps rest new × (printed ≡ text ++ rest)
+
+-- from the start, some run by these steps prints this
+abbrev pub IsRunText : WorldState → List Step → List ℕ → Type 0
+IsRunText start steps text = (new : WorldState) × Plays start steps text new
+
+-- all that was printed is the text of a run by the steps
+abbrev pub PrintsRun : WorldState → List Step → Option (List ℕ) → Option (List ℕ) → Type 0
+PrintsRun start steps old new = (text : List ℕ) × IsRunText start steps text × Appends old new text
+
+-- these are the first of the steps
+abbrev pub AreFirst : List Step → List Step → Type 0
+AreFirst first steps = (rest : List Step) × (steps ≡ first ++ rest)
+
+-- all that was printed is the text of a run by some first steps
+abbrev pub PrintsFirst : WorldState → List Step → Option (List ℕ) → Option (List ℕ) → Type 0
+PrintsFirst start steps old new = (first : List Step) × AreFirst first steps × PrintsRun start first old new
+
+-- some front of such a text was printed, not all
+abbrev pub CutsRun : WorldState → List Step → Option (List ℕ) → Option (List ℕ) → Type 0
+CutsRun start steps old new =
+    (first : List Step) × AreFirst first steps × (text : List ℕ) × IsRunText start first text × (count : ℕ) × (count < length text) × Appends old new (take count text)
+
+-- what was printed where the steps aren't played to their end: memory was refused, or the output failed
+abbrev pub StopsRun : WorldState → List Step → Option (List ℕ) → Option (List ℕ) → PlayFault → Type 0
+StopsRun start steps old new (Script NoMemory) = PrintsFirst start steps old new
+StopsRun start steps old new (Script BadSites) = ⊥
+StopsRun start steps old new (Script (BadLine line)) = ⊥
+StopsRun start steps old new Output = CutsRun start steps old new
+
+-- what was printed where a script isn't played to its end: of a line that says nothing, all that the lines before it print
+abbrev pub StopsScript : ℕ → List Step → Option ℕ → Option (List ℕ) → Option (List ℕ) → PlayFault → Type 0
+StopsScript sites steps bad old new (Script (BadLine line)) = (bad ≡ Some line) × PrintsRun (new_world sites) steps old new
+StopsScript sites steps bad old new (Script NoMemory) = PrintsFirst (new_world sites) steps old new
+StopsScript sites steps bad old new (Script BadSites) = ⊥
+StopsScript sites steps bad old new Output = CutsRun (new_world sites) steps old new
+
+-- ---- where a run stands: the steps are those that were played, which left this world and were printed, and the events that wait
+
+pub record HasPlayed (start : WorldState) (steps : List Step) (world : WorldState) (waiting : List (Event Global)) (old now : Option (List ℕ)) : Type 0 where
+  pub played : List Step
+  pub text : List ℕ
+  pub run : Plays start played text world
+  pub whole : steps ≡ played ++ map Happens waiting
+  pub told : Appends old now text
+
+-- the steps were played so far, or what stopped them is told
+abbrev pub GoesOrStops : {T : Type 0} → WorldState → List Step → WorldState → List (Event Global) → Option (List ℕ) → Option (List ℕ) → Result T PlayFault → Type 0
+GoesOrStops start steps world waiting old now (Ok done) = HasPlayed start steps world waiting old now
+GoesOrStops start steps world waiting old now (Err fault) = StopsRun start steps old now fault
+
+-- all of the text was printed, or the output failed and took some front of it
+abbrev pub Prints : {T : Type 0} → List ℕ → Option (List ℕ) → Option (List ℕ) → Result T PlayFault → Type 0
+Prints text old new (Ok done) = Appends old new text
+Prints text old new (Err fault) = (fault ≡ Output) × (count : ℕ) × (count < length text) × Appends old new (take count text)
+
+-- the events happened, and their answers were printed; or memory was refused, and nothing was printed
+abbrev pub PrintsAnswers : {T : Type 0} → WorldState → List (Event Global) → WorldState → Option (List ℕ) → Option (List ℕ) → Result T PlayFault → Type 0
+PrintsAnswers start events end old new result =
+    ((answers : List Answer) × Run start events answers end × Prints (flat_map answer_line answers) old new result) ⊎ ((new ≡ old) × IsErrOf result (Script NoMemory))
