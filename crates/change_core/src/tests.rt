@@ -71,19 +71,58 @@ fn withdrawal<A: Allocator + Copy>(alloc: A, time: u64, set: u32) -> Option<Op<A
     )
 }
 
+/// What is stamped on change 101 with a time, which is its sequence number too, by site 1 under start 1. The second number is the patch set.
+#[derive(Clone, Copy)]
+enum Step {
+    PatchSet(u64, u32, Option<u32>),
+    Vote(u64, u32, &'static str, &'static str, i8),
+    Withdraw(u64, u32),
+    Abandon(u64),
+    Restore(u64),
+    Merged(u64),
+}
+
+/// The operation of a step.
+fn op_of(alloc: Global, step: Step) -> Result<Op, Fail> {
+    let op = match step {
+        Step::PatchSet(time, set, parent) => patch_set(alloc, time, set, parent),
+        Step::Vote(time, set, label, voter, value) => vote(alloc, time, set, label, voter, value),
+        Step::Withdraw(time, set) => withdrawal(alloc, time, set),
+        Step::Abandon(time) => stamped(time, Draft::Abandon { change: 101 }),
+        Step::Restore(time) => stamped(time, Draft::Restore { change: 101 }),
+        Step::Merged(time) => stamped(time, Draft::Merged { change: 101 }),
+    };
+    Ok(op.ok_or(MEMORY)?)
+}
+
+/// The effect of an operation, joined with a state.
+fn joined(alloc: Global, state: &ChangeState, op: &Op) -> Result<ChangeState, Fail> {
+    let mut effect = ChangeState::effect(alloc, op)?;
+    effect.join(state.copy()?)?;
+    Ok(effect)
+}
+
+/// The states are the same.
+fn assert_same(rt: &impl Abort, joined: &ChangeState, state: &ChangeState) {
+    assert!(rt; joined.same(state) && joined.covers(state));
+}
+
 /// Takes an operation. Its effect, joined with what was taken before, is the same state.
-fn take(
-    rt: &impl Abort,
-    alloc: Global,
-    state: &mut ChangeState,
-    op: Option<Op>,
-) -> Result<(), Fail> {
-    let op = op.ok_or(MEMORY)?;
-    let mut turned = ChangeState::effect(alloc, &op)?;
-    turned.join(state.copy()?)?;
+fn take(rt: &impl Abort, alloc: Global, state: &mut ChangeState, step: Step) -> Result<(), Fail> {
+    let op = op_of(alloc, step)?;
+    let joined = joined(alloc, state, &op)?;
     state.take(&op)?;
-    assert!(rt; turned.same(state) && turned.covers(state));
+    assert_same(rt, &joined, state);
     Ok(())
+}
+
+/// The state of the operations, which are taken in their order.
+fn state_of(rt: &impl Abort, alloc: Global, steps: &[Step]) -> Result<ChangeState, Fail> {
+    let mut state = ChangeState::new(alloc);
+    for step in steps {
+        take(rt, alloc, &mut state, *step)?;
+    }
+    Ok(state)
 }
 
 /// The texts of the approvals of a patch set, one a line.
@@ -111,224 +150,248 @@ fn votes_text(alloc: Global, state: &ChangeState, set: u32) -> Result<String, Fa
     Ok(text)
 }
 
+/// A patch set has these approvals.
+fn assert_approvals(
+    rt: &impl Abort,
+    alloc: Global,
+    state: &ChangeState,
+    set: u32,
+    wanted: &str,
+) -> Result<(), Fail> {
+    let text = approvals_text(alloc, state, set)?;
+    assert_eq!(rt; text.as_str(), wanted);
+    Ok(())
+}
+
+/// A patch set has these votes.
+fn assert_votes(
+    rt: &impl Abort,
+    alloc: Global,
+    state: &ChangeState,
+    set: u32,
+    wanted: &str,
+) -> Result<(), Fail> {
+    let text = votes_text(alloc, state, set)?;
+    assert_eq!(rt; text.as_str(), wanted);
+    Ok(())
+}
+
+/// A withdrawn vote, a newer one, and one that is older than both.
+const NEWEST: [Step; 3] = [
+    Step::Withdraw(4, 1),
+    Step::Vote(5, 1, "Workflow", "ann", 1),
+    Step::Vote(3, 1, "Workflow", "ann", 2),
+];
+
 #[test]
 fn the_newest_vote_counts(rt: HostRuntime) -> Result<(), Fail> {
-    let alloc = rt.alloc();
-    let mut state = ChangeState::new(alloc);
-    take(&rt, alloc, &mut state, withdrawal(alloc, 4, 1))?;
-    take(
-        &rt,
-        alloc,
-        &mut state,
-        vote(alloc, 5, 1, "Workflow", "ann", 1),
-    )?;
-    take(
-        &rt,
-        alloc,
-        &mut state,
-        vote(alloc, 3, 1, "Workflow", "ann", 2),
-    )?;
-    assert_eq!(rt;
-        approvals_text(alloc, &state, 1)?.as_str(),
-        "workflow ann 1\n"
-    );
-    assert_eq!(rt;
-        votes_text(alloc, &state, 1)?.as_str(),
-        "workflow ann 1 5,1,1,5\n"
-    );
-    Ok(())
+    let state = state_of(&rt, rt.alloc(), &NEWEST)?;
+    assert_approvals(&rt, rt.alloc(), &state, 1, "workflow ann 1\n")?;
+    assert_votes(&rt, rt.alloc(), &state, 1, "workflow ann 1 5,1,1,5\n")
+}
+
+/// The effect of one operation.
+fn effect_of(alloc: Global, step: Step) -> Result<ChangeState, Fail> {
+    let op = op_of(alloc, step)?;
+    Ok(ChangeState::effect(alloc, &op)?)
+}
+
+/// This patch set is current, if there is one.
+fn assert_current(rt: &impl Abort, state: &ChangeState, wanted: Option<u32>) {
+    assert_eq!(rt; state.current(), wanted);
+}
+
+/// A patch set has this message, if it is known.
+fn assert_message(rt: &impl Abort, state: &ChangeState, set: u32, wanted: Option<&str>) {
+    assert_eq!(rt; state.message(set), wanted);
 }
 
 #[test]
 fn one_patch_set_is_known(rt: HostRuntime) -> Result<(), Fail> {
-    let op = patch_set(rt.alloc(), 1, 1, None).ok_or(MEMORY)?;
-    let state = ChangeState::effect(rt.alloc(), &op)?;
+    let state = effect_of(rt.alloc(), Step::PatchSet(1, 1, None))?;
     assert!(rt; state.has_set(1) && !state.has_set(2));
-    assert_eq!(rt; state.message(1), Some("Add x\n"));
-    assert!(rt; state.message(2).is_none());
-    assert_eq!(rt; state.current(), Some(1));
+    assert_message(&rt, &state, 1, Some("Add x\n"));
+    assert_message(&rt, &state, 2, None);
+    assert_current(&rt, &state, Some(1));
     Ok(())
 }
+
+/// Two votes of one voter at one stamp.
+const TIE: [Step; 2] = [
+    Step::Vote(3, 1, "Workflow", "ann", 2),
+    Step::Vote(3, 1, "Workflow", "ann", -1),
+];
 
 #[test]
 fn the_greater_of_two_votes_at_one_stamp_counts(rt: HostRuntime) -> Result<(), Fail> {
-    let alloc = rt.alloc();
-    let mut state = ChangeState::new(alloc);
-    take(
-        &rt,
-        alloc,
-        &mut state,
-        vote(alloc, 3, 1, "Workflow", "ann", 2),
-    )?;
-    take(
-        &rt,
-        alloc,
-        &mut state,
-        vote(alloc, 3, 1, "Workflow", "ann", -1),
-    )?;
-    assert_eq!(rt;
-        votes_text(alloc, &state, 1)?.as_str(),
-        "workflow ann 2 3,1,1,3\n"
-    );
-    assert_eq!(rt; state.current(), None);
+    let state = state_of(&rt, rt.alloc(), &TIE)?;
+    assert_votes(&rt, rt.alloc(), &state, 1, "workflow ann 2 3,1,1,3\n")?;
+    assert_current(&rt, &state, None);
     Ok(())
 }
 
+/// A vote, and another of 0 at a later stamp.
+const ZERO: [Step; 2] = [
+    Step::Vote(5, 1, "Workflow", "ann", 1),
+    Step::Vote(6, 1, "Workflow", "ann", 0),
+];
+
 #[test]
-fn a_vote_of_0_is_a_withdrawn_one_and_no_approval(rt: HostRuntime) -> Result<(), Fail> {
-    let alloc = rt.alloc();
-    let mut zero = ChangeState::new(alloc);
-    take(
-        &rt,
-        alloc,
-        &mut zero,
-        vote(alloc, 5, 1, "Workflow", "ann", 1),
-    )?;
-    let mut withdrawn = zero.copy()?;
-    take(
-        &rt,
-        alloc,
-        &mut zero,
-        vote(alloc, 6, 1, "Workflow", "ann", 0),
-    )?;
-    take(&rt, alloc, &mut withdrawn, withdrawal(alloc, 6, 1))?;
-    assert!(rt; zero.same(&withdrawn));
-    assert_eq!(rt; approvals_text(alloc, &zero, 1)?.as_str(), "");
-    assert_eq!(rt;
-        votes_text(alloc, &zero, 1)?.as_str(),
-        "workflow ann 0 6,1,1,6\n"
-    );
+fn a_vote_of_0_is_no_approval(rt: HostRuntime) -> Result<(), Fail> {
+    let state = state_of(&rt, rt.alloc(), &ZERO)?;
+    assert_approvals(&rt, rt.alloc(), &state, 1, "")?;
+    assert_votes(&rt, rt.alloc(), &state, 1, "workflow ann 0 6,1,1,6\n")
+}
+
+/// The same vote, withdrawn at the later stamp.
+const WITHDRAWN: [Step; 2] = [Step::Vote(5, 1, "Workflow", "ann", 1), Step::Withdraw(6, 1)];
+
+#[test]
+fn a_vote_of_0_is_a_withdrawn_one(rt: HostRuntime) -> Result<(), Fail> {
+    let zero = state_of(&rt, rt.alloc(), &ZERO)?;
+    let withdrawn = state_of(&rt, rt.alloc(), &WITHDRAWN)?;
+    assert_same(&rt, &zero, &withdrawn);
     Ok(())
 }
+
+/// Votes on one patch set, and then another patch set.
+const TWO_SETS: [Step; 4] = [
+    Step::Vote(2, 1, "Workflow", "ann", 1),
+    Step::Vote(3, 1, "Verified", "zuul", 1),
+    Step::Vote(4, 1, "Verified", "bob", -1),
+    Step::PatchSet(5, 3, Some(7)),
+];
 
 #[test]
 fn votes_stay_with_their_patch_set(rt: HostRuntime) -> Result<(), Fail> {
-    let alloc = rt.alloc();
-    let mut state = ChangeState::new(alloc);
-    take(
+    let state = state_of(&rt, rt.alloc(), &TWO_SETS)?;
+    assert_approvals(&rt, rt.alloc(), &state, 3, "")?;
+    assert_approvals(
         &rt,
-        alloc,
-        &mut state,
-        vote(alloc, 2, 1, "Workflow", "ann", 1),
-    )?;
-    take(
-        &rt,
-        alloc,
-        &mut state,
-        vote(alloc, 3, 1, "Verified", "zuul", 1),
-    )?;
-    take(
-        &rt,
-        alloc,
-        &mut state,
-        vote(alloc, 4, 1, "Verified", "bob", -1),
-    )?;
-    take(&rt, alloc, &mut state, patch_set(alloc, 5, 3, Some(7)))?;
-    assert_eq!(rt; approvals_text(alloc, &state, 3)?.as_str(), "");
-    assert_eq!(rt;
-        approvals_text(alloc, &state, 1)?.as_str(),
-        "verified bob -1\nverified zuul 1\nworkflow ann 1\n"
-    );
-    Ok(())
+        rt.alloc(),
+        &state,
+        1,
+        "verified bob -1\nverified zuul 1\nworkflow ann 1\n",
+    )
 }
+
+/// A patch set, and a later one with a lower number.
+const SETS: [Step; 2] = [Step::PatchSet(5, 3, Some(7)), Step::PatchSet(6, 2, None)];
 
 #[test]
 fn the_greatest_known_patch_set_is_current(rt: HostRuntime) -> Result<(), Fail> {
-    let alloc = rt.alloc();
-    let mut state = ChangeState::new(alloc);
-    take(&rt, alloc, &mut state, patch_set(alloc, 5, 3, Some(7)))?;
-    take(&rt, alloc, &mut state, patch_set(alloc, 6, 2, None))?;
-    assert_eq!(rt; state.current(), Some(3));
+    let state = state_of(&rt, rt.alloc(), &SETS)?;
+    assert_current(&rt, &state, Some(3));
     assert_eq!(rt; state.parent(3), Some(7));
     assert!(rt; state.parent(2).is_none() && state.parent(4).is_none());
     assert!(rt; state.sets().len() == 2);
     Ok(())
 }
 
+/// Votes on two patch sets, of which the greater comes first.
+const VOTED: [Step; 3] = [
+    Step::Withdraw(7, 12),
+    Step::Vote(8, 2, "Workflow", "ann", 1),
+    Step::Vote(9, 2, "Workflow", "bob", 1),
+];
+
 #[test]
 fn voted_patch_sets_stand_once_in_order(rt: HostRuntime) -> Result<(), Fail> {
-    let alloc = rt.alloc();
-    let mut state = ChangeState::new(alloc);
-    take(&rt, alloc, &mut state, withdrawal(alloc, 7, 12))?;
-    take(
-        &rt,
-        alloc,
-        &mut state,
-        vote(alloc, 8, 2, "Workflow", "ann", 1),
-    )?;
-    take(
-        &rt,
-        alloc,
-        &mut state,
-        vote(alloc, 9, 2, "Workflow", "bob", 1),
-    )?;
-    let voted: Vec<u32> = state.voted().collect(alloc)?;
+    let state = state_of(&rt, rt.alloc(), &VOTED)?;
+    let voted: Vec<u32> = state.voted().collect(rt.alloc())?;
     assert_eq!(rt; voted.as_slice(), [2, 12].as_slice());
     assert!(rt; state.all_votes().len() == 3);
     Ok(())
 }
 
+/// The change has this status.
+fn assert_status(rt: &impl Abort, state: &ChangeState, wanted: Status) {
+    assert_eq!(rt; state.status(), wanted);
+}
+
+#[test]
+fn an_abandoned_change_says_so(rt: HostRuntime) -> Result<(), Fail> {
+    let state = state_of(&rt, rt.alloc(), &[Step::Abandon(1)])?;
+    assert_status(&rt, &state, Status::Abandoned);
+    assert_eq!(rt; state.status().name(), "ABANDONED");
+    Ok(())
+}
+
+/// The newest abandon or restore is a restore with this stamp.
+fn assert_restored(rt: &impl Abort, state: &ChangeState, stamp: Stamp) {
+    assert_eq!(rt; state.life(), Some((stamp, Life::Restored)));
+}
+
+#[test]
+fn a_restored_change_is_open(rt: HostRuntime) -> Result<(), Fail> {
+    let second = Stamp::new(2, 1, 1, 2).ok_or("a stamp")?;
+    let state = state_of(&rt, rt.alloc(), &[Step::Abandon(1), Step::Restore(2)])?;
+    assert!(rt; state.is_open());
+    assert_restored(&rt, &state, second);
+    Ok(())
+}
+
+/// A change that is abandoned, restored and merged, and then restored again.
+const MERGED: [Step; 4] = [
+    Step::Abandon(1),
+    Step::Restore(2),
+    Step::Merged(3),
+    Step::Restore(4),
+];
+
 #[test]
 fn merged_is_final(rt: HostRuntime) -> Result<(), Fail> {
-    let alloc = rt.alloc();
-    let mut state = ChangeState::new(alloc);
-    take(
-        &rt,
-        alloc,
-        &mut state,
-        stamped(1, Draft::Abandon { change: 101 }),
-    )?;
-    assert_eq!(rt; state.status(), Status::Abandoned);
-    assert_eq!(rt; state.status().name(), "ABANDONED");
-    take(
-        &rt,
-        alloc,
-        &mut state,
-        stamped(2, Draft::Restore { change: 101 }),
-    )?;
-    assert!(rt; state.is_open());
-    let second = Stamp::new(2, 1, 1, 2).ok_or("a stamp")?;
-    assert_eq!(rt; state.life(), Some((second, Life::Restored)));
-    take(
-        &rt,
-        alloc,
-        &mut state,
-        stamped(3, Draft::Merged { change: 101 }),
-    )?;
-    take(
-        &rt,
-        alloc,
-        &mut state,
-        stamped(4, Draft::Restore { change: 101 }),
-    )?;
-    assert_eq!(rt; state.status(), Status::Merged);
+    let state = state_of(&rt, rt.alloc(), &MERGED)?;
+    assert_status(&rt, &state, Status::Merged);
     assert!(rt; !state.is_open());
     Ok(())
 }
 
 type State<'a> = ChangeState<&'a LocalHeap>;
 
+/// Takes a patch set, where the heap suffices for it.
+fn take_set<'a>(heap: &'a LocalHeap, state: &mut State<'a>, set: u32) -> Option<()> {
+    let op = patch_set(heap, 1, set, None)?;
+    state.take(&op).ok()
+}
+
 /// The state of the patch sets from `first` on, as many as `count`.
 fn known(heap: &LocalHeap, first: u32, count: u32) -> Option<State<'_>> {
     let mut state = ChangeState::new(heap);
     for step in 0..count {
-        let set = first.wrapping_add(step);
-        let op = patch_set(heap, 1, set, None)?;
-        state.take(&op).ok()?;
+        take_set(heap, &mut state, first.wrapping_add(step))?;
     }
     Some(state)
 }
 
+/// The state of three patch sets and a vote.
+fn voted(heap: &LocalHeap) -> Option<State<'_>> {
+    let mut state = known(heap, 1, 3)?;
+    let op = vote(heap, 2, 1, "Workflow", "ann", 1)?;
+    state.take(&op).ok()?;
+    Some(state)
+}
+
+/// The state is just that of the three patch sets where a vote was refused, and else that with the vote.
+fn assert_taken<'a>(
+    rt: &impl Abort,
+    ample: &'a LocalHeap,
+    state: &State<'a>,
+    refused: bool,
+) -> Option<()> {
+    let low = known(ample, 1, 3)?;
+    assert!(rt; state.same(&low) == refused);
+    let high = voted(ample)?;
+    assert!(rt; state.same(&high) != refused);
+    Some(())
+}
+
 /// Takes a vote into a state of a heap that may be too small for it. Answers whether memory was refused: then nothing changed.
 fn refuses_take<'a>(rt: &impl Abort, ample: &'a LocalHeap, tight: &'a LocalHeap) -> Option<bool> {
-    let low = known(ample, 1, 3)?;
-    let mut high = low.copy().ok()?;
-    let wanted = vote(ample, 2, 1, "Workflow", "ann", 1)?;
-    high.take(&wanted).ok()?;
     let mut state = known(tight, 1, 3)?;
     let op = vote(tight, 2, 1, "Workflow", "ann", 1)?;
     let refused = state.take(&op).is_err();
-    assert!(rt; state.same(&low) == refused && state.same(&high) != refused);
+    assert_taken(rt, ample, &state, refused)?;
     Some(refused)
 }
 
@@ -343,28 +406,47 @@ fn refuses_effect<'a>(rt: &impl Abort, ample: &'a LocalHeap, tight: &'a LocalHea
     Some(false)
 }
 
+/// The state lies between the old one and the join, and is the join just where memory sufficed.
+fn assert_joined<'a>(
+    rt: &impl Abort,
+    ample: &'a LocalHeap,
+    state: &State<'a>,
+    refused: bool,
+) -> Option<()> {
+    let low = known(ample, 1, 4)?;
+    assert!(rt; state.covers(&low));
+    let high = known(ample, 1, 24)?;
+    assert!(rt; high.covers(state) && state.same(&high) != refused);
+    Some(())
+}
+
 /// Joins other patch sets into those of a heap that may be too small for them. Answers whether memory was refused: then the
 /// state lies between the old one and the join.
 fn refuses_join<'a>(rt: &impl Abort, ample: &'a LocalHeap, tight: &'a LocalHeap) -> Option<bool> {
-    let low = known(ample, 1, 4)?;
-    let high = known(ample, 1, 24)?;
     let mut state = known(tight, 1, 4)?;
     let refused = state.join(known(ample, 3, 22)?).is_err();
-    assert!(rt; state.covers(&low) && high.covers(&state) && state.same(&high) != refused);
+    assert_joined(rt, ample, &state, refused)?;
     Some(refused)
+}
+
+/// Whether memory was refused for a copy of a state, which else is the same. The state stays as it was.
+fn refuses_copy_of<'a>(rt: &impl Abort, state: &State<'a>, same: &State<'a>) -> bool {
+    let copy = state.copy();
+    assert!(rt; state.same(same));
+    match copy {
+        Ok(copy) => {
+            assert!(rt; copy.same(same));
+            false
+        }
+        Err(_) => true,
+    }
 }
 
 /// Copies patch sets that lie in a heap that may be too small for the copy. Answers whether memory was refused.
 fn refuses_copy<'a>(rt: &impl Abort, ample: &'a LocalHeap, tight: &'a LocalHeap) -> Option<bool> {
     let same = known(ample, 1, 4)?;
     let state = known(tight, 1, 4)?;
-    let copy = state.copy();
-    assert!(rt; state.same(&same));
-    let Ok(copy) = copy else {
-        return Some(true);
-    };
-    assert!(rt; copy.same(&same));
-    Some(false)
+    Some(refuses_copy_of(rt, &state, &same))
 }
 
 /// Whether a call was refused memory, and whether it was answered.
