@@ -15,6 +15,17 @@ use std::test::Fail;
 /// What a test lacks where memory is refused that it counts on.
 const MEMORY: &str = "memory";
 
+/// What a site stamps on change 101 with a time, which is its sequence number too, as site 1 under start 1.
+#[derive(Clone, Copy)]
+enum Step {
+    PatchSet(u64, &'static str, Option<u32>),
+    Vote(u64, i8),
+    Withdraw(u64),
+    Merged(u64),
+    Abandon(u64),
+    Restore(u64),
+}
+
 /// An operation with the time and sequence number `time`, of site 1 under start 1.
 fn stamped<A: Allocator + Copy>(time: u64, draft: Draft<A>) -> Option<Op<A>> {
     let stamp = Stamp::new(time, 1, 1, time)?;
@@ -73,222 +84,335 @@ fn withdrawal(alloc: Global, time: u64) -> Option<Op> {
     )
 }
 
-/// The replicas that took the operations, the first in their order and the second in the other, print the text.
-fn assert_state(rt: &impl Abort, alloc: Global, ops: &[Op], wanted: &str) -> Result<(), Fail> {
-    let mut forth = Replica::new(alloc);
-    for op in ops {
-        assert_eq!(rt; forth.take(op.copy()?)?, Taken::New);
-    }
-    let mut back = Replica::new(alloc);
-    for op in ops.iter().rev() {
-        assert_eq!(rt; back.take(op.copy()?)?, Taken::New);
-        assert_eq!(rt; back.take(op.copy()?)?, Taken::Known);
-    }
-    for replica in [forth, back] {
-        let mut written = Ends::new(Vec::new(alloc));
-        replica.write_state(&mut written)?;
-        assert_eq!(rt; written.get_ref().as_slice(), wanted.as_bytes());
-        assert_eq!(rt; replica.len(), ops.len());
+/// The operation of a step.
+fn op_of(alloc: Global, step: Step) -> Result<Op, Fail> {
+    let op = match step {
+        Step::PatchSet(time, message, parent) => patch_set(alloc, time, message, parent),
+        Step::Vote(time, value) => vote(alloc, time, value),
+        Step::Withdraw(time) => withdrawal(alloc, time),
+        Step::Merged(time) => stamped(time, Draft::Merged { change: 101 }),
+        Step::Abandon(time) => stamped(time, Draft::Abandon { change: 101 }),
+        Step::Restore(time) => stamped(time, Draft::Restore { change: 101 }),
+    };
+    Ok(op.ok_or(MEMORY)?)
+}
+
+/// Takes the operation of a step, of which the replica says whether it had it.
+fn take_step(
+    rt: &impl Abort,
+    alloc: Global,
+    replica: &mut Replica,
+    step: Step,
+    wanted: Taken,
+) -> Result<(), Fail> {
+    let taken = replica.take(op_of(alloc, step)?)?;
+    assert_eq!(rt; taken, wanted);
+    Ok(())
+}
+
+/// Takes operations that the replica lacks.
+fn take_steps(
+    rt: &impl Abort,
+    alloc: Global,
+    replica: &mut Replica,
+    steps: &[Step],
+) -> Result<(), Fail> {
+    for step in steps {
+        take_step(rt, alloc, replica, *step, Taken::New)?;
     }
     Ok(())
 }
 
+/// The replica that took the operations in their order.
+fn forth(rt: &impl Abort, alloc: Global, steps: &[Step]) -> Result<Replica, Fail> {
+    let mut replica = Replica::new(alloc);
+    take_steps(rt, alloc, &mut replica, steps)?;
+    Ok(replica)
+}
+
+/// The replica that took the operations in the other order, each twice.
+fn back(rt: &impl Abort, alloc: Global, steps: &[Step]) -> Result<Replica, Fail> {
+    let mut replica = Replica::new(alloc);
+    for step in steps.iter().rev() {
+        take_step(rt, alloc, &mut replica, *step, Taken::New)?;
+        take_step(rt, alloc, &mut replica, *step, Taken::Known)?;
+    }
+    Ok(replica)
+}
+
+/// The replica prints the text.
+fn assert_text(
+    rt: &impl Abort,
+    alloc: Global,
+    replica: &Replica,
+    wanted: &str,
+) -> Result<(), Fail> {
+    let mut written = Ends::new(Vec::new(alloc));
+    replica.write_state(&mut written)?;
+    assert_eq!(rt; written.get_ref().as_slice(), wanted.as_bytes());
+    Ok(())
+}
+
+/// The replica has this many operations and prints the text.
+fn assert_shown(
+    rt: &impl Abort,
+    alloc: Global,
+    replica: &Replica,
+    count: usize,
+    wanted: &str,
+) -> Result<(), Fail> {
+    assert_eq!(rt; replica.len(), count);
+    assert_text(rt, alloc, replica, wanted)
+}
+
+/// The replicas that took the operations, the first in their order and the second in the other, print the text.
+fn assert_state(rt: &impl Abort, alloc: Global, steps: &[Step], wanted: &str) -> Result<(), Fail> {
+    assert_shown(rt, alloc, &forth(rt, alloc, steps)?, steps.len(), wanted)?;
+    assert_shown(rt, alloc, &back(rt, alloc, steps)?, steps.len(), wanted)
+}
+
+/// Operations with the state text that they give in any order.
+const ARRIVALS: [(&[Step], &str); 6] = [
+    (
+        &[
+            Step::PatchSet(1, "m", None),
+            Step::Vote(3, 1),
+            Step::Vote(3, 2),
+        ],
+        "change 101 NEW\nset 101,1 1,1,1,1 \"m\"\nvote 101,1 workflow ann 2 3,1,1,3\nend 1\n",
+    ),
+    (
+        &[Step::Withdraw(4), Step::Vote(5, 1)],
+        "change 101 NEW\nvote 101,1 workflow ann 1 5,1,1,5\nend 1\n",
+    ),
+    (
+        &[Step::Vote(6, 0), Step::Withdraw(6)],
+        "change 101 NEW\nvote 101,1 workflow ann 0 6,1,1,6\nend 1\n",
+    ),
+    (
+        &[
+            Step::PatchSet(1, "m", None),
+            Step::Merged(2),
+            Step::Abandon(3),
+            Step::Restore(4),
+        ],
+        "change 101 MERGED\nlife 101 restored 4,1,1,4\nset 101,1 1,1,1,1 \"m\"\nend 1\n",
+    ),
+    (
+        &[
+            Step::PatchSet(1, "m", None),
+            Step::PatchSet(1, "m", Some(1)),
+        ],
+        "change 101 NEW\nset 101,1 1,1,1,1 \"m\" parent 1\nend 1\n",
+    ),
+    (
+        &[
+            Step::PatchSet(1, "m", Some(1)),
+            Step::PatchSet(1, "m", None),
+            Step::PatchSet(1, "n\n\"\\\t\u{1}", None),
+        ],
+        "change 101 NEW\nset 101,1 1,1,1,1 \"n\\n\\\"\\\\\\t\\u0001\"\nend 1\n",
+    ),
+];
+
 #[test]
 fn the_order_of_arrival_counts_for_nothing(rt: HostRuntime) -> Result<(), Fail> {
-    let alloc = rt.alloc();
-    let tie = [
-        patch_set(alloc, 1, "m", None).ok_or(MEMORY)?,
-        vote(alloc, 3, 1).ok_or(MEMORY)?,
-        vote(alloc, 3, 2).ok_or(MEMORY)?,
-    ];
-    assert_state(
-        &rt,
-        alloc,
-        tie.as_slice(),
-        "change 101 NEW\nset 101,1 1,1,1,1 \"m\"\nvote 101,1 workflow ann 2 3,1,1,3\nend 1\n",
-    )?;
+    for (steps, wanted) in ARRIVALS {
+        assert_state(&rt, rt.alloc(), steps, wanted)?;
+    }
+    Ok(())
+}
 
-    let later = [
-        withdrawal(alloc, 4).ok_or(MEMORY)?,
-        vote(alloc, 5, 1).ok_or(MEMORY)?,
-    ];
-    assert_state(
-        &rt,
-        alloc,
-        later.as_slice(),
-        "change 101 NEW\nvote 101,1 workflow ann 1 5,1,1,5\nend 1\n",
-    )?;
+/// The next stamp of a row has this time and sequence number.
+fn assert_next(
+    rt: &impl Abort,
+    replica: &Replica,
+    row: Row,
+    time: u64,
+    seq: u64,
+) -> Result<(), Fail> {
+    let wanted = Stamp::new(time, row.site, row.start, seq).ok_or("a stamp")?;
+    assert_eq!(rt; replica.next_stamp(row.site, row.start)?, wanted);
+    Ok(())
+}
 
-    let zero = [
-        vote(alloc, 6, 0).ok_or(MEMORY)?,
-        withdrawal(alloc, 6).ok_or(MEMORY)?,
-    ];
-    assert_state(
-        &rt,
-        alloc,
-        zero.as_slice(),
-        "change 101 NEW\nvote 101,1 workflow ann 0 6,1,1,6\nend 1\n",
-    )?;
-
-    let merged = [
-        patch_set(alloc, 1, "m", None).ok_or(MEMORY)?,
-        stamped(2, Draft::Merged { change: 101 }).ok_or(MEMORY)?,
-        stamped(3, Draft::Abandon { change: 101 }).ok_or(MEMORY)?,
-        stamped(4, Draft::Restore { change: 101 }).ok_or(MEMORY)?,
-    ];
-    assert_state(
-        &rt,
-        alloc,
-        merged.as_slice(),
-        "change 101 MERGED\nlife 101 restored 4,1,1,4\nset 101,1 1,1,1,1 \"m\"\nend 1\n",
-    )?;
-
-    let parents = [
-        patch_set(alloc, 1, "m", None).ok_or(MEMORY)?,
-        patch_set(alloc, 1, "m", Some(1)).ok_or(MEMORY)?,
-    ];
-    assert_state(
-        &rt,
-        alloc,
-        parents.as_slice(),
-        "change 101 NEW\nset 101,1 1,1,1,1 \"m\" parent 1\nend 1\n",
-    )?;
-
-    let messages = [
-        patch_set(alloc, 1, "m", Some(1)).ok_or(MEMORY)?,
-        patch_set(alloc, 1, "m", None).ok_or(MEMORY)?,
-        patch_set(alloc, 1, "n\n\"\\\t\u{1}", None).ok_or(MEMORY)?,
-    ];
-    assert_state(
-        &rt,
-        alloc,
-        messages.as_slice(),
-        "change 101 NEW\nset 101,1 1,1,1,1 \"n\\n\\\"\\\\\\t\\u0001\"\nend 1\n",
-    )
+#[test]
+fn the_first_stamp_is_of_time_1(rt: HostRuntime) -> Result<(), Fail> {
+    let replica = Replica::new(rt.alloc());
+    assert_next(&rt, &replica, Row { site: 2, start: 3 }, 1, 1)
 }
 
 #[test]
 fn the_next_stamp_is_above_all(rt: HostRuntime) -> Result<(), Fail> {
-    let alloc = rt.alloc();
-    let mut replica = Replica::new(alloc);
-    assert_eq!(rt;
-        replica.next_stamp(2, 3)?,
-        Stamp::new(1, 2, 3, 1).ok_or("a stamp")?
-    );
-    replica.take(vote(alloc, 7, 1).ok_or(MEMORY)?)?;
-    assert_eq!(rt;
-        replica.next_stamp(1, 1)?,
-        Stamp::new(8, 1, 1, 8).ok_or("a stamp")?
-    );
-    assert_eq!(rt;
-        replica.next_stamp(1, 2)?,
-        Stamp::new(8, 1, 2, 1).ok_or("a stamp")?
-    );
-    assert_eq!(rt;
-        replica.next_stamp(2, 1)?,
-        Stamp::new(8, 2, 1, 1).ok_or("a stamp")?
-    );
+    let replica = forth(&rt, rt.alloc(), &[Step::Vote(7, 1)])?;
+    for (site, start, seq) in [(1, 1, 8), (1, 2, 1), (2, 1, 1)] {
+        assert_next(&rt, &replica, Row { site, start }, 8, seq)?;
+    }
+    Ok(())
+}
+
+/// A merge with this stamp.
+fn merge(stamp: Stamp) -> Option<Op> {
+    let body = Body::checked(Draft::Merged { change: 5 }).ok()?;
+    Some(Op::new(stamp, body))
+}
+
+/// Takes a merge with the greatest sequence number.
+fn take_greatest(replica: &mut Replica) -> Result<(), Fail> {
     let last = Stamp::new(9, 1, 1, u64::MAX).ok_or("a stamp")?;
-    let merged = Body::checked(Draft::Merged { change: 5 })?;
-    replica.take(Op::new(last, merged))?;
-    assert!(rt; replica.next_stamp(1, 1).is_err());
-    assert_eq!(rt;
-        replica.next_stamp(1, 2)?,
-        Stamp::new(10, 1, 2, 1).ok_or("a stamp")?
-    );
+    replica.take(merge(last).ok_or(MEMORY)?)?;
     Ok(())
 }
 
 #[test]
-fn what_a_front_lacks_comes_in_order(rt: HostRuntime) -> Result<(), Fail> {
-    let alloc = rt.alloc();
-    let mut replica = Replica::new(alloc);
-    for time in [3, 1, 2] {
-        replica.take(vote(alloc, time, 1).ok_or(MEMORY)?)?;
-    }
-    let mut front = Front::new(alloc);
+fn no_stamp_is_above_the_greatest_sequence_number(rt: HostRuntime) -> Result<(), Fail> {
+    let mut replica = forth(&rt, rt.alloc(), &[Step::Vote(7, 1)])?;
+    take_greatest(&mut replica)?;
+    assert!(rt; replica.next_stamp(1, 1).is_err());
+    assert_next(&rt, &replica, Row { site: 1, start: 2 }, 10, 1)
+}
+
+#[test]
+fn what_a_front_is_raised_to_is_reached(rt: HostRuntime) -> Result<(), Fail> {
+    let mut front = Front::new(rt.alloc());
     let row = Row { site: 1, start: 1 };
     front.raise(row, 1)?;
     front.raise(row, 0)?;
     assert_eq!(rt; front.reach(row), 1);
     assert_eq!(rt; front.reach(Row { site: 1, start: 2 }), 0);
-    let missing = replica.missing(&front, 1)?;
-    assert!(rt; missing.more);
-    let missing = replica.missing(&front, 2)?;
-    assert!(rt; !missing.more);
-    assert_eq!(rt; missing.ops.len(), 2);
-    assert_eq!(rt; missing.ops[0].stamp().seq(), 2);
-    assert_eq!(rt; missing.ops[1].stamp().seq(), 3);
     Ok(())
 }
 
-/// A merge that a site stamped under a start, with the sequence number as its time.
-fn merged_at<A: Allocator + Copy>(site: u16, start: u32, seq: u64) -> Option<Op<A>> {
-    let stamp = Stamp::new(seq, site, start, seq)?;
-    let body = Body::checked(Draft::Merged { change: 5 }).ok()?;
-    Some(Op::new(stamp, body))
+/// Sequence numbers of operations, in their order.
+fn assert_seqs<A: Allocator + Copy>(rt: &impl Abort, ops: &[Op<A>], wanted: &[u64]) {
+    assert_eq!(rt; ops.len(), wanted.len());
+    for (op, seq) in ops.iter().zip(wanted) {
+        assert_eq!(rt; op.stamp().seq(), *seq);
+    }
 }
 
-/// The places, as a row's site and start and a sequence number.
-fn front_rows(alloc: Global, replica: &Replica) -> Result<Vec<(u16, u32, u64)>, Fail> {
-    let mut rows = Vec::new(alloc);
-    let front = replica.front()?;
-    for (row, reach) in front.rows().iter() {
-        rows.push((row.site, row.start, reach.seq()))?;
-    }
-    Ok(rows)
+/// Up to the limit these operations are missing, by their sequence numbers, and whether others are left.
+fn assert_missing(
+    rt: &impl Abort,
+    replica: &Replica,
+    front: &Front,
+    limit: usize,
+    wanted: &[u64],
+    more: bool,
+) -> Result<(), Fail> {
+    let missing = replica.missing(front, limit)?;
+    assert_eq!(rt; missing.more, more);
+    assert_seqs(rt, missing.ops.as_slice(), wanted);
+    Ok(())
 }
 
 #[test]
-fn a_front_goes_as_far_as_there_is_no_gap(rt: HostRuntime) -> Result<(), Fail> {
-    let alloc = rt.alloc();
-    let mut replica = Replica::new(alloc);
-    assert!(rt; front_rows(alloc, &replica)?.is_empty());
-    for place in [4, 2, 6] {
-        replica.take(merged_at(2, 1, place).ok_or(MEMORY)?)?;
+fn what_a_front_lacks_comes_in_order(rt: HostRuntime) -> Result<(), Fail> {
+    let steps = [Step::Vote(3, 1), Step::Vote(1, 1), Step::Vote(2, 1)];
+    let replica = forth(&rt, rt.alloc(), &steps)?;
+    let mut front = Front::new(rt.alloc());
+    front.raise(Row { site: 1, start: 1 }, 1)?;
+    assert_missing(&rt, &replica, &front, 1, &[2], true)?;
+    assert_missing(&rt, &replica, &front, 2, &[2, 3], false)
+}
+
+/// A place in a record: a site, a start and a sequence number.
+type Place = (u16, u32, u64);
+
+/// A merge with this place, with the sequence number as its time.
+fn merged_at(place: Place) -> Option<Op> {
+    let (site, start, seq) = place;
+    merge(Stamp::new(seq, site, start, seq)?)
+}
+
+/// Takes merges with these places.
+fn take_places(replica: &mut Replica, places: &[Place]) -> Result<(), Fail> {
+    for place in places {
+        replica.take(merged_at(*place).ok_or(MEMORY)?)?;
     }
-    assert!(rt; front_rows(alloc, &replica)?.is_empty());
-    for place in [1, 3] {
-        replica.take(merged_at(2, 1, place).ok_or(MEMORY)?)?;
-    }
-    assert_eq!(rt;
-        front_rows(alloc, &replica)?.as_slice(),
-        [(2, 1, 4)].as_slice()
-    );
-    replica.take(merged_at(1, 7, 1).ok_or(MEMORY)?)?;
-    replica.take(merged_at(1, 3, 1).ok_or(MEMORY)?)?;
-    replica.take(merged_at(2, 1, 5).ok_or(MEMORY)?)?;
-    assert_eq!(rt;
-        front_rows(alloc, &replica)?.as_slice(),
-        [(1, 3, 1), (1, 7, 1), (2, 1, 6)].as_slice()
-    );
-    let missing = replica.missing(&replica.front()?, 9)?;
-    assert!(rt; missing.ops.is_empty());
-    assert!(rt; !missing.more);
     Ok(())
 }
 
-/// Takes a patch set and a vote in a heap of this size, and says how many it took. What was refused left nothing behind.
+/// The places that the front reaches, row by row.
+fn front_places(alloc: Global, replica: &Replica) -> Result<Vec<Place>, Fail> {
+    let mut places = Vec::new(alloc);
+    let front = replica.front()?;
+    for (row, reach) in front.rows().iter() {
+        places.push((row.site, row.start, reach.seq()))?;
+    }
+    Ok(places)
+}
+
+/// The front reaches these places, row by row.
+fn assert_front(
+    rt: &impl Abort,
+    alloc: Global,
+    replica: &Replica,
+    wanted: &[Place],
+) -> Result<(), Fail> {
+    let places = front_places(alloc, replica)?;
+    assert_eq!(rt; places.as_slice(), wanted);
+    Ok(())
+}
+
+/// The replica's own front lacks nothing.
+fn assert_nothing_lacked(rt: &impl Abort, replica: &Replica) -> Result<(), Fail> {
+    let front = replica.front()?;
+    assert_missing(rt, replica, &front, 9, &[], false)
+}
+
+/// The places of operations that come one after the other, and the front after each.
+const FRONTS: [(&[Place], &[Place]); 4] = [
+    (&[], &[]),
+    (&[(2, 1, 4), (2, 1, 2), (2, 1, 6)], &[]),
+    (&[(2, 1, 1), (2, 1, 3)], &[(2, 1, 4)]),
+    (
+        &[(1, 7, 1), (1, 3, 1), (2, 1, 5)],
+        &[(1, 3, 1), (1, 7, 1), (2, 1, 6)],
+    ),
+];
+
+#[test]
+fn a_front_goes_as_far_as_there_is_no_gap(rt: HostRuntime) -> Result<(), Fail> {
+    let mut replica = Replica::new(rt.alloc());
+    for (places, wanted) in FRONTS {
+        take_places(&mut replica, places)?;
+        assert_front(&rt, rt.alloc(), &replica, wanted)?;
+    }
+    assert_nothing_lacked(&rt, &replica)
+}
+
+/// The replica has this many operations, of which the first is a patch set and the second a vote.
+fn assert_taken<A: Allocator + Copy>(rt: &impl Abort, replica: &Replica<A>, wanted: usize) {
+    assert_eq!(rt; replica.len(), wanted);
+    let state = replica.change(101);
+    assert_eq!(rt; state.is_some(), wanted > 0);
+    let votes = state.map_or(0, |change| change.all_votes().len());
+    assert_eq!(rt; votes, wanted.saturating_sub(1));
+}
+
+/// Takes an operation where memory suffices for it, and says whether it did. What was refused left nothing behind.
+fn takes<A: Allocator + Copy>(
+    rt: &impl Abort,
+    replica: &mut Replica<A>,
+    made: Option<Op<A>>,
+) -> bool {
+    let Some(op) = made else {
+        return false;
+    };
+    let before = replica.len();
+    let taken = replica.take(op).is_ok();
+    assert_taken(rt, replica, before.saturating_add(usize::from(taken)));
+    taken
+}
+
+/// Takes a patch set and a vote in a heap of this size, and says how many it took.
 fn taken_in(rt: &impl Abort, alloc: Global, size: usize) -> Result<usize, Fail> {
     let heap = LocalHeap::new(alloc, size)?;
     let mut replica = Replica::new(&heap);
-    for time in [1, 2] {
-        let made = if time == 1 {
-            patch_set(&heap, time, "a message that takes room", None)
-        } else {
-            vote(&heap, time, 1)
-        };
-        let Some(op) = made else {
-            break;
-        };
-        let before = replica.len();
-        if replica.take(op).is_err() {
-            assert_eq!(rt; replica.len(), before);
-            let state = replica.change(101);
-            assert_eq!(rt; state.is_some(), before == 1);
-            assert!(rt; state.is_none_or(|change| change.all_votes().is_empty()));
-            break;
-        }
+    let set = patch_set(&heap, 1, "a message that takes room", None);
+    if takes(rt, &mut replica, set) {
+        takes(rt, &mut replica, vote(&heap, 2, 1));
     }
     Ok(replica.len())
 }
@@ -305,30 +429,68 @@ fn a_refused_take_changes_nothing(rt: HostRuntime) -> Result<(), Fail> {
     Ok(())
 }
 
+/// A patch set that a replica has before it is copied.
+const FIRST: [Step; 1] = [Step::PatchSet(1, "m", None)];
+
+/// A copy of the replica that took votes with the times 3 and 2 after it.
+fn with_two_votes(rt: &impl Abort, alloc: Global, replica: &Replica) -> Result<Replica, Fail> {
+    let mut copied = replica.copy()?;
+    take_steps(
+        rt,
+        alloc,
+        &mut copied,
+        &[Step::Vote(3, 1), Step::Vote(2, 1)],
+    )?;
+    Ok(copied)
+}
+
 #[test]
-fn a_copy_is_equal_and_what_it_gains_is_absorbed(rt: HostRuntime) -> Result<(), Fail> {
-    let alloc = rt.alloc();
-    let mut first = Replica::new(alloc);
-    first.take(patch_set(alloc, 1, "m", None).ok_or(MEMORY)?)?;
-    let mut second = first.copy()?;
+fn a_copy_is_equal(rt: HostRuntime) -> Result<(), Fail> {
+    let first = forth(&rt, rt.alloc(), &FIRST)?;
+    let second = first.copy()?;
     assert!(rt; second.same_state(&first));
     assert!(rt; second.as_slice().eq(first.as_slice()));
-    for time in [3, 2] {
-        second.take(vote(alloc, time, 1).ok_or(MEMORY)?)?;
-    }
-    assert!(rt; !second.same_state(&first));
+    Ok(())
+}
+
+/// The copy has an operation with the stamp, and what it was made of hasn't.
+fn assert_gained(rt: &impl Abort, first: &Replica, second: &Replica, stamp: Stamp) {
+    assert!(rt; !second.same_state(first));
+    assert!(rt; second.has_stamp(stamp));
+    assert!(rt; !first.has_stamp(stamp));
+}
+
+#[test]
+fn what_a_copy_gains_is_its_own(rt: HostRuntime) -> Result<(), Fail> {
     let third = Stamp::new(3, 1, 1, 3).ok_or("a stamp")?;
-    assert!(rt; second.has_stamp(third));
-    assert!(rt; !first.has_stamp(third));
-    first.take(withdrawal(alloc, 4).ok_or(MEMORY)?)?;
+    let first = forth(&rt, rt.alloc(), &FIRST)?;
+    let second = with_two_votes(&rt, rt.alloc(), &first)?;
+    assert_gained(&rt, &first, &second, third);
+    Ok(())
+}
+
+/// The replica that absorbed what a copy gained, after it had taken a withdrawal.
+fn with_gains(rt: &impl Abort, alloc: Global) -> Result<Replica, Fail> {
+    let mut first = forth(rt, alloc, &FIRST)?;
+    let second = with_two_votes(rt, alloc, &first)?;
+    take_step(rt, alloc, &mut first, Step::Withdraw(4), Taken::New)?;
     first.absorb(second)?;
+    Ok(first)
+}
+
+/// The operation that came second has this sequence number.
+fn assert_second(rt: &impl Abort, replica: &Replica, seq: u64) {
+    if 1 < replica.len() {
+        assert_eq!(rt; replica.arrival(1).stamp().seq(), seq);
+    }
+}
+
+#[test]
+fn what_a_copy_gains_is_absorbed(rt: HostRuntime) -> Result<(), Fail> {
+    let first = with_gains(&rt, rt.alloc())?;
     assert_eq!(rt; first.arrivals(), 4);
-    for (op, seq) in first.as_slice().iter().zip([1, 4, 2, 3]) {
-        assert_eq!(rt; op.stamp().seq(), seq);
-    }
-    if 1 < first.len() {
-        assert_eq!(rt; first.arrival(1).stamp().seq(), 4);
-    }
+    assert_seqs(&rt, first.as_slice(), &[1, 4, 2, 3]);
+    assert_second(&rt, &first, 4);
     Ok(())
 }
 
@@ -351,48 +513,74 @@ fn merges(alloc: Global, count: u32) -> Replica {
     replica
 }
 
-#[test]
-fn what_has_all_is_absorbed_into_a_part_of_it(rt: HostRuntime) -> Result<(), Fail> {
-    let whole = merges(rt.alloc(), 5);
-    let mut part = merges(rt.alloc(), 3);
-    assert_eq!(rt; part.len(), 3);
-    assert!(rt; !part.same_state(&whole));
-    part.absorb(merges(rt.alloc(), 5))?;
-    assert_eq!(rt; part.len(), 5);
-    assert!(rt; part.same_state(&whole));
-    let copied = part.copy()?;
-    assert!(rt; copied.same_state(&whole));
+/// The replica has this many operations, and just where it has all five merges their state.
+fn assert_merges(rt: &impl Abort, alloc: Global, replica: &Replica, count: usize) {
+    assert_eq!(rt; replica.len(), count);
+    let whole = merges(alloc, 5);
+    assert_eq!(rt; replica.same_state(&whole), count == 5);
+}
+
+/// The copy has the state of all five merges and their arrivals.
+fn assert_copy_of_merges(rt: &impl Abort, alloc: Global, replica: &Replica) -> Result<(), Fail> {
+    let copied = replica.copy()?;
+    assert_merges(rt, alloc, &copied, 5);
+    let whole = merges(alloc, 5);
     assert!(rt; copied.as_slice().eq(whole.as_slice()));
     Ok(())
+}
+
+#[test]
+fn what_has_all_is_absorbed_into_a_part_of_it(rt: HostRuntime) -> Result<(), Fail> {
+    let mut part = merges(rt.alloc(), 3);
+    assert_merges(&rt, rt.alloc(), &part, 3);
+    part.absorb(merges(rt.alloc(), 5))?;
+    assert_merges(&rt, rt.alloc(), &part, 5);
+    assert_copy_of_merges(&rt, rt.alloc(), &part)
+}
+
+/// The replica that took votes with these times in a heap, where the heap suffices for it.
+fn voted_in<'a>(heap: &'a LocalHeap, times: &[u64]) -> Option<Replica<&'a LocalHeap>> {
+    let mut replica = Replica::new(heap);
+    for time in times {
+        replica.take(vote(heap, *time, 1)?).ok()?;
+    }
+    Some(replica)
+}
+
+/// Absorbs a replica with the votes 1 to 3, and says how many of them are in: the first ones.
+fn absorbed<'a>(
+    rt: &impl Abort,
+    replica: &mut Replica<&'a LocalHeap>,
+    other: Replica<&'a LocalHeap>,
+) -> usize {
+    let absorbed = match replica.absorb(other) {
+        Ok(()) => 3,
+        Err(partly) => partly.taken,
+    };
+    assert!(rt; absorbed <= 3);
+    assert_seqs(rt, replica.as_slice(), &[1, 2, 3][..absorbed.min(3)]);
+    absorbed
+}
+
+/// Whether memory suffices for a copy, which then has an equal state.
+fn is_copied<'a>(rt: &impl Abort, replica: &Replica<&'a LocalHeap>) -> bool {
+    let Ok(copied) = replica.copy() else {
+        return false;
+    };
+    assert!(rt; copied.same_state(replica));
+    true
 }
 
 /// Whether a heap of this size suffices for a replica to absorb one with three votes, and for a copy of both. What was refused left the
 /// first votes in.
 fn absorbed_in(rt: &impl Abort, alloc: Global, size: usize) -> Result<bool, Fail> {
     let heap = LocalHeap::new(alloc, size)?;
-    let mut other = Replica::new(&heap);
-    for time in [3, 2, 1] {
-        let Some(op) = vote(&heap, time, 1) else {
-            return Ok(false);
-        };
-        if other.take(op).is_err() {
-            return Ok(false);
-        }
-    }
-    let mut replica = Replica::new(&heap);
-    let absorbed = match replica.absorb(other) {
-        Ok(()) => 3,
-        Err(partly) => partly.taken,
-    };
-    assert_eq!(rt; replica.len(), absorbed);
-    for (op, seq) in replica.as_slice().iter().zip([1, 2, 3]) {
-        assert_eq!(rt; op.stamp().seq(), seq);
-    }
-    let Ok(copied) = replica.copy() else {
+    let Some(other) = voted_in(&heap, &[3, 2, 1]) else {
         return Ok(false);
     };
-    assert!(rt; copied.same_state(&replica));
-    Ok(absorbed == 3)
+    let mut replica = Replica::new(&heap);
+    let absorbed = absorbed(rt, &mut replica, other);
+    Ok(is_copied(rt, &replica) && absorbed == 3)
 }
 
 #[test]
@@ -408,45 +596,53 @@ fn a_refused_absorb_says_how_many_are_in(rt: HostRuntime) -> Result<(), Fail> {
 }
 
 /// What a heap suffices for, of what a replica shows.
-#[derive(Clone, Copy, Debug, PartialEq, Eq, PartialOrd, Ord)]
+#[derive(Clone, Copy)]
 struct Shown {
     front: bool,
     missing: bool,
     text: bool,
 }
 
-/// What a heap of this size suffices for, where it holds a replica with two votes. What was refused changed nothing and wrote nothing.
-fn shown_in(rt: &impl Abort, alloc: Global, size: usize) -> Result<Option<Shown>, Fail> {
-    let heap = LocalHeap::new(alloc, size)?;
-    let mut replica = Replica::new(&heap);
-    for time in [1, 2] {
-        let Some(op) = vote(&heap, time, 1) else {
-            return Ok(None);
-        };
-        if replica.take(op).is_err() {
-            return Ok(None);
-        }
-    }
-    let front = replica.front().is_ok();
-    let lacked = match replica.missing(&Front::new(&heap), 2) {
+/// Whether a heap suffices for the votes that an empty front lacks, which are then two.
+fn shows_missing<'a>(heap: &'a LocalHeap, replica: &Replica<&'a LocalHeap>) -> bool {
+    match replica.missing(&Front::new(heap), 2) {
         Ok(missing) => missing.ops.len() == 2 && !missing.more,
         Err(_) => false,
-    };
+    }
+}
+
+/// Whether memory suffices for the state text. Where it was refused nothing was written.
+fn shows_text<'a>(rt: &impl Abort, alloc: Global, replica: &Replica<&'a LocalHeap>) -> bool {
     let mut written = Ends::new(Vec::new(alloc));
-    let text = match replica.write_state(&mut written) {
-        Ok(()) => true,
-        Err(fault) => {
-            assert_eq!(rt; fault, WriteStateFault::NoMemory);
-            false
-        }
+    let fault = replica.write_state(&mut written).err();
+    assert!(rt; matches!(fault, None | Some(WriteStateFault::NoMemory)));
+    assert_eq!(rt; written.get_ref().is_empty(), fault.is_some());
+    fault.is_none()
+}
+
+/// What a heap suffices for, of what its replica with two votes shows. What was refused changed nothing and wrote nothing.
+fn shows<'a>(
+    rt: &impl Abort,
+    alloc: Global,
+    heap: &'a LocalHeap,
+    replica: &Replica<&'a LocalHeap>,
+) -> Shown {
+    let shown = Shown {
+        front: replica.front().is_ok(),
+        missing: shows_missing(heap, replica),
+        text: shows_text(rt, alloc, replica),
     };
-    assert_eq!(rt; written.get_ref().is_empty(), !text);
     assert_eq!(rt; replica.len(), 2);
-    Ok(Some(Shown {
-        front,
-        missing: lacked,
-        text,
-    }))
+    shown
+}
+
+/// What a heap of this size suffices for, where it holds a replica with two votes.
+fn shown_in(rt: &impl Abort, alloc: Global, size: usize) -> Result<Option<Shown>, Fail> {
+    let heap = LocalHeap::new(alloc, size)?;
+    match voted_in(&heap, &[1, 2]) {
+        Some(replica) => Ok(Some(shows(rt, alloc, &heap, &replica))),
+        None => Ok(None),
+    }
 }
 
 #[test]
@@ -470,20 +666,24 @@ fn what_is_refused_is_not_shown(rt: HostRuntime) -> Result<(), Fail> {
     Ok(())
 }
 
+/// A writer that fails once, and what it takes after that.
+type Failing = Broken<Ends<Vec<u8>>>;
+
+/// The first write fails, and the second doesn't.
+fn assert_told(rt: &impl Abort, replica: &Replica, failing: &mut Failing) {
+    let first = replica.write_state(failing);
+    assert_eq!(rt; first, Err(WriteStateFault::WriteFault));
+    let second = replica.write_state(failing);
+    assert_eq!(rt; second, Ok(()));
+}
+
 #[test]
-fn a_failing_writer_is_told(rt: HostRuntime) -> Result<(), Fail> {
+fn a_failing_writer_is_told(rt: HostRuntime) {
     let replica = Replica::new(rt.alloc());
-    let mut broken = Broken::at_call(Ends::new(Vec::new(rt.alloc())), 1);
-    assert_eq!(rt;
-        replica.write_state(&mut broken),
-        Err(WriteStateFault::WriteFault)
-    );
-    assert_eq!(rt; replica.write_state(&mut broken), Ok(()));
-    assert_eq!(rt;
-        broken.get_ref().get_ref().as_slice(),
-        b"end 0\n".as_slice()
-    );
-    Ok(())
+    let mut failing = Broken::at_call(Ends::new(Vec::new(rt.alloc())), 1);
+    assert_told(&rt, &replica, &mut failing);
+    let written = failing.get_ref().get_ref().as_slice();
+    assert_eq!(rt; written, b"end 0\n".as_slice());
 }
 
 /// Numbers that look thrown, the same in each run: Marsaglia's xorshift.
@@ -502,15 +702,20 @@ impl Dice {
     }
 }
 
-/// An operation of one of six rows. Stamps come again, with equal and with other bodies; few have the greatest sequence number.
-fn thrown(dice: &mut Dice) -> Option<Op> {
+/// A stamp of one of six rows. Few have the greatest sequence number.
+fn thrown_stamp(dice: &mut Dice) -> Option<Stamp> {
     let site = u16::try_from(dice.throw(3)).ok()?;
     let start = u32::try_from(dice.throw(2)).ok()?;
     let seq = match dice.throw(1024) {
         0 => u64::MAX,
         _ => dice.throw(40),
     };
-    let stamp = Stamp::new(dice.throw(5), site, start, seq)?;
+    Stamp::new(dice.throw(5), site, start, seq)
+}
+
+/// An operation of one of six rows. Stamps come again, with equal and with other bodies.
+fn thrown(dice: &mut Dice) -> Option<Op> {
+    let stamp = thrown_stamp(dice)?;
     let change = u32::try_from(dice.throw(3)).ok()?;
     let draft = match dice.throw(2) {
         0 => Draft::Abandon { change },
@@ -543,6 +748,27 @@ fn assert_lacked_alike(
     Ok(())
 }
 
+/// Both answer alike, row by row, and what comes back is a front that reaches into some rows.
+fn assert_rows_alike(
+    rt: &impl Abort,
+    alloc: Global,
+    replica: &Replica,
+    plain: &Plain,
+    dice: &mut Dice,
+) -> Result<Front, Fail> {
+    let front = replica.front()?;
+    let mut part = Front::new(alloc);
+    for place in 0..12u16 {
+        let row = Row {
+            site: place / 3,
+            start: u32::from(place % 3),
+        };
+        assert_row_alike(rt, replica, plain, &front, row);
+        part.raise(row, dice.throw(front.reach(row).saturating_add(3)))?;
+    }
+    Ok(part)
+}
+
 /// Both answer alike, of the whole journal and past a front that reaches into some rows.
 fn assert_alike(
     rt: &impl Abort,
@@ -552,20 +778,24 @@ fn assert_alike(
     dice: &mut Dice,
 ) -> Result<(), Fail> {
     assert!(rt; replica.as_slice().eq(plain.ops.as_slice()));
-    let front = replica.front()?;
-    let mut part = Front::new(alloc);
-    for site in 0..4u16 {
-        for start in 0..3u32 {
-            let row = Row { site, start };
-            assert_row_alike(rt, replica, plain, &front, row);
-            part.raise(row, dice.throw(front.reach(row).saturating_add(3)))?;
-        }
-    }
+    let part = assert_rows_alike(rt, alloc, replica, plain, dice)?;
     let lacked = plain.missing(alloc, &part)?;
     for limit in [0, 1, 256, lacked.len(), usize::MAX] {
         assert_lacked_alike(rt, replica, lacked.as_slice(), &part, limit)?;
     }
     Ok(())
+}
+
+/// Both answer alike whether an operation is there.
+fn assert_had_alike(rt: &impl Abort, replica: &Replica, plain: &Plain, op: &Op) {
+    assert_eq!(rt; replica.has(op), plain.has(op));
+    assert_eq!(rt; replica.has_stamp(op.stamp()), plain.has_stamp(op.stamp()));
+}
+
+/// Takes a copy of an operation, and says whether the replica lacked it.
+fn takes_new(replica: &mut Replica, op: &Op) -> Result<bool, Fail> {
+    let taken = replica.take(op.copy()?)?;
+    Ok(taken == Taken::New)
 }
 
 /// Both take an operation, and answer alike whether it is there before and after.
@@ -575,50 +805,75 @@ fn take_both(
     plain: &mut Plain,
     op: Op,
 ) -> Result<(), Fail> {
-    assert_eq!(rt; replica.has(&op), plain.has(&op));
-    assert_eq!(rt; replica.has_stamp(op.stamp()), plain.has_stamp(op.stamp()));
-    let taken = replica.take(op.copy()?)?;
-    assert_eq!(rt; taken == Taken::New, plain.take(op)?);
+    assert_had_alike(rt, replica, plain, &op);
+    let taken = takes_new(replica, &op)?;
+    let plainly_taken = plain.take(op)?;
+    assert_eq!(rt; taken, plainly_taken);
     Ok(())
+}
+
+/// Both take an operation that is thrown.
+fn throw_both(
+    rt: &impl Abort,
+    replica: &mut Replica,
+    plain: &mut Plain,
+    dice: &mut Dice,
+) -> Result<(), Fail> {
+    match thrown(dice) {
+        Some(op) => take_both(rt, replica, plain, op),
+        None => Ok(()),
+    }
+}
+
+/// Takes an operation that is thrown.
+fn throw_into(replica: &mut Replica, dice: &mut Dice) -> Result<(), Fail> {
+    if let Some(op) = thrown(dice) {
+        replica.take(op)?;
+    }
+    Ok(())
+}
+
+/// A copy of the replica answers alike too.
+fn assert_copy_alike(
+    rt: &impl Abort,
+    alloc: Global,
+    replica: &Replica,
+    plain: &Plain,
+    dice: &mut Dice,
+) -> Result<(), Fail> {
+    let copied = replica.copy()?;
+    assert_alike(rt, alloc, &copied, plain, dice)
 }
 
 #[test]
 fn lines_answer_as_a_list_does(rt: HostRuntime) -> Result<(), Fail> {
-    let alloc = rt.alloc();
     let mut dice = Dice {
         state: 88172645463325252,
     };
-    let mut replica = Replica::new(alloc);
-    let mut plain = Plain::new(alloc);
+    let mut replica = Replica::new(rt.alloc());
+    let mut plain = Plain::new(rt.alloc());
     for count in 0..4096u32 {
-        if let Some(op) = thrown(&mut dice) {
-            take_both(&rt, &mut replica, &mut plain, op)?;
-        }
+        throw_both(&rt, &mut replica, &mut plain, &mut dice)?;
         if count % 64 == 0 {
-            assert_alike(&rt, alloc, &replica, &plain, &mut dice)?;
+            assert_alike(&rt, rt.alloc(), &replica, &plain, &mut dice)?;
         }
     }
-    assert_alike(&rt, alloc, &replica.copy()?, &plain, &mut dice)
+    assert_copy_alike(&rt, rt.alloc(), &replica, &plain, &mut dice)
 }
 
 #[test]
 fn what_is_absorbed_comes_in_order(rt: HostRuntime) -> Result<(), Fail> {
-    let alloc = rt.alloc();
     let mut dice = Dice {
         state: 362436069362436069,
     };
-    let mut replica = Replica::new(alloc);
-    let mut other = Replica::new(alloc);
-    let mut plain = Plain::new(alloc);
+    let mut replica = Replica::new(rt.alloc());
+    let mut other = Replica::new(rt.alloc());
+    let mut plain = Plain::new(rt.alloc());
     for _ in 0..256u32 {
-        if let Some(op) = thrown(&mut dice) {
-            take_both(&rt, &mut replica, &mut plain, op)?;
-        }
-        if let Some(op) = thrown(&mut dice) {
-            other.take(op)?;
-        }
+        throw_both(&rt, &mut replica, &mut plain, &mut dice)?;
+        throw_into(&mut other, &mut dice)?;
     }
-    plain.absorb(alloc, other.as_slice())?;
+    plain.absorb(rt.alloc(), other.as_slice())?;
     replica.absorb(other)?;
-    assert_alike(&rt, alloc, &replica, &plain, &mut dice)
+    assert_alike(&rt, rt.alloc(), &replica, &plain, &mut dice)
 }
