@@ -56,23 +56,47 @@ fn withdraw(
     })
 }
 
-// Only a place of 0 is refused. Stamps print their numbers, and compare by time, then site, start and seq.
 #[test]
-fn stamps(rt: HostRuntime) -> Result<(), Fail> {
+fn a_sequence_number_of_0_is_refused(rt: HostRuntime) {
     assert!(rt; Stamp::new(1, 1, 1, 0).is_none());
+}
+
+#[test]
+fn a_stamp_has_its_numbers(rt: HostRuntime) -> Result<(), Fail> {
     let first = stamp(18446744073709551615, 65535, 4294967295, 1)?;
     assert_eq!(rt; first.time(), 18446744073709551615);
     assert_eq!(rt; first.site(), 65535);
     assert_eq!(rt; first.start(), 4294967295);
     assert_eq!(rt; first.seq(), 1);
+    Ok(())
+}
+
+#[test]
+fn a_stamp_prints_its_numbers(rt: HostRuntime) -> Result<(), Fail> {
+    let first = stamp(18446744073709551615, 65535, 4294967295, 1)?;
     let text = first.to_string(rt.alloc())?;
     assert_eq!(rt; text.as_str(), "18446744073709551615,65535,4294967295,1");
     assert!(rt; Keep::copy(&first)? == first);
-    assert!(rt; stamp(0, 9, 9, 9)? < stamp(1, 0, 0, 1)?);
-    assert!(rt; stamp(1, 1, 9, 9)? < stamp(1, 2, 0, 1)?);
-    assert!(rt; stamp(1, 1, 1, 9)? < stamp(1, 1, 2, 1)?);
-    assert!(rt; stamp(1, 1, 1, 1)? < stamp(1, 1, 1, 2)?);
     Ok(())
+}
+
+// The numbers of a stamp.
+type Numbers = (u64, u16, u32, u64);
+
+fn assert_earlier(rt: &impl Abort, earlier: Numbers, later: Numbers) -> Result<(), Fail> {
+    let earlier = stamp(earlier.0, earlier.1, earlier.2, earlier.3)?;
+    let later = stamp(later.0, later.1, later.2, later.3)?;
+    assert!(rt; earlier < later);
+    Ok(())
+}
+
+// By time, then site, start and seq.
+#[test]
+fn stamps_are_in_order(rt: HostRuntime) -> Result<(), Fail> {
+    assert_earlier(&rt, (0, 9, 9, 9), (1, 0, 0, 1))?;
+    assert_earlier(&rt, (1, 1, 9, 9), (1, 2, 0, 1))?;
+    assert_earlier(&rt, (1, 1, 1, 9), (1, 1, 2, 1))?;
+    assert_earlier(&rt, (1, 1, 1, 1), (1, 1, 1, 2))
 }
 
 // A text of `length` equal characters.
@@ -94,67 +118,105 @@ fn assert_refused(rt: &impl Abort, draft: Draft, number: u8, name: &str) {
     }
 }
 
-// The least number wins.
-#[test]
-fn faults_of_numbers(rt: HostRuntime) -> Result<(), Fail> {
-    let alloc = rt.alloc();
-    assert_refused(&rt, Draft::Merged { change: 0 }, 1, "BadChange");
-    assert_refused(&rt, patch_set(alloc, 0, 0, "m", Some(0))?, 1, "BadChange");
-    assert_refused(&rt, vote(alloc, 1, 0, "", "", 0)?, 2, "BadSet");
-    assert_refused(&rt, patch_set(alloc, 1, 0, "m", Some(0))?, 2, "BadSet");
-    assert_refused(&rt, patch_set(alloc, 1, 1, "m", Some(0))?, 7, "BadParent");
-    let long = text_of(alloc, 'm', 65537)?;
-    assert_refused(
-        &rt,
-        patch_set(alloc, 1, 1, long.as_str(), Some(0))?,
-        5,
-        "LongMessage",
-    );
+// A patch set with parent 0 is refused.
+fn assert_refused_set(
+    rt: &impl Abort,
+    alloc: Global,
+    numbers: (u32, u32),
+    message: &str,
+    fault: (u8, &str),
+) -> Result<(), Fail> {
+    let draft = patch_set(alloc, numbers.0, numbers.1, message, Some(0))?;
+    assert_refused(rt, draft, fault.0, fault.1);
     Ok(())
 }
 
+// The least number wins.
+#[test]
+fn faults_of_numbers(rt: HostRuntime) -> Result<(), Fail> {
+    assert_refused_set(&rt, rt.alloc(), (0, 0), "m", (1, "BadChange"))?;
+    assert_refused_set(&rt, rt.alloc(), (1, 0), "m", (2, "BadSet"))?;
+    assert_refused_set(&rt, rt.alloc(), (1, 1), "m", (7, "BadParent"))
+}
+
+#[test]
+fn a_fault_of_a_merge(rt: HostRuntime) {
+    assert_refused(&rt, Draft::Merged { change: 0 }, 1, "BadChange");
+}
+
+#[test]
+fn a_long_message(rt: HostRuntime) -> Result<(), Fail> {
+    let long = text_of(rt.alloc(), 'm', 65537)?;
+    assert_refused_set(&rt, rt.alloc(), (1, 1), long.as_str(), (5, "LongMessage"))
+}
+
+#[test]
+fn faults_of_a_vote_on_no_patch_set(rt: HostRuntime) -> Result<(), Fail> {
+    let draft = vote(rt.alloc(), 1, 0, "", "", 0)?;
+    assert_refused(&rt, draft, 2, "BadSet");
+    Ok(())
+}
+
+// A vote with a word at fault is refused, and a withdrawal of it too.
+fn assert_bad_words(
+    rt: &impl Abort,
+    alloc: Global,
+    label: &str,
+    voter: &str,
+    fault: (u8, &str),
+) -> Result<(), Fail> {
+    let draft = vote(alloc, 1, 1, label, voter, 1)?;
+    assert_refused(rt, draft, fault.0, fault.1);
+    let draft = withdraw(alloc, 1, 1, label, voter)?;
+    assert_refused(rt, draft, fault.0, fault.1);
+    Ok(())
+}
+
+const BAD_LABEL: (u8, &str) = (3, "BadLabel");
+
+const BAD_VOTER: (u8, &str) = (4, "BadVoter");
+
+// The label is looked at first.
 #[test]
 fn faults_of_words(rt: HostRuntime) -> Result<(), Fail> {
-    let alloc = rt.alloc();
-    let wide = text_of(alloc, 'v', 65)?;
-    assert_refused(&rt, vote(alloc, 1, 1, "Code_Review", "", 1)?, 3, "BadLabel");
-    assert_refused(&rt, vote(alloc, 1, 1, "", "ann", 1)?, 3, "BadLabel");
-    assert_refused(
-        &rt,
-        vote(alloc, 1, 1, wide.as_str(), "ann", 1)?,
-        3,
-        "BadLabel",
-    );
-    assert_refused(&rt, vote(alloc, 1, 1, "Verified", "", 1)?, 4, "BadVoter");
-    assert_refused(
-        &rt,
-        withdraw(alloc, 1, 1, "Verified", "a b")?,
-        4,
-        "BadVoter",
-    );
-    assert_refused(
-        &rt,
-        withdraw(alloc, 1, 1, "Verified", wide.as_str())?,
-        4,
-        "BadVoter",
-    );
-    Ok(())
+    assert_bad_words(&rt, rt.alloc(), "Code_Review", "", BAD_LABEL)?;
+    assert_bad_words(&rt, rt.alloc(), "", "ann", BAD_LABEL)?;
+    assert_bad_words(&rt, rt.alloc(), "Verified", "", BAD_VOTER)?;
+    assert_bad_words(&rt, rt.alloc(), "Verified", "a b", BAD_VOTER)
+}
+
+#[test]
+fn faults_of_long_words(rt: HostRuntime) -> Result<(), Fail> {
+    let wide = text_of(rt.alloc(), 'v', 65)?;
+    assert_bad_words(&rt, rt.alloc(), wide.as_str(), "ann", BAD_LABEL)?;
+    assert_bad_words(&rt, rt.alloc(), "Verified", wide.as_str(), BAD_VOTER)
 }
 
 fn checked(draft: Draft) -> Result<Body, Fail> {
     Ok(Body::checked(draft).map_err(|_| "refused")?)
 }
 
+// The body has this message and no label.
+fn assert_message(rt: &impl Abort, body: &Body, message: &str) {
+    assert!(rt; body.draft().message() == Some(message));
+    assert!(rt; body.draft().label().is_none());
+}
+
 // The longest message is accepted.
 #[test]
-fn a_patch_set(rt: HostRuntime) -> Result<(), Fail> {
+fn a_long_patch_set(rt: HostRuntime) -> Result<(), Fail> {
     let long = text_of(rt.alloc(), 'm', 65536)?;
     let body = checked(patch_set(rt.alloc(), 4294967295, 1, long.as_str(), Some(7))?)?;
+    assert_message(&rt, &body, long.as_str());
+    Ok(())
+}
+
+#[test]
+fn a_patch_set(rt: HostRuntime) -> Result<(), Fail> {
+    let body = checked(patch_set(rt.alloc(), 4294967295, 1, "m", Some(7))?)?;
     assert_eq!(rt; body.change(), 4294967295);
-    assert_eq!(rt; body.draft().set(), Some(1));
-    assert_eq!(rt; body.draft().parent(), Some(7));
-    assert!(rt; body.draft().message() == Some(long.as_str()));
-    assert!(rt; body.draft().label().is_none());
+    assert!(rt; body.draft().set() == Some(1));
+    assert!(rt; body.draft().parent() == Some(7));
     Ok(())
 }
 
@@ -165,95 +227,157 @@ fn a_vote(rt: HostRuntime) -> Result<(), Fail> {
     let body = checked(vote(rt.alloc(), 1, 2, "Code-Review9", wide.as_str(), -128)?)?;
     assert!(rt; body.draft().label() == Some("code-review9"));
     assert!(rt; body.draft().voter() == Some(wide.as_str()));
+    Ok(())
+}
+
+#[test]
+fn a_vote_is_copied_and_taken_apart(rt: HostRuntime) -> Result<(), Fail> {
+    let wide = text_of(rt.alloc(), '~', 64)?;
+    let body = checked(vote(rt.alloc(), 1, 2, "Code-Review9", wide.as_str(), -128)?)?;
     assert!(rt; body.copy()? == body);
     let draft = body.into_draft();
     assert!(rt; draft == vote(rt.alloc(), 1, 2, "code-review9", wide.as_str(), -128)?);
     Ok(())
 }
 
-// The first draft is the lesser, as a body and as an operation, unless the other's stamp is earlier.
-fn assert_less(rt: &impl Abort, lesser: Draft, greater: Draft) -> Result<(), Fail> {
-    let lesser = checked(lesser)?;
-    let greater = checked(greater)?;
+// What is stamped on a change, with what its order depends on.
+#[derive(Clone, Copy)]
+enum Kind {
+    PatchSet(&'static str, Option<u32>),
+    Vote(&'static str, &'static str, i8),
+    Withdraw,
+    Abandon(u32),
+    Restore(u32),
+    Merged(u32),
+}
+
+fn draft_of(alloc: Global, kind: Kind) -> Result<Draft, AllocError> {
+    match kind {
+        Kind::PatchSet(message, parent) => patch_set(alloc, 9, 9, message, parent),
+        Kind::Vote(label, voter, value) => vote(alloc, 1, 1, label, voter, value),
+        Kind::Withdraw => withdraw(alloc, 1, 1, "a", "a"),
+        Kind::Abandon(change) => Ok(Draft::Abandon { change }),
+        Kind::Restore(change) => Ok(Draft::Restore { change }),
+        Kind::Merged(change) => Ok(Draft::Merged { change }),
+    }
+}
+
+fn body_of(alloc: Global, kind: Kind) -> Result<Body, Fail> {
+    checked(draft_of(alloc, kind)?)
+}
+
+// The operation with this time.
+fn op_of(alloc: Global, time: u64, kind: Kind) -> Result<Op, Fail> {
+    Ok(Op::new(stamp(time, 1, 1, 1)?, body_of(alloc, kind)?))
+}
+
+fn assert_less_body(
+    rt: &impl Abort,
+    alloc: Global,
+    lesser: Kind,
+    greater: Kind,
+) -> Result<(), Fail> {
+    let lesser = body_of(alloc, lesser)?;
+    let greater = body_of(alloc, greater)?;
     assert!(rt; lesser < greater);
-    let early = Op::new(stamp(1, 1, 1, 1)?, greater.copy()?);
-    let lesser = Op::new(stamp(2, 1, 1, 1)?, lesser);
-    let greater = Op::new(stamp(2, 1, 1, 1)?, greater);
-    assert!(rt; lesser < greater);
-    assert!(rt; early < lesser);
-    assert!(rt; early.body() == greater.body());
-    assert!(rt; early != greater);
     Ok(())
 }
 
-// By kind, then field by field; no parent is least.
+fn assert_less_op(rt: &impl Abort, alloc: Global, lesser: Kind, greater: Kind) -> Result<(), Fail> {
+    let lesser = op_of(alloc, 2, lesser)?;
+    let greater = op_of(alloc, 2, greater)?;
+    assert!(rt; lesser < greater);
+    Ok(())
+}
+
+// The greater draft with an earlier stamp is the lesser operation.
+fn assert_early(rt: &impl Abort, alloc: Global, lesser: Kind, greater: Kind) -> Result<(), Fail> {
+    let early = op_of(alloc, 1, greater)?;
+    let lesser = op_of(alloc, 2, lesser)?;
+    assert!(rt; early < lesser);
+    Ok(())
+}
+
+// Operations with different stamps differ, also where their bodies are equal.
+fn assert_stamp_counts(rt: &impl Abort, alloc: Global, kind: Kind) -> Result<(), Fail> {
+    let early = op_of(alloc, 1, kind)?;
+    let late = op_of(alloc, 2, kind)?;
+    assert!(rt; early.body() == late.body());
+    assert!(rt; early != late);
+    Ok(())
+}
+
+// Pairs of which the first is the lesser: by kind, then field by field; no parent is least.
+const ORDERED: [(Kind, Kind); 8] = [
+    (Kind::PatchSet("m", None), Kind::PatchSet("m", Some(1))),
+    (Kind::PatchSet("m", Some(1)), Kind::PatchSet("mm", None)),
+    (Kind::PatchSet("m", None), Kind::Vote("a", "z", 1)),
+    (Kind::Vote("a", "z", 1), Kind::Vote("b", "a", -1)),
+    (Kind::Vote("b", "a", -1), Kind::Vote("b", "a", 0)),
+    (Kind::Withdraw, Kind::Abandon(1)),
+    (Kind::Abandon(1), Kind::Restore(1)),
+    (Kind::Restore(2), Kind::Merged(1)),
+];
+
+// The first draft is the lesser, as a body and as an operation, unless the other's stamp is earlier.
 #[test]
 fn orders(rt: HostRuntime) -> Result<(), Fail> {
-    let alloc = rt.alloc();
-    assert_less(
-        &rt,
-        patch_set(alloc, 9, 9, "m", None)?,
-        patch_set(alloc, 9, 9, "m", Some(1))?,
-    )?;
-    assert_less(
-        &rt,
-        patch_set(alloc, 9, 9, "m", Some(1))?,
-        patch_set(alloc, 9, 9, "mm", None)?,
-    )?;
-    assert_less(
-        &rt,
-        patch_set(alloc, 9, 9, "m", None)?,
-        vote(alloc, 1, 1, "a", "z", 1)?,
-    )?;
-    assert_less(
-        &rt,
-        vote(alloc, 1, 1, "a", "z", 1)?,
-        vote(alloc, 1, 1, "b", "a", -1)?,
-    )?;
-    assert_less(
-        &rt,
-        vote(alloc, 1, 1, "b", "a", -1)?,
-        vote(alloc, 1, 1, "b", "a", 0)?,
-    )?;
-    assert_less(
-        &rt,
-        withdraw(alloc, 1, 1, "a", "a")?,
-        Draft::Abandon { change: 1 },
-    )?;
-    assert_less(
-        &rt,
-        Draft::Abandon { change: 1 },
-        Draft::Restore { change: 1 },
-    )?;
-    assert_less(
-        &rt,
-        Draft::Restore { change: 2 },
-        Draft::Merged { change: 1 },
-    )?;
+    for (lesser, greater) in ORDERED {
+        assert_less_body(&rt, rt.alloc(), lesser, greater)?;
+        assert_less_op(&rt, rt.alloc(), lesser, greater)?;
+        assert_early(&rt, rt.alloc(), lesser, greater)?;
+        assert_stamp_counts(&rt, rt.alloc(), greater)?;
+    }
     Ok(())
 }
 
-// A copy is equal, or refused, and a refusal leaves the operation as it was.
+// Whether a copy of an operation was refused memory. A copy is equal.
+fn refuses_copy<A: Allocator + Copy>(rt: &impl Abort, op: &Op<A>) -> bool {
+    match op.copy() {
+        Ok(copy) => {
+            assert!(rt; copy == *op);
+            false
+        }
+        Err(NoMemory) => true,
+    }
+}
+
+// A vote in a heap that suffices for it.
+fn vote_in(heap: &LocalHeap) -> Result<Option<Op<&LocalHeap>>, Fail> {
+    let Ok(draft) = vote(heap, 1, 1, "Code-Review", "ann", 1) else {
+        return Ok(None);
+    };
+    let body = Body::checked(draft).map_err(|_| "refused")?;
+    Ok(Some(Op::new(stamp(1, 1, 1, 1)?, body)))
+}
+
+// The operation still has its label.
+fn assert_whole<A: Allocator + Copy>(rt: &impl Abort, op: Op<A>) {
+    let (_, body) = op.into_parts();
+    assert!(rt; body.draft().label() == Some("code-review"));
+}
+
+// Whether a copy of a vote was refused memory, where a heap of this size suffices for the vote. A refusal leaves the operation as it was.
+fn refuses_copy_in(rt: &impl Abort, alloc: Global, size: usize) -> Result<Option<bool>, Fail> {
+    let heap = LocalHeap::new(alloc, size)?;
+    let Some(op) = vote_in(&heap)? else {
+        return Ok(None);
+    };
+    let refused = refuses_copy(rt, &op);
+    assert_whole(rt, op);
+    Ok(Some(refused))
+}
+
 #[test]
 fn refused_memory(rt: HostRuntime) -> Result<(), Fail> {
     let mut refused = false;
     let mut copied = false;
     for size in 0..256 {
-        let heap = LocalHeap::new(rt.alloc(), size)?;
-        let Ok(draft) = vote(&heap, 1, 1, "Code-Review", "ann", 1) else {
-            continue;
-        };
-        let body = Body::checked(draft).map_err(|_| "refused")?;
-        let op = Op::new(stamp(1, 1, 1, 1)?, body);
-        match op.copy() {
-            Ok(copy) => {
-                assert!(rt; copy == op);
-                copied = true;
-            }
-            Err(NoMemory) => refused = true,
+        match refuses_copy_in(&rt, rt.alloc(), size)? {
+            Some(true) => refused = true,
+            Some(false) => copied = true,
+            None => {}
         }
-        let (_, body) = op.into_parts();
-        assert!(rt; body.draft().label() == Some("code-review"));
     }
     assert!(rt; refused && copied);
     Ok(())
