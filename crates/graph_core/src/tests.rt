@@ -3,9 +3,21 @@ use gate_rules::{Gate, Item};
 use replica_core::Replica;
 use review_ops::{Body, Draft, Op, Stamp};
 use std::alloc::Global;
+use std::process::Abort;
 use std::test::Fail;
 
 const GATE: &str = r#"{"bases":["https://review.example.org/"]}"#;
+
+/// An operation of a record, whose place in the record is its time.
+#[derive(Clone, Copy)]
+enum Step {
+    /// A patch set of this change with this number, whose message has a footer for each of these changes, on this parent.
+    PatchSet(u32, u32, &'static [u32], Option<u32>),
+    Merged(u32),
+    Abandon(u32),
+}
+
+use Step::{Abandon, Merged, PatchSet};
 
 /// Takes in an operation of this time.
 fn take(replica: &mut Replica, time: u64, draft: Draft) -> Result<(), Fail> {
@@ -14,29 +26,41 @@ fn take(replica: &mut Replica, time: u64, draft: Draft) -> Result<(), Fail> {
     Ok(())
 }
 
-/// A patch set whose message has a footer for each of these changes.
-fn patch_set(
-    alloc: Global,
-    change: u32,
-    set: u32,
-    needs: &[u32],
-    parent: Option<u32>,
-) -> Result<Draft, Fail> {
+/// A message with a footer for each of these changes.
+fn message_of(alloc: Global, needs: &[u32]) -> Result<String, Fail> {
     let mut message = String::from_str(alloc, "m\n")?;
     for need in needs {
         write!(message, "Depends-On: https://review.example.org/{need}\n")?;
     }
-    Ok(Draft::PatchSet {
-        change,
-        set,
-        message,
-        parent,
-    })
+    Ok(message)
 }
 
-fn graph_of(alloc: Global, replica: &Replica) -> Result<Graph, Fail> {
+fn draft_of(alloc: Global, step: Step) -> Result<Draft, Fail> {
+    match step {
+        PatchSet(change, set, needs, parent) => Ok(Draft::PatchSet {
+            change,
+            set,
+            message: message_of(alloc, needs)?,
+            parent,
+        }),
+        Merged(change) => Ok(Draft::Merged { change }),
+        Abandon(change) => Ok(Draft::Abandon { change }),
+    }
+}
+
+fn replica_of(alloc: Global, steps: &[Step]) -> Result<Replica, Fail> {
+    let mut replica = Replica::new(alloc);
+    for (time, step) in (1u64..).zip(steps) {
+        take(&mut replica, time, draft_of(alloc, *step)?)?;
+    }
+    Ok(replica)
+}
+
+/// The graph of the record with these operations.
+fn graph_of(alloc: Global, steps: &[Step]) -> Result<Graph, Fail> {
     let gate = Gate::read(alloc, GATE.as_bytes())?;
-    Ok(Graph::build(alloc, replica, &gate)?)
+    let replica = replica_of(alloc, steps)?;
+    Ok(Graph::build(alloc, &replica, &gate)?)
 }
 
 /// The graph as a text: a line for each item.
@@ -52,41 +76,63 @@ fn shown(alloc: Global, graph: &Graph) -> Result<String, Fail> {
     Ok(text)
 }
 
+/// The graph of these operations has these lines.
+fn assert_shown(rt: &impl Abort, alloc: Global, steps: &[Step], wanted: &str) -> Result<(), Fail> {
+    let text = shown(alloc, &graph_of(alloc, steps)?)?;
+    assert_eq!(rt; text.as_str(), wanted);
+    Ok(())
+}
+
+/// In the graph of these operations just these items wait for the change.
+fn assert_namers(
+    rt: &impl Abort,
+    alloc: Global,
+    steps: &[Step],
+    change: u32,
+    wanted: &[Item],
+) -> Result<(), Fail> {
+    let graph = graph_of(alloc, steps)?;
+    assert_eq!(rt; graph.namers(change), wanted);
+    Ok(())
+}
+
 // No operation, no item.
 #[test]
 fn nothing(rt: HostRuntime) -> Result<(), Fail> {
-    let graph = graph_of(rt.alloc(), &Replica::new(rt.alloc()))?;
+    let graph = graph_of(rt.alloc(), &[])?;
     assert_eq!(rt; graph.items().len(), 0);
     assert_eq!(rt; graph.namers(1).len(), 0);
     Ok(())
 }
 
 // 1 and 2 need each other, and 2 needs 3.
+const A_CYCLE_AND_ITS_TAIL: &[Step] = &[
+    PatchSet(1, 1, &[2], None),
+    PatchSet(2, 1, &[3, 1], None),
+    PatchSet(3, 1, &[], None),
+];
+
 #[test]
 fn a_cycle_and_its_tail(rt: HostRuntime) -> Result<(), Fail> {
-    let alloc = rt.alloc();
-    let mut replica = Replica::new(alloc);
-    take(&mut replica, 1, patch_set(alloc, 1, 1, &[2], None)?)?;
-    take(&mut replica, 2, patch_set(alloc, 2, 1, &[3, 1], None)?)?;
-    take(&mut replica, 3, patch_set(alloc, 3, 1, &[], None)?)?;
-    let graph = graph_of(alloc, &replica)?;
-    let text = shown(alloc, &graph)?;
-    assert_eq!(rt;
-        text.as_str(),
-        "1,1 [2] [1] true\n2,1 [1, 3] [0, 2] true\n3,1 [] [] false\n"
-    );
-    assert_eq!(rt; graph.namers(3), [Item { change: 2, set: 1 }].as_slice());
-    Ok(())
+    let wanted = "1,1 [2] [1] true\n2,1 [1, 3] [0, 2] true\n3,1 [] [] false\n";
+    assert_shown(&rt, rt.alloc(), A_CYCLE_AND_ITS_TAIL, wanted)
 }
+
+#[test]
+fn what_waits_for_the_tail_of_a_cycle(rt: HostRuntime) -> Result<(), Fail> {
+    let wanted = [Item { change: 2, set: 1 }];
+    assert_namers(&rt, rt.alloc(), A_CYCLE_AND_ITS_TAIL, 3, &wanted)
+}
+
+const A_CYCLE_AND_AN_UNKNOWN_CHANGE: &[Step] = &[
+    PatchSet(1, 1, &[2], None),
+    PatchSet(2, 1, &[3, 1], None),
+];
 
 // Asked by item.
 #[test]
 fn by_item(rt: HostRuntime) -> Result<(), Fail> {
-    let alloc = rt.alloc();
-    let mut replica = Replica::new(alloc);
-    take(&mut replica, 1, patch_set(alloc, 1, 1, &[2], None)?)?;
-    take(&mut replica, 2, patch_set(alloc, 2, 1, &[3, 1], None)?)?;
-    let graph = graph_of(alloc, &replica)?;
+    let graph = graph_of(rt.alloc(), A_CYCLE_AND_AN_UNKNOWN_CHANGE)?;
     let items = graph.items();
     assert!(rt; items.len() == 2);
     let item = items[1];
@@ -96,59 +142,48 @@ fn by_item(rt: HostRuntime) -> Result<(), Fail> {
 }
 
 // A dependency stands for its current patch set, an older patch set is an item of its own, and what isn't known has no place.
+const PATCH_SETS_OF_ONE_CHANGE: &[Step] = &[
+    PatchSet(1, 1, &[9], None),
+    PatchSet(1, 7, &[], None),
+    PatchSet(2, 3, &[1, 9], None),
+];
+
 #[test]
 fn current_patch_sets(rt: HostRuntime) -> Result<(), Fail> {
-    let alloc = rt.alloc();
-    let mut replica = Replica::new(alloc);
-    take(&mut replica, 1, patch_set(alloc, 1, 1, &[9], None)?)?;
-    take(&mut replica, 2, patch_set(alloc, 1, 7, &[], None)?)?;
-    take(&mut replica, 3, patch_set(alloc, 2, 3, &[1, 9], None)?)?;
-    let graph = graph_of(alloc, &replica)?;
-    let text = shown(alloc, &graph)?;
-    assert_eq!(rt;
-        text.as_str(),
-        "1,1 [9] [] false\n1,7 [] [] false\n2,3 [1, 9] [1] false\n"
-    );
-    assert_eq!(rt;
-        graph.namers(9),
-        [Item { change: 1, set: 1 }, Item { change: 2, set: 3 }].as_slice()
-    );
-    Ok(())
+    let wanted = "1,1 [9] [] false\n1,7 [] [] false\n2,3 [1, 9] [1] false\n";
+    assert_shown(&rt, rt.alloc(), PATCH_SETS_OF_ONE_CHANGE, wanted)
+}
+
+#[test]
+fn what_waits_for_an_unknown_change(rt: HostRuntime) -> Result<(), Fail> {
+    let wanted = [Item { change: 1, set: 1 }, Item { change: 2, set: 3 }];
+    assert_namers(&rt, rt.alloc(), PATCH_SETS_OF_ONE_CHANGE, 9, &wanted)
 }
 
 // A parent counts like a footer, once, unless it is the item's own change.
+const PARENTS: &[Step] = &[
+    PatchSet(1, 1, &[1], Some(1)),
+    PatchSet(2, 1, &[5, 1], Some(3)),
+    PatchSet(3, 1, &[2], Some(2)),
+];
+
 #[test]
 fn parents(rt: HostRuntime) -> Result<(), Fail> {
-    let alloc = rt.alloc();
-    let mut replica = Replica::new(alloc);
-    take(&mut replica, 1, patch_set(alloc, 1, 1, &[1], Some(1))?)?;
-    take(&mut replica, 2, patch_set(alloc, 2, 1, &[5, 1], Some(3))?)?;
-    take(&mut replica, 3, patch_set(alloc, 3, 1, &[2], Some(2))?)?;
-    let graph = graph_of(alloc, &replica)?;
-    let text = shown(alloc, &graph)?;
-    assert_eq!(rt;
-        text.as_str(),
-        "1,1 [] [] false\n2,1 [1, 3, 5] [0, 2] true\n3,1 [2] [1] true\n"
-    );
-    Ok(())
+    let wanted = "1,1 [] [] false\n2,1 [1, 3, 5] [0, 2] true\n3,1 [2] [1] true\n";
+    assert_shown(&rt, rt.alloc(), PARENTS, wanted)
 }
 
 // A merged change is no target, known or not.
+const MERGED_CHANGES: &[Step] = &[
+    PatchSet(1, 1, &[2, 3, 4], Some(5)),
+    PatchSet(2, 1, &[1], None),
+    Merged(2),
+    Merged(3),
+    Abandon(4),
+];
+
 #[test]
 fn merged_changes(rt: HostRuntime) -> Result<(), Fail> {
-    let alloc = rt.alloc();
-    let mut replica = Replica::new(alloc);
-    take(
-        &mut replica,
-        1,
-        patch_set(alloc, 1, 1, &[2, 3, 4], Some(5))?,
-    )?;
-    take(&mut replica, 2, patch_set(alloc, 2, 1, &[1], None)?)?;
-    take(&mut replica, 3, Draft::Merged { change: 2 })?;
-    take(&mut replica, 4, Draft::Merged { change: 3 })?;
-    take(&mut replica, 5, Draft::Abandon { change: 4 })?;
-    let graph = graph_of(alloc, &replica)?;
-    let text = shown(alloc, &graph)?;
-    assert_eq!(rt; text.as_str(), "1,1 [4, 5] [] false\n2,1 [1] [0] false\n");
-    Ok(())
+    let wanted = "1,1 [4, 5] [] false\n2,1 [1] [0] false\n";
+    assert_shown(&rt, rt.alloc(), MERGED_CHANGES, wanted)
 }
