@@ -1,8 +1,8 @@
 //! A slow plain program beside the search, and the two compared.
 
 use super::tests::{CYCLES, GATE, Review};
-use super::{Left, Refusal, evaluate};
-use gate_rules::{Clause, Condition, Gate, Item, Side};
+use super::{Left, Refusal, Verdicts};
+use gate_rules::{Clause, Condition, Item, Side};
 use lattice_core::NoMemory;
 use review_ops::Draft;
 use std::alloc::Global;
@@ -37,6 +37,18 @@ fn required(clause: Clause) -> Option<Refusal> {
 }
 
 impl Case {
+    /// So many changes, of which nothing is listed yet.
+    fn new(alloc: Global, changes: u32, cycles: bool) -> Case {
+        Case {
+            changes,
+            approved: Vec::new(alloc),
+            merged: Vec::new(alloc),
+            edges: Vec::new(alloc),
+            cycles,
+            alloc,
+        }
+    }
+
     /// Whether the first change waits for the second.
     fn waits(&self, from: u32, to: u32) -> bool {
         from != to && listed(self.merged.as_slice(), to) != Some(true)
@@ -86,19 +98,38 @@ impl Case {
         Ok(self.least(change, known, false).map(Refusal::Unknown))
     }
 
-    /// Each change that has no refusal yet and waits for one that was refused in the round before is refused, round by round, until there is no
-    /// such change.
-    fn refusals(&self) -> Result<Vec<Option<(Refusal, usize)>>, NoMemory> {
+    /// The refusals of the changes whose items aren't eligible.
+    fn first_refusals(&self) -> Result<Vec<Option<(Refusal, usize)>>, NoMemory> {
         let known = vec![in self.alloc; true; self.approved.len()]?;
         let mut refusals = Vec::new(self.alloc);
         for change in 1..=self.changes {
             let cause = self.cause(change, known.as_slice())?;
             refusals.push(cause.map(|refusal| (refusal, 0)))?;
         }
+        Ok(refusals)
+    }
+
+    /// Each change that has no refusal yet and waits for one that was refused in the round before is refused, round by round, until there is no
+    /// such change.
+    fn refusals(&self) -> Result<Vec<Option<(Refusal, usize)>>, NoMemory> {
+        let mut refusals = self.first_refusals()?;
         for rank in 0..self.approved.len() {
             refusals = self.next_round(refusals.as_slice(), rank)?;
         }
         Ok(refusals)
+    }
+
+    /// Which changes were refused in the round of this rank.
+    fn newest(
+        &self,
+        refusals: &[Option<(Refusal, usize)>],
+        rank: usize,
+    ) -> Result<Vec<bool>, NoMemory> {
+        let mut newest = Vec::new(self.alloc);
+        for refusal in refusals {
+            newest.push(matches!(refusal, Some((_, of)) if *of == rank))?;
+        }
+        Ok(newest)
     }
 
     fn next_round(
@@ -106,10 +137,7 @@ impl Case {
         refusals: &[Option<(Refusal, usize)>],
         rank: usize,
     ) -> Result<Vec<Option<(Refusal, usize)>>, NoMemory> {
-        let mut newest = Vec::new(self.alloc);
-        for refusal in refusals {
-            newest.push(matches!(refusal, Some((_, of)) if *of == rank))?;
-        }
+        let newest = self.newest(refusals, rank)?;
         let mut next = Vec::new(self.alloc);
         for (change, refusal) in (1u32..).zip(refusals) {
             let waits = self.least(change, newest.as_slice(), true);
@@ -119,51 +147,108 @@ impl Case {
         Ok(next)
     }
 
+    /// What a change needs.
+    fn needs(&self, change: u32) -> Result<Vec<u32>, NoMemory> {
+        let mut needs = Vec::new(self.alloc);
+        for (from, to) in &self.edges {
+            if *from == change {
+                needs.push(*to)?;
+            }
+        }
+        Ok(needs)
+    }
+
+    /// Adds a change's patch set to a review.
+    fn add_patch_set(&self, review: &mut Review, change: u32) -> Result<(), Fail> {
+        let needs = self.needs(change)?;
+        review.patch_set(change, 1, needs.as_slice(), None)
+    }
+
+    /// Adds a change's operations to a review.
+    fn add(&self, review: &mut Review, change: u32) -> Result<(), Fail> {
+        self.add_patch_set(review, change)?;
+        if listed(self.approved.as_slice(), change) == Some(true) {
+            review.both(change)?;
+        }
+        if listed(self.merged.as_slice(), change) == Some(true) {
+            review.take(Draft::Merged { change })?;
+        }
+        Ok(())
+    }
+
     /// The operations of the case.
     fn review(&self) -> Result<Review, Fail> {
         let mut review = Review::new(self.alloc);
         for change in 1..=self.changes {
-            let mut needs = Vec::new(self.alloc);
-            for (from, to) in &self.edges {
-                if *from == change {
-                    needs.push(*to)?;
-                }
-            }
-            review.patch_set(change, 1, needs.as_slice(), None)?;
-            if listed(self.approved.as_slice(), change) == Some(true) {
-                review.both(change)?;
-            }
-            if listed(self.merged.as_slice(), change) == Some(true) {
-                review.take(Draft::Merged { change })?;
-            }
+            self.add(&mut review, change)?;
         }
         Ok(review)
     }
+
+    /// What the search says of the case.
+    fn verdicts(&self) -> Result<Verdicts, Fail> {
+        let review = self.review()?;
+        review.verdicts(if self.cycles { CYCLES } else { GATE })
+    }
+}
+
+/// The items of the changes that have no refusal.
+fn ready_of(alloc: Global, refusals: &[Option<(Refusal, usize)>]) -> Result<Vec<Item>, NoMemory> {
+    let mut ready = Vec::new(alloc);
+    for (change, refusal) in (1u32..).zip(refusals) {
+        if refusal.is_none() {
+            ready.push(Item { change, set: 1 })?;
+        }
+    }
+    Ok(ready)
+}
+
+/// The items of the changes that have a refusal.
+fn out_of(alloc: Global, refusals: &[Option<(Refusal, usize)>]) -> Result<Vec<Left>, NoMemory> {
+    let mut out = Vec::new(alloc);
+    for (change, refusal) in (1u32..).zip(refusals) {
+        if let Some((refusal, rank)) = *refusal {
+            let item = Item { change, set: 1 };
+            out.push(Left {
+                item,
+                refusal,
+                rank,
+            })?;
+        }
+    }
+    Ok(out)
+}
+
+/// These items are ready in both programs.
+fn assert_ready(
+    rt: &impl Abort,
+    alloc: Global,
+    ready: &[Item],
+    refusals: &[Option<(Refusal, usize)>],
+) -> Result<(), Fail> {
+    let wanted = ready_of(alloc, refusals)?;
+    assert_eq!(rt; ready, wanted.as_slice());
+    Ok(())
+}
+
+/// These items are left out in both programs.
+fn assert_out(
+    rt: &impl Abort,
+    alloc: Global,
+    out: &[Left],
+    refusals: &[Option<(Refusal, usize)>],
+) -> Result<(), Fail> {
+    let wanted = out_of(alloc, refusals)?;
+    assert_eq!(rt; out, wanted.as_slice());
+    Ok(())
 }
 
 /// Both programs say the same of a case.
 fn assert_plain(rt: &impl Abort, case: &Case) -> Result<(), Fail> {
-    let text = if case.cycles { CYCLES } else { GATE };
-    let gate = Gate::read(case.alloc, text.as_bytes()).map_err(|_| "a gate")?;
-    let review = case.review()?;
-    let verdicts = evaluate(case.alloc, &review.replica, &gate).map_err(|_| "no memory")?;
-    let refusals = case.refusals().map_err(|_| "no memory")?;
-    let mut ready = Vec::new(case.alloc);
-    let mut out = Vec::new(case.alloc);
-    for (change, refusal) in (1u32..).zip(refusals.as_slice()) {
-        let item = Item { change, set: 1 };
-        match *refusal {
-            None => ready.push(item)?,
-            Some((refusal, rank)) => out.push(Left {
-                item,
-                refusal,
-                rank,
-            })?,
-        }
-    }
-    assert_eq!(rt; verdicts.ready(), ready.as_slice());
-    assert_eq!(rt; verdicts.out(), out.as_slice());
-    Ok(())
+    let verdicts = case.verdicts()?;
+    let refusals = case.refusals()?;
+    assert_ready(rt, case.alloc, verdicts.ready(), refusals.as_slice())?;
+    assert_out(rt, case.alloc, verdicts.out(), refusals.as_slice())
 }
 
 /// The next binary digit of a number.
@@ -173,28 +258,27 @@ fn digit(number: &mut u32) -> bool {
     odd
 }
 
+/// Lists of a change by digits whether it is approved, and what it needs.
+fn list_numbered(case: &mut Case, digits: &mut u32, change: u32) -> Result<(), NoMemory> {
+    case.approved.push(digit(digits))?;
+    case.merged.push(false)?;
+    for to in 1..=case.changes {
+        if to != change && digit(digits) {
+            case.edges.push((change, to))?;
+        }
+    }
+    if digit(digits) {
+        case.edges.push((change, 9))?;
+    }
+    Ok(())
+}
+
 /// The case whose edges, approvals and gate are the binary digits of a number. The changes may need each other and one that isn't known.
-fn numbered(alloc: Global, changes: u32, number: u32) -> Result<Case, Fail> {
+fn numbered(alloc: Global, changes: u32, number: u32) -> Result<Case, NoMemory> {
     let mut digits = number;
-    let mut case = Case {
-        changes,
-        approved: Vec::new(alloc),
-        merged: Vec::new(alloc),
-        edges: Vec::new(alloc),
-        cycles: digit(&mut digits),
-        alloc,
-    };
+    let mut case = Case::new(alloc, changes, digit(&mut digits));
     for change in 1..=changes {
-        case.approved.push(digit(&mut digits))?;
-        case.merged.push(false)?;
-        for to in 1..=changes {
-            if to != change && digit(&mut digits) {
-                case.edges.push((change, to))?;
-            }
-        }
-        if digit(&mut digits) {
-            case.edges.push((change, 9))?;
-        }
+        list_numbered(&mut case, &mut digits, change)?;
     }
     Ok(case)
 }
@@ -222,34 +306,45 @@ fn next_below(state: &mut u64, limit: u32) -> u32 {
     ((*state >> 33) as u32).checked_rem(limit).unwrap_or(0)
 }
 
-/// A case of up to eight changes, of which some are merged, some are not approved, and some need one that isn't known.
-fn some_case(alloc: Global, state: &mut u64) -> Result<Case, Fail> {
-    let mut case = Case {
-        changes: next_below(state, 9),
-        approved: Vec::new(alloc),
-        merged: Vec::new(alloc),
-        edges: Vec::new(alloc),
-        cycles: next_below(state, 2) == 0,
-        alloc,
-    };
+/// Lists of each change whether it is approved, and whether it is merged.
+fn list_some(case: &mut Case, state: &mut u64) -> Result<(), NoMemory> {
     for _ in 0..case.changes {
         case.approved.push(next_below(state, 4) != 0)?;
         case.merged.push(next_below(state, 8) == 0)?;
     }
+    Ok(())
+}
+
+/// Lists some of what the changes need.
+fn list_some_edges(case: &mut Case, state: &mut u64) -> Result<(), NoMemory> {
     for _ in 0..next_below(state, 14) {
         let from = next_below(state, case.changes).saturating_add(1);
         let to = next_below(state, 9).saturating_add(1);
         case.edges.push((from, to))?;
     }
+    Ok(())
+}
+
+/// A case of up to eight changes, of which some are merged, some are not approved, and some need one that isn't known.
+fn some_case(alloc: Global, state: &mut u64) -> Result<Case, NoMemory> {
+    let changes = next_below(state, 9);
+    let cycles = next_below(state, 2) == 0;
+    let mut case = Case::new(alloc, changes, cycles);
+    list_some(&mut case, state)?;
+    list_some_edges(&mut case, state)?;
     Ok(case)
+}
+
+fn assert_some_case(rt: &impl Abort, alloc: Global, state: &mut u64) -> Result<(), Fail> {
+    let case = some_case(alloc, state)?;
+    assert_plain(rt, &case)
 }
 
 #[test]
 fn four_hundred_graphs_as_the_plain_program(rt: HostRuntime) -> Result<(), Fail> {
     let mut state = 3;
     for _ in 0..400 {
-        let case = some_case(rt.alloc(), &mut state)?;
-        assert_plain(&rt, &case)?;
+        assert_some_case(&rt, rt.alloc(), &mut state)?;
     }
     Ok(())
 }

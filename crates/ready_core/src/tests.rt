@@ -1,4 +1,4 @@
-use super::{Left, Refusal, evaluate};
+use super::{Left, Refusal, Verdicts, evaluate};
 use gate_rules::{Clause, Condition, Gate, Item, Side};
 use replica_core::Replica;
 use review_ops::{Body, Draft, Op, Stamp};
@@ -12,6 +12,28 @@ pub(super) const GATE: &str =
 
 pub(super) const CYCLES: &str =
     r#"{"allow-circular-dependencies":true,"bases":["https://review.example.org/"],"reject":{"gerrit":{"approval":[{"Code-Review":-2}]}},"require":{"gerrit":{"open":true,"current-patchset":true,"approval":[{"Workflow":1},{"Verified":[1,2],"username":"zuul"}]}}}"#;
+
+/// What comes to a review: an operation, or a look at its report.
+#[derive(Clone, Copy)]
+enum Step {
+    /// A patch set of this change with this number, whose message has a footer for each of these changes, on this parent.
+    PatchSet(u32, u32, &'static [u32], Option<u32>),
+    /// A vote on the first patch set of this change.
+    Vote(u32, &'static str, &'static str, i8),
+    /// The two approvals that the gate wants on the first patch set of this change.
+    Both(u32),
+    /// A first patch set of this change that needs these changes, with both approvals.
+    Approved(u32, &'static [u32]),
+    Merged(u32),
+    Abandon(u32),
+    Restore(u32),
+    /// Under the first gate the verdicts are these.
+    Report(&'static str),
+    /// Under the gate that allows cycles the verdicts are these.
+    CyclesReport(&'static str),
+}
+
+use Step::{Abandon, Approved, Both, CyclesReport, Merged, PatchSet, Report, Restore, Vote};
 
 /// A record whose operations come one after the other.
 #[derive(Drop)]
@@ -34,10 +56,7 @@ impl Review {
     pub(super) fn take(&mut self, draft: Draft) -> Result<(), Fail> {
         self.time = self.time.saturating_add(1);
         let stamp = Stamp::new(self.time, 1, 1, self.time).ok_or("a stamp")?;
-        let body = Body::checked(draft).map_err(|_| "a body")?;
-        self.replica
-            .take(Op::new(stamp, body))
-            .map_err(|_| "no memory")?;
+        self.replica.take(Op::new(stamp, Body::checked(draft)?))?;
         Ok(())
     }
 
@@ -61,19 +80,12 @@ impl Review {
         })
     }
 
-    fn vote(
-        &mut self,
-        change: u32,
-        set: u32,
-        label: &str,
-        voter: &str,
-        value: i8,
-    ) -> Result<(), Fail> {
+    fn vote(&mut self, change: u32, label: &str, voter: &str, value: i8) -> Result<(), Fail> {
         let label = String::from_str(self.alloc, label)?;
         let voter = String::from_str(self.alloc, voter)?;
         self.take(Draft::Vote {
             change,
-            set,
+            set: 1,
             label,
             voter,
             value,
@@ -82,8 +94,8 @@ impl Review {
 
     /// The two approvals that the gate wants on a first patch set.
     pub(super) fn both(&mut self, change: u32) -> Result<(), Fail> {
-        self.vote(change, 1, "Workflow", "ann", 1)?;
-        self.vote(change, 1, "Verified", "zuul", 1)
+        self.vote(change, "Workflow", "ann", 1)?;
+        self.vote(change, "Verified", "zuul", 1)
     }
 
     /// A first patch set that needs these changes, with both approvals.
@@ -92,47 +104,86 @@ impl Review {
         self.both(change)
     }
 
-    /// The verdicts, a line for each item; a refusal ends in its rank.
+    /// Plays one step.
+    fn step(&mut self, rt: &impl Abort, step: Step) -> Result<(), Fail> {
+        match step {
+            PatchSet(change, set, needs, parent) => self.patch_set(change, set, needs, parent),
+            Vote(change, label, voter, value) => self.vote(change, label, voter, value),
+            Both(change) => self.both(change),
+            Approved(change, needs) => self.approved(change, needs),
+            Merged(change) => self.take(Draft::Merged { change }),
+            Abandon(change) => self.take(Draft::Abandon { change }),
+            Restore(change) => self.take(Draft::Restore { change }),
+            Report(want) => assert_report(rt, self, GATE, want),
+            CyclesReport(want) => assert_report(rt, self, CYCLES, want),
+        }
+    }
+
+    /// The verdicts under the gate.
+    pub(super) fn verdicts(&self, gate: &str) -> Result<Verdicts, Fail> {
+        let gate = Gate::read(self.alloc, gate.as_bytes())?;
+        Ok(evaluate(self.alloc, &self.replica, &gate)?)
+    }
+
+    /// The verdicts under the gate as a text.
     fn report(&self, gate: &str) -> Result<String, Fail> {
-        let gate = Gate::read(self.alloc, gate.as_bytes()).map_err(|_| "a gate")?;
-        let verdicts = evaluate(self.alloc, &self.replica, &gate).map_err(|_| "no memory")?;
-        let mut text = String::new(self.alloc);
-        for item in verdicts.ready() {
-            let Item { change, set } = *item;
-            write!(text, "ready {change},{set}\n")?;
-        }
-        for left in verdicts.out() {
-            write_left(&mut text, left)?;
-        }
-        Ok(text)
+        let verdicts = self.verdicts(gate)?;
+        shown(self.alloc, &verdicts)
     }
 }
 
-fn write_left(text: &mut String, left: &Left) -> Result<(), Fail> {
-    let Item { change, set } = left.item;
-    let rank = left.rank;
-    write!(text, "out {change},{set} ")?;
-    match left.refusal {
-        Refusal::Own(condition) => write_condition(text, condition)?,
-        Refusal::Cycle => write!(text, "cycle")?,
-        Refusal::Unknown(number) => write!(text, "unknown {number}")?,
-        Refusal::Dependency(number) => write!(text, "dependency {number}")?,
+/// The verdicts as a text: a line for each item; a refusal ends in its rank.
+fn shown(alloc: Global, verdicts: &Verdicts) -> Result<String, Fail> {
+    let mut text = String::new(alloc);
+    write_ready(&mut text, verdicts.ready())?;
+    write_out(&mut text, verdicts.out())?;
+    Ok(text)
+}
+
+fn write_ready(text: &mut String, items: &[Item]) -> Result<(), Fail> {
+    for item in items {
+        let Item { change, set } = *item;
+        write!(text, "ready {change},{set}\n")?;
     }
-    write!(text, " {rank}\n")?;
     Ok(())
 }
 
+fn write_out(text: &mut String, out: &[Left]) -> Result<(), Fail> {
+    for left in out {
+        let Item { change, set } = left.item;
+        write!(text, "out {change},{set} ")?;
+        write_refusal(text, left.refusal)?;
+        let rank = left.rank;
+        write!(text, " {rank}\n")?;
+    }
+    Ok(())
+}
+
+fn write_refusal(text: &mut String, refusal: Refusal) -> Result<(), Fail> {
+    match refusal {
+        Refusal::Own(condition) => write_condition(text, condition),
+        Refusal::Cycle => Ok(text.push_str("cycle")?),
+        Refusal::Unknown(number) => write_named(text, "unknown", u64::from(number)),
+        Refusal::Dependency(number) => write_named(text, "dependency", u64::from(number)),
+    }
+}
+
 fn write_condition(text: &mut String, condition: Condition) -> Result<(), Fail> {
-    match condition.side {
-        Side::Require => write!(text, "require ")?,
-        Side::Reject => write!(text, "reject ")?,
-    }
+    text.push_str(match condition.side {
+        Side::Require => "require ",
+        Side::Reject => "reject ",
+    })?;
     match condition.clause {
-        Clause::OpenState => write!(text, "open")?,
-        Clause::CurrentSet => write!(text, "current-patchset")?,
-        Clause::StatusIn => write!(text, "status")?,
-        Clause::Approval(number) => write!(text, "approval {number}")?,
+        Clause::OpenState => Ok(text.push_str("open")?),
+        Clause::CurrentSet => Ok(text.push_str("current-patchset")?),
+        Clause::StatusIn => Ok(text.push_str("status")?),
+        Clause::Approval(number) => write_named(text, "approval", number as u64),
     }
+}
+
+/// A number after what names it.
+fn write_named(text: &mut String, name: &str, number: u64) -> Result<(), Fail> {
+    write!(text, "{name} {number}")?;
     Ok(())
 }
 
@@ -143,144 +194,182 @@ fn assert_report(rt: &impl Abort, review: &Review, gate: &str, want: &str) -> Re
     Ok(())
 }
 
+/// Plays the steps, one after the other, in a new review.
+fn play(rt: &impl Abort, alloc: Global, steps: &[Step]) -> Result<(), Fail> {
+    let mut review = Review::new(alloc);
+    for step in steps {
+        review.step(rt, *step)?;
+    }
+    Ok(())
+}
+
 #[test]
 fn nothing(rt: HostRuntime) -> Result<(), Fail> {
-    assert_report(&rt, &Review::new(rt.alloc()), GATE, "")
+    play(&rt, rt.alloc(), &[Report("")])
 }
+
+const APPROVALS: &[Step] = &[
+    Approved(101, &[]),
+    Report("ready 101,1\n"),
+    PatchSet(101, 2, &[], None),
+    Report("out 101,1 require current-patchset 0\nout 101,2 require approval 1 0\n"),
+];
 
 #[test]
 fn approvals(rt: HostRuntime) -> Result<(), Fail> {
-    let mut review = Review::new(rt.alloc());
-    review.approved(101, &[])?;
-    assert_report(&rt, &review, GATE, "ready 101,1\n")?;
-    review.patch_set(101, 2, &[], None)?;
-    let want = "out 101,1 require current-patchset 0\nout 101,2 require approval 1 0\n";
-    assert_report(&rt, &review, GATE, want)
+    play(&rt, rt.alloc(), APPROVALS)
 }
+
+const A_REJECTED_VOTE: &[Step] = &[
+    Approved(101, &[]),
+    Vote(101, "Code-Review", "bob", -2),
+    Vote(101, "Code-Review", "ann", 2),
+    Report("out 101,1 reject approval 1 0\n"),
+];
 
 #[test]
 fn a_rejected_vote(rt: HostRuntime) -> Result<(), Fail> {
-    let mut review = Review::new(rt.alloc());
-    review.approved(101, &[])?;
-    review.vote(101, 1, "Code-Review", "bob", -2)?;
-    review.vote(101, 1, "Code-Review", "ann", 2)?;
-    assert_report(&rt, &review, GATE, "out 101,1 reject approval 1 0\n")
+    play(&rt, rt.alloc(), A_REJECTED_VOTE)
 }
 
 // A merged dependency is satisfied, and a merged change isn't open, also after a restore.
+const A_MERGED_DEPENDENCY: &[Step] = &[
+    PatchSet(5, 1, &[], None),
+    Merged(5),
+    Restore(5),
+    Merged(4),
+    Approved(6, &[4, 5]),
+    Report("ready 6,1\nout 5,1 require open 0\n"),
+];
+
 #[test]
 fn a_merged_dependency(rt: HostRuntime) -> Result<(), Fail> {
-    let mut review = Review::new(rt.alloc());
-    review.patch_set(5, 1, &[], None)?;
-    review.take(Draft::Merged { change: 5 })?;
-    review.take(Draft::Restore { change: 5 })?;
-    review.take(Draft::Merged { change: 4 })?;
-    review.approved(6, &[4, 5])?;
-    assert_report(&rt, &review, GATE, "ready 6,1\nout 5,1 require open 0\n")
+    play(&rt, rt.alloc(), A_MERGED_DEPENDENCY)
 }
+
+const A_CYCLE: &[Step] = &[
+    Approved(1, &[2]),
+    Approved(2, &[1]),
+    CyclesReport("ready 1,1\nready 2,1\n"),
+    Report("out 1,1 cycle 0\nout 2,1 cycle 0\n"),
+];
 
 #[test]
 fn a_cycle(rt: HostRuntime) -> Result<(), Fail> {
-    let mut review = Review::new(rt.alloc());
-    review.approved(1, &[2])?;
-    review.approved(2, &[1])?;
-    assert_report(&rt, &review, CYCLES, "ready 1,1\nready 2,1\n")?;
-    assert_report(&rt, &review, GATE, "out 1,1 cycle 0\nout 2,1 cycle 0\n")
+    play(&rt, rt.alloc(), A_CYCLE)
 }
 
 // A cycle that waits for a change that isn't approved: the lines lead out of the cycle.
+const A_CYCLE_WITH_A_TAIL: &[Step] = &[
+    Approved(1, &[2]),
+    Approved(2, &[1, 3]),
+    PatchSet(3, 1, &[], None),
+    Vote(3, "Workflow", "ann", 1),
+    CyclesReport("out 1,1 dependency 2 2\nout 2,1 dependency 3 1\nout 3,1 require approval 2 0\n"),
+    Report("out 1,1 cycle 0\nout 2,1 cycle 0\nout 3,1 require approval 2 0\n"),
+];
+
 #[test]
 fn a_cycle_with_a_tail(rt: HostRuntime) -> Result<(), Fail> {
-    let mut review = Review::new(rt.alloc());
-    review.approved(1, &[2])?;
-    review.approved(2, &[1, 3])?;
-    review.patch_set(3, 1, &[], None)?;
-    review.vote(3, 1, "Workflow", "ann", 1)?;
-    let want = "out 1,1 dependency 2 2\nout 2,1 dependency 3 1\nout 3,1 require approval 2 0\n";
-    assert_report(&rt, &review, CYCLES, want)?;
-    let want = "out 1,1 cycle 0\nout 2,1 cycle 0\nout 3,1 require approval 2 0\n";
-    assert_report(&rt, &review, GATE, want)
+    play(&rt, rt.alloc(), A_CYCLE_WITH_A_TAIL)
 }
+
+const AN_UNKNOWN_CHANGE: &[Step] = &[
+    Both(7),
+    Approved(6, &[9, 7]),
+    Report("out 6,1 unknown 7 0\n"),
+    PatchSet(7, 1, &[], None),
+    Report("ready 7,1\nout 6,1 unknown 9 0\n"),
+    Merged(9),
+    Report("ready 6,1\nready 7,1\n"),
+];
 
 #[test]
 fn an_unknown_change(rt: HostRuntime) -> Result<(), Fail> {
-    let mut review = Review::new(rt.alloc());
-    review.both(7)?;
-    review.approved(6, &[9, 7])?;
-    assert_report(&rt, &review, GATE, "out 6,1 unknown 7 0\n")?;
-    review.patch_set(7, 1, &[], None)?;
-    assert_report(&rt, &review, GATE, "ready 7,1\nout 6,1 unknown 9 0\n")?;
-    review.take(Draft::Merged { change: 9 })?;
-    assert_report(&rt, &review, GATE, "ready 6,1\nready 7,1\n")
+    play(&rt, rt.alloc(), AN_UNKNOWN_CHANGE)
 }
 
 // A cycle is told before an unknown change, and an own condition before both.
+const THE_FIRST_CAUSE: &[Step] = &[
+    Approved(1, &[2, 9]),
+    PatchSet(2, 1, &[1, 9], None),
+    Report("out 1,1 cycle 0\nout 2,1 require approval 1 0\n"),
+    CyclesReport("out 1,1 unknown 9 0\nout 2,1 require approval 1 0\n"),
+];
+
 #[test]
 fn the_first_cause(rt: HostRuntime) -> Result<(), Fail> {
-    let mut review = Review::new(rt.alloc());
-    review.approved(1, &[2, 9])?;
-    review.patch_set(2, 1, &[1, 9], None)?;
-    let want = "out 1,1 cycle 0\nout 2,1 require approval 1 0\n";
-    assert_report(&rt, &review, GATE, want)?;
-    let want = "out 1,1 unknown 9 0\nout 2,1 require approval 1 0\n";
-    assert_report(&rt, &review, CYCLES, want)
+    play(&rt, rt.alloc(), THE_FIRST_CAUSE)
 }
+
+const AN_ABANDONED_DEPENDENCY: &[Step] = &[
+    Approved(1, &[]),
+    Abandon(1),
+    Approved(2, &[1]),
+    Report("out 1,1 require open 0\nout 2,1 dependency 1 1\n"),
+    Restore(1),
+    Report("ready 1,1\nready 2,1\n"),
+];
 
 #[test]
 fn an_abandoned_dependency(rt: HostRuntime) -> Result<(), Fail> {
-    let mut review = Review::new(rt.alloc());
-    review.approved(1, &[])?;
-    review.take(Draft::Abandon { change: 1 })?;
-    review.approved(2, &[1])?;
-    let want = "out 1,1 require open 0\nout 2,1 dependency 1 1\n";
-    assert_report(&rt, &review, GATE, want)?;
-    review.take(Draft::Restore { change: 1 })?;
-    assert_report(&rt, &review, GATE, "ready 1,1\nready 2,1\n")
+    play(&rt, rt.alloc(), AN_ABANDONED_DEPENDENCY)
 }
 
 // The change that is named begins a shortest walk, though a lesser one is left out, too.
+const THE_NEAREST_CAUSE: &[Step] = &[
+    Approved(1, &[3, 4]),
+    Approved(3, &[5]),
+    PatchSet(4, 1, &[], None),
+    PatchSet(5, 1, &[], None),
+    Report(
+        "out 1,1 dependency 4 1\nout 3,1 dependency 5 1\nout 4,1 require approval 1 0\nout 5,1 require approval 1 0\n",
+    ),
+];
+
 #[test]
 fn the_nearest_cause(rt: HostRuntime) -> Result<(), Fail> {
-    let mut review = Review::new(rt.alloc());
-    review.approved(1, &[3, 4])?;
-    review.approved(3, &[5])?;
-    review.patch_set(4, 1, &[], None)?;
-    review.patch_set(5, 1, &[], None)?;
-    let want =
-        "out 1,1 dependency 4 1\nout 3,1 dependency 5 1\nout 4,1 require approval 1 0\nout 5,1 require approval 1 0\n";
-    assert_report(&rt, &review, GATE, want)
+    play(&rt, rt.alloc(), THE_NEAREST_CAUSE)
 }
 
 // An item waits for the current patch set of its dependency, not for an older one.
+const A_NEWER_PATCH_SET: &[Step] = &[
+    Approved(1, &[]),
+    Approved(2, &[1]),
+    PatchSet(1, 2, &[], None),
+    Report(
+        "out 1,1 require current-patchset 0\nout 1,2 require approval 1 0\nout 2,1 dependency 1 1\n",
+    ),
+];
+
 #[test]
 fn a_newer_patch_set(rt: HostRuntime) -> Result<(), Fail> {
-    let mut review = Review::new(rt.alloc());
-    review.approved(1, &[])?;
-    review.approved(2, &[1])?;
-    review.patch_set(1, 2, &[], None)?;
-    let want =
-        "out 1,1 require current-patchset 0\nout 1,2 require approval 1 0\nout 2,1 dependency 1 1\n";
-    assert_report(&rt, &review, GATE, want)
+    play(&rt, rt.alloc(), A_NEWER_PATCH_SET)
 }
+
+const A_PARENT: &[Step] = &[
+    PatchSet(1, 1, &[], None),
+    PatchSet(2, 1, &[], Some(1)),
+    Both(2),
+    Report("out 1,1 require approval 1 0\nout 2,1 dependency 1 1\n"),
+    Merged(1),
+    Report("ready 2,1\nout 1,1 require open 0\n"),
+];
 
 #[test]
 fn a_parent(rt: HostRuntime) -> Result<(), Fail> {
-    let mut review = Review::new(rt.alloc());
-    review.patch_set(1, 1, &[], None)?;
-    review.patch_set(2, 1, &[], Some(1))?;
-    review.both(2)?;
-    let want = "out 1,1 require approval 1 0\nout 2,1 dependency 1 1\n";
-    assert_report(&rt, &review, GATE, want)?;
-    review.take(Draft::Merged { change: 1 })?;
-    assert_report(&rt, &review, GATE, "ready 2,1\nout 1,1 require open 0\n")
+    play(&rt, rt.alloc(), A_PARENT)
 }
+
+const AN_UNKNOWN_PARENT_AND_AN_OWN_ONE: &[Step] = &[
+    PatchSet(2, 1, &[], Some(7)),
+    PatchSet(3, 1, &[], Some(3)),
+    Both(2),
+    Both(3),
+    Report("ready 3,1\nout 2,1 unknown 7 0\n"),
+];
 
 #[test]
 fn an_unknown_parent_and_an_own_one(rt: HostRuntime) -> Result<(), Fail> {
-    let mut review = Review::new(rt.alloc());
-    review.patch_set(2, 1, &[], Some(7))?;
-    review.patch_set(3, 1, &[], Some(3))?;
-    review.both(2)?;
-    review.both(3)?;
-    assert_report(&rt, &review, GATE, "ready 3,1\nout 2,1 unknown 7 0\n")
+    play(&rt, rt.alloc(), AN_UNKNOWN_PARENT_AND_AN_OWN_ONE)
 }
