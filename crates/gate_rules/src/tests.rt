@@ -25,275 +25,367 @@ fn answer(alloc: Global, text: &[u8]) -> Result<String, Fail> {
     }
 }
 
-// Gates of the worked examples, and those at the limits of what is accepted.
-#[test]
-fn good_gates(rt: HostRuntime) -> Result<(), Fail> {
-    for text in [
-        TWO_APPROVALS,
-        r#"{"allow-circular-dependencies":true,"bases":["https://review.example.org/"],"reject":{"gerrit":{"approval":[{"Code-Review":-2}]}},"require":{"gerrit":{"open":true,"current-patchset":true,"approval":[{"Workflow":1},{"Verified":[1,2],"username":"zuul"}]}}}"#,
-        r#"{"bases":["https://r/"]}"#,
-        r#"{"bases":["https://r/"],"require":{"gerrit":{"approval":{},"status":["MERGED","NEW"]}}}"#,
-        r#"{"bases":["https://r/"],"reject":{"gerrit":{"open":false}}}"#,
-        r#"{"bases":["https://r/"],"require":{},"reject":{}}"#,
-        r#"{"bases":["https://r/"],"connection":"a b","require":{"a b":{}}}"#,
-        r#"{"bases":["https://r/"],"require":{"gerrit":{"status":"NEW"}}}"#,
-        r#"{"bases":["https://r/"],"require":{"gerrit":{"status":[]}}}"#,
-        r#"{"bases":["https://r/"],"require":{"gerrit":{"status":["x"]}}}"#,
-        r#"{"bases":["https://r/"],"require":{"gerrit":{"approval":[]}}}"#,
-        r#"{"bases":["https://r/"],"require":{"gerrit":{"approval":{}}}}"#,
-        r#"{"bases":["https://r/"],"require":{"gerrit":{"approval":{"Verified":[]}}}}"#,
-        r#"{"bases":["https://r/"],"require":{"gerrit":{"approval":{"Verified":-128,"verified":127}}}}"#,
-        r#"{"bases":["https://r/"],"require":{"gerrit":{"approval":{"aaaaaaaaaaaaaaaaaaaaaaaaaaaaaaaaaaaaaaaaaaaaaaaaaaaaaaaaaaaaaaaa":0}}}}"#,
-        r#"{"bases":["https://r/"],"require":{"gerrit":{"approval":{"Email":1}}}}"#,
-        r#"{"bases":["https://r0/","https://r1/","https://r2/","https://r3/","https://r4/","https://r5/","https://r6/","https://r7/"]}"#,
-    ] {
-        let got = answer(rt.alloc(), text.as_bytes())?;
-        assert_eq!(rt; got.as_str(), "read");
+/// Reading this text gives this answer.
+fn assert_answer(rt: &impl Abort, alloc: Global, text: &[u8], wanted: &str) -> Result<(), Fail> {
+    let got = answer(alloc, text)?;
+    assert_eq!(rt; got.as_str(), wanted);
+    Ok(())
+}
+
+/// Each of these texts is read.
+fn assert_read(rt: &impl Abort, alloc: Global, texts: &[&str]) -> Result<(), Fail> {
+    for text in texts {
+        assert_answer(rt, alloc, text.as_bytes(), "read")?;
     }
     Ok(())
 }
 
-// Each faulty gate names the first fault of the walk.
-#[test]
-fn faulty_gates(rt: HostRuntime) -> Result<(), Fail> {
-    for (text, want) in [
-        (r#"{}"#, "3 BadValue bases"),
-        (r#"["#, "1 NotJson"),
-        (r#""#, "1 NotJson"),
-        (r#"[]"#, "1 NotJson"),
-        (r#""a""#, "1 NotJson"),
-        (r#"{"bases":["https://r/"]} x"#, "1 NotJson"),
-        (
-            r#"{"bases":["https://review.example.org"]}"#,
-            "3 BadValue bases",
-        ),
-        (
-            r#"{"allow-circular-dependencies":false,"bases":["https://review.example.org/"],"reject":{"gerrit":{"approval":[{"Code-Review":-2}]}},"require":{"gerrit":{"open":true,"current-patchset":true,"approval":[{"Workflow":1,"older-than":"1d"},{"Verified":[1,2],"username":"zuul"}]}}}"#,
-            "4 Unsupported older-than",
-        ),
-        (
-            r#"{"allow-circular-dependencies":false,"bases":["https://review.example.org/"],"reject":{"gerrit":{"approval":[{"Code-Review":-2}]}},"require":{"gerrit":{"open":true,"current-patchset":true,"approval":[{"Workflow":1},{"Verified":[1,2],"username":"zuul"}]}},"trigger":{}}"#,
-            "2 UnknownKey trigger",
-        ),
-        (r#"{"bases":[]}"#, "3 BadValue bases"),
-        (r#"{"bases":"https://r/"}"#, "3 BadValue bases"),
-        (r#"{"bases":[1]}"#, "3 BadValue bases"),
-        (r#"{"bases":["https://r/",null]}"#, "3 BadValue bases"),
-        (
-            r#"{"bases":["https://r0/","https://r1/","https://r2/","https://r3/","https://r4/","https://r5/","https://r6/","https://r7/","https://r8/"]}"#,
-            "3 BadValue bases",
-        ),
-        (
-            r#"{"bases":["https://r/"],"connection":1}"#,
-            "3 BadValue connection",
-        ),
-        (
-            r#"{"bases":["https://r/"],"connection":null}"#,
-            "3 BadValue connection",
-        ),
-        (
-            r#"{"bases":["https://r/"],"allow-circular-dependencies":"true"}"#,
-            "3 BadValue allow-circular-dependencies",
-        ),
-        (
-            r#"{"allow-circular-dependencies":0}"#,
-            "3 BadValue allow-circular-dependencies",
-        ),
-        (
-            r#"{"bases":["https://r/"],"require":[]}"#,
-            "3 BadValue require",
-        ),
-        (
-            r#"{"bases":["https://r/"],"reject":true}"#,
-            "3 BadValue reject",
-        ),
-        (
-            r#"{"bases":["https://r/"],"require":{"github":{}}}"#,
-            "4 Unsupported github",
-        ),
-        (
-            r#"{"bases":["https://r/"],"connection":"g","require":{"gerrit":{}}}"#,
-            "4 Unsupported gerrit",
-        ),
-        (
-            r#"{"bases":["https://r/"],"require":{"gerrit":1}}"#,
-            "3 BadValue gerrit",
-        ),
-        (
-            r#"{"bases":["https://r/"],"require":{"gerrit":null,"a":{}}}"#,
-            "4 Unsupported a",
-        ),
-        (r#"{"Bases":["https://r/"]}"#, "2 UnknownKey Bases"),
-        (r#"{"":1}"#, "2 UnknownKey "),
-        (
-            r#"{"bases":["https://r/"],"require":{"gerrit":{"open":1}}}"#,
-            "3 BadValue open",
-        ),
-        (
-            r#"{"bases":["https://r/"],"reject":{"gerrit":{"open":null}}}"#,
-            "3 BadValue open",
-        ),
-        (
-            r#"{"bases":["https://r/"],"require":{"gerrit":{"current-patchset":"yes"}}}"#,
-            "3 BadValue current-patchset",
-        ),
-        (
-            r#"{"bases":["https://r/"],"require":{"gerrit":{"status":1}}}"#,
-            "3 BadValue status",
-        ),
-        (
-            r#"{"bases":["https://r/"],"require":{"gerrit":{"status":["NEW",1]}}}"#,
-            "3 BadValue status",
-        ),
-        (
-            r#"{"bases":["https://r/"],"require":{"gerrit":{"status":[["NEW"]]}}}"#,
-            "3 BadValue status",
-        ),
-        (
-            r#"{"bases":["https://r/"],"require":{"gerrit":{"status":{}}}}"#,
-            "3 BadValue status",
-        ),
-        (
-            r#"{"bases":["https://r/"],"require":{"gerrit":{"wip":true}}}"#,
-            "4 Unsupported wip",
-        ),
-        (
-            r#"{"bases":["https://r/"],"require":{"gerrit":{"hashtags":[]}}}"#,
-            "4 Unsupported hashtags",
-        ),
-        (
-            r#"{"bases":["https://r/"],"require":{"gerrit":{"Open":true}}}"#,
-            "2 UnknownKey Open",
-        ),
-        (
-            r#"{"bases":["https://r/"],"require":{"gerrit":{"username":"a"}}}"#,
-            "2 UnknownKey username",
-        ),
-        (
-            r#"{"bases":["https://r/"],"require":{"gerrit":{"approval":1}}}"#,
-            "3 BadValue approval",
-        ),
-        (
-            r#"{"bases":["https://r/"],"require":{"gerrit":{"approval":"x"}}}"#,
-            "3 BadValue approval",
-        ),
-        (
-            r#"{"bases":["https://r/"],"require":{"gerrit":{"approval":[1]}}}"#,
-            "3 BadValue approval",
-        ),
-        (
-            r#"{"bases":["https://r/"],"require":{"gerrit":{"approval":[[{}]]}}}"#,
-            "3 BadValue approval",
-        ),
-        (
-            r#"{"bases":["https://r/"],"require":{"gerrit":{"approval":[{},{"email":"x"}]}}}"#,
-            "4 Unsupported email",
-        ),
-        (
-            r#"{"bases":["https://r/"],"require":{"gerrit":{"approval":{"newer-than":1}}}}"#,
-            "4 Unsupported newer-than",
-        ),
-        (
-            r#"{"bases":["https://r/"],"require":{"gerrit":{"approval":{"username":1}}}}"#,
-            "3 BadValue username",
-        ),
-        (
-            r#"{"bases":["https://r/"],"require":{"gerrit":{"approval":{"username":["a"]}}}}"#,
-            "3 BadValue username",
-        ),
-        (
-            r#"{"bases":["https://r/"],"require":{"gerrit":{"approval":{"Verified":"1"}}}}"#,
-            "3 BadValue Verified",
-        ),
-        (
-            r#"{"bases":["https://r/"],"require":{"gerrit":{"approval":{"Verified":128}}}}"#,
-            "3 BadValue Verified",
-        ),
-        (
-            r#"{"bases":["https://r/"],"require":{"gerrit":{"approval":{"Verified":-129}}}}"#,
-            "3 BadValue Verified",
-        ),
-        (
-            r#"{"bases":["https://r/"],"require":{"gerrit":{"approval":{"Verified":1.0}}}}"#,
-            "3 BadValue Verified",
-        ),
-        (
-            r#"{"bases":["https://r/"],"require":{"gerrit":{"approval":{"Verified":[1,true]}}}}"#,
-            "3 BadValue Verified",
-        ),
-        (
-            r#"{"bases":["https://r/"],"require":{"gerrit":{"approval":{"Verified":[[1]]}}}}"#,
-            "3 BadValue Verified",
-        ),
-        (
-            r#"{"bases":["https://r/"],"require":{"gerrit":{"approval":{"Verified":null}}}}"#,
-            "3 BadValue Verified",
-        ),
-        (
-            r#"{"bases":["https://r/"],"require":{"gerrit":{"approval":{"a_b":1}}}}"#,
-            "2 UnknownKey a_b",
-        ),
-        (
-            r#"{"bases":["https://r/"],"require":{"gerrit":{"approval":{"":1}}}}"#,
-            "2 UnknownKey ",
-        ),
-        (
-            r#"{"bases":["https://r/"],"require":{"gerrit":{"approval":{"aaaaaaaaaaaaaaaaaaaaaaaaaaaaaaaaaaaaaaaaaaaaaaaaaaaaaaaaaaaaaaaaa":1}}}}"#,
-            "2 UnknownKey aaaaaaaaaaaaaaaaaaaaaaaaaaaaaaaaaaaaaaaaaaaaaaaaaaaaaaaaaaaaaaaaa",
-        ),
-        (
-            r#"{"bases":[],"zeta":1,"connection":2}"#,
-            "3 BadValue bases",
-        ),
-        (r#"{"zeta":1,"connection":2}"#, "3 BadValue connection"),
-        (r#"{"zeta":1}"#, "2 UnknownKey zeta"),
-        (
-            r#"{"bases":["https://r/"],"require":{"gerrit":{"open":1}},"reject":{"gerrit":{"wip":1}}}"#,
-            "4 Unsupported wip",
-        ),
-        (
-            r#"{"bases":["https://r/"],"require":{"gerrit":{"approval":[{"b":true,"a":"x"},5]}}}"#,
-            "3 BadValue a",
-        ),
-        (
-            r#"{"bases":["https://r/"],"require":{"gerrit":{"status":5,"approval":[{"email":1}]}}}"#,
-            "4 Unsupported email",
-        ),
-        (r#"{"require":{"gerrit":{"open":1}}}"#, "3 BadValue open"),
-        (
-            r#"{"require":{"gerrit":{"open":true}}}"#,
-            "3 BadValue bases",
-        ),
-    ] {
-        let got = answer(rt.alloc(), text.as_bytes())?;
-        assert_eq!(rt; got.as_str(), want);
+/// Reading each of these texts gives the answer beside it.
+fn assert_answers(rt: &impl Abort, alloc: Global, rows: &[(&str, &str)]) -> Result<(), Fail> {
+    for (text, wanted) in rows {
+        assert_answer(rt, alloc, text.as_bytes(), wanted)?;
     }
-    the_first_fault_is_found();
-    let got = answer(rt.alloc(), &[123, 255, 125])?;
-    assert_eq!(rt; got.as_str(), "1 NotJson");
     Ok(())
+}
+
+/// Gates of the worked examples, and those at the limits of what is accepted.
+const GOOD_GATES: &[&str] = &[
+    TWO_APPROVALS,
+    r#"{"allow-circular-dependencies":true,"bases":["https://review.example.org/"],"reject":{"gerrit":{"approval":[{"Code-Review":-2}]}},"require":{"gerrit":{"open":true,"current-patchset":true,"approval":[{"Workflow":1},{"Verified":[1,2],"username":"zuul"}]}}}"#,
+    r#"{"bases":["https://r/"]}"#,
+    r#"{"bases":["https://r/"],"require":{"gerrit":{"approval":{},"status":["MERGED","NEW"]}}}"#,
+    r#"{"bases":["https://r/"],"reject":{"gerrit":{"open":false}}}"#,
+    r#"{"bases":["https://r/"],"require":{},"reject":{}}"#,
+    r#"{"bases":["https://r/"],"connection":"a b","require":{"a b":{}}}"#,
+    r#"{"bases":["https://r/"],"require":{"gerrit":{"status":"NEW"}}}"#,
+    r#"{"bases":["https://r/"],"require":{"gerrit":{"status":[]}}}"#,
+    r#"{"bases":["https://r/"],"require":{"gerrit":{"status":["x"]}}}"#,
+    r#"{"bases":["https://r/"],"require":{"gerrit":{"approval":[]}}}"#,
+    r#"{"bases":["https://r/"],"require":{"gerrit":{"approval":{}}}}"#,
+    r#"{"bases":["https://r/"],"require":{"gerrit":{"approval":{"Verified":[]}}}}"#,
+    r#"{"bases":["https://r/"],"require":{"gerrit":{"approval":{"Verified":-128,"verified":127}}}}"#,
+    r#"{"bases":["https://r/"],"require":{"gerrit":{"approval":{"aaaaaaaaaaaaaaaaaaaaaaaaaaaaaaaaaaaaaaaaaaaaaaaaaaaaaaaaaaaaaaaa":0}}}}"#,
+    r#"{"bases":["https://r/"],"require":{"gerrit":{"approval":{"Email":1}}}}"#,
+    r#"{"bases":["https://r0/","https://r1/","https://r2/","https://r3/","https://r4/","https://r5/","https://r6/","https://r7/"]}"#,
+];
+
+#[test]
+fn good_gates(rt: HostRuntime) -> Result<(), Fail> {
+    assert_read(&rt, rt.alloc(), GOOD_GATES)
+}
+
+// Each faulty gate names the first fault of the walk.
+
+/// Texts that are no gate, and worked examples with a fault.
+const FAULTY_TEXTS: &[(&str, &str)] = &[
+    (r#"{}"#, "3 BadValue bases"),
+    (r#"["#, "1 NotJson"),
+    (r#""#, "1 NotJson"),
+    (r#"[]"#, "1 NotJson"),
+    (r#""a""#, "1 NotJson"),
+    (r#"{"bases":["https://r/"]} x"#, "1 NotJson"),
+    (
+        r#"{"bases":["https://review.example.org"]}"#,
+        "3 BadValue bases",
+    ),
+    (
+        r#"{"allow-circular-dependencies":false,"bases":["https://review.example.org/"],"reject":{"gerrit":{"approval":[{"Code-Review":-2}]}},"require":{"gerrit":{"open":true,"current-patchset":true,"approval":[{"Workflow":1,"older-than":"1d"},{"Verified":[1,2],"username":"zuul"}]}}}"#,
+        "4 Unsupported older-than",
+    ),
+    (
+        r#"{"allow-circular-dependencies":false,"bases":["https://review.example.org/"],"reject":{"gerrit":{"approval":[{"Code-Review":-2}]}},"require":{"gerrit":{"open":true,"current-patchset":true,"approval":[{"Workflow":1},{"Verified":[1,2],"username":"zuul"}]}},"trigger":{}}"#,
+        "2 UnknownKey trigger",
+    ),
+];
+
+#[test]
+fn faulty_texts(rt: HostRuntime) -> Result<(), Fail> {
+    assert_answers(&rt, rt.alloc(), FAULTY_TEXTS)
+}
+
+/// Faulty bases, connections and words on cycles.
+const FAULTY_SETTINGS: &[(&str, &str)] = &[
+    (r#"{"bases":[]}"#, "3 BadValue bases"),
+    (r#"{"bases":"https://r/"}"#, "3 BadValue bases"),
+    (r#"{"bases":[1]}"#, "3 BadValue bases"),
+    (r#"{"bases":["https://r/",null]}"#, "3 BadValue bases"),
+    (
+        r#"{"bases":["https://r0/","https://r1/","https://r2/","https://r3/","https://r4/","https://r5/","https://r6/","https://r7/","https://r8/"]}"#,
+        "3 BadValue bases",
+    ),
+    (
+        r#"{"bases":["https://r/"],"connection":1}"#,
+        "3 BadValue connection",
+    ),
+    (
+        r#"{"bases":["https://r/"],"connection":null}"#,
+        "3 BadValue connection",
+    ),
+    (
+        r#"{"bases":["https://r/"],"allow-circular-dependencies":"true"}"#,
+        "3 BadValue allow-circular-dependencies",
+    ),
+    (
+        r#"{"allow-circular-dependencies":0}"#,
+        "3 BadValue allow-circular-dependencies",
+    ),
+];
+
+#[test]
+fn faulty_settings(rt: HostRuntime) -> Result<(), Fail> {
+    assert_answers(&rt, rt.alloc(), FAULTY_SETTINGS)
+}
+
+/// Faults of what is required or rejected, and unknown keys.
+const FAULTY_SIDES: &[(&str, &str)] = &[
+    (
+        r#"{"bases":["https://r/"],"require":[]}"#,
+        "3 BadValue require",
+    ),
+    (
+        r#"{"bases":["https://r/"],"reject":true}"#,
+        "3 BadValue reject",
+    ),
+    (
+        r#"{"bases":["https://r/"],"require":{"github":{}}}"#,
+        "4 Unsupported github",
+    ),
+    (
+        r#"{"bases":["https://r/"],"connection":"g","require":{"gerrit":{}}}"#,
+        "4 Unsupported gerrit",
+    ),
+    (
+        r#"{"bases":["https://r/"],"require":{"gerrit":1}}"#,
+        "3 BadValue gerrit",
+    ),
+    (
+        r#"{"bases":["https://r/"],"require":{"gerrit":null,"a":{}}}"#,
+        "4 Unsupported a",
+    ),
+    (r#"{"Bases":["https://r/"]}"#, "2 UnknownKey Bases"),
+    (r#"{"":1}"#, "2 UnknownKey "),
+];
+
+#[test]
+fn faulty_sides(rt: HostRuntime) -> Result<(), Fail> {
+    assert_answers(&rt, rt.alloc(), FAULTY_SIDES)
+}
+
+/// Faulty clauses other than approvals.
+const FAULTY_CLAUSES: &[(&str, &str)] = &[
+    (
+        r#"{"bases":["https://r/"],"require":{"gerrit":{"open":1}}}"#,
+        "3 BadValue open",
+    ),
+    (
+        r#"{"bases":["https://r/"],"reject":{"gerrit":{"open":null}}}"#,
+        "3 BadValue open",
+    ),
+    (
+        r#"{"bases":["https://r/"],"require":{"gerrit":{"current-patchset":"yes"}}}"#,
+        "3 BadValue current-patchset",
+    ),
+    (
+        r#"{"bases":["https://r/"],"require":{"gerrit":{"status":1}}}"#,
+        "3 BadValue status",
+    ),
+    (
+        r#"{"bases":["https://r/"],"require":{"gerrit":{"status":["NEW",1]}}}"#,
+        "3 BadValue status",
+    ),
+    (
+        r#"{"bases":["https://r/"],"require":{"gerrit":{"status":[["NEW"]]}}}"#,
+        "3 BadValue status",
+    ),
+    (
+        r#"{"bases":["https://r/"],"require":{"gerrit":{"status":{}}}}"#,
+        "3 BadValue status",
+    ),
+    (
+        r#"{"bases":["https://r/"],"require":{"gerrit":{"wip":true}}}"#,
+        "4 Unsupported wip",
+    ),
+    (
+        r#"{"bases":["https://r/"],"require":{"gerrit":{"hashtags":[]}}}"#,
+        "4 Unsupported hashtags",
+    ),
+    (
+        r#"{"bases":["https://r/"],"require":{"gerrit":{"Open":true}}}"#,
+        "2 UnknownKey Open",
+    ),
+    (
+        r#"{"bases":["https://r/"],"require":{"gerrit":{"username":"a"}}}"#,
+        "2 UnknownKey username",
+    ),
+];
+
+#[test]
+fn faulty_clauses(rt: HostRuntime) -> Result<(), Fail> {
+    assert_answers(&rt, rt.alloc(), FAULTY_CLAUSES)
+}
+
+/// Faulty approvals.
+const FAULTY_APPROVALS: &[(&str, &str)] = &[
+    (
+        r#"{"bases":["https://r/"],"require":{"gerrit":{"approval":1}}}"#,
+        "3 BadValue approval",
+    ),
+    (
+        r#"{"bases":["https://r/"],"require":{"gerrit":{"approval":"x"}}}"#,
+        "3 BadValue approval",
+    ),
+    (
+        r#"{"bases":["https://r/"],"require":{"gerrit":{"approval":[1]}}}"#,
+        "3 BadValue approval",
+    ),
+    (
+        r#"{"bases":["https://r/"],"require":{"gerrit":{"approval":[[{}]]}}}"#,
+        "3 BadValue approval",
+    ),
+    (
+        r#"{"bases":["https://r/"],"require":{"gerrit":{"approval":[{},{"email":"x"}]}}}"#,
+        "4 Unsupported email",
+    ),
+    (
+        r#"{"bases":["https://r/"],"require":{"gerrit":{"approval":{"newer-than":1}}}}"#,
+        "4 Unsupported newer-than",
+    ),
+    (
+        r#"{"bases":["https://r/"],"require":{"gerrit":{"approval":{"username":1}}}}"#,
+        "3 BadValue username",
+    ),
+    (
+        r#"{"bases":["https://r/"],"require":{"gerrit":{"approval":{"username":["a"]}}}}"#,
+        "3 BadValue username",
+    ),
+];
+
+#[test]
+fn faulty_approvals(rt: HostRuntime) -> Result<(), Fail> {
+    assert_answers(&rt, rt.alloc(), FAULTY_APPROVALS)
+}
+
+/// Faulty labels and votes in approvals.
+const FAULTY_VOTES: &[(&str, &str)] = &[
+    (
+        r#"{"bases":["https://r/"],"require":{"gerrit":{"approval":{"Verified":"1"}}}}"#,
+        "3 BadValue Verified",
+    ),
+    (
+        r#"{"bases":["https://r/"],"require":{"gerrit":{"approval":{"Verified":128}}}}"#,
+        "3 BadValue Verified",
+    ),
+    (
+        r#"{"bases":["https://r/"],"require":{"gerrit":{"approval":{"Verified":-129}}}}"#,
+        "3 BadValue Verified",
+    ),
+    (
+        r#"{"bases":["https://r/"],"require":{"gerrit":{"approval":{"Verified":1.0}}}}"#,
+        "3 BadValue Verified",
+    ),
+    (
+        r#"{"bases":["https://r/"],"require":{"gerrit":{"approval":{"Verified":[1,true]}}}}"#,
+        "3 BadValue Verified",
+    ),
+    (
+        r#"{"bases":["https://r/"],"require":{"gerrit":{"approval":{"Verified":[[1]]}}}}"#,
+        "3 BadValue Verified",
+    ),
+    (
+        r#"{"bases":["https://r/"],"require":{"gerrit":{"approval":{"Verified":null}}}}"#,
+        "3 BadValue Verified",
+    ),
+    (
+        r#"{"bases":["https://r/"],"require":{"gerrit":{"approval":{"a_b":1}}}}"#,
+        "2 UnknownKey a_b",
+    ),
+    (
+        r#"{"bases":["https://r/"],"require":{"gerrit":{"approval":{"":1}}}}"#,
+        "2 UnknownKey ",
+    ),
+    (
+        r#"{"bases":["https://r/"],"require":{"gerrit":{"approval":{"aaaaaaaaaaaaaaaaaaaaaaaaaaaaaaaaaaaaaaaaaaaaaaaaaaaaaaaaaaaaaaaaa":1}}}}"#,
+        "2 UnknownKey aaaaaaaaaaaaaaaaaaaaaaaaaaaaaaaaaaaaaaaaaaaaaaaaaaaaaaaaaaaaaaaaa",
+    ),
+];
+
+#[test]
+fn faulty_votes(rt: HostRuntime) -> Result<(), Fail> {
+    assert_answers(&rt, rt.alloc(), FAULTY_VOTES)
+}
+
+/// Gates with several faults: the first one of the walk is named.
+const FIRST_FAULTS: &[(&str, &str)] = &[
+    (
+        r#"{"bases":[],"zeta":1,"connection":2}"#,
+        "3 BadValue bases",
+    ),
+    (r#"{"zeta":1,"connection":2}"#, "3 BadValue connection"),
+    (r#"{"zeta":1}"#, "2 UnknownKey zeta"),
+    (
+        r#"{"bases":["https://r/"],"require":{"gerrit":{"open":1}},"reject":{"gerrit":{"wip":1}}}"#,
+        "4 Unsupported wip",
+    ),
+    (
+        r#"{"bases":["https://r/"],"require":{"gerrit":{"approval":[{"b":true,"a":"x"},5]}}}"#,
+        "3 BadValue a",
+    ),
+    (
+        r#"{"bases":["https://r/"],"require":{"gerrit":{"status":5,"approval":[{"email":1}]}}}"#,
+        "4 Unsupported email",
+    ),
+    (r#"{"require":{"gerrit":{"open":1}}}"#, "3 BadValue open"),
+    (
+        r#"{"require":{"gerrit":{"open":true}}}"#,
+        "3 BadValue bases",
+    ),
+];
+
+#[test]
+fn first_faults(rt: HostRuntime) -> Result<(), Fail> {
+    assert_answers(&rt, rt.alloc(), FIRST_FAULTS)
+}
+
+#[test]
+fn faults_have_a_law(rt: HostRuntime) {
+    let _alloc = rt.alloc();
+    the_first_fault_is_found();
+}
+
+// Bytes that are no text.
+#[test]
+fn a_gate_that_is_no_text(rt: HostRuntime) -> Result<(), Fail> {
+    assert_answer(&rt, rt.alloc(), &[123, 255, 125], "1 NotJson")
 }
 
 // A copy has the settings of the gate.
 #[test]
 fn copies(rt: HostRuntime) -> Result<(), Fail> {
-    let text =
-        r#"{"allow-circular-dependencies":true,"bases":["https://review.example.org/"],"reject":{"gerrit":{"approval":[{"Code-Review":-2}]}},"require":{"gerrit":{"open":true,"current-patchset":true,"approval":[{"Workflow":1},{"Verified":[1,2],"username":"zuul"}]}}}"#;
-    let gate = Gate::read(rt.alloc(), text.as_bytes()).map_err(|_| "the gate isn't read")?;
-    let copy = gate.copy(rt.alloc())?;
-    for gate in [&gate, &copy] {
-        assert!(rt; gate.cycles());
-        assert_eq!(rt; gate.bases().get(0), Some("https://review.example.org/"));
-    }
+    let gate = Gate::read(rt.alloc(), CYCLES_GATE.as_bytes())?;
+    assert_settings(&rt, &gate);
+    assert_copied(&rt, rt.alloc(), &gate)
+}
+
+/// A copy has the settings of the gate.
+fn assert_copied(rt: &impl Abort, alloc: Global, gate: &Gate) -> Result<(), Fail> {
+    let copy = gate.copy(alloc)?;
+    assert_settings(rt, &copy);
     Ok(())
 }
 
-/// What a test lacks where memory is refused that it counts on.
-const MEMORY: &str = "memory";
+/// The gate allows cycles, and has the base of the examples.
+fn assert_settings(rt: &impl Abort, gate: &Gate) {
+    assert!(rt; gate.cycles());
+    assert_eq!(rt; gate.bases().get(0), Some("https://review.example.org/"));
+}
 
 /// The gate of the first worked examples.
 const TWO_APPROVALS: &str =
     r#"{"allow-circular-dependencies":false,"bases":["https://review.example.org/"],"reject":{"gerrit":{"approval":[{"Code-Review":-2}]}},"require":{"gerrit":{"open":true,"current-patchset":true,"approval":[{"Workflow":1},{"Verified":[1,2],"username":"zuul"}]}}}"#;
+
+/// The same gate, but that it lets items on a cycle in.
+const CYCLES_GATE: &str =
+    r#"{"allow-circular-dependencies":true,"bases":["https://review.example.org/"],"reject":{"gerrit":{"approval":[{"Code-Review":-2}]}},"require":{"gerrit":{"open":true,"current-patchset":true,"approval":[{"Workflow":1},{"Verified":[1,2],"username":"zuul"}]}}}"#;
 
 /// A gate that wants any approval and a status.
 const ANY_APPROVAL: &str =
@@ -310,54 +402,52 @@ const NOT_NEW: &str =
 const NOT_BY_BOB: &str =
     r#"{"bases":["https://r/"],"reject":{"gerrit":{"approval":[{"a":1,"A":1},{"b":0},{"a":[]},{"username":"Bob"},{"username":"bob"}]}}}"#;
 
+/// What comes to a record of change 101: an operation at a time, or a look at an own condition.
+#[derive(Clone, Copy)]
+enum Step {
+    /// At this time a patch set with this number.
+    PatchSet(u64, u32),
+    /// At this time a vote on the first patch set, by label, voter and value.
+    Vote(u64, &'static str, &'static str, i8),
+    Abandon(u64),
+    Merged(u64),
+    /// Under this gate the patch set with this number has this own condition.
+    Own(&'static str, u32, &'static str),
+}
+
+use Step::{Abandon, Merged, Own, PatchSet, Vote};
+
 /// Takes a body with the time and sequence number `time`, of site 1 under start 1.
 fn take(replica: &mut Replica, time: u64, draft: Draft) -> Result<(), Fail> {
     let stamp = Stamp::new(time, 1, 1, time).ok_or("a stamp")?;
-    let body = Body::checked(draft).map_err(|_| "a body")?;
-    replica.take(Op::new(stamp, body)).map_err(|_| MEMORY)?;
+    replica.take(Op::new(stamp, Body::checked(draft)?))?;
     Ok(())
 }
 
-fn patch_set(alloc: Global, replica: &mut Replica, time: u64, set: u32) -> Result<(), Fail> {
+fn patch_set(alloc: Global, set: u32) -> Result<Draft, Fail> {
     let message = String::from_str(alloc, "m")?;
-    take(
-        replica,
-        time,
-        Draft::PatchSet {
-            change: 101,
-            set,
-            message,
-            parent: None,
-        },
-    )
+    Ok(Draft::PatchSet {
+        change: 101,
+        set,
+        message,
+        parent: None,
+    })
 }
 
-fn vote(
-    alloc: Global,
-    replica: &mut Replica,
-    time: u64,
-    label: &str,
-    voter: &str,
-    value: i8,
-) -> Result<(), Fail> {
+fn vote(alloc: Global, label: &str, voter: &str, value: i8) -> Result<Draft, Fail> {
     let label = String::from_str(alloc, label)?;
     let voter = String::from_str(alloc, voter)?;
-    take(
-        replica,
-        time,
-        Draft::Vote {
-            change: 101,
-            set: 1,
-            label,
-            voter,
-            value,
-        },
-    )
+    Ok(Draft::Vote {
+        change: 101,
+        set: 1,
+        label,
+        voter,
+        value,
+    })
 }
 
-/// The own condition of a patch set under the gate that a text spells, as reports print it.
-fn own(alloc: Global, text: &str, replica: &Replica, set: u32) -> Result<String, Fail> {
-    let gate = Gate::read(alloc, text.as_bytes()).map_err(|_| "the gate isn't read")?;
+/// The own condition of a patch set under the gate, as reports print it.
+fn own(alloc: Global, gate: &Gate, replica: &Replica, set: u32) -> Result<String, Fail> {
     let Some(change) = replica.change(101) else {
         return Ok(String::from_str(alloc, "no change")?);
     };
@@ -369,6 +459,12 @@ fn own(alloc: Global, text: &str, replica: &Replica, set: u32) -> Result<String,
         Some(condition) => printed(alloc, condition),
         None => Ok(String::from_str(alloc, "none")?),
     }
+}
+
+/// The own condition of a patch set under the gate that a text spells, as reports print it.
+fn own_under(alloc: Global, text: &str, replica: &Replica, set: u32) -> Result<String, Fail> {
+    let gate = Gate::read(alloc, text.as_bytes())?;
+    own(alloc, &gate, replica, set)
 }
 
 fn printed(alloc: Global, condition: Condition) -> Result<String, Fail> {
@@ -384,100 +480,129 @@ fn printed(alloc: Global, condition: Condition) -> Result<String, Fail> {
     }
 }
 
-fn assert_own(
-    rt: &(impl Abort + AllocGlobal),
-    text: &str,
-    replica: &Replica,
-    set: u32,
-    wanted: &str,
+/// Plays one step.
+fn play_step(
+    rt: &impl Abort,
+    alloc: Global,
+    replica: &mut Replica,
+    step: Step,
 ) -> Result<(), Fail> {
-    let got = own(rt.alloc(), text, replica, set)?;
-    assert_eq!(rt; got.as_str(), wanted);
+    match step {
+        PatchSet(time, set) => take(replica, time, patch_set(alloc, set)?),
+        Vote(time, label, voter, value) => take(replica, time, vote(alloc, label, voter, value)?),
+        Abandon(time) => take(replica, time, Draft::Abandon { change: 101 }),
+        Merged(time) => take(replica, time, Draft::Merged { change: 101 }),
+        Own(gate, set, wanted) => {
+            let got = own_under(alloc, gate, replica, set)?;
+            assert_eq!(rt; got.as_str(), wanted);
+            Ok(())
+        }
+    }
+}
+
+/// Plays the steps, one after the other, in a new record.
+fn play(rt: &impl Abort, alloc: Global, steps: &[Step]) -> Result<(), Fail> {
+    let mut replica = Replica::new(alloc);
+    for step in steps {
+        play_step(rt, alloc, &mut replica, *step)?;
+    }
     Ok(())
 }
 
 // Two approvals make an item ready; one of them by another voter doesn't, nor do they once another patch set is current.
+const BOTH_APPROVALS: &[Step] = &[
+    PatchSet(1, 1),
+    Vote(2, "Workflow", "ann", 1),
+    Own(TWO_APPROVALS, 1, "require approval 2"),
+    Vote(3, "Verified", "ann", 1),
+    Own(TWO_APPROVALS, 1, "require approval 2"),
+    Vote(4, "Verified", "zuul", 1),
+    Own(TWO_APPROVALS, 1, "none"),
+    PatchSet(5, 2),
+    Own(TWO_APPROVALS, 1, "require current-patchset"),
+    Own(TWO_APPROVALS, 2, "require approval 1"),
+    Own(TWO_APPROVALS, 3, "no item"),
+];
+
 #[test]
 fn both_approvals_on_the_current_patch_set(rt: HostRuntime) -> Result<(), Fail> {
-    let alloc = rt.alloc();
-    let mut replica = Replica::new(alloc);
-    patch_set(alloc, &mut replica, 1, 1)?;
-    vote(alloc, &mut replica, 2, "Workflow", "ann", 1)?;
-    assert_own(&rt, TWO_APPROVALS, &replica, 1, "require approval 2")?;
-    vote(alloc, &mut replica, 3, "Verified", "ann", 1)?;
-    assert_own(&rt, TWO_APPROVALS, &replica, 1, "require approval 2")?;
-    vote(alloc, &mut replica, 4, "Verified", "zuul", 1)?;
-    assert_own(&rt, TWO_APPROVALS, &replica, 1, "none")?;
-    patch_set(alloc, &mut replica, 5, 2)?;
-    assert_own(&rt, TWO_APPROVALS, &replica, 1, "require current-patchset")?;
-    assert_own(&rt, TWO_APPROVALS, &replica, 2, "require approval 1")?;
-    assert_own(&rt, TWO_APPROVALS, &replica, 3, "no item")
+    play(&rt, rt.alloc(), BOTH_APPROVALS)
 }
 
 // A rejected score leaves an item out, whoever else votes.
+const A_REJECTED_SCORE: &[Step] = &[
+    PatchSet(1, 1),
+    Vote(2, "Workflow", "ann", 1),
+    Vote(3, "Verified", "zuul", 1),
+    Vote(4, "Code-Review", "bob", -2),
+    Vote(5, "Code-Review", "ann", 2),
+    Own(TWO_APPROVALS, 1, "reject approval 1"),
+];
+
 #[test]
 fn a_rejected_score(rt: HostRuntime) -> Result<(), Fail> {
-    let alloc = rt.alloc();
-    let mut replica = Replica::new(alloc);
-    patch_set(alloc, &mut replica, 1, 1)?;
-    vote(alloc, &mut replica, 2, "Workflow", "ann", 1)?;
-    vote(alloc, &mut replica, 3, "Verified", "zuul", 1)?;
-    vote(alloc, &mut replica, 4, "Code-Review", "bob", -2)?;
-    vote(alloc, &mut replica, 5, "Code-Review", "ann", 2)?;
-    assert_own(&rt, TWO_APPROVALS, &replica, 1, "reject approval 1")
+    play(&rt, rt.alloc(), A_REJECTED_SCORE)
 }
 
 // A vote of 0 takes an approval back.
+const A_VOTE_OF_0: &[Step] = &[
+    PatchSet(1, 1),
+    Vote(5, "Workflow", "ann", 1),
+    Own(TWO_APPROVALS, 1, "require approval 2"),
+    Own(ANY_APPROVAL, 1, "none"),
+    Vote(6, "Workflow", "ann", 0),
+    Own(TWO_APPROVALS, 1, "require approval 1"),
+    Own(ANY_APPROVAL, 1, "require approval 1"),
+];
+
 #[test]
 fn a_vote_of_0(rt: HostRuntime) -> Result<(), Fail> {
-    let alloc = rt.alloc();
-    let mut replica = Replica::new(alloc);
-    patch_set(alloc, &mut replica, 1, 1)?;
-    vote(alloc, &mut replica, 5, "Workflow", "ann", 1)?;
-    assert_own(&rt, TWO_APPROVALS, &replica, 1, "require approval 2")?;
-    assert_own(&rt, ANY_APPROVAL, &replica, 1, "none")?;
-    vote(alloc, &mut replica, 6, "Workflow", "ann", 0)?;
-    assert_own(&rt, TWO_APPROVALS, &replica, 1, "require approval 1")?;
-    assert_own(&rt, ANY_APPROVAL, &replica, 1, "require approval 1")
+    play(&rt, rt.alloc(), A_VOTE_OF_0)
 }
 
 // The empty approval takes any score; a status counts before it, and so does what is required before what is rejected.
+const ANY_SCORE_AND_A_STATUS: &[Step] = &[
+    PatchSet(1, 1),
+    Own(ANY_APPROVAL, 1, "require approval 1"),
+    Vote(2, "x", "bob", -1),
+    Own(ANY_APPROVAL, 1, "none"),
+    Own(NOT_CLOSED, 1, "none"),
+    Abandon(3),
+    Own(ANY_APPROVAL, 1, "require status"),
+    Own(NOT_CLOSED, 1, "reject open"),
+];
+
 #[test]
 fn any_score_and_a_status(rt: HostRuntime) -> Result<(), Fail> {
-    let alloc = rt.alloc();
-    let mut replica = Replica::new(alloc);
-    patch_set(alloc, &mut replica, 1, 1)?;
-    assert_own(&rt, ANY_APPROVAL, &replica, 1, "require approval 1")?;
-    vote(alloc, &mut replica, 2, "x", "bob", -1)?;
-    assert_own(&rt, ANY_APPROVAL, &replica, 1, "none")?;
-    assert_own(&rt, NOT_CLOSED, &replica, 1, "none")?;
-    take(&mut replica, 3, Draft::Abandon { change: 101 })?;
-    assert_own(&rt, ANY_APPROVAL, &replica, 1, "require status")?;
-    assert_own(&rt, NOT_CLOSED, &replica, 1, "reject open")
+    play(&rt, rt.alloc(), ANY_SCORE_AND_A_STATUS)
 }
 
 // The current patch set counts before the status, and votes on another one don't count.
+const WHAT_IS_REJECTED_IN_ITS_ORDER: &[Step] = &[
+    PatchSet(1, 1),
+    Own(NOT_NEW, 1, "reject current-patchset"),
+    PatchSet(4, 2),
+    Own(NOT_NEW, 1, "reject status"),
+    Merged(5),
+    Own(NOT_NEW, 1, "none"),
+    Own(NOT_NEW, 2, "reject current-patchset"),
+];
+
 #[test]
 fn what_is_rejected_in_its_order(rt: HostRuntime) -> Result<(), Fail> {
-    let alloc = rt.alloc();
-    let mut replica = Replica::new(alloc);
-    patch_set(alloc, &mut replica, 1, 1)?;
-    assert_own(&rt, NOT_NEW, &replica, 1, "reject current-patchset")?;
-    patch_set(alloc, &mut replica, 4, 2)?;
-    assert_own(&rt, NOT_NEW, &replica, 1, "reject status")?;
-    take(&mut replica, 5, Draft::Merged { change: 101 })?;
-    assert_own(&rt, NOT_NEW, &replica, 1, "none")?;
-    assert_own(&rt, NOT_NEW, &replica, 2, "reject current-patchset")
+    play(&rt, rt.alloc(), WHAT_IS_REJECTED_IN_ITS_ORDER)
 }
 
 // Two label keys, a value of 0, an empty list and another spelling of the voter match nothing.
+const PATTERNS_THAT_MATCH_NOTHING: &[Step] = &[
+    PatchSet(1, 1),
+    Vote(2, "a", "bob", 1),
+    Own(NOT_BY_BOB, 1, "reject approval 5"),
+    PatchSet(3, 2),
+    Own(NOT_BY_BOB, 1, "none"),
+];
+
 #[test]
 fn patterns_that_match_nothing(rt: HostRuntime) -> Result<(), Fail> {
-    let alloc = rt.alloc();
-    let mut replica = Replica::new(alloc);
-    patch_set(alloc, &mut replica, 1, 1)?;
-    vote(alloc, &mut replica, 2, "a", "bob", 1)?;
-    assert_own(&rt, NOT_BY_BOB, &replica, 1, "reject approval 5")?;
-    patch_set(alloc, &mut replica, 3, 2)?;
-    assert_own(&rt, NOT_BY_BOB, &replica, 1, "none")
+    play(&rt, rt.alloc(), PATTERNS_THAT_MATCH_NOTHING)
 }
