@@ -7,7 +7,9 @@ use super::{
 use byte_ends::{Broken, Ends, Failed};
 use gate_rules::{Clause, Condition, Gate, Item, Side};
 use ready_core::{Left, Refusal, Verdicts, evaluate};
+use replica_core::Replica;
 use std::alloc::Global;
+use std::process::Abort;
 use std::test::Fail;
 
 /// A gate that wants open changes, and a record in which change 3 isn't known and change 5 is abandoned.
@@ -30,11 +32,16 @@ const RECORD: &str = concat!(
 const REPORT: &str =
     "ready 1,1\nout 2,1 unknown 3\nout 4,1 dependency 2\nout 5,1 require open\nend 1 3\n";
 
+/// The verdicts of a replica under the gate.
+fn verdicts_of(alloc: Global, replica: &Replica) -> Result<Verdicts, Fail> {
+    let gate = Gate::read(alloc, GATE.as_bytes())?;
+    Ok(evaluate(alloc, replica, &gate)?)
+}
+
 /// The verdicts of the record under the gate.
 fn verdicts(alloc: Global) -> Result<Verdicts, Fail> {
     let replica = snapshot_of(alloc, RECORD.as_bytes())?;
-    let gate = Gate::read(alloc, GATE.as_bytes())?;
-    Ok(evaluate(alloc, &replica, &gate)?)
+    verdicts_of(alloc, &replica)
 }
 
 /// An item.
@@ -49,38 +56,37 @@ const LONGEST: Item = Item {
     set: u32::MAX,
 };
 
-/// The line of an item that is ready.
-fn ready_line(item: Item) -> Page {
+/// The line of this item, which is ready, is this text.
+fn assert_ready_line(rt: &impl Abort, item: Item, wanted: &str) {
     let mut page = Page::new();
     add_ready(&mut page, item);
-    page
+    assert_eq!(rt; page.as_str(), wanted);
 }
 
-/// The line of an item that is left out for this refusal.
-fn out_line(item: Item, refusal: Refusal) -> Page {
+/// The line of this item, which is left out for this refusal, is this text.
+fn assert_out_line(rt: &impl Abort, item: Item, refusal: Refusal, wanted: &str) {
     let mut page = Page::new();
     let rank = 0;
-    add_out(
-        &mut page,
-        &Left {
-            item,
-            refusal,
-            rank,
-        },
-    );
-    page
+    let left = Left {
+        item,
+        refusal,
+        rank,
+    };
+    add_out(&mut page, &left);
+    assert_eq!(rt; page.as_str(), wanted);
 }
 
-/// The line of an item that breaks this condition.
-fn own_line(item: Item, side: Side, clause: Clause) -> Page {
-    out_line(item, Refusal::Own(Condition { side, clause }))
+/// The line of this item, which breaks this condition, is this text.
+fn assert_own_line(rt: &impl Abort, item: Item, side: Side, clause: Clause, wanted: &str) {
+    let condition = Condition { side, clause };
+    assert_out_line(rt, item, Refusal::Own(condition), wanted);
 }
 
-/// The end line with these numbers.
-fn end_line(ready: usize, out: usize) -> Page {
+/// The end line with these numbers is this text.
+fn assert_end_line(rt: &impl Abort, ready: usize, out: usize, wanted: &str) {
     let mut page = Page::new();
     add_end(&mut page, ready, out);
-    page
+    assert_eq!(rt; page.as_str(), wanted);
 }
 
 #[test]
@@ -92,96 +98,138 @@ fn a_report_is_written(rt: HostRuntime) -> Result<(), Fail> {
     Ok(())
 }
 
+/// Where the writer fails before this byte of the report, that is told, and it has taken those before the byte.
+fn assert_fails_before(rt: &impl Abort, alloc: Global, verdicts: &Verdicts, byte: u64) {
+    let mut drain = Broken::before_byte(Ends::new(Vec::new(alloc)), byte);
+    let told = write_report(verdicts, &mut drain);
+    assert_eq!(rt; told, Err(WriteReportFault::WriteFault));
+    assert_eq!(rt; drain.into_inner().into_inner().len() as u64 + 1, byte);
+}
+
 // The writer fails before each byte in turn, and has taken those before it.
 #[test]
 fn a_failing_writer_of_a_report_is_told(rt: HostRuntime) -> Result<(), Fail> {
     let verdicts = verdicts(rt.alloc())?;
-    for n in 1..=REPORT.len() as u64 {
-        let mut drain = Broken::before_byte(Ends::new(Vec::new(rt.alloc())), n);
-        assert_eq!(rt;
-            write_report(&verdicts, &mut drain),
-            Err(WriteReportFault::WriteFault)
-        );
-        assert_eq!(rt; drain.into_inner().into_inner().len() as u64 + 1, n);
+    for byte in 1..=REPORT.len() as u64 {
+        assert_fails_before(&rt, rt.alloc(), &verdicts, byte);
     }
     Ok(())
 }
 
 #[test]
 fn required_conditions_have_their_words(rt: HostRuntime) {
-    let open = own_line(ITEM, Side::Require, Clause::OpenState);
-    assert_eq!(rt; open.as_str(), "out 101,2 require open\n");
-    let status = own_line(ITEM, Side::Require, Clause::StatusIn);
-    assert_eq!(rt; status.as_str(), "out 101,2 require status\n");
-    let approval = own_line(ITEM, Side::Require, Clause::Approval(1));
-    assert_eq!(rt; approval.as_str(), "out 101,2 require approval 1\n");
+    assert_own_line(
+        &rt,
+        ITEM,
+        Side::Require,
+        Clause::OpenState,
+        "out 101,2 require open\n",
+    );
+    assert_own_line(
+        &rt,
+        ITEM,
+        Side::Require,
+        Clause::StatusIn,
+        "out 101,2 require status\n",
+    );
+    assert_own_line(
+        &rt,
+        ITEM,
+        Side::Require,
+        Clause::Approval(1),
+        "out 101,2 require approval 1\n",
+    );
 }
 
 #[test]
 fn rejected_conditions_have_their_words(rt: HostRuntime) {
-    let current = own_line(ITEM, Side::Reject, Clause::CurrentSet);
-    assert_eq!(rt; current.as_str(), "out 101,2 reject current-patchset\n");
-    let approval = own_line(ITEM, Side::Reject, Clause::Approval(2));
-    assert_eq!(rt; approval.as_str(), "out 101,2 reject approval 2\n");
+    assert_own_line(
+        &rt,
+        ITEM,
+        Side::Reject,
+        Clause::CurrentSet,
+        "out 101,2 reject current-patchset\n",
+    );
+    assert_own_line(
+        &rt,
+        ITEM,
+        Side::Reject,
+        Clause::Approval(2),
+        "out 101,2 reject approval 2\n",
+    );
 }
 
 #[test]
 fn other_refusals_have_their_words(rt: HostRuntime) {
-    let cycle = out_line(ITEM, Refusal::Cycle);
-    assert_eq!(rt; cycle.as_str(), "out 101,2 cycle\n");
-    let unknown = out_line(ITEM, Refusal::Unknown(7));
-    assert_eq!(rt; unknown.as_str(), "out 101,2 unknown 7\n");
-    let dependency = out_line(ITEM, Refusal::Dependency(9));
-    assert_eq!(rt; dependency.as_str(), "out 101,2 dependency 9\n");
+    assert_out_line(&rt, ITEM, Refusal::Cycle, "out 101,2 cycle\n");
+    assert_out_line(&rt, ITEM, Refusal::Unknown(7), "out 101,2 unknown 7\n");
+    assert_out_line(
+        &rt,
+        ITEM,
+        Refusal::Dependency(9),
+        "out 101,2 dependency 9\n",
+    );
 }
 
 #[test]
 fn the_longest_lines(rt: HostRuntime) {
-    let ready = ready_line(LONGEST);
-    assert_eq!(rt; ready.as_str(), "ready 4294967295,4294967295\n");
-    let out = own_line(LONGEST, Side::Require, Clause::Approval(usize::MAX));
-    assert_eq!(rt;
-        out.as_str(),
-        "out 4294967295,4294967295 require approval 18446744073709551615\n"
-    );
-    let end = end_line(usize::MAX, usize::MAX);
-    assert_eq!(rt;
-        end.as_str(),
-        "end 18446744073709551615 18446744073709551615\n"
-    );
+    assert_ready_line(&rt, LONGEST, "ready 4294967295,4294967295\n");
+    let last = Clause::Approval(usize::MAX);
+    let wanted = "out 4294967295,4294967295 require approval 18446744073709551615\n";
+    assert_own_line(&rt, LONGEST, Side::Require, last, wanted);
+    let wanted = "end 18446744073709551615 18446744073709551615\n";
+    assert_end_line(&rt, usize::MAX, usize::MAX, wanted);
 }
 
-// Lines of 28 bytes go out in pages of 143 lines; the writer fails at each page in turn, and has taken those before it.
+/// How many items fill three pages, and some of a fourth: their lines have 28 bytes, and a page takes 143 of them.
+const ITEMS: usize = 500;
+
+/// Where the writer fails at this page, that is told, and it has taken those before the page.
+fn assert_fails_at(rt: &impl Abort, alloc: Global, items: &[Item], number: u64) {
+    let mut page = Page::new();
+    let mut drain = Broken::at_call(Ends::new(Vec::new(alloc)), number);
+    let told = write_ready(items, &mut page, &mut drain);
+    assert_eq!(rt; told, Err(Failed));
+    let taken = drain.into_inner().into_inner().len() as u64;
+    assert_eq!(rt; taken, number.saturating_sub(1).saturating_mul(143 * 28));
+}
+
+// The writer fails at each page in turn, and has taken those before it.
 #[test]
 fn a_writer_fails_at_each_page(rt: HostRuntime) -> Result<(), Fail> {
-    let items = vec![in rt.alloc(); LONGEST; 500]?;
-    for n in 1..=3u64 {
-        let mut page = Page::new();
-        let mut drain = Broken::at_call(Ends::new(Vec::new(rt.alloc())), n);
-        assert_eq!(rt; write_ready(&items, &mut page, &mut drain), Err(Failed));
-        assert_eq!(rt;
-            drain.into_inner().into_inner().len() as u64,
-            (n - 1) * 143 * 28
-        );
+    let items = vec![in rt.alloc(); LONGEST; ITEMS]?;
+    for number in 1..=3u64 {
+        assert_fails_at(&rt, rt.alloc(), items.as_slice(), number);
     }
     Ok(())
 }
 
-#[test]
-fn pages_are_written_whole(rt: HostRuntime) -> Result<(), Fail> {
-    let items = vec![in rt.alloc(); LONGEST; 500]?;
+/// The writer takes the whole pages of these items' lines, and the last lines wait.
+fn assert_pages(rt: &impl Abort, alloc: Global, items: &[Item]) {
     let mut page = Page::new();
-    let mut drain = Ends::new(Vec::new(rt.alloc()));
-    assert_eq!(rt; write_ready(&items, &mut page, &mut drain), Ok(()));
+    let mut drain = Ends::new(Vec::new(alloc));
+    let told = write_ready(items, &mut page, &mut drain);
+    assert_eq!(rt; told, Ok(()));
     assert_eq!(rt; drain.into_inner().len(), 3 * 143 * 28);
     assert_eq!(rt; page.len(), 71 * 28);
+}
+
+#[test]
+fn pages_are_written_whole(rt: HostRuntime) -> Result<(), Fail> {
+    let items = vec![in rt.alloc(); LONGEST; ITEMS]?;
+    assert_pages(&rt, rt.alloc(), items.as_slice());
     Ok(())
 }
 
 #[test]
 fn the_fault_has_a_number_and_a_name(rt: HostRuntime) {
-    reports_have_one_reading();
-    equal_states_print_equal_reports();
     assert_eq!(rt; WriteReportFault::WriteFault.number(), 1);
     assert_eq!(rt; WriteReportFault::WriteFault.name(), "WriteFault");
+}
+
+#[test]
+fn reports_have_their_laws(rt: HostRuntime) {
+    let _alloc = rt.alloc();
+    reports_have_one_reading();
+    equal_states_print_equal_reports();
 }
