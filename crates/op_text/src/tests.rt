@@ -1,6 +1,7 @@
 use super::{OpTextFault, read_body, read_front, read_op, write_body, write_front, write_op};
 use review_ops::{Body, Draft};
 use std::alloc::{AllocError, Global};
+use std::process::Abort;
 use std::test::Fail;
 
 /// A fault as reports print it.
@@ -43,175 +44,222 @@ fn echoed_body(alloc: Global, text: &[u8]) -> Result<String, Fail> {
     }
 }
 
-// Each kind is read and written again to the byte.
-#[test]
-fn written_as_read(rt: HostRuntime) -> Result<(), Fail> {
-    for text in [
-        r#"{"change":5,"op":"merged","seq":1,"site":1,"start":1,"time":1}"#,
-        r#"{"change":5,"op":"abandon","seq":2,"site":65535,"start":4294967295,"time":18446744073709551615}"#,
-        r#"{"change":4294967295,"op":"restore","seq":18446744073709551615,"site":0,"start":0,"time":0}"#,
-        r#"{"change":101,"label":"verified","op":"vote","seq":2,"set":1,"site":1,"start":1,"time":2,"value":1,"voter":"zuul"}"#,
-        r#"{"change":101,"label":"code-review","op":"vote","seq":2,"set":1,"site":1,"start":1,"time":2,"value":-128,"voter":"~!"}"#,
-        r#"{"change":101,"label":"v","op":"withdraw","seq":2,"set":1,"site":1,"start":1,"time":2,"voter":"zuul"}"#,
-        r#"{"change":1,"message":"Add x\n\"\u0001ü","op":"patchset","parent":7,"seq":3,"set":4294967295,"site":1,"start":1,"time":2}"#,
-        r#"{"change":1,"message":"","op":"patchset","seq":3,"set":1,"site":1,"start":1,"time":2}"#,
-    ] {
-        let written = echoed(rt.alloc(), text.as_bytes())?;
-        assert_eq!(rt; written.as_str(), text);
-        // One blank more, and it isn't as it was written.
-        let spaced = with_blank(rt.alloc(), text)?;
-        let written = echoed(rt.alloc(), spaced.as_bytes())?;
-        assert_eq!(rt; written.as_str(), text);
+/// Reading an operation from this text gives this answer.
+fn assert_echo(rt: &impl Abort, alloc: Global, text: &str, wanted: &str) -> Result<(), Fail> {
+    let got = echoed(alloc, text.as_bytes())?;
+    assert_eq!(rt; got.as_str(), wanted, "{text}");
+    Ok(())
+}
+
+/// Reading an operation from each of these texts gives the answer beside it.
+fn assert_echoes(rt: &impl Abort, alloc: Global, rows: &[(&str, &str)]) -> Result<(), Fail> {
+    for (text, wanted) in rows {
+        assert_echo(rt, alloc, text, wanted)?;
     }
     Ok(())
 }
+
+/// This text is read behind a blank, and written without it.
+fn assert_blank_dropped(rt: &impl Abort, alloc: Global, text: &str) -> Result<(), Fail> {
+    let spaced = with_blank(alloc, text)?;
+    assert_echo(rt, alloc, spaced.as_str(), text)
+}
+
+/// Each of these texts is read and written again to the byte; with one blank more it isn't as it was written.
+fn assert_written(rt: &impl Abort, alloc: Global, texts: &[&str]) -> Result<(), Fail> {
+    for text in texts {
+        assert_echo(rt, alloc, text, text)?;
+        assert_blank_dropped(rt, alloc, text)?;
+    }
+    Ok(())
+}
+
+/// Operations of each kind.
+const WRITTEN: &[&str] = &[
+    r#"{"change":5,"op":"merged","seq":1,"site":1,"start":1,"time":1}"#,
+    r#"{"change":5,"op":"abandon","seq":2,"site":65535,"start":4294967295,"time":18446744073709551615}"#,
+    r#"{"change":4294967295,"op":"restore","seq":18446744073709551615,"site":0,"start":0,"time":0}"#,
+    r#"{"change":101,"label":"verified","op":"vote","seq":2,"set":1,"site":1,"start":1,"time":2,"value":1,"voter":"zuul"}"#,
+    r#"{"change":101,"label":"code-review","op":"vote","seq":2,"set":1,"site":1,"start":1,"time":2,"value":-128,"voter":"~!"}"#,
+    r#"{"change":101,"label":"v","op":"withdraw","seq":2,"set":1,"site":1,"start":1,"time":2,"voter":"zuul"}"#,
+    r#"{"change":1,"message":"Add x\n\"\u0001ü","op":"patchset","parent":7,"seq":3,"set":4294967295,"site":1,"start":1,"time":2}"#,
+    r#"{"change":1,"message":"","op":"patchset","seq":3,"set":1,"site":1,"start":1,"time":2}"#,
+];
+
+// Each kind is read and written again to the byte.
+#[test]
+fn written_as_read(rt: HostRuntime) -> Result<(), Fail> {
+    assert_written(&rt, rt.alloc(), WRITTEN)
+}
+
+/// A vote.
+const VOTE: &str =
+    r#"{"change":5,"label":"code-review","op":"vote","seq":1,"set":2,"site":1,"start":1,"time":1,"value":0,"voter":"a"}"#;
+
+/// Spellings of the vote.
+const SPELLINGS: &[(&str, &str)] = &[
+    (
+        r#" {"voter":"a","value":0,"time":1,"start":1,"site":1,"set":2,"seq":1,"op":"vote","label":"Code-Review","change":5} "#,
+        VOTE,
+    ),
+    (
+        r#"{"change":9,"change":5,"label":"CODE-REVIEW","op":"vote","seq":1,"set":2,"site":1,"start":1,"time":1,"value":0,"voter":"a"}"#,
+        VOTE,
+    ),
+    (
+        r#"{"ch\u0061nge":5,"label":"code-review","op":"v\u006fte","seq":1,"set":2,"site":1,"start":1,"time":1,"value":0,"voter":"a"}"#,
+        VOTE,
+    ),
+];
 
 // A key written twice, escapes in keys, blanks between tokens, keys in any order and labels in any case are read.
 #[test]
 fn spellings(rt: HostRuntime) -> Result<(), Fail> {
-    let want =
-        r#"{"change":5,"label":"code-review","op":"vote","seq":1,"set":2,"site":1,"start":1,"time":1,"value":0,"voter":"a"}"#;
-    for text in [
-        r#" {"voter":"a","value":0,"time":1,"start":1,"site":1,"set":2,"seq":1,"op":"vote","label":"Code-Review","change":5} "#,
-        r#"{"change":9,"change":5,"label":"CODE-REVIEW","op":"vote","seq":1,"set":2,"site":1,"start":1,"time":1,"value":0,"voter":"a"}"#,
-        r#"{"ch\u0061nge":5,"label":"code-review","op":"v\u006fte","seq":1,"set":2,"site":1,"start":1,"time":1,"value":0,"voter":"a"}"#,
-    ] {
-        let written = echoed(rt.alloc(), text.as_bytes())?;
-        assert_eq!(rt; written.as_str(), want);
-    }
-    Ok(())
+    assert_echoes(&rt, rt.alloc(), SPELLINGS)
 }
 
-// The first refusal of each text.
+/// Texts, each with its first refusal.
+const REFUSALS: &[(&str, &str)] = &[
+    ("", "1 NotJson"),
+    ("[]", "1 NotJson"),
+    (r#"{"change":5,"op":"mer"#, "1 NotJson"),
+    (
+        r#"{"change":1e999,"op":"merged","seq":1,"site":1,"start":1,"time":1}"#,
+        "1 NotJson",
+    ),
+    ("{}", "2 BadShape op"),
+    (
+        r#"{"change":5,"op":"merge","seq":1,"site":1,"start":1,"time":1}"#,
+        "2 BadShape op",
+    ),
+    (r#"{"aaa":5,"op":5}"#, "2 BadShape op"),
+    (
+        r#"{"change":5,"op":"merged","seq":0,"site":1,"start":1,"time":1}"#,
+        "2 BadShape seq",
+    ),
+    (
+        r#"{"change":4294967296,"op":"merged","seq":1,"site":1,"start":1,"time":1}"#,
+        "2 BadShape change",
+    ),
+    (
+        r#"{"change":5.0,"op":"merged","seq":1,"site":1,"start":1,"time":1}"#,
+        "2 BadShape change",
+    ),
+    (
+        r#"{"change":1e2,"op":"merged","seq":1,"site":1,"start":1,"time":1}"#,
+        "2 BadShape change",
+    ),
+    (
+        r#"{"change":-0,"op":"merged","seq":1,"site":1,"start":1,"time":1}"#,
+        "2 BadShape change",
+    ),
+    (
+        r#"{"change":5,"op":"merged","seq":1,"site":65536,"start":1,"time":1}"#,
+        "2 BadShape site",
+    ),
+    (
+        r#"{"change":5,"op":"merged","seq":1,"site":1,"start":1}"#,
+        "2 BadShape time",
+    ),
+    (
+        r#"{"change":5,"op":"merged","seq":1,"site":1,"start":1,"time":18446744073709551616}"#,
+        "2 BadShape time",
+    ),
+];
+
 #[test]
 fn refusals(rt: HostRuntime) -> Result<(), Fail> {
-    for (text, want) in [
-        ("", "1 NotJson"),
-        ("[]", "1 NotJson"),
-        (r#"{"change":5,"op":"mer"#, "1 NotJson"),
-        (
-            r#"{"change":1e999,"op":"merged","seq":1,"site":1,"start":1,"time":1}"#,
-            "1 NotJson",
-        ),
-        ("{}", "2 BadShape op"),
-        (
-            r#"{"change":5,"op":"merge","seq":1,"site":1,"start":1,"time":1}"#,
-            "2 BadShape op",
-        ),
-        (r#"{"aaa":5,"op":5}"#, "2 BadShape op"),
-        (
-            r#"{"change":5,"op":"merged","seq":0,"site":1,"start":1,"time":1}"#,
-            "2 BadShape seq",
-        ),
-        (
-            r#"{"change":4294967296,"op":"merged","seq":1,"site":1,"start":1,"time":1}"#,
-            "2 BadShape change",
-        ),
-        (
-            r#"{"change":5.0,"op":"merged","seq":1,"site":1,"start":1,"time":1}"#,
-            "2 BadShape change",
-        ),
-        (
-            r#"{"change":1e2,"op":"merged","seq":1,"site":1,"start":1,"time":1}"#,
-            "2 BadShape change",
-        ),
-        (
-            r#"{"change":-0,"op":"merged","seq":1,"site":1,"start":1,"time":1}"#,
-            "2 BadShape change",
-        ),
-        (
-            r#"{"change":5,"op":"merged","seq":1,"site":65536,"start":1,"time":1}"#,
-            "2 BadShape site",
-        ),
-        (
-            r#"{"change":5,"op":"merged","seq":1,"site":1,"start":1}"#,
-            "2 BadShape time",
-        ),
-        (
-            r#"{"change":5,"op":"merged","seq":1,"site":1,"start":1,"time":18446744073709551616}"#,
-            "2 BadShape time",
-        ),
-    ] {
-        let printed = echoed(rt.alloc(), text.as_bytes())?;
-        assert_eq!(rt; printed.as_str(), want, "{text}");
-    }
-    Ok(())
+    assert_echoes(&rt, rt.alloc(), REFUSALS)
 }
+
+/// Texts with several faults, each with the first one.
+const FIRST_FAULTS: &[(&str, &str)] = &[
+    (
+        r#"{"change":5,"op":"merged","seq":0,"site":1,"start":1,"t":1,"time":1}"#,
+        "2 BadShape seq",
+    ),
+    (
+        r#"{"change":5,"op":"merged","s":1,"seq":0,"site":1,"start":1,"time":1}"#,
+        "2 BadShape s",
+    ),
+    (r#"{"change":0,"op":"merged","set":1}"#, "2 BadShape seq"),
+    (
+        r#"{"change":0,"op":"merged","seq":1,"set":1,"site":1,"start":1,"time":1}"#,
+        "2 BadShape set",
+    ),
+    (
+        r#"{"change":0,"op":"merged","seq":1,"site":1,"start":1,"time":1}"#,
+        "3 BadBody BadChange",
+    ),
+    (
+        r#"{"change":1,"message":"m","op":"patchset","parent":4294967296,"seq":1,"set":1,"site":1,"start":1,"time":1}"#,
+        "2 BadShape parent",
+    ),
+    (
+        r#"{"change":1,"message":"m","op":"patchset","parent":0,"seq":1,"set":1,"site":1,"start":1,"time":1}"#,
+        "3 BadBody BadParent",
+    ),
+    (
+        r#"{"change":1,"message":"m","op":"patchset","parent":0,"seq":1,"set":0,"site":1,"start":1,"time":1}"#,
+        "3 BadBody BadSet",
+    ),
+    (
+        r#"{"change":1,"label":"Code_Review","op":"withdraw","seq":1,"set":1,"site":1,"start":1,"time":1,"voter":""}"#,
+        "3 BadBody BadLabel",
+    ),
+    (
+        r#"{"change":1,"label":"v","op":"vote","seq":1,"set":1,"site":1,"start":1,"time":1,"value":128,"voter":"a"}"#,
+        "2 BadShape value",
+    ),
+];
 
 // The least of several bad keys is named, and a bad shape before a bad body.
 #[test]
 fn first_faults(rt: HostRuntime) -> Result<(), Fail> {
-    for (text, want) in [
-        (
-            r#"{"change":5,"op":"merged","seq":0,"site":1,"start":1,"t":1,"time":1}"#,
-            "2 BadShape seq",
-        ),
-        (
-            r#"{"change":5,"op":"merged","s":1,"seq":0,"site":1,"start":1,"time":1}"#,
-            "2 BadShape s",
-        ),
-        (r#"{"change":0,"op":"merged","set":1}"#, "2 BadShape seq"),
-        (
-            r#"{"change":0,"op":"merged","seq":1,"set":1,"site":1,"start":1,"time":1}"#,
-            "2 BadShape set",
-        ),
-        (
-            r#"{"change":0,"op":"merged","seq":1,"site":1,"start":1,"time":1}"#,
-            "3 BadBody BadChange",
-        ),
-        (
-            r#"{"change":1,"message":"m","op":"patchset","parent":4294967296,"seq":1,"set":1,"site":1,"start":1,"time":1}"#,
-            "2 BadShape parent",
-        ),
-        (
-            r#"{"change":1,"message":"m","op":"patchset","parent":0,"seq":1,"set":1,"site":1,"start":1,"time":1}"#,
-            "3 BadBody BadParent",
-        ),
-        (
-            r#"{"change":1,"message":"m","op":"patchset","parent":0,"seq":1,"set":0,"site":1,"start":1,"time":1}"#,
-            "3 BadBody BadSet",
-        ),
-        (
-            r#"{"change":1,"label":"Code_Review","op":"withdraw","seq":1,"set":1,"site":1,"start":1,"time":1,"voter":""}"#,
-            "3 BadBody BadLabel",
-        ),
-        (
-            r#"{"change":1,"label":"v","op":"vote","seq":1,"set":1,"site":1,"start":1,"time":1,"value":128,"voter":"a"}"#,
-            "2 BadShape value",
-        ),
-    ] {
-        let printed = echoed(rt.alloc(), text.as_bytes())?;
-        assert_eq!(rt; printed.as_str(), want, "{text}");
+    assert_echoes(&rt, rt.alloc(), FIRST_FAULTS)
+}
+
+/// Reading a body from this text gives this answer.
+fn assert_body(rt: &impl Abort, alloc: Global, text: &str, wanted: &str) -> Result<(), Fail> {
+    let got = echoed_body(alloc, text.as_bytes())?;
+    assert_eq!(rt; got.as_str(), wanted, "{text}");
+    Ok(())
+}
+
+/// Texts, each with the body that it spells or its first refusal.
+const BODIES: &[(&str, &str)] = &[
+    (
+        r#"{"op":"merged","change":101}"#,
+        r#"{"change":101,"op":"merged"}"#,
+    ),
+    (
+        r#"{"change":1,"message":"m","op":"patchset","set":1}"#,
+        r#"{"change":1,"message":"m","op":"patchset","set":1}"#,
+    ),
+    (
+        r#"{"change":5,"op":"merged","seq":1,"site":1,"start":1,"time":1}"#,
+        "2 BadShape seq",
+    ),
+    (
+        r#"{"change":5,"message":"m","op":"merged"}"#,
+        "2 BadShape message",
+    ),
+    ("7", "1 NotJson"),
+];
+
+// A body has no stamp.
+#[test]
+fn bodies(rt: HostRuntime) -> Result<(), Fail> {
+    for (text, wanted) in BODIES {
+        assert_body(&rt, rt.alloc(), text, wanted)?;
     }
     Ok(())
 }
 
-// A body has no stamp, and reading it doesn't ask whether it is good.
+// Reading a body doesn't ask whether it is good.
 #[test]
-fn bodies(rt: HostRuntime) -> Result<(), Fail> {
-    for (text, want) in [
-        (
-            r#"{"op":"merged","change":101}"#,
-            r#"{"change":101,"op":"merged"}"#,
-        ),
-        (
-            r#"{"change":1,"message":"m","op":"patchset","set":1}"#,
-            r#"{"change":1,"message":"m","op":"patchset","set":1}"#,
-        ),
-        (
-            r#"{"change":5,"op":"merged","seq":1,"site":1,"start":1,"time":1}"#,
-            "2 BadShape seq",
-        ),
-        (
-            r#"{"change":5,"message":"m","op":"merged"}"#,
-            "2 BadShape message",
-        ),
-        ("7", "1 NotJson"),
-    ] {
-        let printed = echoed_body(rt.alloc(), text.as_bytes())?;
-        assert_eq!(rt; printed.as_str(), want, "{text}");
-    }
-    let draft = read_body(rt.alloc(), br#"{"change":0,"op":"merged"}"#).map_err(|_| "refused")?;
+fn a_body_that_is_not_good(rt: HostRuntime) -> Result<(), Fail> {
+    let draft = read_body(rt.alloc(), br#"{"change":0,"op":"merged"}"#)?;
     assert!(rt; draft == Draft::Merged { change: 0 });
     Ok(())
 }
@@ -252,23 +300,58 @@ fn fault_of_voter(alloc: Global, length: usize) -> Result<String, Fail> {
     }
 }
 
-// The longest texts, the deepest nesting, and bytes that are no text.
+/// Reading a patch set with a message of so many bytes gives this answer.
+fn assert_message(rt: &impl Abort, alloc: Global, length: usize, wanted: &str) -> Result<(), Fail> {
+    let got = fault_of_message(alloc, length)?;
+    assert_eq!(rt; got.as_str(), wanted);
+    Ok(())
+}
+
+/// Reading a withdrawal by a voter of so many bytes gives this answer.
+fn assert_voter(rt: &impl Abort, alloc: Global, length: usize, wanted: &str) -> Result<(), Fail> {
+    let got = fault_of_voter(alloc, length)?;
+    assert_eq!(rt; got.as_str(), wanted);
+    Ok(())
+}
+
+/// A list in so many lists, as a value of a key.
+fn nested(alloc: Global, depth: usize) -> Result<String, AllocError> {
+    let mut text = String::from_str(alloc, "{\"a\":")?;
+    push_times(&mut text, '[', depth)?;
+    push_times(&mut text, ']', depth)?;
+    text.push('}')?;
+    Ok(text)
+}
+
+/// Reading lists of this depth gives this answer.
+fn assert_depth(rt: &impl Abort, alloc: Global, depth: usize, wanted: &str) -> Result<(), Fail> {
+    let text = nested(alloc, depth)?;
+    let got = echoed(alloc, text.as_bytes())?;
+    assert_eq!(rt; got.as_str(), wanted);
+    Ok(())
+}
+
+// The longest texts.
 #[test]
 fn limits(rt: HostRuntime) -> Result<(), Fail> {
-    let alloc = rt.alloc();
-    assert!(rt; fault_of_message(alloc, 65536)?.as_str() == "true");
-    assert!(rt; fault_of_message(alloc, 65537)?.as_str() == "3 BadBody LongMessage");
-    assert!(rt; fault_of_voter(alloc, 64)?.as_str() == "true");
-    assert!(rt; fault_of_voter(alloc, 65)?.as_str() == "3 BadBody BadVoter");
-    assert!(rt; echoed(alloc, b"\xff")?.as_str() == "1 NotJson");
-    for (depth, want) in [(126, "2 BadShape op"), (127, "1 NotJson")] {
-        let mut text = String::from_str(alloc, "{\"a\":")?;
-        push_times(&mut text, '[', depth)?;
-        push_times(&mut text, ']', depth)?;
-        text.push('}')?;
-        let printed = echoed(alloc, text.as_bytes())?;
-        assert_eq!(rt; printed.as_str(), want);
-    }
+    assert_message(&rt, rt.alloc(), 65536, "true")?;
+    assert_message(&rt, rt.alloc(), 65537, "3 BadBody LongMessage")?;
+    assert_voter(&rt, rt.alloc(), 64, "true")?;
+    assert_voter(&rt, rt.alloc(), 65, "3 BadBody BadVoter")
+}
+
+// The deepest nesting.
+#[test]
+fn the_deepest_nesting(rt: HostRuntime) -> Result<(), Fail> {
+    assert_depth(&rt, rt.alloc(), 126, "2 BadShape op")?;
+    assert_depth(&rt, rt.alloc(), 127, "1 NotJson")
+}
+
+// Bytes that are no text.
+#[test]
+fn bytes_that_are_no_text(rt: HostRuntime) -> Result<(), Fail> {
+    let got = echoed(rt.alloc(), b"\xff")?;
+    assert_eq!(rt; got.as_str(), "1 NotJson");
     Ok(())
 }
 
@@ -280,37 +363,46 @@ fn echoed_front(alloc: Global, text: &str) -> Result<String, Fail> {
     }
 }
 
+/// Reading a front from this text gives this answer.
+fn assert_front(rt: &impl Abort, alloc: Global, text: &str, wanted: &str) -> Result<(), Fail> {
+    let got = echoed_front(alloc, text)?;
+    assert_eq!(rt; got.as_str(), wanted, "{text}");
+    Ok(())
+}
+
+/// Texts, each with the front that it spells or its first refusal.
+const FRONTS: &[(&str, &str)] = &[
+    ("[]", "[]"),
+    (" [ [2,1,5] , [1,1,3] ]", "[[1,1,3],[2,1,5]]"),
+    ("[[1,1,3],[1,1,4],[1,2,0],[1,1,0]]", "[[1,1,4]]"),
+    ("[[7,7,0]]", "[]"),
+    ("[[10,1,1],[9,2,1],[9,1,1]]", "[[9,1,1],[9,2,1],[10,1,1]]"),
+    (
+        "[[65535,4294967295,18446744073709551615]]",
+        "[[65535,4294967295,18446744073709551615]]",
+    ),
+    ("{}", "1 NotJson"),
+    ("[[1,1,1]", "1 NotJson"),
+    ("[1]", "2 BadShape front"),
+    ("[[1,1]]", "2 BadShape front"),
+    ("[[1,1,1,1]]", "2 BadShape front"),
+    ("[[65536,1,1]]", "2 BadShape front"),
+    ("[[1,4294967296,1]]", "2 BadShape front"),
+    ("[[1,1,1],[1,1,-1]]", "2 BadShape front"),
+    ("[[1,1,1.0]]", "2 BadShape front"),
+    ("[[1,1,18446744073709551616]]", "2 BadShape front"),
+    ("[[1,1,1],7]", "2 BadShape front"),
+    ("[\"[1,1,1]\"]", "2 BadShape front"),
+    ("", "1 NotJson"),
+    ("null", "1 NotJson"),
+    ("[] []", "1 NotJson"),
+];
+
 // Entries may come in any order: the greatest number of a row counts, and 0 is as none.
 #[test]
 fn fronts(rt: HostRuntime) -> Result<(), Fail> {
-    for (text, want) in [
-        ("[]", "[]"),
-        (" [ [2,1,5] , [1,1,3] ]", "[[1,1,3],[2,1,5]]"),
-        ("[[1,1,3],[1,1,4],[1,2,0],[1,1,0]]", "[[1,1,4]]"),
-        ("[[7,7,0]]", "[]"),
-        ("[[10,1,1],[9,2,1],[9,1,1]]", "[[9,1,1],[9,2,1],[10,1,1]]"),
-        (
-            "[[65535,4294967295,18446744073709551615]]",
-            "[[65535,4294967295,18446744073709551615]]",
-        ),
-        ("{}", "1 NotJson"),
-        ("[[1,1,1]", "1 NotJson"),
-        ("[1]", "2 BadShape front"),
-        ("[[1,1]]", "2 BadShape front"),
-        ("[[1,1,1,1]]", "2 BadShape front"),
-        ("[[65536,1,1]]", "2 BadShape front"),
-        ("[[1,4294967296,1]]", "2 BadShape front"),
-        ("[[1,1,1],[1,1,-1]]", "2 BadShape front"),
-        ("[[1,1,1.0]]", "2 BadShape front"),
-        ("[[1,1,18446744073709551616]]", "2 BadShape front"),
-        ("[[1,1,1],7]", "2 BadShape front"),
-        ("[\"[1,1,1]\"]", "2 BadShape front"),
-        ("", "1 NotJson"),
-        ("null", "1 NotJson"),
-        ("[] []", "1 NotJson"),
-    ] {
-        let printed = echoed_front(rt.alloc(), text)?;
-        assert_eq!(rt; printed.as_str(), want, "{text}");
+    for (text, wanted) in FRONTS {
+        assert_front(&rt, rt.alloc(), text, wanted)?;
     }
     Ok(())
 }
