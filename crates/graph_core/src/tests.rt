@@ -56,11 +56,16 @@ fn replica_of(alloc: Global, steps: &[Step]) -> Result<Replica, Fail> {
     Ok(replica)
 }
 
+/// The graph of the record with these operations under the gate.
+fn graph_under(alloc: Global, gate: &Gate, steps: &[Step]) -> Result<Graph, Fail> {
+    let replica = replica_of(alloc, steps)?;
+    Ok(Graph::build(alloc, &replica, gate)?)
+}
+
 /// The graph of the record with these operations.
 fn graph_of(alloc: Global, steps: &[Step]) -> Result<Graph, Fail> {
     let gate = Gate::read(alloc, GATE.as_bytes())?;
-    let replica = replica_of(alloc, steps)?;
-    Ok(Graph::build(alloc, &replica, &gate)?)
+    graph_under(alloc, &gate, steps)
 }
 
 /// The graph as a text: a line for each item.
@@ -99,10 +104,8 @@ fn assert_namers(
 // No operation, no item.
 #[test]
 fn nothing(rt: HostRuntime) -> Result<(), Fail> {
-    let graph = graph_of(rt.alloc(), &[])?;
-    assert_eq!(rt; graph.items().len(), 0);
-    assert_eq!(rt; graph.namers(1).len(), 0);
-    Ok(())
+    assert_shown(&rt, rt.alloc(), &[], "")?;
+    assert_namers(&rt, rt.alloc(), &[], 1, &[])
 }
 
 // 1 and 2 need each other, and 2 needs 3.
