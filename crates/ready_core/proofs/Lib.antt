@@ -5,3 +5,4 @@ pub mod Ranking
 pub mod Judging
 pub mod Following
 pub mod Unique
+mod Guessed

@@ -2,3 +2,4 @@ pub mod Closed
 pub mod Refusals
 pub mod Verdicts
 pub mod Causes
+pub mod Rounds

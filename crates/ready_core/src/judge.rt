@@ -29,7 +29,7 @@ pub fn evaluate(alloc: Global, replica: &Replica, gate: &Gate) -> Result<Verdict
 }
 
 /// The verdicts, by why each item isn't eligible and how far it is from one that isn't.
-fn judged(
+pub fn judged(
     alloc: Global,
     graph: &Graph,
     causes: &[Option<Refusal>],
@@ -87,7 +87,7 @@ fn change_at(items: &[Item], place: usize) -> u32
 }
 
 /// The first of some places that has a rank.
-fn nearest(places: &[usize], ranks: &[Option<usize>], wanted: usize) -> Option<usize>
+pub fn nearest(places: &[usize], ranks: &[Option<usize>], wanted: usize) -> Option<usize>
     requires { All (λ place. place < length ranks.now) places.now }
     ensures { MatchOption result ((place : ℕ) → Contains places.now place → ¬ HasRank ranks.now place wanted)
         (IsNearest ranks.now places.now wanted) }

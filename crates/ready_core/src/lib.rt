@@ -18,6 +18,8 @@ mod laws;
 #[cfg(test)]
 mod plain;
 #[cfg(test)]
+mod rounds;
+#[cfg(test)]
 mod tests;
 mod verdicts;
 

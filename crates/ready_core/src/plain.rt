@@ -1,4 +1,4 @@
-//! A slow plain program beside the search, and the two compared.
+//! Two slow plain programs beside the search, and the three compared: one in rounds, with the search's contract, and one that knows nothing of graphs and walks.
 
 use super::tests::{CYCLES, GATE, Review};
 use super::{Left, Refusal, Verdicts};
@@ -190,6 +190,12 @@ impl Case {
         let review = self.review()?;
         review.verdicts(if self.cycles { CYCLES } else { GATE })
     }
+
+    /// What the evaluator in rounds says of it.
+    fn verdicts_by_rounds(&self) -> Result<Verdicts, Fail> {
+        let review = self.review()?;
+        review.verdicts_by_rounds(if self.cycles { CYCLES } else { GATE })
+    }
 }
 
 /// The items of the changes that have no refusal.
@@ -243,9 +249,18 @@ fn assert_out(
     Ok(())
 }
 
-/// Both programs say the same of a case.
+/// The search says what the evaluator in rounds says.
+fn assert_rounds(rt: &impl Abort, case: &Case, verdicts: &Verdicts) -> Result<(), Fail> {
+    let slow = case.verdicts_by_rounds()?;
+    assert_eq!(rt; verdicts.ready(), slow.ready());
+    assert_eq!(rt; verdicts.out(), slow.out());
+    Ok(())
+}
+
+/// All programs say the same of a case.
 fn assert_plain(rt: &impl Abort, case: &Case) -> Result<(), Fail> {
     let verdicts = case.verdicts()?;
+    assert_rounds(rt, case, &verdicts)?;
     let refusals = case.refusals()?;
     assert_ready(rt, case.alloc, verdicts.ready(), refusals.as_slice())?;
     assert_out(rt, case.alloc, verdicts.out(), refusals.as_slice())

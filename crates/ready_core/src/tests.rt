@@ -1,3 +1,4 @@
+use super::rounds::evaluate_by_rounds;
 use super::{Left, Refusal, Verdicts, evaluate};
 use gate_rules::{Clause, Condition, Gate, Item, Side};
 use replica_core::Replica;
@@ -123,6 +124,13 @@ impl Review {
     pub(super) fn verdicts(&self, gate: &str) -> Result<Verdicts, Fail> {
         let gate = Gate::read(self.alloc, gate.as_bytes())?;
         Ok(evaluate(self.alloc, &self.replica, &gate)?)
+    }
+
+    /// The verdicts under the gate, by the evaluator in rounds.
+    pub(super) fn verdicts_by_rounds(&self, gate: &str) -> Result<Verdicts, Fail> {
+        let gate = Gate::read(self.alloc, gate.as_bytes())?;
+        let verdicts = evaluate_by_rounds(self.alloc, &self.replica, &gate)?;
+        Ok(verdicts.ok_or("rounds enough")?)
     }
 
     /// The verdicts under the gate as a text.
