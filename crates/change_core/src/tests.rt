@@ -364,12 +364,29 @@ fn known(heap: &LocalHeap, first: u32, count: u32) -> Option<State<'_>> {
     Some(state)
 }
 
+/// Takes a vote, where the heap suffices for the operation. Answers whether memory was refused.
+fn take_vote<'a>(heap: &'a LocalHeap, state: &mut State<'a>) -> Option<bool> {
+    let op = vote(heap, 2, 1, "Workflow", "ann", 1)?;
+    Some(state.take(&op).is_err())
+}
+
 /// The state of three patch sets and a vote.
 fn voted(heap: &LocalHeap) -> Option<State<'_>> {
     let mut state = known(heap, 1, 3)?;
-    let op = vote(heap, 2, 1, "Workflow", "ann", 1)?;
-    state.take(&op).ok()?;
-    Some(state)
+    match take_vote(heap, &mut state) {
+        Some(false) => Some(state),
+        _ => None,
+    }
+}
+
+/// The states are the same, or they aren't.
+fn assert_is<'a>(rt: &impl Abort, state: &State<'a>, other: &State<'a>, same: bool) {
+    assert!(rt; state.same(other) == same);
+}
+
+/// The state covers another one.
+fn assert_covers<'a>(rt: &impl Abort, state: &State<'a>, other: &State<'a>) {
+    assert!(rt; state.covers(other));
 }
 
 /// The state is just that of the three patch sets where a vote was refused, and else that with the vote.
@@ -379,30 +396,38 @@ fn assert_taken<'a>(
     state: &State<'a>,
     refused: bool,
 ) -> Option<()> {
-    let low = known(ample, 1, 3)?;
-    assert!(rt; state.same(&low) == refused);
-    let high = voted(ample)?;
-    assert!(rt; state.same(&high) != refused);
+    assert_is(rt, state, &known(ample, 1, 3)?, refused);
+    assert_is(rt, state, &voted(ample)?, !refused);
     Some(())
 }
 
 /// Takes a vote into a state of a heap that may be too small for it. Answers whether memory was refused: then nothing changed.
 fn refuses_take<'a>(rt: &impl Abort, ample: &'a LocalHeap, tight: &'a LocalHeap) -> Option<bool> {
     let mut state = known(tight, 1, 3)?;
-    let op = vote(tight, 2, 1, "Workflow", "ann", 1)?;
-    let refused = state.take(&op).is_err();
+    let refused = take_vote(tight, &mut state)?;
     assert_taken(rt, ample, &state, refused)?;
     Some(refused)
 }
 
+/// The effect of a patch set in a heap that suffices for the operation: none where memory was refused for the effect.
+fn effect_in(heap: &LocalHeap) -> Option<Option<State<'_>>> {
+    let op = patch_set(heap, 1, 7, None)?;
+    Some(ChangeState::effect(heap, &op).ok())
+}
+
+/// The state is that of the one patch set.
+fn assert_effect<'a>(rt: &impl Abort, ample: &'a LocalHeap, state: &State<'a>) -> Option<()> {
+    let whole = known(ample, 7, 1)?;
+    assert_is(rt, state, &whole, true);
+    Some(())
+}
+
 /// The state of one patch set in a heap that may be too small for it. Answers whether memory was refused.
 fn refuses_effect<'a>(rt: &impl Abort, ample: &'a LocalHeap, tight: &'a LocalHeap) -> Option<bool> {
-    let whole = known(ample, 7, 1)?;
-    let op = patch_set(tight, 1, 7, None)?;
-    let Ok(state) = ChangeState::effect(tight, &op) else {
+    let Some(state) = effect_in(tight)? else {
         return Some(true);
     };
-    assert!(rt; state.same(&whole));
+    assert_effect(rt, ample, &state)?;
     Some(false)
 }
 
@@ -413,10 +438,10 @@ fn assert_joined<'a>(
     state: &State<'a>,
     refused: bool,
 ) -> Option<()> {
-    let low = known(ample, 1, 4)?;
-    assert!(rt; state.covers(&low));
+    assert_covers(rt, state, &known(ample, 1, 4)?);
     let high = known(ample, 1, 24)?;
-    assert!(rt; high.covers(state) && state.same(&high) != refused);
+    assert_covers(rt, &high, state);
+    assert_is(rt, state, &high, !refused);
     Some(())
 }
 
