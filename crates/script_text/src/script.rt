@@ -11,7 +11,7 @@ use super::fields::{after_word, read_number, split_field};
 use super::script_lines::ScriptLines;
 use gate_rules::Gate;
 use op_text::{OpTextFault, read_body, read_front};
-use std::alloc::{AllocError, Global};
+use std::alloc::Global;
 use world_core::Event;
 
 /// The most sites that a script has.
@@ -54,12 +54,6 @@ pub struct Script<'a> {
 enum LineFault {
     Bad,
     NoMemory,
-}
-
-impl From<AllocError> for LineFault {
-    fn from(_refused: AllocError) -> LineFault {
-        LineFault::NoMemory
-    }
 }
 
 /// Reads a script: its first line that says something is `sites N`, N from 1 to 64, and each later one says a step, up to the first that
