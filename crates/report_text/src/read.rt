@@ -60,7 +60,7 @@ pub fn snapshot_of(alloc: Global, text: &[u8]) -> Result<Replica, SnapFault>
 
 /// Reads the text of a snapshot, as `snapshot_of` does, into a replica that is given up for it: its operations arrive, in the order
 /// of their lines, after what the replica has. Neither the replica nor anything of the text is handed out of a refusal. It costs the
-/// bytes, and what the replica's `take` costs for each operation; what the replica has already takes no memory again.
+/// bytes, and what the replica's `take` costs for each operation.
 pub fn snapshot_onto(replica: Replica, text: &[u8]) -> Result<Replica, SnapFault>
     requires { length text.now ≤ most_bytes }
     ensures ok { IfOk result (λ both. (ops : List Operation)
