@@ -1,5 +1,5 @@
 -- The lines of a text. Like POSIX lines, but the last one may lack its LF, and a carriage return before the LF is dropped.
-use Rattle.std.specs.Prelude.{ℕ, ◌-◌, List, [], ◌∷◌, map, take, length, slice_index, ◌==◌, if◌then◌else◌}
+use Rattle.std.specs.Prelude.{ℕ, ◌-◌, List, [], ◌∷◌, ◌++◌, map, take, length, slice_index, ◌==◌, if◌then◌else◌}
 
 -- the byte before the first of these pieces, where there is one
 abbrev pub put_before : ℕ → List (List ℕ) → List (List ℕ)
@@ -17,3 +17,7 @@ without_cr line = if slice_index line (length line - 1) == 13 then take (length 
 
 abbrev pub lines_of : List ℕ → List (List ℕ)
 lines_of text = map without_cr (pieces_of text)
+
+-- a text as a line, with its LF
+abbrev pub as_line : List ℕ → List ℕ
+as_line text = text ++ 10 ∷ []

@@ -4,5 +4,4 @@ pub mod Reading
 pub mod Walk
 pub mod Spelling
 pub mod Own
-pub mod Items
 pub mod FirstFaults

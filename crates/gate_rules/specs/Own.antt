@@ -11,8 +11,8 @@ use Rattle.change_core.specs.Views.{status_of, IsGreatestKnown}
 use Rattle.change_core.specs.Votes.{GivenApproval, approvals_of}
 use Rattle.change_core.specs.declared.life.Status.{Status}
 use Rattle.change_core.specs.declared.life.Status.TheVariants.{New, Abandoned, Merged}
-use Rattle.replica_core.specs.State.{State}
-use Rattle.gate_rules.specs.declared.own.Item.{Item}
+use Rattle.state_core.specs.State.{State}
+use Rattle.state_core.specs.declared.item.Item.{Item}
 use Rattle.gate_rules.specs.declared.condition.Side.{Side}
 use Rattle.gate_rules.specs.declared.condition.Side.TheVariants.{Require, Reject}
 use Rattle.gate_rules.specs.declared.condition.Clause.{Clause}

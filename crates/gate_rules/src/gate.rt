@@ -1,19 +1,18 @@
 ghost use Rattle.std.specs.Prelude.{◌≡◌, ◌≢◌, ℕ, List, Some, IfOk, IfErr, MatchOption, MatchResult, map, option_map, string_bytes};
 ghost use Rattle.gate_rules.specs.Rules.{LabelRule, PatternRule, SideRules, GateRules};
 ghost use Rattle.change_core.specs.VoteShown.{approval_shown};
-ghost use Rattle.replica_core.specs.State.{state_of};
 ghost use Rattle.gate_rules.specs.Own.{takes, names, labels_take, matches, compared, IsFirstApproval, IsFirstWith, IsBroken, IsFirstBroken, IsOwn};
-ghost use Rattle.gate_rules.specs.Items.{IsItem};
+ghost use Rattle.state_core.specs.Items.{IsItem};
 ghost use Rattle.gate_rules.specs.Spelling.{SpellsGate, IsRefusalOf};
 
 use super::build::read_gate;
 use super::condition::{Clause, Condition, Side};
 use super::fault::GateFault;
-use super::own::{Item, Standing, came_out, has_value};
+use super::own::{Standing, came_out, has_value};
 use change_core::Approval;
 use footer_text::Bases;
 use lattice_core::NoMemory;
-use replica_core::Replica;
+use state_core::{Item, State};
 use std::alloc::Global;
 use std::marker::Model;
 
@@ -267,11 +266,11 @@ impl Gate {
     /// An item's own condition: the first condition that it breaks. What is required must hold, and what is rejected must
     /// not. The order is `open`, `current-patchset`, `status` and each approval of what is required, then the same of what
     /// is rejected. It takes no memory, and costs the votes on the change times the patterns.
-    pub fn own(&self, replica: &Replica, item: Item) -> Option<Condition>
-        requires { IsItem (state_of replica.now) item }
-        ensures { IsOwn self.now (state_of replica.now) item result }
+    pub fn own(&self, state: &State, item: Item) -> Option<Condition>
+        requires { IsItem state.now item }
+        ensures { IsOwn self.now state.now item result }
     {
-        let change = replica.change(item.change).unwrap();
+        let change = state.change(item.change).unwrap();
         let current = change.current().unwrap();
         self.first_broken(&Standing::new(change, current, item.set))
     }

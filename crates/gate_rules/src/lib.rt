@@ -32,4 +32,3 @@ pub use condition::{Clause, Condition, Side};
 pub use fault::GateFault;
 pub use gate::{Clauses, Gate, LabelValues, Pattern};
 pub use laws::the_first_fault_is_found;
-pub use own::Item;

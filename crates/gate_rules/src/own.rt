@@ -1,3 +1,5 @@
+//! How an item compares with the conditions of a gate.
+
 ghost use Rattle.std.specs.Prelude.{◌≡◌, ◌≢◌, ◌==◌, ℕ, Some, MatchBool, string_bytes, map};
 ghost use Rattle.std.specs.Ordering.{int_eq};
 ghost use Rattle.std.specs.Str.{bytes_eq};
@@ -7,15 +9,6 @@ ghost use Rattle.gate_rules.specs.Own.{some, same_flag, matches, standing_of};
 use super::gate::Pattern;
 use change_core::{Approval, ChangeState};
 use std::marker::Model;
-
-/// An item: a patch set of a change.
-#[derive(Clone, Copy, Debug, PartialEq, Eq)]
-pub struct Item {
-    /// The number of the change.
-    pub change: u32,
-    /// The number of the patch set.
-    pub set: u32,
-}
 
 /// What the conditions of a gate compare of an item: its change, the current patch set of that, and its own patch set.
 #[derive(Drop)]

@@ -1,6 +1,6 @@
-use super::{Clause, Condition, Gate, GateFault, Item, Side, the_first_fault_is_found};
-use replica_core::Replica;
+use super::{Clause, Condition, Gate, GateFault, Side, the_first_fault_is_found};
 use review_ops::{Body, Draft, Op, Stamp};
+use state_core::{Item, State};
 use std::alloc::{AllocError, Global};
 use std::process::Abort;
 use std::test::Fail;
@@ -418,9 +418,9 @@ enum Step {
 use Step::{Abandon, Merged, Own, PatchSet, Vote};
 
 /// Takes a body with the time and sequence number `time`, of site 1 under start 1.
-fn take(replica: &mut Replica, time: u64, draft: Draft) -> Result<(), Fail> {
+fn take(state: &mut State, time: u64, draft: Draft) -> Result<(), Fail> {
     let stamp = Stamp::new(time, 1, 1, time).ok_or("a stamp")?;
-    replica.take(Op::new(stamp, Body::checked(draft)?))?;
+    state.take(&Op::new(stamp, Body::checked(draft)?))?;
     Ok(())
 }
 
@@ -447,24 +447,24 @@ fn vote(alloc: Global, label: &str, voter: &str, value: i8) -> Result<Draft, Fai
 }
 
 /// The own condition of a patch set under the gate, as reports print it.
-fn own(alloc: Global, gate: &Gate, replica: &Replica, set: u32) -> Result<String, Fail> {
-    let Some(change) = replica.change(101) else {
+fn own(alloc: Global, gate: &Gate, state: &State, set: u32) -> Result<String, Fail> {
+    let Some(change) = state.change(101) else {
         return Ok(String::from_str(alloc, "no change")?);
     };
     if !change.has_set(set) {
         return Ok(String::from_str(alloc, "no item")?);
     }
     let item = Item { change: 101, set };
-    match gate.own(replica, item) {
+    match gate.own(state, item) {
         Some(condition) => printed(alloc, condition),
         None => Ok(String::from_str(alloc, "none")?),
     }
 }
 
 /// The own condition of a patch set under the gate that a text spells, as reports print it.
-fn own_under(alloc: Global, text: &str, replica: &Replica, set: u32) -> Result<String, Fail> {
+fn own_under(alloc: Global, text: &str, state: &State, set: u32) -> Result<String, Fail> {
     let gate = Gate::read(alloc, text.as_bytes())?;
-    own(alloc, &gate, replica, set)
+    own(alloc, &gate, state, set)
 }
 
 fn printed(alloc: Global, condition: Condition) -> Result<String, Fail> {
@@ -481,19 +481,14 @@ fn printed(alloc: Global, condition: Condition) -> Result<String, Fail> {
 }
 
 /// Plays one step.
-fn play_step(
-    rt: &impl Abort,
-    alloc: Global,
-    replica: &mut Replica,
-    step: Step,
-) -> Result<(), Fail> {
+fn play_step(rt: &impl Abort, alloc: Global, state: &mut State, step: Step) -> Result<(), Fail> {
     match step {
-        PatchSet(time, set) => take(replica, time, patch_set(alloc, set)?),
-        Vote(time, label, voter, value) => take(replica, time, vote(alloc, label, voter, value)?),
-        Abandon(time) => take(replica, time, Draft::Abandon { change: 101 }),
-        Merged(time) => take(replica, time, Draft::Merged { change: 101 }),
+        PatchSet(time, set) => take(state, time, patch_set(alloc, set)?),
+        Vote(time, label, voter, value) => take(state, time, vote(alloc, label, voter, value)?),
+        Abandon(time) => take(state, time, Draft::Abandon { change: 101 }),
+        Merged(time) => take(state, time, Draft::Merged { change: 101 }),
         Own(gate, set, wanted) => {
-            let got = own_under(alloc, gate, replica, set)?;
+            let got = own_under(alloc, gate, state, set)?;
             assert_eq!(rt; got.as_str(), wanted);
             Ok(())
         }
@@ -502,9 +497,9 @@ fn play_step(
 
 /// Plays the steps, one after the other, in a new record.
 fn play(rt: &impl Abort, alloc: Global, steps: &[Step]) -> Result<(), Fail> {
-    let mut replica = Replica::new(alloc);
+    let mut state = State::new(alloc);
     for step in steps {
-        play_step(rt, alloc, &mut replica, *step)?;
+        play_step(rt, alloc, &mut state, *step)?;
     }
     Ok(())
 }

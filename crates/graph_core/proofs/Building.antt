@@ -12,15 +12,16 @@ use Rattle.std.proofs.lemmas.List.Elements.{Contains-get_or}
 use Rattle.change_core.specs.Change.{Change}
 use Rattle.change_core.specs.Views.{IsKnownSet}
 use Rattle.gate_rules.specs.Rules.{GateRules}
-use Rattle.gate_rules.specs.Items.{IsItem}
-use Rattle.gate_rules.specs.declared.own.Item.{Item}
-use Rattle.replica_core.specs.State.{State}
-use Rattle.graph_core.specs.Order.{item_cmp}
-use Rattle.graph_core.specs.Dependencies.{IsTarget, IsDependency, IsCurrentItem}
+use Rattle.state_core.specs.Items.{IsItem}
+use Rattle.state_core.specs.declared.item.Item.{Item}
+use Rattle.state_core.specs.State.{State}
+use Rattle.state_core.specs.Items.{item_cmp}
+use Rattle.state_core.specs.Items.{IsCurrentItem}
+use Rattle.graph_core.specs.Dependencies.{IsTarget, IsDependency}
 use Rattle.graph_core.specs.ItemGraph.{IsAt, AreItems, AreTargets, AreEnds}
 use Rattle.graph_core.specs.Listed.{IsLastOf, ArePlaces}
-use Rattle.graph_core.specs.ZipLaws.{length-AllZip, AllZip-chain, AllZip-map, All-AllZip}
-use Rattle.graph_core.specs.PlaceLaws.{Contains-at, at_Contains, one_item, sorted_at, earlier_or_same}
+use Rattle.lattice_core.specs.ZipLaws.{length-AllZip, AllZip-chain, AllZip-map, All-AllZip}
+use Rattle.lattice_core.specs.PlaceLaws.{Contains-at, at_Contains, one_item, sorted_at, earlier_or_same}
 
 pub all_are_items : (state : State) (items : List Item) → AreItems state items → All (IsItem state) items
 all_are_items state items are = λ k d within. (are.each _).0 (Contains-get_or items k d within)

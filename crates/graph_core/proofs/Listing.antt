@@ -11,29 +11,18 @@ use Rattle.std.proofs.lemmas.List.Elements.{recursion_from_All, Contains-get_or}
 use Rattle.review_ops.specs.Timestamp.{Timestamp}
 use Rattle.change_core.specs.Slots.{Patch}
 use Rattle.change_core.specs.Change.{Change}
-use Rattle.gate_rules.specs.Items.{IsItem}
-use Rattle.gate_rules.specs.declared.own.Item.{Item}
-use Rattle.replica_core.specs.State.{State}
-use Rattle.graph_core.specs.Order.{item_cmp}
+use Rattle.state_core.specs.Items.{IsItem}
+use Rattle.state_core.specs.declared.item.Item.{Item}
+use Rattle.state_core.specs.State.{State}
+use Rattle.state_core.specs.Items.{item_cmp}
 use Rattle.graph_core.specs.ItemGraph.{AreItems}
-use Rattle.graph_core.specs.MemberLaws.{Contains-cons_cases, Contains-none, Contains-of_map, Contains-to_map, Contains-of_flat_map, Contains-to_flat_map, sorted_append}
-use Rattle.graph_core.specs.EntryLaws.{get-entry, entry-get, some_of, is_some_of}
+use Rattle.lattice_core.specs.MemberLaws.{Contains-cons_cases, Contains-none, Contains-of_map, Contains-to_map, Contains-of_flat_map, Contains-to_flat_map, sorted_append}
+use Rattle.lattice_core.specs.Tests.{first_of_both, second_of_both, less}
+use Rattle.lattice_core.specs.Keep.{numbers_exact}
+use Rattle.lattice_core.specs.EntryLaws.{get-entry, entry-get, some_of, is_some_of}
 use Rattle.graph_core.specs.Listed.{item_of, items_in, all_items}
 
 -- ---- lists in order
-first_of_both : (a b : Bool) → T (a && b) → T a
-first_of_both true b h = tt
-first_of_both false b h = h
-
-second_of_both : (a b : Bool) → T (a && b) → T b
-second_of_both true b h = h
-second_of_both false b h = absurd h
-
-less : (r : Ordering) → T (is_lt r) → r ≡ Less
-less Less h = refl
-less Equal h = absurd h
-less Greater h = absurd h
-
 above : {X : Type 0} (key : ℕ) (es : List (ℕ × X)) → T (below_all nat_cmp key es) → (e : ℕ × X) → Contains es e → nat_cmp key e.0 ≡ Less
 above key [] h e c = absurd (Contains-none e c)
 above key (f ∷ fs) h e c = elim (Contains-cons_cases f fs e c) [
@@ -77,14 +66,14 @@ listed_is_item : (state : State) (item : Item) → Contains (all_items state) it
 listed_is_item state item c =
     let e = Contains-of_flat_map items_in (entries state) item c in
     let s = Contains-of_map (item_of e.0.0) (entries e.0.1.sets) item e.2 in
-    let known : IsItem state (item_of e.0.0 s.0) = (e.0.1, get-entry state e.0.0 e.0.1 e.1, is_some_of (get e.0.1.sets s.0.0) s.0.1 (get-entry e.0.1.sets s.0.0 s.0.1 s.1)) in
+    let known : IsItem state (item_of e.0.0 s.0) = (e.0.1, get-entry numbers_exact state e.0.0 e.0.1 e.1, is_some_of (get e.0.1.sets s.0.0) s.0.1 (get-entry numbers_exact e.0.1.sets s.0.0 s.0.1 s.1)) in
     subst (IsItem state) s.2 known
 
 item_is_listed : (state : State) (item : Item) → IsItem state item → Contains (all_items state) item
 item_is_listed state item is =
     let patch = some_of (get is.0.sets item.set) is.2 in
-    Contains-to_flat_map items_in (entries state) (item.change, is.0) item (entry-get state item.change is.0 is.1)
-    (Contains-to_map (item_of item.change) (entries is.0.sets) (item.set, patch.0) (entry-get is.0.sets item.set patch.0 patch.1))
+    Contains-to_flat_map items_in (entries state) (item.change, is.0) item (entry-get numbers_exact state item.change is.0 is.1)
+    (Contains-to_map (item_of item.change) (entries is.0.sets) (item.set, patch.0) (entry-get numbers_exact is.0.sets item.set patch.0 patch.1))
 
 pub AreItems-all_items : (state : State) → AreItems state (all_items state)
 AreItems-all_items state = record {

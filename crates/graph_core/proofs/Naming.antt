@@ -2,18 +2,14 @@
 use Rattle.std.proofs.Common.{◌≡◌, ◌<◌, ◌+◌, ℕ, Bool, true, false, ◌||◌, cond, eqb, List, [], ◌∷◌, ◌++◌, map, take, length, get_or, Contains, append-nil, refl, sym, ap, ◌∙◌, subst, arith}
 use Rattle.std.specs.List.{Any}
 use Rattle.std.specs.List.Sorted.{IsStrictlyIncreasing}
-use Rattle.std.proofs.lemmas.Bool.{false≢true, eqb-true}
+use Rattle.std.proofs.lemmas.Bool.{false≢true, false_from_ne_true, eqb-true}
 use Rattle.std.proofs.lemmas.List.{length-take-le, take_more, get_or-map}
 use Rattle.std.proofs.lemmas.List.Folds.{Any-from_list_any, list_any-append}
-use Rattle.gate_rules.specs.declared.own.Item.{Item}
+use Rattle.state_core.specs.declared.item.Item.{Item}
 use Rattle.graph_core.specs.ItemGraph.{has, namers_of}
 use Rattle.graph_core.proofs.Placing.{taken_below}
 
 -- ---- within one item's targets
-false_unless : (b : Bool) → ¬ (b ≡ true) → b ≡ false
-false_unless true h = absurd (h refl)
-false_unless false h = refl
-
 pub Contains-from_has : (targets : List ℕ) (number : ℕ) → has targets number ≡ true → Contains targets number
 Contains-from_has targets number h =
     let found : Any (λ target. eqb target number ≡ true) targets = Any-from_list_any (λ target. eqb target number) targets h in
@@ -24,7 +20,7 @@ not_below_itself n h = omega (arith, h)
 
 -- a target isn't among those before it
 not_yet : (targets : List ℕ) (i number : ℕ) → IsStrictlyIncreasing targets → i < length targets → eqb (get_or targets i 0) number ≡ true → has (take i targets) number ≡ false
-not_yet targets i number rising within here = false_unless (has (take i targets) number) (λ h.
+not_yet targets i number rising within here = false_from_ne_true (has (take i targets) number) (λ h.
     let below = taken_below targets i rising within number (Contains-from_has (take i targets) number h) in
     not_below_itself number (subst (λ n. number < n) (eqb-true (get_or targets i 0) number here) below))
 

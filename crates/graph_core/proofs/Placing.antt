@@ -8,12 +8,12 @@ use Rattle.std.proofs.lemmas.List.{get_or-take, get_or_default, length-take-le, 
 use Rattle.std.proofs.lemmas.List.Elements.{Contains-push, Contains-push_cases, Contains-append_left}
 use Rattle.std.proofs.lemmas.List.Kept.{AllPairs-from_increasing}
 use Rattle.std.proofs.lemmas.Map.Keys.{sorted_from_strictly_increasing, IsStrictlyIncreasing-from_sorted}
-use Rattle.gate_rules.specs.declared.own.Item.{Item}
-use Rattle.graph_core.specs.Order.{item_cmp}
+use Rattle.state_core.specs.declared.item.Item.{Item}
+use Rattle.state_core.specs.Items.{item_cmp}
 use Rattle.graph_core.specs.ItemGraph.{IsAt}
 use Rattle.graph_core.specs.Listed.{IsLastOf, ArePlaces}
-use Rattle.graph_core.specs.MemberLaws.{sorted_push}
-use Rattle.graph_core.specs.PlaceLaws.{changes_rise}
+use Rattle.lattice_core.specs.MemberLaws.{sorted_push}
+use Rattle.state_core.specs.ItemLaws.{changes_rise}
 
 less_is : (m n : ℕ) → m < n → nat_cmp m n ≡ Less
 less_is m n h = ap (λ b. cond b Less (cond (eqb m n) Equal Greater)) (lt-ltb m n h)

@@ -9,11 +9,12 @@ use Rattle.std.specs.List.Sorted.{IsStrictlySortedBy, IsPartitionedBy, IsPartiti
 use Rattle.std.proofs.lemmas.Bool.{le-leb, leb-true, false≢true}
 use Rattle.std.proofs.lemmas.List.Sorted.{IsPartitionedBy-leb}
 use Rattle.std.proofs.lemmas.Option.{slice_get_within, get_or_from_slice_get, slice_get-get_or}
-use Rattle.gate_rules.specs.declared.own.Item.{Item}
-use Rattle.graph_core.specs.Order.{item_cmp}
+use Rattle.state_core.specs.declared.item.Item.{Item}
+use Rattle.state_core.specs.Items.{item_cmp}
 use Rattle.graph_core.specs.ItemGraph.{IsAt}
 use Rattle.graph_core.specs.Listed.{IsLastOf}
-use Rattle.graph_core.specs.PlaceLaws.{earlier_or_same, one_item, changes_rise, sorted_at, items_total, not_below_itself, at_Contains, at_below}
+use Rattle.lattice_core.specs.PlaceLaws.{earlier_or_same, one_item, sorted_at, not_below_itself, at_Contains, at_below}
+use Rattle.state_core.specs.ItemLaws.{changes_rise, items_total}
 
 less_unless : (m n : ℕ) → (n ≤ m → ⊥) → m < n
 less_unless m n h = omega (arith, h)

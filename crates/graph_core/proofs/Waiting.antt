@@ -16,12 +16,14 @@ use Rattle.change_core.specs.declared.life.Status.{Status}
 use Rattle.change_core.specs.declared.life.Status.TheVariants.{New, Abandoned, Merged}
 use Rattle.footer_text.specs.Footers.{AreFooters, MessageNeeds}
 use Rattle.gate_rules.specs.Rules.{GateRules}
-use Rattle.gate_rules.specs.declared.own.Item.{Item}
-use Rattle.replica_core.specs.State.{State}
-use Rattle.graph_core.specs.Dependencies.{IsNeeded, IsParent, IsMerged, Names}
+use Rattle.state_core.specs.declared.item.Item.{Item}
+use Rattle.state_core.specs.State.{State}
+use Rattle.state_core.specs.Known.{IsMerged}
+use Rattle.graph_core.specs.Dependencies.{IsNeeded, IsParent, Names}
 use Rattle.graph_core.specs.ItemGraph.{AreTargets}
-use Rattle.graph_core.specs.MemberLaws.{Contains-of_filter, Contains-to_filter}
-use Rattle.graph_core.specs.Merged.{is_final, merged_in}
+use Rattle.lattice_core.specs.MemberLaws.{Contains-of_filter, Contains-to_filter}
+use Rattle.state_core.specs.Known.{merged_in}
+use Rattle.state_core.specs.KnownLaws.{merged_test}
 
 -- ---- what an item names
 module _ (gate : GateRules) (state : State) (item : Item) (change : Change) (message needs : List ℕ) (ignored : List (List ℕ))
@@ -67,18 +69,6 @@ module _ (gate : GateRules) (state : State) (item : Item) (change : Change) (mes
     one_parent e = cc
 
 -- ---- what it waits for
-final_is : (status : Status) → is_final status ≡ true → status ≡ Merged
-final_is New e = absurd (false≢true e)
-final_is Abandoned e = absurd (false≢true e)
-final_is Merged e = refl
-
-merged_of : (state : State) (number : ℕ) (found : Option Change) → finite.get state number ≡ found → merged_in found ≡ true → IsMerged state number
-merged_of state number None stands e = absurd (false≢true e)
-merged_of state number (Some change) stands e = record { change = change; stands = stands; merged = final_is (status_of change) e }
-
-merged_test : (state : State) (number : ℕ) → IsMerged state number → merged_in (finite.get state number) ≡ true
-merged_test state number is = ap merged_in is.stands ∙ ap is_final is.merged
-
 stays : (b : Bool) → ¬ (b ≡ true) → not b ≡ true
 stays true h = absurd (h refl)
 stays false h = refl
@@ -103,10 +93,10 @@ settled gate state item names kept sorted once named kept_is moved in_order filt
         λ c.
             let in_kept = Contains-permutation sorted kept n (IsPermutation-sym kept sorted moved) (Contains-from_dedup eqb sorted n (subst (λ l. Contains l n) is c)) in
             let passed = Contains-of_filter (is_open_in state) names n (subst (λ l. Contains l n) kept_is in_kept) in
-            ((named n).0 passed.0, λ merged. stayed (merged_in (finite.get state n)) passed.1 (merged_test state n merged)),
+            ((named n).0 passed.0, λ merged. stayed (merged_in (finite.get state n)) passed.1 ((merged_test state n).1 merged)),
         λ target.
             let in_names = (named n).1 target.0 in
-            let unmerged = stays (merged_in (finite.get state n)) (λ e. target.1 (merged_of state n (finite.get state n) refl e)) in
+            let unmerged = stays (merged_in (finite.get state n)) (λ e. target.1 ((merged_test state n).0 e)) in
             let in_kept = subst (λ l. Contains l n) (sym kept_is) (Contains-to_filter (is_open_in state) names n in_names unmerged) in
             subst (λ l. Contains l n) (sym is) (Contains-dedup_nat sorted n (Contains-permutation kept sorted n moved in_kept)),
       );

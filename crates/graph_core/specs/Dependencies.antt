@@ -5,31 +5,13 @@
 use Rattle.std.specs.Prelude.{◌≡◌, ◌≢◌, ℕ, ◌⊎◌, List, Some}
 use Rattle.std.specs.FinMap as finite
 use Rattle.change_core.specs.Change.{Change}
-use Rattle.change_core.specs.Views.{IsGreatestKnown, IsKnownSet, message_of, parent_of, status_of}
-use Rattle.change_core.specs.declared.life.Status.TheVariants.{Merged}
+use Rattle.change_core.specs.Views.{message_of, parent_of}
 use Rattle.footer_text.specs.Footers.{MessageNeeds}
 use Rattle.gate_rules.specs.Rules.{GateRules}
-use Rattle.gate_rules.specs.declared.own.Item.{Item}
-use Rattle.replica_core.specs.State.{State}
-
--- the change is merged, whether a patch set of it is known or not
-pub record IsMerged (state : State) (number : ℕ) : Type 0 where
-  pub change : Change
-  pub stands : finite.get state number ≡ Some change
-  pub merged : status_of change ≡ Merged
-
--- some patch set of the change is known
-pub record IsKnown (state : State) (number : ℕ) : Type 0 where
-  pub change : Change
-  pub stands : finite.get state number ≡ Some change
-  pub set : ℕ
-  pub known : IsKnownSet change set
-
--- the item is the current patch set of its change: the greatest known
-pub record IsCurrentItem (state : State) (item : Item) : Type 0 where
-  pub change : Change
-  pub stands : finite.get state item.change ≡ Some change
-  pub greatest : IsGreatestKnown change item.set
+use Rattle.state_core.specs.declared.item.Item.{Item}
+use Rattle.state_core.specs.State.{State}
+use Rattle.state_core.specs.Items.{IsCurrentItem}
+use Rattle.state_core.specs.Known.{IsMerged}
 
 -- a footer of the patch set's message names the change, which isn't the item's own
 pub record IsNeeded (gate : GateRules) (state : State) (item : Item) (number : ℕ) : Type 0 where

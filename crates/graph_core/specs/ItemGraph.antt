@@ -5,10 +5,10 @@ use Rattle.std.specs.List.{list_any, AllZip}
 use Rattle.std.specs.List.Sorted.{IsStrictlyIncreasing, IsStrictlySortedBy}
 use Rattle.walk_core.specs.Walks.{IsOnCycle}
 use Rattle.gate_rules.specs.Rules.{GateRules}
-use Rattle.gate_rules.specs.Items.{IsItem}
-use Rattle.gate_rules.specs.declared.own.Item.{Item}
-use Rattle.replica_core.specs.State.{State}
-use Rattle.graph_core.specs.Order.{item_cmp}
+use Rattle.state_core.specs.Items.{IsItem}
+use Rattle.state_core.specs.declared.item.Item.{Item}
+use Rattle.state_core.specs.State.{State}
+use Rattle.state_core.specs.Items.{item_cmp}
 use Rattle.graph_core.specs.Dependencies.{IsTarget, IsDependency}
 
 pub record ItemGraph : Type 0 where

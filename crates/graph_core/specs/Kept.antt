@@ -4,8 +4,8 @@ use Rattle.std.specs.Ordering.{nat_cmp}
 use Rattle.std.specs.BTreeMap.{BTreeMap, get}
 use Rattle.std.specs.List.Sorted.{IsStrictlySortedBy}
 use Rattle.std.specs.declared.vec.Vec.{Vec}
-use Rattle.gate_rules.specs.declared.own.Item.{Item}
-use Rattle.graph_core.specs.Order.{item_cmp}
+use Rattle.state_core.specs.declared.item.Item.{Item}
+use Rattle.state_core.specs.Items.{item_cmp}
 use Rattle.graph_core.specs.ItemGraph.{namers_of}
 use Rattle.graph_core.specs.Listed.{items_at}
 

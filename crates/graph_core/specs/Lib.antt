@@ -1,11 +1,5 @@
-pub mod Order
 pub mod Dependencies
 pub mod ItemGraph
 pub mod Listed
-pub mod PlaceLaws
-pub mod Merged
-pub mod MemberLaws
 pub mod Kept
-pub mod ZipLaws
 pub mod WalkLaws
-pub mod EntryLaws

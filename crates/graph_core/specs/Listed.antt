@@ -6,8 +6,8 @@ use Rattle.std.specs.FinMap as finite
 use Rattle.review_ops.specs.Timestamp.{Timestamp}
 use Rattle.change_core.specs.Slots.{Patch}
 use Rattle.change_core.specs.Change.{Change}
-use Rattle.gate_rules.specs.declared.own.Item.{Item}
-use Rattle.replica_core.specs.State.{State}
+use Rattle.state_core.specs.declared.item.Item.{Item}
+use Rattle.state_core.specs.State.{State}
 use Rattle.graph_core.specs.ItemGraph.{IsAt}
 
 abbrev pub item_of : ℕ → ℕ × (Timestamp × Patch) → Item

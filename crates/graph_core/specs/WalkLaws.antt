@@ -7,12 +7,13 @@ use Rattle.std.proofs.Common.{zero, suc, refl, sym, ap, ◌∙◌, subst}
 use Rattle.std.proofs.lemmas.Option.{slice_get_within}
 use Rattle.walk_core.specs.Walks.{Leads, IsOnCycle}
 use Rattle.walk_core.specs.Digraphs.{HasEdge, IsWithin, AreOnCycles, row}
-use Rattle.gate_rules.specs.declared.own.Item.{Item}
-use Rattle.graph_core.specs.Order.{item_cmp}
+use Rattle.state_core.specs.declared.item.Item.{Item}
+use Rattle.state_core.specs.Items.{item_cmp}
 use Rattle.graph_core.specs.ItemGraph.{IsAt, EndsAt, AreEnds}
-use Rattle.graph_core.specs.MemberLaws.{Contains-none}
-use Rattle.graph_core.specs.PlaceLaws.{at_Contains, one_item, one_place, items_total}
-use Rattle.graph_core.specs.ZipLaws.{AllZip-at, AllZip-beside, AllZip-from_places, length-AllZip}
+use Rattle.lattice_core.specs.MemberLaws.{Contains-none}
+use Rattle.lattice_core.specs.PlaceLaws.{at_Contains, one_item, one_place}
+use Rattle.state_core.specs.ItemLaws.{items_total}
+use Rattle.lattice_core.specs.ZipLaws.{AllZip-at, AllZip-beside, AllZip-from_places, length-AllZip}
 
 row_of : (found : Option (List ℕ)) (place : ℕ) → Contains (row found) place → (ends : List ℕ) × (found ≡ Some ends) × Contains ends place
 row_of None place c = absurd (Contains-none place c)

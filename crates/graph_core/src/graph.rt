@@ -1,20 +1,19 @@
 ghost use Rattle.std.specs.Prelude.{◌≡◌, ◌<◌, ℕ, Bool, IfOk, Contains, length};
-ghost use Rattle.replica_core.specs.State.{state_of};
 ghost use Rattle.walk_core.specs.Digraphs.{ends_of};
 ghost use Rattle.graph_core.specs.ItemGraph.{IsGraphOf, StandsAt, namers_of};
 
 use super::items::{items_of, place_of};
 use super::namers::all_namers;
 use super::targets::{all_ends, all_targets};
-use gate_rules::{Gate, Item};
+use gate_rules::Gate;
 use lattice_core::NoMemory;
-use replica_core::Replica;
+use state_core::{Item, State};
 use std::alloc::Global;
 use std::collections::BTreeMap;
 use std::marker::Model;
 use walk_core::Digraph;
 
-/// The items of a replica with what they wait for under a gate. Contracts see lists side by side: the items, and with each the changes that it
+/// The items of a state with what they wait for under a gate. Contracts see lists side by side: the items, and with each the changes that it
 /// waits for, the places of their current items, and whether it is on a cycle.
 #[derive(Drop)]
 pub struct Graph {
@@ -44,13 +43,13 @@ impl Model for Graph {
 }
 
 impl Graph {
-    /// The graph of a replica under a gate. It costs the bytes of the messages, and time and memory that grow with the items and what they wait
+    /// The graph of a state under a gate. It costs the bytes of the messages, and time and memory that grow with the items and what they wait
     /// for, but for a logarithm.
-    pub fn build(alloc: Global, replica: &Replica, gate: &Gate) -> Result<Graph, NoMemory>
-        ensures { IfOk result (IsGraphOf gate.now (state_of replica.now)) }
+    pub fn build(alloc: Global, state: &State, gate: &Gate) -> Result<Graph, NoMemory>
+        ensures { IfOk result (IsGraphOf gate.now state.now) }
     {
-        let items = items_of(alloc, replica)?;
-        let targets = all_targets(alloc, gate, replica, items.as_slice())?;
+        let items = items_of(alloc, state)?;
+        let targets = all_targets(alloc, gate, state, items.as_slice())?;
         let ends = all_ends(alloc, items.as_slice(), targets.as_slice())?;
         let namers = all_namers(alloc, items.as_slice(), targets.as_slice())?;
         let digraph = Digraph::new(alloc, ends)?;

@@ -1,24 +1,22 @@
 ghost use Rattle.std.specs.Prelude.{◌≡◌, ◌≢◌, ◌++◌, ◌≤◌, ℕ, IfOk, OnOk, MatchOption, Contains, flat_map};
 ghost use Rattle.std.specs.Ordering.{is_lt};
 ghost use Rattle.std.specs.List.Sorted.{IsStrictlySortedBy};
-ghost use Rattle.replica_core.specs.State.{state_of};
-ghost use Rattle.graph_core.specs.Order.{item_cmp};
+ghost use Rattle.state_core.specs.Items.{item_cmp};
 ghost use Rattle.graph_core.specs.ItemGraph.{AreItems, IsAt};
 ghost use Rattle.graph_core.specs.Listed.{IsLastOf, items_in};
-ghost use Rattle.gate_rules.specs.declared.own.Item.{Item};
+ghost use Rattle.state_core.specs.declared.item.Item.{Item};
 
 use change_core::ChangeState;
-use gate_rules::Item;
 use lattice_core::NoMemory;
-use replica_core::Replica;
+use state_core::{Item, State};
 use std::alloc::Global;
 
-/// The items of a replica, in order.
-pub fn items_of(alloc: Global, replica: &Replica) -> Result<Vec<Item>, NoMemory>
-    ensures { IfOk result (λ items. AreItems (state_of replica.now) items.items) }
+/// The items of a state, in order.
+pub fn items_of(alloc: Global, state: &State) -> Result<Vec<Item>, NoMemory>
+    ensures { IfOk result (λ items. AreItems state.now items.items) }
 {
     let mut items = Vec::new(alloc);
-    for (number, change) in replica.changes() {
+    for (number, change) in state.changes() {
         add_items(&mut items, *number, change)?;
     }
     Ok(items)

@@ -5,8 +5,8 @@ ghost use Rattle.std.specs.List.Sorted.{IsStrictlyIncreasing};
 ghost use Rattle.graph_core.specs.ItemGraph.{has, namers_of};
 ghost use Rattle.graph_core.specs.Listed.{items_at};
 
-use gate_rules::Item;
 use lattice_core::NoMemory;
+use state_core::Item;
 use std::alloc::Global;
 use std::collections::BTreeMap;
 

@@ -1,33 +1,20 @@
 ghost use Rattle.std.specs.Prelude.{◌≡◌, ◌≢◌, ◌↔◌, ℕ, IfOk, MatchOption, All, Contains, Some};
-ghost use Rattle.std.specs.FinMap.{get};
 ghost use Rattle.std.specs.List.{AllZip};
 ghost use Rattle.std.specs.List.Sorted.{IsStrictlyIncreasing, IsStrictlySortedBy};
 ghost use Rattle.change_core.specs.Views.{parent_of};
-ghost use Rattle.replica_core.specs.State.{state_of};
-ghost use Rattle.gate_rules.specs.Items.{IsItem};
-ghost use Rattle.graph_core.specs.Order.{item_cmp};
+ghost use Rattle.state_core.specs.Items.{IsItem};
+ghost use Rattle.state_core.specs.Items.{item_cmp};
 ghost use Rattle.graph_core.specs.Dependencies.{Names};
 ghost use Rattle.graph_core.specs.ItemGraph.{AreTargets};
 ghost use Rattle.graph_core.specs.Listed.{ArePlaces};
-ghost use Rattle.graph_core.specs.Merged.{merged_in};
 
 use super::items::last_of;
-use change_core::{ChangeState, Status};
+use change_core::ChangeState;
 use footer_text::{Footers, depends};
-use gate_rules::{Gate, Item};
+use gate_rules::Gate;
 use lattice_core::NoMemory;
-use replica_core::Replica;
+use state_core::{Item, State};
 use std::alloc::Global;
-
-/// Whether a change is merged.
-fn is_merged(replica: &Replica, number: u32) -> bool
-    ensures { result ≡ merged_in (get (state_of replica.now) number) }
-{
-    match replica.change(number) {
-        Some(change) => matches!(change.status(), Status::Merged),
-        None => false,
-    }
-}
 
 /// The change of the item's Git parent, unless it is the item's own.
 fn other_parent(change: &ChangeState, item: Item) -> Option<u32>
@@ -42,12 +29,12 @@ fn other_parent(change: &ChangeState, item: Item) -> Option<u32>
 }
 
 /// The changes that an item names, in no order.
-fn names_of(alloc: Global, gate: &Gate, replica: &Replica, item: Item) -> Result<Vec<u32>, NoMemory>
-    requires { IsItem (state_of replica.now) item }
+fn names_of(alloc: Global, gate: &Gate, state: &State, item: Item) -> Result<Vec<u32>, NoMemory>
+    requires { IsItem state.now item }
     ensures { IfOk result (λ names. (number : ℕ)
-        → Contains names.items number ↔ Names gate.now (state_of replica.now) item number) }
+        → Contains names.items number ↔ Names gate.now state.now item number) }
 {
-    let change = replica.change(item.change).unwrap();
+    let change = state.change(item.change).unwrap();
     let message = change.message(item.set).unwrap();
     let Footers {
         needs: mut names,
@@ -64,14 +51,14 @@ fn names_of(alloc: Global, gate: &Gate, replica: &Replica, item: Item) -> Result
 pub fn targets_of(
     alloc: Global,
     gate: &Gate,
-    replica: &Replica,
+    state: &State,
     item: Item,
 ) -> Result<Vec<u32>, NoMemory>
-    requires { IsItem (state_of replica.now) item }
-    ensures { IfOk result (λ targets. AreTargets gate.now (state_of replica.now) item targets.items) }
+    requires { IsItem state.now item }
+    ensures { IfOk result (λ targets. AreTargets gate.now state.now item targets.items) }
 {
-    let mut targets = names_of(alloc, gate, replica, item)?;
-    targets.retain(|number| !is_merged(replica, *number));
+    let mut targets = names_of(alloc, gate, state, item)?;
+    targets.retain(|number| !state.is_merged(*number));
     targets.sort_unstable();
     targets.dedup();
     Ok(targets)
@@ -81,16 +68,16 @@ pub fn targets_of(
 pub fn all_targets(
     alloc: Global,
     gate: &Gate,
-    replica: &Replica,
+    state: &State,
     items: &[Item],
 ) -> Result<Vec<Vec<u32>>, NoMemory>
-    requires { All (IsItem (state_of replica.now)) items.now }
+    requires { All (IsItem state.now) items.now }
     ensures { IfOk result (λ rows. AllZip
-        (λ item row. AreTargets gate.now (state_of replica.now) item row.items) items.now rows.items) }
+        (λ item row. AreTargets gate.now state.now item row.items) items.now rows.items) }
 {
     let mut rows = Vec::with_capacity(alloc, items.len())?;
     for item in items {
-        rows.push(targets_of(alloc, gate, replica, *item)?)?;
+        rows.push(targets_of(alloc, gate, state, *item)?)?;
     }
     Ok(rows)
 }

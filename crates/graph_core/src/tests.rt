@@ -1,7 +1,7 @@
 use super::Graph;
-use gate_rules::{Gate, Item};
-use replica_core::Replica;
+use gate_rules::Gate;
 use review_ops::{Body, Draft, Op, Stamp};
+use state_core::{Item, State};
 use std::alloc::Global;
 use std::process::Abort;
 use std::test::Fail;
@@ -20,9 +20,9 @@ enum Step {
 use Step::{Abandon, Merged, PatchSet};
 
 /// Takes in an operation of this time.
-fn take(replica: &mut Replica, time: u64, draft: Draft) -> Result<(), Fail> {
+fn take(state: &mut State, time: u64, draft: Draft) -> Result<(), Fail> {
     let stamp = Stamp::new(time, 1, 1, time).ok_or("a stamp")?;
-    replica.take(Op::new(stamp, Body::checked(draft)?))?;
+    state.take(&Op::new(stamp, Body::checked(draft)?))?;
     Ok(())
 }
 
@@ -48,18 +48,18 @@ fn draft_of(alloc: Global, step: Step) -> Result<Draft, Fail> {
     }
 }
 
-fn replica_of(alloc: Global, steps: &[Step]) -> Result<Replica, Fail> {
-    let mut replica = Replica::new(alloc);
+fn state_of(alloc: Global, steps: &[Step]) -> Result<State, Fail> {
+    let mut state = State::new(alloc);
     for (time, step) in (1u64..).zip(steps) {
-        take(&mut replica, time, draft_of(alloc, *step)?)?;
+        take(&mut state, time, draft_of(alloc, *step)?)?;
     }
-    Ok(replica)
+    Ok(state)
 }
 
 /// The graph of the record with these operations under the gate.
 fn graph_under(alloc: Global, gate: &Gate, steps: &[Step]) -> Result<Graph, Fail> {
-    let replica = replica_of(alloc, steps)?;
-    Ok(Graph::build(alloc, &replica, gate)?)
+    let state = state_of(alloc, steps)?;
+    Ok(Graph::build(alloc, &state, gate)?)
 }
 
 /// The graph of the record with these operations.

@@ -14,17 +14,13 @@ use Rattle.std.specs.FinMap.Entries.{below_all, put, by_order, find-put}
 use Rattle.std.proofs.Common.{refl, sym, ap, ◌∙◌, subst, arith}
 use Rattle.std.proofs.lemmas.List.{length-map}
 use Rattle.std.proofs.lemmas.Map.Keys.{sorted_head, sorted_tail}
+use Rattle.lattice_core.specs.Tests.{equal}
 use Rattle.lattice_core.specs.Keep.{IsExactOrder}
 use Rattle.lattice_core.specs.JoinMap.{map_of, same_at_each_key}
 
 both : (a b : Bool) → Holds a → Holds b → Holds (a && b)
 both true b h k = k
 both false b h k = h
-
-equal : (r : Ordering) → is_eq r ≡ true → r ≡ Equal
-equal Less e = cc
-equal Equal e = refl
-equal Greater e = cc
 
 is_eq-turned : (r s : Ordering) → r ≡ ordering_reverse s → is_eq r ≡ is_eq s
 is_eq-turned r Less e = ap is_eq e

@@ -8,6 +8,7 @@ use Rattle.std.specs.List.{reduce}
 use Rattle.std.specs.Cmp.{upto, tied_itself}
 use Rattle.std.proofs.Common.{refl, sym, ap, ◌∙◌, subst, arith}
 use Rattle.std.proofs.lemmas.List.Elements.{All-head, All-cons, All-contains, All-contains_itself, All-weaker, Contains-append_right}
+use Rattle.lattice_core.specs.MemberLaws.{Contains-first}
 use Rattle.lattice_core.specs.Keep.{IsExactOrder}
 use Rattle.lattice_core.specs.Join.{IsJoin, Covers, joined_all, joined_all-IsLeastCover}
 
@@ -83,9 +84,6 @@ module _ {T : Type 0} {order : T → T → Ordering} (exact_order : IsExactOrder
         | Equal ↦ λ e. refl
         | Greater ↦ λ e. refl
       ] refl
-
-  Contains-first : (x : T) (xs : List T) → Contains (x ∷ xs) x
-  Contains-first x xs = All-head (Contains (x ∷ xs)) x xs (All-contains_itself (x ∷ xs))
 
   Contains-greater : (a b : T) (rest : List T) → Contains (a ∷ b ∷ rest) (ord_max order a b)
   Contains-greater a b rest =

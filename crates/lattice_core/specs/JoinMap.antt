@@ -9,6 +9,7 @@ use Rattle.std.specs.List.{AllByRecursion, reduce, filter_map, cons_option}
 use Rattle.std.specs.FinMap.{FinMap, empty, get, insert, entries, from_entries, find, is_sorted, entries_sorted, get-insert, get-entries, get-empty, same_map}
 use Rattle.std.specs.FinMap.Entries.{below_all}
 use Rattle.std.proofs.Common.{refl, sym, ap, ◌∙◌, subst}
+use Rattle.lattice_core.specs.Tests.{first_of_both, second_of_both, equal}
 use Rattle.lattice_core.specs.Keep.{IsExactOrder}
 use Rattle.lattice_core.specs.Join.{IsJoin, IsBetween, Covers, option_joined, options_join, joined_all, joined_all-options, Covers-trans, Covers-left}
 
@@ -35,23 +36,10 @@ module _ {S T : Type 0} {order : S → S → Ordering} (joined : T → T → T) 
   map_joined m n = put_all m (entries n)
 
 -- ---- what the parts of a test say
-first_of_both : (a b : Bool) → Holds (a && b) → Holds a
-first_of_both true b h = tt
-first_of_both false b h = h
-
-second_of_both : (a b : Bool) → Holds (a && b) → Holds b
-second_of_both true b h = h
-second_of_both false b h = absurd h
-
-less : (r : Ordering) → Holds (is_lt r) → is_eq r ≡ false
-less Less h = refl
-less Equal h = absurd h
-less Greater h = absurd h
-
-equal : (r : Ordering) → is_eq r ≡ true → r ≡ Equal
-equal Less e = cc
-equal Equal e = refl
-equal Greater e = cc
+not_equal : (r : Ordering) → Holds (is_lt r) → is_eq r ≡ false
+not_equal Less h = refl
+not_equal Equal h = absurd h
+not_equal Greater h = absurd h
 
 option_joined-Some : {T : Type 0} (joined : T → T → T) (o : Option T) (v : T) → option_joined joined o (Some v) ≡ Some (joined_to joined o v)
 option_joined-Some joined None v = refl
@@ -69,7 +57,7 @@ module _ {S T : Type 0} {order : S → S → Ordering} (exact_order : IsExactOrd
   -- a key below all keys of a list isn't found in it
   find-below : (q : S) (es : List (S × T)) → Holds (below_all order q es) → find order q es ≡ None
   find-below q [] h = refl
-  find-below q (e ∷ es) h = ap (λ t. cond t (Some e.1) (find order q es)) (less (order q e.0) (first_of_both (is_lt (order q e.0)) (below_all order q es) h)) ∙ find-below q es (second_of_both (is_lt (order q e.0)) (below_all order q es) h)
+  find-below q (e ∷ es) h = ap (λ t. cond t (Some e.1) (find order q es)) (not_equal (order q e.0) (first_of_both (is_lt (order q e.0)) (below_all order q es) h)) ∙ find-below q es (second_of_both (is_lt (order q e.0)) (below_all order q es) h)
 
   pub get-put_joined : (joined : T → T → T) (m : FinMap order T) (k : S) (v : T) (q : S) → get (put_joined joined m k v) q ≡ cond (eq_by_cmp order q k) (Some (joined_to joined (get m k) v)) (get m q)
   get-put_joined joined m k v q = get-insert exact_order.total m k (joined_to joined (get m k) v) q

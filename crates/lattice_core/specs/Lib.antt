@@ -1,6 +1,12 @@
+pub mod Tests
 pub mod Flag
 pub mod Greatest
 pub mod Join
 pub mod JoinMap
 pub mod JoinMapLends
 pub mod Keep
+pub mod Exact
+pub mod MemberLaws
+pub mod PlaceLaws
+pub mod ZipLaws
+pub mod EntryLaws

@@ -20,7 +20,7 @@ use Rattle.replica_core.specs.declared.front.Row.{Row}
 use Rattle.replica_core.specs.Clock.{greatest}
 use Rattle.replica_core.specs.Front.{Reaches, row_order, rows_exact, reach_of, raised, AreReached}
 use Rattle.replica_core.specs.FrontLaws.{AreReached-empty, AreReached-raised, reach_of-raised, rows_alike, same_reaches}
-use Rattle.replica_core.specs.Exact.{same_by_test}
+use Rattle.lattice_core.specs.Exact.{same_by_test}
 use Rattle.op_text.specs.declared.fault.OpTextFault.{OpTextFault}
 use Rattle.op_text.specs.declared.fault.OpTextFault.TheVariants.{NoMemory}
 use Rattle.op_text.specs.Front.{Entry, IsEntry, AreEntries, SpellsEntries, counts_of, SayFront, SpellsFront, IsFrontRefusal, entry_of, entry_of_row, entry_data, entries_data, entries_of, front_text}

@@ -6,13 +6,14 @@ use Rattle.std.proofs.lemmas.Option.{slice_get_within, get_or_from_slice_get}
 use Rattle.walk_core.specs.Walks.{IsOnCycle}
 use Rattle.walk_core.specs.Digraphs.{ends_of, row}
 use Rattle.gate_rules.specs.Rules.{GateRules}
-use Rattle.gate_rules.specs.Items.{IsItem}
-use Rattle.gate_rules.specs.declared.own.Item.{Item}
-use Rattle.replica_core.specs.State.{State}
-use Rattle.graph_core.specs.Dependencies.{IsDependency, IsKnown}
+use Rattle.state_core.specs.Items.{IsItem}
+use Rattle.state_core.specs.declared.item.Item.{Item}
+use Rattle.state_core.specs.State.{State}
+use Rattle.state_core.specs.Known.{IsKnown}
+use Rattle.graph_core.specs.Dependencies.{IsDependency}
 use Rattle.graph_core.specs.ItemGraph.{ItemGraph, IsAt, IsGraphOf, AreTargets}
-use Rattle.graph_core.specs.PlaceLaws.{Contains-at}
-use Rattle.graph_core.specs.ZipLaws.{AllZip-at}
+use Rattle.lattice_core.specs.PlaceLaws.{Contains-at}
+use Rattle.lattice_core.specs.ZipLaws.{AllZip-at}
 use Rattle.ready_core.specs.Refusals.{IsFree, IsOffCycles, IsOnBarredCycle, IsEligible, IsLeastUnknown}
 use Rattle.ready_core.specs.Causes.{IsFirstUnknown}
 

@@ -2,11 +2,12 @@
 use Rattle.std.proofs.Common.{ℕ, sym, ap, subst}
 use Rattle.walk_core.specs.Walks.{IsDistance-once}
 use Rattle.gate_rules.specs.Rules.{GateRules}
-use Rattle.gate_rules.specs.Items.{IsItem}
-use Rattle.gate_rules.specs.declared.own.Item.{Item}
-use Rattle.replica_core.specs.State.{State}
-use Rattle.graph_core.specs.Dependencies.{IsDependency, IsCurrentItem}
-use Rattle.graph_core.specs.MemberLaws.{Contains-of_map}
+use Rattle.state_core.specs.Items.{IsItem}
+use Rattle.state_core.specs.declared.item.Item.{Item}
+use Rattle.state_core.specs.State.{State}
+use Rattle.state_core.specs.Items.{IsCurrentItem}
+use Rattle.graph_core.specs.Dependencies.{IsDependency}
+use Rattle.lattice_core.specs.MemberLaws.{Contains-of_map}
 use Rattle.ready_core.specs.declared.verdicts.Refusal.{Refusal}
 use Rattle.ready_core.specs.declared.verdicts.Refusal.TheVariants.{Own, Cycle, Unknown, Dependency}
 use Rattle.ready_core.specs.declared.verdicts.Left.{Left}

@@ -5,7 +5,7 @@ use Rattle.std.proofs.lemmas.Bool.{cases_lt}
 use Rattle.std.proofs.lemmas.Option.{slice_get_within}
 use Rattle.walk_core.specs.Walks.{Leads}
 use Rattle.walk_core.specs.Digraphs.{row, HasEdge, IsMarked, IsDistanceTo, AreDistances}
-use Rattle.graph_core.specs.PlaceLaws.{at_Contains, at_below}
+use Rattle.lattice_core.specs.PlaceLaws.{at_Contains, at_below}
 use Rattle.ready_core.specs.Causes.{HasRank}
 use Rattle.ready_core.specs.Rounds.{IsRankOf, ComesFrom, IsNoFurther, Follows}
 

@@ -7,15 +7,15 @@ use Rattle.std.proofs.lemmas.List.{map_push}
 use Rattle.std.proofs.lemmas.List.Elements.{Contains-push, Contains-push_cases, Contains-append_left}
 use Rattle.std.proofs.lemmas.Option.{slice_get_within}
 use Rattle.gate_rules.specs.Rules.{GateRules}
-use Rattle.gate_rules.specs.Items.{IsItem}
-use Rattle.gate_rules.specs.declared.own.Item.{Item}
-use Rattle.replica_core.specs.State.{State}
-use Rattle.graph_core.specs.Order.{item_cmp}
+use Rattle.state_core.specs.Items.{IsItem}
+use Rattle.state_core.specs.declared.item.Item.{Item}
+use Rattle.state_core.specs.State.{State}
+use Rattle.state_core.specs.Items.{item_cmp}
 use Rattle.graph_core.specs.Dependencies.{IsDependency}
 use Rattle.graph_core.specs.ItemGraph.{ItemGraph, IsAt, IsGraphOf}
-use Rattle.graph_core.specs.MemberLaws.{Contains-none, sorted_push}
-use Rattle.graph_core.specs.PlaceLaws.{Contains-at, at_Contains, one_item, sorted_at, earlier_or_same}
-use Rattle.graph_core.specs.ZipLaws.{AllZip-at}
+use Rattle.lattice_core.specs.MemberLaws.{Contains-none, sorted_push}
+use Rattle.lattice_core.specs.PlaceLaws.{Contains-at, at_Contains, one_item, sorted_at, earlier_or_same}
+use Rattle.lattice_core.specs.ZipLaws.{AllZip-at}
 use Rattle.ready_core.specs.declared.verdicts.Refusal.{Refusal}
 use Rattle.ready_core.specs.declared.verdicts.Left.{Left}
 use Rattle.ready_core.specs.Closed.{IsClosed-safe, IsInClosedSet-AreSafe, AreSafe}

@@ -1,4 +1,4 @@
--- Which changes are known, and the first of a list that isn't.
+-- The first change of a list that isn't known.
 use Rattle.std.proofs.Common.{◌≡◌, ◌<◌, ◌≤◌, ◌↔◌, ℕ, List, length, get_or, Contains, Option, None, Some, IsTrue, is_some, refl, ◌∙◌, subst, arith, inl, inr}
 use Rattle.std.specs.FinMap as finite
 use Rattle.std.specs.List.Sorted.{IsStrictlyIncreasing}
@@ -8,24 +8,10 @@ use Rattle.std.proofs.lemmas.List.Elements.{Contains-get_or}
 use Rattle.std.proofs.lemmas.List.Kept.{AllPairs-from_increasing}
 use Rattle.change_core.specs.Change.{Change}
 use Rattle.change_core.specs.Views.{IsCurrent, IsKnownSet}
-use Rattle.replica_core.specs.State.{State}
-use Rattle.graph_core.specs.Dependencies.{IsKnown}
-use Rattle.graph_core.specs.PlaceLaws.{earlier_or_same}
+use Rattle.state_core.specs.State.{State}
+use Rattle.state_core.specs.Known.{IsKnown}
+use Rattle.lattice_core.specs.PlaceLaws.{earlier_or_same}
 use Rattle.ready_core.specs.Causes.{IsFirstUnknown}
-
-one_change : (state : State) (number : ℕ) (a b : Change) → finite.get state number ≡ Some a → finite.get state number ≡ Some b → a ≡ b
-one_change state number a b p q = cc
-
--- a change is known just where it has a current patch set
-pub known_by : (state : State) (number : ℕ) (change : Change) (current : Option ℕ) → finite.get state number ≡ Some change → IsCurrent change current → IsTrue (is_some current) ↔ IsKnown state number
-known_by state number change None stands none = (
-  λ e. absurd (false≢true e),
-  λ known. absurd (none known.set (subst (λ c. IsKnownSet c known.set) (one_change state number known.change change known.stands stands) known.known)),
-)
-known_by state number change (Some current) stands is = (λ e. record { change = change; stands = stands; set = current; known = is.known }, λ known. refl)
-
-pub unknown_by : (state : State) (number : ℕ) → finite.get state number ≡ None → ¬ IsKnown state number
-unknown_by state number none known = let stands = known.stands in cc
 
 -- the first in a rising list is the least
 module _ (state : State) (numbers : List ℕ) where

@@ -10,13 +10,14 @@ use Rattle.walk_core.specs.Walks.{Leads, IsDistance-once}
 use Rattle.walk_core.specs.Digraphs.{HasEdge, IsMarked, ends_of, row}
 use Rattle.walk_core.specs.Edges.{AreDistances-zero, AreDistances-next}
 use Rattle.gate_rules.specs.Rules.{GateRules}
-use Rattle.gate_rules.specs.declared.own.Item.{Item}
-use Rattle.replica_core.specs.State.{State}
+use Rattle.state_core.specs.declared.item.Item.{Item}
+use Rattle.state_core.specs.State.{State}
 use Rattle.graph_core.specs.Dependencies.{IsDependency}
 use Rattle.graph_core.specs.ItemGraph.{ItemGraph, IsAt, IsGraphOf, AreEnds}
-use Rattle.graph_core.specs.PlaceLaws.{Contains-at, at_Contains, at_below, one_item, changes_rise, earlier_or_same}
+use Rattle.lattice_core.specs.PlaceLaws.{Contains-at, at_Contains, at_below, one_item, earlier_or_same}
+use Rattle.state_core.specs.ItemLaws.{changes_rise}
 use Rattle.graph_core.specs.WalkLaws.{edge_between, edge_at, Leads-items, Leads-places}
-use Rattle.graph_core.specs.ZipLaws.{AllZip-at}
+use Rattle.lattice_core.specs.ZipLaws.{AllZip-at}
 use Rattle.ready_core.specs.declared.verdicts.Refusal.{Refusal}
 use Rattle.ready_core.specs.declared.verdicts.Refusal.TheVariants.{Dependency}
 use Rattle.ready_core.specs.Refusals.{IsEligible, IsIneligible, IsRefused, IsRank}

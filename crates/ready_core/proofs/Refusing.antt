@@ -2,13 +2,13 @@
 use Rattle.std.proofs.Common.{◌≡◌, ℕ, Some, suc, sym, subst, arith}
 use Rattle.walk_core.specs.Walks.{IsDistance-zero}
 use Rattle.gate_rules.specs.Rules.{GateRules}
-use Rattle.gate_rules.specs.Items.{IsItem}
+use Rattle.state_core.specs.Items.{IsItem}
 use Rattle.gate_rules.specs.Own.{IsOwn}
-use Rattle.gate_rules.specs.declared.own.Item.{Item}
+use Rattle.state_core.specs.declared.item.Item.{Item}
 use Rattle.gate_rules.specs.declared.condition.Condition.{Condition}
-use Rattle.replica_core.specs.State.{State}
+use Rattle.state_core.specs.State.{State}
 use Rattle.graph_core.specs.Dependencies.{IsDependency}
-use Rattle.graph_core.specs.EntryLaws.{greatest_known}
+use Rattle.state_core.specs.GreatestKnown.{greatest_known}
 use Rattle.ready_core.specs.declared.verdicts.Refusal.{Refusal}
 use Rattle.ready_core.specs.declared.verdicts.Refusal.TheVariants.{Own, Cycle, Unknown, Dependency}
 use Rattle.ready_core.specs.Refusals.{IsFree, IsIneligible, IsRefused, IsRank}

@@ -10,19 +10,20 @@ use Rattle.std.proofs.lemmas.Bool.{lt-ltb, cases_lt}
 use Rattle.std.proofs.lemmas.List.Elements.{All-from_recursion, All-contains}
 use Rattle.walk_core.specs.Walks.{IsDistance-once}
 use Rattle.gate_rules.specs.Rules.{GateRules}
-use Rattle.gate_rules.specs.Items.{IsItem}
+use Rattle.state_core.specs.Items.{IsItem}
 use Rattle.gate_rules.specs.Own.{IsOwn, IsFirstBroken, ItemStanding, standing_of, clause_before, side_before}
-use Rattle.gate_rules.specs.declared.own.Item.{Item}
+use Rattle.state_core.specs.declared.item.Item.{Item}
 use Rattle.gate_rules.specs.declared.condition.Condition.{Condition}
 use Rattle.gate_rules.specs.declared.condition.Clause.{Clause}
 use Rattle.gate_rules.specs.declared.condition.Clause.TheVariants.{OpenState, CurrentSet, StatusIn, Approval}
 use Rattle.gate_rules.specs.declared.condition.Side.{Side}
 use Rattle.gate_rules.specs.declared.condition.Side.TheVariants.{Require, Reject}
-use Rattle.replica_core.specs.State.{State}
+use Rattle.state_core.specs.State.{State}
 use Rattle.graph_core.specs.Dependencies.{IsDependency}
-use Rattle.graph_core.specs.EntryLaws.{greatest_known}
-use Rattle.graph_core.specs.MemberLaws.{Contains-cons_cases, Contains-first, Contains-later, Contains-none, Contains-to_map}
-use Rattle.graph_core.specs.PlaceLaws.{items_total, not_below_itself, earlier_or_same}
+use Rattle.state_core.specs.GreatestKnown.{greatest_known}
+use Rattle.lattice_core.specs.MemberLaws.{Contains-cons_cases, Contains-first, Contains-later, Contains-none, Contains-to_map}
+use Rattle.lattice_core.specs.PlaceLaws.{not_below_itself, earlier_or_same}
+use Rattle.state_core.specs.ItemLaws.{items_total}
 use Rattle.ready_core.specs.declared.verdicts.Refusal.{Refusal}
 use Rattle.ready_core.specs.declared.verdicts.Refusal.TheVariants.{Own, Cycle, Unknown, Dependency}
 use Rattle.ready_core.specs.declared.verdicts.Left.{Left}

@@ -5,11 +5,12 @@ use Rattle.std.specs.Prelude.{◌≡◌, ◌≤◌, ℕ, false, None, Some}
 use Rattle.std.proofs.Common.{suc}
 use Rattle.walk_core.specs.Walks.{BeginsFewest, IsDistance, IsOnCycle}
 use Rattle.gate_rules.specs.Rules.{GateRules}
-use Rattle.gate_rules.specs.Items.{IsItem}
+use Rattle.state_core.specs.Items.{IsItem}
 use Rattle.gate_rules.specs.Own.{IsOwn}
-use Rattle.gate_rules.specs.declared.own.Item.{Item}
-use Rattle.replica_core.specs.State.{State}
-use Rattle.graph_core.specs.Dependencies.{IsDependency, IsKnown, IsTarget}
+use Rattle.state_core.specs.declared.item.Item.{Item}
+use Rattle.state_core.specs.State.{State}
+use Rattle.state_core.specs.Known.{IsKnown}
+use Rattle.graph_core.specs.Dependencies.{IsDependency, IsTarget}
 use Rattle.ready_core.specs.Closed.{IsInClosedSet}
 use Rattle.ready_core.specs.declared.verdicts.Refusal.{Refusal}
 use Rattle.ready_core.specs.declared.verdicts.Refusal.TheVariants.{Own, Cycle, Unknown, Dependency}

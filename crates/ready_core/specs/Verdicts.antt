@@ -3,11 +3,11 @@ use Rattle.std.specs.Prelude.{◌≡◌, ◌↔◌, ℕ, List, Contains, map}
 use Rattle.std.proofs.Common.{suc}
 use Rattle.std.specs.List.Sorted.{IsStrictlySortedBy}
 use Rattle.gate_rules.specs.Rules.{GateRules}
-use Rattle.gate_rules.specs.Items.{IsItem}
-use Rattle.gate_rules.specs.declared.own.Item.{Item}
-use Rattle.replica_core.specs.State.{State}
-use Rattle.graph_core.specs.Order.{item_cmp}
-use Rattle.graph_core.specs.Dependencies.{IsCurrentItem}
+use Rattle.state_core.specs.Items.{IsItem}
+use Rattle.state_core.specs.declared.item.Item.{Item}
+use Rattle.state_core.specs.State.{State}
+use Rattle.state_core.specs.Items.{item_cmp}
+use Rattle.state_core.specs.Items.{IsCurrentItem}
 use Rattle.ready_core.specs.declared.verdicts.Left.{Left}
 use Rattle.ready_core.specs.declared.verdicts.Refusal.{Refusal}
 use Rattle.ready_core.specs.declared.verdicts.Refusal.TheVariants.{Own, Cycle, Unknown, Dependency}

@@ -1,8 +1,8 @@
 ghost use Rattle.std.specs.Prelude.{◌≡◌, ◌<◌, ◌↔◌, ℕ, IsTrue, IfOk, MatchOption, All, Contains, length};
-ghost use Rattle.replica_core.specs.State.{State, state_of};
+ghost use Rattle.state_core.specs.State.{State as Changes};
 ghost use Rattle.walk_core.specs.Digraphs.{ends_of};
 ghost use Rattle.gate_rules.specs.Rules.{GateRules};
-ghost use Rattle.gate_rules.specs.declared.own.Item.{Item};
+ghost use Rattle.state_core.specs.declared.item.Item.{Item};
 ghost use Rattle.graph_core.specs.ItemGraph.{IsAt, IsGraphOf};
 ghost use Rattle.ready_core.specs.Refusals.{IsRefused};
 ghost use Rattle.ready_core.specs.Verdicts.{AreVerdicts};
@@ -10,19 +10,19 @@ ghost use Rattle.ready_core.specs.Causes.{AreCauses, AreJudgedBy, AreSearched, H
 
 use super::causes::{all_causes, flags_of};
 use super::verdicts::{Left, Refusal, Verdicts};
-use gate_rules::{Gate, Item};
+use gate_rules::Gate;
 use graph_core::Graph;
 use lattice_core::NoMemory;
-use replica_core::Replica;
+use state_core::{Item, State};
 use std::alloc::Global;
 
-/// Which items of a replica are ready under a gate, and why each other one isn't. It costs the bytes of the messages, the votes on each change
+/// Which items of a state are ready under a gate, and why each other one isn't. It costs the bytes of the messages, the votes on each change
 /// times its patch sets and the gate's patterns, and time and memory that grow with the items and what they wait for, but for a logarithm.
-pub fn evaluate(alloc: Global, replica: &Replica, gate: &Gate) -> Result<Verdicts, NoMemory>
-    ensures { IfOk result (AreVerdicts gate.now (state_of replica.now)) }
+pub fn evaluate(alloc: Global, state: &State, gate: &Gate) -> Result<Verdicts, NoMemory>
+    ensures { IfOk result (AreVerdicts gate.now state.now) }
 {
-    let graph = Graph::build(alloc, replica, gate)?;
-    let causes = all_causes(alloc, replica, gate, &graph)?;
+    let graph = Graph::build(alloc, state, gate)?;
+    let causes = all_causes(alloc, state, gate, &graph)?;
     let ineligible = flags_of(alloc, causes.as_slice())?;
     let ranks = graph.digraph().distances(ineligible.as_slice())?;
     judged(alloc, &graph, causes.as_slice(), ranks.as_slice())
@@ -67,7 +67,7 @@ fn refusal_of(
     requires searched { AreSearched graph.now causes.now ranks.now }
     requires rank { HasRank ranks.now place rank }
     requires place { place < length graph.now.items }
-    ensures { (gate : GateRules) (state : State) (item : Item) → IsGraphOf gate state graph.now
+    ensures { (gate : GateRules) (state : Changes) (item : Item) → IsGraphOf gate state graph.now
         → AreCauses gate state graph.now.items causes.now → IsAt graph.now.items place item
         → IsRefused gate state item result rank }
 {

@@ -4,9 +4,10 @@ ghost use Rattle.std.specs.Prelude.{◌≡◌, ◌↔◌, ℕ, Bool, List, Conta
 ghost use Rattle.std.proofs.Common.{suc};
 ghost use Rattle.walk_core.specs.Walks.{IsEdge, IsOfKind};
 ghost use Rattle.gate_rules.specs.Rules.{GateRules};
-ghost use Rattle.gate_rules.specs.declared.own.Item.{Item};
-ghost use Rattle.replica_core.specs.State.{State};
-ghost use Rattle.graph_core.specs.Dependencies.{IsCurrentItem, IsDependency};
+ghost use Rattle.state_core.specs.declared.item.Item.{Item};
+ghost use Rattle.state_core.specs.State.{State};
+ghost use Rattle.state_core.specs.Items.{IsCurrentItem};
+ghost use Rattle.graph_core.specs.Dependencies.{IsDependency};
 ghost use Rattle.ready_core.specs.declared.verdicts.Left.{Left};
 ghost use Rattle.ready_core.specs.Closed.{AreSafe, HoldsEnds, IsClosed, IsInClosedSet, IsSafe};
 ghost use Rattle.ready_core.specs.Refusals.{IsEligible};

@@ -1,4 +1,4 @@
-//! Which items of a replica are ready under a gate, and why each other one isn't.
+//! Which items of a state are ready under a gate, and why each other one isn't.
 //!
 //! An item is eligible where it breaks no condition of its own, waits for no unknown change, and is on no cycle, unless the gate allows cycles.
 //! The ready items are the union of all sets of eligible items that hold the current items of what their members wait for. Each other item has

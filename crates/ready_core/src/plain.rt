@@ -2,9 +2,10 @@
 
 use super::tests::{CYCLES, GATE, Review};
 use super::{Left, Refusal, Verdicts};
-use gate_rules::{Clause, Condition, Item, Side};
+use gate_rules::{Clause, Condition, Side};
 use lattice_core::NoMemory;
 use review_ops::Draft;
+use state_core::Item;
 use std::alloc::Global;
 use std::process::Abort;
 use std::test::Fail;

@@ -3,7 +3,6 @@
 
 ghost use Rattle.std.specs.Prelude.{◌≡◌, ◌<◌, ℕ, Option, IfOk, IfSome, IsTrue, length, slice_get};
 ghost use Rattle.walk_core.specs.Digraphs.{AreDistances, HasEdge};
-ghost use Rattle.replica_core.specs.State.{state_of};
 ghost use Rattle.ready_core.specs.Rounds.{ComesFrom, Follows, IsNoFurther, IsRankOf};
 ghost use Rattle.ready_core.specs.Verdicts.{AreVerdicts};
 
@@ -13,20 +12,20 @@ use super::verdicts::Verdicts;
 use gate_rules::Gate;
 use graph_core::Graph;
 use lattice_core::NoMemory;
-use replica_core::Replica;
+use state_core::State;
 use std::alloc::Global;
 use walk_core::Digraph;
 
-/// The verdicts of a replica under a gate, or none where the rounds didn't suffice for the ranks.
+/// The verdicts of a state under a gate, or none where the rounds didn't suffice for the ranks.
 pub fn evaluate_by_rounds(
     alloc: Global,
-    replica: &Replica,
+    state: &State,
     gate: &Gate,
 ) -> Result<Option<Verdicts>, NoMemory>
-    ensures { IfOk result (λ found. IfSome found (AreVerdicts gate.now (state_of replica.now))) }
+    ensures { IfOk result (λ found. IfSome found (AreVerdicts gate.now state.now)) }
 {
-    let graph = Graph::build(alloc, replica, gate)?;
-    let causes = all_causes(alloc, replica, gate, &graph)?;
+    let graph = Graph::build(alloc, state, gate)?;
+    let causes = all_causes(alloc, state, gate, &graph)?;
     let ineligible = flags_of(alloc, causes.as_slice())?;
     let Some(ranks) = ranks_by_rounds(alloc, graph.digraph(), ineligible.as_slice())? else {
         return Ok(None);

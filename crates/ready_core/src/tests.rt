@@ -1,8 +1,8 @@
 use super::rounds::evaluate_by_rounds;
 use super::{Left, Refusal, Verdicts, evaluate};
-use gate_rules::{Clause, Condition, Gate, Item, Side};
-use replica_core::Replica;
+use gate_rules::{Clause, Condition, Gate, Side};
 use review_ops::{Body, Draft, Op, Stamp};
+use state_core::{Item, State};
 use std::alloc::Global;
 use std::process::Abort;
 use std::test::Fail;
@@ -39,7 +39,7 @@ use Step::{Abandon, Approved, Both, CyclesReport, Merged, PatchSet, Report, Rest
 /// A record whose operations come one after the other.
 #[derive(Drop)]
 pub(super) struct Review {
-    pub(super) replica: Replica,
+    pub(super) state: State,
     alloc: Global,
     time: u64,
 }
@@ -47,7 +47,7 @@ pub(super) struct Review {
 impl Review {
     pub(super) fn new(alloc: Global) -> Review {
         Review {
-            replica: Replica::new(alloc),
+            state: State::new(alloc),
             alloc,
             time: 0,
         }
@@ -57,7 +57,7 @@ impl Review {
     pub(super) fn take(&mut self, draft: Draft) -> Result<(), Fail> {
         self.time = self.time.saturating_add(1);
         let stamp = Stamp::new(self.time, 1, 1, self.time).ok_or("a stamp")?;
-        self.replica.take(Op::new(stamp, Body::checked(draft)?))?;
+        self.state.take(&Op::new(stamp, Body::checked(draft)?))?;
         Ok(())
     }
 
@@ -123,13 +123,13 @@ impl Review {
     /// The verdicts under the gate.
     pub(super) fn verdicts(&self, gate: &str) -> Result<Verdicts, Fail> {
         let gate = Gate::read(self.alloc, gate.as_bytes())?;
-        Ok(evaluate(self.alloc, &self.replica, &gate)?)
+        Ok(evaluate(self.alloc, &self.state, &gate)?)
     }
 
     /// The verdicts under the gate, by the evaluator in rounds.
     pub(super) fn verdicts_by_rounds(&self, gate: &str) -> Result<Verdicts, Fail> {
         let gate = Gate::read(self.alloc, gate.as_bytes())?;
-        let verdicts = evaluate_by_rounds(self.alloc, &self.replica, &gate)?;
+        let verdicts = evaluate_by_rounds(self.alloc, &self.state, &gate)?;
         Ok(verdicts.ok_or("rounds enough")?)
     }
 

@@ -1,6 +1,7 @@
 ghost use Rattle.std.specs.Prelude.{◌≡◌};
 
-use gate_rules::{Condition, Item};
+use gate_rules::Condition;
+use state_core::Item;
 use std::marker::Model;
 
 /// Why an item is left out.
@@ -26,7 +27,7 @@ pub struct Left {
     pub rank: usize,
 }
 
-/// What evaluating a replica gives. Contracts see the two lists.
+/// What evaluating a state gives. Contracts see the two lists.
 #[derive(Debug, Drop)]
 pub struct Verdicts {
     ready: Vec<Item>,

@@ -1,12 +1,13 @@
 -- How a journal comes into another, one operation after the other.
-use Rattle.std.proofs.Common.{◌≡◌, ℕ, zero, suc, ◌+◌, Bool, true, false, List, [], ◌∷◌, ◌++◌, take, drop, reverse, Result, Ok, Err, refl, sym, ap, subst, ◌∙◌, add-one}
+use Rattle.std.proofs.Common.{◌≡◌, ℕ, zero, suc, ◌+◌, ◌<◌, length, arith, Bool, true, false, List, [], ◌∷◌, ◌++◌, take, drop, reverse, Result, Ok, Err, refl, sym, ap, subst, ◌∙◌, add-one}
 use Rattle.std.specs.Prelude.{is_err, OnErr, IfOk}
 use Rattle.std.specs.List.Sorted.{IsPermutation, IsSorted}
 use Rattle.std.proofs.lemmas.Bool.{false≢true}
-use Rattle.std.proofs.lemmas.List.{take-append-drop, append-nil, reverse-append}
+use Rattle.std.proofs.lemmas.List.{take-append-drop, append-nil, reverse-append, length-drop}
 use Rattle.review_ops.specs.Operation.{Operation, operation_cmp}
 use Rattle.review_ops.specs.Order.{operations_exact}
 use Rattle.replica_core.specs.Journal.{arrived, all_arrived, AreApart}
+use Rattle.replica_core.specs.JournalLaws.{all_arrived-push}
 use Rattle.replica_core.specs.InOrder.{IsInOrderOf, sorted_in_order}
 
 pub if_ok : {T E : Type 0} {P Q : T → Type 0} (r : Result T E) → ((x : T) → P x → Q x) → IfOk r P → IfOk r Q
@@ -25,10 +26,6 @@ pub on_err_always : {T E P : Type 0} (r : Result T E) → P → OnErr r P
 on_err_always (Ok x) p = tt
 on_err_always (Err e) p = p
 
-pub all_arrived-push : (journal ops : List Operation) (op : Operation) → all_arrived journal (ops ++ op ∷ []) ≡ arrived (all_arrived journal ops) op
-all_arrived-push journal [] op = refl
-all_arrived-push journal (first ∷ ops) op = all_arrived-push (arrived journal first) ops op
-
 -- what comes next leaves the rest
 next_left : (xs : List Operation) (i : ℕ) (x : Operation) (rest : List Operation) → drop i xs ≡ x ∷ rest → (drop (suc i) xs ≡ rest) × (take (suc i) xs ≡ take i xs ++ x ∷ [])
 next_left xs zero x rest e = (ap (drop 1) e, ap (take 1) e)
@@ -44,6 +41,13 @@ module _ (old : List Operation) (whole : List Operation) (taken : ℕ) where
         sym next.0 ∙ ap (λ n. drop n whole) (sym (add-one taken)),
         came ∙ ap (λ j. arrived j op) done ∙ sym (all_arrived-push old (take taken whole) op) ∙ ap (all_arrived old) (sym next.1 ∙ ap (λ n. take n whole) (sym (add-one taken))),
       )
+
+  -- so not all were in before
+  pub one_was_left : (left now : List Operation) (op : Operation) → left ≡ now ++ op ∷ [] → reverse left ≡ drop taken whole → taken < length whole
+  one_was_left left now op popped left_is =
+      let rest = sym left_is ∙ ap reverse popped ∙ reverse-append now (op ∷ []) in
+      let count = ap length rest in
+      omega (arith, length-drop taken whole, count)
 
   -- all of them are in
   pub all_in : (left self : List Operation) → left ≡ [] → reverse left ≡ drop taken whole → self ≡ all_arrived old (take taken whole) → self ≡ all_arrived old whole

@@ -3,14 +3,14 @@ use Rattle.std.proofs.Common.{◌≡◌, ℕ, Bool, true, false, cond, ◌||◌,
 use Rattle.std.specs.Ordering.{nat_cmp, eq_by_cmp}
 use Rattle.std.specs.List.{AllByRecursion, IsDistinct}
 use Rattle.std.specs.FinMap.{get, insert, get-insert}
-use Rattle.std.proofs.lemmas.Bool.{false≢true}
+use Rattle.std.proofs.lemmas.Bool.{or_parts}
 use Rattle.lattice_core.specs.Keep.{numbers_exact}
 use Rattle.lattice_core.specs.JoinMap.{joined_to, same_at_each_key}
 use Rattle.review_ops.specs.Deed.{change_of}
 use Rattle.review_ops.specs.Operation.{Operation}
 use Rattle.change_core.specs.Change.{Change, no_change, change_joined, effect_of}
 use Rattle.change_core.specs.StateLaws.{no_change-joined}
-use Rattle.replica_core.specs.Exact.{same_by_test}
+use Rattle.lattice_core.specs.Exact.{same_by_test}
 use Rattle.std.proofs.Common.{max}
 use Rattle.std.proofs.lemmas.List.{map-append}
 use Rattle.std.proofs.lemmas.List.Sums.{fold-append}
@@ -21,40 +21,10 @@ use Rattle.replica_core.specs.declared.taken.Taken.TheVariants.{New, Known}
 use Rattle.replica_core.specs.RowLine.{RowLine}
 use Rattle.replica_core.specs.Lines.{AreLines}
 use Rattle.replica_core.specs.Record.{IsRecord}
-use Rattle.replica_core.specs.State.{State, with_effect, state_of, state_shown}
-use Rattle.replica_core.specs.StateLaws.{state_of-push}
-
--- the change that is there is joined in place
-pub effect_in_place : (old shown : State) (op : Operation) (number : ℕ) (was new : Change) → number ≡ change_of op.deed → Some was ≡ get old number → new ≡ change_joined was (effect_of op) → shown ≡ insert old number new → shown ≡ with_effect old op
-effect_in_place old shown op number was new number_is found new_is shown_is =
-    shown_is ∙ ap (insert old number) new_is
-    ∙ ap (λ f. insert old number (joined_to change_joined f (effect_of op))) found
-    ∙ ap (λ n. insert old n (joined_to change_joined (get old n) (effect_of op))) number_is
-
--- a change that isn't there is added
-pub effect_added : (old shown : State) (op : Operation) (number : ℕ) (new : Change) → number ≡ change_of op.deed → None ≡ get old number → new ≡ change_joined no_change (effect_of op) → shown ≡ insert old number new → shown ≡ with_effect old op
-effect_added old shown op number new number_is found new_is shown_is =
-    shown_is ∙ ap (insert old number) (new_is ∙ no_change-joined (effect_of op))
-    ∙ ap (λ f. insert old number (joined_to change_joined f (effect_of op))) found
-    ∙ ap (λ n. insert old n (joined_to change_joined (get old n) (effect_of op))) number_is
-
--- to put back what was there changes nothing
-pub put_back : (old : State) (number : ℕ) (was : Change) → Some was ≡ get old number → insert old number was ≡ old
-put_back old number was found = same_at_each_key numbers_exact (insert old number was) old (λ q.
-    get-insert numbers_exact.total old number was q
-    ∙ elim (eq_by_cmp nat_cmp q number) as (λ t. eq_by_cmp nat_cmp q number ≡ t → cond t (Some was) (get old q) ≡ get old q) [
-      | true ↦ λ e. found ∙ ap (get old) (sym (same_by_test numbers_exact q number e))
-      | false ↦ λ e. refl
-    ] refl)
-
-pub unchanged_in_place : (old shown : State) (number : ℕ) (was new : Change) → Some was ≡ get old number → new ≡ was → shown ≡ insert old number new → shown ≡ old
-unchanged_in_place old shown number was new found new_is shown_is = shown_is ∙ ap (insert old number) new_is ∙ put_back old number was found
+use Rattle.state_core.specs.State.{State, with_effect, state_of}
+use Rattle.state_core.specs.StateLaws.{state_of-push}
 
 -- a journal stays a set where what is new comes last
-neither : (a b : Bool) → (a || b) ≡ false → (a ≡ false) × (b ≡ false)
-neither true b e = absurd (false≢true (sym e))
-neither false b e = (refl, e)
-
 differs_too : (first op : Operation) (journal : List Operation) → AllByRecursion (λ other. same_operation first other ≡ false) journal → same_operation first op ≡ false → AllByRecursion (λ other. same_operation first other ≡ false) (journal ++ op ∷ [])
 differs_too first op [] all e = (e, tt)
 differs_too first op (other ∷ journal) all e = (all.0, differs_too first op journal all.1 e)
@@ -67,7 +37,7 @@ pub AreApart-push : (journal : List Operation) (op : Operation) → has journal 
 unfolding IsDistinct
 AreApart-push [] op new apart = (tt, tt)
 AreApart-push (first ∷ journal) op new apart =
-    let parts = neither (same_operation first op) (has journal op) new in
+    let parts = or_parts (same_operation first op) (has journal op) new in
     (differs_too first op journal apart.0 parts.0, AreApart-push journal op parts.1 apart.1)
 
 -- ---- what a replica keeps, once an operation has come
@@ -83,28 +53,28 @@ latest-push : (journal : List Operation) (op : Operation) → greatest (times (j
 latest-push journal op = ap greatest (map-append (λ (o : Operation). o.stamp.time) journal (op ∷ [])) ∙ fold-append max 0 (times journal) (op.stamp.time ∷ [])
 
 -- the state, the set and the time of a journal that is the same
-pub record_same : (journal after : List Operation) (lines after_lines : List RowLine) (latest : ℕ) (changes after_changes : List (ℕ × Change)) → after ≡ journal → AreLines after after_lines → state_shown after_changes ≡ state_shown changes
-    → IsRecord journal lines latest changes → IsRecord after after_lines latest after_changes
-record_same journal after lines after_lines latest changes after_changes same are shown kept = record {
-  state = shown ∙ kept.state ∙ ap state_of (sym same);
+pub record_same : (journal after : List Operation) (lines after_lines : List RowLine) (latest : ℕ) (state after_state : State) → after ≡ journal → AreLines after after_lines → after_state ≡ state
+    → IsRecord journal lines latest state → IsRecord after after_lines latest after_state
+record_same journal after lines after_lines latest state after_state same are shown kept = record {
+  joined = shown ∙ kept.joined ∙ ap state_of (sym same);
   apart = subst AreApart (sym same) kept.apart;
   lines = are;
   latest = kept.latest ∙ ap (λ j. greatest (times j)) (sym same);
 }
 
-module _ (journal after : List Operation) (lines after_lines : List RowLine) (latest : ℕ) (changes after_changes : List (ℕ × Change)) (op : Operation) (taken : Taken) (is : taken ≡ taken_of (has journal op)) (came : after ≡ arrived journal op)
-    (are : AreLines after after_lines) (shown : state_shown after_changes ≡ cond (has journal op) (state_shown changes) (with_effect (state_shown changes) op)) (kept : IsRecord journal lines latest changes) where
-  pub record_known : taken ≡ Known → IsRecord after after_lines latest after_changes
+module _ (journal after : List Operation) (lines after_lines : List RowLine) (latest : ℕ) (state after_state : State) (op : Operation) (taken : Taken) (is : taken ≡ taken_of (has journal op)) (came : after ≡ arrived journal op)
+    (are : AreLines after after_lines) (shown : after_state ≡ cond (has journal op) state (with_effect state op)) (kept : IsRecord journal lines latest state) where
+  pub record_known : taken ≡ Known → IsRecord after after_lines latest after_state
   record_known e =
       let known = known_of (has journal op) taken is e in
-      record_same journal after lines after_lines latest changes after_changes (came ∙ ap (λ t. cond t journal (journal ++ op ∷ [])) known) are (shown ∙ ap (λ t. cond t (state_shown changes) (with_effect (state_shown changes) op)) known) kept
+      record_same journal after lines after_lines latest state after_state (came ∙ ap (λ t. cond t journal (journal ++ op ∷ [])) known) are (shown ∙ ap (λ t. cond t (state) (with_effect state op)) known) kept
 
-  pub record_new : taken ≡ New → (after_latest : ℕ) → after_latest ≡ max latest op.stamp.time → IsRecord after after_lines after_latest after_changes
+  pub record_new : taken ≡ New → (after_latest : ℕ) → after_latest ≡ max latest op.stamp.time → IsRecord after after_lines after_latest after_state
   record_new e after_latest latest_is =
       let new = new_of (has journal op) taken is e in
       let grown : after ≡ journal ++ op ∷ [] = came ∙ ap (λ t. cond t journal (journal ++ op ∷ [])) new in
       record {
-        state = shown ∙ ap (λ t. cond t (state_shown changes) (with_effect (state_shown changes) op)) new ∙ ap (λ s. with_effect s op) kept.state ∙ sym (state_of-push journal op) ∙ ap state_of (sym grown);
+        joined = shown ∙ ap (λ t. cond t (state) (with_effect state op)) new ∙ ap (λ s. with_effect s op) kept.joined ∙ sym (state_of-push journal op) ∙ ap state_of (sym grown);
         apart = subst AreApart (sym grown) (AreApart-push journal op new kept.apart);
         lines = are;
         latest = latest_is ∙ ap (λ n. max n op.stamp.time) kept.latest ∙ sym (latest-push journal op) ∙ ap (λ j. greatest (times j)) (sym grown);

@@ -11,7 +11,7 @@ use Rattle.std.proofs.lemmas.Map.Keys.{Less-from_sorted}
 use Rattle.std.proofs.lemmas.Option.{slice_get-get_or, slice_get_within, get_or_from_slice_get}
 use Rattle.review_ops.specs.Operation.{Operation}
 use Rattle.replica_core.specs.Clock.{is_of, greatest, seqs}
-use Rattle.replica_core.specs.Exact.{false_unless}
+use Rattle.std.proofs.lemmas.Bool.{false_from_ne_true}
 use Rattle.replica_core.specs.Front.{holds}
 use Rattle.replica_core.specs.Journal.{has}
 use Rattle.replica_core.specs.Missing.{row_by_row}
@@ -79,7 +79,7 @@ module _ (journal : List Operation) (line : RowLine) (filed : IsFiled journal li
 
   -- nothing is held above the greatest
   pub no_higher : (seq : ℕ) → greatest (seqs line.site line.start journal) < seq → holds journal line.site line.start seq ≡ false
-  no_higher seq high = sym (holds_of seq) ∙ false_unless (list_any (λ op. op.stamp.seq == seq) (ops_of journal line)) (λ h.
+  no_higher seq high = sym (holds_of seq) ∙ false_from_ne_true (list_any (λ op. op.stamp.seq == seq) (ops_of journal line)) (λ h.
       let found : Any (λ op. (op.stamp.seq == seq) ≡ true) (ops_of journal line) = Any-from_list_any (λ op. op.stamp.seq == seq) (ops_of journal line) h in
       let op = found.1 in
       let is : op.stamp.seq ≡ seq = eqb-true op.stamp.seq seq found.4 in

@@ -13,7 +13,7 @@ use Rattle.std.proofs.lemmas.List.Folds.{list_any-append}
 use Rattle.std.proofs.lemmas.Map.Keys.{Less-from_sorted}
 use Rattle.review_ops.specs.Operation.{Operation}
 use Rattle.replica_core.specs.Clock.{is_of}
-use Rattle.replica_core.specs.Exact.{false_unless}
+use Rattle.std.proofs.lemmas.Bool.{false_from_ne_true}
 use Rattle.replica_core.specs.Front.{row_order, rows_exact, holds}
 use Rattle.replica_core.specs.InOrder.{IsInOrder, same_is_equal}
 use Rattle.replica_core.specs.Journal.{same_operation, has, arrived}
@@ -83,7 +83,7 @@ module _ (journal : List Operation) (lines : List RowLine) (are : AreLines journ
   not_of : (k : ℕ) (d : RowLine) → k < length lines → ¬ (k ≡ index) → is_of (get_or lines k d).site (get_or lines k d).start op ≡ false
   not_of k d low differs =
       let line = get_or lines k d in
-      false_unless (is_of line.site line.start op) (λ of_it. other_row k d low differs ((λ i. (sym (site_of line.site line.start op of_it) i, sym (start_of line.site line.start op of_it) i)) ∙ sym row))
+      false_from_ne_true (is_of line.site line.start op) (λ of_it. other_row k d low differs ((λ i. (sym (site_of line.site line.start op of_it) i, sym (start_of line.site line.start op of_it) i)) ∙ sym row))
 
   of_grown : IsLine (journal ++ op ∷ []) new → (k : ℕ) (d : RowLine) → k < length lines → (same : Bool) → (k == index) ≡ same → IsLine (journal ++ op ∷ []) (get_or (set lines index new) k d)
   of_grown is k d low true e =

@@ -11,4 +11,3 @@ pub mod Effects
 pub mod Absorbing
 pub mod Fronts
 pub mod Lacking
-pub mod StateLines

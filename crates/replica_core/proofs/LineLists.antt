@@ -16,7 +16,7 @@ use Rattle.std.proofs.lemmas.List.Sorted.{searchable_from_sorted}
 use Rattle.std.proofs.lemmas.Map.Keys.{Less-from_sorted}
 use Rattle.review_ops.specs.Operation.{Operation}
 use Rattle.replica_core.specs.Clock.{is_of, greatest, seqs}
-use Rattle.replica_core.specs.Exact.{false_unless}
+use Rattle.std.proofs.lemmas.Bool.{false_from_ne_true}
 use Rattle.replica_core.specs.Front.{row_order, rows_exact, holds}
 use Rattle.replica_core.specs.Journal.{has}
 use Rattle.replica_core.specs.Missing.{row_by_row}
@@ -108,7 +108,7 @@ module _ (journal : List Operation) (lines : List RowLine) (are : AreLines journ
   none_of op false b e h = refl
 
   pub none_held : (seq : ℕ) → holds journal site start seq ≡ false
-  none_held seq = false_unless (holds journal site start seq) (λ h.
+  none_held seq = false_from_ne_true (holds journal site start seq) (λ h.
       let test = λ (op : Operation). is_of site start op && op.stamp.seq == seq in
       let found : Any (λ op. (is_of site start op && op.stamp.seq == seq) ≡ true) journal = Any-from_list_any (λ op. is_of site start op && op.stamp.seq == seq) journal h in
       not_both found.1 (both (is_of site start found.1) (found.1.stamp.seq == seq) found.4).0 (has-from_Contains journal found.1 (found.0, found.2, found.3)))

@@ -5,7 +5,8 @@ use Rattle.std.proofs.lemmas.List.Folds.{Any-from_list_any}
 use Rattle.review_ops.specs.Timestamp.{Timestamp, timestamps_exact}
 use Rattle.review_ops.specs.Operation.{Operation}
 use Rattle.replica_core.specs.Clock.{is_of}
-use Rattle.replica_core.specs.Exact.{same_by_test, false_unless}
+use Rattle.std.proofs.lemmas.Bool.{false_from_ne_true}
+use Rattle.lattice_core.specs.Exact.{same_by_test}
 use Rattle.replica_core.specs.Journal.{has, has_stamp}
 use Rattle.replica_core.specs.Sets.{any_alike, has-from_Contains}
 use Rattle.replica_core.specs.RowLine.{RowLine}
@@ -41,10 +42,10 @@ module _ (journal : List Operation) (line : RowLine) (filed : IsFiled journal li
 
 module _ (journal : List Operation) (lines : List RowLine) (are : AreLines journal lines) where
   pub has_none : (op : Operation) → (Contains (rows_of lines) (op.stamp.site, op.stamp.start) → ⊥) → has journal op ≡ false
-  has_none op none = false_unless (has journal op) (λ h. none (are.whole op h))
+  has_none op none = false_from_ne_true (has journal op) (λ h. none (are.whole op h))
 
   pub has_stamp_none : (stamp : Timestamp) → (Contains (rows_of lines) (stamp.site, stamp.start) → ⊥) → has_stamp journal stamp ≡ false
-  has_stamp_none stamp none = false_unless (has_stamp journal stamp) (λ h.
+  has_stamp_none stamp none = false_from_ne_true (has_stamp journal stamp) (λ h.
       let found : Any (λ op. has_it stamp op ≡ true) journal = Any-from_list_any (has_it stamp) journal h in
       let same : found.1.stamp ≡ stamp = same_by_test timestamps_exact found.1.stamp stamp found.4 in
       none (subst (Contains (rows_of lines)) (ap (λ s. (s.site, s.start)) same) (are.whole found.1 (has-from_Contains journal found.1 (found.0, found.2, found.3)))))

@@ -14,7 +14,8 @@ use Rattle.review_ops.specs.Deed.{deed_cmp}
 use Rattle.review_ops.specs.Timestamp.{Timestamp, timestamp_cmp, timestamps_exact}
 use Rattle.review_ops.specs.Operation.{Operation}
 use Rattle.replica_core.specs.Clock.{is_of}
-use Rattle.replica_core.specs.Exact.{same_by_test, false_unless}
+use Rattle.std.proofs.lemmas.Bool.{false_from_ne_true}
+use Rattle.lattice_core.specs.Exact.{same_by_test}
 use Rattle.replica_core.specs.InOrder.{same_is_equal}
 use Rattle.replica_core.specs.Journal.{same_operation, has, has_stamp}
 use Rattle.replica_core.specs.Missing.{row_by_row, row_by_row_exact}
@@ -29,14 +30,14 @@ module _ (test match : Operation → Bool) (In : Operation → Type 0)
   no_later : (x : Operation) (xs : List Operation) → In x → AllByRecursion In xs → AllByRecursion (λ y. row_by_row x y ≡ Less) xs → test x ≡ false → match x ≡ false → list_any match xs ≡ false
   no_later x [] of_x all above fails other = refl
   no_later x (y ∷ xs) of_x all above fails other =
-      ap (λ t. t || list_any match xs) (false_unless (match y) (λ e. false≢true (sym other ∙ first_one x y of_x all.0 above.0 fails e)))
+      ap (λ t. t || list_any match xs) (false_from_ne_true (match y) (λ e. false≢true (sym other ∙ first_one x y of_x all.0 above.0 fails e)))
       ∙ no_later x xs of_x all.1 above.1 fails other
 
   pub sought : (xs : List Operation) → IsStrictlySortedBy row_by_row xs → AllByRecursion In xs → list_any match xs ≡ is_some_passing match (slice_get xs (rank test xs))
   unfolding IsStrictlySortedBy
   sought [] sorted all = refl
   sought (x ∷ xs) sorted all = elim (test x) as (λ t. test x ≡ t → list_any match (x ∷ xs) ≡ is_some_passing match (slice_get (x ∷ xs) (cond t (suc (rank test xs)) 0))) [
-    | true ↦ λ e. ap (λ t. t || list_any match xs) (false_unless (match x) (λ m. false≢true (sym (no_pass x m) ∙ e))) ∙ sought xs sorted.1 all.1
+    | true ↦ λ e. ap (λ t. t || list_any match xs) (false_from_ne_true (match x) (λ m. false≢true (sym (no_pass x m) ∙ e))) ∙ sought xs sorted.1 all.1
     | false ↦ λ e. elim (match x) as (λ t. match x ≡ t → (t || list_any match xs) ≡ t) [
       | true ↦ λ m. refl
       | false ↦ λ m. no_later x xs all.0 all.1 sorted.0 e m

@@ -11,7 +11,7 @@ use Rattle.std.proofs.lemmas.Bool.{eqb-true, eqb-false, false≢true}
 use Rattle.std.proofs.Math.Nat.{max-eq_left, max-eq_right, max-zero, zero-max}
 use Rattle.lattice_core.specs.JoinMap.{joined_to, put_joined, get-put_joined, same_at_each_key}
 use Rattle.review_ops.specs.Operation.{Operation}
-use Rattle.replica_core.specs.Exact.{same_by_test, test_of_same, test_of_different}
+use Rattle.lattice_core.specs.Exact.{same_by_test, test_of_same, test_of_different}
 use Rattle.replica_core.specs.Sets.{IsSameSet, any_alike, filtered_alike}
 use Rattle.replica_core.specs.InOrder.{IsInOrder-same, IsInOrder-unique}
 use Rattle.replica_core.specs.Clock.{is_of}

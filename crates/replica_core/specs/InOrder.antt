@@ -13,7 +13,8 @@ use Rattle.std.proofs.lemmas.Map.Keys.{IsDistinct-IsPermutation}
 use Rattle.lattice_core.specs.Keep.{IsExactOrder}
 use Rattle.review_ops.specs.Operation.{Operation, operation_cmp}
 use Rattle.review_ops.specs.Order.{operations_exact}
-use Rattle.replica_core.specs.Exact.{false_unless, same_by_test, test_of_same, test_of_different}
+use Rattle.std.proofs.lemmas.Bool.{false_from_ne_true}
+use Rattle.lattice_core.specs.Exact.{same_by_test, test_of_same, test_of_different}
 use Rattle.replica_core.specs.Journal.{same_operation, has, AreApart}
 
 -- the list has just these operations, each below the next
@@ -59,7 +60,7 @@ module _ {order : Operation → Operation → Ordering} (exact_order : IsExactOr
   has_above x z (y ∷ xs) above h = above_at (same_operation y z) x y z xs refl above.0 (has_above x z xs above.1) h
 
   has_no_lower : (x : Operation) (xs : List Operation) → AllByRecursion (λ y. order x y ≡ Less) xs → has xs x ≡ false
-  has_no_lower x xs above = false_unless (has xs x) (λ h. not_below_itself x (has_above x x xs above h))
+  has_no_lower x xs above = false_from_ne_true (has xs x) (λ h. not_below_itself x (has_above x x xs above h))
 
   head_or_above : (b : Bool) (x y : Operation) (ys : List Operation) → same_operation y x ≡ b → AllByRecursion (λ z. order y z ≡ Less) ys → (b || has ys x) ≡ true → (x ≡ y) ⊎ (order y x ≡ Less)
   head_or_above true x y ys e above h = inl (sym (same_is_equal y x e))

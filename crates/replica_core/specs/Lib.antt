@@ -1,10 +1,8 @@
 pub mod Journal
-pub mod State
-pub mod StateLaws
 pub mod Clock
-pub mod Exact
 pub mod InOrder
 pub mod Sets
+pub mod JournalLaws
 pub mod Front
 pub mod FrontShown
 pub mod Missing
@@ -14,4 +12,3 @@ pub mod RowLine
 pub mod Lines
 pub mod Searches
 pub mod Record
-pub mod StateText

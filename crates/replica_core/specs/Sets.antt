@@ -10,12 +10,12 @@ use Rattle.review_ops.specs.Operation.{Operation}
 use Rattle.change_core.specs.Change.{Change}
 use Rattle.change_core.specs.StateOf.{IsStateOf}
 use Rattle.change_core.specs.StateLaws.{state_of_same}
-use Rattle.replica_core.specs.Exact.{false_unless}
+use Rattle.std.proofs.lemmas.Bool.{false_from_ne_true}
 use Rattle.replica_core.specs.Journal.{has, same_operation}
 use Rattle.replica_core.specs.InOrder.{same_is_equal, same_itself}
 use Rattle.replica_core.specs.Clock.{greatest, is_of, next_of}
-use Rattle.replica_core.specs.State.{is_on, ops_on, state_of}
-use Rattle.replica_core.specs.StateLaws.{state_of-IsJournalState, IsJournalState-unique}
+use Rattle.state_core.specs.State.{state_of}
+use Rattle.state_core.specs.StateLaws.{state_of-same as joined-same}
 
 -- the two have the same operations
 abbrev pub IsSameSet : List Operation → List Operation → Type 0
@@ -33,10 +33,6 @@ has-from_Contains xs op c = list_any-from_Any (λ other. same_operation other op
 pub members_alike : (xs ys : List Operation) → IsSameSet xs ys → (op : Operation) → Contains xs op → Contains ys op
 members_alike xs ys same op c = Contains-from_has ys op (sym (same op) ∙ has-from_Contains xs op c)
 
-nothing_alike : (xs : List Operation) → IsSameSet [] xs → xs ≡ []
-nothing_alike [] same = refl
-nothing_alike (x ∷ xs) same = let e : false ≡ true = same x ∙ ap (λ t. t || has xs x) (same_itself x) in cc
-
 -- ---- tests of a journal's operations
 module _ (test : Operation → Bool) where
   some_alike : (xs ys : List Operation) → IsSameSet xs ys → list_any test xs ≡ true → list_any test ys ≡ true
@@ -48,7 +44,7 @@ module _ (test : Operation → Bool) where
   pub any_alike : (xs ys : List Operation) → IsSameSet xs ys → list_any test xs ≡ list_any test ys
   any_alike xs ys same = elim (list_any test xs) as (λ t. list_any test xs ≡ t → t ≡ list_any test ys) [
     | true ↦ λ e. sym (some_alike xs ys same e)
-    | false ↦ λ e. sym (false_unless (list_any test ys) (λ h. false≢true (sym e ∙ some_alike ys xs (λ op. sym (same op)) h)))
+    | false ↦ λ e. sym (false_from_ne_true (list_any test ys) (λ h. false≢true (sym e ∙ some_alike ys xs (λ op. sym (same op)) h)))
   ] refl
 
   kept_true : (b : Bool) (x op : Operation) (rest later : Bool) → same_operation x op ≡ b → test x ≡ true → rest ≡ (test op && later) → (b || rest) ≡ (test op && (b || later))
@@ -73,19 +69,9 @@ module _ (test : Operation → Bool) where
   pub filtered_alike : (xs ys : List Operation) → IsSameSet xs ys → IsSameSet (filter test xs) (filter test ys)
   filtered_alike xs ys same op = has-filter xs op ∙ ap (λ t. test op && t) (same op) ∙ sym (has-filter ys op)
 
--- ---- the state
-added_up : (xs ys : List Operation) → IsSameSet xs ys → (found : Option Change) → MatchOption found (xs ≡ []) (λ c. (¬ (xs ≡ [])) × IsStateOf xs c) → MatchOption found (ys ≡ []) (λ c. (¬ (ys ≡ [])) × IsStateOf ys c)
-added_up xs ys same None none = nothing_alike ys (subst (λ l. IsSameSet l ys) none same)
-added_up xs ys same (Some c) is = (
-  λ none. is.0 (nothing_alike xs (λ op. sym (same op ∙ ap (λ l. has l op) none))),
-  state_of_same xs ys c (members_alike xs ys same) (members_alike ys xs (λ op. sym (same op))) is.1,
-)
-
 -- equal sets have one state
 pub state_of-same : (xs ys : List Operation) → IsSameSet xs ys → state_of xs ≡ state_of ys
-state_of-same xs ys same = IsJournalState-unique ys (state_of xs) (state_of ys)
-    (λ change. added_up (ops_on change xs) (ops_on change ys) (filtered_alike (is_on change) xs ys same) (get (state_of xs) change) (state_of-IsJournalState xs change))
-    (state_of-IsJournalState ys)
+state_of-same xs ys same = joined-same xs ys (members_alike xs ys same) (members_alike ys xs (λ op. sym (same op)))
 
 -- ---- the next stamp
 module _ (read : Operation → ℕ) where

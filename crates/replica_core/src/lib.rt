@@ -10,14 +10,12 @@ mod missing;
 #[cfg(test)]
 mod plain;
 mod replica;
-mod state_text;
 mod taken;
 #[cfg(test)]
 mod tests;
 
 pub use front::{Front, Reach, Row};
-pub use laws::{a_journal_has_one_state, equal_journals_agree};
+pub use laws::{equal_journals_agree, operations_arrive_as_a_set};
 pub use missing::Missing;
 pub use replica::Replica;
-pub use state_text::WriteStateFault;
 pub use taken::{ClockSpent, Partly, Taken};

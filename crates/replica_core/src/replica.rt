@@ -5,7 +5,7 @@ ghost use Rattle.review_ops.specs.Operation.{Operation};
 ghost use Rattle.replica_core.specs.Journal.{AreApart, all_arrived, has, has_stamp, arrived, taken_of};
 ghost use Rattle.replica_core.specs.InOrder.{IsInOrderOf};
 ghost use Rattle.replica_core.specs.Lines.{rows_of, row_of, IsLine, AreLines};
-ghost use Rattle.replica_core.specs.State.{state_of, state_shown, with_effect};
+ghost use Rattle.state_core.specs.State.{state_of, state_shown, with_effect};
 
 use super::front::Row;
 use super::line::{Line, climbed, find_line, open_line, row_of};
@@ -13,18 +13,19 @@ use super::taken::{Partly, Taken};
 use change_core::ChangeState;
 use lattice_core::{Join, JoinMap, NoMemory};
 use review_ops::{Op, Stamp};
+use state_core::State;
 use std::alloc::{Allocator, Global};
 use std::marker::Model;
 
 /// The journal of a site, and the state that it joins to. Contracts see the arrivals: each operation of the journal once, in the order in
-/// which it first came. Beside the arrivals a line for each row says where the row's operations stand among them, so that only `absorb`,
-/// `copy` and `write_state` walk the whole.
+/// which it first came. Beside the arrivals a line for each row says where the row's operations stand among them, so that only `absorb`
+/// and `copy` walk the whole.
 #[derive(Drop)]
 pub struct Replica<A: Allocator + Copy = Global> {
     pub(super) arrivals: Vec<Op<A>, A>,
     pub(super) lines: Vec<Line<A>, A>,
     pub(super) latest: u64,
-    state: JoinMap<u32, ChangeState<A>, A>,
+    state: State<A>,
     alloc: A,
 }
 
@@ -49,7 +50,7 @@ impl<A: Allocator + Copy> Replica<A> {
             arrivals: Vec::new(alloc),
             lines: Vec::new(alloc),
             latest: 0,
-            state: JoinMap::new(alloc),
+            state: State::new(alloc),
             alloc,
         }
     }
@@ -64,14 +65,7 @@ impl<A: Allocator + Copy> Replica<A> {
         let time = op.stamp().time();
         let index = open_line(&mut self.lines, self.alloc, row_of(&op))?;
         let lines = &mut self.lines;
-        match file_at(
-            lines,
-            index,
-            &mut self.arrivals,
-            &mut self.state,
-            self.alloc,
-            op,
-        )? {
+        match file_at(lines, index, &mut self.arrivals, &mut self.state, op)? {
             Taken::Known => Ok(Taken::Known),
             Taken::New => {
                 self.latest = self.latest.max(time);
@@ -80,13 +74,13 @@ impl<A: Allocator + Copy> Replica<A> {
         }
     }
 
-    /// Takes in every operation of another replica, in the order of operations. Where memory is refused the first `taken` of them are in, and
-    /// nothing else. It sorts the other's arrivals where they stand, which takes no memory, and time linear in them where they came in order,
+    /// Takes in every operation of another replica, in the order of operations. Where memory is refused the first `taken` of them are in, not
+    /// all, and nothing else. It sorts the other's arrivals where they stand, which takes no memory, and time linear in them where they came in order,
     /// and then takes one after the other.
     pub fn absorb(&mut self, other: Replica<A>) -> Result<(), Partly>
         ensures { (whole : List Operation) × IsInOrderOf other whole × MatchResult result
             (λ _. self.new ≡ all_arrived self.old whole)
-            (λ partly. self.new ≡ all_arrived self.old (take partly.taken whole)) }
+            (λ partly. (self.new ≡ all_arrived self.old (take partly.taken whole)) × (partly.taken < length whole)) }
     {
         let Replica {
             mut arrivals,
@@ -189,18 +183,25 @@ impl<A: Allocator + Copy> Replica<A> {
         self.alloc
     }
 
-    /// The state of a change.
+    /// The state that the journal joins to.
+    pub fn state(&self) -> &State<A>
+        ensures { result.now ≡ state_of self.now }
+    {
+        &self.state
+    }
+
+    /// The state of a change. In O(log n) for n changes.
     pub fn change(&self, number: u32) -> Option<&ChangeState<A>>
         ensures { option_copied result ≡ get (state_of self.now) number }
     {
-        self.state.get(&number)
+        self.state.change(number)
     }
 
     /// The state of each change that an operation is on, in number order.
     pub fn changes(&self) -> &JoinMap<u32, ChangeState<A>, A>
         ensures { state_shown result.now ≡ state_of self.now }
     {
-        &self.state
+        self.state.changes()
     }
 }
 
@@ -209,8 +210,7 @@ fn file_at<A: Allocator + Copy>(
     lines: &mut Vec<Line<A>, A>,
     index: usize,
     arrivals: &mut Vec<Op<A>, A>,
-    state: &mut JoinMap<u32, ChangeState<A>, A>,
-    alloc: A,
+    state: &mut State<A>,
     op: Op<A>,
 ) -> Result<Taken, NoMemory>
     requires lines { AreLines arrivals.old.items lines.old.items }
@@ -219,20 +219,19 @@ fn file_at<A: Allocator + Copy>(
     ensures ok { IfOk result (λ taken. (taken ≡ taken_of (has arrivals.old.items op))
         × (arrivals.new.items ≡ arrived arrivals.old.items op)
         × AreLines arrivals.new.items lines.new.items
-        × (state_shown state.new ≡ (if has arrivals.old.items op then state_shown state.old else with_effect (state_shown state.old) op))) }
+        × (state.new ≡ (if has arrivals.old.items op then state.old else with_effect state.old op))) }
     ensures err { OnErr result ((arrivals.new.items ≡ arrivals.old.items) × (lines.new.items ≡ lines.old.items)
-        × (state_shown state.new ≡ state_shown state.old)) }
+        × (state.new ≡ state.old)) }
 {
     let line = &mut lines[index];
-    file(line, arrivals, state, alloc, op)
+    file(line, arrivals, state, op)
 }
 
 /// Adds an operation to the line of its row, to the arrivals and to the state, unless it stands there. Where memory is refused nothing changes.
 fn file<A: Allocator + Copy>(
     line: &mut Line<A>,
     arrivals: &mut Vec<Op<A>, A>,
-    state: &mut JoinMap<u32, ChangeState<A>, A>,
-    alloc: A,
+    state: &mut State<A>,
     op: Op<A>,
 ) -> Result<Taken, NoMemory>
     requires line { IsLine arrivals.old.items line.old }
@@ -241,9 +240,9 @@ fn file<A: Allocator + Copy>(
         × (arrivals.new.items ≡ arrived arrivals.old.items op)
         × IsLine arrivals.new.items line.new
         × (row_of line.new ≡ row_of line.old)
-        × (state_shown state.new ≡ (if has arrivals.old.items op then state_shown state.old else with_effect (state_shown state.old) op))) }
+        × (state.new ≡ (if has arrivals.old.items op then state.old else with_effect state.old op))) }
     ensures err { OnErr result ((arrivals.new.items ≡ arrivals.old.items) × (line.new ≡ line.old)
-        × (state_shown state.new ≡ state_shown state.old)) }
+        × (state.new ≡ state.old)) }
 {
     let index = line.rank_of(arrivals.as_slice(), &op);
     if line.has_at(arrivals.as_slice(), index, &op) {
@@ -251,7 +250,7 @@ fn file<A: Allocator + Copy>(
     }
     arrivals.try_reserve(1)?;
     line.places.try_reserve(1)?;
-    join_effect(state, alloc, &op)?;
+    state.take(&op)?;
     line.places.insert(index, arrivals.len())?;
     arrivals.push(op)?;
     line.reach = climbed(arrivals.as_slice(), line);
@@ -267,24 +266,6 @@ fn copy_lines<A: Allocator + Copy>(alloc: A, lines: &[Line<A>]) -> Result<Vec<Li
         copies.push(line.copy(alloc)?)?;
     }
     Ok(copies)
-}
-
-/// Joins the effect of an operation into the state of its change.
-fn join_effect<A: Allocator + Copy>(
-    state: &mut JoinMap<u32, ChangeState<A>, A>,
-    alloc: A,
-    op: &Op<A>,
-) -> Result<(), NoMemory>
-    ensures ok { OnOk result (state_shown state.new ≡ with_effect (state_shown state.old) op.now) }
-    ensures err { OnErr result (state_shown state.new ≡ state_shown state.old) }
-{
-    let number = op.body().change();
-    if let Some(change) = state.get_mut(&number) {
-        return change.take(op);
-    }
-    let mut change = ChangeState::new(alloc);
-    change.take(op)?;
-    state.put(number, change)
 }
 
 /// Copies of operations, in their order.

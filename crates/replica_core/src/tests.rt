@@ -3,9 +3,7 @@
 use super::front::{Front, Row};
 use super::plain::{Plain, row_of};
 use super::replica::Replica;
-use super::state_text::WriteStateFault;
 use super::taken::Taken;
-use byte_ends::{Broken, Ends};
 use linked_list_allocator::LocalHeap;
 use review_ops::{Body, Draft, Op, Stamp};
 use std::alloc::{Allocator, Global};
@@ -140,85 +138,40 @@ fn back(rt: &impl Abort, alloc: Global, steps: &[Step]) -> Result<Replica, Fail>
     Ok(replica)
 }
 
-/// The replica prints the text.
-fn assert_text(
-    rt: &impl Abort,
-    alloc: Global,
-    replica: &Replica,
-    wanted: &str,
-) -> Result<(), Fail> {
-    let mut written = Ends::new(Vec::new(alloc));
-    replica.write_state(&mut written)?;
-    assert_eq!(rt; written.get_ref().as_slice(), wanted.as_bytes());
+/// The replicas that took the operations, the first in their order and the second in the other, have as many and one state.
+fn assert_state(rt: &impl Abort, alloc: Global, steps: &[Step]) -> Result<(), Fail> {
+    let (forth, back) = (forth(rt, alloc, steps)?, back(rt, alloc, steps)?);
+    assert_eq!(rt; forth.len(), steps.len());
+    assert_eq!(rt; back.len(), steps.len());
+    assert!(rt; forth.same_state(&back));
     Ok(())
 }
 
-/// The replica has this many operations and prints the text.
-fn assert_shown(
-    rt: &impl Abort,
-    alloc: Global,
-    replica: &Replica,
-    count: usize,
-    wanted: &str,
-) -> Result<(), Fail> {
-    assert_eq!(rt; replica.len(), count);
-    assert_text(rt, alloc, replica, wanted)
-}
-
-/// The replicas that took the operations, the first in their order and the second in the other, print the text.
-fn assert_state(rt: &impl Abort, alloc: Global, steps: &[Step], wanted: &str) -> Result<(), Fail> {
-    assert_shown(rt, alloc, &forth(rt, alloc, steps)?, steps.len(), wanted)?;
-    assert_shown(rt, alloc, &back(rt, alloc, steps)?, steps.len(), wanted)
-}
-
-/// Operations with the state text that they give in any order.
-const ARRIVALS: [(&[Step], &str); 6] = [
-    (
-        &[
-            Step::PatchSet(1, "m", None),
-            Step::Vote(3, 1),
-            Step::Vote(3, 2),
-        ],
-        "change 101 NEW\nset 101,1 1,1,1,1 \"m\"\nvote 101,1 workflow ann 2 3,1,1,3\nend 1\n",
-    ),
-    (
-        &[Step::Withdraw(4), Step::Vote(5, 1)],
-        "change 101 NEW\nvote 101,1 workflow ann 1 5,1,1,5\nend 1\n",
-    ),
-    (
-        &[Step::Vote(6, 0), Step::Withdraw(6)],
-        "change 101 NEW\nvote 101,1 workflow ann 0 6,1,1,6\nend 1\n",
-    ),
-    (
-        &[
-            Step::PatchSet(1, "m", None),
-            Step::Merged(2),
-            Step::Abandon(3),
-            Step::Restore(4),
-        ],
-        "change 101 MERGED\nlife 101 restored 4,1,1,4\nset 101,1 1,1,1,1 \"m\"\nend 1\n",
-    ),
-    (
-        &[
-            Step::PatchSet(1, "m", None),
-            Step::PatchSet(1, "m", Some(1)),
-        ],
-        "change 101 NEW\nset 101,1 1,1,1,1 \"m\" parent 1\nend 1\n",
-    ),
-    (
-        &[
-            Step::PatchSet(1, "m", Some(1)),
-            Step::PatchSet(1, "m", None),
-            Step::PatchSet(1, "n\n\"\\\t\u{1}", None),
-        ],
-        "change 101 NEW\nset 101,1 1,1,1,1 \"n\\n\\\"\\\\\\t\\u0001\"\nend 1\n",
-    ),
+/// Operations whose order counts for nothing.
+const ARRIVALS: [&[Step]; 3] = [
+    &[
+        Step::PatchSet(1, "m", None),
+        Step::Vote(3, 1),
+        Step::Vote(3, 2),
+        Step::Withdraw(3),
+    ],
+    &[
+        Step::PatchSet(1, "m", None),
+        Step::Merged(2),
+        Step::Abandon(3),
+        Step::Restore(4),
+    ],
+    &[
+        Step::PatchSet(1, "m", Some(1)),
+        Step::PatchSet(1, "m", None),
+        Step::PatchSet(1, "n", None),
+    ],
 ];
 
 #[test]
 fn the_order_of_arrival_counts_for_nothing(rt: HostRuntime) -> Result<(), Fail> {
-    for (steps, wanted) in ARRIVALS {
-        assert_state(&rt, rt.alloc(), steps, wanted)?;
+    for steps in ARRIVALS {
+        assert_state(&rt, rt.alloc(), steps)?;
     }
     Ok(())
 }
@@ -600,7 +553,6 @@ fn a_refused_absorb_says_how_many_are_in(rt: HostRuntime) -> Result<(), Fail> {
 struct Shown {
     front: bool,
     missing: bool,
-    text: bool,
 }
 
 /// Whether a heap suffices for the votes that an empty front lacks, which are then two.
@@ -611,26 +563,11 @@ fn shows_missing<'a>(heap: &'a LocalHeap, replica: &Replica<&'a LocalHeap>) -> b
     }
 }
 
-/// Whether memory suffices for the state text. Where it was refused nothing was written.
-fn shows_text<'a>(rt: &impl Abort, alloc: Global, replica: &Replica<&'a LocalHeap>) -> bool {
-    let mut written = Ends::new(Vec::new(alloc));
-    let fault = replica.write_state(&mut written).err();
-    assert!(rt; matches!(fault, None | Some(WriteStateFault::NoMemory)));
-    assert_eq!(rt; written.get_ref().is_empty(), fault.is_some());
-    fault.is_none()
-}
-
-/// What a heap suffices for, of what its replica with two votes shows. What was refused changed nothing and wrote nothing.
-fn shows<'a>(
-    rt: &impl Abort,
-    alloc: Global,
-    heap: &'a LocalHeap,
-    replica: &Replica<&'a LocalHeap>,
-) -> Shown {
+/// What a heap suffices for, of what its replica with two votes shows. What was refused changed nothing.
+fn shows<'a>(rt: &impl Abort, heap: &'a LocalHeap, replica: &Replica<&'a LocalHeap>) -> Shown {
     let shown = Shown {
         front: replica.front().is_ok(),
         missing: shows_missing(heap, replica),
-        text: shows_text(rt, alloc, replica),
     };
     assert_eq!(rt; replica.len(), 2);
     shown
@@ -640,7 +577,7 @@ fn shows<'a>(
 fn shown_in(rt: &impl Abort, alloc: Global, size: usize) -> Result<Option<Shown>, Fail> {
     let heap = LocalHeap::new(alloc, size)?;
     match voted_in(&heap, &[1, 2]) {
-        Some(replica) => Ok(Some(shows(rt, alloc, &heap, &replica))),
+        Some(replica) => Ok(Some(shows(rt, &heap, &replica))),
         None => Ok(None),
     }
 }
@@ -650,40 +587,18 @@ fn what_is_refused_is_not_shown(rt: HostRuntime) -> Result<(), Fail> {
     let mut refused = Shown {
         front: false,
         missing: false,
-        text: false,
     };
     let mut last = refused;
     for steps in 0..1024usize {
         if let Some(shown) = shown_in(&rt, rt.alloc(), steps * 8)? {
             refused.front = refused.front || !shown.front;
             refused.missing = refused.missing || !shown.missing;
-            refused.text = refused.text || !shown.text;
             last = shown;
         }
     }
-    assert!(rt; refused.front && refused.missing && refused.text);
-    assert!(rt; last.front && last.missing && last.text);
+    assert!(rt; refused.front && refused.missing);
+    assert!(rt; last.front && last.missing);
     Ok(())
-}
-
-/// A writer that fails once, and what it takes after that.
-type Failing = Broken<Ends<Vec<u8>>>;
-
-/// The first write fails, and the second doesn't.
-fn assert_told(rt: &impl Abort, replica: &Replica, failing: &mut Failing) {
-    let first = replica.write_state(failing);
-    assert_eq!(rt; first, Err(WriteStateFault::WriteFault));
-    let second = replica.write_state(failing);
-    assert_eq!(rt; second, Ok(()));
-}
-
-#[test]
-fn a_failing_writer_is_told(rt: HostRuntime) {
-    let replica = Replica::new(rt.alloc());
-    let mut failing = Broken::at_call(Ends::new(Vec::new(rt.alloc())), 1);
-    assert_told(&rt, &replica, &mut failing);
-    let written = failing.get_ref().get_ref().as_slice();
-    assert_eq!(rt; written, b"end 0\n".as_slice());
 }
 
 /// Numbers that look thrown, the same in each run: Marsaglia's xorshift.

@@ -1,8 +1,3 @@
-mod Reading
-mod Numerals
-mod Sorted
-mod ReadBack
-mod Arrivals
-mod OneReading
 mod Passing
 mod OneReport
+mod StateLines

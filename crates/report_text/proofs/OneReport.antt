@@ -5,7 +5,7 @@ use Rattle.std.specs.List.{AllByRecursion}
 use Rattle.std.specs.Str.Parse.{AllDigits, digits_value}
 use Rattle.std.proofs.lemmas.Fmt.{decimal_is_IsNumeral}
 use Rattle.std.proofs.lemmas.Str.Parse.{digit_from_value}
-use Rattle.gate_rules.specs.declared.own.Item.{Item}
+use Rattle.state_core.specs.declared.item.Item.{Item}
 use Rattle.gate_rules.specs.declared.condition.Side.{Side}
 use Rattle.gate_rules.specs.declared.condition.Side.TheVariants.{Require, Reject}
 use Rattle.gate_rules.specs.declared.condition.Clause.{Clause}

@@ -1,57 +1,26 @@
 -- The numbers and names of faults in reports. They are the project's own.
-use Rattle.std.specs.Prelude.{ℕ, List, codes}
-use Rattle.report_text.specs.declared.fault.BytesFault.{BytesFault}
-use Rattle.report_text.specs.declared.fault.BytesFault.TheVariants as bytes
-use Rattle.report_text.specs.declared.fault.SnapFault.{SnapFault}
-use Rattle.report_text.specs.declared.fault.SnapFault.TheVariants.{BadHeader, BadLine, NoEnd, BadCount, AfterEnd, TooLong, ReadFault, NoMemory}
-use Rattle.report_text.specs.declared.fault.WriteSnapFault.{WriteSnapFault}
-use Rattle.report_text.specs.declared.fault.WriteSnapFault.TheVariants as write
+use Rattle.std.specs.Prelude.{◌≡◌, ℕ, List, codes}
+use Rattle.byte_ends.specs.Failures.{OneFailed}
 use Rattle.report_text.specs.declared.fault.WriteReportFault.{WriteReportFault}
-use Rattle.report_text.specs.declared.fault.WriteReportFault.TheVariants as write_report
+use Rattle.report_text.specs.declared.fault.WriteReportFault.TheVariants as report
+use Rattle.report_text.specs.declared.fault.WriteStateFault.{WriteStateFault}
+use Rattle.report_text.specs.declared.fault.WriteStateFault.TheVariants as state
 
-abbrev pub number_of : SnapFault → ℕ
-number_of BadHeader = 1
-number_of (BadLine n cause) = 2
-number_of NoEnd = 3
-number_of BadCount = 4
-number_of AfterEnd = 5
-number_of TooLong = 6
-number_of ReadFault = 7
-number_of NoMemory = 8
+abbrev pub report_number_of : WriteReportFault → ℕ
+report_number_of report.WriteFault = 1
 
-abbrev pub name_of : SnapFault → List ℕ
-name_of BadHeader = codes "BadHeader"
-name_of (BadLine n cause) = codes "BadLine"
-name_of NoEnd = codes "NoEnd"
-name_of BadCount = codes "BadCount"
-name_of AfterEnd = codes "AfterEnd"
-name_of TooLong = codes "TooLong"
-name_of ReadFault = codes "ReadFault"
-name_of NoMemory = codes "NoMemory"
+abbrev pub report_name_of : WriteReportFault → List ℕ
+report_name_of report.WriteFault = codes "WriteFault"
 
--- where bytes aren't handed out, a snapshot is refused so
-abbrev pub snap_fault_of : BytesFault → SnapFault
-snap_fault_of bytes.TooLong = TooLong
-snap_fault_of bytes.ReadFault = ReadFault
-snap_fault_of bytes.NoMemory = NoMemory
+abbrev pub state_number_of : WriteStateFault → ℕ
+state_number_of state.WriteFault = 1
+state_number_of state.NoMemory = 2
 
--- with the same number and name
-abbrev pub bytes_number_of : BytesFault → ℕ
-bytes_number_of fault = number_of (snap_fault_of fault)
+abbrev pub state_name_of : WriteStateFault → List ℕ
+state_name_of state.WriteFault = codes "WriteFault"
+state_name_of state.NoMemory = codes "NoMemory"
 
-abbrev pub bytes_name_of : BytesFault → List ℕ
-bytes_name_of fault = name_of (snap_fault_of fault)
-
-abbrev pub write_number_of : WriteSnapFault → ℕ
-write_number_of write.WriteFault = 1
-write_number_of write.NoMemory = 2
-
-abbrev pub write_name_of : WriteSnapFault → List ℕ
-write_name_of write.WriteFault = codes "WriteFault"
-write_name_of write.NoMemory = codes "NoMemory"
-
-abbrev pub write_report_number_of : WriteReportFault → ℕ
-write_report_number_of write_report.WriteFault = 1
-
-abbrev pub write_report_name_of : WriteReportFault → List ℕ
-write_report_name_of write_report.WriteFault = codes "WriteFault"
+-- a failing drain shows in a count of one failure more, and refused memory leaves the count
+abbrev pub CountsStateFault : ℕ → ℕ → WriteStateFault → Type 0
+CountsStateFault old new state.WriteFault = OneFailed old new
+CountsStateFault old new state.NoMemory = new ≡ old

@@ -1,7 +1,5 @@
 pub mod Fault
-pub mod Snapshot
-pub mod Reading
-pub mod Sound
-pub mod Report
 pub mod Pages
+pub mod Report
 pub mod Told
+pub mod StateText

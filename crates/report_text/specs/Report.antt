@@ -2,7 +2,7 @@
 -- Gerrit driver (zuul-ci.org/docs, "Gerrit", pipeline requirements); the form is the project's own.
 use Rattle.std.specs.Prelude.{ℕ, List, ◌++◌, codes, length, flat_map}
 use Rattle.std.specs.Fmt.{decimal}
-use Rattle.gate_rules.specs.declared.own.Item.{Item}
+use Rattle.state_core.specs.declared.item.Item.{Item}
 use Rattle.gate_rules.specs.declared.condition.Side.{Side}
 use Rattle.gate_rules.specs.declared.condition.Side.TheVariants.{Require, Reject}
 use Rattle.gate_rules.specs.declared.condition.Clause.{Clause}
@@ -11,7 +11,7 @@ use Rattle.ready_core.specs.declared.verdicts.Left.{Left}
 use Rattle.ready_core.specs.declared.verdicts.Refusal.{Refusal}
 use Rattle.ready_core.specs.declared.verdicts.Refusal.TheVariants.{Own, Cycle, Unknown, Dependency}
 use Rattle.ready_core.specs.Verdicts.{Judged}
-use Rattle.report_text.specs.Snapshot.{as_line}
+use Rattle.byte_ends.specs.Lines.{as_line}
 
 -- ---- the words of a refusal
 

@@ -1,7 +1,7 @@
 -- What the text of a report tells of its verdicts.
 use Rattle.std.specs.Prelude.{◌<◌, ◌^◌}
 use Rattle.std.specs.List.{AllByRecursion}
-use Rattle.gate_rules.specs.declared.own.Item.{Item}
+use Rattle.state_core.specs.declared.item.Item.{Item}
 use Rattle.gate_rules.specs.declared.condition.Clause.{Clause}
 use Rattle.gate_rules.specs.declared.condition.Clause.TheVariants.{OpenState, CurrentSet, StatusIn, Approval}
 use Rattle.ready_core.specs.declared.verdicts.Left.{Left}

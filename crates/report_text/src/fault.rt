@@ -1,66 +1,10 @@
+//! Why a report or a state text isn't written.
+
 ghost use Rattle.std.specs.Prelude.{◌≡◌};
-ghost use Rattle.report_text.specs.Fault.{number_of, name_of, bytes_number_of, bytes_name_of, write_number_of, write_name_of, write_report_number_of, write_report_name_of, snap_fault_of};
-ghost use Rattle.report_text.specs.declared.fault.WriteSnapFault.TheVariants.{WriteFault as WriteFailed, NoMemory as OutOfMemory};
+ghost use Rattle.report_text.specs.Fault.{report_number_of, report_name_of, state_number_of, state_name_of};
 
 use byte_ends::Failed;
-use lattice_core::NoMemory;
-use op_text::OpTextFault;
 use thiserror::Error;
-
-/// Why a source's bytes aren't handed out.
-#[derive(Clone, Copy, Debug, PartialEq, Eq, Error)]
-pub enum BytesFault {
-    /// 6: there are more bytes than the limit.
-    #[error("more bytes than the limit")]
-    TooLong,
-    /// 7: the source failed.
-    #[error("the source failed")]
-    ReadFault,
-    /// 8: memory was refused.
-    #[error("no memory")]
-    NoMemory,
-}
-
-/// Why a snapshot isn't read. Of the faults in a text the first in line order stands.
-#[derive(Debug, Drop, Error)]
-pub enum SnapFault {
-    /// 1: there is no first line, or it is neither `reviewgate 1` nor `reviewgate 2`.
-    #[error("bad header")]
-    BadHeader,
-    /// 2: the line of this number, counted from 1, is no end line and isn't read as an operation. Its cause is never
-    /// `OpTextFault::NoMemory`.
-    #[error("bad line {0}: {1}")]
-    BadLine(u64, OpTextFault),
-    /// 3: there is no end line.
-    #[error("no end line")]
-    NoEnd,
-    /// 4: the end line's number isn't that of the operation lines before it, repeats counted.
-    #[error("bad count")]
-    BadCount,
-    /// 5: a line stands after the end line, perhaps an empty one.
-    #[error("a line after the end")]
-    AfterEnd,
-    /// 6: there are more bytes than the limit.
-    #[error("more bytes than the limit")]
-    TooLong,
-    /// 7: the source failed.
-    #[error("the source failed")]
-    ReadFault,
-    /// 8: memory was refused.
-    #[error("no memory")]
-    NoMemory,
-}
-
-/// Why a snapshot isn't written.
-#[derive(Clone, Copy, Debug, PartialEq, Eq, Error)]
-pub enum WriteSnapFault {
-    /// 1: the drain failed.
-    #[error("the drain failed")]
-    WriteFault,
-    /// 2: memory was refused.
-    #[error("no memory")]
-    NoMemory,
-}
 
 /// Why a report isn't written.
 #[derive(Clone, Copy, Debug, PartialEq, Eq, Error)]
@@ -70,90 +14,21 @@ pub enum WriteReportFault {
     WriteFault,
 }
 
-impl BytesFault {
-    /// The fault's number in reports: that of the same fault of a snapshot.
-    pub fn number(&self) -> u8
-        ensures { result ≡ bytes_number_of self.now }
-    {
-        match self {
-            BytesFault::TooLong => 6,
-            BytesFault::ReadFault => 7,
-            BytesFault::NoMemory => 8,
-        }
-    }
-
-    /// The fault's name in reports.
-    pub fn name(&self) -> &'static str
-        ensures { result.now ≡ bytes_name_of self.now }
-    {
-        match self {
-            BytesFault::TooLong => "TooLong",
-            BytesFault::ReadFault => "ReadFault",
-            BytesFault::NoMemory => "NoMemory",
-        }
-    }
-}
-
-impl SnapFault {
-    /// The fault's number in reports.
-    pub fn number(&self) -> u8
-        ensures { result ≡ number_of self.now }
-    {
-        match self {
-            SnapFault::BadHeader => 1,
-            SnapFault::BadLine(_, _) => 2,
-            SnapFault::NoEnd => 3,
-            SnapFault::BadCount => 4,
-            SnapFault::AfterEnd => 5,
-            SnapFault::TooLong => 6,
-            SnapFault::ReadFault => 7,
-            SnapFault::NoMemory => 8,
-        }
-    }
-
-    /// The fault's name in reports, without the line and the cause.
-    pub fn name(&self) -> &'static str
-        ensures { result.now ≡ name_of self.now }
-    {
-        match self {
-            SnapFault::BadHeader => "BadHeader",
-            SnapFault::BadLine(_, _) => "BadLine",
-            SnapFault::NoEnd => "NoEnd",
-            SnapFault::BadCount => "BadCount",
-            SnapFault::AfterEnd => "AfterEnd",
-            SnapFault::TooLong => "TooLong",
-            SnapFault::ReadFault => "ReadFault",
-            SnapFault::NoMemory => "NoMemory",
-        }
-    }
-}
-
-impl WriteSnapFault {
-    /// The fault's number in reports.
-    pub fn number(&self) -> u8
-        ensures { result ≡ write_number_of self.now }
-    {
-        match self {
-            WriteSnapFault::WriteFault => 1,
-            WriteSnapFault::NoMemory => 2,
-        }
-    }
-
-    /// The fault's name in reports.
-    pub fn name(&self) -> &'static str
-        ensures { result.now ≡ write_name_of self.now }
-    {
-        match self {
-            WriteSnapFault::WriteFault => "WriteFault",
-            WriteSnapFault::NoMemory => "NoMemory",
-        }
-    }
+/// Why a state text isn't written.
+#[derive(Clone, Copy, Debug, PartialEq, Eq, Error)]
+pub enum WriteStateFault {
+    /// 1: the drain failed.
+    #[error("the drain failed")]
+    WriteFault,
+    /// 2: memory was refused.
+    #[error("no memory")]
+    NoMemory,
 }
 
 impl WriteReportFault {
     /// The fault's number in reports.
     pub fn number(&self) -> u8
-        ensures { result ≡ write_report_number_of self.now }
+        ensures { result ≡ report_number_of self.now }
     {
         match self {
             WriteReportFault::WriteFault => 1,
@@ -162,7 +37,7 @@ impl WriteReportFault {
 
     /// The fault's name in reports.
     pub fn name(&self) -> &'static str
-        ensures { result.now ≡ write_report_name_of self.now }
+        ensures { result.now ≡ report_name_of self.now }
     {
         match self {
             WriteReportFault::WriteFault => "WriteFault",
@@ -170,31 +45,25 @@ impl WriteReportFault {
     }
 }
 
-impl From<BytesFault> for SnapFault {
-    ghost from_gives = { λ fault given. given ≡ snap_fault_of fault };
-
-    fn from(fault: BytesFault) -> SnapFault {
-        match fault {
-            BytesFault::TooLong => SnapFault::TooLong,
-            BytesFault::ReadFault => SnapFault::ReadFault,
-            BytesFault::NoMemory => SnapFault::NoMemory,
+impl WriteStateFault {
+    /// The fault's number in reports.
+    pub fn number(&self) -> u8
+        ensures { result ≡ state_number_of self.now }
+    {
+        match self {
+            WriteStateFault::WriteFault => 1,
+            WriteStateFault::NoMemory => 2,
         }
     }
-}
 
-impl From<Failed> for WriteSnapFault {
-    ghost from_gives = { λ _ fault. fault ≡ WriteFailed };
-
-    fn from(_failed: Failed) -> WriteSnapFault {
-        WriteSnapFault::WriteFault
-    }
-}
-
-impl From<NoMemory> for WriteSnapFault {
-    ghost from_gives = { λ _ fault. fault ≡ OutOfMemory };
-
-    fn from(_refused: NoMemory) -> WriteSnapFault {
-        WriteSnapFault::NoMemory
+    /// The fault's name in reports.
+    pub fn name(&self) -> &'static str
+        ensures { result.now ≡ state_name_of self.now }
+    {
+        match self {
+            WriteStateFault::WriteFault => "WriteFault",
+            WriteStateFault::NoMemory => "NoMemory",
+        }
     }
 }
 

@@ -1,25 +1,17 @@
-//! The texts of snapshots and reports.
+//! The texts of reports and of states.
 #![tactic(auto)]
 
-mod end_line;
 mod fault;
 mod laws;
 mod page;
-mod read;
 mod report;
 #[cfg(test)]
 mod report_tests;
 #[cfg(test)]
-mod tests;
-mod whole;
-mod write;
+mod state_tests;
+mod state_text;
 
-pub use fault::{BytesFault, SnapFault, WriteReportFault, WriteSnapFault};
-pub use laws::{
-    equal_states_print_equal_reports, lines_have_one_reading, operations_arrive_as_a_set,
-    reports_have_one_reading, snapshots_are_one, snapshots_say_their_operations,
-};
-pub use read::{SNAPSHOT_LIMIT, read_snapshot, snapshot_of, snapshot_onto};
+pub use fault::{WriteReportFault, WriteStateFault};
+pub use laws::{equal_states_print_equal_reports, reports_have_one_reading};
 pub use report::write_report;
-pub use whole::read_all;
-pub use write::write_snapshot;
+pub use state_text::write_state;

@@ -10,8 +10,9 @@ ghost use Rattle.report_text.specs.Report.{side_name, clause_text, refusal_text,
 use super::fault::WriteReportFault;
 use super::page::{Page, add_number, make_room, send};
 use byte_ends::{Drain, Failed};
-use gate_rules::{Clause, Condition, Item, Side};
+use gate_rules::{Clause, Condition, Side};
 use ready_core::{Left, Refusal, Verdicts};
+use state_core::Item;
 
 /// Writes the report: a line for each item that is ready, a line for each other item with its refusal, both in the order of the
 /// verdicts, and the end line. Refusal: 1 `WriteFault`, the drain failed, and has taken what of the text went before. It takes no

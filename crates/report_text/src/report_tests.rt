@@ -1,13 +1,13 @@
 use super::page::Page;
-use super::read::snapshot_of;
 use super::report::{add_end, add_out, add_ready, write_ready};
 use super::{
     WriteReportFault, equal_states_print_equal_reports, reports_have_one_reading, write_report,
 };
 use byte_ends::{Broken, Ends, Failed};
-use gate_rules::{Clause, Condition, Gate, Item, Side};
+use gate_rules::{Clause, Condition, Gate, Side};
 use ready_core::{Left, Refusal, Verdicts, evaluate};
-use replica_core::Replica;
+use review_ops::{Body, Draft, Op, Stamp};
+use state_core::{Item, State};
 use std::alloc::Global;
 use std::process::Abort;
 use std::test::Fail;
@@ -15,33 +15,46 @@ use std::test::Fail;
 /// A gate that wants open changes, and a record in which change 3 isn't known and change 5 is abandoned.
 const GATE: &str = r#"{"bases":["https://r/"],"require":{"gerrit":{"open":true}}}"#;
 
-const RECORD: &str = concat!(
-    "reviewgate 2\n",
-    r#"{"change":1,"message":"m","op":"patchset","seq":1,"set":1,"site":1,"start":1,"time":1}"#,
-    "\n",
-    r#"{"change":2,"message":"Depends-On: https://r/3","op":"patchset","seq":2,"set":1,"site":1,"start":1,"time":2}"#,
-    "\n",
-    r#"{"change":4,"message":"Depends-On: https://r/2","op":"patchset","seq":3,"set":1,"site":1,"start":1,"time":3}"#,
-    "\n",
-    r#"{"change":5,"message":"m","op":"patchset","seq":4,"set":1,"site":1,"start":1,"time":4}"#,
-    "\n",
-    r#"{"change":5,"op":"abandon","seq":5,"site":1,"start":1,"time":5}"#,
-    "\nend 5\n",
-);
+/// First patch sets, by change, with their messages.
+const RECORD: [(u32, &str); 4] = [
+    (1, "m"),
+    (2, "Depends-On: https://r/3"),
+    (4, "Depends-On: https://r/2"),
+    (5, "m"),
+];
 
 const REPORT: &str =
     "ready 1,1\nout 2,1 unknown 3\nout 4,1 dependency 2\nout 5,1 require open\nend 1 3\n";
 
-/// The verdicts of a replica under the gate.
-fn verdicts_of(alloc: Global, replica: &Replica) -> Result<Verdicts, Fail> {
-    let gate = Gate::read(alloc, GATE.as_bytes())?;
-    Ok(evaluate(alloc, replica, &gate)?)
+/// Takes an operation with the time and sequence number `time`, of site 1 under start 1.
+fn take(state: &mut State, time: u64, draft: Draft) -> Result<(), Fail> {
+    let stamp = Stamp::new(time, 1, 1, time).ok_or("a stamp")?;
+    state.take(&Op::new(stamp, Body::checked(draft)?))?;
+    Ok(())
+}
+
+/// The state of the record.
+fn state_of(alloc: Global) -> Result<State, Fail> {
+    let mut state = State::new(alloc);
+    for (time, (change, message)) in (1u64..).zip(RECORD) {
+        let message = String::from_str(alloc, message)?;
+        let (set, parent) = (1, None);
+        let draft = Draft::PatchSet {
+            change,
+            set,
+            message,
+            parent,
+        };
+        take(&mut state, time, draft)?;
+    }
+    take(&mut state, 5, Draft::Abandon { change: 5 })?;
+    Ok(state)
 }
 
 /// The verdicts of the record under the gate.
 fn verdicts(alloc: Global) -> Result<Verdicts, Fail> {
-    let replica = snapshot_of(alloc, RECORD.as_bytes())?;
-    verdicts_of(alloc, &replica)
+    let gate = Gate::read(alloc, GATE.as_bytes())?;
+    Ok(evaluate(alloc, &state_of(alloc)?, &gate)?)
 }
 
 /// An item.

@@ -5,8 +5,8 @@ use Rattle.std.proofs.lemmas.List.Folds.{list_any-append}
 use Rattle.review_ops.specs.Operation.{Operation}
 use Rattle.replica_core.specs.Journal.{same_operation, has, all_arrived}
 use Rattle.replica_core.specs.InOrder.{IsInOrderOf}
-use Rattle.report_text.specs.Snapshot.{IsOfText, IsRefusal, snapshot_text}
-use Rattle.report_text.specs.declared.fault.SnapFault.{SnapFault}
+use Rattle.snapshot_text.specs.Snapshot.{IsOfText, IsRefusal, snapshot_text}
+use Rattle.snapshot_text.specs.declared.fault.SnapFault.{SnapFault}
 use Rattle.reviewgate.specs.Merging.{IsReadAs, IsReadOnto, IsReadBoth, AreMerged, PrintsMerged, CutsMerged}
 
 -- what the bytes are refused by is a refusal of what is told to be them

@@ -4,7 +4,7 @@ use Rattle.std.specs.Io.KnownBytes.{Appends}
 use Rattle.gate_rules.specs.Rules.{GateRules}
 use Rattle.gate_rules.specs.Spelling.{SpellsGate}
 use Rattle.ready_core.specs.Verdicts.{AreVerdicts, Judged}
-use Rattle.replica_core.specs.State.{state_of}
+use Rattle.state_core.specs.State.{state_of}
 use Rattle.report_text.specs.Report.{report_of}
 use Rattle.review_ops.specs.Operation.{Operation}
 use Rattle.reviewgate.specs.Files.{is_input, given, left_after}

@@ -4,8 +4,8 @@ use Rattle.std.specs.Cmp.Lexicographic.{pointwise}
 use Rattle.byte_ends.specs.Failures.{OneFailed}
 use Rattle.byte_ends.specs.declared.faults.ReadAllFault.{ReadAllFault}
 use Rattle.byte_ends.specs.declared.faults.ReadAllFault.TheVariants as source
-use Rattle.report_text.specs.declared.fault.SnapFault.{SnapFault}
-use Rattle.report_text.specs.declared.fault.SnapFault.TheVariants as snapshot
+use Rattle.snapshot_text.specs.declared.fault.SnapFault.{SnapFault}
+use Rattle.snapshot_text.specs.declared.fault.SnapFault.TheVariants as snapshot
 use Rattle.reviewgate.specs.declared.refusal.FileFault.{FileFault}
 use Rattle.reviewgate.specs.declared.refusal.FileFault.TheVariants.{TooLong, ReadFault, NoMemory}
 

@@ -6,7 +6,7 @@ use Rattle.byte_ends.specs.Failures.{OneFailed}
 use Rattle.footer_text.specs.Footers.{AreFooters}
 use Rattle.gate_rules.specs.Rules.{GateRules}
 use Rattle.gate_rules.specs.Spelling.{SpellsGate, IsRefusalOf}
-use Rattle.report_text.specs.Snapshot.{as_line}
+use Rattle.byte_ends.specs.Lines.{as_line}
 use Rattle.reviewgate.specs.Files.{CountsFileFault}
 use Rattle.reviewgate.specs.Merging.{Failures}
 use Rattle.reviewgate.specs.declared.refusal.FileFault.{FileFault}

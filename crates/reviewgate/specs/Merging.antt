@@ -4,10 +4,10 @@ use Rattle.std.specs.Io.KnownBytes.{Appends}
 use Rattle.byte_ends.specs.Lines.{lines_of}
 use Rattle.byte_ends.specs.Failures.{OneFailed}
 use Rattle.review_ops.specs.Operation.{Operation}
-use Rattle.report_text.specs.declared.fault.SnapFault.{SnapFault}
+use Rattle.snapshot_text.specs.declared.fault.SnapFault.{SnapFault}
 use Rattle.replica_core.specs.Journal.{all_arrived}
 use Rattle.replica_core.specs.InOrder.{IsInOrderOf}
-use Rattle.report_text.specs.Snapshot.{SaysOperations, IsRefusal, CountsSnapFault, most_bytes, snapshot_text}
+use Rattle.snapshot_text.specs.Snapshot.{SaysOperations, IsRefusal, CountsSnapFault, most_bytes, snapshot_text}
 use Rattle.reviewgate.specs.declared.refusal.Refusal.{Refusal}
 use Rattle.reviewgate.specs.declared.refusal.Refusal.TheVariants.{Script, Snapshot, Gate, File, NotText, Output, Memory}
 

@@ -6,9 +6,9 @@ use Rattle.gate_rules.specs.declared.fault.GateFault.TheVariants as GateFaults
 use Rattle.op_text.specs.Fault as operation
 use Rattle.op_text.specs.declared.fault.OpTextFault.{OpTextFault}
 use Rattle.op_text.specs.declared.fault.OpTextFault.TheVariants as OpTextFaults
-use Rattle.report_text.specs.Fault as snapshot
-use Rattle.report_text.specs.declared.fault.SnapFault.{SnapFault}
-use Rattle.report_text.specs.declared.fault.SnapFault.TheVariants as SnapFaults
+use Rattle.snapshot_text.specs.Fault as snapshot
+use Rattle.snapshot_text.specs.declared.fault.SnapFault.{SnapFault}
+use Rattle.snapshot_text.specs.declared.fault.SnapFault.TheVariants as SnapFaults
 use Rattle.review_ops.specs.Fault as body
 use Rattle.script_play.specs.declared.fault.PlayFault.{PlayFault}
 use Rattle.script_play.specs.declared.fault.PlayFault.TheVariants as PlayFaults

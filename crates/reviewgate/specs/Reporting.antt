@@ -6,9 +6,9 @@ use Rattle.gate_rules.specs.Rules.{GateRules}
 use Rattle.gate_rules.specs.Spelling.{IsRefusalOf, SpellsGate}
 use Rattle.ready_core.specs.Verdicts.{AreVerdicts, Judged}
 use Rattle.replica_core.specs.Journal.{all_arrived}
-use Rattle.replica_core.specs.State.{state_of}
+use Rattle.state_core.specs.State.{state_of}
 use Rattle.report_text.specs.Report.{report_of}
-use Rattle.report_text.specs.Snapshot.{IsRefusal}
+use Rattle.snapshot_text.specs.Snapshot.{IsRefusal}
 use Rattle.review_ops.specs.Operation.{Operation}
 use Rattle.reviewgate.specs.FooterLines.{CountsUnreadFile, IsGate, most_bytes}
 use Rattle.reviewgate.specs.Merging.{CountsUnread, Failures, IsSnapshot, IsSnapshotOf}

@@ -1,18 +1,15 @@
 //! Prints the snapshot of two together.
 
 ghost use Rattle.std.specs.Prelude.{◌≡◌, ℕ, List, false, IfOk, IfErr, IfSome, OnOk, MatchResult};
-ghost use Rattle.report_text.specs.Snapshot.{IsRefusal};
+ghost use Rattle.snapshot_text.specs.Snapshot.{IsRefusal};
 ghost use Rattle.reviewgate.specs.Files.{given, is_input, left_after, snap_fault_of};
 ghost use Rattle.reviewgate.specs.Merging.{CountsMergeRefusal, CountsUnread, IsMergeRefusal, IsReadBoth, IsReadOnto, IsUnread, PrintsMerged, PrintsRefused, failures};
 
 use super::named::{Named, bytes_of, is_input};
 use super::refusal::{FileFault, Refusal};
 use byte_ends::{Drain, Source};
-use replica_core::Replica;
-use report_text::{
-    SNAPSHOT_LIMIT, SnapFault, WriteSnapFault, operations_arrive_as_a_set, snapshot_onto,
-    write_snapshot,
-};
+use replica_core::{Replica, operations_arrive_as_a_set};
+use snapshot_text::{SNAPSHOT_LIMIT, SnapFault, WriteSnapFault, snapshot_onto, write_snapshot};
 use std::alloc::Global;
 
 /// Prints the snapshot of two together: of the operations that stand in either, each once. The first is read whole and judged, then

@@ -44,7 +44,7 @@ pub fn ready<I: Source, O: Drain, N: Named>(
 {
     let rules = read_gate(alloc, gate, input, files)?;
     let replica = read_second(Replica::new(alloc), gate, snapshot, input, files)?;
-    let Ok(verdicts) = evaluate(alloc, &replica, &rules) else {
+    let Ok(verdicts) = evaluate(alloc, replica.state(), &rules) else {
         return Err(Refusal::Memory);
     };
     match write_report(&verdicts, output) {

@@ -7,9 +7,9 @@ ghost use Rattle.reviewgate.specs.Refusals.{cause_detail, refusal_line, refusal_
 
 use gate_rules::GateFault;
 use op_text::OpTextFault;
-use report_text::SnapFault;
 use script_play::PlayFault;
 use script_text::ScriptFault;
+use snapshot_text::SnapFault;
 use std::alloc::{AllocError, Global};
 use thiserror::Error;
 

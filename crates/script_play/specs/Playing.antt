@@ -9,8 +9,8 @@ use Rattle.report_text.specs.Report.{report_of}
 use Rattle.review_ops.specs.Operation.{Operation}
 use Rattle.review_ops.specs.Timestamp.{timestamp_text}
 use Rattle.replica_core.specs.Front.{Reaches, IsFront}
-use Rattle.replica_core.specs.State.{state_of}
-use Rattle.replica_core.specs.StateText.{state_text}
+use Rattle.state_core.specs.State.{state_of}
+use Rattle.report_text.specs.StateText.{state_text}
 use Rattle.world_core.specs.declared.event.Event.{Event}
 use Rattle.world_core.specs.declared.event.Event.TheVariants.{Send}
 use Rattle.world_core.specs.declared.event.Reply.{Reply}

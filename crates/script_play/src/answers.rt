@@ -11,8 +11,8 @@ use gate_rules::Gate;
 use lattice_core::NoMemory;
 use op_text::write_front;
 use ready_core::evaluate;
-use replica_core::{Replica, WriteStateFault};
-use report_text::{WriteReportFault, write_report};
+use replica_core::Replica;
+use report_text::{WriteReportFault, WriteStateFault, write_report, write_state};
 use script_text::ScriptFault;
 use std::alloc::{AllocError, Global};
 use world_core::{Event, Reply, World, WorldFault};
@@ -45,7 +45,7 @@ pub fn print_answers<D: Drain>(
 pub fn show_state<D: Drain>(replica: &Replica, output: &mut D) -> Result<(), PlayFault>
     ensures { (text : List ℕ) × ShowsState replica.now text × Prints text (D.taken output.old) (D.taken output.new) result }
 {
-    match replica.write_state(output) {
+    match write_state(replica.state(), output) {
         Ok(()) => Ok(()),
         Err(WriteStateFault::WriteFault) => Err(PlayFault::Output),
         Err(WriteStateFault::NoMemory) => print(output, NO_MEMORY.as_bytes()),
@@ -75,7 +75,7 @@ pub fn show_report<D: Drain>(
 ) -> Result<(), PlayFault>
     ensures { (text : List ℕ) × ShowsReport gate.now replica.now text × Prints text (D.taken output.old) (D.taken output.new) result }
 {
-    let Ok(verdicts) = evaluate(alloc, replica, gate) else {
+    let Ok(verdicts) = evaluate(alloc, replica.state(), gate) else {
         return print(output, NO_MEMORY.as_bytes());
     };
     match write_report(&verdicts, output) {

@@ -5,15 +5,15 @@ use Rattle.std.proofs.lemmas.Bool.{eq-eqb, ne_eqb}
 use Rattle.review_ops.specs.Draft.{deed_of}
 use Rattle.review_ops.specs.Operation.{Operation}
 use Rattle.replica_core.specs.Journal.{has}
-use Rattle.replica_core.specs.State.{IsJournalState}
-use Rattle.replica_core.specs.StateLaws.{state_of-IsJournalState}
+use Rattle.state_core.specs.State.{IsJournalState}
+use Rattle.state_core.specs.StateLaws.{state_of-IsJournalState}
 use Rattle.world_core.specs.declared.event.Event.{Event}
 use Rattle.world_core.specs.declared.event.Event.TheVariants.{Intake, Send, Deliver, Save, Restart}
 use Rattle.world_core.specs.declared.event.Reply.TheVariants.{Took, Delivered, Saved, Restarted}
 use Rattle.world_core.specs.declared.event.WorldFault.TheVariants.{StartUsed, ClockSpent, BadBody, NoMemory}
 use Rattle.world_core.specs.Convergence.{site_in, packed, Came, nothing, came_with, came_on, came_to, made, IsWhatCame, Agree, Converges}
 use Rattle.replica_core.specs.Sets.{IsSameSet, state_of-same}
-use Rattle.world_core.specs.Journals.{IsSameSet-append, has-arrived, has-all_arrived}
+use Rattle.replica_core.specs.JournalLaws.{IsSameSet-append, has-arrived, has-all_arrived}
 use Rattle.world_core.specs.Numbered.{numbered}
 use Rattle.world_core.specs.Step.{Answer, taken_in, IsIntake, IsDelivery, IsDeliveryOf, IsSave, IsRestart, Run}
 use Rattle.world_core.specs.World.{SiteState, WorldState, new_site, new_world}

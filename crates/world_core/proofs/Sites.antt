@@ -12,7 +12,7 @@ use Rattle.replica_core.specs.Front.{Reaches}
 use Rattle.replica_core.specs.Missing.{IsMissing}
 use Rattle.replica_core.specs.Journal.{arrived, all_arrived}
 use Rattle.world_core.specs.declared.event.Reply.TheVariants.{Packet, Delivered}
-use Rattle.world_core.specs.Journals.{all_arrived-push, length-all_arrived}
+use Rattle.replica_core.specs.JournalLaws.{all_arrived-push, length-all_arrived}
 use Rattle.world_core.specs.declared.event.WorldFault.TheVariants.{NoSite, NoPacket}
 use Rattle.world_core.specs.Numbered.{numbered, numbered_at, replaced_at, replaced_back, numbered_past}
 use Rattle.world_core.specs.Step.{Answer, AtSite, IsDelivery, IsDeliveryOf, IsSend, IsSendAt}

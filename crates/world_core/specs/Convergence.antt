@@ -6,7 +6,7 @@ use Rattle.review_ops.specs.Draft.{deed_of}
 use Rattle.review_ops.specs.Operation.{Operation}
 use Rattle.review_ops.specs.Timestamp.{Timestamp}
 use Rattle.replica_core.specs.Journal.{has}
-use Rattle.replica_core.specs.State.{IsJournalState, state_of}
+use Rattle.state_core.specs.State.{IsJournalState, state_of}
 use Rattle.world_core.specs.declared.event.Event.{Event}
 use Rattle.world_core.specs.declared.event.Event.TheVariants.{Intake, Send, Deliver, Save, Restart}
 use Rattle.world_core.specs.declared.event.Reply.TheVariants.{Took, Delivered, Saved, Restarted}

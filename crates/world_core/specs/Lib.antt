@@ -1,7 +1,6 @@
 pub mod Fault
 pub mod Numbered
 pub mod World
-pub mod Journals
 pub mod Step
 pub mod Convergence
 pub mod Passing

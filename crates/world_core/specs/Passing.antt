@@ -11,7 +11,7 @@ use Rattle.replica_core.specs.Front.{Reaches, reach_of, holds, ReachesInto, IsFr
 use Rattle.replica_core.specs.Journal.{has}
 use Rattle.replica_core.specs.Missing.{IsMissing, is_past}
 use Rattle.world_core.specs.Convergence.{AreTwins}
-use Rattle.world_core.specs.Journals.{has_one, has-filter}
+use Rattle.replica_core.specs.JournalLaws.{has_one, has-filter}
 
 both_are : (a b : Bool) → (a && b) ≡ true → (a ≡ true) × (b ≡ true)
 both_are true b h = (refl, h)

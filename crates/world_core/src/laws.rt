@@ -3,7 +3,7 @@ ghost use Rattle.std.specs.Prelude.{◌≡◌, ℕ, false, List, Some, Ok, IfSom
 ghost use Rattle.replica_core.specs.Front.{Reaches, IsFront};
 ghost use Rattle.world_core.specs.declared.event.Event.{Event};
 ghost use Rattle.world_core.specs.Convergence.{Converges, MayBecome};
-ghost use Rattle.world_core.specs.Journals.{IsPartOf};
+ghost use Rattle.replica_core.specs.JournalLaws.{IsPartOf};
 ghost use Rattle.world_core.specs.Numbered.{numbered};
 ghost use Rattle.world_core.specs.Step.{Answer, AtSite, IsDeliveryOf, IsSendAt, Run};
 ghost use Rattle.world_core.specs.World.{SiteState, WorldState, new_world};

@@ -1,7 +1,7 @@
 use Rattle.std.proofs.Common.{leb, rules, arith}
 use Rattle.std.proofs.lemmas.List.Sorted.{IsPartitionPoint-from_clause}
 use Rattle.std.proofs.lemmas.Option.{slice_get-get_or}
-use Rattle.gate_rules.specs.declared.own.Item.{Item}
+use Rattle.state_core.specs.declared.item.Item.{Item}
 use Rattle.graph_core.proofs.Searching.{up_to_partitioned, none_before, none_at, last_at, point_of_some, point_of_none}
 use Rattle.graph_core.proofs.items.last_of.Goals as goal
 

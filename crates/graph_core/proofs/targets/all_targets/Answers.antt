@@ -1,5 +1,5 @@
 use Rattle.std.proofs.Common.{arith}
-use Rattle.graph_core.specs.ZipLaws.{AllZip-more}
+use Rattle.lattice_core.specs.ZipLaws.{AllZip-more}
 use Rattle.graph_core.proofs.targets.all_targets.Goals as goal
 
 pub loop-item-preserved : goal.loop-item-preserved

@@ -1,5 +1,5 @@
 use Rattle.std.proofs.Common.{None, Some, ap, get_or, length, refl, arith}
-use Rattle.gate_rules.specs.declared.own.Item.{Item}
+use Rattle.state_core.specs.declared.item.Item.{Item}
 use Rattle.ready_core.proofs.Ranking.{read_at, here_at, safe_at, unsafe_at}
 use Rattle.ready_core.proofs.Judging.{judged_nothing, judged_ready, judged_out}
 use Rattle.ready_core.proofs.judge.judged.Goals as goal

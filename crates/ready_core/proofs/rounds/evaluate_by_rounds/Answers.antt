@@ -2,10 +2,9 @@ use Rattle.std.proofs.Common.{◌∙◌, sym, ap, subst, length, is_some}
 use Rattle.std.specs.Prelude.{IfSome}
 use Rattle.std.proofs.lemmas.List.{length-map}
 use Rattle.walk_core.specs.Digraphs.{AreDistances}
-use Rattle.replica_core.specs.State.{state_of}
 use Rattle.graph_core.specs.Dependencies.{IsDependency}
 use Rattle.graph_core.specs.WalkLaws.{ends_within}
-use Rattle.graph_core.specs.ZipLaws.{length-AllZip}
+use Rattle.lattice_core.specs.ZipLaws.{length-AllZip}
 use Rattle.ready_core.specs.Causes.{IsCauseOf, AreCauses, flags_of}
 use Rattle.ready_core.proofs.Judging.{all_judged, decided_all}
 use Rattle.ready_core.proofs.rounds.evaluate_by_rounds.Goals as goal
@@ -13,7 +12,7 @@ use Rattle.ready_core.proofs.rounds.evaluate_by_rounds.Goals as goal
 pub ranks_by_rounds-requires : goal.ranks_by_rounds-requires
 ranks_by_rounds-requires c =
     let gate = c.args.gate.now in
-    let state = state_of c.args.replica.now in
+    let state = c.args.state.now in
     ap length (c.as_slice-2.ensures.value ∙ c.in_ok-ineligible.ensures ∙ ap flags_of c.as_slice.ensures.value)
     ∙ length-map c.in_ok-causes.causes.items is_some
     ∙ length-AllZip (IsCauseOf gate state) c.in_ok-graph.graph.items c.in_ok-causes.causes.items c.in_ok-causes.ensures
@@ -22,7 +21,7 @@ ranks_by_rounds-requires c =
 pub judged-requires : goal.judged-requires
 judged-requires c =
     let gate = c.args.gate.now in
-    let state = state_of c.args.replica.now in
+    let state = c.args.state.now in
     let is = c.in_ok-graph.ensures in
     record {
       causes_of_all = ap length c.as_slice-3.ensures.value ∙ length-AllZip (IsCauseOf gate state) c.in_ok-graph.graph.items c.in_ok-causes.causes.items c.in_ok-causes.ensures;
@@ -39,6 +38,6 @@ judged-requires c =
 pub returns : goal.returns
 returns c =
     let gate = c.args.gate.now in
-    let state = state_of c.args.replica.now in
+    let state = c.args.state.now in
     let of = subst (AreCauses gate state c.in_ok-graph.graph.items) (sym c.as_slice-3.ensures.value) c.in_ok-causes.ensures in
     all_judged gate state c.in_ok-graph.graph c.in_ok-verdicts.verdicts c.in_ok-graph.ensures (c.in_ok-verdicts.ensures gate state c.in_ok-graph.ensures of) (decided_all gate state c.in_ok-graph.graph.items c.as_slice-3.result.now of)

@@ -8,7 +8,7 @@ use Rattle.replica_core.specs.Searches.{is_below}
 use Rattle.replica_core.specs.Lines.{ops_of, op_at, row_of, IsGapless}
 use Rattle.replica_core.proofs.Ranked.{rank-le}
 use Rattle.replica_core.proofs.Absorbing.{on_err_always}
-use Rattle.replica_core.specs.State.{state_shown, with_effect}
+use Rattle.state_core.specs.State.{with_effect}
 use Rattle.replica_core.proofs.Filing.{has_row, filed_new, held_new}
 use Rattle.replica_core.proofs.replica.file.Goals as goal
 
@@ -22,7 +22,7 @@ returns-then-has_at-clause-ok g c =
       ap (λ t. cond t journal (journal ++ op ∷ [])) (sym known),
       c.requires.line,
       refl,
-      ap (λ t. cond t (state_shown c.args.state.now) (with_effect (state_shown c.args.state.now) op)) (sym known),
+      ap (λ t. cond t c.args.state.now (with_effect c.args.state.now op)) (sym known),
     )
 
 pub returns-in_err-try_reserve-2-clause-err : goal.returns-in_err-try_reserve-2-clause-err
@@ -34,13 +34,13 @@ returns-in_err-try_reserve-2-clause-err g c =
       refl,
     )
 
-pub returns-in_err-join_effect-clause-err : goal.returns-in_err-join_effect-clause-err
-returns-in_err-join_effect-clause-err g c =
+pub returns-in_err-take-clause-err : goal.returns-in_err-take-clause-err
+returns-in_err-take-clause-err g c =
     let inside = c.line.inside in
-    on_err_always c.from_residual-in_err-join_effect.result (
+    on_err_always c.from_residual-in_err-take.result (
       c.in_ok-try_reserve.ensures.items,
       ap (λ p. record { site = inside.row.site; start = inside.row.start; places = p; reach = inside.reach }) c.in_ok-try_reserve-2.ensures.items ∙ c.line.view_is,
-      c.in_err-join_effect.ensures.err,
+      c.in_err-take.ensures.err,
     )
 
 pub insert-requires : goal.insert-requires
@@ -93,5 +93,5 @@ returns-clause-ok g c =
         reach = subst (λ j. IsGapless (holds j inside.row.site inside.row.start) c.climbed-line-inside.result) c.as_slice-3.ensures.value c.climbed-line-inside.ensures;
       },
       ap row_of c.line.view_is,
-      c.in_ok-join_effect.ensures.ok ∙ ap (λ t. cond t (state_shown c.args.state.now) (with_effect (state_shown c.args.state.now) op)) (sym new),
+      c.in_ok-take.ensures.ok ∙ ap (λ t. cond t c.args.state.now (with_effect c.args.state.now op)) (sym new),
     )

@@ -1,6 +1,6 @@
 use Rattle.std.proofs.Common.{◌≡◌, IfSome, subst, sym}
 use Rattle.std.proofs.lemmas.Result.{IfErr-weaker}
-use Rattle.report_text.specs.Snapshot.{IsOfText, IsRefusal}
+use Rattle.snapshot_text.specs.Snapshot.{IsOfText, IsRefusal}
 use Rattle.reviewgate.specs.Files.{given}
 use Rattle.reviewgate.proofs.Merging.{read_refusal}
 use Rattle.reviewgate.proofs.merge.read_onto.Goals as goal

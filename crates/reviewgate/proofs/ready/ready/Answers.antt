@@ -1,3 +1,5 @@
+use Rattle.std.proofs.Common.{subst}
+use Rattle.ready_core.specs.Verdicts.{AreVerdicts}
 use Rattle.reviewgate.specs.Files.{given, left_after}
 use Rattle.reviewgate.proofs.FooterReads.{is_gate, same_given}
 use Rattle.reviewgate.proofs.Merging.{read_alone}
@@ -8,7 +10,7 @@ pub returns-in-Ok-write_report-clause-printed : goal.returns-in-Ok-write_report-
 returns-in-Ok-write_report-clause-printed g c =
     let moved = same_given c.args.gate.now c.args.snapshot.now (g.I.Source.left c.args.input.now) (g.I.Source.left c.read_gate.new.input) (g.N.Named.told c.args.files.now) (g.N.Named.told c.read_gate.new.files) c.read_gate.ensures.kept c.read_gate.ensures.unread in
     let read = read_alone c.in_ok-replica.replica c.new.ensures moved c.in_ok-replica.ensures.ok in
-    prints_report c.in_ok-rules.rules c.in_ok-replica.replica c.in-Ok.verdicts c.in-Ok.ensures (g.O.Drain.taken c.args.output.now) (g.O.Drain.taken c.write_report.new.drain)
+    prints_report c.in_ok-rules.rules c.in_ok-replica.replica c.in-Ok.verdicts (subst (λ s. AreVerdicts c.in_ok-rules.rules s c.in-Ok.verdicts) c.state.ensures c.in-Ok.ensures) (g.O.Drain.taken c.args.output.now) (g.O.Drain.taken c.write_report.new.drain)
     (given (g.I.Source.left c.args.input.now) (g.N.Named.told c.args.files.now) c.args.gate.now)
     (given (left_after c.args.gate.now (g.I.Source.left c.args.input.now)) (g.N.Named.told c.args.files.now) c.args.snapshot.now)
     c.in_ok-rules.ensures.ok read c.in-Ok-write_report.ensures.ok
@@ -34,7 +36,7 @@ returns-clause-cut g c =
     let moved = same_given c.args.gate.now c.args.snapshot.now (g.I.Source.left c.args.input.now) (g.I.Source.left c.read_gate.new.input) (g.N.Named.told c.args.files.now) (g.N.Named.told c.read_gate.new.files) c.read_gate.ensures.kept c.read_gate.ensures.unread in
     let read = read_alone c.in_ok-replica.replica c.new.ensures moved c.in_ok-replica.ensures.ok in
     let cut = c.in-Err.ensures.cut in
-    cuts_report c.in_ok-rules.rules c.in_ok-replica.replica c.in-Ok.verdicts c.in-Ok.ensures (g.O.Drain.taken c.args.output.now) (g.O.Drain.taken c.write_report.new.drain)
+    cuts_report c.in_ok-rules.rules c.in_ok-replica.replica c.in-Ok.verdicts (subst (λ s. AreVerdicts c.in_ok-rules.rules s c.in-Ok.verdicts) c.state.ensures c.in-Ok.ensures) (g.O.Drain.taken c.args.output.now) (g.O.Drain.taken c.write_report.new.drain)
     (given (g.I.Source.left c.args.input.now) (g.N.Named.told c.args.files.now) c.args.gate.now)
     (given (left_after c.args.gate.now (g.I.Source.left c.args.input.now)) (g.N.Named.told c.args.files.now) c.args.snapshot.now)
     cut.0 c.in_ok-rules.ensures.ok read cut.1 cut.2

@@ -3,12 +3,11 @@ use Rattle.std.specs.Prelude.{All}
 use Rattle.std.specs.List.{AllZip}
 use Rattle.std.specs.List.Sorted.{IsStrictlyIncreasing}
 use Rattle.std.proofs.lemmas.List.{length-map}
-use Rattle.gate_rules.specs.Items.{IsItem}
-use Rattle.replica_core.specs.State.{state_of}
+use Rattle.state_core.specs.Items.{IsItem}
 use Rattle.graph_core.specs.Dependencies.{IsDependency}
 use Rattle.graph_core.specs.ItemGraph.{AreEnds, namers_of}
 use Rattle.graph_core.specs.WalkLaws.{ends_within, flags_of_cycles}
-use Rattle.graph_core.specs.ZipLaws.{length-AllZip}
+use Rattle.lattice_core.specs.ZipLaws.{length-AllZip}
 use Rattle.graph_core.proofs.Building.{all_are_items, held_by_items, as_many_rows, rows_rise, target_rows, end_rows}
 use Rattle.graph_core.proofs.graph.Graph.build.Goals as goal
 
@@ -18,27 +17,27 @@ in_row row = row.items
 
 pub all_targets-requires : goal.all_targets-requires
 all_targets-requires c =
-    subst (All (IsItem (state_of c.args.replica.now))) (sym c.as_slice.ensures.value) (all_are_items (state_of c.args.replica.now) c.in_ok-items.items.items c.in_ok-items.ensures)
+    subst (All (IsItem c.args.state.now)) (sym c.as_slice.ensures.value) (all_are_items c.args.state.now c.in_ok-items.items.items c.in_ok-items.ensures)
 
 pub all_ends-requires-clause-increasing : goal.all_ends-requires-clause-increasing
 all_ends-requires-clause-increasing c =
     subst (All (λ row. IsStrictlyIncreasing (in_row row))) (sym c.as_slice-3.ensures.value)
-    (rows_rise in_row in_row c.args.gate.now (state_of c.args.replica.now) c.in_ok-items.items.items c.in_ok-targets.targets.items c.as_slice.result.now c.as_slice.ensures.value c.in_ok-targets.ensures)
+    (rows_rise in_row in_row c.args.gate.now c.args.state.now c.in_ok-items.items.items c.in_ok-targets.targets.items c.as_slice.result.now c.as_slice.ensures.value c.in_ok-targets.ensures)
 
 pub all_namers-requires-clause-rows : goal.all_namers-requires-clause-rows
 all_namers-requires-clause-rows c =
     ap length c.as_slice-5.ensures.value
-    ∙ as_many_rows in_row in_row c.args.gate.now (state_of c.args.replica.now) c.in_ok-items.items.items c.in_ok-targets.targets.items c.as_slice.result.now c.as_slice.ensures.value c.in_ok-targets.ensures
+    ∙ as_many_rows in_row in_row c.args.gate.now c.args.state.now c.in_ok-items.items.items c.in_ok-targets.targets.items c.as_slice.result.now c.as_slice.ensures.value c.in_ok-targets.ensures
     ∙ ap length (sym c.as_slice-4.ensures.value)
 
 pub all_namers-requires-clause-increasing : goal.all_namers-requires-clause-increasing
 all_namers-requires-clause-increasing c =
     subst (All (λ row. IsStrictlyIncreasing (in_row row))) (sym c.as_slice-5.ensures.value)
-    (rows_rise in_row in_row c.args.gate.now (state_of c.args.replica.now) c.in_ok-items.items.items c.in_ok-targets.targets.items c.as_slice.result.now c.as_slice.ensures.value c.in_ok-targets.ensures)
+    (rows_rise in_row in_row c.args.gate.now c.args.state.now c.in_ok-items.items.items c.in_ok-targets.targets.items c.as_slice.result.now c.as_slice.ensures.value c.in_ok-targets.ensures)
 
 pub new-requires : goal.new-requires
 new-requires c =
-    let state = state_of c.args.replica.now in
+    let state = c.args.state.now in
     ends_within (IsDependency c.args.gate.now state) c.in_ok-items.items.items (map in_row c.in_ok-ends.ends.items)
     (end_rows in_row in_row c.args.gate.now state c.in_ok-items.items.items c.in_ok-targets.targets.items c.as_slice.result.now c.as_slice.ensures.value c.in_ok-targets.ensures
     c.in_ok-items.ensures c.as_slice-2.result.now c.as_slice-3.result.now c.in_ok-ends.ends.items c.as_slice-2.ensures.value c.as_slice-3.ensures.value c.in_ok-ends.ensures)
@@ -46,7 +45,7 @@ new-requires c =
 pub invariant_of-result : goal.invariant_of-result
 invariant_of-result c =
     let gate = c.args.gate.now in
-    let state = state_of c.args.replica.now in
+    let state = c.args.state.now in
     let items = c.in_ok-items.items.items in
     let rows = as_many_rows in_row in_row gate state items c.in_ok-targets.targets.items c.as_slice.result.now c.as_slice.ensures.value c.in_ok-targets.ensures in
     let ends : AllZip (AreEnds (IsDependency gate state) items) items c.in_ok-digraph.digraph =
@@ -67,7 +66,7 @@ invariant_of-result c =
 pub returns : goal.returns
 returns c =
     let gate = c.args.gate.now in
-    let state = state_of c.args.replica.now in
+    let state = c.args.state.now in
     let items = c.in_ok-items.items.items in
     let ends : AllZip (AreEnds (IsDependency gate state) items) items c.in_ok-digraph.digraph =
     subst (AllZip (AreEnds (IsDependency gate state) items) items) (sym c.in_ok-digraph.ensures)

@@ -7,7 +7,7 @@ pub invariant_of-self : goal.invariant_of-self
 invariant_of-self g c =
     let kept = c.self.invariant in
     let journal = c.self.inside.arrivals.items in
-    record { state = kept.state; apart = kept.apart; lines = c.open_line.ensures.kept journal kept.lines; latest = kept.latest }
+    record { joined = kept.joined; apart = kept.apart; lines = c.open_line.ensures.kept journal kept.lines; latest = kept.latest }
 
 pub file_at-requires-clause-lines : goal.file_at-requires-clause-lines
 file_at-requires-clause-lines g c = c.open_line.ensures.kept c.self.inside.arrivals.items c.self.invariant.lines

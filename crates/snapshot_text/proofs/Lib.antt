@@ -1,0 +1,5 @@
+mod Reading
+mod Numerals
+mod Sorted
+mod ReadBack
+mod OneReading

@@ -1,0 +1,223 @@
+-- How a reading of a snapshot's lines goes on, line by line.
+use Rattle.std.proofs.Common.{◌≤◌, ◌≡◌, ℕ, ◌+◌, List, [], ◌∷◌, ◌++◌, length, refl, sym, ap, ◌∙◌, subst, arith, append_assoc, length-append}
+use Rattle.std.proofs.lemmas.List.{append-nil}
+use Rattle.std.specs.Prelude.{codes, Option, None, Some, IfSome}
+use Rattle.byte_ends.specs.Lines.{lines_of}
+use Rattle.std.specs.Str.Parse.{digits_value}
+use Rattle.review_ops.specs.Operation.{Operation}
+use Rattle.op_text.specs.Spelling.{SpellsOperation, IsRefusalOf}
+use Rattle.op_text.specs.declared.field.Form.TheVariants as form
+use Rattle.op_text.specs.declared.fault.OpTextFault.{OpTextFault}
+use Rattle.op_text.specs.declared.fault.OpTextFault.TheVariants as op_fault
+use Rattle.replica_core.specs.JournalLaws.{all_arrived-push}
+use Rattle.replica_core.specs.Journal.{arrived, all_arrived}
+use Rattle.snapshot_text.specs.declared.fault.SnapFault.{SnapFault}
+use Rattle.snapshot_text.specs.declared.fault.SnapFault.TheVariants.{BadHeader, BadLine, NoEnd, BadCount, AfterEnd, TooLong, ReadFault, NoMemory}
+use Rattle.snapshot_text.specs.Snapshot.{IsHeader, IsEndLine, IsNoEndLine, IsOperationLine, AreOperationLines, BeginsWith, SaysOperations, IsFirstFault, IsRefusal, IsOfText, most_bytes}
+use Rattle.snapshot_text.specs.Reading.{IsEndFault, IsLineFault, line_fault_of}
+
+-- ---- lines of operations
+
+AreOperationLines-push : (lines : List (List ℕ)) (ops : List Operation) (text : List ℕ) (op : Operation) → AreOperationLines lines ops → IsOperationLine text op → AreOperationLines (lines ++ text ∷ []) (ops ++ op ∷ [])
+AreOperationLines-push [] [] text op are is = (is, tt)
+AreOperationLines-push [] (o ∷ ops) text op are is = absurd are
+AreOperationLines-push (l ∷ lines) [] text op are is = absurd are
+AreOperationLines-push (l ∷ lines) (o ∷ ops) text op are is = (are.0, AreOperationLines-push lines ops text op are.1 is)
+
+AreOperationLines-length : (lines : List (List ℕ)) (ops : List Operation) → AreOperationLines lines ops → length lines ≡ length ops
+AreOperationLines-length [] [] are = refl
+AreOperationLines-length [] (o ∷ ops) are = absurd are
+AreOperationLines-length (l ∷ lines) [] are = absurd are
+AreOperationLines-length (l ∷ lines) (o ∷ ops) are = omega (arith, AreOperationLines-length lines ops are.1)
+
+BeginsWith-push : {lines : List (List ℕ)} {ops : List Operation} {rest : List (List ℕ)} (text : List ℕ) (op : Operation) → BeginsWith lines ops (text ∷ rest) → IsOperationLine text op → BeginsWith lines (ops ++ op ∷ []) rest
+BeginsWith-push {lines} {ops} {rest} text op begins is = record {
+  first = begins.first;
+  front = begins.front ++ text ∷ [];
+  form = begins.form ∙ ap (λ l. begins.first ∷ l) (sym (append_assoc begins.front (text ∷ []) rest));
+  header = begins.header;
+  operations = AreOperationLines-push begins.front ops text op begins.operations is;
+}
+
+pub BeginsWith-length : {lines : List (List ℕ)} {ops : List Operation} {rest : List (List ℕ)} → BeginsWith lines ops rest → length lines ≡ length ops + length rest + 1
+BeginsWith-length {lines} {ops} {rest} begins =
+    omega (arith, ap length begins.form, length-append begins.front rest, AreOperationLines-length begins.front ops begins.operations)
+
+-- ---- arrivals
+
+-- ---- end lines
+
+same_digits : (c d : List ℕ) → codes "end " ++ c ≡ codes "end " ++ d → c ≡ d
+same_digits c d e = cc
+
+one_number : (text : List ℕ) (m n : ℕ) → IsEndLine text m → IsEndLine text n → m ≡ n
+one_number text m n a b = sym a.value ∙ ap (digits_value 10) (same_digits a.digits b.digits (sym a.form ∙ b.form)) ∙ b.value
+
+-- ---- what the rest of the lines says
+
+-- the rest of the lines says what is left of the whole once some are done
+pub record SaysFrom (rest : List (List ℕ)) (done whole : List Operation) : Type 0 where
+  later : List Operation
+  front : List (List ℕ)
+  last : List ℕ
+  split : whole ≡ done ++ later
+  form : rest ≡ front ++ last ∷ []
+  operations : AreOperationLines front later
+  end : IsEndLine last (length whole)
+
+from_start : {lines rest : List (List ℕ)} {whole : List Operation} (first : List ℕ) → lines ≡ first ∷ rest → SaysOperations lines whole → SaysFrom rest [] whole
+from_start {lines} {rest} {whole} first e says = record {
+  later = whole;
+  front = says.1.front;
+  last = says.0;
+  split = refl;
+  form = cc (e, says.1.form);
+  operations = says.1.operations;
+  end = says.2;
+}
+
+-- lines that run out say nothing
+none_left : {done whole : List Operation} → SaysFrom [] done whole → ⊥
+none_left {done} {whole} says = empty says.front says.form
+  where
+    empty : (front : List (List ℕ)) → [] ≡ front ++ says.last ∷ [] → ⊥
+    empty [] e = cc
+    empty (l ∷ front) e = cc
+
+record AtEnd (rest : List (List ℕ)) (done whole : List Operation) (n : ℕ) : Type 0 where
+  none : rest ≡ []
+  all : whole ≡ done
+  number : n ≡ length whole
+
+at_end : (last : List ℕ) (rest : List (List ℕ)) (done whole : List Operation) (n : ℕ) → IsEndLine last n → SaysFrom (last ∷ rest) done whole → AtEnd rest done whole n
+at_end last rest done whole n is says = by_front says.front says.later says.form says.operations says.split
+  where
+    by_front : (front : List (List ℕ)) (later : List Operation) → last ∷ rest ≡ front ++ says.last ∷ [] → AreOperationLines front later → whole ≡ done ++ later → AtEnd rest done whole n
+    by_front [] [] e are split = record {
+      none = cc;
+      all = split ∙ append-nil done;
+      number = let same : says.last ≡ last = cc in one_number last n (length whole) is (subst (λ t. IsEndLine t (length whole)) same says.end);
+    }
+    by_front [] (o ∷ later) e are split = absurd are
+    by_front (l ∷ front) [] e are split = absurd are
+    by_front (l ∷ front) (o ∷ later) e are split = let same : last ≡ l = cc in absurd (are.0.other n (subst (λ t. IsEndLine t n) same is))
+
+-- a line that is no end line spells the next operation
+record AtLine (text : List ℕ) (rest : List (List ℕ)) (done whole : List Operation) : Type 0 where
+  op : Operation
+  spells : SpellsOperation text op
+  says : SaysFrom rest (done ++ op ∷ []) whole
+
+at_line : (text : List ℕ) (rest : List (List ℕ)) (done whole : List Operation) → IsNoEndLine text → SaysFrom (text ∷ rest) done whole → AtLine text rest done whole
+at_line text rest done whole other says = by_front says.front says.later says.form says.operations says.split
+  where
+    by_front : (front : List (List ℕ)) (later : List Operation) → text ∷ rest ≡ front ++ says.last ∷ [] → AreOperationLines front later → whole ≡ done ++ later → AtLine text rest done whole
+    by_front [] later e are split = let same : says.last ≡ text = cc in absurd (other (length whole) (subst (λ t. IsEndLine t (length whole)) same says.end))
+    by_front (l ∷ front) [] e are split = absurd are
+    by_front (l ∷ front) (o ∷ later) e are split = let same : l ≡ text = cc in record {
+      op = o;
+      spells = subst (λ t. SpellsOperation t o) same are.0.spells;
+      says = record {
+        later = later;
+        front = front;
+        last = says.last;
+        split = split ∙ sym (append_assoc done (o ∷ []) later);
+        form = cc;
+        operations = are.1;
+        end = says.end;
+      };
+    }
+
+-- ---- the state of a reading
+
+-- some operations of the lines have been read, and arrived in the journal
+pub record Reading (base : List Operation) (lines rest : List (List ℕ)) (journal : List Operation) (count : ℕ) : Type 0 where
+  pub ops : List Operation
+  pub begins : BeginsWith lines ops rest
+  pub taken : journal ≡ all_arrived base ops
+  pub counted : length ops ≡ count
+  pub only : (whole : List Operation) → SaysOperations lines whole → SaysFrom rest ops whole
+
+pub Reading-start : {lines rest : List (List ℕ)} (base : List Operation) (first : List ℕ) → lines ≡ first ∷ rest → IsHeader first → Reading base lines rest base 0
+Reading-start base first e header = record {
+  ops = [];
+  begins = record { first = first; front = []; form = e; header = header; operations = tt };
+  taken = refl;
+  counted = refl;
+  only = λ whole says. from_start first e says;
+}
+
+-- the operation of one more line arrives
+pub Reading-more : {base : List Operation} {lines : List (List ℕ)} {journal : List Operation} {count : ℕ} (text : List ℕ) (rest : List (List ℕ)) (op : Operation)
+    → Reading base lines (text ∷ rest) journal count → IsNoEndLine text → SpellsOperation text op → ((o : Operation) → SpellsOperation text o → o ≡ op) → Reading base lines rest (arrived journal op) (count + 1)
+Reading-more {base} text rest op reading other spells one = record {
+  ops = reading.ops ++ op ∷ [];
+  begins = BeginsWith-push text op reading.begins (record { other = other; spells = spells });
+  taken = ap (λ j. arrived j op) reading.taken ∙ sym (all_arrived-push base reading.ops op);
+  counted = omega (arith, length-append reading.ops (op ∷ []), reading.counted);
+  only = λ whole says.
+      let at = at_line text rest reading.ops whole other (reading.only whole says) in
+      subst (λ o. SaysFrom rest (reading.ops ++ o ∷ []) whole) (one at.op at.spells) at.says;
+}
+
+pub Reading-whole : {base : List Operation} {lines : List (List ℕ)} {journal : List Operation} {count : ℕ} (last : List ℕ) (rest : List (List ℕ)) (n : ℕ)
+    → Reading base lines (last ∷ rest) journal count → IsEndLine last n → (whole : List Operation) → SaysOperations lines whole → journal ≡ all_arrived base whole
+Reading-whole {base} last rest n reading is whole says = reading.taken ∙ ap (all_arrived base) (sym (at_end last rest reading.ops whole n is (reading.only whole says)).all)
+
+pub Reading-no_bad_end : {base : List Operation} {lines : List (List ℕ)} {journal : List Operation} {count : ℕ} (last : List ℕ) (rest : List (List ℕ)) (n : ℕ) (fault : SnapFault)
+    → Reading base lines (last ∷ rest) journal count → IsEndLine last n → IsEndFault n count rest fault → (whole : List Operation) → ¬ SaysOperations lines whole
+Reading-no_bad_end last rest n BadHeader reading is bad whole says = bad
+Reading-no_bad_end last rest n (BadLine k cause) reading is bad whole says = bad
+Reading-no_bad_end last rest n NoEnd reading is bad whole says = bad
+Reading-no_bad_end last rest n BadCount reading is bad whole says =
+    let at = at_end last rest reading.ops whole n is (reading.only whole says) in
+    bad (at.number ∙ ap length at.all ∙ reading.counted)
+Reading-no_bad_end last rest n AfterEnd reading is bad whole says =
+    let at = at_end last rest reading.ops whole n is (reading.only whole says) in
+    let e : [] ≡ bad.1 ∷ bad.2 = sym at.none ∙ bad.3 in cc
+Reading-no_bad_end last rest n TooLong reading is bad whole says = bad
+Reading-no_bad_end last rest n ReadFault reading is bad whole says = bad
+Reading-no_bad_end last rest n NoMemory reading is bad whole says = bad
+
+pub Reading-nothing : {base : List Operation} {lines : List (List ℕ)} {journal : List Operation} {count : ℕ} → Reading base lines [] journal count → (whole : List Operation) → ¬ SaysOperations lines whole
+Reading-nothing reading whole says = none_left (reading.only whole says)
+
+pub Reading-no_bad_line : {base : List Operation} {lines : List (List ℕ)} {journal : List Operation} {count : ℕ} (text : List ℕ) (rest : List (List ℕ)) (n : ℕ) (fault : SnapFault)
+    → Reading base lines (text ∷ rest) journal count → IsNoEndLine text → IsLineFault text n fault → (whole : List Operation) → SaysOperations lines whole → fault ≡ NoMemory
+Reading-no_bad_line text rest n BadHeader reading other bad whole says = absurd bad
+Reading-no_bad_line text rest n (BadLine m cause) reading other bad whole says =
+    let at = at_line text rest reading.ops whole other (reading.only whole says) in absurd (bad.2 at.op at.spells)
+Reading-no_bad_line text rest n NoEnd reading other bad whole says = absurd bad
+Reading-no_bad_line text rest n BadCount reading other bad whole says = absurd bad
+Reading-no_bad_line text rest n AfterEnd reading other bad whole says = absurd bad
+Reading-no_bad_line text rest n TooLong reading other bad whole says = absurd bad
+Reading-no_bad_line text rest n ReadFault reading other bad whole says = absurd bad
+Reading-no_bad_line text rest n NoMemory reading other bad whole says = refl
+
+-- a refused line
+pub line_refused : (text : List ℕ) (number : ℕ) (cause : OpTextFault) → IsRefusalOf form.Operation text cause → ((op : Operation) → SpellsOperation text op → cause ≡ op_fault.NoMemory) → IsLineFault text number (line_fault_of number cause)
+line_refused text number op_fault.NotJson refusal only = (refl, refusal, λ op spells. let e = only op spells in cc)
+line_refused text number (op_fault.BadShape key) refusal only = (refl, refusal, λ op spells. let e = only op spells in cc)
+line_refused text number (op_fault.BadBody fault) refusal only = (refl, refusal, λ op spells. let e = only op spells in cc)
+line_refused text number op_fault.NoMemory refusal only = tt
+
+-- the header is missing
+pub no_header : {lines : List (List ℕ)} (whole : List Operation) → IsFirstFault lines BadHeader → ¬ SaysOperations lines whole
+no_header whole bad says = bad says.1.first (says.1.front ++ says.0 ∷ []) says.1.form says.1.header
+
+-- ---- from the lines to the bytes
+
+pub refusal_of : (text : List ℕ) (fault : SnapFault) → length text ≤ most_bytes → IsFirstFault (lines_of text) fault → IsRefusal text fault × IsOfText fault
+refusal_of text BadHeader within is = ((within, is), ((λ e. cc), (λ e. cc)))
+refusal_of text (BadLine n cause) within is = ((within, is), ((λ e. cc), (λ e. cc)))
+refusal_of text NoEnd within is = ((within, is), ((λ e. cc), (λ e. cc)))
+refusal_of text BadCount within is = ((within, is), ((λ e. cc), (λ e. cc)))
+refusal_of text AfterEnd within is = ((within, is), ((λ e. cc), (λ e. cc)))
+refusal_of text TooLong within is = absurd is
+refusal_of text ReadFault within is = absurd is
+refusal_of text NoMemory within is = (tt, ((λ e. cc), (λ e. cc)))
+
+-- what a text is refused by is a refusal of the bytes that are told to be it
+pub known_refusal : (left : Option (List ℕ)) (bytes : List ℕ) → IfSome left (λ text. bytes ≡ text) → (fault : SnapFault) → IsRefusal bytes fault × IsOfText fault → IfSome left (λ text. IsRefusal text fault)
+known_refusal None bytes same fault is = tt
+known_refusal (Some text) bytes same fault is = subst (λ t. IsRefusal t fault) same is.0

@@ -1,0 +1,4 @@
+pub mod Fault
+pub mod Snapshot
+pub mod Sound
+pub mod Reading

@@ -1,0 +1,17 @@
+//! The texts of snapshots: how the operations of a replica are written, and what a text says.
+#![tactic(auto)]
+
+mod end_line;
+mod fault;
+mod laws;
+mod read;
+#[cfg(test)]
+mod tests;
+mod whole;
+mod write;
+
+pub use fault::{BytesFault, SnapFault, WriteSnapFault};
+pub use laws::{lines_have_one_reading, snapshots_are_one, snapshots_say_their_operations};
+pub use read::{SNAPSHOT_LIMIT, read_snapshot, snapshot_of, snapshot_onto};
+pub use whole::read_all;
+pub use write::write_snapshot;

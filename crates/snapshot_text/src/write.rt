@@ -1,0 +1,80 @@
+ghost use Rattle.std.specs.Prelude.{◌≡◌, ◌<◌, ℕ, List, map, take, length, IfOk, OnOk, IsErrOf, MatchResult};
+ghost use Rattle.std.specs.Io.KnownBytes.{Appends};
+ghost use Rattle.byte_ends.specs.Lines.{lines_of};
+ghost use Rattle.review_ops.specs.Operation.{Operation};
+ghost use Rattle.replica_core.specs.InOrder.{IsInOrderOf};
+ghost use Rattle.snapshot_text.specs.Snapshot.{SaysOperations, snapshot_text, CountsWriteFault};
+
+use super::fault::WriteSnapFault;
+use super::laws::snapshots_say_their_operations;
+use byte_ends::{Drain, write_all};
+use lattice_core::NoMemory;
+use op_text::write_op;
+use replica_core::Replica;
+use review_ops::Op;
+use std::alloc::Global;
+
+/// Writes the snapshot of a replica: its operations in their order, each once. Refusals: 1 `WriteFault`, the drain failed, and
+/// has taken what of the text went before; 2 `NoMemory`, nothing was written. It sorts references and copies no operation; it
+/// costs the sort, and the text, which is collected before it is written.
+pub fn write_snapshot<D: Drain>(
+    alloc: Global,
+    replica: &Replica,
+    drain: &mut D,
+) -> Result<(), WriteSnapFault>
+    // What was written says these operations when it is read.
+    ensures ok { OnOk result ((ops : List Operation) × IsInOrderOf replica.now ops
+        × Appends (D.taken drain.old) (D.taken drain.new) (snapshot_text ops)
+        × SaysOperations (lines_of (snapshot_text ops)) ops) }
+    // Some front of the text was taken, not all.
+    ensures cut { IsErrOf result WriteSnapFault.WriteFault
+        → (ops : List Operation) × IsInOrderOf replica.now ops
+        × (count : ℕ) × (count < length (snapshot_text ops))
+        × Appends (D.taken drain.old) (D.taken drain.new) (take count (snapshot_text ops)) }
+    ensures unwritten { IsErrOf result WriteSnapFault.NoMemory → D.taken drain.new ≡ D.taken drain.old }
+    ensures counted { MatchResult result
+        (λ _. D.failed drain.new ≡ D.failed drain.old)
+        (CountsWriteFault (D.failed drain.old) (D.failed drain.new)) }
+{
+    let ops = in_order(alloc, replica)?;
+    let text = text_of(alloc, &ops)?;
+    write_all(drain, &text)?;
+    Ok(())
+}
+
+/// References to the operations of a replica, in their order.
+fn in_order(alloc: Global, replica: &Replica) -> Result<Vec<&Op>, NoMemory>
+    ensures { IfOk result (λ sorted. IsInOrderOf replica.now (map (λ op. op.now) sorted.items)) }
+{
+    let mut sorted = references(alloc, replica.as_slice())?;
+    sorted.sort_unstable();
+    Ok(sorted)
+}
+
+/// A reference to each operation.
+fn references(alloc: Global, ops: &[Op]) -> Result<Vec<&Op>, NoMemory>
+    ensures { IfOk result (λ all. map (λ op. op.now) all.items ≡ ops.now) }
+{
+    Ok(ops.iter().collect(alloc)?)
+}
+
+/// The snapshot's text of operations in this order.
+fn text_of(alloc: Global, ops: &[&Op]) -> Result<Vec<u8>, NoMemory>
+    ensures text { IfOk result (λ text. text.items ≡ snapshot_text (map (λ op. op.now) ops.now)) }
+    ensures says { OnOk result (SaysOperations
+        (lines_of (snapshot_text (map (λ op. op.now) ops.now))) (map (λ op. op.now) ops.now)) }
+{
+    snapshots_say_their_operations();
+    let mut text = Vec::new(alloc);
+    text.extend_from_slice(b"reviewgate 2\n")?;
+    for op in ops {
+        prove!(op.stamp().seq() >= 1);
+        prove!(op.body().change() >= 1);
+        let line = write_op(alloc, op)?;
+        text.extend_from_slice(line.as_bytes())?;
+        text.push(b'\n')?;
+    }
+    let end = format!(in alloc; "end {}\n", ops.len())?;
+    text.extend_from_slice(end.as_bytes())?;
+    Ok(text)
+}

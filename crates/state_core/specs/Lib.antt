@@ -1,0 +1,7 @@
+pub mod State
+pub mod StateLaws
+pub mod Items
+pub mod ItemLaws
+pub mod GreatestKnown
+pub mod Known
+pub mod KnownLaws

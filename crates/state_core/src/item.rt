@@ -1,0 +1,10 @@
+//! A patch set of a change.
+
+/// An item: a patch set of a change.
+#[derive(Clone, Copy, Debug, PartialEq, Eq)]
+pub struct Item {
+    /// The number of the change.
+    pub change: u32,
+    /// The number of the patch set.
+    pub set: u32,
+}
