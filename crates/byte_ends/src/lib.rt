@@ -14,7 +14,7 @@ mod whole;
 
 pub use breaking::{Broken, Due, broken_fails_once};
 pub use cut::Lines;
-pub use faults::{Failed, ReadAllFault};
+pub use faults::{BytesFault, Failed};
 pub use over_std::Ends;
 pub use traits::{Drain, Source, none_failed_means_ok};
 pub use whole::{read_all, write_all};

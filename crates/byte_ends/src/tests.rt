@@ -1,5 +1,5 @@
 use super::{
-    Broken, Drain, Ends, Failed, Lines, ReadAllFault, Source, broken_fails_once,
+    Broken, BytesFault, Drain, Ends, Failed, Lines, Source, broken_fails_once,
     none_failed_means_ok, read_all, write_all,
 };
 use linked_list_allocator::LocalHeap;
@@ -15,6 +15,18 @@ fn laws_are_called(rt: HostRuntime) {
     assert_eq!(rt; Failed.name(), "Failed");
 }
 
+#[test]
+fn faults_of_bytes_have_numbers_and_names(rt: HostRuntime) {
+    for (fault, number, name) in [
+        (BytesFault::TooLong, 6, "TooLong"),
+        (BytesFault::ReadFault, 7, "ReadFault"),
+        (BytesFault::NoMemory, 8, "NoMemory"),
+    ] {
+        assert_eq!(rt; fault.number(), number);
+        assert_eq!(rt; fault.name(), name);
+    }
+}
+
 fn assert_count(rt: &impl Abort, count: usize, wanted: usize) {
     assert_eq!(rt; count, wanted);
 }
@@ -23,7 +35,7 @@ fn assert_bytes(rt: &impl Abort, bytes: &[u8], wanted: &[u8]) {
     assert_eq!(rt; bytes, wanted);
 }
 
-fn assert_fault(rt: &impl Abort, fault: Option<ReadAllFault>, wanted: ReadAllFault) {
+fn assert_fault(rt: &impl Abort, fault: Option<BytesFault>, wanted: BytesFault) {
     assert_eq!(rt; fault, Some(wanted));
 }
 
@@ -58,7 +70,7 @@ fn reads_all_of_a_lent_source(rt: HostRuntime) -> Result<(), Fail> {
 fn assert_too_long(rt: &impl Abort, alloc: Global, text: &[u8], limit: usize) {
     let mut source = Ends::new(text);
     let fault = read_all(alloc, &mut source, limit).err();
-    assert_fault(rt, fault, ReadAllFault::TooLong);
+    assert_fault(rt, fault, BytesFault::TooLong);
     assert_count(rt, source.get_ref().len(), 0);
 }
 
@@ -83,7 +95,7 @@ type BrokenText<'a> = Broken<Ends<&'a [u8]>>;
 
 fn assert_fails(rt: &impl Abort, alloc: Global, source: &mut BrokenText<'_>) {
     let fault = read_all(alloc, source, 9).err();
-    assert_fault(rt, fault, ReadAllFault::Failed);
+    assert_fault(rt, fault, BytesFault::ReadFault);
     assert!(rt; source.failures() == 1);
 }
 
@@ -227,7 +239,7 @@ fn reading_without_memory(rt: HostRuntime) -> Result<(), Fail> {
                 return Ok(());
             }
             Err(fault) => {
-                assert_fault(&rt, Some(fault), ReadAllFault::NoMemory);
+                assert_fault(&rt, Some(fault), BytesFault::NoMemory);
                 assert!(rt; source.failures() == 0);
             }
         }

@@ -3,7 +3,7 @@ ghost use Rattle.std.specs.Io.KnownBytes.{Appends, Consumes, IsAtEnd};
 ghost use Rattle.byte_ends.specs.Failures.{CountsFailure};
 ghost use Rattle.byte_ends.specs.ReadAll.{CountsRead};
 
-use super::faults::{Failed, ReadAllFault};
+use super::faults::{BytesFault, Failed};
 use super::traits::{Drain, Source};
 use std::alloc::Allocator;
 
@@ -28,17 +28,17 @@ pub fn write_all<D: Drain>(drain: &mut D, bytes: &[u8]) -> Result<(), Failed>
 const PIECE: usize = 65536;
 
 /// Reads all bytes that are left, which are at most `limit`. It reads up to 64 KiB at once, and at
-/// most one byte past the limit. Where it answers an error, the bytes that it read are gone. Its
-/// time is linear in the bytes.
+/// most one byte past the limit. Refusals: 6 `TooLong`, there are more; 7 `ReadFault`, the source
+/// failed; 8 `NoMemory`. Where it refuses, the bytes that it read are gone. It costs O(bytes).
 pub fn read_all<S: Source, A: Allocator + Copy>(
     alloc: A,
     source: &mut S,
     limit: usize,
-) -> Result<Vec<u8, A>, ReadAllFault>
+) -> Result<Vec<u8, A>, BytesFault>
     ensures ok { IfOk result (λ bytes. IfSome (S.left source.old) (λ left. bytes.items ≡ left)) }
     ensures within { IfOk result (λ bytes. vec_len bytes ≤ limit) }
     ensures end { OnOk result (IsAtEnd (S.left source.new)) }
-    ensures too_long { IsErrOf result ReadAllFault.TooLong
+    ensures too_long { IsErrOf result BytesFault.TooLong
         → IfSome (S.left source.old) (λ left. limit < length left) }
     // Some bytes were read, and no more than one past the limit.
     ensures lost { OnErr result ((bytes : List ℕ) × (length bytes ≤ limit + 1)
@@ -47,7 +47,7 @@ pub fn read_all<S: Source, A: Allocator + Copy>(
 {
     let most = limit.min(PIECE - 1) + 1;
     let Ok(mut piece) = vec![in alloc; 0u8; most] else {
-        return Err(ReadAllFault::NoMemory);
+        return Err(BytesFault::NoMemory);
     };
     let mut bytes = Vec::new(alloc);
     while bytes.len() <= limit {
@@ -56,7 +56,7 @@ pub fn read_all<S: Source, A: Allocator + Copy>(
             return Ok(bytes);
         }
     }
-    Err(ReadAllFault::TooLong)
+    Err(BytesFault::TooLong)
 }
 
 // Reads once, and adds what came. 0 is the end.
@@ -64,7 +64,7 @@ fn read_piece<S: Source, A: Allocator>(
     source: &mut S,
     piece: &mut [u8],
     bytes: &mut Vec<u8, A>,
-) -> Result<usize, ReadAllFault>
+) -> Result<usize, BytesFault>
     ensures read { IfOk result (λ count. (part : List ℕ) × (length part ≡ count)
         × (bytes.new.items ≡ bytes.old.items ++ part)
         × Consumes (S.left source.old) (S.left source.new) part) }
@@ -73,14 +73,14 @@ fn read_piece<S: Source, A: Allocator>(
         (λ count. count ≡ 0 → 0 < length piece.old → IsAtEnd (S.left source.new)) }
     ensures lost { OnErr result ((part : List ℕ) × (length part ≤ length piece.old)
         × Consumes (S.left source.old) (S.left source.new) part) }
-    ensures fault { IsErrOf result ReadAllFault.TooLong → ⊥ }
+    ensures fault { IsErrOf result BytesFault.TooLong → ⊥ }
     ensures counted { CountsRead (S.failed source.old) (S.failed source.new) result }
 {
     let Ok(count) = source.read(piece) else {
-        return Err(ReadAllFault::Failed);
+        return Err(BytesFault::ReadFault);
     };
     if bytes.extend_from_slice(&piece[..count]).is_err() {
-        return Err(ReadAllFault::NoMemory);
+        return Err(BytesFault::NoMemory);
     }
     Ok(count)
 }

@@ -5,8 +5,8 @@ use Rattle.std.specs.Io.KnownBytes.{Appends}
 use Rattle.footer_text.specs.Footers.{AreFooters}
 use Rattle.gate_rules.specs.Rules.{GateRules}
 use Rattle.gate_rules.specs.Spelling.{SpellsGate}
-use Rattle.reviewgate.specs.declared.refusal.FileFault.{FileFault}
-use Rattle.reviewgate.specs.declared.refusal.FileFault.TheVariants.{TooLong, ReadFault, NoMemory}
+use Rattle.byte_ends.specs.declared.faults.BytesFault.{BytesFault}
+use Rattle.byte_ends.specs.declared.faults.BytesFault.TheVariants.{TooLong, ReadFault, NoMemory}
 use Rattle.reviewgate.specs.Files.{is_input, given, left_after}
 use Rattle.reviewgate.specs.FooterLines.{most_bytes, IsGate, IsUnreadFile, AreFootersUnder, PrintsFooters, CutsFooters, footers_text}
 
@@ -28,7 +28,7 @@ pub is_gate : (told : Option (List ℕ)) (gate : GateRules) → IfSome told (λ 
 is_gate None gate spells = tt
 is_gate (Some text) gate spells = (gate, spells)
 
-pub unread_second : (first second : Option (List ℕ)) (fault : FileFault) → IfSome first IsGate → (fault ≡ TooLong → IfSome second (λ text. most_bytes < length text)) → IsUnreadFile first second fault
+pub unread_second : (first second : Option (List ℕ)) (fault : BytesFault) → IfSome first IsGate → (fault ≡ TooLong → IfSome second (λ text. most_bytes < length text)) → IsUnreadFile first second fault
 unread_second first second TooLong gate long = inr (gate, long refl)
 unread_second first second ReadFault gate long = tt
 unread_second first second NoMemory gate long = tt

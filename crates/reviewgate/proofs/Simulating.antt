@@ -3,8 +3,8 @@ use Rattle.std.proofs.Common.{◌≡◌, inl, inr, ◌<◌, ℕ, List, Option, N
 use Rattle.std.specs.Prelude.{IfSome, IsSomeAnd}
 use Rattle.gate_rules.specs.Rules.{GateRules}
 use Rattle.world_core.specs.World.{new_world}
-use Rattle.reviewgate.specs.declared.refusal.FileFault.{FileFault}
-use Rattle.reviewgate.specs.declared.refusal.FileFault.TheVariants as file
+use Rattle.byte_ends.specs.declared.faults.BytesFault.{BytesFault}
+use Rattle.byte_ends.specs.declared.faults.BytesFault.TheVariants as file
 use Rattle.reviewgate.specs.declared.refusal.Refusal.{Refusal}
 use Rattle.reviewgate.specs.declared.refusal.Refusal.TheVariants.{Script, Snapshot, Gate, File, NotText, Output, Memory}
 use Rattle.script_text.specs.declared.fault.ScriptFault.{ScriptFault}
@@ -23,12 +23,12 @@ told_of : (P : List ℕ → Type 0) (told : Option (List ℕ)) (text : List ℕ)
 told_of P None text is p = tt
 told_of P (Some t) text is p = subst P is p
 
-pub script_file_refused : (told : Option (List ℕ)) (gate : Option (Option (List ℕ))) (now : Option (List ℕ)) (fault : FileFault) → (fault ≡ file.TooLong → IfSome told (λ text. most_script < length text)) → IsSimulateRefusal told gate now now (File fault)
+pub script_file_refused : (told : Option (List ℕ)) (gate : Option (Option (List ℕ))) (now : Option (List ℕ)) (fault : BytesFault) → (fault ≡ file.TooLong → IfSome told (λ text. most_script < length text)) → IsSimulateRefusal told gate now now (File fault)
 script_file_refused told gate now file.TooLong long = (inl (long refl), refl)
 script_file_refused told gate now file.ReadFault long = refl
 script_file_refused told gate now file.NoMemory long = refl
 
-gate_file_refused : (told file : Option (List ℕ)) (now : Option (List ℕ)) (fault : FileFault) → IsGateRefusal file (File fault) → IsSimulateRefusal told (Some file) now now (File fault)
+gate_file_refused : (told file : Option (List ℕ)) (now : Option (List ℕ)) (fault : BytesFault) → IsGateRefusal file (File fault) → IsSimulateRefusal told (Some file) now now (File fault)
 gate_file_refused told given now file.TooLong refused = (inr (refused refl), refl)
 gate_file_refused told given now file.ReadFault refused = refl
 gate_file_refused told given now file.NoMemory refused = refl

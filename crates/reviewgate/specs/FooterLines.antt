@@ -9,8 +9,8 @@ use Rattle.gate_rules.specs.Spelling.{SpellsGate, IsRefusalOf}
 use Rattle.byte_ends.specs.Lines.{as_line}
 use Rattle.reviewgate.specs.Files.{CountsFileFault}
 use Rattle.reviewgate.specs.Merging.{Failures}
-use Rattle.reviewgate.specs.declared.refusal.FileFault.{FileFault}
-use Rattle.reviewgate.specs.declared.refusal.FileFault.TheVariants.{TooLong, ReadFault, NoMemory}
+use Rattle.byte_ends.specs.declared.faults.BytesFault.{BytesFault}
+use Rattle.byte_ends.specs.declared.faults.BytesFault.TheVariants.{TooLong, ReadFault, NoMemory}
 use Rattle.reviewgate.specs.declared.refusal.Refusal.{Refusal}
 use Rattle.reviewgate.specs.declared.refusal.Refusal.TheVariants.{Script, Snapshot, Gate, File, NotText, Output, Memory}
 
@@ -60,7 +60,7 @@ abbrev pub AreTexts : Option (List ℕ) → Option (List ℕ) → Type 0
 AreTexts gate message = IfSome gate IsGate × IfSome message IsUtf8
 
 -- one of the two has too many bytes: the gate, or once that is read the message. A file that can't be read says nothing.
-abbrev pub IsUnreadFile : Option (List ℕ) → Option (List ℕ) → FileFault → Type 0
+abbrev pub IsUnreadFile : Option (List ℕ) → Option (List ℕ) → BytesFault → Type 0
 IsUnreadFile gate message TooLong = IfSome gate (λ text. most_bytes < length text) ⊎ (IfSome gate IsGate × IfSome message (λ text. most_bytes < length text))
 IsUnreadFile gate message ReadFault = Unit {0}
 IsUnreadFile gate message NoMemory = Unit {0}
@@ -87,7 +87,7 @@ PrintsFootersRefused gate own message old new Memory = new ≡ old
 -- ---- which ends failed
 
 -- a file that can't be read is told by one failure more of the input or of the files
-abbrev pub CountsUnreadFile : ℕ → ℕ → ℕ → ℕ → FileFault → Type 0
+abbrev pub CountsUnreadFile : ℕ → ℕ → ℕ → ℕ → BytesFault → Type 0
 CountsUnreadFile input input' files files' fault =
     (CountsFileFault input input' fault × (files' ≡ files)) ⊎ ((input' ≡ input) × CountsFileFault files files' fault)
 

@@ -1,4 +1,3 @@
-pub mod Faults
 pub mod Refusals
 pub mod Files
 pub mod Merging

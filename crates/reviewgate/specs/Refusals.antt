@@ -1,5 +1,6 @@
 -- How a refusal is printed: the part of the program that refused, the number and the name of the fault, and its details.
 use Rattle.std.specs.Prelude.{ℕ, List, [], ◌++◌, codes, decimal, string_bytes}
+use Rattle.byte_ends.specs.ReadAll as bytes
 use Rattle.gate_rules.specs.Fault as gate
 use Rattle.gate_rules.specs.declared.fault.GateFault.{GateFault}
 use Rattle.gate_rules.specs.declared.fault.GateFault.TheVariants as GateFaults
@@ -15,7 +16,6 @@ use Rattle.script_play.specs.declared.fault.PlayFault.TheVariants as PlayFaults
 use Rattle.script_text.specs.Fault as script
 use Rattle.script_text.specs.declared.fault.ScriptFault.{ScriptFault}
 use Rattle.script_text.specs.declared.fault.ScriptFault.TheVariants.{BadSites, BadLine, NoMemory}
-use Rattle.reviewgate.specs.Faults.{file_fault_name, file_fault_number}
 use Rattle.reviewgate.specs.declared.refusal.Refusal.{Refusal}
 use Rattle.reviewgate.specs.declared.refusal.Refusal.TheVariants.{Script, Snapshot, Gate, File, NotText, Output, Memory}
 
@@ -68,7 +68,7 @@ abbrev pub refusal_text : Refusal → List ℕ
 refusal_text (Script fault) = told (codes "script") (script.number_of fault) (script.name_of fault) ++ script_detail fault
 refusal_text (Snapshot fault) = told (codes "snapshot") (snapshot.number_of fault) (snapshot.name_of fault) ++ snapshot_detail fault
 refusal_text (Gate fault) = told (codes "gate") (gate.number_of fault) (gate.name_of fault) ++ gate_detail fault
-refusal_text (File fault) = told (codes "file") (file_fault_number fault) (file_fault_name fault)
+refusal_text (File fault) = told (codes "file") (bytes.number_of fault) (bytes.name_of fault)
 refusal_text NotText = codes "file 9 NotText"
 refusal_text Output = codes "output 1 WriteFault"
 refusal_text Memory = codes "memory 1 NoMemory"

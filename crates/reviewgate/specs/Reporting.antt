@@ -12,7 +12,7 @@ use Rattle.snapshot_text.specs.Snapshot.{IsRefusal}
 use Rattle.review_ops.specs.Operation.{Operation}
 use Rattle.reviewgate.specs.FooterLines.{CountsUnreadFile, IsGate, most_bytes}
 use Rattle.reviewgate.specs.Merging.{CountsUnread, Failures, IsSnapshot, IsSnapshotOf}
-use Rattle.reviewgate.specs.declared.refusal.FileFault.TheVariants.{TooLong}
+use Rattle.byte_ends.specs.declared.faults.BytesFault.TheVariants.{TooLong}
 use Rattle.reviewgate.specs.declared.refusal.Refusal.{Refusal}
 use Rattle.reviewgate.specs.declared.refusal.Refusal.TheVariants.{Script, Snapshot, Gate, File, NotText, Output, Memory}
 

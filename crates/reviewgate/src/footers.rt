@@ -9,9 +9,9 @@ ghost use Rattle.reviewgate.specs.Merging.{failures};
 ghost use Rattle.reviewgate.specs.Reporting.{IsGateRefusal};
 
 use super::named::{Named, bytes_of, is_input};
-use super::refusal::{FileFault, Refusal};
+use super::refusal::Refusal;
 use super::run::TEXT_LIMIT;
-use byte_ends::{Drain, Source, write_all};
+use byte_ends::{BytesFault, Drain, Source, write_all};
 use footer_text::depends;
 use gate_rules::Gate;
 use lattice_core::NoMemory;
@@ -109,10 +109,10 @@ fn second_bytes<I: Source, N: Named>(
     second: &str,
     input: &mut I,
     files: &mut N,
-) -> Result<Vec<u8>, FileFault>
+) -> Result<Vec<u8>, BytesFault>
     ensures ok { IfOk result (λ bytes.
         IfSome (given (left_after first.now (I.left input.old)) (N.told files.old) second.now) (λ text. bytes.items ≡ text)) }
-    ensures too_long { IsErrOf result FileFault.TooLong
+    ensures too_long { IsErrOf result BytesFault.TooLong
         → IfSome (given (left_after first.now (I.left input.old)) (N.told files.old) second.now) (λ text. most_bytes < length text) }
     ensures counted { MatchResult result
         (λ _. (I.failed input.new ≡ I.failed input.old) × (N.failed files.new ≡ N.failed files.old))

@@ -2,11 +2,11 @@
 
 ghost use Rattle.std.specs.Prelude.{◌≡◌, ℕ, List, false, IfOk, IfErr, IfSome, OnOk, MatchResult};
 ghost use Rattle.snapshot_text.specs.Snapshot.{IsRefusal};
-ghost use Rattle.reviewgate.specs.Files.{given, is_input, left_after, snap_fault_of};
+ghost use Rattle.reviewgate.specs.Files.{given, is_input, left_after};
 ghost use Rattle.reviewgate.specs.Merging.{CountsMergeRefusal, CountsUnread, IsMergeRefusal, IsReadBoth, IsReadOnto, IsUnread, PrintsMerged, PrintsRefused, failures};
 
 use super::named::{Named, bytes_of, is_input};
-use super::refusal::{FileFault, Refusal};
+use super::refusal::Refusal;
 use byte_ends::{Drain, Source};
 use replica_core::{Replica, operations_arrive_as_a_set};
 use snapshot_text::{SNAPSHOT_LIMIT, SnapFault, WriteSnapFault, snapshot_onto, write_snapshot};
@@ -108,18 +108,7 @@ fn read_onto<I: Source, N: Named>(
 {
     let text = match bytes_of(replica.allocator(), name, SNAPSHOT_LIMIT, input, files) {
         Ok(text) => text,
-        Err(fault) => return Err(snap_fault(fault)),
+        Err(fault) => return Err(SnapFault::from(fault)),
     };
     snapshot_onto(replica, &text)
-}
-
-/// How it is told that a snapshot's bytes can't be had.
-fn snap_fault(fault: FileFault) -> SnapFault
-    ensures { result ≡ snap_fault_of fault }
-{
-    match fault {
-        FileFault::TooLong => SnapFault::TooLong,
-        FileFault::ReadFault => SnapFault::ReadFault,
-        FileFault::NoMemory => SnapFault::NoMemory,
-    }
 }

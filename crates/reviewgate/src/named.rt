@@ -1,10 +1,9 @@
 //! The files that a command names.
 
 ghost use Rattle.std.specs.Prelude.{◌≡◌, ◌<◌, ◌≤◌, ℕ, List, Option, None, false, length, vec_len, IfOk, IfSome, IsErrOf, MatchBool};
-ghost use Rattle.reviewgate.specs.Files.{CountsFile, file_fault_of, given, is_input};
+ghost use Rattle.reviewgate.specs.Files.{CountsFile, given, is_input};
 
-use super::refusal::FileFault;
-use byte_ends::{Ends, ReadAllFault, Source, read_all};
+use byte_ends::{BytesFault, Ends, Source, read_all};
 use std::alloc::Global;
 use std::fs;
 use std::rt::Files;
@@ -19,10 +18,10 @@ pub trait Named {
 
     /// All bytes of the file of a name, which are at most `limit`. Refusals: 6 `TooLong`, there are more; 7 `ReadFault`, it can't
     /// be opened or read; 8 `NoMemory`.
-    fn read(&mut self, name: &str, limit: usize) -> Result<Vec<u8>, FileFault>
+    fn read(&mut self, name: &str, limit: usize) -> Result<Vec<u8>, BytesFault>
         ensures ok { IfOk result (λ bytes. IfSome (told self.old name.now) (λ text. bytes.items ≡ text)) }
         ensures within { IfOk result (λ bytes. vec_len bytes ≤ limit) }
-        ensures too_long { IsErrOf result FileFault.TooLong
+        ensures too_long { IsErrOf result BytesFault.TooLong
             → IfSome (told self.old name.now) (λ text. limit < length text) }
         ensures kept { (other : List ℕ) → told self.new other ≡ told self.old other }
         ensures counted { CountsFile (failed self.old) (failed self.new) result };
@@ -47,10 +46,10 @@ pub fn bytes_of<I: Source, N: Named>(
     limit: usize,
     input: &mut I,
     files: &mut N,
-) -> Result<Vec<u8>, FileFault>
+) -> Result<Vec<u8>, BytesFault>
     ensures ok { IfOk result (λ bytes. IfSome (given (I.left input.old) (N.told files.old) name.now) (λ text. bytes.items ≡ text)) }
     ensures within { IfOk result (λ bytes. vec_len bytes ≤ limit) }
-    ensures too_long { IsErrOf result FileFault.TooLong
+    ensures too_long { IsErrOf result BytesFault.TooLong
         → IfSome (given (I.left input.old) (N.told files.old) name.now) (λ text. limit < length text) }
     ensures kept { (other : List ℕ) → N.told files.new other ≡ N.told files.old other }
 
@@ -61,7 +60,7 @@ pub fn bytes_of<I: Source, N: Named>(
         ((I.failed input.new ≡ I.failed input.old) × CountsFile (N.failed files.old) (N.failed files.new) result) }
 {
     if is_input(name) {
-        read_all(alloc, input, limit).map_err(file_fault)
+        read_all(alloc, input, limit)
     } else {
         files.read(name, limit)
     }
@@ -81,30 +80,19 @@ impl<R: Files + AllocGlobal + Drop> SystemFiles<R> {
     }
 }
 
-/// What a failed reading of a whole file is to the program.
-pub fn file_fault(fault: ReadAllFault) -> FileFault
-    ensures { result ≡ file_fault_of fault }
-{
-    match fault {
-        ReadAllFault::TooLong => FileFault::TooLong,
-        ReadAllFault::Failed => FileFault::ReadFault,
-        ReadAllFault::NoMemory => FileFault::NoMemory,
-    }
-}
-
 // No contract can say what a file of the system has.
 impl<R: Files + AllocGlobal + Drop> Named for SystemFiles<R> {
     ghost told = { λ files name. None };
 
     ghost failed = { λ files. files.failures };
 
-    fn read(&mut self, name: &str, limit: usize) -> Result<Vec<u8>, FileFault> {
+    fn read(&mut self, name: &str, limit: usize) -> Result<Vec<u8>, BytesFault> {
         let alloc: Global = self.rt.alloc();
         let answer = match fs::open(&self.rt, name) {
-            Ok(file) => read_all(alloc, &mut Ends::new(file), limit).map_err(file_fault),
-            Err(_) => Err(FileFault::ReadFault),
+            Ok(file) => read_all(alloc, &mut Ends::new(file), limit),
+            Err(_) => Err(BytesFault::ReadFault),
         };
-        if matches!(&answer, Err(FileFault::ReadFault)) {
+        if matches!(&answer, Err(BytesFault::ReadFault)) {
             self.failures = self.failures.saturating_add(1);
         }
         answer

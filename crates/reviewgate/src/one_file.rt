@@ -3,7 +3,7 @@
 ghost use Rattle.std.specs.Prelude.{None};
 
 use super::named::Named;
-use super::refusal::FileFault;
+use byte_ends::BytesFault;
 use std::alloc::Global;
 
 /// The only file that is there.
@@ -20,17 +20,17 @@ impl Named for OneFile<'_> {
 
     ghost failed = { λ files. files.failures };
 
-    fn read(&mut self, name: &str, limit: usize) -> Result<Vec<u8>, FileFault> {
+    fn read(&mut self, name: &str, limit: usize) -> Result<Vec<u8>, BytesFault> {
         if name != self.name {
             self.failures = self.failures.saturating_add(1);
-            return Err(FileFault::ReadFault);
+            return Err(BytesFault::ReadFault);
         }
         if self.text.len() > limit {
-            return Err(FileFault::TooLong);
+            return Err(BytesFault::TooLong);
         }
         match self.text.to_vec(self.alloc) {
             Ok(bytes) => Ok(bytes),
-            Err(_) => Err(FileFault::NoMemory),
+            Err(_) => Err(BytesFault::NoMemory),
         }
     }
 

@@ -1,55 +1,16 @@
 //! Why a command ended with status 1.
 
 ghost use Rattle.std.specs.Prelude.{◌≡◌, ◌++◌, IfOk, OnOk, string_bytes};
-ghost use Rattle.reviewgate.specs.Faults.{file_fault_number, file_fault_name};
 ghost use Rattle.reviewgate.specs.declared.refusal.Refusal.TheVariants.{Script as BadScript, Snapshot as Unread, Gate as BadGate, File as BadFile};
 ghost use Rattle.reviewgate.specs.Refusals.{cause_detail, refusal_line, refusal_of, refusal_text, told};
 
+use byte_ends::BytesFault;
 use gate_rules::GateFault;
 use op_text::OpTextFault;
 use script_play::PlayFault;
 use script_text::ScriptFault;
 use snapshot_text::SnapFault;
 use std::alloc::{AllocError, Global};
-use thiserror::Error;
-
-/// Why a named file can't be had.
-#[derive(Clone, Copy, Debug, PartialEq, Eq, Error)]
-pub enum FileFault {
-    /// It has more bytes than the limit.
-    #[error("too long")]
-    TooLong,
-    /// It can't be opened or read.
-    #[error("it can't be read")]
-    ReadFault,
-    /// Memory was refused.
-    #[error("no memory")]
-    NoMemory,
-}
-
-impl FileFault {
-    /// The number that is printed.
-    pub fn number(&self) -> u8
-        ensures { result ≡ file_fault_number self.now }
-    {
-        match self {
-            FileFault::TooLong => 6,
-            FileFault::ReadFault => 7,
-            FileFault::NoMemory => 8,
-        }
-    }
-
-    /// The name that is printed.
-    pub fn name(&self) -> &'static str
-        ensures { result.now ≡ file_fault_name self.now }
-    {
-        match self {
-            FileFault::TooLong => "TooLong",
-            FileFault::ReadFault => "ReadFault",
-            FileFault::NoMemory => "NoMemory",
-        }
-    }
-}
 
 /// Why a command ended with status 1, by the part of the program that refused.
 #[derive(Debug, Drop)]
@@ -57,7 +18,7 @@ pub enum Refusal {
     Script(ScriptFault),
     Snapshot(SnapFault),
     Gate(GateFault),
-    File(FileFault),
+    File(BytesFault),
     /// A message isn't UTF-8.
     NotText,
     /// The output failed.
@@ -180,10 +141,10 @@ impl From<GateFault> for Refusal {
     }
 }
 
-impl From<FileFault> for Refusal {
+impl From<BytesFault> for Refusal {
     ghost from_gives = { λ fault refusal. refusal ≡ BadFile fault };
 
-    fn from(fault: FileFault) -> Refusal {
+    fn from(fault: BytesFault) -> Refusal {
         Refusal::File(fault)
     }
 }

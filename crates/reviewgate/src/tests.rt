@@ -3,9 +3,8 @@
 ghost use Rattle.std.specs.Prelude.{None};
 
 use super::named::Named;
-use super::refusal::FileFault;
 use super::run::run_words;
-use byte_ends::{Broken, Ends};
+use byte_ends::{Broken, BytesFault, Ends};
 use std::alloc::Global;
 use std::process::Abort;
 use std::test::Fail;
@@ -21,9 +20,9 @@ impl Named for NoFiles {
 
     ghost failed = { λ files. files.failures };
 
-    fn read(&mut self, _name: &str, _limit: usize) -> Result<Vec<u8>, FileFault> {
+    fn read(&mut self, _name: &str, _limit: usize) -> Result<Vec<u8>, BytesFault> {
         self.failures = self.failures.saturating_add(1);
-        Err(FileFault::ReadFault)
+        Err(BytesFault::ReadFault)
     }
 
     fn failures(&self) -> u64 {

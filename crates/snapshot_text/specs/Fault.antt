@@ -1,7 +1,7 @@
 -- The numbers and names of faults in reports. They are the project's own.
 use Rattle.std.specs.Prelude.{ℕ, List, codes}
-use Rattle.snapshot_text.specs.declared.fault.BytesFault.{BytesFault}
-use Rattle.snapshot_text.specs.declared.fault.BytesFault.TheVariants as bytes
+use Rattle.byte_ends.specs.declared.faults.BytesFault.{BytesFault}
+use Rattle.byte_ends.specs.declared.faults.BytesFault.TheVariants as bytes
 use Rattle.snapshot_text.specs.declared.fault.SnapFault.{SnapFault}
 use Rattle.snapshot_text.specs.declared.fault.SnapFault.TheVariants.{BadHeader, BadLine, NoEnd, BadCount, AfterEnd, TooLong, ReadFault, NoMemory}
 use Rattle.snapshot_text.specs.declared.fault.WriteSnapFault.{WriteSnapFault}
@@ -27,18 +27,11 @@ name_of TooLong = codes "TooLong"
 name_of ReadFault = codes "ReadFault"
 name_of NoMemory = codes "NoMemory"
 
--- where bytes aren't handed out, a snapshot is refused so
+-- where bytes aren't handed out, a snapshot is refused so, with the same number and name
 abbrev pub snap_fault_of : BytesFault → SnapFault
 snap_fault_of bytes.TooLong = TooLong
 snap_fault_of bytes.ReadFault = ReadFault
 snap_fault_of bytes.NoMemory = NoMemory
-
--- with the same number and name
-abbrev pub bytes_number_of : BytesFault → ℕ
-bytes_number_of fault = number_of (snap_fault_of fault)
-
-abbrev pub bytes_name_of : BytesFault → List ℕ
-bytes_name_of fault = name_of (snap_fault_of fault)
 
 abbrev pub write_number_of : WriteSnapFault → ℕ
 write_number_of write.WriteFault = 1

@@ -10,8 +10,6 @@ use Rattle.op_text.specs.declared.fault.OpTextFault.{OpTextFault}
 use Rattle.op_text.specs.declared.fault.OpTextFault.TheVariants as op_fault
 use Rattle.op_text.specs.Spelling.{SpellsOperation, IsRefusalOf}
 use Rattle.op_text.specs.Text.{operation_text}
-use Rattle.snapshot_text.specs.Fault.{snap_fault_of}
-use Rattle.snapshot_text.specs.declared.fault.BytesFault.{BytesFault}
 use Rattle.snapshot_text.specs.declared.fault.WriteSnapFault.{WriteSnapFault}
 use Rattle.snapshot_text.specs.declared.fault.WriteSnapFault.TheVariants as write
 use Rattle.snapshot_text.specs.declared.fault.SnapFault.{SnapFault}
@@ -124,9 +122,6 @@ CountsSnapFault old new AfterEnd = new ≡ old
 CountsSnapFault old new TooLong = new ≡ old
 CountsSnapFault old new ReadFault = OneFailed old new
 CountsSnapFault old new NoMemory = new ≡ old
-
-abbrev pub CountsBytesFault : ℕ → ℕ → BytesFault → Type 0
-CountsBytesFault old new fault = CountsSnapFault old new (snap_fault_of fault)
 
 -- so does a failing drain
 abbrev pub CountsWriteFault : ℕ → ℕ → WriteSnapFault → Type 0

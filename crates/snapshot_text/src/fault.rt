@@ -1,27 +1,13 @@
 //! Why a snapshot isn't read or written.
 
 ghost use Rattle.std.specs.Prelude.{◌≡◌};
-ghost use Rattle.snapshot_text.specs.Fault.{number_of, name_of, bytes_number_of, bytes_name_of, write_number_of, write_name_of, snap_fault_of};
+ghost use Rattle.snapshot_text.specs.Fault.{number_of, name_of, write_number_of, write_name_of, snap_fault_of};
 ghost use Rattle.snapshot_text.specs.declared.fault.WriteSnapFault.TheVariants.{WriteFault as WriteFailed, NoMemory as OutOfMemory};
 
-use byte_ends::Failed;
+use byte_ends::{BytesFault, Failed};
 use lattice_core::NoMemory;
 use op_text::OpTextFault;
 use thiserror::Error;
-
-/// Why a source's bytes aren't handed out.
-#[derive(Clone, Copy, Debug, PartialEq, Eq, Error)]
-pub enum BytesFault {
-    /// 6: there are more bytes than the limit.
-    #[error("more bytes than the limit")]
-    TooLong,
-    /// 7: the source failed.
-    #[error("the source failed")]
-    ReadFault,
-    /// 8: memory was refused.
-    #[error("no memory")]
-    NoMemory,
-}
 
 /// Why a snapshot isn't read. Of the faults in a text the first in line order stands.
 #[derive(Debug, Drop, Error)]
@@ -62,30 +48,6 @@ pub enum WriteSnapFault {
     /// 2: memory was refused.
     #[error("no memory")]
     NoMemory,
-}
-
-impl BytesFault {
-    /// The fault's number in reports: that of the same fault of a snapshot.
-    pub fn number(&self) -> u8
-        ensures { result ≡ bytes_number_of self.now }
-    {
-        match self {
-            BytesFault::TooLong => 6,
-            BytesFault::ReadFault => 7,
-            BytesFault::NoMemory => 8,
-        }
-    }
-
-    /// The fault's name in reports.
-    pub fn name(&self) -> &'static str
-        ensures { result.now ≡ bytes_name_of self.now }
-    {
-        match self {
-            BytesFault::TooLong => "TooLong",
-            BytesFault::ReadFault => "ReadFault",
-            BytesFault::NoMemory => "NoMemory",
-        }
-    }
 }
 
 impl SnapFault {

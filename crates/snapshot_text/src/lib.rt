@@ -7,11 +7,10 @@ mod laws;
 mod read;
 #[cfg(test)]
 mod tests;
-mod whole;
 mod write;
 
-pub use fault::{BytesFault, SnapFault, WriteSnapFault};
+pub use byte_ends::{BytesFault, read_all};
+pub use fault::{SnapFault, WriteSnapFault};
 pub use laws::{lines_have_one_reading, snapshots_are_one, snapshots_say_their_operations};
 pub use read::{SNAPSHOT_LIMIT, read_snapshot, snapshot_of, snapshot_onto};
-pub use whole::read_all;
 pub use write::write_snapshot;

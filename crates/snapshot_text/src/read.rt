@@ -8,8 +8,7 @@ ghost use Rattle.snapshot_text.specs.Reading.{IsEndFault, IsLineFault, line_faul
 
 use super::end_line::claimed;
 use super::fault::SnapFault;
-use super::whole::read_all;
-use byte_ends::{Lines, Source};
+use byte_ends::{Lines, Source, read_all};
 use op_text::{OpTextFault, read_op};
 use replica_core::Replica;
 use std::alloc::Global;

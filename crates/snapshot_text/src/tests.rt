@@ -1,11 +1,10 @@
 //! Snapshots worked out by hand, and what is answered where an end fails or memory is refused.
 
 use super::{
-    BytesFault, SnapFault, WriteSnapFault, lines_have_one_reading, read_all, read_snapshot,
-    snapshot_of, snapshot_onto, snapshots_are_one, snapshots_say_their_operations, write_snapshot,
+    SnapFault, WriteSnapFault, lines_have_one_reading, read_snapshot, snapshot_of, snapshot_onto,
+    snapshots_are_one, snapshots_say_their_operations, write_snapshot,
 };
 use byte_ends::{Broken, Ends};
-use linked_list_allocator::LocalHeap;
 use op_text::OpTextFault;
 use std::alloc::Global;
 use std::test::Fail;
@@ -151,49 +150,10 @@ fn a_failing_writer_is_told(rt: HostRuntime) -> Result<(), Fail> {
 }
 
 #[test]
-fn bytes_within_the_limit(rt: HostRuntime) -> Result<(), Fail> {
-    let mut source = Ends::new(b"abc".as_slice());
-    let bytes = read_all(rt.alloc(), &mut source, 3)?;
-    assert_eq!(rt; bytes.as_slice(), b"abc".as_slice());
-    let mut longer = Ends::new(b"abcd".as_slice());
-    assert_eq!(rt;
-        read_all(rt.alloc(), &mut longer, 3).err(),
-        Some(BytesFault::TooLong)
-    );
-    let mut broken = Broken::at_call(Ends::new(b"abc".as_slice()), 1);
-    assert_eq!(rt;
-        read_all(rt.alloc(), &mut broken, 3).err(),
-        Some(BytesFault::ReadFault)
-    );
-    Ok(())
-}
-
-// Each request for memory of `read_all` is refused in turn.
-#[test]
-fn bytes_without_memory(rt: HostRuntime) -> Result<(), Fail> {
-    for refused in 0..64usize {
-        let heap = LocalHeap::new(rt.alloc(), 16 * refused)?;
-        let mut source = Ends::new(b"abcdefghijklmnopqrstuvwxyz".as_slice());
-        match read_all(&heap, &mut source, 100) {
-            Ok(bytes) => {
-                assert_eq!(rt; bytes.len(), 26);
-                assert!(rt; refused > 1);
-                return Ok(());
-            }
-            Err(fault) => assert_eq!(rt; fault, BytesFault::NoMemory),
-        }
-    }
-    assert!(rt; false, "never enough memory");
-    Ok(())
-}
-
-#[test]
 fn faults_have_numbers_and_names(rt: HostRuntime) {
     snapshots_say_their_operations();
     snapshots_are_one();
     lines_have_one_reading();
-    assert_eq!(rt; BytesFault::TooLong.number(), 6);
-    assert_eq!(rt; BytesFault::ReadFault.name(), "ReadFault");
     let bad_line = SnapFault::BadLine(2, OpTextFault::NotJson);
     assert_eq!(rt; bad_line.number(), 2);
     assert_eq!(rt; bad_line.name(), "BadLine");
