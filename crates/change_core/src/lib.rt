@@ -2,6 +2,7 @@
 #![tactic(auto)]
 
 mod commit;
+mod laws;
 mod life;
 mod state;
 #[cfg(test)]
@@ -10,6 +11,7 @@ mod vote_slot;
 mod votes;
 
 pub use commit::Commit;
+pub use laws::operations_add_up;
 pub use life::{Life, Status};
 pub use state::ChangeState;
 pub use vote_slot::VoteSlot;

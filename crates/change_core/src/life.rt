@@ -29,7 +29,9 @@ impl Keep for Life {
 
     ghost ordered = { lives_exact };
 
-    fn copy(&self) -> Result<Life, NoMemory> {
+    fn copy(&self) -> Result<Life, NoMemory>
+        ensures { result ≡ Ok self.now }
+    {
         Ok(*self)
     }
 }

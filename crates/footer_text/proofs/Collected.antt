@@ -1,5 +1,5 @@
 -- What the lines so far add.
-use Rattle.std.proofs.Common.{◌≡◌, ◌↔◌, ℕ, List, [], ◌∷◌, ◌++◌, Contains, refl, sym, ap, subst, inl, inr, eqb, arith}
+use Rattle.std.proofs.Common.{◌≡◌, ◌↔◌, ℕ, List, [], ◌∷◌, ◌++◌, Contains, refl, sym, ap, subst, inl, inr, eqb}
 use Rattle.std.specs.List.Retain.{IsFiltered, DiffersFromLast}
 use Rattle.std.specs.List.Sorted.{IsPermutation, IsSorted, IsStrictlyIncreasing}
 use Rattle.std.specs.Ordering.{nat_cmp}
@@ -29,11 +29,6 @@ Gives-one R (z ∷ zs) ys x y r p =
       | inl a ↦ inl (a.0, a.1 ++ y ∷ [], ap (λ l. l ++ y ∷ []) a.2, a.3, Gives-one R zs a.1 x y r a.4)
       | inr a ↦ inr (a.0, Gives-one R zs ys x y r a.1)
     ]
-
-pub nothing_collected : (bases : List (List ℕ)) (own : ℕ) → AreCollected bases own [] [] []
-nothing_collected bases own = record { needed = λ change. (λ c. absurd (nowhere change c), λ c. absurd (nowhere c.0 c.1)); others = refl } where
-  nowhere : {X : Type 0} (x : X) → Contains [] x → ⊥
-  nowhere x c = let l = c.1 in omega arith
 
 module _ (bases : List (List ℕ)) (own : ℕ) (lines : List (List ℕ)) (needs : List ℕ) (ignored : List (List ℕ)) (seen : AreCollected bases own lines needs ignored) (line : List ℕ) where
   -- a line that adds no need

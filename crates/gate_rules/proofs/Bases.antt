@@ -41,12 +41,6 @@ array_is (string s) items is = absurd (false≢true (ap is_some is))
 array_is (object ms) items is = absurd (false≢true (ap is_some is))
 
 module _ (ms : Members) (d : Data) (found : Some d ≡ get_member (codes "bases") ms) where
-  pub no_list : None ≡ as_array d → (bases : List (List ℕ)) → ¬ HasBases ms bases
-  no_list is bases has =
-      let same : Some d ≡ Some (array has.items) = found ∙ has.list in
-      let here : d ≡ array has.items = cc in
-      false≢true (ap is_some (is ∙ ap as_array here))
-
   module _ (values : List Value) (is : Some (items_view values) ≡ as_array d) where
     listed_items : (bases : List (List ℕ)) (has : HasBases ms bases) → list_of has.items ≡ map view values
     listed_items bases has =

@@ -1,9 +1,9 @@
 -- The walk finds the first fault.
-use Rattle.std.proofs.Common.{◌≡◌, ℕ, List, [], ◌∷◌, ◌++◌, Option, Some, None, refl, sym, ap}
+use Rattle.std.proofs.Common.{◌≡◌, List, [], ◌∷◌, Option, Some, None, refl, ap}
 use Rattle.std.proofs.lemmas.List.Elements.{All-nil, All-cons}
-use Rattle.serde_json.specs.Data.{Data, Members, no_members, member}
+use Rattle.serde_json.specs.Data.{no_members, member}
 use Rattle.gate_rules.specs.Walk.{Fault, or_later, first_fault, first_in_list}
-use Rattle.gate_rules.specs.FirstFaults.{IsFirstFaultOf, FindsFirst, FindsFirstMember, FindsFirstItem, members_of}
+use Rattle.gate_rules.specs.FirstFaults.{FindsFirst, FindsFirstMember, FindsFirstItem, members_of}
 
 module _ {A : Type 0} (judge : A → Option Fault) (x : A) (xs : List A) where
   later_fault : (later : Option Fault) → judge x ≡ None → FindsFirst judge xs later → FindsFirst judge (x ∷ xs) later

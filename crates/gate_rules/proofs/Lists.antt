@@ -1,16 +1,15 @@
 -- Walks over lists of values, and over members.
-use Rattle.std.proofs.Common.{◌≡◌, ℕ, ◌+◌, ◌<◌, List, [], ◌∷◌, ◌++◌, length, get_or, take, drop, map, Bool, true, false, if◌then◌else◌, Option, Some, None, is_some, option_map, refl, sym, ap, ◌∙◌, append-nil}
+use Rattle.std.proofs.Common.{◌≡◌, ℕ, ◌+◌, ◌<◌, List, [], ◌∷◌, ◌++◌, length, get_or, take, map, Option, Some, None, is_some, refl, sym, ap, ◌∙◌, append-nil}
 use Rattle.std.specs.List.{AllZip}
 use Rattle.std.proofs.lemmas.Bool.{false≢true}
-use Rattle.std.proofs.lemmas.List.{drop_more, take_more, map-append}
+use Rattle.std.proofs.lemmas.List.{take_more, map-append}
 use Rattle.std.proofs.lemmas.List.Elements.{filter_map-append}
 use Rattle.std.specs.List.{filter_map, cons_option}
 use Rattle.serde_json.specs.Data.{Data, null, boolean, number, string, array, object}
 use Rattle.serde_json.specs.Find.{as_array}
 use Rattle.serde_json.specs.View.{view, items_of, items_view}
 use Rattle.serde_json.specs.declared.value.Value.{Value}
-use Rattle.gate_rules.specs.Reading.{list_of, listed, each}
-use Rattle.gate_rules.specs.Walk.{Fault, or_later, first_in_list}
+use Rattle.gate_rules.specs.Reading.{list_of, listed}
 
 pub list_of-items_of : (ds : List Data) → list_of (items_of ds) ≡ ds
 list_of-items_of [] = refl
@@ -35,14 +34,6 @@ listed_other (object ms) is = refl
 
 -- ---- tests of each element
 
-pub each_at : {A : Type 0} (test : A → Bool) (xs : List A) (i : ℕ) (d : A) (b : Bool) → i < length xs → test (get_or xs i d) ≡ b
-    → each test (drop i xs) ≡ (if b then each test (drop (i + 1) xs) else false)
-each_at test xs i d b within is = ap (each test) (drop_more xs i d within) ∙ ap (λ t. if t then each test (drop (i + 1) xs) else false) is
-
-pub each_value : (test : Data → Bool) (vs : List Value) (i : ℕ) (d : Value) (b : Bool) → i < length vs → test (view (get_or vs i d)) ≡ b
-    → each test (map view (drop i vs)) ≡ (if b then each test (map view (drop (i + 1) vs)) else false)
-each_value test vs i d b within is = ap (λ xs. each test (map view xs)) (drop_more vs i d within) ∙ ap (λ t. if t then each test (map view (drop (i + 1) vs)) else false) is
-
 -- ---- what a function gives of values
 
 module _ {B : Type 0} (h : Data → Option B) (vs : List Value) (i : ℕ) (d : Value) (within : i < length vs) where
@@ -66,15 +57,3 @@ map-copies f (x ∷ xs) [] h = absurd h
 map-copies f (x ∷ xs) (y ∷ ys) h = ap (λ z. z ∷ map f ys) h.0 ∙ ap (λ l. f x ∷ l) (map-copies f xs ys h.1)
 
 -- ---- the first fault
-
-pub or_later_some : {A : Type 0} (f : A → Fault) (o : Option A) (later : Option Fault) → is_some o ≡ true → or_later (option_map f o) later ≡ option_map f o
-or_later_some f None later h = absurd (false≢true h)
-or_later_some f (Some fault) later h = refl
-
-pub or_later_none : {A : Type 0} (f : A → Fault) (o : Option A) (later : Option Fault) → is_some o ≡ false → or_later (option_map f o) later ≡ later
-or_later_none f None later h = refl
-or_later_none f (Some fault) later h = absurd (false≢true (sym h))
-
-pub fault_at : (judge : Data → Option Fault) (vs : List Value) (i : ℕ) (d : Value) → i < length vs
-    → first_in_list judge (map view (drop i vs)) ≡ or_later (judge (view (get_or vs i d))) (first_in_list judge (map view (drop (i + 1) vs)))
-fault_at judge vs i d within = ap (λ xs. first_in_list judge (map view xs)) (drop_more vs i d within)

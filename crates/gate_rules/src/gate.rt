@@ -134,10 +134,10 @@ impl Pattern {
         Pattern { username, labels }
     }
 
-    fn copy(&self, alloc: Global) -> Result<Pattern, NoMemory>
+    fn copy(&self) -> Result<Pattern, NoMemory>
         ensures { IfOk result (λ copy. copy ≡ self.now) }
     {
-        let mut labels = Vec::new(alloc);
+        let mut labels = Vec::new(*self.labels.allocator());
         for label in &self.labels {
             labels.push(label.copy()?)?;
         }
@@ -189,12 +189,12 @@ impl Clauses {
         }
     }
 
-    fn copy(&self, alloc: Global) -> Result<Clauses, NoMemory>
+    fn copy(&self) -> Result<Clauses, NoMemory>
         ensures { IfOk result (λ copy. copy ≡ self.now) }
     {
-        let mut approvals = Vec::new(alloc);
+        let mut approvals = Vec::new(*self.approvals.allocator());
         for pattern in &self.approvals {
-            approvals.push(pattern.copy(alloc)?)?;
+            approvals.push(pattern.copy()?)?;
         }
         let status = copied_texts(&self.status)?;
         Ok(Clauses {
@@ -348,14 +348,14 @@ impl Gate {
         self.cycles
     }
 
-    /// An equal gate. It costs the length of the settings.
-    pub fn copy(&self, alloc: Global) -> Result<Gate, NoMemory>
+    /// An equal gate, with memory of the same allocator. It costs O(n) for settings of n bytes.
+    pub fn copy(&self) -> Result<Gate, NoMemory>
         ensures { IfOk result (λ copy. copy ≡ self.now) }
     {
         let bases = self.bases.copy()?;
         let connection = self.connection.clone()?;
-        let require = self.require.copy(alloc)?;
-        let reject = self.reject.copy(alloc)?;
+        let require = self.require.copy()?;
+        let reject = self.reject.copy()?;
         Ok(Gate {
             bases,
             connection,

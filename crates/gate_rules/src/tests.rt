@@ -368,7 +368,7 @@ fn copies(rt: HostRuntime) -> Result<(), Fail> {
 
 /// A copy has the settings of the gate.
 fn assert_copied(rt: &impl Abort, alloc: Global, gate: &Gate) -> Result<(), Fail> {
-    let copy = gate.copy(alloc)?;
+    let copy = gate.copy()?;
     assert_settings(rt, &copy);
     Ok(())
 }

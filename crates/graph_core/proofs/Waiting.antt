@@ -1,5 +1,5 @@
 -- What an item waits for, from what it names.
-use Rattle.std.proofs.Common.{◌≡◌, ◌≢◌, ◌↔◌, ℕ, Bool, true, false, not, List, [], ◌∷◌, ◌++◌, Contains, filter, Option, Some, None, eqb, refl, sym, ap, ◌∙◌, subst, inl, inr}
+use Rattle.std.proofs.Common.{◌≡◌, ◌≢◌, ◌↔◌, ℕ, Bool, true, false, not, List, [], ◌∷◌, ◌++◌, Contains, filter, Some, eqb, refl, sym, subst, inl, inr}
 use Rattle.std.specs.FinMap as finite
 use Rattle.std.specs.Ordering.{nat_cmp}
 use Rattle.std.specs.List.Retain.{IsFiltered, DiffersFromLast}
@@ -11,14 +11,11 @@ use Rattle.std.proofs.lemmas.List.Sorted.{Contains-permutation, IsPermutation-sy
 use Rattle.std.proofs.lemmas.List.Elements.{Contains-push, Contains-push_cases, Contains-append_left}
 use Rattle.std.proofs.lemmas.Map.Keys.{IsStrictlyIncreasing-dedup}
 use Rattle.change_core.specs.Change.{Change}
-use Rattle.change_core.specs.Views.{message_of, parent_of, status_of}
-use Rattle.change_core.specs.declared.life.Status.{Status}
-use Rattle.change_core.specs.declared.life.Status.TheVariants.{New, Abandoned, Merged}
+use Rattle.change_core.specs.Views.{message_of, parent_of}
 use Rattle.footer_text.specs.Footers.{AreFooters, MessageNeeds}
 use Rattle.gate_rules.specs.Rules.{GateRules}
 use Rattle.state_core.specs.declared.item.Item.{Item}
 use Rattle.state_core.specs.State.{State}
-use Rattle.state_core.specs.Known.{IsMerged}
 use Rattle.graph_core.specs.Dependencies.{IsNeeded, IsParent, Names}
 use Rattle.graph_core.specs.ItemGraph.{AreTargets}
 use Rattle.lattice_core.specs.MemberLaws.{Contains-of_filter, Contains-to_filter}

@@ -1,16 +1,12 @@
 -- What holds while the entries of a map are walked, one after another.
-use Rattle.std.specs.Prelude.{◌≡◌, ◌↔◌, List, ◌∷◌, Option, Some, None}
+use Rattle.std.specs.Prelude.{◌≡◌, ◌↔◌, List, ◌∷◌, Some}
 use Rattle.std.specs.declared.cmp.Ordering.{Ordering}
 use Rattle.std.specs.List.{AllByRecursion}
-use Rattle.std.specs.FinMap.{FinMap, empty, get, insert, entries}
-use Rattle.std.proofs.Common.{refl, sym, ap, ◌∙◌, subst}
+use Rattle.std.specs.FinMap.{FinMap, empty, get, entries}
+use Rattle.std.proofs.Common.{sym, ap, ◌∙◌, subst}
 use Rattle.lattice_core.specs.Keep.{IsExactOrder}
 use Rattle.lattice_core.specs.Join.{IsJoin, IsBetween, Covers, option_joined, Covers-trans}
-use Rattle.lattice_core.specs.JoinMap.{map_joined, put_joined, put_all, joined_to, maps_join, Covers-put_joined, Covers-put_all, Covers-by_entries, put_all-entries, map_joined-put_all}
-
-joined_to-latest : {T : Type 0} (o : Option T) (v : T) → joined_to (λ _ value. value) o v ≡ v
-joined_to-latest None v = refl
-joined_to-latest (Some w) v = refl
+use Rattle.lattice_core.specs.JoinMap.{map_joined, put_joined, put_all, maps_join, Covers-put_joined, Covers-put_all, Covers-by_entries, put_all-entries, map_joined-put_all}
 
 module _ {S T : Type 0} {order : S → S → Ordering} where
   -- the map covers the first one, and with the rest joined in it is the whole
@@ -53,18 +49,3 @@ module _ {S T : Type 0} {order : S → S → Ordering} where
 
     pub IsCoveredWith-start : (joined : T → T → T) (m n : FinMap order T) (es : List (S × T)) → entries n ≡ es → IsCoveredWith joined m n es
     IsCoveredWith-start joined m n es is = subst (IsCoveredWith joined m n) is (Covers-by_entries exact_order joined m n)
-
-  pub IsPartlyCopied-more : (whole now next : FinMap order T) (rest : List (S × T)) (e : S × T) (later : List (S × T)) → rest ≡ e ∷ later → IsPartlyCopied whole now rest → next ≡ insert now e.0 e.1 → IsPartlyCopied whole next later
-  IsPartlyCopied-more whole now next rest e later is so_far step =
-      ap (λ n. put_all (λ _ value. value) n later) (step ∙ ap (insert now e.0) (sym (joined_to-latest (get now e.0) e.1)))
-      ∙ ap (put_all (λ _ value. value) now) (sym is) ∙ so_far
-
-  pub IsCoveredWith-more : (joined : T → T → T) (m n : FinMap order T) (rest : List (S × T)) (e : S × T) (later : List (S × T)) → rest ≡ e ∷ later → IsCoveredWith joined m n rest → Covers (option_joined joined) (get m e.0) (Some e.1) → IsCoveredWith joined m n later
-  IsCoveredWith-more joined m n rest e later is so_far covers =
-      let at_first : IsCoveredWith joined m n (e ∷ later) = subst (IsCoveredWith joined m n) is so_far in
-      (λ all. (at_first.0 all).1, λ all. at_first.1 (covers, all))
-
-  pub IsCoveredWith-not : (joined : T → T → T) (m n : FinMap order T) (rest : List (S × T)) (e : S × T) (later : List (S × T)) → rest ≡ e ∷ later → IsCoveredWith joined m n rest → ¬ (Covers (option_joined joined) (get m e.0) (Some e.1)) → ¬ (Covers (map_joined joined) m n)
-  IsCoveredWith-not joined m n rest e later is so_far differs all =
-      let at_first : IsCoveredWith joined m n (e ∷ later) = subst (IsCoveredWith joined m n) is so_far in
-      differs (at_first.0 all).0

@@ -1,5 +1,5 @@
 -- The entries of finite maps, and what the maps have at their keys.
-use Rattle.std.specs.Prelude.{◌≡◌, Bool, true, false, ◌&&◌, T, Option, Some, None, IsSome, Contains}
+use Rattle.std.specs.Prelude.{◌≡◌, Option, Some, None, IsSome, Contains}
 use Rattle.std.specs.declared.cmp.Ordering.{Ordering}
 use Rattle.std.specs.FinMap.{FinMap, get, entries}
 use Rattle.std.proofs.Common.{refl}

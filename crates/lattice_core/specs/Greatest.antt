@@ -1,13 +1,12 @@
 -- The greater of two values in an exact order is a join: the merge of a last-writer-wins register (Shapiro, Preguiça,
 -- Baquero and Zawirski, "A comprehensive study of Convergent and Commutative Replicated Data Types", 2011).
-use Rattle.std.specs.Prelude.{◌≡◌, Bool, true, false, cond, List, [], ◌∷◌, All, Contains, Some}
+use Rattle.std.specs.Prelude.{◌≡◌, Bool, true, false, cond, List, [], ◌∷◌, All, Contains}
 use Rattle.std.specs.declared.cmp.Ordering.{Ordering}
 use Rattle.std.specs.declared.cmp.Ordering.TheVariants.{Less, Equal, Greater}
 use Rattle.std.specs.Ordering.{is_lt, is_gt, ord_max, ordering_reverse}
-use Rattle.std.specs.List.{reduce}
 use Rattle.std.specs.Cmp.{upto, tied_itself}
-use Rattle.std.proofs.Common.{refl, sym, ap, ◌∙◌, subst, arith}
-use Rattle.std.proofs.lemmas.List.Elements.{All-head, All-cons, All-contains, All-contains_itself, All-weaker, Contains-append_right}
+use Rattle.std.proofs.Common.{refl, sym, ap, ◌∙◌}
+use Rattle.std.proofs.lemmas.List.Elements.{All-cons, All-contains, All-contains_itself, All-weaker, Contains-append_right}
 use Rattle.lattice_core.specs.MemberLaws.{Contains-first}
 use Rattle.lattice_core.specs.Keep.{IsExactOrder}
 use Rattle.lattice_core.specs.Join.{IsJoin, Covers, joined_all, joined_all-IsLeastCover}
@@ -73,10 +72,6 @@ module _ {T : Type 0} {order : T → T → Ordering} (exact_order : IsExactOrder
   pub greater_join : IsJoin (ord_max order)
   greater_join = record { commutes = greater_commutes; associates = greater_associates; idempotent = greater_idempotent }
 
-  -- one value covers another where it isn't below it
-  pub Covers-greater : (a b : T) → is_lt (order a b) ≡ false → Covers (ord_max order) a b
-  Covers-greater a b h = greater_commutes a b ∙ ap (λ t. cond t b a) h
-
   pub not_below-Covers : (a b : T) → Covers (ord_max order) a b → is_lt (order a b) ≡ false
   not_below-Covers a b h =
       elim (order a b) as (λ r. order a b ≡ r → is_lt r ≡ false) [
@@ -114,13 +109,3 @@ module _ {T : Type 0} {order : T → T → Ordering} (exact_order : IsExactOrder
       let below : is_gt (order a b) ≡ false = All-contains (λ value. is_gt (order value b) ≡ false) values a is_b.above is_a.among in
       let above : is_gt (order b a) ≡ false = All-contains (λ value. is_gt (order value a) ≡ false) values b is_a.above is_b.among in
       exact_order.exact a b (level (order a b) below (turned b a ∙ above))
-
-  pub reduce-IsGreatest : (values : List T) (greatest : T) → reduce (ord_max order) values ≡ Some greatest → IsGreatest order values greatest
-  reduce-IsGreatest [] greatest e = cc
-  reduce-IsGreatest (first ∷ rest) greatest e =
-      let is : joined_all (ord_max order) first rest ≡ greatest = cc in
-      subst (IsGreatest order (first ∷ rest)) is (joined_all-IsGreatest first rest)
-
-  pub IsGreatest-reduce : (values : List T) (greatest : T) → IsGreatest order values greatest → reduce (ord_max order) values ≡ Some greatest
-  IsGreatest-reduce [] greatest is = absurd (omega (arith, is.among.1))
-  IsGreatest-reduce (first ∷ rest) greatest is = ap Some (IsGreatest-unique (first ∷ rest) _ greatest (joined_all-IsGreatest first rest) is)

@@ -1,9 +1,9 @@
 -- What a join is: Shapiro, Preguiça, Baquero and Zawirski, "Conflict-free replicated data types" (2011): replicas of a
 -- state-based type merge by the join of a semilattice. What a state covers is the semilattice's order.
-use Rattle.std.specs.Prelude.{◌≡◌, ◌↔◌, List, [], ◌∷◌, ◌++◌, Option, None, Some, All, Contains, fold, map}
-use Rattle.std.specs.List.{reduce, filter_map}
+use Rattle.std.specs.Prelude.{◌≡◌, ◌↔◌, List, [], ◌∷◌, Option, None, Some, All, Contains, fold}
+use Rattle.std.specs.List.{reduce}
 use Rattle.std.proofs.Common.{refl, sym, ap, ◌∙◌, subst}
-use Rattle.std.proofs.lemmas.List.Elements.{All-nil, All-head, All-tail, All-cons, All-contains, All-contains_itself, All-weaker, All-map}
+use Rattle.std.proofs.lemmas.List.Elements.{All-nil, All-head, All-tail, All-cons, All-contains, All-contains_itself, All-weaker}
 
 -- commutative, associative and idempotent
 pub record IsJoin {S : Type 0} (joined : S → S → S) : Type 0 where
@@ -73,26 +73,6 @@ module _ {S : Type 0} {joined : S → S → S} where
   }
 
 -- ---- lists of pairs and of options
--- the join of a list of pairs is the pair of the joins
-pub joined_all-pairs : {S T : Type 0} (by_first : S → S → S) (by_second : T → T → T) (first : S × T) (rest : List (S × T)) → joined_all (pair_joined by_first by_second) first rest ≡ (joined_all by_first first.0 (map (λ p. p.0) rest), joined_all by_second first.1 (map (λ p. p.1) rest))
-joined_all-pairs by_first by_second first [] = refl
-joined_all-pairs by_first by_second first (x ∷ rest) = joined_all-pairs by_first by_second (pair_joined by_first by_second first x) rest
-
-joined_all-Some : {S : Type 0} (joined : S → S → S) (first : S) (rest : List (Option S)) → joined_all (option_joined joined) (Some first) rest ≡ Some (joined_all joined first (filter_map (λ o. o) rest))
-joined_all-Some joined first [] = refl
-joined_all-Some joined first (None ∷ rest) = joined_all-Some joined first rest
-joined_all-Some joined first (Some x ∷ rest) = joined_all-Some joined (joined first x) rest
-
--- the join of a list of options is the join of the values that are there
-pub joined_all-options : {S : Type 0} (joined : S → S → S) (rest : List (Option S)) → joined_all (option_joined joined) None rest ≡ reduce joined (filter_map (λ o. o) rest)
-joined_all-options joined [] = refl
-joined_all-options joined (None ∷ rest) = joined_all-options joined rest
-joined_all-options joined (Some x ∷ rest) = joined_all-Some joined x rest
-
-All-from_map : {A B : Type 0} (P : B → Type 0) (read : A → B) (xs : List A) → All P (map read xs) → All (λ x. P (read x)) xs
-All-from_map P read [] all = All-nil (λ x. P (read x))
-All-from_map P read (x ∷ xs) all = All-cons (λ y. P (read y)) x xs (All-head P (read x) (map read xs) all) (All-from_map P read xs (All-tail P (read x) (map read xs) all))
-
 -- ---- the order that a join gives
 module _ {S : Type 0} {joined : S → S → S} (laws : IsJoin joined) where
   pub Covers-itself : (a : S) → Covers joined a a
@@ -120,20 +100,10 @@ module _ {S : Type 0} {joined : S → S → S} (laws : IsJoin joined) where
   pub IsBetween-low : (low high : S) → Covers joined high low → IsBetween joined low low high
   IsBetween-low low high h = record { covers_low = Covers-itself low; is_covered = h }
 
-  pub IsBetween-wider : (low' low state high high' : S) → Covers joined low low' → Covers joined high' high → IsBetween joined low state high → IsBetween joined low' state high'
-  IsBetween-wider low' low state high high' below above b = record {
-    covers_low = Covers-trans state low low' b.covers_low below;
-    is_covered = Covers-trans high' high state above b.is_covered;
-  }
-
   pub IsBetween-high : (low high : S) → Covers joined high low → IsBetween joined low high high
   IsBetween-high low high h = record { covers_low = h; is_covered = Covers-itself high }
 
   -- ---- the join of a list
-  pub joined_all-append : (first : S) (xs ys : List S) → joined_all joined first (xs ++ ys) ≡ joined_all joined (joined_all joined first xs) ys
-  joined_all-append first [] ys = refl
-  joined_all-append first (x ∷ xs) ys = joined_all-append (joined first x) xs ys
-
   Covers-joined_all_first : (first : S) (rest : List S) → Covers joined (joined_all joined first rest) first
   Covers-joined_all_first first [] = Covers-itself first
   Covers-joined_all_first first (x ∷ rest) = Covers-trans (joined_all joined (joined first x) rest) (joined first x) first (Covers-joined_all_first (joined first x) rest) (Covers-left first x)
@@ -161,9 +131,6 @@ module _ {S : Type 0} {joined : S → S → S} (laws : IsJoin joined) where
       let is : joined_all joined first rest ≡ whole = cc in
       subst (IsLeastCover joined (first ∷ rest)) is (joined_all-IsLeastCover first rest)
 
-  pub IsLeastCover-unique : (states : List S) (a b : S) → IsLeastCover joined states a → IsLeastCover joined states b → a ≡ b
-  IsLeastCover-unique states a b is_a is_b = Covers-antisymm a b (is_b.least a is_a.covers_all) (is_a.least b is_b.covers_all)
-
   -- neither the order nor repeats matter: lists with the same members join alike
   pub joined_all-same_members : (first : S) (rest : List S) (first' : S) (rest' : List S) → ((s : S) → Contains (first ∷ rest) s ↔ Contains (first' ∷ rest') s) → joined_all joined first rest ≡ joined_all joined first' rest'
   joined_all-same_members first rest first' rest' same =
@@ -172,33 +139,3 @@ module _ {S : Type 0} {joined : S → S → S} (laws : IsJoin joined) where
       Covers-antisymm (joined_all joined first rest) (joined_all joined first' rest')
       (theirs.least _ (All-weaker (Contains (first' ∷ rest')) (Covers joined (joined_all joined first rest)) (λ s h. All-contains (Covers joined (joined_all joined first rest)) (first ∷ rest) s mine.covers_all ((same s).1 h)) (first' ∷ rest') (All-contains_itself (first' ∷ rest'))))
       (mine.least _ (All-weaker (Contains (first ∷ rest)) (Covers joined (joined_all joined first' rest')) (λ s h. All-contains (Covers joined (joined_all joined first' rest')) (first' ∷ rest') s theirs.covers_all ((same s).0 h)) (first ∷ rest) (All-contains_itself (first ∷ rest))))
-
-  -- ---- parts of a list
-  joined_all-joined : (a b : S) (ys : List S) → joined_all joined (joined a b) ys ≡ joined a (joined_all joined b ys)
-  joined_all-joined a b [] = refl
-  joined_all-joined a b (y ∷ ys) = ap (λ s. joined_all joined s ys) (laws.associates a b y) ∙ joined_all-joined a (joined b y) ys
-
-  pub joined_all-push : (first : S) (xs : List S) (x : S) → joined_all joined first (xs ++ x ∷ []) ≡ joined (joined_all joined first xs) x
-  joined_all-push first xs x = joined_all-append first xs (x ∷ [])
-
-  -- the join of two lists together is the join of their joins
-  pub joined_all-union : (first : S) (xs ys : List S) → joined_all joined first (xs ++ ys) ≡ joined (joined_all joined first xs) (joined_all joined first ys)
-  joined_all-union first xs ys =
-      joined_all-append first xs ys
-      ∙ ap (λ s. joined_all joined s ys) (sym (Covers-joined_all_first first xs))
-      ∙ joined_all-joined (joined_all joined first xs) first ys
-
-  -- ---- a list of states that are read of other values
-  module _ {A : Type 0} (read : A → S) where
-    -- more values join to a state that covers
-    pub Covers-joined_all_read : (first : S) (xs ys : List A) → ((y : A) → Contains ys y → Contains xs y) → Covers joined (joined_all joined first (map read xs)) (joined_all joined first (map read ys))
-    Covers-joined_all_read first xs ys within =
-        let whole = joined_all joined first (map read xs) in
-        let covers_each : All (λ x. Covers joined whole (read x)) xs = All-from_map (Covers joined whole) read xs (Covers-joined_all_rest first (map read xs)) in
-        least_cover whole first (map read ys) (Covers-joined_all_first first (map read xs))
-        (All-map (Covers joined whole) read ys
-        (All-weaker (Contains ys) (λ y. Covers joined whole (read y)) (λ y h. All-contains (λ x. Covers joined whole (read x)) xs y covers_each (within y h)) ys (All-contains_itself ys)))
-
-    -- neither the order nor repeats of the values matter
-    pub joined_all-same_values : (first : S) (xs ys : List A) → ((x : A) → Contains xs x ↔ Contains ys x) → joined_all joined first (map read xs) ≡ joined_all joined first (map read ys)
-    joined_all-same_values first xs ys same = Covers-antisymm _ _ (Covers-joined_all_read first xs ys (λ y. (same y).1)) (Covers-joined_all_read first ys xs (λ x. (same x).0))

@@ -1,17 +1,17 @@
 -- Finite maps whose values are joined, key by key. A `FinMap` is always in the order of its keys, so two maps that
 -- answer alike at each key are one map, and the laws of a map's join follow from those of its values' at each key.
-use Rattle.std.specs.Prelude.{◌≡◌, ◌↔◌, ◌&&◌, T as Holds, Bool, true, false, cond, List, [], ◌∷◌, map, Option, None, Some, fold}
+use Rattle.std.specs.Prelude.{◌≡◌, ◌↔◌, T as Holds, true, false, cond, List, [], ◌∷◌, map, Option, None, Some, fold}
 use Rattle.std.specs.declared.cmp.Ordering.{Ordering}
 use Rattle.std.specs.declared.cmp.Ordering.TheVariants.{Less, Equal, Greater}
 use Rattle.std.specs.Ordering.{is_eq, is_lt, eq_by_cmp}
 use Rattle.std.specs.Cmp.{tied_itself}
-use Rattle.std.specs.List.{AllByRecursion, reduce, filter_map, cons_option}
+use Rattle.std.specs.List.{AllByRecursion}
 use Rattle.std.specs.FinMap.{FinMap, empty, get, insert, entries, from_entries, find, is_sorted, entries_sorted, get-insert, get-entries, get-empty, same_map}
 use Rattle.std.specs.FinMap.Entries.{below_all}
 use Rattle.std.proofs.Common.{refl, sym, ap, ◌∙◌, subst}
 use Rattle.lattice_core.specs.Tests.{first_of_both, second_of_both, equal}
 use Rattle.lattice_core.specs.Keep.{IsExactOrder}
-use Rattle.lattice_core.specs.Join.{IsJoin, IsBetween, Covers, option_joined, options_join, joined_all, joined_all-options, Covers-trans, Covers-left}
+use Rattle.lattice_core.specs.Join.{IsJoin, IsBetween, Covers, option_joined, options_join, Covers-trans, Covers-left}
 
 -- the map of these pairs, by the shapes of the keys and of the values
 abbrev pub map_of : {K V S T : Type 0} (order : S → S → Ordering) (key_shape : K → S) (value_shape : V → T) → List (K × V) → FinMap order T
@@ -48,10 +48,6 @@ option_joined-Some joined (Some w) v = refl
 option_joined-None : {T : Type 0} (joined : T → T → T) (o : Option T) → option_joined joined o None ≡ o
 option_joined-None joined None = refl
 option_joined-None joined (Some w) = refl
-
-filter_map-map : {A B : Type 0} (read : A → Option B) (xs : List A) → filter_map (λ o. o) (map read xs) ≡ filter_map read xs
-filter_map-map read [] = refl
-filter_map-map read (x ∷ xs) = ap (cons_option (read x)) (filter_map-map read xs)
 
 module _ {S T : Type 0} {order : S → S → Ordering} (exact_order : IsExactOrder order) where
   -- a key below all keys of a list isn't found in it
@@ -216,16 +212,3 @@ module _ {S T : Type 0} {order : S → S → Ordering} (exact_order : IsExactOrd
   pub map_joined-put_all : (joined : T → T → T) (m n : FinMap order T) → map_joined joined m n ≡ put_all joined m (entries n)
   unfolding map_joined
   map_joined-put_all joined m n = refl
-
-  -- ---- lists of maps
-  -- at each key, the join of what the maps have there
-  pub get-joined_all : (joined : T → T → T) (m : FinMap order T) (ms : List (FinMap order T)) (q : S) → get (joined_all (map_joined joined) m ms) q ≡ joined_all (option_joined joined) (get m q) (map (λ n. get n q) ms)
-  get-joined_all joined m [] q = refl
-  get-joined_all joined m (n ∷ ms) q = get-joined_all joined (map_joined joined m n) ms q ∙ ap (λ o. joined_all (option_joined joined) o (map (λ l. get l q) ms)) (get-map_joined joined m n q)
-
-  pub get-joined_all_from_empty : (joined : T → T → T) (ms : List (FinMap order T)) (q : S) → get (joined_all (map_joined joined) empty ms) q ≡ reduce joined (filter_map (λ m. get m q) ms)
-  get-joined_all_from_empty joined ms q =
-      get-joined_all joined empty ms q
-      ∙ ap (λ o. joined_all (option_joined joined) o (map (λ m. get m q) ms)) (get-empty order q)
-      ∙ joined_all-options joined (map (λ m. get m q) ms)
-      ∙ ap (reduce joined) (filter_map-map (λ m. get m q) ms)

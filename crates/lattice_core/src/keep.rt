@@ -122,6 +122,24 @@ impl Keep for usize {
     }
 }
 
+impl Keep for u128 {
+    ghost Shape = { ℕ };
+
+    ghost shape = { λ n. n };
+
+    ghost order = { nat_cmp };
+
+    ghost compares = { λ a b. refl };
+
+    ghost ordered = { numbers_exact };
+
+    fn copy(&self) -> Result<u128, NoMemory>
+        ensures { result ≡ Ok self.now }
+    {
+        Ok(*self)
+    }
+}
+
 impl Keep for i8 {
     ghost Shape = { ℤ };
 
@@ -188,6 +206,42 @@ impl Keep for i64 {
     ghost ordered = { integers_exact };
 
     fn copy(&self) -> Result<i64, NoMemory>
+        ensures { result ≡ Ok self.now }
+    {
+        Ok(*self)
+    }
+}
+
+impl Keep for i128 {
+    ghost Shape = { ℤ };
+
+    ghost shape = { λ n. n };
+
+    ghost order = { int_cmp };
+
+    ghost compares = { λ a b. refl };
+
+    ghost ordered = { integers_exact };
+
+    fn copy(&self) -> Result<i128, NoMemory>
+        ensures { result ≡ Ok self.now }
+    {
+        Ok(*self)
+    }
+}
+
+impl Keep for isize {
+    ghost Shape = { ℤ };
+
+    ghost shape = { λ n. n };
+
+    ghost order = { int_cmp };
+
+    ghost compares = { λ a b. refl };
+
+    ghost ordered = { integers_exact };
+
+    fn copy(&self) -> Result<isize, NoMemory>
         ensures { result ≡ Ok self.now }
     {
         Ok(*self)

@@ -23,11 +23,6 @@ abbrev pub Has : List (String Global) → List ℕ → Type 0
 Has [] text = ⊥
 Has (k ∷ ks) text = (string_bytes k ≡ text) ⊎ Has ks text
 
-pub Has-append : (done rest : List (String Global)) (text : List ℕ) → Has (done ++ rest) text → Has done text ⊎ Has rest text
-Has-append [] rest text h = inr h
-Has-append (k ∷ done) rest text (inl h) = inl (inl h)
-Has-append (k ∷ done) rest text (inr h) = ⊎_elim (λ d. inl (inr d)) inr (Has-append done rest text h)
-
 -- what is found has a key
 found_key : (o : Ordering) (k : String Global) (ks : List (String Global)) (text : List ℕ) (d : Data) (rest : Option Data)
     → slice_cmp nat_cmp text (string_bytes k) ≡ o → (IsSome rest → Has ks text) → IsSome (match_ordering o rest (Some d) rest) → Has (k ∷ ks) text

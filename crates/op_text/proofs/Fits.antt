@@ -45,10 +45,6 @@ pub required16 : (field : Field) → ((d : Data) → accepts field d ≡ is_with
     → IsSomeAnd (option_and_then number_in found) (λ k. k < 65536)
 required16 field by found h = IsSomeAnd-weaker _ (λ k. (0 ≤ k) × (k ≤ 65535)) (λ k. k < 65536) (λ k b. omega (arith, b.1)) (required_number field 0 65535 by found h)
 
--- the number that is there is within the bounds
-pub number_bounds : (n : Option ℕ) (k low high : ℕ) → IsSomeAnd n (λ m. (low ≤ m) × (m ≤ high)) → n ≡ Some k → (low ≤ k) × (k ≤ high)
-number_bounds n k low high h is = subst (λ o. IsSomeAnd o (λ m. (low ≤ m) × (m ≤ high))) is h
-
 pub optional_parent : (found : Option Data) → stands Optional Parent found ≡ true → IfSome (option_and_then number_in found) (λ k. k < 4294967296)
 optional_parent None h = tt
 optional_parent (Some d) h = parent_within (number_in d) h

@@ -1,5 +1,5 @@
 -- Ranks of which each follows from those of the ends are the distances.
-use Rattle.std.proofs.Common.{◌≡◌, ◌⊎◌, inl, inr, zero, suc, ℕ, ◌+◌, ◌<◌, ◌≤◌, Bool, List, [], Option, None, Some, length, refl, sym, ap, ◌∙◌, subst, arith}
+use Rattle.std.proofs.Common.{◌≡◌, ◌⊎◌, inl, inr, zero, suc, ℕ, ◌+◌, ◌<◌, ◌≤◌, Bool, List, [], Option, None, Some, length, refl, sym, ◌∙◌, subst, arith}
 use Rattle.std.specs.Prelude.{Contains, slice_get}
 use Rattle.std.proofs.lemmas.Bool.{cases_lt}
 use Rattle.std.proofs.lemmas.Option.{slice_get_within}
@@ -7,7 +7,7 @@ use Rattle.walk_core.specs.Walks.{Leads}
 use Rattle.walk_core.specs.Digraphs.{row, HasEdge, IsMarked, IsDistanceTo, AreDistances}
 use Rattle.lattice_core.specs.PlaceLaws.{at_Contains, at_below}
 use Rattle.ready_core.specs.Causes.{HasRank}
-use Rattle.ready_core.specs.Rounds.{IsRankOf, ComesFrom, IsNoFurther, Follows}
+use Rattle.ready_core.specs.Rounds.{IsRankOf, Follows}
 
 -- only a node has edges
 edge_row : (ends : Option (List ℕ)) (y : ℕ) → Contains (row ends) y → (found : List ℕ) × (ends ≡ Some found)

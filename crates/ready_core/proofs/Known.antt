@@ -1,13 +1,9 @@
 -- The first change of a list that isn't known.
-use Rattle.std.proofs.Common.{◌≡◌, ◌<◌, ◌≤◌, ◌↔◌, ℕ, List, length, get_or, Contains, Option, None, Some, IsTrue, is_some, refl, ◌∙◌, subst, arith, inl, inr}
-use Rattle.std.specs.FinMap as finite
+use Rattle.std.proofs.Common.{◌≡◌, ◌<◌, ◌≤◌, ℕ, List, length, get_or, Contains, ◌∙◌, subst, arith, inl, inr}
 use Rattle.std.specs.List.Sorted.{IsStrictlyIncreasing}
-use Rattle.std.proofs.lemmas.Bool.{false≢true}
 use Rattle.std.proofs.lemmas.List.{get_or_default}
 use Rattle.std.proofs.lemmas.List.Elements.{Contains-get_or}
 use Rattle.std.proofs.lemmas.List.Kept.{AllPairs-from_increasing}
-use Rattle.change_core.specs.Change.{Change}
-use Rattle.change_core.specs.Views.{IsCurrent, IsKnownSet}
 use Rattle.state_core.specs.State.{State}
 use Rattle.state_core.specs.Known.{IsKnown}
 use Rattle.lattice_core.specs.PlaceLaws.{earlier_or_same}

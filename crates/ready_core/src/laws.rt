@@ -1,6 +1,6 @@
 //! What holds of closed sets and of verdicts, over the definitions alone.
 
-ghost use Rattle.std.specs.Prelude.{◌≡◌, ◌↔◌, ℕ, Bool, List, Contains};
+ghost use Rattle.std.specs.Prelude.{◌≡◌, ◌↔◌, ◌<◌, ℕ, Bool, List, Contains, length};
 ghost use Rattle.std.proofs.Common.{suc};
 ghost use Rattle.walk_core.specs.Walks.{IsEdge, IsOfKind};
 ghost use Rattle.gate_rules.specs.Rules.{GateRules};
@@ -40,10 +40,13 @@ pub fn ready_items_are_the_greatest_closed_set()
 {}
 
 /// A law: an item that is left out for a dependency has a rank above 0, and the current item of that dependency is left out, too, with the rank
-/// below. So who follows these lines comes to an own condition, a cycle or an unknown change after as many steps as the rank says.
+/// below. So who follows these lines comes to an own condition, a cycle or an unknown change after as many steps as the rank says, which are
+/// fewer than the items that are left out.
 pub fn dependencies_lead_to_a_cause()
-    ensures { (gate : GateRules) → (state : State) → (verdicts : Judged) → AreVerdicts gate state verdicts
+    ensures leads { (gate : GateRules) → (state : State) → (verdicts : Judged) → AreVerdicts gate state verdicts
         → (left : Left) → Contains verdicts.out left → LeadsOn state verdicts left }
+    ensures short { (gate : GateRules) → (state : State) → (verdicts : Judged) → AreVerdicts gate state verdicts
+        → (left : Left) → Contains verdicts.out left → left.rank < length verdicts.out }
 {}
 
 /// A law: one state has one list of verdicts under one gate.

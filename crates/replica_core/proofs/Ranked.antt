@@ -26,11 +26,6 @@ module _ {T : Type 0} (test : T → Bool) where
       ))
       ∙ ap (λ t. cond t (suc (rank test xs)) 0) (sym (point.0 0 x (omega arith) (omega arith)))
 
-  -- where all pass it is the whole length
-  pub rank-all : (xs : List T) → AllByRecursion (λ x. test x ≡ true) xs → length xs ≡ rank test xs
-  rank-all [] all = refl
-  rank-all (x ∷ xs) all = ap suc (rank-all xs all.1) ∙ ap (λ t. cond t (suc (rank test xs)) 0) (sym all.0)
-
   -- a list in order parts at a test that no element passes after one that fails
   module _ (order : T → T → Ordering) (In : T → Type 0) (falls : (x y : T) → In x → In y → order x y ≡ Less → test y ≡ true → test x ≡ true) where
     pub parts : (xs : List T) → IsStrictlySortedBy order xs → AllByRecursion In xs → IsPartitionedBy test xs

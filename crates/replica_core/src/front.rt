@@ -31,7 +31,9 @@ impl Keep for Row {
 
     ghost ordered = { rows_exact };
 
-    fn copy(&self) -> Result<Row, NoMemory> {
+    fn copy(&self) -> Result<Row, NoMemory>
+        ensures { result ≡ Ok self.now }
+    {
         Ok(*self)
     }
 }
@@ -90,7 +92,9 @@ impl Join for Reach {
         self.seq == other.seq
     }
 
-    fn copy(&self) -> Result<Reach, NoMemory> {
+    fn copy(&self) -> Result<Reach, NoMemory>
+        ensures { result ≡ Ok self.now }
+    {
         Ok(*self)
     }
 }

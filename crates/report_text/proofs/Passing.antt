@@ -7,9 +7,6 @@ use Rattle.std.specs.Io.KnownBytes.{Appends}
 use Rattle.std.proofs.KnownBytes.{Appends-nil, Appends-trans}
 use Rattle.report_text.specs.Pages.{IsCut, Passes}
 
-pub Passes-nothing : (a : Option (List ℕ)) (w : List ℕ) → Passes a w a w []
-Passes-nothing a w = record { written = []; took = Appends-nil a; same = append-nil w }
-
 -- a text that is cut is cut whatever comes after it
 pub IsCut-more : (a c : Option (List ℕ)) (s t : List ℕ) → IsCut a c s → IsCut a c (s ++ t)
 IsCut-more a c s t cut =
@@ -49,11 +46,6 @@ module _ (a b c : Option (List ℕ)) (w v s t : List ℕ) (passes : Passes a w b
 -- room is made on the page
 pub Passes-room : (a b c : Option (List ℕ)) (w v u s : List ℕ) → Passes a w b v s → Passes b v c u [] → Passes a w c u s
 Passes-room a b c w v u s passes room = subst (Passes a w c u) (append-nil s) (Passes-then a b c w v s [] passes u room)
-
--- all that waits is sent
-pub Passes-sent : (a b c : Option (List ℕ)) (w v s : List ℕ) → Passes a w b v s → Appends b c v → Appends a c (w ++ s)
-Passes-sent a b c w v s passes sent =
-    subst (Appends a c) (sym passes.same) (Appends-trans a b c passes.written v passes.took sent)
 
 -- ---- lines, of which some have passed
 

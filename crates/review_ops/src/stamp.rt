@@ -101,7 +101,9 @@ impl Keep for Stamp {
 
     ghost ordered = { timestamps_exact };
 
-    fn copy(&self) -> Result<Stamp, NoMemory> {
+    fn copy(&self) -> Result<Stamp, NoMemory>
+        ensures { result ≡ Ok self.now }
+    {
         Ok(*self)
     }
 }

@@ -201,10 +201,6 @@ line_refused text number (op_fault.BadShape key) refusal only = (refl, refusal, 
 line_refused text number (op_fault.BadBody fault) refusal only = (refl, refusal, λ op spells. let e = only op spells in cc)
 line_refused text number op_fault.NoMemory refusal only = tt
 
--- the header is missing
-pub no_header : {lines : List (List ℕ)} (whole : List Operation) → IsFirstFault lines BadHeader → ¬ SaysOperations lines whole
-no_header whole bad says = bad says.1.first (says.1.front ++ says.0 ∷ []) says.1.form says.1.header
-
 -- ---- from the lines to the bytes
 
 pub refusal_of : (text : List ℕ) (fault : SnapFault) → length text ≤ most_bytes → IsFirstFault (lines_of text) fault → IsRefusal text fault × IsOfText fault

@@ -1,5 +1,5 @@
 -- A change with a known patch set has a greatest one.
-use Rattle.std.specs.Prelude.{◌≡◌, ◌≤◌, ℕ, List, [], ◌∷◌, Contains}
+use Rattle.std.specs.Prelude.{◌≤◌, ℕ, List, [], ◌∷◌, Contains}
 use Rattle.std.specs.FinMap.{get, entries}
 use Rattle.std.proofs.Common.{subst, arith, inl, inr}
 use Rattle.std.proofs.lemmas.Bool.{cases_lt}

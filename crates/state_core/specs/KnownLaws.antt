@@ -1,5 +1,5 @@
 -- The tests of what is known and merged say just that.
-use Rattle.std.specs.Prelude.{◌≡◌, ◌↔◌, ℕ, true, false, Option, None, Some, is_some, IsTrue}
+use Rattle.std.specs.Prelude.{◌≡◌, ◌↔◌, ℕ, true, Option, None, Some, is_some, IsTrue}
 use Rattle.std.specs.FinMap as finite
 use Rattle.std.proofs.Common.{refl, ap, ◌∙◌, subst}
 use Rattle.std.proofs.lemmas.Bool.{false≢true}
@@ -33,6 +33,3 @@ known_by state number change None stands none = (
   λ known. absurd (none known.set (subst (λ c. IsKnownSet c known.set) (one_change state number known.change change known.stands stands) known.known)),
 )
 known_by state number change (Some current) stands is = (λ e. record { change = change; stands = stands; set = current; known = is.known }, λ known. refl)
-
-pub unknown_by : (state : State) (number : ℕ) → finite.get state number ≡ None → ¬ IsKnown state number
-unknown_by state number none known = let stands = known.stands in cc

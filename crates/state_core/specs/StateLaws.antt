@@ -41,10 +41,6 @@ joined_to_option : (found : Option Change) (c : Change) → Some (joined_to chan
 joined_to_option None c = refl
 joined_to_option (Some a) c = refl
 
-joined_nothing : (found : Option Change) → found ≡ option_joined change_joined found None
-joined_nothing None = refl
-joined_nothing (Some a) = refl
-
 -- one more operation
 one_more : (journal : List Operation) (state : State) (op : Operation) → IsJournalState journal state → IsJournalState (journal ++ op ∷ []) (with_effect state op)
 one_more journal state op is change =
