@@ -10,3 +10,10 @@ pub mod SpreadReaches
 pub mod Members
 pub mod Settling
 pub mod Marks
+pub mod Labelling
+pub mod MarkLemmas
+pub mod Gathering
+pub mod Passing
+pub mod Blocks
+pub mod Kept
+pub mod Ordered

@@ -34,7 +34,7 @@ module _ (graph : List (List ℕ)) (node : ℕ) (start : List Place) (settled : 
         }))
 
     module _ (forth_places : List Place) (members : List ℕ) (forth : HasSpread (IsStep graph Forth) Behind OnCycle node back_places forth_places members) where
-      connected_found : (x : ℕ) → AreConnected graph node x → Contains members x
+      pub connected_found : (x : ℕ) → AreConnected graph node x → Contains members x
       connected_found x c = reaches_finds (IsStep graph Forth) Behind OnCycle node back_places forth_places members forth x c.forth
           (λ y m reached walk. (back.moved y (connected_behind y (record {
             forth = reached;
@@ -47,7 +47,7 @@ module _ (graph : List (List ℕ)) (node : ℕ) (start : List Place) (settled : 
         | inr here ↦ Reaches-turned (HasEdge graph) node x (back.moved x here).reached
       ]
 
-      found_connected : (x : ℕ) → Contains members x → AreConnected graph node x
+      pub found_connected : (x : ℕ) → Contains members x → AreConnected graph node x
       found_connected x here = let found = forth.moved x here in record { forth = found.reached; back = behind_reaches x found.was }
 
       module _ (end : List Place) (released : AreReleased behind forth_places end) where

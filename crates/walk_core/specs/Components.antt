@@ -1,13 +1,16 @@
 -- The nodes of a graph by what is known of them while its strongly connected components are found, one after another: a node's component is what a
 -- search back from it finds and a search forth finds again (Fleischer, Hendrickson and Pinar 2000). In the order of a search in depth the search
 -- back alone finds it (Sharir 1981).
-use Rattle.std.specs.Prelude.{◌≡◌, ◌≢◌, ◌⊎◌, ℕ, Bool, true, false, List, Contains, length, slice_index_or}
+use Rattle.std.specs.Prelude.{◌≡◌, ◌≢◌, ◌↔◌, ◌⊎◌, ◌<◌, ◌≤◌, ℕ, Bool, true, false, List, Contains, length, slice_index, slice_index_or}
+use Rattle.std.specs.Ordering.{nat_cmp}
 use Rattle.walk_core.specs.Walks.{Reaches, IsOnCycle}
+use Rattle.walk_core.specs.Ranks.{AreTogether, IsLeast}
 use Rattle.walk_core.specs.Digraphs.{HasEdge}
 use Rattle.walk_core.specs.declared.component.Place.{Place}
 use Rattle.walk_core.specs.declared.component.Place.TheVariants.{Waiting, Behind, OnCycle, OffCycle}
 use Rattle.walk_core.specs.declared.component.Way.{Way}
 use Rattle.walk_core.specs.declared.component.Way.TheVariants.{Back, Forth}
+use Rattle.walk_core.specs.declared.cycles.Components.{Components}
 
 -- a number that is no node is on no cycle
 abbrev pub place_of : List Place → ℕ → Place
@@ -89,3 +92,45 @@ pub record AreSettled (graph : List (List ℕ)) (places : List Place) : Type 0 w
 -- the node waits no longer, and no other begins to
 abbrev pub WaitsNoLonger : ℕ → List Place → List Place → Type 0
 WaitsNoLonger node before after = (x : ℕ) → place_of after x ≡ Waiting → (place_of before x ≡ Waiting) × (x ≢ node)
+
+-- ---- the first nodes of components
+
+-- it is the least node that the node is together with
+abbrev pub IsFirst : List (List ℕ) → ℕ → ℕ → Type 0
+IsFirst graph x first = IsLeast nat_cmp (AreTogether (HasEdge graph) x) first
+
+-- each node has the first that it is together with
+pub record AreFirsts (graph : List (List ℕ)) (firsts : List ℕ) : Type 0 where
+  pub size : length firsts ≡ length graph
+  pub each : (x : ℕ) → x < length graph → IsFirst graph x (slice_index firsts x)
+
+-- of some nodes each has this first now, and each other node has what it had
+pub record AreLabelled (nodes : List ℕ) (first : ℕ) (before after : List ℕ) : Type 0 where
+  pub size : length after ≡ length before
+  pub each : (x : ℕ) → (Contains nodes x × (slice_index after x ≡ first)) ⊎ ((¬ Contains nodes x) × (slice_index after x ≡ slice_index before x))
+
+-- it is the least of a node and some others
+pub record IsLeastOf (others : List ℕ) (node first : ℕ) : Type 0 where
+  pub here : (first ≡ node) ⊎ Contains others first
+  pub own : first ≤ node
+  pub least : (x : ℕ) → Contains others x → first ≤ x
+
+-- what was found of components: of a node that is known to be on a cycle its first node, and each node that waits no longer; other nodes have
+-- themselves as first node
+pub record AreFound (graph : List (List ℕ)) (places : List Place) (firsts nodes : List ℕ) : Type 0 where
+  pub settled : AreSettled graph places
+  pub size : length firsts ≡ length graph
+  pub on : (x : ℕ) → place_of places x ≡ OnCycle → IsFirst graph x (slice_index firsts x)
+  pub other : (x : ℕ) → x < length graph → place_of places x ≢ OnCycle → slice_index firsts x ≡ x
+  pub listed : (x : ℕ) → x < length graph → Contains nodes x ⊎ (place_of places x ≡ Waiting)
+  pub within : (x : ℕ) → Contains nodes x → x < length graph
+
+abbrev pub HasFound : {A : Type 0} → List (List ℕ) → Components A → Type 0
+HasFound graph components = AreFound graph components.places.items components.firsts.items components.nodes.items
+
+-- all components were found
+pub record HasFoundAll {A : Type 0} (graph : List (List ℕ)) (components : Components A) : Type 0 where
+  pub settled : AreSettled graph components.places.items
+  pub none : (x : ℕ) → place_of components.places.items x ≢ Waiting
+  pub firsts : AreFirsts graph components.firsts.items
+  pub nodes : (x : ℕ) → Contains components.nodes.items x ↔ x < length graph

@@ -1,5 +1,10 @@
 pub mod Walks
+pub mod SortedLists
+pub mod Ranks
+pub mod RankLaws
 pub mod Digraphs
 pub mod Components
 pub mod Edges
 pub mod Levels
+pub mod Marks
+pub mod NodeRanks

@@ -2,7 +2,7 @@
 //! first, and a search forth over these finds the second. Both go one edge or more, so they find nothing of a node that is on no cycle.
 
 ghost use Rattle.std.specs.Prelude.{◌≡◌, ◌↔◌, ◌<◌, ℕ, All, Contains, IfOk, OnOk, length};
-ghost use Rattle.walk_core.specs.Components.{AreReleased, AreSettled, HasComponent, HasSpread, IsStep, found_place, is_on_cycle, place_of, sought_place};
+ghost use Rattle.walk_core.specs.Components.{AreConnected, AreReleased, AreSettled, HasComponent, HasSpread, IsStep, found_place, is_on_cycle, place_of, sought_place};
 ghost use Rattle.walk_core.specs.declared.component.Place.TheVariants.{Waiting};
 
 use super::digraph::Digraph;
@@ -75,22 +75,23 @@ impl Way {
     }
 }
 
-/// Tells all nodes that a waiting node is on a cycle with. It tells nothing of a node that is on none.
+/// Tells all nodes that a waiting node is on a cycle with, and answers them. It tells nothing of a node that is on none.
 pub fn find_component<A: Allocator + Copy>(
     alloc: A,
     graph: &Digraph<A>,
     places: &mut Vec<Place, A>,
     node: usize,
-) -> Result<(), NoMemory>
+) -> Result<Vec<usize, A>, NoMemory>
     requires settled { AreSettled graph.now places.old.items }
     requires node { node < length graph.now }
     requires waits { place_of places.old.items node ≡ Waiting }
-    ensures { OnOk result (HasComponent graph.now node places.old.items places.new.items) }
+    ensures places { OnOk result (HasComponent graph.now node places.old.items places.new.items) }
+    ensures members { IfOk result (λ members. (x : ℕ) → Contains members.items x ↔ AreConnected graph.now node x) }
 {
     let behind = spread(alloc, graph, places, Way::Back, node)?;
-    spread(alloc, graph, places, Way::Forth, node)?;
+    let members = spread(alloc, graph, places, Way::Forth, node)?;
     release(places, behind.as_slice());
-    Ok(())
+    Ok(members)
 }
 
 /// Goes one step or more from a node, as far as sought nodes lead, and answers the nodes that it found. It takes time and memory that grow with

@@ -127,7 +127,7 @@ fn comes_back(
 }
 
 /// The edge's end is reached if it begins at the start or at a node that is reached.
-fn relax(reached: &mut Vec<bool>, begins: bool, from: usize, to: usize) {
+pub(super) fn relax(reached: &mut Vec<bool>, begins: bool, from: usize, to: usize) {
     let from_reached = reached.get(from).copied().unwrap_or(false);
     if let Some(end) = reached.get_mut(to)
         && (begins || from_reached)
@@ -150,7 +150,7 @@ fn assert_plain(
 }
 
 /// The graph that has an edge for each 1 among the binary digits of its number.
-fn numbered_edges(
+pub(super) fn numbered_edges(
     alloc: Global,
     nodes: usize,
     number: u32,

@@ -1,8 +1,11 @@
 ghost use Rattle.std.specs.Prelude.{◌≡◌, ◌↔◌, ◌<◌, ℕ, List, [], All, Contains, IfOk, OnOk, length, map, replicate};
-ghost use Rattle.walk_core.specs.Digraphs.{AddsEdges, AreDistances, AreOnCycles, HasEdge, IsReversed, IsWithin, ends_of};
+ghost use Rattle.std.specs.Ordering.{nat_cmp};
+ghost use Rattle.walk_core.specs.Digraphs.{AddsEdges, AreDistances, AreOnCycles, HasEdge, IsMarked, IsReversed, IsWithin, ends_of};
+ghost use Rattle.walk_core.specs.Ranks.{IsInRankOrder};
 
 use super::cycles::cycle_flags;
 use super::distances::distances_to;
+use super::ranks::ranked_nodes;
 use lattice_core::NoMemory;
 use std::alloc::{Allocator, Global};
 use std::marker::Model;
@@ -81,6 +84,17 @@ impl<A: Allocator + Copy> Digraph<A> {
         ensures { IfOk result (λ marked. AreOnCycles self.now marked.items) }
     {
         cycle_flags(self.alloc, self)
+    }
+
+    /// The kept nodes, which hold the ends of their edges, in rank order: by how many nodes each leads to, itself among them, so that each comes after
+    /// what it leads to; the nodes of a cycle, which lead to the same nodes, stand together, by the first of them. For each 512 kept nodes it takes
+    /// the time of a walk over all kept nodes and their edges, and memory that grows with the nodes and edges.
+    pub fn in_rank_order(&self, kept: &[bool]) -> Result<Vec<usize, A>, NoMemory>
+        requires sized { length kept.now ≡ length self.now }
+        requires closed { (x y : ℕ) → IsMarked kept.now x → HasEdge self.now x y → IsMarked kept.now y }
+        ensures { IfOk result (λ nodes. IsInRankOrder nat_cmp (HasEdge self.now) (IsMarked kept.now) nodes.items) }
+    {
+        ranked_nodes(self.alloc, self, kept)
     }
 }
 

@@ -43,7 +43,7 @@ pub fn finishing_order<A: Allocator + Copy>(
 }
 
 /// The numbers of so many nodes.
-fn all_nodes<A: Allocator + Copy>(alloc: A, count: usize) -> Result<Vec<usize, A>, NoMemory>
+pub fn all_nodes<A: Allocator + Copy>(alloc: A, count: usize) -> Result<Vec<usize, A>, NoMemory>
     ensures { IfOk result (λ nodes. nodes.items ≡ range_with_len 0 count) }
 {
     let nodes = (0..count).collect(alloc)?;

@@ -2,6 +2,9 @@
 
 ghost use Rattle.std.specs.Prelude.{◌≡◌, ◌↔◌, ◌≤◌, ℕ, Bool, List, Option, length, slice_get};
 ghost use Rattle.std.proofs.Common.{suc};
+ghost use Rattle.std.specs.declared.cmp.Ordering.{Ordering};
+ghost use Rattle.lattice_core.specs.Keep.{IsExactOrder};
+ghost use Rattle.walk_core.specs.Ranks.{EndsStandBefore, IsInRankOrder, TogetherStandTogether};
 ghost use Rattle.walk_core.specs.Digraphs.{AreDistances, HasEdge, IsMarked, IsWithin};
 ghost use Rattle.walk_core.specs.Walks.{BeginsFewest, IsDistance, IsEdge, IsOfKind, IsOnCycle, Leads, Reaches};
 
@@ -41,4 +44,16 @@ pub fn distances_along_edges()
     ensures before { (graph : List (List ℕ)) → (marked : List Bool) → (distances : List (Option ℕ))
         → AreDistances graph marked distances → (x y m : ℕ) → HasEdge graph x y
         → slice_get distances y ≡ Some (Some m) → (n : ℕ) × (slice_get distances x ≡ Some (Some n)) }
+{}
+
+/// A law: in rank order the end of each edge stands before its start or is together with it, what stands between two nodes that are together is
+/// together with them, and a kind of nodes that holds the ends of its edges has one such list.
+pub fn rank_order_is_one<N>()
+    ensures ends { (cmp : N → N → Ordering) → IsExactOrder cmp → (ends : N → List N) → (kind : N → Bool)
+        → ((x y : N) → IsOfKind kind x → IsEdge ends x y → IsOfKind kind y) → (nodes : List N)
+        → IsInRankOrder cmp (IsEdge ends) (IsOfKind kind) nodes → EndsStandBefore (IsEdge ends) nodes }
+    ensures together { (cmp : N → N → Ordering) → IsExactOrder cmp → (ends : N → List N) → (kind : N → Bool) → (nodes : List N)
+        → IsInRankOrder cmp (IsEdge ends) (IsOfKind kind) nodes → TogetherStandTogether (IsEdge ends) nodes }
+    ensures once { (cmp : N → N → Ordering) → IsExactOrder cmp → (ends : N → List N) → (kind : N → Bool) → (a b : List N)
+        → IsInRankOrder cmp (IsEdge ends) (IsOfKind kind) a → IsInRankOrder cmp (IsEdge ends) (IsOfKind kind) b → a ≡ b }
 {}

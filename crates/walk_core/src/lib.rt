@@ -1,7 +1,9 @@
 //! Directed graphs: walks, distances and cycles.
 #![tactic(auto)]
 
+mod block;
 mod component;
+mod counts;
 #[cfg(test)]
 mod cycle_tests;
 mod cycles;
@@ -10,7 +12,10 @@ mod distances;
 mod finish;
 mod laws;
 #[cfg(test)]
+mod rank_tests;
+mod ranks;
+#[cfg(test)]
 mod tests;
 
 pub use digraph::Digraph;
-pub use laws::{distances_along_edges, distances_go_down, reaching_goes_on};
+pub use laws::{distances_along_edges, distances_go_down, rank_order_is_one, reaching_goes_on};
