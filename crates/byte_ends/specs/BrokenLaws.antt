@@ -1,7 +1,7 @@
 -- When the one failure of a broken end comes, over the calls that went before: moves are how many bytes each moved.
 use Rattle.std.specs.Prelude.{◌≡◌, ℕ, ◌+◌, ◌-◌, ◌<◌, ◌↔◌, ◌==◌, ◌&&◌, nat_lt, Bool, true, false, List, [], ◌∷◌, length, fold, sum}
 use Rattle.std.proofs.Common.{refl, ap, ◌∙◌, arith}
-use Rattle.std.proofs.lemmas.Bool.{eqb-true, eq-eqb, ltb-true, lt-ltb}
+use Rattle.std.proofs.lemmas.Bool.{and_from, and_parts, eqb-true, eq-eqb, ltb-true, lt-ltb}
 use Rattle.std.proofs.lemmas.List.Sums.{sum_by-cons}
 use Rattle.byte_ends.specs.declared.breaking.Due.TheVariants.{AtCall, BeforeByte, Past}
 use Rattle.byte_ends.specs.Broken.{is_due, due_after}
@@ -14,14 +14,6 @@ after_bytes : (n : ℕ) (moves : List ℕ) → fold due_after (BeforeByte n) mov
 after_bytes n [] = ap BeforeByte (omega arith)
 after_bytes n (m ∷ moves) = after_bytes (n - m) moves ∙ ap BeforeByte (omega (arith, sum_by-cons (λ x. x) m moves))
 
-both_true : (a b : Bool) → (a && b) ≡ true → (a ≡ true) × (b ≡ true)
-both_true true b e = (refl, e)
-both_true false b e = cc
-
-true_both : (a b : Bool) → a ≡ true → b ≡ true → (a && b) ≡ true
-true_both true b p q = q
-true_both false b p q = cc
-
 -- it comes at the nth call
 pub due_at_call : (n : ℕ) (moves : List ℕ) (len : ℕ) → (is_due (fold due_after (AtCall n) moves) len ≡ true) ↔ (length moves + 1 ≡ n)
 due_at_call n moves len = rw (after_calls n moves) (λ e. let is = eqb-true (n - length moves) 1 e in omega arith, λ e. eq-eqb (n - length moves) 1 (omega arith))
@@ -31,12 +23,12 @@ pub due_before_byte : (n : ℕ) (moves : List ℕ) (len : ℕ) → (is_due (fold
 due_before_byte n moves len =
     rw (after_bytes n moves) (
       λ e.
-          let both = both_true (n - sum moves == 1) (nat_lt 0 len) e in
+          let both = and_parts (n - sum moves == 1) (nat_lt 0 len) e in
           let is = eqb-true (n - sum moves) 1 both.0 in
           (omega arith, ltb-true 0 len both.1),
       λ e.
           let is = eq-eqb (n - sum moves) 1 (let here = e.0 in omega arith) in
-          true_both (n - sum moves == 1) (nat_lt 0 len) is (lt-ltb 0 len e.1),
+          and_from (n - sum moves == 1) (nat_lt 0 len) is (lt-ltb 0 len e.1),
     )
 
 -- no other comes

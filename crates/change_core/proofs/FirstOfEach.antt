@@ -10,23 +10,14 @@ use Rattle.std.specs.FinMap.Entries.{below_all, is_sorted}
 use Rattle.std.proofs.lemmas.Cmp.{ranked}
 use Rattle.std.proofs.lemmas.List.Elements.{Contains-append_right}
 use Rattle.std.proofs.lemmas.Map.Keys.{IsStrictlyIncreasing-from_sorted}
+use Rattle.lattice_core.specs.Tests.{first_of_both, second_of_both}
+use Rattle.lattice_core.specs.MemberLaws.{Contains-cons_cases, Contains-first, Contains-later}
+use Rattle.lattice_core.specs.EntryLaws.{some_of}
 use Rattle.lattice_core.specs.JoinMap.{AllByRecursion-entries}
 use Rattle.review_ops.specs.Timestamp.{Timestamp}
 use Rattle.change_core.specs.Slots.{Slot, slot_cmp, slots_exact}
 use Rattle.change_core.specs.Change.{Change}
 use Rattle.change_core.specs.Votes.{AreVotedSets, sets_among, first_of_each}
-use Rattle.change_core.proofs.LastEntry.{first_of_both, second_of_both, some_of}
-
--- ---- members
-at_head : {X : Type 0} (x : X) (xs : List X) → Contains (x ∷ xs) x
-at_head x xs = (0, omega arith, refl)
-
-later : {X : Type 0} (y : X) (xs : List X) (x : X) → Contains xs x → Contains (y ∷ xs) x
-later y xs x h = Contains-append_right (y ∷ []) xs x h
-
-head_or_later : {X : Type 0} (y : X) (xs : List X) (x : X) → Contains (y ∷ xs) x → (y ≡ x) ⊎ Contains xs x
-head_or_later y xs x (zero, l, e) = inl e
-head_or_later y xs x (suc k, l, e) = inr (k, omega arith, e)
 
 equal_numbers : (a b : ℕ) → (a == b) ≡ true → a ≡ b
 equal_numbers a b e = grind (arith)
@@ -34,40 +25,40 @@ equal_numbers a b e = grind (arith)
 -- a first one is one
 was_there : (last : Option ℕ) (ns : List ℕ) (n : ℕ) → Contains (first_of_each last ns) n → Contains ns n
 was_there last [] n h = h
-was_there None (m ∷ ns) n h = elim (head_or_later m _ n h) [
-  | inl same ↦ subst (Contains (m ∷ ns)) same (at_head m ns)
-  | inr rest ↦ later m ns n (was_there (Some m) ns n rest)
+was_there None (m ∷ ns) n h = elim (Contains-cons_cases m _ n h) [
+  | inl same ↦ subst (Contains (m ∷ ns)) same (Contains-first m ns)
+  | inr rest ↦ Contains-later m ns n (was_there (Some m) ns n rest)
 ]
 was_there (Some last) (m ∷ ns) n h =
     elim (m == last) as (λ t. Contains (cond t (first_of_each (Some last) ns) (m ∷ first_of_each (Some m) ns)) n → Contains (m ∷ ns) n) [
-      | true ↦ λ rest. later m ns n (was_there (Some last) ns n rest)
-      | false ↦ λ found. elim (head_or_later m _ n found) [
-        | inl same ↦ subst (Contains (m ∷ ns)) same (at_head m ns)
-        | inr rest ↦ later m ns n (was_there (Some m) ns n rest)
+      | true ↦ λ rest. Contains-later m ns n (was_there (Some last) ns n rest)
+      | false ↦ λ found. elim (Contains-cons_cases m _ n found) [
+        | inl same ↦ subst (Contains (m ∷ ns)) same (Contains-first m ns)
+        | inr rest ↦ Contains-later m ns n (was_there (Some m) ns n rest)
       ]
     ] h
 
 -- each one has its first one, but where it is the last before
 has_first : (last : Option ℕ) (ns : List ℕ) (n : ℕ) → Contains ns n → (last ≡ Some n) ⊎ Contains (first_of_each last ns) n
 has_first last [] n h = inr h
-has_first None (m ∷ ns) n h = elim (head_or_later m ns n h) [
-  | inl same ↦ inr (subst (Contains (m ∷ first_of_each (Some m) ns)) same (at_head m _))
+has_first None (m ∷ ns) n h = elim (Contains-cons_cases m ns n h) [
+  | inl same ↦ inr (subst (Contains (m ∷ first_of_each (Some m) ns)) same (Contains-first m _))
   | inr rest ↦ elim (has_first (Some m) ns n rest) [
-    | inl same ↦ let is : m ≡ n = cc in inr (subst (Contains (m ∷ first_of_each (Some m) ns)) is (at_head m _))
-    | inr found ↦ inr (later m _ n found)
+    | inl same ↦ let is : m ≡ n = cc in inr (subst (Contains (m ∷ first_of_each (Some m) ns)) is (Contains-first m _))
+    | inr found ↦ inr (Contains-later m _ n found)
   ]
 ]
 has_first (Some last) (m ∷ ns) n h =
     elim (m == last) as (λ t. (m == last) ≡ t → (Some last ≡ Some n) ⊎ Contains (cond t (first_of_each (Some last) ns) (m ∷ first_of_each (Some m) ns)) n) [
-      | true ↦ λ t. elim (head_or_later m ns n h) [
+      | true ↦ λ t. elim (Contains-cons_cases m ns n h) [
         | inl same ↦ inl (ap Some (sym (equal_numbers m last t) ∙ same))
         | inr rest ↦ has_first (Some last) ns n rest
       ]
-      | false ↦ λ t. elim (head_or_later m ns n h) [
-        | inl same ↦ inr (subst (Contains (m ∷ first_of_each (Some m) ns)) same (at_head m _))
+      | false ↦ λ t. elim (Contains-cons_cases m ns n h) [
+        | inl same ↦ inr (subst (Contains (m ∷ first_of_each (Some m) ns)) same (Contains-first m _))
         | inr rest ↦ elim (has_first (Some m) ns n rest) [
-          | inl same ↦ let is : m ≡ n = cc in inr (subst (Contains (m ∷ first_of_each (Some m) ns)) is (at_head m _))
-          | inr found ↦ inr (later m _ n found)
+          | inl same ↦ let is : m ≡ n = cc in inr (subst (Contains (m ∷ first_of_each (Some m) ns)) is (Contains-first m _))
+          | inr found ↦ inr (Contains-later m _ n found)
         ]
       ]
     ] refl
@@ -133,14 +124,14 @@ sets_never_fall (e ∷ es) h = (
 
 from_register : (P : Slot → Type 0) (es : Registers) (set : ℕ) → AllByRecursion (λ e. P e.0) es → Contains (sets_among es) set → (slot : Slot) × (slot.set ≡ set) × P slot
 from_register P [] set all h = absurd (omega (arith, h.1))
-from_register P (e ∷ es) set all h = elim (head_or_later e.0.set (sets_among es) set h) [
+from_register P (e ∷ es) set all h = elim (Contains-cons_cases e.0.set (sets_among es) set h) [
   | inl same ↦ (e.0, same, all.0)
   | inr rest ↦ from_register P es set all.1 rest
 ]
 
 each_among : (es : Registers) → AllByRecursion (λ e. Contains (sets_among es) e.0.set) es
 each_among [] = tt
-each_among (e ∷ es) = (at_head e.0.set (sets_among es), weaker (λ x. Contains (sets_among es) x.0.set) (λ x. Contains (sets_among (e ∷ es)) x.0.set) (λ x h. later e.0.set (sets_among es) x.0.set h) es (each_among es))
+each_among (e ∷ es) = (Contains-first e.0.set (sets_among es), weaker (λ x. Contains (sets_among es) x.0.set) (λ x. Contains (sets_among (e ∷ es)) x.0.set) (λ x h. Contains-later e.0.set (sets_among es) x.0.set h) es (each_among es))
 
 pub voted_sets_are : (change : Change) → AreVotedSets change (first_of_each None (sets_among (finite.entries change.votes)))
 voted_sets_are change =

@@ -10,18 +10,12 @@ use Rattle.std.proofs.lemmas.Cmp.{ranked}
 use Rattle.std.proofs.lemmas.List.{map-append}
 use Rattle.review_ops.specs.Timestamp.{Timestamp}
 use Rattle.change_core.specs.Slots.{Patch}
+use Rattle.lattice_core.specs.Tests.{first_of_both, second_of_both}
+use Rattle.lattice_core.specs.EntryLaws.{some_of}
 use Rattle.lattice_core.specs.Keep.{numbers_exact}
 use Rattle.lattice_core.specs.JoinMap.{AllByRecursion-entries}
 use Rattle.change_core.specs.Change.{Change}
 use Rattle.change_core.specs.Views.{IsGreatestKnown, IsKnownSet}
-
-pub first_of_both : (a b : Bool) → T (a && b) → T a
-first_of_both true b h = tt
-first_of_both false b h = h
-
-pub second_of_both : (a b : Bool) → T (a && b) → T b
-second_of_both true b h = h
-second_of_both false b h = absurd h
 
 below_from_less : (a b : ℕ) (r : Ordering) → MatchOrdering r (a < b) (a ≡ b) (b < a) → T (is_lt r) → a ≤ b
 below_from_less a b Less h t = omega arith
@@ -42,10 +36,6 @@ module _ {X : Type 0} where
   all_up_to_last (x ∷ es) e h =
       let first = below_last x.0 es e (first_of_both (below_all nat_cmp x.0 (es ++ e ∷ [])) (is_sorted nat_cmp (es ++ e ∷ [])) h) in
       (below_from_less x.0 e.0 (nat_cmp x.0 e.0) (ranked x.0 e.0 (nat_cmp x.0 e.0) refl) first, all_up_to_last es e (second_of_both (below_all nat_cmp x.0 (es ++ e ∷ [])) (is_sorted nat_cmp (es ++ e ∷ [])) h))
-
-pub some_of : {X : Type 0} (o : Option X) → IsSome o → (x : X) × (o ≡ Some x)
-some_of None h = cc
-some_of (Some x) h = (x, refl)
 
 -- what a walk over the entries of a change shows of each, from the back
 module _ {K : Type 0} (shown : ℕ × K → ℕ × (Timestamp × Patch)) (change view : Change) (same : view ≡ change) (es : List (ℕ × K)) (are : map shown es ≡ finite.entries view.sets) where

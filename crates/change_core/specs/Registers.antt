@@ -8,6 +8,7 @@ use Rattle.std.specs.Cmp.{upto, tied_itself}
 use Rattle.std.proofs.Common.{refl, sym, ap, ◌∙◌, subst, arith}
 use Rattle.std.proofs.lemmas.List.{append-nil}
 use Rattle.std.proofs.lemmas.List.Elements.{All-nil, All-cons, All-append, All-weaker, All-contains, All-contains_itself, Contains-append_left, Contains-append_right}
+use Rattle.lattice_core.specs.MemberLaws.{Contains-none}
 use Rattle.lattice_core.specs.Keep.{IsExactOrder}
 use Rattle.lattice_core.specs.Join.{option_joined}
 use Rattle.lattice_core.specs.Greatest.{IsGreatest, IsGreatest-unique}
@@ -26,9 +27,6 @@ not_below : (r : Ordering) → is_lt r ≡ false → is_gt (ordering_reverse r) 
 not_below Less e = cc
 not_below Equal e = refl
 not_below Greater e = refl
-
-none_in_nothing : {T : Type 0} (x : T) → Contains [] x → ⊥
-none_in_nothing x h = absurd (omega (arith, h.1))
 
 module _ {T : Type 0} {order : T → T → Ordering} (exact_order : IsExactOrder order) where
   -- the greater of two registers' values is the greatest of all that was written to either
@@ -57,8 +55,8 @@ module _ {T : Type 0} {order : T → T → Ordering} (exact_order : IsExactOrder
   -- a register holds one thing
   pub IsRegister-unique : (xs : List T) (r s : Option T) → IsRegister order xs r → IsRegister order xs s → r ≡ s
   IsRegister-unique xs None None is_r is_s = refl
-  IsRegister-unique xs None (Some b) is_r is_s = absurd (none_in_nothing b (subst (λ l. Contains l b) is_r is_s.among))
-  IsRegister-unique xs (Some a) None is_r is_s = absurd (none_in_nothing a (subst (λ l. Contains l a) is_s is_r.among))
+  IsRegister-unique xs None (Some b) is_r is_s = absurd (Contains-none b (subst (λ l. Contains l b) is_r is_s.among))
+  IsRegister-unique xs (Some a) None is_r is_s = absurd (Contains-none a (subst (λ l. Contains l a) is_s is_r.among))
   IsRegister-unique xs (Some a) (Some b) is_r is_s = ap Some (IsGreatest-unique exact_order xs a b is_r is_s)
 
   -- what was written once
@@ -71,7 +69,7 @@ module _ {T : Type 0} {order : T → T → Ordering} (exact_order : IsExactOrder
 -- what was written counts, and neither in which order nor how often
 pub IsRegister-same : {T : Type 0} (order : T → T → Ordering) (xs ys : List T) (r : Option T) → ((x : T) → Contains xs x → Contains ys x) → ((x : T) → Contains ys x → Contains xs x) → IsRegister order xs r → IsRegister order ys r
 IsRegister-same order xs [] None there back is = refl
-IsRegister-same order xs (y ∷ ys) None there back is = absurd (none_in_nothing y (subst (λ l. Contains l y) is (back y (0, omega arith, refl))))
+IsRegister-same order xs (y ∷ ys) None there back is = absurd (Contains-none y (subst (λ l. Contains l y) is (back y (0, omega arith, refl))))
 IsRegister-same order xs ys (Some a) there back is = record {
   among = there a is.among;
   above = All-weaker (Contains xs) (λ value. is_gt (order value a) ≡ false) (λ value h. All-contains (λ v. is_gt (order v a) ≡ false) xs value is.above h) ys

@@ -8,6 +8,7 @@ use Rattle.std.proofs.Common.{refl, sym, ap, ◌∙◌, subst, inl, inr, arith}
 use Rattle.std.proofs.lemmas.List.Elements.{filter_map-append, Contains-append_right}
 use Rattle.std.proofs.lemmas.Bool.{false≢true, false_from_ne_true}
 use Rattle.std.proofs.lemmas.List.Folds.{list_any-append}
+use Rattle.lattice_core.specs.MemberLaws.{Contains-cons_cases}
 use Rattle.lattice_core.specs.Keep.{IsExactOrder, numbers_exact}
 use Rattle.lattice_core.specs.Join.{option_joined}
 use Rattle.lattice_core.specs.JoinMap.{get-map_joined, same_at_each_key, empty-map_joined}
@@ -112,10 +113,6 @@ state_of_one op = record {
 }
 
 -- ---- neither order nor repeats count
-Contains-cons_cases : {X : Type 0} (y : X) (xs : List X) (x : X) → Contains (y ∷ xs) x → (y ≡ x) ⊎ Contains xs x
-Contains-cons_cases y xs x (zero, l, e) = inl e
-Contains-cons_cases y xs x (suc k, l, e) = inr (k, omega arith, e)
-
 module _ {X Y : Type 0} (read : X → Option Y) where
   what_was_read : (xs : List X) (y : Y) → Contains (filter_map read xs) y → (x : X) × Contains xs x × (read x ≡ Some y)
   what_was_read [] y (k, l, e) = absurd (omega arith)

@@ -1,7 +1,6 @@
 mod Bads
 mod Blanks
 mod Collected
-mod Copies
 mod Forms
 mod Names
 mod Numbers

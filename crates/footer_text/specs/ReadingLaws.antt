@@ -6,6 +6,7 @@ use Rattle.std.specs.Str.Parse.{digits_value}
 use Rattle.std.proofs.lemmas.Str.Parse.{tells_all_ascii_digits}
 use Rattle.std.proofs.lemmas.List.{append_cancel_left}
 use Rattle.std.proofs.lemmas.List.Elements.{Contains-append_right}
+use Rattle.lattice_core.specs.MemberLaws.{Contains-first}
 use Rattle.footer_text.specs.Cuts.{Lacks, Lacks-append, Lacks-middle, cut_first, cut_last, digits_lack}
 use Rattle.footer_text.specs.Readings.{SpellsChange, IsPatch, IsTail, IsNumberAndTail, IsForm, ReadsAs, NamesChange}
 
@@ -150,9 +151,6 @@ ReadsAs-same base value j k m n =
     IsNumberAndTail-same m.number j k m.is_number (subst (λ t. IsNumberAndTail t k) (sym same) n.is_number)
 
 -- ---- the first base
-
-Contains-first : {X : Type 0} (x : X) (xs : List X) → Contains (x ∷ xs) x
-Contains-first x xs = (0, omega arith, refl)
 
 first_same : {X : Type 0} (P : X → Type 0) (xs : List X) (x : X) (ps ys : List X) (y : X) (qs : List X) → xs ++ x ∷ ps ≡ ys ++ y ∷ qs → P x → P y
     → ((z : X) → Contains xs z → ¬ (P z)) → ((z : X) → Contains ys z → ¬ (P z)) → x ≡ y

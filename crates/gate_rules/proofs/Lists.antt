@@ -1,6 +1,5 @@
 -- Walks over lists of values, and over members.
 use Rattle.std.proofs.Common.{◌≡◌, ℕ, ◌+◌, ◌<◌, List, [], ◌∷◌, ◌++◌, length, get_or, take, map, Option, Some, None, is_some, refl, sym, ap, ◌∙◌, append-nil}
-use Rattle.std.specs.List.{AllZip}
 use Rattle.std.proofs.lemmas.Bool.{false≢true}
 use Rattle.std.proofs.lemmas.List.{take_more, map-append}
 use Rattle.std.proofs.lemmas.List.Elements.{filter_map-append}
@@ -32,8 +31,6 @@ listed_other (number n) is = refl
 listed_other (string s) is = refl
 listed_other (object ms) is = refl
 
--- ---- tests of each element
-
 -- ---- what a function gives of values
 
 module _ {B : Type 0} (h : Data → Option B) (vs : List Value) (i : ℕ) (d : Value) (within : i < length vs) where
@@ -48,12 +45,3 @@ module _ {B : Type 0} (h : Data → Option B) (vs : List Value) (i : ℕ) (d : V
 
   pub filtered_less : h (view (get_or vs i d)) ≡ None → filter_map h (map view (take (i + 1) vs)) ≡ filter_map h (map view (take i vs))
   filtered_less is = filtered_at None is ∙ append-nil (filter_map h (map view (take i vs)))
-
--- copies that look alike
-pub map-copies : {S X : Type 0} (f : S → X) (xs ys : List S) → AllZip (λ x y. f y ≡ f x) xs ys → map f ys ≡ map f xs
-map-copies f [] [] h = refl
-map-copies f [] (y ∷ ys) h = absurd h
-map-copies f (x ∷ xs) [] h = absurd h
-map-copies f (x ∷ xs) (y ∷ ys) h = ap (λ z. z ∷ map f ys) h.0 ∙ ap (λ l. f x ∷ l) (map-copies f xs ys h.1)
-
--- ---- the first fault

@@ -4,6 +4,7 @@ use Rattle.std.specs.Prelude.{ℕ, List, [], ◌∷◌, length, Bool, true, fals
 use Rattle.std.specs.Char.{is_ascii_alphanumeric}
 use Rattle.std.specs.Str.{bytes_eq}
 use Rattle.serde_json.specs.Data.{Data, null, boolean, number, string, array, object, Members, no_members, member}
+use Rattle.review_ops.specs.Good.{is_label_byte}
 use Rattle.gate_rules.specs.declared.walk.Flaw.{Flaw}
 use Rattle.gate_rules.specs.declared.walk.Flaw.TheVariants.{Unknown, Bad, Unsupported}
 use Rattle.gate_rules.specs.declared.keys.ApprovalKey.{ApprovalKey}
@@ -48,9 +49,6 @@ object_fault judge key (array ds) = Some (Bad, key)
 object_fault judge key (object ms) = first_fault judge ms
 
 -- ---- an approval
-
-abbrev pub is_label_byte : ℕ → Bool
-is_label_byte byte = is_ascii_alphanumeric byte || nat_eq byte 45
 
 -- 1 to 64 ASCII letters, digits and `-`
 abbrev pub is_label_key : List ℕ → Bool

@@ -1,6 +1,7 @@
 ghost use Rattle.std.specs.Prelude.{◌≡◌};
 ghost use Rattle.gate_rules.specs.Reading.{each};
-ghost use Rattle.gate_rules.specs.Walk.{approval_key, condition_key, gate_key, is_label_byte, is_label_key};
+ghost use Rattle.review_ops.specs.Good.{is_label_byte};
+ghost use Rattle.gate_rules.specs.Walk.{approval_key, condition_key, gate_key, is_label_key};
 
 /// What a key of an approval means.
 #[derive(Clone, Copy, Debug, PartialEq, Eq)]

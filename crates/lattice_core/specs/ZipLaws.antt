@@ -1,7 +1,7 @@
 -- Lists that stand side by side, element by element.
 use Rattle.std.specs.Prelude.{◌≡◌, ◌<◌, ◌+◌, ℕ, List, [], ◌∷◌, ◌++◌, take, Some, map, length, slice_get, All}
 use Rattle.std.specs.List.{AllZip, AllByRecursion}
-use Rattle.std.proofs.Common.{zero, suc, refl, sym, ap, subst, arith, get_or}
+use Rattle.std.proofs.Common.{zero, suc, refl, sym, ap, ◌∙◌, subst, arith, get_or}
 use Rattle.std.proofs.lemmas.List.{take_more}
 use Rattle.std.proofs.lemmas.List.Elements.{All-from_recursion}
 
@@ -68,3 +68,10 @@ AllZip-push R (a ∷ xs) (b ∷ ys) x y all r = (all.0, AllZip-push R xs ys x y 
 
 pub AllZip-more : {X Y : Type 0} (R : X → Y → Type 0) (xs : List X) (ys : List Y) (i : ℕ) (d : X) (y : Y) → i < length xs → AllZip R (take i xs) ys → R (get_or xs i d) y → AllZip R (take (i + 1) xs) (ys ++ y ∷ [])
 AllZip-more R xs ys i d y within so_far r = subst (λ l. AllZip R l (ys ++ y ∷ [])) (sym (take_more xs i d within)) (AllZip-push R (take i xs) ys (get_or xs i d) y so_far r)
+
+-- copies that look alike
+pub map-copies : {S X : Type 0} (f : S → X) (xs ys : List S) → AllZip (λ x y. f y ≡ f x) xs ys → map f ys ≡ map f xs
+map-copies f [] [] h = refl
+map-copies f [] (y ∷ ys) h = absurd h
+map-copies f (x ∷ xs) [] h = absurd h
+map-copies f (x ∷ xs) (y ∷ ys) h = ap (λ z. z ∷ map f ys) h.0 ∙ ap (λ l. f x ∷ l) (map-copies f xs ys h.1)

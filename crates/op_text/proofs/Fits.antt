@@ -1,5 +1,5 @@
 -- What follows from a field that stands as it should.
-use Rattle.std.proofs.Common.{◌≡◌, ◌≢◌, ℕ, ℤ, ◌<◌, ◌≤◌, Bool, true, false, ◌&&◌, leb, Option, Some, None, is_some, IsSome, IsSomeAnd, IfSome, get_or, refl, sym, ap, ◌∙◌, subst, arith, rules, pos, negsuc}
+use Rattle.std.proofs.Common.{◌≡◌, ◌≢◌, ℕ, ℤ, ◌<◌, ◌≤◌, Bool, true, false, ◌&&◌, leb, Option, Some, None, is_some, IsSome, IsSomeAnd, IfSome, get_or, refl, sym, ap, ◌∙◌, arith, rules, pos, negsuc}
 use Rattle.std.proofs.lemmas.Bool.{false≢true, leb-true}
 use Rattle.std.specs.Prelude.{option_and_then, FitsSigned, int_le}
 use Rattle.std.specs.Int.{w8}

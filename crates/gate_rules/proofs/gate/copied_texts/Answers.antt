@@ -1,5 +1,5 @@
 use Rattle.std.proofs.Common.{map, option_map, Some, String, Vec, Global, string_bytes, sym, ap, ◌∙◌}
-use Rattle.gate_rules.proofs.Lists.{map-copies}
+use Rattle.lattice_core.specs.ZipLaws.{map-copies}
 use Rattle.gate_rules.proofs.gate.copied_texts.Goals as goal
 
 pub returns-in_ok-clone-in-Some : goal.returns-in_ok-clone-in-Some

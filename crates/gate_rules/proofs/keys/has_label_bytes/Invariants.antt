@@ -1,6 +1,6 @@
 use Rattle.std.proofs.Common.{◌≡◌, drop}
 use Rattle.gate_rules.specs.Reading.{each}
-use Rattle.gate_rules.specs.Walk.{is_label_byte}
+use Rattle.review_ops.specs.Good.{is_label_byte}
 use Rattle.gate_rules.proofs.keys.has_label_bytes.Given as goal
 
 -- it is left to test the rest

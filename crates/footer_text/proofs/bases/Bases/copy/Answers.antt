@@ -1,6 +1,6 @@
 use Rattle.std.proofs.Common.{string_bytes, sym, ◌∙◌, subst}
 use Rattle.footer_text.specs.Bases.{AreBases}
-use Rattle.footer_text.proofs.Copies.{map-copies}
+use Rattle.lattice_core.specs.ZipLaws.{map-copies}
 use Rattle.footer_text.proofs.bases.Bases.copy.Goals as goal
 
 pub returns : goal.returns
