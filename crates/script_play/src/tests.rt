@@ -2,7 +2,7 @@
 
 use super::play_step;
 use gate_rules::Gate;
-use script_text::read_script;
+use script_text::{Script, read_script};
 use std::alloc::Global;
 use std::process::Abort;
 use std::test::Fail;
@@ -20,9 +20,15 @@ fn assert_prints(
     printed: &[u8],
 ) -> Result<(), Fail> {
     let script = read_script(alloc, script, gate)?;
-    let mut world = World::new(alloc, script.sites)?;
+    let Script {
+        sites,
+        steps,
+        bad_line,
+    } = script;
+    assert_eq!(rt; bad_line, None);
+    let mut world = World::new(alloc, sites)?;
     let mut all = Vec::new(alloc);
-    for step in script.steps {
+    for step in steps {
         let text = play_step(alloc, &mut world, step)?;
         all.extend_from_slice(text.as_bytes())?;
     }
