@@ -7,9 +7,9 @@ use Rattle.clap.specs.declared.error.kind.ErrorKind.{ErrorKind}
 use Rattle.clap.specs.declared.error.kind.ErrorKind.TheVariants.{DisplayHelp, DisplayVersion, OutOfMemory}
 use Rattle.clap.specs.declared.parser.matches.Found.{Found}
 use Rattle.clap.proofs.WalkLemmas.{first_value-rows}
-use Rattle.command_line.specs.declared.asked.Asked.{Asked}
-use Rattle.command_line.specs.declared.asked.Asked.TheVariants.{Simulate, Ready, Merge, Footers, Help, Usage, NoMemory}
-use Rattle.command_line.specs.Asking.{AsksHelp, Gives, GivesChange, IsAsked, IsAskedBy, IsCommand, IsFaulty, IsNoCommand, IsRefused, Matched, WritesNumber}
+use Rattle.command_line.specs.declared.words.Command.{Command}
+use Rattle.command_line.specs.declared.words.Command.TheVariants.{Simulate, Ready, Merge, Footers, Help, Usage, NoMemory}
+use Rattle.command_line.specs.Asking.{AsksForHelp, Gives, GivesChange, Asks, Means, IsCommand, IsFaultless, IsFaulty, IsNoCommand, IsRefused, Matched, WritesNumber}
 use Rattle.command_line.specs.Commands.{program}
 
 -- ---- what a getter gives
@@ -95,16 +95,16 @@ change_unread rows text (Err fault) result given parses is = rw is (λ change gi
 
 -- ---- what the words ask for, by what was matched or by clap's fault
 
-pub asked_matched : (words : List Text) (matched : Matched) (asked : Asked) → matched ≡ subcommand_of program words → IsAskedBy matched asked → IsAsked words asked
-asked_matched words matched (Simulate script gate) same by = subst (λ m. IsCommand m (Simulate script gate)) same by
-asked_matched words matched (Ready gate snapshot) same by = subst (λ m. IsCommand m (Ready gate snapshot)) same by
-asked_matched words matched (Merge first second) same by = subst (λ m. IsCommand m (Merge first second)) same by
-asked_matched words matched (Footers gate message change) same by = subst (λ m. IsCommand m (Footers gate message change)) same by
-asked_matched words matched (Help text) same by = absurd by
-asked_matched words matched (Usage text) same by = inr (subst IsNoCommand same by)
-asked_matched words matched NoMemory same by = by
+pub asks_matched : (words : List Text) (matched : Matched) (command : Command) → IsFaultless words → matched ≡ subcommand_of program words → Means matched command → Asks words command
+asks_matched words matched (Simulate script gate) faultless same means = (faultless, subst (λ m. IsCommand m (Simulate script gate)) same means)
+asks_matched words matched (Ready gate snapshot) faultless same means = (faultless, subst (λ m. IsCommand m (Ready gate snapshot)) same means)
+asks_matched words matched (Merge first second) faultless same means = (faultless, subst (λ m. IsCommand m (Merge first second)) same means)
+asks_matched words matched (Footers gate message change) faultless same means = (faultless, subst (λ m. IsCommand m (Footers gate message change)) same means)
+asks_matched words matched (Help text) faultless same means = absurd means
+asks_matched words matched (Usage text) faultless same means = inr (subst IsNoCommand same means)
+asks_matched words matched NoMemory faultless same means = means
 
-asks_help : (words : List Text) (kind : ErrorKind) → (kind ≡ OutOfMemory) ⊎ IsAmong kind (fault_of program words) → (kind ≡ DisplayHelp) ⊎ (kind ≡ DisplayVersion) → AsksHelp words
+asks_help : (words : List Text) (kind : ErrorKind) → (kind ≡ OutOfMemory) ⊎ IsAmong kind (fault_of program words) → (kind ≡ DisplayHelp) ⊎ (kind ≡ DisplayVersion) → AsksForHelp words
 asks_help words kind (inl memory) (inl help) = let bad : OutOfMemory ≡ DisplayHelp = sym memory ∙ help in cc
 asks_help words kind (inl memory) (inr version) = let bad : OutOfMemory ≡ DisplayVersion = sym memory ∙ version in cc
 asks_help words kind (inr among) asks = (kind, among, asks)
@@ -113,11 +113,11 @@ is_faulty : (words : List Text) (kind : ErrorKind) → (kind ≡ OutOfMemory) �
 is_faulty words kind (inl memory) not = absurd (not.0 memory)
 is_faulty words kind (inr among) not = (kind, among, not.1, not.2)
 
-pub asked_refused : (words : List Text) (kind : ErrorKind) (asked : Asked) → (kind ≡ OutOfMemory) ⊎ IsAmong kind (fault_of program words) → IsRefused kind asked → IsAsked words asked
-asked_refused words kind (Simulate script gate) has refused = absurd refused
-asked_refused words kind (Ready gate snapshot) has refused = absurd refused
-asked_refused words kind (Merge first second) has refused = absurd refused
-asked_refused words kind (Footers gate message change) has refused = absurd refused
-asked_refused words kind (Help text) has refused = asks_help words kind has refused
-asked_refused words kind (Usage text) has refused = inl (is_faulty words kind has refused)
-asked_refused words kind NoMemory has refused = refused
+pub asks_refused : (words : List Text) (kind : ErrorKind) (command : Command) → (kind ≡ OutOfMemory) ⊎ IsAmong kind (fault_of program words) → IsRefused kind command → Asks words command
+asks_refused words kind (Simulate script gate) has refused = absurd refused
+asks_refused words kind (Ready gate snapshot) has refused = absurd refused
+asks_refused words kind (Merge first second) has refused = absurd refused
+asks_refused words kind (Footers gate message change) has refused = absurd refused
+asks_refused words kind (Help text) has refused = asks_help words kind has refused
+asks_refused words kind (Usage text) has refused = inl (is_faulty words kind has refused)
+asks_refused words kind NoMemory has refused = refused

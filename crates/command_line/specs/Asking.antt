@@ -1,12 +1,12 @@
 -- What the words of a command line ask for. Which command words name, what they give its arguments, and what is wrong with them is clap's
 -- (docs.rs/clap), over the program's commands.
-use Rattle.std.specs.Prelude.{◌≡◌, ◌≢◌, ◌⊎◌, ◌<◌, ◌^◌, ℕ, List, MatchOption, Option, Some, codes, option_map}
+use Rattle.std.specs.Prelude.{◌≡◌, ◌≢◌, ◌⊎◌, ◌<◌, ◌^◌, ℕ, List, [], MatchOption, Option, Some, codes, option_map}
 use Rattle.std.specs.Str.Parse.{IsNumeral, digits_value, without_leading_plus}
 use Rattle.clap.specs.Words.{Row, Text, first_of, subcommand_of, fault_of, IsAmong}
 use Rattle.clap.specs.declared.error.kind.ErrorKind.{ErrorKind}
 use Rattle.clap.specs.declared.error.kind.ErrorKind.TheVariants.{DisplayHelp, DisplayVersion, OutOfMemory}
-use Rattle.command_line.specs.declared.asked.Asked.{Asked}
-use Rattle.command_line.specs.declared.asked.Asked.TheVariants.{Simulate, Ready, Merge, Footers, Help, Usage, NoMemory}
+use Rattle.command_line.specs.declared.words.Command.{Command}
+use Rattle.command_line.specs.declared.words.Command.TheVariants.{Simulate, Ready, Merge, Footers, Help, Usage, NoMemory}
 use Rattle.command_line.specs.Commands.{program}
 
 -- what clap matched: the command that the words name, if they name one, and the values of its arguments
@@ -28,7 +28,7 @@ abbrev pub GivesChange : List Row → ℕ → Type 0
 GivesChange rows change = MatchOption (first_of (codes "change") rows) (change ≡ 0) (λ text. WritesNumber text change)
 
 -- what was matched is a command, with all that it needs
-abbrev pub IsCommand : Matched → Asked → Type 0
+abbrev pub IsCommand : Matched → Command → Type 0
 IsCommand matched (Simulate script gate) =
     (rows : List Row) × (matched ≡ Some (codes "simulate", rows)) × Gives rows (codes "SCRIPT") script.now × (first_of (codes "GATE") rows ≡ option_map (λ name. name.now) gate)
 IsCommand matched (Ready gate snapshot) =
@@ -41,9 +41,9 @@ IsCommand matched (Help text) = ⊥
 IsCommand matched (Usage text) = ⊥
 IsCommand matched NoMemory = ⊥
 
--- the words ask for help
-abbrev pub AsksHelp : List Text → Type 0
-AsksHelp words = (kind : ErrorKind) × IsAmong kind (fault_of program words) × ((kind ≡ DisplayHelp) ⊎ (kind ≡ DisplayVersion))
+-- the words ask for help, or for the version
+abbrev pub AsksForHelp : List Text → Type 0
+AsksForHelp words = (kind : ErrorKind) × IsAmong kind (fault_of program words) × ((kind ≡ DisplayHelp) ⊎ (kind ≡ DisplayVersion))
 
 -- something else is wrong with the words
 abbrev pub IsFaulty : List Text → Type 0
@@ -51,30 +51,34 @@ IsFaulty words = (kind : ErrorKind) × IsAmong kind (fault_of program words) × 
 
 -- it is no command, or lacks something
 abbrev pub IsNoCommand : Matched → Type 0
-IsNoCommand matched = (asked : Asked) → ¬ IsCommand matched asked
+IsNoCommand matched = (command : Command) → ¬ IsCommand matched command
 
--- this is what the words ask for; memory may be refused at any words
-abbrev pub IsAsked : List Text → Asked → Type 0
-IsAsked words (Simulate script gate) = IsCommand (subcommand_of program words) (Simulate script gate)
-IsAsked words (Ready gate snapshot) = IsCommand (subcommand_of program words) (Ready gate snapshot)
-IsAsked words (Merge first second) = IsCommand (subcommand_of program words) (Merge first second)
-IsAsked words (Footers gate message change) = IsCommand (subcommand_of program words) (Footers gate message change)
-IsAsked words (Help text) = AsksHelp words
-IsAsked words (Usage text) = IsFaulty words ⊎ IsNoCommand (subcommand_of program words)
-IsAsked words NoMemory = Unit {0}
+-- clap finds no fault in the words
+abbrev pub IsFaultless : List Text → Type 0
+IsFaultless words = fault_of program words ≡ []
 
--- the same of what was matched
-abbrev pub IsAskedBy : Matched → Asked → Type 0
-IsAskedBy matched (Simulate script gate) = IsCommand matched (Simulate script gate)
-IsAskedBy matched (Ready gate snapshot) = IsCommand matched (Ready gate snapshot)
-IsAskedBy matched (Merge first second) = IsCommand matched (Merge first second)
-IsAskedBy matched (Footers gate message change) = IsCommand matched (Footers gate message change)
-IsAskedBy matched (Help text) = ⊥
-IsAskedBy matched (Usage text) = IsNoCommand matched
-IsAskedBy matched NoMemory = Unit {0}
+-- the words ask for this command, or for what is answered in its place; memory may be refused at any words
+abbrev pub Asks : List Text → Command → Type 0
+Asks words (Simulate script gate) = IsFaultless words × IsCommand (subcommand_of program words) (Simulate script gate)
+Asks words (Ready gate snapshot) = IsFaultless words × IsCommand (subcommand_of program words) (Ready gate snapshot)
+Asks words (Merge first second) = IsFaultless words × IsCommand (subcommand_of program words) (Merge first second)
+Asks words (Footers gate message change) = IsFaultless words × IsCommand (subcommand_of program words) (Footers gate message change)
+Asks words (Help text) = AsksForHelp words
+Asks words (Usage text) = IsFaulty words ⊎ IsNoCommand (subcommand_of program words)
+Asks words NoMemory = Unit {0}
 
--- how a fault of this kind is told
-abbrev pub IsRefused : ErrorKind → Asked → Type 0
+-- what was matched is this command
+abbrev pub Means : Matched → Command → Type 0
+Means matched (Simulate script gate) = IsCommand matched (Simulate script gate)
+Means matched (Ready gate snapshot) = IsCommand matched (Ready gate snapshot)
+Means matched (Merge first second) = IsCommand matched (Merge first second)
+Means matched (Footers gate message change) = IsCommand matched (Footers gate message change)
+Means matched (Help text) = ⊥
+Means matched (Usage text) = IsNoCommand matched
+Means matched NoMemory = Unit {0}
+
+-- how a fault of this kind is answered
+abbrev pub IsRefused : ErrorKind → Command → Type 0
 IsRefused kind (Simulate script gate) = ⊥
 IsRefused kind (Ready gate snapshot) = ⊥
 IsRefused kind (Merge first second) = ⊥
@@ -83,8 +87,8 @@ IsRefused kind (Help text) = (kind ≡ DisplayHelp) ⊎ (kind ≡ DisplayVersion
 IsRefused kind (Usage text) = (kind ≢ OutOfMemory) × (kind ≢ DisplayHelp) × (kind ≢ DisplayVersion)
 IsRefused kind NoMemory = Unit {0}
 
--- it is told that something is wrong, or memory was refused for that
-abbrev pub IsUsage : Asked → Type 0
+-- something is wrong with the words, or memory was refused for saying so
+abbrev pub IsUsage : Command → Type 0
 IsUsage (Simulate script gate) = ⊥
 IsUsage (Ready gate snapshot) = ⊥
 IsUsage (Merge first second) = ⊥

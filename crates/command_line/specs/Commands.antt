@@ -29,9 +29,10 @@ change_rule = record (new_rule (codes "change")) { long = Some (codes "change");
 abbrev pub footers_app : App
 footers_app = with_rule (with_rule (with_rule (new_app (codes "footers")) (needed (codes "GATE"))) (needed (codes "FILE"))) change_rule
 
--- the program, before it has its commands: its name isn't among the words, and a command has to be
+-- the program, before it has its commands: its name isn't among the words, it has a version, and a command has to be
 abbrev pub bare_app : App
-bare_app = record (new_app (codes "reviewgate")) { top = record (new_app (codes "reviewgate")).top { no_binary_name = true; subcommand_required = true } }
+bare_app = let app = new_app (codes "reviewgate") in
+    record app { top = record app.top { no_binary_name = true; has_version = true; subcommand_required = true } }
 
 -- the program
 abbrev pub program : App

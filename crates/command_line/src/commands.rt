@@ -7,6 +7,9 @@ ghost use Rattle.command_line.specs.Commands.{IsApp, IsRule, change_rule, footer
 use clap::{Arg, Command};
 use std::alloc::{AllocError, Global};
 
+/// The program's version, and the identity of the toolchain that proves and builds it, as `rt version` prints it.
+const VERSION: &str = "0.1.0 (rattle-kit-13b logic dac8208d650f15bf)";
+
 /// The program.
 pub fn commands<'a>(alloc: Global) -> Result<Command<'a>, AllocError>
     ensures { IfOk result (IsApp program) }
@@ -16,6 +19,8 @@ pub fn commands<'a>(alloc: Global) -> Result<Command<'a>, AllocError>
     let merge = merge_command(alloc)?;
     let footers = footers_command(alloc)?;
     Command::new(alloc, "reviewgate")
+        .bin_name("reviewgate")?
+        .version(VERSION)
         .about("Keeps the review record of Gerrit changes at several sites")
         .no_binary_name(true)
         .subcommand_required(true)

@@ -1,39 +1,39 @@
 //! Command lines as users write them, and what they ask for.
 
-use super::asked::{Asked, read_words};
+use super::words::{Command, read_words};
 use std::alloc::Global;
 use std::process::Abort;
 
 /// The name of the first file that is asked for, or in its place what else is answered.
-fn first_name<'a>(asked: &Asked<'a>) -> &'a str {
-    match asked {
-        Asked::Simulate { script, .. } => script,
-        Asked::Ready { gate, .. } => gate,
-        Asked::Merge { first, .. } => first,
-        Asked::Footers { gate, .. } => gate,
-        Asked::Help(_) => "help",
-        Asked::Usage(_) => "usage",
-        Asked::NoMemory => "memory",
+fn first_name<'a>(command: &Command<'a>) -> &'a str {
+    match command {
+        Command::Simulate { script, .. } => script,
+        Command::Ready { gate, .. } => gate,
+        Command::Merge { first, .. } => first,
+        Command::Footers { gate, .. } => gate,
+        Command::Help(_) => "help",
+        Command::Usage(_) => "usage",
+        Command::NoMemory => "memory",
     }
 }
 
-fn second_name<'a>(asked: &Asked<'a>) -> &'a str {
-    match asked {
-        Asked::Simulate {
+fn second_name<'a>(command: &Command<'a>) -> &'a str {
+    match command {
+        Command::Simulate {
             gate: Some(gate),
             ..
         } => gate,
-        Asked::Ready { snapshot, .. } => snapshot,
-        Asked::Merge { second, .. } => second,
-        Asked::Footers { message, .. } => message,
+        Command::Ready { snapshot, .. } => snapshot,
+        Command::Merge { second, .. } => second,
+        Command::Footers { message, .. } => message,
         _ => "",
     }
 }
 
 /// The change that is asked about, and 7 where none is.
-fn change_of(asked: &Asked<'_>) -> u32 {
-    match asked {
-        Asked::Footers { change, .. } => *change,
+fn change_of(command: &Command<'_>) -> u32 {
+    match command {
+        Command::Footers { change, .. } => *change,
         _ => 7,
     }
 }
@@ -47,10 +47,10 @@ fn assert_asks(
     second: &str,
     change: u32,
 ) {
-    let asked = read_words(alloc, words);
-    assert_eq!(rt; first_name(&asked), first);
-    assert_eq!(rt; second_name(&asked), second);
-    assert_eq!(rt; change_of(&asked), change);
+    let command = read_words(alloc, words);
+    assert_eq!(rt; first_name(&command), first);
+    assert_eq!(rt; second_name(&command), second);
+    assert_eq!(rt; change_of(&command), change);
 }
 
 #[test]
@@ -100,7 +100,7 @@ fn other_words_ask_for_nothing(rt: HostRuntime) {
         &["footers"],
         &["serve"],
         &["-x"],
-        &["--version"],
+        &["merge", "a", "b", "c"],
         &["simulate", "a", "b", "c"],
     ];
     for words in cases {
@@ -110,8 +110,38 @@ fn other_words_ask_for_nothing(rt: HostRuntime) {
 
 #[test]
 fn help_is_asked_for(rt: HostRuntime) {
-    let cases: [&[&str]; 3] = [&["--help"], &["merge", "-h"], &["help", "merge"]];
+    let cases: [&[&str]; 4] = [
+        &["--help"],
+        &["merge", "-h"],
+        &["help", "merge"],
+        &["--version"],
+    ];
     for words in cases {
         assert_asks(&rt, rt.alloc(), words, "help", "", 7);
     }
+}
+
+/// The text of what the words ask for in place of a command.
+fn text_of<'a>(command: &'a Command<'_>) -> &'a str {
+    match command {
+        Command::Help(text) | Command::Usage(text) => text.as_str(),
+        _ => "",
+    }
+}
+
+#[test]
+fn usage_begins_with_the_program(rt: HostRuntime) {
+    let command = read_words(rt.alloc(), ["ready", "g"].as_slice());
+    assert!(rt; text_of(&command).contains("Usage: reviewgate ready <GATE> <SNAPSHOT>"));
+    let command = read_words(rt.alloc(), ["--help"].as_slice());
+    assert!(rt; text_of(&command).contains("Usage: reviewgate <COMMAND>"));
+}
+
+#[test]
+fn the_version_names_the_toolchain(rt: HostRuntime) {
+    let command = read_words(rt.alloc(), ["--version"].as_slice());
+    assert_eq!(rt;
+        text_of(&command),
+        "reviewgate 0.1.0 (rattle-kit-13b logic dac8208d650f15bf)\n"
+    );
 }

@@ -1,6 +1,6 @@
-mod Merging
 mod WrittenLines
-mod FooterReads
-mod Simulating
-mod Running
-mod Reporting
+mod HowItEnds
+mod Merged
+mod Played
+mod Simulated
+mod SameEnds

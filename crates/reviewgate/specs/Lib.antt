@@ -1,7 +1,6 @@
+pub mod Console
+pub mod Inputs
+pub mod Answers
+pub mod Ending
 pub mod Refusals
-pub mod Files
-pub mod Merging
-pub mod FooterLines
-pub mod Simulating
-pub mod Reporting
 pub mod Running

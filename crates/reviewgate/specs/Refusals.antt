@@ -11,24 +11,17 @@ use Rattle.snapshot_text.specs.Fault as snapshot
 use Rattle.snapshot_text.specs.declared.fault.SnapFault.{SnapFault}
 use Rattle.snapshot_text.specs.declared.fault.SnapFault.TheVariants as SnapFaults
 use Rattle.review_ops.specs.Fault as body
-use Rattle.script_play.specs.declared.fault.PlayFault.{PlayFault}
-use Rattle.script_play.specs.declared.fault.PlayFault.TheVariants as PlayFaults
 use Rattle.script_text.specs.Fault as script
 use Rattle.script_text.specs.declared.fault.ScriptFault.{ScriptFault}
 use Rattle.script_text.specs.declared.fault.ScriptFault.TheVariants.{BadSites, BadLine, NoMemory}
 use Rattle.reviewgate.specs.declared.refusal.Refusal.{Refusal}
 use Rattle.reviewgate.specs.declared.refusal.Refusal.TheVariants.{Script, Snapshot, Gate, File, NotText, Output, Memory}
 
--- how it is told why a script isn't played to its end
-abbrev pub refusal_of : PlayFault → Refusal
-refusal_of (PlayFaults.Script fault) = Script fault
-refusal_of PlayFaults.Output = Output
-
 -- the part, the number and the name, with blanks between them
-abbrev pub told : List ℕ → ℕ → List ℕ → List ℕ
-told part number name = part ++ codes " " ++ decimal number ++ codes " " ++ name
+abbrev pub fault_text : List ℕ → ℕ → List ℕ → List ℕ
+fault_text part number name = part ++ codes " " ++ decimal number ++ codes " " ++ name
 
--- a detail stands after a blank
+-- a detail, after a blank
 abbrev pub detail : List ℕ → List ℕ
 detail text = codes " " ++ text
 
@@ -65,10 +58,10 @@ snapshot_detail SnapFaults.ReadFault = []
 snapshot_detail SnapFaults.NoMemory = []
 
 abbrev pub refusal_text : Refusal → List ℕ
-refusal_text (Script fault) = told (codes "script") (script.number_of fault) (script.name_of fault) ++ script_detail fault
-refusal_text (Snapshot fault) = told (codes "snapshot") (snapshot.number_of fault) (snapshot.name_of fault) ++ snapshot_detail fault
-refusal_text (Gate fault) = told (codes "gate") (gate.number_of fault) (gate.name_of fault) ++ gate_detail fault
-refusal_text (File fault) = told (codes "file") (bytes.number_of fault) (bytes.name_of fault)
+refusal_text (Script fault) = fault_text (codes "script") (script.number_of fault) (script.name_of fault) ++ script_detail fault
+refusal_text (Snapshot fault) = fault_text (codes "snapshot") (snapshot.number_of fault) (snapshot.name_of fault) ++ snapshot_detail fault
+refusal_text (Gate fault) = fault_text (codes "gate") (gate.number_of fault) (gate.name_of fault) ++ gate_detail fault
+refusal_text (File fault) = fault_text (codes "file") (bytes.number_of fault) (bytes.name_of fault)
 refusal_text NotText = codes "file 9 NotText"
 refusal_text Output = codes "output 1 WriteFault"
 refusal_text Memory = codes "memory 1 NoMemory"

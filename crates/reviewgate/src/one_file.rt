@@ -1,6 +1,6 @@
 //! A file for tests.
 
-ghost use Rattle.std.specs.Prelude.{None};
+ghost use Rattle.std.specs.Prelude.{[]};
 
 use super::named::Named;
 use byte_ends::BytesFault;
@@ -16,7 +16,7 @@ pub struct OneFile<'a> {
 }
 
 impl Named for OneFile<'_> {
-    ghost told = { λ files name. None };
+    ghost files = { λ files. [] };
 
     ghost failed = { λ files. files.failures };
 

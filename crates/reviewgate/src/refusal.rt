@@ -1,13 +1,12 @@
 //! Why a command ended with status 1.
 
 ghost use Rattle.std.specs.Prelude.{◌≡◌, ◌++◌, IfOk, OnOk, string_bytes};
-ghost use Rattle.reviewgate.specs.declared.refusal.Refusal.TheVariants.{Script as BadScript, Snapshot as Unread, Gate as BadGate, File as BadFile};
-ghost use Rattle.reviewgate.specs.Refusals.{cause_detail, refusal_line, refusal_of, refusal_text, told};
+ghost use Rattle.reviewgate.specs.declared.refusal.Refusal.TheVariants.{Script as BadScript, Snapshot as BadSnapshot, Gate as BadGate, File as BadFile};
+ghost use Rattle.reviewgate.specs.Refusals.{cause_detail, fault_text, refusal_line, refusal_text};
 
 use byte_ends::BytesFault;
 use gate_rules::GateFault;
 use op_text::OpTextFault;
-use script_play::PlayFault;
 use script_text::ScriptFault;
 use snapshot_text::SnapFault;
 use std::alloc::{AllocError, Global};
@@ -47,7 +46,7 @@ fn write_refusal(line: &mut String, refusal: &Refusal) -> Result<(), AllocError>
         Refusal::Script(fault) => write_script(line, fault),
         Refusal::Snapshot(fault) => write_snapshot(line, fault),
         Refusal::Gate(fault) => write_gate(line, fault),
-        Refusal::File(fault) => write_told(line, "file", fault.number(), fault.name()),
+        Refusal::File(fault) => write_fault(line, "file", fault.number(), fault.name()),
         Refusal::NotText => line.push_str("file 9 NotText"),
         Refusal::Output => line.push_str("output 1 WriteFault"),
         Refusal::Memory => line.push_str("memory 1 NoMemory"),
@@ -55,8 +54,8 @@ fn write_refusal(line: &mut String, refusal: &Refusal) -> Result<(), AllocError>
 }
 
 /// The part, the number and the name.
-fn write_told(line: &mut String, part: &str, number: u8, name: &str) -> Result<(), AllocError>
-    ensures { OnOk result (string_bytes line.new ≡ string_bytes line.old ++ told part.now number name.now) }
+fn write_fault(line: &mut String, part: &str, number: u8, name: &str) -> Result<(), AllocError>
+    ensures { OnOk result (string_bytes line.new ≡ string_bytes line.old ++ fault_text part.now number name.now) }
 {
     write!(line, "{part} {number} {name}")
 }
@@ -65,7 +64,7 @@ fn write_told(line: &mut String, part: &str, number: u8, name: &str) -> Result<(
 fn write_script(line: &mut String, fault: &ScriptFault) -> Result<(), AllocError>
     ensures { OnOk result (string_bytes line.new ≡ string_bytes line.old ++ refusal_text (BadScript fault.now)) }
 {
-    write_told(line, "script", fault.number(), fault.name())?;
+    write_fault(line, "script", fault.number(), fault.name())?;
     match fault {
         ScriptFault::BadLine(number) => write!(line, " {number}"),
         ScriptFault::BadSites | ScriptFault::NoMemory => Ok(()),
@@ -74,9 +73,9 @@ fn write_script(line: &mut String, fault: &ScriptFault) -> Result<(), AllocError
 
 /// The part, the number, the name, and of a bad line its number and the cause.
 fn write_snapshot(line: &mut String, fault: &SnapFault) -> Result<(), AllocError>
-    ensures { OnOk result (string_bytes line.new ≡ string_bytes line.old ++ refusal_text (Unread fault.now)) }
+    ensures { OnOk result (string_bytes line.new ≡ string_bytes line.old ++ refusal_text (BadSnapshot fault.now)) }
 {
-    write_told(line, "snapshot", fault.number(), fault.name())?;
+    write_fault(line, "snapshot", fault.number(), fault.name())?;
     match fault {
         SnapFault::BadLine(number, cause) => {
             let name = cause.name();
@@ -105,7 +104,7 @@ fn write_cause_detail(line: &mut String, cause: &OpTextFault) -> Result<(), Allo
 fn write_gate(line: &mut String, fault: &GateFault) -> Result<(), AllocError>
     ensures { OnOk result (string_bytes line.new ≡ string_bytes line.old ++ refusal_text (BadGate fault.now)) }
 {
-    write_told(line, "gate", fault.number(), fault.name())?;
+    write_fault(line, "gate", fault.number(), fault.name())?;
     match fault {
         GateFault::UnknownKey(key) | GateFault::BadValue(key) | GateFault::Unsupported(key) => {
             write!(line, " {key}")
@@ -122,17 +121,6 @@ impl From<ScriptFault> for Refusal {
     }
 }
 
-impl From<PlayFault> for Refusal {
-    ghost from_gives = { λ fault refusal. refusal ≡ refusal_of fault };
-
-    fn from(fault: PlayFault) -> Refusal {
-        match fault {
-            PlayFault::Script(fault) => Refusal::Script(fault),
-            PlayFault::Output => Refusal::Output,
-        }
-    }
-}
-
 impl From<GateFault> for Refusal {
     ghost from_gives = { λ fault refusal. refusal ≡ BadGate fault };
 
@@ -146,13 +134,5 @@ impl From<BytesFault> for Refusal {
 
     fn from(fault: BytesFault) -> Refusal {
         Refusal::File(fault)
-    }
-}
-
-impl From<SnapFault> for Refusal {
-    ghost from_gives = { λ fault refusal. refusal ≡ Unread fault };
-
-    fn from(fault: SnapFault) -> Refusal {
-        Refusal::Snapshot(fault)
     }
 }

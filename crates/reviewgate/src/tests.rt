@@ -1,6 +1,6 @@
 //! Scripts and what they print, worked out by hand.
 
-ghost use Rattle.std.specs.Prelude.{None};
+ghost use Rattle.std.specs.Prelude.{[]};
 
 use super::named::Named;
 use super::run::run_words;
@@ -16,7 +16,7 @@ struct NoFiles {
 }
 
 impl Named for NoFiles {
-    ghost told = { λ files name. None };
+    ghost files = { λ files. [] };
 
     ghost failed = { λ files. files.failures };
 

@@ -1,7 +1,6 @@
 -- What a script's steps print, one after the other. The texts are the project's own; the world is world_core's machine.
-use Rattle.std.specs.Prelude.{◌≡◌, ◌⊎◌, ◌<◌, ℕ, Bool, List, [], ◌∷◌, ◌++◌, Option, Some, MatchOption, Ok, Err, flat_map, length, map, take, IsErrOf, Result, codes, decimal, if◌then◌else◌}
+use Rattle.std.specs.Prelude.{◌≡◌, ◌⊎◌, ℕ, Bool, List, [], ◌∷◌, ◌++◌, MatchOption, Ok, Err, codes, decimal, if◌then◌else◌}
 use Rattle.std.specs.Global.{Global}
-use Rattle.std.specs.Io.KnownBytes.{Appends}
 use Rattle.gate_rules.specs.Rules.{GateRules}
 use Rattle.op_text.specs.Front.{front_text}
 use Rattle.ready_core.specs.Verdicts.{AreVerdicts, Judged}
@@ -19,11 +18,15 @@ use Rattle.world_core.specs.Fault.{name_of, number_of}
 use Rattle.world_core.specs.Numbered.{numbered}
 use Rattle.world_core.specs.Step.{Answer, Run, Step as MayAnswer}
 use Rattle.world_core.specs.World.{WorldState, new_world}
-use Rattle.script_play.specs.declared.fault.PlayFault.{PlayFault}
-use Rattle.script_play.specs.declared.fault.PlayFault.TheVariants.{Script, Output}
-use Rattle.script_text.specs.declared.fault.ScriptFault.TheVariants.{BadSites, BadLine, NoMemory}
+use Rattle.script_play.specs.declared.texts.Text.{Text}
+use Rattle.script_play.specs.declared.texts.Text.TheVariants.{Made, Fixed}
 use Rattle.script_text.specs.declared.script.Step.{Step}
 use Rattle.script_text.specs.declared.script.Step.TheVariants.{Happens, SendTo, State, Front, Ready}
+
+-- the bytes that are printed
+abbrev pub bytes_of : Text → List ℕ
+bytes_of (Made bytes) = bytes.items
+bytes_of (Fixed text) = text.now
 
 -- ---- one line for one answer
 
@@ -92,57 +95,6 @@ Plays old (step ∷ steps) printed new =
 abbrev pub IsRunText : WorldState → List Step → List ℕ → Type 0
 IsRunText start steps text = (new : WorldState) × Plays start steps text new
 
--- all that was printed is the text of a run by the steps
-abbrev pub PrintsRun : WorldState → List Step → Option (List ℕ) → Option (List ℕ) → Type 0
-PrintsRun start steps old new = (text : List ℕ) × IsRunText start steps text × Appends old new text
-
 -- these are the first of the steps
 abbrev pub AreFirst : List Step → List Step → Type 0
 AreFirst first steps = (rest : List Step) × (steps ≡ first ++ rest)
-
--- all that was printed is the text of a run by some first steps
-abbrev pub PrintsFirst : WorldState → List Step → Option (List ℕ) → Option (List ℕ) → Type 0
-PrintsFirst start steps old new = (first : List Step) × AreFirst first steps × PrintsRun start first old new
-
--- some front of such a text was printed, not all
-abbrev pub CutsRun : WorldState → List Step → Option (List ℕ) → Option (List ℕ) → Type 0
-CutsRun start steps old new =
-    (first : List Step) × AreFirst first steps × (text : List ℕ) × IsRunText start first text × (count : ℕ) × (count < length text) × Appends old new (take count text)
-
--- what was printed where the steps aren't played to their end: memory was refused, or the output failed
-abbrev pub StopsRun : WorldState → List Step → Option (List ℕ) → Option (List ℕ) → PlayFault → Type 0
-StopsRun start steps old new (Script NoMemory) = PrintsFirst start steps old new
-StopsRun start steps old new (Script BadSites) = ⊥
-StopsRun start steps old new (Script (BadLine line)) = ⊥
-StopsRun start steps old new Output = CutsRun start steps old new
-
--- what was printed where a script isn't played to its end: of a line that says nothing, all that the lines before it print
-abbrev pub StopsScript : ℕ → List Step → Option ℕ → Option (List ℕ) → Option (List ℕ) → PlayFault → Type 0
-StopsScript sites steps bad old new (Script (BadLine line)) = (bad ≡ Some line) × PrintsRun (new_world sites) steps old new
-StopsScript sites steps bad old new (Script NoMemory) = PrintsFirst (new_world sites) steps old new
-StopsScript sites steps bad old new (Script BadSites) = ⊥
-StopsScript sites steps bad old new Output = CutsRun (new_world sites) steps old new
-
--- ---- where a run stands: the steps are those that were played, which left this world and were printed, and the events that wait
-
-pub record HasPlayed (start : WorldState) (steps : List Step) (world : WorldState) (waiting : List (Event Global)) (old now : Option (List ℕ)) : Type 0 where
-  pub played : List Step
-  pub text : List ℕ
-  pub run : Plays start played text world
-  pub whole : steps ≡ played ++ map Happens waiting
-  pub told : Appends old now text
-
--- the steps were played so far, or what stopped them is told
-abbrev pub GoesOrStops : {T : Type 0} → WorldState → List Step → WorldState → List (Event Global) → Option (List ℕ) → Option (List ℕ) → Result T PlayFault → Type 0
-GoesOrStops start steps world waiting old now (Ok done) = HasPlayed start steps world waiting old now
-GoesOrStops start steps world waiting old now (Err fault) = StopsRun start steps old now fault
-
--- all of the text was printed, or the output failed and took some front of it
-abbrev pub Prints : {T : Type 0} → List ℕ → Option (List ℕ) → Option (List ℕ) → Result T PlayFault → Type 0
-Prints text old new (Ok done) = Appends old new text
-Prints text old new (Err fault) = (fault ≡ Output) × (count : ℕ) × (count < length text) × Appends old new (take count text)
-
--- the events happened, and their answers were printed; or memory was refused, and nothing was printed
-abbrev pub PrintsAnswers : {T : Type 0} → WorldState → List (Event Global) → WorldState → Option (List ℕ) → Option (List ℕ) → Result T PlayFault → Type 0
-PrintsAnswers start events end old new result =
-    ((answers : List Answer) × Run start events answers end × Prints (flat_map answer_line answers) old new result) ⊎ ((new ≡ old) × IsErrOf result (Script NoMemory))

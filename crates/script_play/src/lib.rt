@@ -1,4 +1,4 @@
-//! Scripts played over a world of sites: events happen in it one after the other, and what they answer, states, fronts and reports are printed.
+//! Scripts played over a world of sites: the steps of a script are played one after the other, and what each prints is said here.
 //!
 //! | Printed | Of what |
 //! |---|---|
@@ -9,11 +9,10 @@
 //! | `no NUMBER NAME` | what was refused |
 #![tactic(auto)]
 
-mod answers;
-mod fault;
-mod stage;
+mod play;
 #[cfg(test)]
 mod tests;
+mod texts;
 
-pub use fault::PlayFault;
-pub use stage::play;
+pub use play::play_step;
+pub use texts::Text;

@@ -1,64 +1,61 @@
-//! Scripts and what they print, worked out by hand.
+//! Scripts and what their steps print, worked out by hand.
 
-use super::{PlayFault, play};
-use byte_ends::{Broken, Ends};
+use super::play_step;
 use gate_rules::Gate;
-use script_text::{ScriptFault, read_script};
+use script_text::{Script, read_script};
+use std::alloc::Global;
+use std::process::Abort;
 use std::test::Fail;
+use world_core::World;
 
 /// A gate that wants open changes.
 const GATE: &[u8] = br#"{"bases":["https://r/"],"require":{"gerrit":{"open":true}}}"#;
 
-#[test]
-fn a_script_is_played(rt: HostRuntime) -> Result<(), Fail> {
-    let text =
-        b"sites 2\nintake 1 {\"change\":5,\"op\":\"merged\"}\nsend 1 @2\ndeliver 1 2\nfront 2\nstate 3\nsave 2\nrestart 2 2\n".as_slice();
-    let script = read_script(rt.alloc(), text, None)?;
-    let mut output = Ends::new(Vec::new(rt.alloc()));
-    play(rt.alloc(), script, &mut output)?;
-    assert_eq!(rt;
-        output.get_ref().as_slice(),
-        b"ok 1,1,1,1\npacket 1 1 done\ntook 1\n[[1,1,1]]\nno 1 NoSite\nsaved\nrestarted\n".as_slice()
-    );
+/// The steps of a script print these texts, one after the other.
+fn assert_prints(
+    rt: &impl Abort,
+    alloc: Global,
+    script: &[u8],
+    gate: Option<&Gate>,
+    printed: &[u8],
+) -> Result<(), Fail> {
+    let script = read_script(alloc, script, gate)?;
+    let Script {
+        sites,
+        steps,
+        bad_line,
+    } = script;
+    assert_eq!(rt; bad_line, None);
+    let mut world = World::new(alloc, sites)?;
+    let mut all = Vec::new(alloc);
+    for step in steps {
+        let text = play_step(alloc, &mut world, step)?;
+        all.extend_from_slice(text.as_bytes())?;
+    }
+    assert_eq!(rt; all.as_slice(), printed);
     Ok(())
+}
+
+#[test]
+fn each_step_prints_what_it_answers(rt: HostRuntime) -> Result<(), Fail> {
+    let script =
+        b"sites 2\nintake 1 {\"change\":5,\"op\":\"merged\"}\nsend 1 @2\ndeliver 1 2\nfront 2\nstate 3\nsend 1 @3\nsave 2\nrestart 2 2\n";
+    let printed =
+        b"ok 1,1,1,1\npacket 1 1 done\ntook 1\n[[1,1,1]]\nno 1 NoSite\nno 1 NoSite\nsaved\nrestarted\n";
+    assert_prints(&rt, rt.alloc(), script.as_slice(), None, printed.as_slice())
 }
 
 #[test]
 fn a_report_is_printed_under_a_gate(rt: HostRuntime) -> Result<(), Fail> {
     let gate = Gate::read(rt.alloc(), GATE)?;
-    let text =
-        b"sites 1\nintake 1 {\"change\":7,\"message\":\"m\",\"op\":\"patchset\",\"set\":1}\nready 1\n".as_slice();
-    let script = read_script(rt.alloc(), text, Some(&gate))?;
-    let mut output = Ends::new(Vec::new(rt.alloc()));
-    play(rt.alloc(), script, &mut output)?;
-    assert_eq!(rt;
-        output.get_ref().as_slice(),
-        b"ok 1,1,1,1\nready 7,1\nend 1 0\n".as_slice()
-    );
-    Ok(())
-}
-
-#[test]
-fn a_bad_line_stops_a_script(rt: HostRuntime) -> Result<(), Fail> {
-    let text = b"sites 1\nstate 1\nstate\nstate 1\n".as_slice();
-    let script = read_script(rt.alloc(), text, None)?;
-    let mut output = Ends::new(Vec::new(rt.alloc()));
-    let ended = play(rt.alloc(), script, &mut output);
-    assert_eq!(rt; ended, Err(PlayFault::Script(ScriptFault::BadLine(3))));
-    assert_eq!(rt; output.get_ref().as_slice(), b"end 0\n".as_slice());
-    Ok(())
-}
-
-#[test]
-fn an_output_that_fails_stops_a_script(rt: HostRuntime) -> Result<(), Fail> {
-    let text = b"sites 1\nstate 1\nstate 1\n".as_slice();
-    let script = read_script(rt.alloc(), text, None)?;
-    let mut output = Broken::before_byte(Ends::new(Vec::new(rt.alloc())), 9);
-    let ended = play(rt.alloc(), script, &mut output);
-    assert_eq!(rt; ended, Err(PlayFault::Output));
-    assert_eq!(rt;
-        output.get_ref().get_ref().as_slice(),
-        b"end 0\nen".as_slice()
-    );
-    Ok(())
+    let script =
+        b"sites 1\nintake 1 {\"change\":7,\"message\":\"m\",\"op\":\"patchset\",\"set\":1}\nready 1\nready 2\n";
+    let printed = b"ok 1,1,1,1\nready 7,1\nend 1 0\nno 1 NoSite\n";
+    assert_prints(
+        &rt,
+        rt.alloc(),
+        script.as_slice(),
+        Some(&gate),
+        printed.as_slice(),
+    )
 }

@@ -1,49 +1,52 @@
-use Rattle.std.proofs.Common.{rules, ◌≡◌, ◌∙◌, ◌<◌, IfSome, subst, take, length}
+use Rattle.std.proofs.Common.{◌≡◌, ◌∙◌, rules, ap, inl, inr, refl, subst, sym, string_bytes, [], ◌∷◌}
+use Rattle.std.proofs.lemmas.Result.{err_from_is_err_and}
 use Rattle.std.specs.Prelude.{IsUtf8}
-use Rattle.std.specs.Io.KnownBytes.{Appends}
 use Rattle.footer_text.specs.Footers.{AreFooters}
-use Rattle.reviewgate.specs.Files.{given, left_after}
-use Rattle.reviewgate.proofs.FooterReads.{same_given, as_told, is_gate, prints_footers, cuts_footers}
+use Rattle.gate_rules.specs.Spelling.{SpellsGate}
+use Rattle.reviewgate.specs.Answers.{AreFooterLines, IsWhole, footers_text}
+use Rattle.reviewgate.specs.Ending.{Prints}
+use Rattle.reviewgate.specs.Inputs.{gate_file, input, message_file}
+use Rattle.reviewgate.proofs.HowItEnds.{both_had, finishes, second_refused, stops}
 use Rattle.reviewgate.proofs.footers.footers.Goals as goal
 
-pub returns-in_err-read-clause-refused : goal.returns-in_err-read-clause-refused
-returns-in_err-read-clause-refused g c =
-    search (rules, c.read_gate.ensures.refused (given (left_after c.args.gate.now (g.I.Source.left c.args.input.now)) (g.N.Named.told c.args.files.now) c.args.message.now))
+pub returns-in_err-message : goal.returns-in_err-message
+returns-in_err-message g c =
+    let p = err_from_is_err_and c.from_residual-in_err-message.result c.from_residual-in_err-message.ensures.1 in
+    rw (p.1, p.2) (inl (second_refused (input gate_file c.args.gate.now) (input message_file c.args.message.now)
+    (λ text. SpellsGate text c.in_ok-rules.rules) (λ text spells. (c.in_ok-rules.rules, spells)) _ _ _ _ c.in_ok-rules.ensures.had c.in_err-message.ensures.refused))
 
-pub returns-in_default-clause-refused : goal.returns-in_default-clause-refused
-returns-in_default-clause-refused g c =
-    let moved = same_given c.args.gate.now c.args.message.now (g.I.Source.left c.args.input.now) (g.I.Source.left c.read_gate.new.input) (g.N.Named.told c.args.files.now) (g.N.Named.told c.read_gate.new.files) c.read_gate.ensures.kept c.read_gate.ensures.unread in
-    let message_is = subst (λ told. IfSome told (λ text. c.in-Ok.bytes.items ≡ text)) moved c.in-Ok.ensures.ok in
-    let no_text : ¬ IsUtf8 c.in-Ok.bytes.items = search rules in (
-      is_gate (given (g.I.Source.left c.args.input.now) (g.N.Named.told c.args.files.now) c.args.gate.now) c.in_ok-read.read c.in_ok-read.ensures.ok,
-      as_told (λ text. ¬ IsUtf8 text) (given (left_after c.args.gate.now (g.I.Source.left c.args.input.now)) (g.N.Named.told c.args.files.now) c.args.message.now) c.in-Ok.bytes.items message_is no_text,
+pub returns-in_default : goal.returns-in_default
+returns-in_default g c =
+    let first = c.in_ok-rules.ensures.had in
+    let second = c.in_ok-message.ensures.had in
+    let text_is : string_bytes c.in_ok-message.message ≡ c.as_str.result.now = search rules in
+    inr (
+      first.0 ∷ second.0 ∷ [],
+      g.C.Console.state c.read_message.new.console,
+      both_had (input gate_file c.args.gate.now) (input message_file c.args.message.now)
+          (λ text. SpellsGate text c.in_ok-rules.rules) (λ text spells. (c.in_ok-rules.rules, spells)) (λ text. text ≡ string_bytes c.in_ok-message.message) (λ text is. subst IsUtf8 (sym (is ∙ text_is)) c.as_str.utf8) _ _ _ first second,
+      stops (AreFooterLines first.0 second.0 c.args.change) _,
     )
 
-pub returns-in-Ok-write_all-clause-printed : goal.returns-in-Ok-write_all-clause-printed
-returns-in-Ok-write_all-clause-printed g c =
-    let moved = same_given c.args.gate.now c.args.message.now (g.I.Source.left c.args.input.now) (g.I.Source.left c.read_gate.new.input) (g.N.Named.told c.args.files.now) (g.N.Named.told c.read_gate.new.files) c.read_gate.ensures.kept c.read_gate.ensures.unread in
-    let message_is = subst (λ told. IfSome told (λ text. c.in-Ok.bytes.items ≡ text)) moved c.in-Ok.ensures.ok in
-    let found = c.in-Ok-text_under.ensures in
-    let whole : c.in-Ok-from_utf8.message.now ≡ c.in-Ok.bytes.items = search rules in
-    let footers = subst (λ text. AreFooters c.in_ok-read.read.bases c.args.change text found.0 found.1) whole found.2 in
-    let written = subst (Appends (g.O.Drain.taken c.args.output.now) (g.O.Drain.taken c.write_all.new.drain)) (c.as_slice-2.ensures.value ∙ found.3) c.in-Ok-write_all.ensures.ok in
-    prints_footers c.in_ok-read.read c.args.change c.in-Ok.bytes.items found.0 found.1 _ _ footers
-    (given (g.I.Source.left c.args.input.now) (g.N.Named.told c.args.files.now) c.args.gate.now)
-    (given (left_after c.args.gate.now (g.I.Source.left c.args.input.now)) (g.N.Named.told c.args.files.now) c.args.message.now)
-    c.in_ok-read.ensures.ok message_is written
-
-pub returns-clause-cut : goal.returns-clause-cut
-returns-clause-cut g c =
-    let moved = same_given c.args.gate.now c.args.message.now (g.I.Source.left c.args.input.now) (g.I.Source.left c.read_gate.new.input) (g.N.Named.told c.args.files.now) (g.N.Named.told c.read_gate.new.files) c.read_gate.ensures.kept c.read_gate.ensures.unread in
-    let message_is = subst (λ told. IfSome told (λ text. c.in-Ok.bytes.items ≡ text)) moved c.in-Ok.ensures.ok in
-    let found = c.in-Ok-text_under.ensures in
-    let whole : c.in-Ok-from_utf8.message.now ≡ c.in-Ok.bytes.items = search rules in
-    let footers = subst (λ text. AreFooters c.in_ok-read.read.bases c.args.change text found.0 found.1) whole found.2 in
-    let text_is = c.as_slice-2.ensures.value ∙ found.3 in
-    let cut = c.in-Err-write_all.ensures.err in
-    cuts_footers c.in_ok-read.read c.args.change c.in-Ok.bytes.items found.0 found.1 _ _ footers
-    (given (g.I.Source.left c.args.input.now) (g.N.Named.told c.args.files.now) c.args.gate.now)
-    (given (left_after c.args.gate.now (g.I.Source.left c.args.input.now)) (g.N.Named.told c.args.files.now) c.args.message.now)
-    cut.0 c.in_ok-read.ensures.ok message_is
-    (subst (λ text. cut.0 < length text) text_is cut.1)
-    (subst (λ text. Appends (g.O.Drain.taken c.args.output.now) (g.O.Drain.taken c.write_all.new.drain) (take cut.0 text)) text_is cut.2)
+pub returns : goal.returns
+returns g c =
+    let first = c.in_ok-rules.ensures.had in
+    let second = c.in_ok-message.ensures.had in
+    let text_is : string_bytes c.in_ok-message.message ≡ c.as_str.result.now = search rules in
+    let found = c.in-Ok.ensures in
+    inr (
+      first.0 ∷ second.0 ∷ [],
+      g.C.Console.state c.read_message.new.console,
+      both_had (input gate_file c.args.gate.now) (input message_file c.args.message.now)
+          (λ text. SpellsGate text c.in_ok-rules.rules) (λ text spells. (c.in_ok-rules.rules, spells)) (λ text. text ≡ string_bytes c.in_ok-message.message) (λ text is. subst IsUtf8 (sym (is ∙ text_is)) c.as_str.utf8) _ _ _ first second,
+      finishes (IsWhole (AreFooterLines first.0 second.0 c.args.change)) (footers_text found.0 found.1) _ _ c.print.result
+          (record {
+            rules = c.in_ok-rules.rules;
+            spelled = first.2;
+            needs = found.0;
+            ignored = found.1;
+            footers = subst (λ text. AreFooters c.in_ok-rules.rules.bases c.args.change text found.0 found.1) (sym (second.2 ∙ text_is)) found.2;
+            text = refl;
+          })
+          (subst (λ text. Prints text (g.C.Console.state c.read_message.new.console) (g.C.Console.state c.print.new.self) c.print.result) (c.as_slice.ensures.value ∙ found.3) c.print.ensures),
+    )

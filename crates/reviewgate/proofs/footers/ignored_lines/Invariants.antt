@@ -1,5 +1,5 @@
 use Rattle.std.proofs.Common.{◌≡◌, flat_map, take, map}
-use Rattle.reviewgate.specs.FooterLines.{ignored_line}
+use Rattle.reviewgate.specs.Answers.{ignored_line}
 use Rattle.reviewgate.proofs.footers.ignored_lines.Given as goal
 
 abbrev pub invariant-loop-value : goal.invariant-loop-value

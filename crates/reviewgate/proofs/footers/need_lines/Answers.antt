@@ -1,5 +1,5 @@
 use Rattle.std.proofs.Common.{rules, ◌≡◌, ◌++◌, get_or}
-use Rattle.reviewgate.specs.FooterLines.{need_line}
+use Rattle.reviewgate.specs.Answers.{need_line}
 use Rattle.reviewgate.proofs.WrittenLines.{lines_more}
 use Rattle.reviewgate.proofs.footers.need_lines.Goals as goal
 

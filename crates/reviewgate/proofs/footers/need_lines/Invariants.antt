@@ -1,5 +1,5 @@
 use Rattle.std.proofs.Common.{◌≡◌, flat_map, take}
-use Rattle.reviewgate.specs.FooterLines.{need_line}
+use Rattle.reviewgate.specs.Answers.{need_line}
 use Rattle.reviewgate.proofs.footers.need_lines.Given as goal
 
 abbrev pub invariant-loop-change : goal.invariant-loop-change

@@ -1,22 +1,30 @@
-use Rattle.std.proofs.Common.{Err, ap}
-use Rattle.reviewgate.specs.Files.{given, left_after}
-use Rattle.reviewgate.proofs.Merging.{prints_merged, cuts_merged}
+use Rattle.std.proofs.Common.{inl, inr, [], ◌∷◌}
+use Rattle.std.proofs.lemmas.Result.{err_from_is_err_and}
+use Rattle.byte_ends.specs.Lines.{lines_of}
+use Rattle.snapshot_text.specs.Snapshot.{SaysOperations}
+use Rattle.reviewgate.specs.Answers.{IsMerged}
+use Rattle.reviewgate.specs.Inputs.{input, snapshot_file}
+use Rattle.reviewgate.proofs.HowItEnds.{both_had, finishes_snapshot, second_refused}
+use Rattle.reviewgate.proofs.Merged.{is_merged}
 use Rattle.reviewgate.proofs.merge.merge.Goals as goal
 
-pub returns-in-Ok-clause-merged : goal.returns-in-Ok-clause-merged
-returns-in-Ok-clause-merged g c =
-    let written = c.in-Ok.ensures.ok in
-    prints_merged c.operations_arrive_as_a_set.ensures
-    (given (g.I.Source.left c.args.input.now) (g.N.Named.told c.args.files.now) c.args.first.now)
-    (given (left_after c.args.first.now (g.I.Source.left c.args.input.now)) (g.N.Named.told c.args.files.now) c.args.second.now)
-    c.in_ok-replica.replica written.0 (g.O.Drain.taken c.args.output.now) (g.O.Drain.taken c.write_snapshot.new.drain)
-    c.in_ok-replica.ensures.both written.1 written.2
+pub returns-in_err-both : goal.returns-in_err-both
+returns-in_err-both g c =
+    let p = err_from_is_err_and c.from_residual-in_err-both.result c.from_residual-in_err-both.ensures.1 in
+    let first = c.in_ok-replica.ensures.had in
+    rw (p.1, p.2) (inl (second_refused (input snapshot_file c.args.first.now) (input snapshot_file c.args.second.now)
+    (λ text. SaysOperations (lines_of text) first.0) (λ text says. (first.0, says)) _ _ _ _ first.2 c.in_err-both.ensures.refused))
 
-pub returns-in-Err-WriteFault-clause-printed : goal.returns-in-Err-WriteFault-clause-printed
-returns-in-Err-WriteFault-clause-printed g c =
-    let cut = c.in-Err-WriteFault.ensures.cut (ap Err c.in-Err-WriteFault.field-0-is) in
-    cuts_merged c.operations_arrive_as_a_set.ensures
-    (given (g.I.Source.left c.args.input.now) (g.N.Named.told c.args.files.now) c.args.first.now)
-    (given (left_after c.args.first.now (g.I.Source.left c.args.input.now)) (g.N.Named.told c.args.files.now) c.args.second.now)
-    c.in_ok-replica.replica cut.0 (g.O.Drain.taken c.args.output.now) (g.O.Drain.taken c.write_snapshot.new.drain) cut.2
-    c.in_ok-replica.ensures.both cut.1 cut.3 cut.4
+pub returns : goal.returns
+returns g c =
+    let first = c.in_ok-replica.ensures.had in
+    let second = c.in_ok-both.ensures.had in
+    inr (
+      first.2.0 ∷ second.2.0 ∷ [],
+      g.C.Console.state c.read_snapshot-2.new.console,
+      both_had (input snapshot_file c.args.first.now) (input snapshot_file c.args.second.now)
+          (λ text. SaysOperations (lines_of text) first.0) (λ text says. (first.0, says)) (λ text. SaysOperations (lines_of text) second.0) (λ text says. (second.0, says)) _ _ _ first.2 second.2,
+      finishes_snapshot (IsMerged first.2.0 second.2.0) c.in_ok-both.both _ _ c.print_snapshot.result
+          (is_merged c.operations_arrive_as_a_set.ensures first.2.0 second.2.0 first.0 second.0 c.new.result c.in_ok-replica.replica c.in_ok-both.both first.2.2 second.2.2 c.new.ensures first.1 second.1)
+          c.print_snapshot.ensures,
+    )

@@ -1,0 +1,165 @@
+//! What the words of a command line ask for.
+
+ghost use Rattle.std.specs.Prelude.{◌≡◌, ◌≢◌, ◌⊎◌, ℕ, List, Some, IfErr, IfOk, IfSome, IfNone, map, codes};
+ghost use Rattle.clap.specs.Words.{Row, Text, found_of, rows_of, subcommand_rows_of, fault_of, kind_of, HasKind};
+ghost use Rattle.command_line.specs.Commands.{program};
+ghost use Rattle.command_line.specs.Asking.{GivesChange, Asks, Means, IsCommand, IsNoCommand, IsRefused, IsUsage};
+
+use super::commands::commands;
+use clap::ArgMatches;
+use clap::error::ErrorKind;
+use std::alloc::Global;
+use std::convert::AsStr;
+
+/// What is wrong with words that lack something.
+const MISSING: &str = "error: a command and what it needs are missing\n";
+
+/// What is wrong with a change that is no number.
+const NO_NUMBER: &str = "error: the change has to be a number from 0 to 4294967295\n";
+
+/// A command, as the words ask for it.
+#[derive(Drop)]
+pub enum Command<'a> {
+    /// To play the script of this name, with reports under a gate file where one is named.
+    Simulate {
+        script: &'a str,
+        gate: Option<&'a str>,
+    },
+    /// To print the report of a snapshot under a gate file.
+    Ready {
+        gate: &'a str,
+        snapshot: &'a str,
+    },
+    /// To print the snapshot of the two of these names together.
+    Merge {
+        first: &'a str,
+        second: &'a str,
+    },
+    /// To print what the footers of a message ask for under a gate file's bases.
+    Footers {
+        gate: &'a str,
+        message: &'a str,
+        change: u32,
+    },
+    /// The help text, or the version, for the output.
+    Help(String),
+    /// What is wrong with the words, for the error output.
+    Usage(String),
+    /// Memory ran out while the words were read.
+    NoMemory,
+}
+
+/// Reads the words that follow the program's name, as `clap` matches them to the program's commands: a command is answered only where `clap`
+/// finds no fault in them. `Usage` is answered where it finds one that isn't a wish for help or for the version, and where the words ask for
+/// no command; its text and that of `Help` are `clap`'s. It costs O(bytes of the words).
+pub fn read_words<'a, S: AsStr>(alloc: Global, words: &'a [S]) -> Command<'a>
+    ensures { Asks (map S.text words.entry.now) result }
+{
+    let Ok(command) = commands(alloc) else {
+        return Command::NoMemory;
+    };
+    match command.try_get_matches_from(words) {
+        Ok(matches) => command_in(alloc, &matches),
+        Err(error) => refused(alloc, &error),
+    }
+}
+
+/// What a command line that was matched asks for.
+fn command_in<'a>(alloc: Global, matches: &ArgMatches<'a>) -> Command<'a>
+    ensures { Means (subcommand_rows_of matches.now) result }
+{
+    let Some((name, found)) = matches.subcommand() else {
+        return usage(alloc, MISSING);
+    };
+    let (command, wrong) = match name {
+        "simulate" => (simulate_in(found), MISSING),
+        "ready" => (ready_in(found), MISSING),
+        "merge" => (merge_in(found), MISSING),
+        "footers" => (footers_in(found), NO_NUMBER),
+        _ => (None, MISSING),
+    };
+    match command {
+        Some(command) => command,
+        None => usage(alloc, wrong),
+    }
+}
+
+/// `simulate SCRIPT [GATE]`
+fn simulate_in<'a>(found: &ArgMatches<'a>) -> Option<Command<'a>>
+    ensures some { IfSome result (IsCommand (Some (codes "simulate", rows_of (found_of found.now)))) }
+    ensures none { IfNone result (IsNoCommand (Some (codes "simulate", rows_of (found_of found.now)))) }
+{
+    let script = found.get_str("SCRIPT")?;
+    let gate = found.get_str("GATE");
+    Some(Command::Simulate { script, gate })
+}
+
+/// `ready GATE SNAPSHOT`
+fn ready_in<'a>(found: &ArgMatches<'a>) -> Option<Command<'a>>
+    ensures some { IfSome result (IsCommand (Some (codes "ready", rows_of (found_of found.now)))) }
+    ensures none { IfNone result (IsNoCommand (Some (codes "ready", rows_of (found_of found.now)))) }
+{
+    let gate = found.get_str("GATE")?;
+    let snapshot = found.get_str("SNAPSHOT")?;
+    Some(Command::Ready { gate, snapshot })
+}
+
+/// `merge FIRST SECOND`
+fn merge_in<'a>(found: &ArgMatches<'a>) -> Option<Command<'a>>
+    ensures some { IfSome result (IsCommand (Some (codes "merge", rows_of (found_of found.now)))) }
+    ensures none { IfNone result (IsNoCommand (Some (codes "merge", rows_of (found_of found.now)))) }
+{
+    let first = found.get_str("FIRST")?;
+    let second = found.get_str("SECOND")?;
+    Some(Command::Merge { first, second })
+}
+
+/// `footers GATE FILE [--change N]`
+fn footers_in<'a>(found: &ArgMatches<'a>) -> Option<Command<'a>>
+    ensures some { IfSome result (IsCommand (Some (codes "footers", rows_of (found_of found.now)))) }
+    ensures none { IfNone result (IsNoCommand (Some (codes "footers", rows_of (found_of found.now)))) }
+{
+    let gate = found.get_str("GATE")?;
+    let message = found.get_str("FILE")?;
+    let change = change_of(found)?;
+    Some(Command::Footers {
+        gate,
+        message,
+        change,
+    })
+}
+
+/// The change that `--change` gives, and 0 without it.
+fn change_of(found: &ArgMatches<'_>) -> Option<u32>
+    ensures some { IfSome result (GivesChange (rows_of (found_of found.now))) }
+    ensures none { IfNone result ((change : ℕ) → ¬ GivesChange (rows_of (found_of found.now)) change) }
+{
+    match found.get_str("change") {
+        None => Some(0),
+        Some(text) => text.parse::<u32>().ok(),
+    }
+}
+
+/// Help, a fault of the words or want of memory, as `clap` says.
+fn refused<'a>(alloc: Global, error: &clap::Error) -> Command<'a>
+    ensures { IsRefused (kind_of error.now) result }
+{
+    if error.kind() == ErrorKind::OutOfMemory {
+        return Command::NoMemory;
+    }
+    match error.to_string(alloc) {
+        Ok(text) if error.use_stderr() => Command::Usage(text),
+        Ok(text) => Command::Help(text),
+        Err(_) => Command::NoMemory,
+    }
+}
+
+/// A usage fault with a text of our own.
+fn usage<'a>(alloc: Global, text: &str) -> Command<'a>
+    ensures { IsUsage result }
+{
+    match String::from_str(alloc, text) {
+        Ok(text) => Command::Usage(text),
+        Err(_) => Command::NoMemory,
+    }
+}

@@ -1,0 +1,106 @@
+-- What each command prints: its text as a relation to the texts of its inputs.
+use Rattle.std.specs.Prelude.{◌≡◌, ◌⊎◌, ℕ, List, [], ◌∷◌, ◌++◌, Option, None, Some, Result, Ok, Err, codes, decimal, flat_map, length}
+use Rattle.byte_ends.specs.Lines.{lines_of}
+use Rattle.footer_text.specs.Footers.{AreFooters}
+use Rattle.gate_rules.specs.Rules.{GateRules}
+use Rattle.gate_rules.specs.Spelling.{SpellsGate}
+use Rattle.ready_core.specs.Verdicts.{AreVerdicts, Judged}
+use Rattle.replica_core.specs.InOrder.{IsInOrderOf}
+use Rattle.replica_core.specs.Journal.{all_arrived}
+use Rattle.state_core.specs.State.{state_of}
+use Rattle.report_text.specs.Report.{report_of}
+use Rattle.snapshot_text.specs.Snapshot.{SaysOperations, as_line, snapshot_text}
+use Rattle.review_ops.specs.Operation.{Operation}
+use Rattle.script_play.specs.Playing.{AreFirst, IsRunText}
+use Rattle.script_text.specs.Script.{IsUnreadScript, SaysScript}
+use Rattle.script_text.specs.declared.fault.ScriptFault.{ScriptFault}
+use Rattle.script_text.specs.declared.fault.ScriptFault.TheVariants.{BadLine, BadSites, NoMemory}
+use Rattle.script_text.specs.declared.script.Step.{Step}
+use Rattle.world_core.specs.World.{new_world}
+use Rattle.reviewgate.specs.declared.refusal.Refusal.{Refusal}
+use Rattle.reviewgate.specs.declared.refusal.Refusal.TheVariants.{File, Gate, Memory, NotText, Output, Script, Snapshot}
+
+-- how a command ends
+abbrev pub Ended : Type 0
+Ended = Result (Unit {0}) Refusal
+
+-- the answer is so; or memory was refused before anything was printed
+abbrev pub IsWhole : (List ℕ → Type 0) → List ℕ → Ended → Type 0
+IsWhole IsSo answer (Ok done) = IsSo answer
+IsWhole IsSo answer (Err refusal) = (refusal ≡ Memory) × (answer ≡ [])
+
+-- ---- `ready`: the report of the snapshot's operations under the gate
+
+pub record IsReport (gate snapshot answer : List ℕ) : Type 0 where
+  pub rules : GateRules
+  pub spelled : SpellsGate gate rules
+  pub ops : List Operation
+  pub says : SaysOperations (lines_of snapshot) ops
+  pub verdicts : Judged
+  pub judged : AreVerdicts rules (state_of (all_arrived [] ops)) verdicts
+  pub text : answer ≡ report_of verdicts
+
+-- ---- `merge`: the snapshot of the operations of either, each once, as a grow-only set merges
+
+pub record IsMerged (first second answer : List ℕ) : Type 0 where
+  pub ops : List Operation
+  pub others : List Operation
+  pub of_first : SaysOperations (lines_of first) ops
+  pub of_second : SaysOperations (lines_of second) others
+  pub both : List Operation
+  pub union : IsInOrderOf (ops ++ others) both
+  pub text : answer ≡ snapshot_text both
+
+-- ---- `footers`: the footers of the message under the gate's bases
+
+abbrev pub need_line : ℕ → List ℕ
+need_line change = as_line (codes "need " ++ decimal change)
+
+abbrev pub ignored_line : List ℕ → List ℕ
+ignored_line value = as_line (codes "ignored " ++ value)
+
+abbrev pub count_line : ℕ → ℕ → List ℕ
+count_line needs ignored = as_line (codes "end " ++ decimal needs ++ codes " " ++ decimal ignored)
+
+-- a line for each change that is needed, then one for each value that names none, then how many there are of both
+abbrev pub footers_text : List ℕ → List (List ℕ) → List ℕ
+footers_text needs ignored =
+    flat_map need_line needs ++ flat_map ignored_line ignored ++ count_line (length needs) (length ignored)
+
+pub record AreFooterLines (gate message : List ℕ) (change : ℕ) (answer : List ℕ) : Type 0 where
+  pub rules : GateRules
+  pub spelled : SpellsGate gate rules
+  pub needs : List ℕ
+  pub ignored : List (List ℕ)
+  pub footers : AreFooters rules.bases change message needs ignored
+  pub text : answer ≡ footers_text needs ignored
+
+-- ---- `simulate`: the answers of the script's lines, in a run of the world
+
+-- the gate that reports are made under: none where no gate file is named
+abbrev pub GivesGate : List (List ℕ) → Option GateRules → Type 0
+GivesGate [] under = under ≡ None
+GivesGate (gate ∷ []) under = (rules : GateRules) × SpellsGate gate rules × (under ≡ Some rules)
+GivesGate (gate ∷ other ∷ texts) under = ⊥
+
+-- how a script of these steps is played: to its end; to its bad line, once the lines before that are answered; or over some first steps, where
+-- memory is refused. The answer is the text of a run of the steps that were played
+abbrev pub IsPlayed : ℕ → List Step → Option ℕ → List ℕ → Ended → Type 0
+IsPlayed sites steps bad answer (Ok done) = (bad ≡ None) × IsRunText (new_world sites) steps answer
+IsPlayed sites steps bad answer (Err (Script (BadLine line))) = (bad ≡ Some line) × IsRunText (new_world sites) steps answer
+IsPlayed sites steps bad answer (Err (Script BadSites)) = ⊥
+IsPlayed sites steps bad answer (Err (Script NoMemory)) =
+    (first : List Step) × AreFirst first steps × IsRunText (new_world sites) first answer
+IsPlayed sites steps bad answer (Err refusal) = ⊥
+
+-- the script isn't read, or it says steps, which are played
+abbrev pub IsPlayedText : Option GateRules → List ℕ → List ℕ → Ended → Type 0
+IsPlayedText under script answer ended =
+    ((fault : ScriptFault) × IsUnreadScript script fault × (ended ≡ Err (Script fault)) × (answer ≡ []))
+    ⊎ ((sites : ℕ) × (steps : List Step) × (bad : Option ℕ) × SaysScript under script sites steps bad
+    × IsPlayed sites steps bad answer ended)
+
+-- the texts are the script's and, where a gate file is named, the gate's
+abbrev pub IsSimulated : List ℕ → List (List ℕ) → List ℕ → Ended → Type 0
+IsSimulated script gates answer ended =
+    (under : Option GateRules) × GivesGate gates under × IsPlayedText under script answer ended

@@ -1,0 +1,86 @@
+-- The inputs of a command: the limit of each kind, what it has to be, and how it is refused. They are read and judged one after the other.
+use Rattle.std.specs.Prelude.{◌≡◌, ◌⊎◌, ℕ, List, [], ◌∷◌, IsUtf8, Option, None, Some}
+use Rattle.byte_ends.specs.Lines.{lines_of}
+use Rattle.byte_ends.specs.declared.faults.BytesFault.{BytesFault}
+use Rattle.gate_rules.specs.Rules.{GateRules}
+use Rattle.gate_rules.specs.Spelling.{IsRefusalOf, SpellsGate}
+use Rattle.gate_rules.specs.declared.fault.GateFault.{GateFault}
+use Rattle.snapshot_text.specs.Fault.{snap_fault_of}
+use Rattle.snapshot_text.specs.Snapshot.{IsOfText, IsRefusal, SaysOperations, most_bytes}
+use Rattle.snapshot_text.specs.declared.fault.SnapFault.{SnapFault}
+use Rattle.review_ops.specs.Operation.{Operation}
+use Rattle.reviewgate.specs.Console.{ConsoleState, IsRead, IsUnread, once_read}
+use Rattle.reviewgate.specs.declared.refusal.Refusal.{Refusal}
+use Rattle.reviewgate.specs.declared.refusal.Refusal.TheVariants.{File, Gate, NotText, Snapshot}
+
+pub data Kind : Type 0 where
+  gate_file : Kind
+  message_file : Kind
+  script_file : Kind
+  snapshot_file : Kind
+
+pub record Input : Type 0 where
+  pub kind : Kind
+  pub name : List ℕ
+
+abbrev pub input : Kind → List ℕ → Input
+input kind name = record { kind = kind; name = name }
+
+-- the most bytes: 1 MiB, and 1 GiB of a snapshot
+abbrev pub limit_of : Kind → ℕ
+limit_of gate_file = 1048576
+limit_of message_file = 1048576
+limit_of script_file = 1048576
+limit_of snapshot_file = most_bytes
+
+-- how an input is refused whose bytes can't be had
+abbrev pub unread_as : Kind → BytesFault → Refusal
+unread_as gate_file fault = File fault
+unread_as message_file fault = File fault
+unread_as script_file fault = File fault
+unread_as snapshot_file fault = Snapshot (snap_fault_of fault)
+
+-- what an input has to be. A script is judged as it is played
+abbrev pub IsSound : Kind → List ℕ → Type 0
+IsSound gate_file text = (rules : GateRules) × SpellsGate text rules
+IsSound message_file text = IsUtf8 text
+IsSound script_file text = Unit {0}
+IsSound snapshot_file text = (ops : List Operation) × SaysOperations (lines_of text) ops
+
+-- how an input is refused that isn't so, or for which memory was refused
+abbrev pub IsFlawed : Kind → List ℕ → Refusal → Type 0
+IsFlawed gate_file text refusal = (fault : GateFault) × (refusal ≡ Gate fault) × IsRefusalOf text fault
+IsFlawed message_file text refusal = (refusal ≡ NotText) × (¬ IsUtf8 text)
+IsFlawed script_file text refusal = ⊥
+IsFlawed snapshot_file text refusal = (fault : SnapFault) × (refusal ≡ Snapshot fault) × IsRefusal text fault × IsOfText fault
+
+-- the input is had: it is read, and its text is so
+abbrev pub IsHad : Input → (List ℕ → Type 0) → ConsoleState → ConsoleState → Type 0
+IsHad input IsSo old new = (text : List ℕ) × IsRead input.name (limit_of input.kind) old new text × IsSo text
+
+-- the gate file is had, where one is named
+abbrev pub IsGateHad : Option (List ℕ) → Option GateRules → ConsoleState → ConsoleState → Type 0
+IsGateHad None None old new = new ≡ old
+IsGateHad (Some name) (Some rules) old new = IsHad (input gate_file name) (λ text. SpellsGate text rules) old new
+IsGateHad name rules old new = ⊥
+
+-- the input is refused: its bytes can't be had, or aren't what they have to be
+abbrev pub IsRefused : Input → ConsoleState → ConsoleState → Refusal → Type 0
+IsRefused input old new refusal =
+    ((fault : BytesFault) × (refusal ≡ unread_as input.kind fault) × IsUnread input.name (limit_of input.kind) old new fault)
+    ⊎ IsHad input (λ text. IsFlawed input.kind text refusal) old new
+
+-- all inputs are had, one after the other, and these are their texts
+abbrev pub AreHad : List Input → ConsoleState → List (List ℕ) → ConsoleState → Type 0
+AreHad [] old [] new = new ≡ old
+AreHad [] old (text ∷ texts) new = ⊥
+AreHad (input ∷ inputs) old [] new = ⊥
+AreHad (input ∷ inputs) old (text ∷ texts) new =
+    (mid : ConsoleState) × IsRead input.name (limit_of input.kind) old mid text × IsSound input.kind text × AreHad inputs mid texts new
+
+-- the first input that can't be had is refused, and those after it aren't read
+abbrev pub IsFirstRefused : List Input → ConsoleState → ConsoleState → Refusal → Type 0
+IsFirstRefused [] old new refusal = ⊥
+IsFirstRefused (input ∷ inputs) old new refusal =
+    IsRefused input old new refusal
+    ⊎ ((mid : ConsoleState) × IsHad input (IsSound input.kind) old mid × IsFirstRefused inputs mid new refusal)

@@ -1,0 +1,104 @@
+//! The input, the output and the files of the program, as one value.
+
+ghost use Rattle.std.specs.Prelude.{◌≡◌, ◌⊎◌, Some, [], if◌then◌else◌, IfOk, IfErr};
+ghost use Rattle.replica_core.specs.InOrder.{IsInOrderOf};
+ghost use Rattle.report_text.specs.Report.{report_of};
+ghost use Rattle.snapshot_text.specs.Snapshot.{snapshot_text};
+ghost use Rattle.review_ops.specs.Operation.{Operation};
+ghost use Rattle.std.specs.Prelude.{List};
+ghost use Rattle.reviewgate.specs.Console.{ConsoleState, IsRead, IsUnread, is_input};
+ghost use Rattle.reviewgate.specs.Ending.{Prints, PrintsSnapshot};
+
+use super::named::Named;
+use super::refusal::Refusal;
+use byte_ends::{BytesFault, Drain, Source, read_all, write_all};
+use ready_core::Verdicts;
+use replica_core::Replica;
+use report_text::{WriteReportFault, write_report};
+use snapshot_text::{WriteSnapFault, write_snapshot};
+use std::alloc::Global;
+
+/// What a command reads from and prints to.
+pub trait Console {
+    /// What is known of its ends.
+    ghost state: { Self → ConsoleState };
+
+    /// All bytes of the file of a name, or for `-` those that the input has left, which are at most `limit`. A second `-` has none. Refusals: 6
+    /// `TooLong`, there are more; 7 `ReadFault`, the input failed, or the file can't be opened or read; 8 `NoMemory`. It costs O(bytes).
+    fn read(&mut self, alloc: Global, name: &str, limit: usize) -> Result<Vec<u8>, BytesFault>
+        ensures read { IfOk result (λ bytes. IsRead name.now limit (state self.old) (state self.new) bytes.items) }
+        ensures unread { IfErr result (IsUnread name.now limit (state self.old) (state self.new)) };
+
+    /// Prints a text. Refusal: `Output`, the output failed.
+    fn print(&mut self, text: &[u8]) -> Result<(), Refusal>
+        ensures { Prints text.now (state self.old) (state self.new) result };
+
+    /// Prints a report, as `write_report` writes it. Refusal: `Output`, the output failed.
+    fn print_report(&mut self, verdicts: &Verdicts) -> Result<(), Refusal>
+        ensures { Prints (report_of verdicts.now) (state self.old) (state self.new) result };
+
+    /// Prints the snapshot of a replica, as `write_snapshot` writes it. Refusals: `Output`, the output failed; `Memory`, nothing was printed.
+    fn print_snapshot(&mut self, alloc: Global, replica: &Replica) -> Result<(), Refusal>
+        ensures { PrintsSnapshot replica.now (state self.old) (state self.new) result };
+}
+
+/// A console over a source, a drain and files. The input is spent once it was read.
+#[derive(Drop)]
+pub struct Streams<'i, 'o, 'f, I: Source, O: Drain, N: Named> {
+    pub input: &'i mut I,
+    pub output: &'o mut O,
+    pub files: &'f mut N,
+    pub is_spent: bool,
+}
+
+/// Whether a name is that of the input, `-`.
+fn is_input(name: &str) -> bool
+    ensures { result ≡ is_input name.now }
+{
+    name == "-"
+}
+
+impl<'i, 'o, 'f, I: Source, O: Drain, N: Named> Console for Streams<'i, 'o, 'f, I, O, N> {
+    ghost state = { λ c. record {
+      left = if c.is_spent then Some [] else I.left c.input.now;
+      files = N.files c.files.now;
+      printed = O.taken c.output.now;
+      input_failed = I.failed c.input.now;
+      files_failed = N.failed c.files.now;
+      output_failed = O.failed c.output.now;
+      ends = (c.input.ghost_name, c.output.ghost_name, c.files.ghost_name);
+    } };
+
+    fn read(&mut self, alloc: Global, name: &str, limit: usize) -> Result<Vec<u8>, BytesFault> {
+        if !is_input(name) {
+            return self.files.read(name, limit);
+        }
+        if self.is_spent {
+            return Ok(Vec::new(alloc));
+        }
+        self.is_spent = true;
+        read_all(alloc, self.input, limit)
+    }
+
+    fn print(&mut self, text: &[u8]) -> Result<(), Refusal> {
+        match write_all(self.output, text) {
+            Ok(()) => Ok(()),
+            Err(_) => Err(Refusal::Output),
+        }
+    }
+
+    fn print_report(&mut self, verdicts: &Verdicts) -> Result<(), Refusal> {
+        match write_report(verdicts, self.output) {
+            Ok(()) => Ok(()),
+            Err(WriteReportFault::WriteFault) => Err(Refusal::Output),
+        }
+    }
+
+    fn print_snapshot(&mut self, alloc: Global, replica: &Replica) -> Result<(), Refusal> {
+        match write_snapshot(alloc, replica, self.output) {
+            Ok(()) => Ok(()),
+            Err(WriteSnapFault::WriteFault) => Err(Refusal::Output),
+            Err(WriteSnapFault::NoMemory) => Err(Refusal::Memory),
+        }
+    }
+}

@@ -1,0 +1,97 @@
+//! Reads the inputs of commands, each to the limit of its kind, and judges them.
+
+ghost use Rattle.std.specs.Prelude.{◌≡◌, IfOk, IfErr, IsSomeAnd, List, option_map, string_bytes};
+ghost use Rattle.gate_rules.specs.Spelling.{SpellsGate};
+ghost use Rattle.byte_ends.specs.Lines.{lines_of};
+ghost use Rattle.replica_core.specs.Journal.{all_arrived};
+ghost use Rattle.snapshot_text.specs.Snapshot.{SaysOperations};
+ghost use Rattle.review_ops.specs.Operation.{Operation};
+ghost use Rattle.reviewgate.specs.Inputs.{IsGateHad, IsHad, IsRefused, gate_file, input, message_file, script_file, snapshot_file};
+
+use super::console::Console;
+use super::refusal::Refusal;
+use gate_rules::Gate;
+use replica_core::Replica;
+use snapshot_text::{SNAPSHOT_LIMIT, SnapFault, snapshot_onto};
+use std::alloc::Global;
+use std::str;
+
+/// The most bytes of a script, a gate file or a message file: 1 MiB.
+const TEXT_LIMIT: usize = 1_048_576;
+
+/// The gate of a name. Refusals: `File`, it isn't read; `Gate`, it spells no gate.
+pub fn read_gate<C: Console>(alloc: Global, name: &str, console: &mut C) -> Result<Gate, Refusal>
+    ensures had { IfOk result (λ rules. IsHad (input gate_file name.now) (λ text. SpellsGate text rules) (C.state console.old) (C.state console.new)) }
+    ensures refused { IfErr result (IsRefused (input gate_file name.now) (C.state console.old) (C.state console.new)) }
+{
+    let text = console.read(alloc, name, TEXT_LIMIT)?;
+    let rules = Gate::read(alloc, text.as_slice())?;
+    Ok(rules)
+}
+
+/// The gate of a name, where one is given. The refusals are those of `read_gate`.
+pub fn read_any_gate<C: Console>(
+    alloc: Global,
+    name: Option<&str>,
+    console: &mut C,
+) -> Result<Option<Gate>, Refusal>
+    ensures had { IfOk result (λ rules. IsGateHad (option_map (λ gate. gate.now) name.entry) rules (C.state console.old) (C.state console.new)) }
+    ensures refused { IfErr result (λ refusal. IsSomeAnd name.entry (λ gate.
+        IsRefused (input gate_file gate.now) (C.state console.old) (C.state console.new) refusal)) }
+{
+    let Some(name) = name else {
+        return Ok(None);
+    };
+    let rules = read_gate(alloc, name, console)?;
+    Ok(Some(rules))
+}
+
+/// The message of a name. Refusals: `File`, it isn't read; `NotText`, it isn't UTF-8.
+pub fn read_message<C: Console>(
+    alloc: Global,
+    name: &str,
+    console: &mut C,
+) -> Result<String, Refusal>
+    ensures had { IfOk result (λ message. IsHad (input message_file name.now) (λ text. text ≡ string_bytes message) (C.state console.old) (C.state console.new)) }
+    ensures refused { IfErr result (IsRefused (input message_file name.now) (C.state console.old) (C.state console.new)) }
+{
+    let text = console.read(alloc, name, TEXT_LIMIT)?;
+    match String::from_utf8(text) {
+        Ok(message) => Ok(message),
+        Err(_) => Err(Refusal::NotText),
+    }
+}
+
+/// The bytes of the script of a name. Refusal: `File`, it isn't read.
+pub fn read_script<C: Console>(
+    alloc: Global,
+    name: &str,
+    console: &mut C,
+) -> Result<Vec<u8>, Refusal>
+    ensures had { IfOk result (λ script. IsHad (input script_file name.now) (λ text. text ≡ script.items) (C.state console.old) (C.state console.new)) }
+    ensures refused { IfErr result (IsRefused (input script_file name.now) (C.state console.old) (C.state console.new)) }
+{
+    let text = console.read(alloc, name, TEXT_LIMIT)?;
+    Ok(text)
+}
+
+/// The replica to which the operations of the snapshot of a name came, after those that it has. Refusal: `Snapshot`, it isn't read, or says no
+/// operations.
+pub fn read_snapshot<C: Console>(
+    replica: Replica,
+    name: &str,
+    console: &mut C,
+) -> Result<Replica, Refusal>
+    ensures had { IfOk result (λ both. (ops : List Operation) × (both ≡ all_arrived replica ops)
+        × IsHad (input snapshot_file name.now) (λ text. SaysOperations (lines_of text) ops) (C.state console.old) (C.state console.new)) }
+    ensures refused { IfErr result (IsRefused (input snapshot_file name.now) (C.state console.old) (C.state console.new)) }
+{
+    let text = match console.read(replica.allocator(), name, SNAPSHOT_LIMIT) {
+        Ok(text) => text,
+        Err(fault) => return Err(Refusal::Snapshot(SnapFault::from(fault))),
+    };
+    match snapshot_onto(replica, text.as_slice()) {
+        Ok(both) => Ok(both),
+        Err(fault) => Err(Refusal::Snapshot(fault)),
+    }
+}
