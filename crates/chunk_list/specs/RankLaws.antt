@@ -1,8 +1,10 @@
 -- How many pass a test from the front on, in a list that parts at it.
-use Rattle.std.proofs.Common.{◌≡◌, ◌≤◌, ◌<◌, ◌+◌, ◌-◌, ℕ, zero, suc, Bool, true, false, cond, List, [], ◌∷◌, ◌++◌, Option, None, Some, length, get_or, refl, sym, ap, ◌∙◌, arith}
+use Rattle.std.proofs.Common.{◌≡◌, ◌≤◌, ◌<◌, ◌+◌, ◌-◌, ℕ, zero, suc, Bool, true, false, cond, List, [], ◌∷◌, ◌++◌, Option, None, Some, length, get_or, map, refl, sym, ap, ◌∙◌, arith}
 use Rattle.std.specs.Prelude.{slice_get}
+use Rattle.std.specs.List.{insert, remove}
 use Rattle.std.specs.List.Sorted.{IsPartitionPoint, IsPartitionedBy}
-use Rattle.std.proofs.lemmas.List.{length-append}
+use Rattle.std.proofs.lemmas.List.{length-append, length-map, get_or-map}
+use Rattle.std.proofs.lemmas.Bool.{false≢true}
 use Rattle.std.proofs.lemmas.Option.{slice_get_within, get_or_from_slice_get, slice_get-get_or}
 use Rattle.std.proofs.Math.ListN.{get_or-append}
 use Rattle.std.proofs.lemmas.List.{get_or-append-add}
@@ -33,6 +35,25 @@ module _ {T : Type 0} (test : T → Bool) where
   rank-stops (x ∷ xs) (suc k) d inside fails =
       let rest = rank-stops xs k d (omega (arith, inside)) fails in
       elim (test x) as (λ t. cond t (suc (rank test xs)) 0 ≤ suc k) [ true ↦ omega (arith, rest) | false ↦ omega arith ]
+
+  -- and the one there fails
+  pub rank-fails : (xs : List T) (d : T) → rank test xs < length xs → test (get_or xs (rank test xs) d) ≡ false
+  rank-fails [] d inside = absurd (omega (arith, inside))
+  rank-fails (x ∷ xs) d inside = elim (test x) as (λ t. test x ≡ t → cond t (suc (rank test xs)) 0 < suc (length xs) → test (get_or (x ∷ xs) (cond t (suc (rank test xs)) 0) d) ≡ false) [
+    | true ↦ λ e low. rank-fails xs d (omega (arith, low))
+    | false ↦ λ e low. e
+  ] refl inside
+
+  -- ---- a list that is read as another
+  module _ {S : Type 0} (read : S → T) where
+    pub rank-map : (xs : List S) → rank (λ x. test (read x)) xs ≡ rank test (map read xs)
+    rank-map [] = refl
+    rank-map (x ∷ xs) = ap (λ n. cond (test (read x)) (suc n) 0) (rank-map xs)
+
+    pub parted_map : (xs : List S) → IsPartitionedBy test (map read xs) → IsPartitionedBy (λ x. test (read x)) xs
+    parted_map xs parted i j d low inside passes =
+        ap test (sym (get_or-map read xs i d (read d) (omega (arith, low, inside))))
+        ∙ parted i j (read d) low (omega (arith, inside, length-map xs read)) (ap test (get_or-map read xs j d (read d) inside) ∙ passes)
 
   -- past all of the first list where all of it pass, else in it
   pub rank-append_all : (xs ys : List T) → rank test xs ≡ length xs → rank test (xs ++ ys) ≡ length xs + rank test ys
@@ -101,3 +122,43 @@ module _ {T : Type 0} (test : T → Bool) where
       ∙ ap test (sym (get_or-append (x ∷ xs) ys x (length (x ∷ xs) - 1) last))
       ∙ parted (length (x ∷ xs) - 1) (length (x ∷ xs) + at.0) x (omega (arith, last)) (omega (arith, at.1, length-append (x ∷ xs) ys))
       (ap test (get_or-append-add (x ∷ xs) ys at.0 x) ∙ at.2)
+
+  -- ---- one more that fails, before the first that does
+  pub rank-inserted : (xs : List T) (y : T) → test y ≡ false → rank test (insert xs (rank test xs) y) ≡ rank test xs
+  rank-inserted [] y fails = ap (λ t. cond t 1 0) fails
+  rank-inserted (x ∷ xs) y fails = elim (test x) as (λ t. test x ≡ t → rank test (insert (x ∷ xs) (cond t (suc (rank test xs)) 0) y) ≡ cond t (suc (rank test xs)) 0) [
+    | true ↦ λ e. ap (λ t. cond t (suc (rank test (insert xs (rank test xs) y))) 0) e ∙ ap suc (rank-inserted xs y fails)
+    | false ↦ λ e. ap (λ t. cond t (suc (rank test (x ∷ xs))) 0) fails
+  ] refl
+
+  parted_cons : (x : T) (xs : List T) → test x ≡ true → IsPartitionedBy test xs → IsPartitionedBy test (x ∷ xs)
+  parted_cons x xs first parted zero j d low inside passes = first
+  parted_cons x xs first parted (suc i) zero d low inside passes = absurd (omega (arith, low))
+  parted_cons x xs first parted (suc i) (suc j) d low inside passes = parted i j d (omega (arith, low)) (omega (arith, inside)) passes
+
+  parted_before : (y x : T) (xs : List T) → test y ≡ false → test x ≡ false → IsPartitionedBy test (x ∷ xs) → IsPartitionedBy test (y ∷ x ∷ xs)
+  parted_before y x xs first fails parted zero zero d low inside passes = passes
+  parted_before y x xs first fails parted zero (suc j) d low inside passes = absurd (false≢true (sym fails ∙ parted 0 j d (omega arith) (omega (arith, inside)) passes))
+  parted_before y x xs first fails parted (suc i) zero d low inside passes = absurd (omega (arith, low))
+  parted_before y x xs first fails parted (suc i) (suc j) d low inside passes = parted i j d (omega (arith, low)) (omega (arith, inside)) passes
+
+  parted_tail : (x : T) (xs : List T) → IsPartitionedBy test (x ∷ xs) → IsPartitionedBy test xs
+  parted_tail x xs parted i j d low inside passes = parted (suc i) (suc j) d (omega (arith, low)) (omega (arith, inside)) passes
+
+  alone : (y : T) → IsPartitionedBy test (y ∷ [])
+  alone y zero zero d low inside passes = passes
+  alone y zero (suc j) d low inside passes = absurd (omega (arith, inside))
+  alone y (suc i) j d low inside passes = absurd (omega (arith, low, inside))
+
+  pub parted_inserted : (xs : List T) (y : T) → test y ≡ false → IsPartitionedBy test xs → IsPartitionedBy test (insert xs (rank test xs) y)
+  parted_inserted [] y fails parted = alone y
+  parted_inserted (x ∷ xs) y fails parted = elim (test x) as (λ t. test x ≡ t → IsPartitionedBy test (insert (x ∷ xs) (cond t (suc (rank test xs)) 0) y)) [
+    | true ↦ λ e. parted_cons x (insert xs (rank test xs) y) e (parted_inserted xs y fails (parted_tail x xs parted))
+    | false ↦ λ e. parted_before y x xs fails e parted
+  ] refl
+
+-- what was inserted, taken out again
+pub remove-inserted : {T : Type 0} (xs : List T) (i : ℕ) (y : T) → i ≤ length xs → remove (insert xs i y) i ≡ xs
+remove-inserted xs zero y low = refl
+remove-inserted [] (suc i) y low = absurd (omega (arith, low))
+remove-inserted (x ∷ xs) (suc i) y low = ap (λ l. x ∷ l) (remove-inserted xs i y (omega (arith, low)))

@@ -1,16 +1,8 @@
 -- How an operation comes into a journal and a state.
-use Rattle.std.proofs.Common.{◌≡◌, ℕ, Bool, true, false, cond, ◌||◌, List, [], ◌∷◌, ◌++◌, Some, None, refl, sym, ap, subst, ◌∙◌}
-use Rattle.std.specs.Ordering.{nat_cmp, eq_by_cmp}
+use Rattle.std.proofs.Common.{◌≡◌, ℕ, Bool, true, false, cond, List, [], ◌∷◌, ◌++◌, refl, sym, ap, subst, ◌∙◌}
 use Rattle.std.specs.List.{AllByRecursion, IsDistinct}
-use Rattle.std.specs.FinMap.{get, insert, get-insert}
 use Rattle.std.proofs.lemmas.Bool.{or_parts}
-use Rattle.lattice_core.specs.Keep.{numbers_exact}
-use Rattle.lattice_core.specs.JoinMap.{joined_to, same_at_each_key}
-use Rattle.review_ops.specs.Deed.{change_of}
 use Rattle.review_ops.specs.Operation.{Operation}
-use Rattle.change_core.specs.Change.{Change, no_change, change_joined, effect_of}
-use Rattle.change_core.specs.StateLaws.{no_change-joined}
-use Rattle.lattice_core.specs.Exact.{same_by_test}
 use Rattle.std.proofs.Common.{max}
 use Rattle.std.proofs.lemmas.List.{map-append}
 use Rattle.std.proofs.lemmas.List.Sums.{fold-append}

@@ -1,15 +1,11 @@
 -- Journals as sets: two that have the same operations, in whatever order they came, have the same state.
-use Rattle.std.specs.Prelude.{◌≡◌, ◌≤◌, ◌+◌, ℕ, Bool, true, false, ◌||◌, ◌&&◌, cond, List, [], ◌∷◌, map, filter, fold, max, Option, None, Some, MatchOption, Contains}
+use Rattle.std.specs.Prelude.{◌≡◌, ◌≤◌, ◌+◌, ℕ, Bool, true, false, ◌||◌, ◌&&◌, cond, List, [], ◌∷◌, map, filter, fold, max, Contains}
 use Rattle.std.specs.List.{Any, list_any}
-use Rattle.std.specs.FinMap.{get}
 use Rattle.std.proofs.Common.{refl, sym, ap, ◌∙◌, subst, arith}
 use Rattle.std.proofs.lemmas.Bool.{false≢true}
 use Rattle.std.proofs.lemmas.List.Folds.{Any-from_list_any, list_any-from_Any}
 use Rattle.std.proofs.Math.Nat.{le-max_left, le-max_right, max-le}
 use Rattle.review_ops.specs.Operation.{Operation}
-use Rattle.change_core.specs.Change.{Change}
-use Rattle.change_core.specs.StateOf.{IsStateOf}
-use Rattle.change_core.specs.StateLaws.{state_of_same}
 use Rattle.std.proofs.lemmas.Bool.{false_from_ne_true}
 use Rattle.replica_core.specs.Journal.{has, same_operation}
 use Rattle.replica_core.specs.InOrder.{same_is_equal, same_itself}
