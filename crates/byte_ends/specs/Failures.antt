@@ -20,23 +20,3 @@ abbrev pub CountsFailure : {T E : Type 0} → ℕ → ℕ → Result T E → Typ
 CountsFailure old new r = MatchResult r (λ _. new ≡ old) (λ _. OneFailed old new)
 
 -- ---- laws of use
-
-pub NoneFailed-not_one : (old new : ℕ) → NoneFailed old new → OneFailed old new → ⊥
-NoneFailed-not_one old new none one = omega (arith, none.same, none.below)
-
--- where no call failed, this one answered `Ok`
-pub NoneFailed-ok : {T E : Type 0} (old new : ℕ) (r : Result T E) → CountsFailure old new r → NoneFailed old new → IsOk r
-NoneFailed-ok old new (Ok x) counted none = refl
-NoneFailed-ok old new (Err e) counted none = absurd (NoneFailed-not_one old new none counted)
-
--- where no call failed, none did in any part of the time
-pub NoneFailed-between : (old mid new : ℕ) → old ≤ mid → mid ≤ new → NoneFailed old new → NoneFailed old mid × NoneFailed mid new
-NoneFailed-between old mid new front back none =
-    let same = none.same in
-    let below = none.below in
-    (record { same = omega arith; below = below }, record { same = omega arith; below = omega arith })
-
--- a count never falls
-pub CountsFailure-rises : {T E : Type 0} (old new : ℕ) (r : Result T E) → old ≤ most_failures → CountsFailure old new r → old ≤ new
-CountsFailure-rises old new (Ok x) most counted = omega arith
-CountsFailure-rises old new (Err e) most counted = omega arith

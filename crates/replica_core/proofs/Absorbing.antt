@@ -1,6 +1,6 @@
 -- How a journal comes into another, one operation after the other.
 use Rattle.std.proofs.Common.{◌≡◌, ℕ, zero, suc, ◌+◌, ◌<◌, length, arith, Bool, true, false, List, [], ◌∷◌, ◌++◌, take, drop, reverse, Result, Ok, Err, sym, ap, subst, ◌∙◌, add-one}
-use Rattle.std.specs.Prelude.{is_err, OnErr, IfOk}
+use Rattle.std.specs.Prelude.{is_err, OnOk, OnErr, IfOk}
 use Rattle.std.specs.List.Sorted.{IsPermutation, IsSorted}
 use Rattle.std.proofs.lemmas.Bool.{false≢true}
 use Rattle.std.proofs.lemmas.List.{take-append-drop, append-nil, reverse-append, length-drop}
@@ -22,9 +22,17 @@ pub at_ok : {T E : Type 0} {P : T → Type 0} {Q : Type 0} (r : Result T E) (fai
 at_ok (Ok x) failed is no_error f h = f x h
 at_ok (Err e) failed is no_error f h = absurd (false≢true (sym no_error ∙ is))
 
+pub at_no_err : {T E P : Type 0} (r : Result T E) (failed : Bool) → failed ≡ is_err r → failed ≡ false → OnOk r P → P
+at_no_err (Ok x) failed is no_error h = h
+at_no_err (Err e) failed is no_error h = absurd (false≢true (sym no_error ∙ is))
+
 pub on_err_always : {T E P : Type 0} (r : Result T E) → P → OnErr r P
 on_err_always (Ok x) p = tt
 on_err_always (Err e) p = p
+
+pub either_way : {T E P Q R : Type 0} (r : Result T E) → OnOk r P → OnErr r Q → (P → R) → (Q → R) → R
+either_way (Ok x) ok err f g = f ok
+either_way (Err e) ok err f g = g err
 
 -- what comes next leaves the rest
 next_left : (xs : List Operation) (i : ℕ) (x : Operation) (rest : List Operation) → drop i xs ≡ x ∷ rest → (drop (suc i) xs ≡ rest) × (take (suc i) xs ≡ take i xs ++ x ∷ [])

@@ -1,12 +1,12 @@
 -- A line's places and the operations there.
-use Rattle.std.proofs.Common.{◌≡◌, ◌≤◌, ◌<◌, ◌-◌, ◌&&◌, ℕ, suc, Bool, true, false, cond, List, [], ◌∷◌, Option, None, Some, length, get_or, take, ◌++◌, ◌+◌, refl, sym, ap, subst, ◌∙◌, arith}
+use Rattle.std.proofs.Common.{◌≡◌, ◌<◌, ◌&&◌, ℕ, suc, Bool, true, cond, List, [], ◌∷◌, None, Some, length, get_or, refl, sym, ap, subst, ◌∙◌, arith}
 use Rattle.std.specs.Prelude.{slice_get}
-use Rattle.std.specs.List.{All, AllByRecursion, ItemBy}
+use Rattle.std.specs.List.{All, AllByRecursion}
 use Rattle.std.specs.Option.{option_map}
-use Rattle.std.specs.List.Sorted.{IsPartitionPoint, IsPartitionedBy}
+use Rattle.std.specs.List.Sorted.{IsPartitionedBy}
 use Rattle.std.specs.declared.cmp.Ordering.TheVariants.{Less}
-use Rattle.std.proofs.lemmas.Option.{slice_get_past, slice_get_read, slice_get-map, slice_get-get_or, slice_get_within, get_or_from_slice_get}
-use Rattle.std.proofs.lemmas.List.{get_or-map, get_or_default, map_more, append_assoc}
+use Rattle.std.proofs.lemmas.Option.{slice_get-map, slice_get-get_or, slice_get_within, get_or_from_slice_get}
+use Rattle.std.proofs.lemmas.List.{get_or-map}
 use Rattle.std.proofs.lemmas.List.{length-map}
 use Rattle.std.proofs.lemmas.List.Elements.{recursion_from_All, Contains-get_or, All-same, All-head, All-tail}
 use Rattle.review_ops.specs.Operation.{Operation}
@@ -14,11 +14,12 @@ use Rattle.replica_core.specs.Clock.{is_of}
 use Rattle.replica_core.specs.Journal.{has}
 use Rattle.replica_core.specs.Missing.{row_by_row}
 use Rattle.replica_core.specs.Sets.{has-filter, has-from_Contains}
-use Rattle.replica_core.specs.Ranks.{rank}
+use Rattle.chunk_list.specs.Ranks.{rank}
 use Rattle.replica_core.specs.RowLine.{RowLine}
 use Rattle.replica_core.specs.Lines.{op_at, ops_at, ops_of, IsFiled}
-use Rattle.replica_core.specs.Searches.{passes_at, is_some_passing}
-use Rattle.replica_core.proofs.Ranked.{rank-point, parts}
+use Rattle.replica_core.specs.Searches.{passes_at}
+use Rattle.chunk_list.specs.Chunks.{is_some_passing}
+use Rattle.replica_core.proofs.Ranked.{parts}
 use Rattle.replica_core.proofs.Sought.{IsOf, both}
 
 -- ---- tests of places
@@ -40,14 +41,6 @@ module _ (test : Operation → Bool) (journal : List Operation) where
       at_index places inside i d (omega (arith, low, high))
       ∙ parted i j (op_at journal d) low (omega (arith, high, length-map places (op_at journal))) (sym (at_index places inside j d high) ∙ passes)
 
--- where the last one passes, all do
-pub last_passes : (p : ℕ → Bool) (places : List ℕ) (last : ℕ) → Some last ≡ slice_get places (length places - 1) → p last ≡ true → IsPartitionedBy p places → IsPartitionPoint (λ x. p x ≡ true) (λ x. p x ≡ false) places (length places)
-last_passes p places last there passes parted =
-    let inside : length places - 1 < length places = slice_get_within places (length places - 1) last (sym there) in (
-      λ k d low high. parted k (length places - 1) d (omega (arith, high)) inside (ap p (get_or_from_slice_get places (length places - 1) last d (sym there)) ∙ passes),
-      λ k d low high. absurd (omega (arith, low, high)),
-    )
-
 module _ (journal : List Operation) (line : RowLine) (filed : IsFiled journal line) where
   pub has_of : (op : Operation) → has (ops_of journal line) op ≡ (is_of line.site line.start op && has journal op)
   has_of op = filed.ordered.members op ∙ has-filter (is_of line.site line.start) journal op
@@ -66,8 +59,8 @@ module _ (journal : List Operation) (line : RowLine) (filed : IsFiled journal li
     pub placed_parts : IsPartitionedBy (passes_at test journal) places
     placed_parts = parts-places test journal places inside (subst (λ l. IsPartitionedBy test (ops_at journal l)) (sym are) (parts test row_by_row (IsOf line.site line.start) falls (ops_of journal line) filed.ordered.sorted all_of))
 
-    pub placed_rank : (i : ℕ) → i ≤ length places → IsPartitionPoint (λ x. passes_at test journal x ≡ true) (λ x. passes_at test journal x ≡ false) places i → i ≡ rank test (ops_of journal line)
-    placed_rank i low point = rank-point (passes_at test journal) places i low point ∙ rank-places test journal places inside ∙ ap (λ l. rank test (ops_at journal l)) are
+    pub placed_rank : rank (passes_at test journal) places ≡ rank test (ops_of journal line)
+    placed_rank = rank-places test journal places inside ∙ ap (λ l. rank test (ops_at journal l)) are
 
   -- the operation at one of its places
   pub placed_op : (places : List ℕ) → places ≡ line.places → (index place : ℕ) → Some place ≡ slice_get places index → slice_get (ops_of journal line) index ≡ slice_get journal place
@@ -78,17 +71,6 @@ module _ (journal : List Operation) (line : RowLine) (filed : IsFiled journal li
       ∙ ap (option_map (op_at journal)) (ap (λ l. slice_get l index) (sym are) ∙ sym there)
       ∙ sym (slice_get-get_or journal place _ inside)
 
--- what a look at an index lends
-pub copied_at : {T B : Type 0} (read : B → T) (xs : List T) (i : ℕ) (found : Option B) → ItemBy read xs i i found → option_map read found ≡ slice_get xs i
-copied_at read xs i None is = sym (slice_get_past xs i is.3)
-copied_at read xs i (Some b) is = sym (slice_get_read xs (length xs) i (read b) refl is.3.0 is.1)
-
--- one more operation has been copied
-pub copied_more : (journal : List Operation) (places : List ℕ) (i : ℕ) → i < length places → (op copied : Operation) → op ≡ get_or journal (get_or places i 0) op → get_or places i 0 < length journal → copied ≡ op
-    → (initial so_far next : List Operation) → so_far ≡ initial ++ ops_at journal (take i places) → next ≡ so_far ++ copied ∷ [] → next ≡ initial ++ ops_at journal (take (i + 1) places)
-copied_more journal places i low op copied here inside same initial so_far next is next_is =
-    next_is ∙ ap (λ l. l ++ copied ∷ []) is ∙ append_assoc initial (ops_at journal (take i places)) (copied ∷ [])
-    ∙ ap (λ l. initial ++ l) (
-    ap (λ o. ops_at journal (take i places) ++ o ∷ []) (same ∙ here ∙ get_or_default journal (get_or places i 0) op _ inside)
-    ∙ sym (map_more (op_at journal) places i 0 low)
-    )
+  -- where there is no place there is no operation
+  pub placed_none : (places : List ℕ) → places ≡ line.places → (index : ℕ) → None ≡ slice_get places index → None ≡ slice_get (ops_of journal line) index
+  placed_none places are index none = sym (slice_get-map (op_at journal) line.places index ∙ ap (option_map (op_at journal)) (ap (λ l. slice_get l index) (sym are) ∙ sym none))

@@ -14,7 +14,7 @@ use Rattle.replica_core.specs.Front.{holds}
 use Rattle.replica_core.specs.InOrder.{IsInOrder}
 use Rattle.replica_core.specs.Journal.{same_operation, has}
 use Rattle.replica_core.specs.Missing.{row_by_row, row_by_row_exact}
-use Rattle.replica_core.specs.Ranks.{rank}
+use Rattle.chunk_list.specs.Ranks.{rank}
 use Rattle.replica_core.specs.RowLine.{RowLine}
 use Rattle.replica_core.specs.Lines.{op_at, ops_at, ops_of, row_of, IsFiled}
 use Rattle.replica_core.specs.Searches.{is_below}

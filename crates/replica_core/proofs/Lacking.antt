@@ -1,16 +1,13 @@
 -- What a front lacks, line by line.
-use Rattle.std.proofs.Common.{◌≡◌, ◌≤◌, ◌<◌, ◌+◌, ◌-◌, ◌&&◌, ◌||◌, ◌==◌, inl, inr, min, ℕ, suc, zero, Bool, true, false, cond, List, [], ◌∷◌, ◌++◌, flat_map, filter, take, drop, length, get_or, refl, sym, ap, subst, ◌∙◌, arith, eq-eqb}
+use Rattle.std.proofs.Common.{◌≡◌, ◌≤◌, ◌<◌, ◌&&◌, ◌||◌, ◌==◌, ℕ, Bool, true, false, cond, List, [], ◌∷◌, ◌++◌, flat_map, filter, take, length, get_or, refl, sym, ap, subst, ◌∙◌, arith, eq-eqb, take_at, append_assoc}
 use Rattle.std.specs.Prelude.{nat_lt}
 use Rattle.std.specs.declared.cmp.Ordering.{Ordering}
 use Rattle.std.specs.declared.cmp.Ordering.TheVariants.{Less, Equal, Greater}
 use Rattle.std.specs.Ordering.{ordering_then, nat_cmp}
 use Rattle.std.specs.List.{All, AllByRecursion, list_any}
 use Rattle.std.specs.List.Sorted.{IsStrictlySortedBy}
-use Rattle.std.proofs.lemmas.Bool.{cases_lt, ltb-true, ltb-false, lt-ltb, le-ltb}
-use Rattle.std.proofs.lemmas.Bool.Decides.{nat_tests}
-use Rattle.std.proofs.Math.Nat.{min-eq_left, min-eq_right}
-use Rattle.std.proofs.lemmas.List.{length-map, length-append, take-map, take_all, take_more, take-append-le, take-append-drop, append-nil}
-use Rattle.std.proofs.lemmas.List.Concat.{flat_map-append}
+use Rattle.std.proofs.lemmas.Bool.{ltb-true, ltb-false, lt-ltb, le-ltb}
+use Rattle.std.proofs.lemmas.List.{length-map, length-append, take_all, take-append-le}
 use Rattle.std.proofs.lemmas.List.Elements.{All-head, All-tail}
 use Rattle.std.proofs.lemmas.List.Folds.{list_any-append, list_any_at}
 use Rattle.std.proofs.lemmas.List.Kept.{IsStrictlySortedBy-filter}
@@ -22,7 +19,7 @@ use Rattle.replica_core.specs.Journal.{same_operation, has}
 use Rattle.replica_core.specs.Missing.{row_by_row, is_past, IsMissing}
 use Rattle.replica_core.specs.Sets.{has-filter}
 use Rattle.replica_core.specs.RowLine.{RowLine}
-use Rattle.replica_core.specs.Lines.{op_at, ops_at, ops_of, row_of, rows_of, IsLine, AreLines}
+use Rattle.replica_core.specs.Lines.{ops_of, row_of, rows_of, IsLine, AreLines}
 use Rattle.replica_core.specs.Searches.{ops_past}
 use Rattle.replica_core.proofs.Sought.{IsOf, site_of, start_of}
 use Rattle.replica_core.proofs.Filed.{all_of, has_of}
@@ -153,73 +150,34 @@ module _ (journal : List Operation) (front : Reaches) where
     }
 
 -- ---- up to a limit
-take_joined : {T : Type 0} (old past : List T) (limit : ℕ) → length old ≤ limit → take limit (old ++ past) ≡ old ++ take (limit - length old) past
-take_joined [] past limit low = ap (λ n. take n past) (omega arith)
-take_joined (x ∷ old) past zero low = absurd (omega (arith, low))
-take_joined (x ∷ old) past (suc limit) low = ap (λ l. x ∷ l) (take_joined old past limit (omega (arith, low)) ∙ ap (λ n. old ++ take n past) (omega arith))
-
-take_least : {T : Type 0} (n : ℕ) (xs : List T) → take (min n (length xs)) xs ≡ take n xs
-take_least n xs = elim (cases_lt n (length xs)) [
-  | inl low ↦ ap (λ m. take m xs) (min-eq_left (omega (arith, low)))
-  | inr high ↦ ap (λ m. take m xs) (min-eq_right high) ∙ take_all (length xs) xs (omega arith) ∙ sym (take_all n xs high)
-]
-
-beyond : (limit len more : ℕ) → len ≤ limit → nat_lt (limit - len) more ≡ nat_lt limit (len + more)
-beyond limit len more low = grind (arith, nat_tests)
-
-pub copied_past : (journal : List Operation) (list : List ℕ) (old past new : List Operation) (limit len count : ℕ) → ops_at journal list ≡ past → length old ≤ limit → len ≡ length old → count ≡ min (limit - len) (length list)
-    → new ≡ old ++ ops_at journal (take count list) → (new ≡ take limit (old ++ past)) × (nat_lt (limit - len) (length list) ≡ nat_lt limit (length (old ++ past)))
-copied_past journal list old past new limit len count are low len_is count_is new_is = (
-  new_is
-      ∙ ap (λ l. old ++ l) (ap (λ n. ops_at journal (take n list)) count_is ∙ ap (ops_at journal) (take_least (limit - len) list) ∙ sym (take-map (op_at journal) (limit - len) list) ∙ ap (take (limit - len)) are ∙ ap (λ n. take (limit - n) past) len_is)
-      ∙ sym (take_joined old past limit low),
-  ap (λ n. nat_lt (limit - n) (length list)) len_is
-      ∙ beyond limit (length old) (length list) low
-      ∙ ap (λ n. nat_lt limit (length old + n)) (sym (length-map list (op_at journal)) ∙ ap length are)
-      ∙ ap (nat_lt limit) (sym (length-append old past)),
-)
-
-module _ (whole so_far past rest : List Operation) (limit : ℕ) (is : whole ≡ (so_far ++ past) ++ rest) where
-  -- others are left once the limit is reached
-  pub left_over : nat_lt limit (length (so_far ++ past)) ≡ true → (take limit (so_far ++ past) ≡ take limit whole) × (true ≡ nat_lt limit (length whole))
-  left_over more =
-      let high : limit < length (so_far ++ past) = ltb-true limit (length (so_far ++ past)) more in (
-        sym (ap (take limit) is ∙ take-append-le limit (so_far ++ past) rest (omega (arith, high))),
-        sym (ap (λ l. nat_lt limit (length l)) is ∙ lt-ltb limit (length ((so_far ++ past) ++ rest)) (omega (arith, high, length-append (so_far ++ past) rest))),
-      )
-
 -- all are copied where the limit isn't passed
-pub all_copied : (ops : List Operation) (limit : ℕ) → nat_lt limit (length ops) ≡ false → (take limit ops ≡ ops) × (length ops ≤ limit)
+all_copied : (ops : List Operation) (limit : ℕ) → nat_lt limit (length ops) ≡ false → (take limit ops ≡ ops) × (length ops ≤ limit)
 all_copied ops limit none = let low : length ops ≤ limit = ltb-false limit (length ops) none in (take_all limit ops low, low)
 
 pub nothing_left : (ops : List Operation) (limit : ℕ) → length ops ≤ limit → (ops ≡ take limit ops) × (false ≡ nat_lt limit (length ops))
 nothing_left ops limit low = (sym (take_all limit ops low), sym (le-ltb limit (length ops) low))
 
--- the lines so far, the one at hand and those to come
-pub lacked_more : (journal : List Operation) (front : Reaches) (lines : List RowLine) (i : ℕ) (d : RowLine) → i < length lines → lacked journal front (take (i + 1) lines) ≡ lacked journal front (take i lines) ++ past journal front (get_or lines i d)
-lacked_more journal front lines i d low =
-    ap (lacked journal front) (take_more lines i d low) ∙ flat_map-append (past journal front) (take i lines) (get_or lines i d ∷ [])
-    ∙ ap (λ l. lacked journal front (take i lines) ++ l) (append-nil (past journal front (get_or lines i d)))
+-- others are left where as many as the limit are in, and one more is to come
+pub one_left : (ops whole rest : List Operation) (op : Operation) (limit : ℕ) → length ops ≡ limit → ops ++ op ∷ rest ≡ whole → (ops ≡ take limit whole) × (true ≡ nat_lt limit (length whole))
+one_left ops whole rest op limit full is = (
+  sym (ap (take limit) (sym is) ∙ take_at ops (op ∷ rest) limit full),
+  sym (ap (λ l. nat_lt limit (length l)) (sym is) ∙ lt-ltb limit (length (ops ++ op ∷ rest)) (omega (arith, full, length-append ops (op ∷ rest)))),
+)
 
-pub lacked_whole : (journal : List Operation) (front : Reaches) (lines : List RowLine) (i : ℕ) (d : RowLine) → i < length lines
-    → lacked journal front lines ≡ (lacked journal front (take i lines) ++ past journal front (get_or lines i d)) ++ lacked journal front (drop (i + 1) lines)
-lacked_whole journal front lines i d low =
-    ap (lacked journal front) (sym (take-append-drop (i + 1) lines)) ∙ flat_map-append (past journal front) (take (i + 1) lines) (drop (i + 1) lines)
-    ∙ ap (λ l. l ++ lacked journal front (drop (i + 1) lines)) (lacked_more journal front lines i d low)
+-- what was copied, this line's and what later lines lack are the whole
+module _ (ops past rest whole new : List Operation) (limit : ℕ) (more : Bool) (is : ops ++ (past ++ rest) ≡ whole) (copied : new ≡ take limit (ops ++ past)) (left : more ≡ nat_lt limit (length (ops ++ past))) where
+  joined : (ops ++ past) ++ rest ≡ whole
+  joined = append_assoc ops past rest ∙ is
 
-module _ (journal : List Operation) (front : Reaches) (lines : List RowLine) (i : ℕ) (line : RowLine) (low : i < length lines) (here : line ≡ get_or lines i line) (ops added new : List Operation) (limit : ℕ) (more : Bool)
-    (so_far : ops ≡ lacked journal front (take i lines)) (is : added ≡ past journal front line) (copied : new ≡ take limit (ops ++ added)) (left : more ≡ nat_lt limit (length (ops ++ added))) where
-  joined : ops ++ added ≡ lacked journal front (take i lines) ++ past journal front (get_or lines i line)
-  joined = ap (λ l. l ++ added) so_far ∙ ap (λ l. lacked journal front (take i lines) ++ l) (is ∙ ap (past journal front) here)
-
-  pub stopped : more ≡ true → (new ≡ take limit (lacked journal front lines)) × (true ≡ nat_lt limit (length (lacked journal front lines)))
+  pub stopped : more ≡ true → (new ≡ take limit whole) × (true ≡ nat_lt limit (length whole))
   stopped some =
-      let parts = left_over (lacked journal front lines) (lacked journal front (take i lines)) (past journal front (get_or lines i line)) (lacked journal front (drop (i + 1) lines)) limit (lacked_whole journal front lines i line low)
-      (ap (λ l. nat_lt limit (length l)) (sym joined) ∙ sym left ∙ some) in
-      (copied ∙ ap (take limit) joined ∙ parts.0, parts.1)
+      let high : limit < length (ops ++ past) = ltb-true limit (length (ops ++ past)) (sym left ∙ some) in (
+        copied ∙ sym (take-append-le limit (ops ++ past) rest (omega (arith, high))) ∙ ap (take limit) joined,
+        sym (ap (λ l. nat_lt limit (length l)) (sym joined) ∙ lt-ltb limit (length ((ops ++ past) ++ rest)) (omega (arith, high, length-append (ops ++ past) rest))),
+      )
 
-  pub gone_on : more ≡ false → (new ≡ lacked journal front (take (i + 1) lines)) × (length new ≤ limit)
+  pub gone_on : more ≡ false → (new ++ rest ≡ whole) × (length new ≤ limit)
   gone_on none =
-      let parts = all_copied (ops ++ added) limit (sym left ∙ none) in
-      let all : new ≡ ops ++ added = copied ∙ parts.0 in
-      (all ∙ joined ∙ sym (lacked_more journal front lines i line low), subst (λ l. length l ≤ limit) (sym all) parts.1)
+      let parts = all_copied (ops ++ past) limit (sym left ∙ none) in
+      let all : new ≡ ops ++ past = copied ∙ parts.0 in
+      (ap (λ l. l ++ rest) all ∙ joined, subst (λ l. length l ≤ limit) (sym all) parts.1)

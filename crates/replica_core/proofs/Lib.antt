@@ -5,6 +5,7 @@ pub mod Greatest
 pub mod LineLists
 pub mod Filing
 pub mod Growing
+pub mod Exchanged
 pub mod Lookups
 pub mod Reaching
 pub mod Effects

@@ -1,5 +1,5 @@
 -- What the line of a row says of the whole journal.
-use Rattle.std.proofs.Common.{◌≡◌, ◌<◌, ◌&&◌, ◌==◌, ℕ, Bool, true, false, List, length, get_or, filter, refl, sym, ap, subst, ◌∙◌, eq-eqb}
+use Rattle.std.proofs.Common.{◌≡◌, ◌&&◌, ◌==◌, Bool, true, false, List, filter, refl, sym, ap, subst, ◌∙◌, eq-eqb}
 use Rattle.std.specs.List.{Any, Contains, list_any}
 use Rattle.std.proofs.lemmas.List.Folds.{Any-from_list_any}
 use Rattle.review_ops.specs.Timestamp.{Timestamp, timestamps_exact}
@@ -13,14 +13,10 @@ use Rattle.replica_core.specs.RowLine.{RowLine}
 use Rattle.replica_core.specs.Lines.{ops_of, row_of, rows_of, IsFiled, IsLine, AreLines}
 use Rattle.replica_core.proofs.Sought.{has_it}
 use Rattle.replica_core.proofs.Greatest.{kept_any}
-use Rattle.replica_core.proofs.LineLists.{row_at}
 
-module _ (journal : List Operation) (lines : List RowLine) (are : AreLines journal lines) (index : ℕ) (inside : index < length lines) (line : RowLine) (there : line ≡ get_or lines index line) where
-  pub line_at : IsLine journal line
-  line_at = subst (IsLine journal) (sym there) (are.each index line inside)
-
-  pub row_found : (row : ℕ × ℕ) → ((d : ℕ × ℕ) → get_or (rows_of lines) index d ≡ row) → row_of line ≡ row
-  row_found row at = ap row_of there ∙ sym (row_at lines index inside row line) ∙ at row
+-- a line that is there is that of its row
+pub line_in : (journal : List Operation) (lines : List RowLine) → AreLines journal lines → (line : RowLine) → Contains lines line → IsLine journal line
+line_in journal lines are line there = subst (IsLine journal) there.2 (are.each there.0 line there.1)
 
 module _ (journal : List Operation) (line : RowLine) (filed : IsFiled journal line) (stamp : Timestamp) (row : row_of line ≡ (stamp.site, stamp.start)) where
   of_stamp : (op : Operation) → has_it stamp op ≡ true → is_of line.site line.start op ≡ true
@@ -46,11 +42,3 @@ module _ (journal : List Operation) (lines : List RowLine) (are : AreLines journ
       let found : Any (λ op. has_it stamp op ≡ true) journal = Any-from_list_any (has_it stamp) journal h in
       let same : found.1.stamp ≡ stamp = same_by_test timestamps_exact found.1.stamp stamp found.4 in
       none (subst (Contains (rows_of lines)) (ap (λ s. (s.site, s.start)) same) (are.whole found.1 (has-from_Contains journal found.1 (found.0, found.2, found.3)))))
-
--- what the search for a line found, in the lines themselves
-pub found_in : (slice lines : List RowLine) → slice ≡ lines → (index : ℕ) (row want : ℕ × ℕ) → row ≡ want
-    → (index < length slice) × ((d : ℕ × ℕ) → get_or (rows_of slice) index d ≡ row) → (index < length lines) × ((d : ℕ × ℕ) → get_or (rows_of lines) index d ≡ want)
-found_in slice lines same index row want equal found = (subst (λ l. index < length l) same found.0, λ d. ap (λ l. get_or (rows_of l) index d) (sym same) ∙ found.1 d ∙ equal)
-
-pub none_in : (slice lines : List RowLine) → slice ≡ lines → (row want : ℕ × ℕ) → row ≡ want → (Contains (rows_of slice) row → ⊥) → Contains (rows_of lines) want → ⊥
-none_in slice lines same row want equal none there = none (subst (λ l. Contains (rows_of l) row) (sym same) (subst (Contains (rows_of lines)) (sym equal) there))

@@ -1,31 +1,15 @@
 -- Where a search in a list that is in order ends, and what an insertion there leaves.
-use Rattle.std.proofs.Common.{◌≡◌, ◌≤◌, ◌<◌, ℕ, zero, suc, Bool, true, false, cond, List, [], ◌∷◌, length, get_or, refl, sym, ap, ◌∙◌, arith}
+use Rattle.std.proofs.Common.{◌≡◌, ◌<◌, zero, suc, Bool, true, false, cond, List, [], ◌∷◌, length, get_or, refl, ◌∙◌, arith}
 use Rattle.std.specs.declared.cmp.Ordering.{Ordering}
 use Rattle.std.specs.declared.cmp.Ordering.TheVariants.{Less, Equal, Greater}
 use Rattle.std.specs.Ordering.{is_lt, ordering_reverse}
 use Rattle.std.specs.List.{AllByRecursion, insert}
-use Rattle.std.specs.List.Sorted.{IsStrictlySortedBy, IsPartitionPoint, IsPartitionedBy}
+use Rattle.std.specs.List.Sorted.{IsStrictlySortedBy, IsPartitionedBy}
 use Rattle.std.proofs.lemmas.List.Elements.{All-from_recursion}
 use Rattle.lattice_core.specs.Keep.{IsExactOrder}
-use Rattle.replica_core.specs.Ranks.{rank}
+use Rattle.chunk_list.specs.Ranks.{rank}
 
 module _ {T : Type 0} (test : T → Bool) where
-  pub rank-le : (xs : List T) → rank test xs ≤ length xs
-  rank-le [] = omega arith
-  rank-le (x ∷ xs) = elim (test x) as (λ t. cond t (suc (rank test xs)) 0 ≤ suc (length xs)) [ true ↦ omega (arith, rank-le xs) | false ↦ omega arith ]
-
-  -- the point where a list parts is the rank
-  pub rank-point : (xs : List T) (i : ℕ) → i ≤ length xs → IsPartitionPoint (λ x. test x ≡ true) (λ x. test x ≡ false) xs i → i ≡ rank test xs
-  rank-point [] zero inside point = refl
-  rank-point [] (suc i) inside point = absurd (omega (arith, inside))
-  rank-point (x ∷ xs) zero inside point = ap (λ t. cond t (suc (rank test xs)) 0) (sym (point.1 0 x (omega arith) (omega arith)))
-  rank-point (x ∷ xs) (suc i) inside point =
-      ap suc (rank-point xs i (omega (arith, inside)) (
-        λ k d low high. point.0 (suc k) d (omega arith) (omega (arith, high)),
-        λ k d low high. point.1 (suc k) d (omega (arith, low)) (omega (arith, high)),
-      ))
-      ∙ ap (λ t. cond t (suc (rank test xs)) 0) (sym (point.0 0 x (omega arith) (omega arith)))
-
   -- a list in order parts at a test that no element passes after one that fails
   module _ (order : T → T → Ordering) (In : T → Type 0) (falls : (x y : T) → In x → In y → order x y ≡ Less → test y ≡ true → test x ≡ true) where
     pub parts : (xs : List T) → IsStrictlySortedBy order xs → AllByRecursion In xs → IsPartitionedBy test xs

@@ -19,9 +19,10 @@ use Rattle.lattice_core.specs.Exact.{same_by_test}
 use Rattle.replica_core.specs.InOrder.{same_is_equal}
 use Rattle.replica_core.specs.Journal.{same_operation, has, has_stamp}
 use Rattle.replica_core.specs.Missing.{row_by_row, row_by_row_exact}
-use Rattle.replica_core.specs.Ranks.{rank}
+use Rattle.chunk_list.specs.Ranks.{rank}
 use Rattle.replica_core.proofs.Ranked.{less_than}
-use Rattle.replica_core.specs.Searches.{is_below, is_before, is_within, is_some_passing, ops_past}
+use Rattle.replica_core.specs.Searches.{is_below, is_before, is_within, ops_past}
+use Rattle.chunk_list.specs.Chunks.{is_some_passing}
 
 -- ---- the first that doesn't pass
 module _ (test match : Operation → Bool) (In : Operation → Type 0)

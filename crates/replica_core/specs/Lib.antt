@@ -7,7 +7,6 @@ pub mod Front
 pub mod FrontShown
 pub mod Missing
 pub mod FrontLaws
-pub mod Ranks
 pub mod RowLine
 pub mod Lines
 pub mod Searches

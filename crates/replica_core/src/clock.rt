@@ -4,7 +4,7 @@ ghost use Rattle.std.specs.Prelude.{◌≡◌, ◌↔◌, IfOk, IsErr};
 ghost use Rattle.replica_core.specs.Clock.{greatest, seqs, next_of, IsSpent};
 
 use super::front::Row;
-use super::line::find_line;
+use super::lines::find_line;
 use super::replica::Replica;
 use super::taken::ClockSpent;
 use review_ops::Stamp;
@@ -30,9 +30,9 @@ impl<A: Allocator + Copy> Replica<A> {
     fn last_seq(&self, row: Row) -> u64
         ensures { result ≡ greatest (seqs row.site row.start self.now) }
     {
-        match find_line(self.lines.as_slice(), row) {
-            Ok(index) => self.lines[index].last_seq(self.arrivals.as_slice()),
-            Err(_) => 0,
+        match find_line(&self.lines, row) {
+            Some(line) => line.last_seq(self.arrivals.as_slice()),
+            None => 0,
         }
     }
 }

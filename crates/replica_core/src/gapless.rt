@@ -7,6 +7,7 @@ ghost use Rattle.replica_core.specs.Lines.{front_of};
 use super::front::Front;
 use super::line::Line;
 use super::replica::Replica;
+use chunk_list::ChunkList;
 use lattice_core::NoMemory;
 use std::alloc::Allocator;
 
@@ -16,16 +17,19 @@ impl<A: Allocator + Copy> Replica<A> {
     pub fn front(&self) -> Result<Front<A>, NoMemory>
         ensures { IfOk result (λ front. IsFront self.now front) }
     {
-        front_of(self.allocator(), self.lines.as_slice())
+        front_of(self.allocator(), &self.lines)
     }
 }
 
 /// How far these lines go without a gap.
-fn front_of<A: Allocator + Copy>(alloc: A, lines: &[Line<A>]) -> Result<Front<A>, NoMemory>
+fn front_of<A: Allocator + Copy>(
+    alloc: A,
+    lines: &ChunkList<Line<A>, A>,
+) -> Result<Front<A>, NoMemory>
     ensures { IfOk result (λ front. front ≡ front_of lines.now) }
 {
     let mut front = Front::new(alloc);
-    for line in lines {
+    for line in lines.iter() {
         front.raise(line.row(), line.reach())?;
     }
     Ok(front)

@@ -6,9 +6,11 @@ mod front;
 mod gapless;
 mod laws;
 mod line;
+mod lines;
 mod missing;
 #[cfg(test)]
 mod plain;
+mod probes;
 mod replica;
 mod taken;
 #[cfg(test)]

@@ -31,7 +31,7 @@ impl<A: Allocator + Copy> Replica<A> {
             × (missing.ops.items ≡ take limit all) × (missing.more ≡ nat_lt limit (length all))) }
     {
         let mut ops = Vec::new(self.allocator());
-        for line in &self.lines {
+        for line in self.lines.iter() {
             let reach = front.reach(line.row());
             if copy_past(&mut ops, self.arrivals.as_slice(), line, reach, limit)? {
                 return Ok(Missing { ops, more: true });
@@ -55,23 +55,11 @@ fn copy_past<A: Allocator + Copy>(
         (copies.new.items ≡ take limit (copies.old.items ++ ops_past reach (ops_of arrivals.now line.now)))
         × (more ≡ nat_lt limit (length (copies.old.items ++ ops_past reach (ops_of arrivals.now line.now))))) }
 {
-    let past = line.past(arrivals, reach);
-    let room = limit - copies.len();
-    copy_ops(copies, arrivals, &past[..room.min(past.len())])?;
-    Ok(room < past.len())
-}
-
-/// Adds copies of the operations that came at these places.
-fn copy_ops<A: Allocator + Copy>(
-    copies: &mut Vec<Op<A>, A>,
-    arrivals: &[Op<A>],
-    places: &[usize],
-) -> Result<(), NoMemory>
-    requires { All (λ place. place < length arrivals.now) places.now }
-    ensures { OnOk result (copies.new.items ≡ copies.old.items ++ ops_at arrivals.now places.now) }
-{
-    for place in places {
+    for place in line.past(arrivals, reach) {
+        if copies.len() == limit {
+            return Ok(true);
+        }
         copies.push(arrivals[*place].copy()?)?;
     }
-    Ok(())
+    Ok(false)
 }

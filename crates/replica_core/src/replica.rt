@@ -1,16 +1,21 @@
 ghost use Rattle.std.specs.Prelude.{◌≡◌, ◌↔◌, ◌<◌, Some, IsTrue, IfOk, slice_get, MatchResult, List, take, OnOk, OnErr, [], length, ℕ, slice_index_or, if◌then◌else◌};
+ghost use Rattle.std.specs.List.{Contains};
 ghost use Rattle.std.specs.Option.{option_copied};
 ghost use Rattle.std.specs.FinMap.{get};
 ghost use Rattle.review_ops.specs.Operation.{Operation};
 ghost use Rattle.replica_core.specs.Journal.{AreApart, all_arrived, has, has_stamp, arrived, taken_of};
 ghost use Rattle.replica_core.specs.InOrder.{IsInOrderOf};
-ghost use Rattle.replica_core.specs.Lines.{rows_of, row_of, IsLine, AreLines};
+ghost use Rattle.replica_core.specs.Lines.{rows_of, row_of, IsFiled, IsLine, AreLines};
+ghost use Rattle.replica_core.specs.Searches.{with_place};
 ghost use Rattle.state_core.specs.State.{state_of, state_shown, with_effect};
 
 use super::front::Row;
-use super::line::{Line, climbed, find_line, open_line, row_of};
+use super::line::{Line, climbed};
+use super::lines::{exchange, find_line, open_line, row_of};
+use super::probes::Below;
 use super::taken::{Partly, Taken};
 use change_core::ChangeState;
+use chunk_list::ChunkList;
 use lattice_core::{Join, JoinMap, NoMemory};
 use review_ops::{Op, Stamp};
 use state_core::State;
@@ -23,7 +28,7 @@ use std::marker::Model;
 #[derive(Drop)]
 pub struct Replica<A: Allocator + Copy = Global> {
     pub(super) arrivals: Vec<Op<A>, A>,
-    pub(super) lines: Vec<Line<A>, A>,
+    pub(super) lines: ChunkList<Line<A>, A>,
     pub(super) latest: u64,
     state: State<A>,
     alloc: A,
@@ -38,7 +43,7 @@ impl<A: Allocator + Copy> Model for Replica<A> {
 
     ghost view = { λ r. r.arrivals.items };
 
-    ghost invariant = { λ r. IsRecord r.arrivals.items r.lines.items r.latest r.state };
+    ghost invariant = { λ r. IsRecord r.arrivals.items r.lines r.latest r.state };
 }
 
 impl<A: Allocator + Copy> Replica<A> {
@@ -48,24 +53,29 @@ impl<A: Allocator + Copy> Replica<A> {
     {
         Replica {
             arrivals: Vec::new(alloc),
-            lines: Vec::new(alloc),
+            lines: ChunkList::new(alloc),
             latest: 0,
             state: State::new(alloc),
             alloc,
         }
     }
 
-    /// Adds an operation to the journal and joins it into the state of its change, in place. Where memory is refused nothing changes. In time
-    /// logarithmic in the rows, in the operations of its row and in the state; in its row it is a push where it comes last, else the places
-    /// of those after it move.
+    /// Adds an operation to the journal and joins it into the state of its change, in place. Where memory is refused nothing changes. In
+    /// O(log n) for n operations, whatever the order of arrival, beside what the state's `take` costs: a place that comes last in its row is
+    /// pushed, any other moves at most the 512 places of its chunk, and once in 256 times the list of its row's chunks.
     pub fn take(&mut self, op: Op<A>) -> Result<Taken, NoMemory>
         ensures ok { IfOk result (λ taken. (self.new ≡ arrived self.old op) × (taken ≡ taken_of (has self.old op))) }
         ensures err { OnErr result (self.new ≡ self.old) }
     {
         let time = op.stamp().time();
-        let index = open_line(&mut self.lines, self.alloc, row_of(&op))?;
-        let lines = &mut self.lines;
-        match file_at(lines, index, &mut self.arrivals, &mut self.state, op)? {
+        open_line(&mut self.lines, self.alloc, row_of(&op))?;
+        match file_in(
+            &mut self.lines,
+            &mut self.arrivals,
+            &mut self.state,
+            self.alloc,
+            op,
+        )? {
             Taken::Known => Ok(Taken::Known),
             Taken::New => {
                 self.latest = self.latest.max(time);
@@ -105,10 +115,10 @@ impl<A: Allocator + Copy> Replica<A> {
     pub fn has(&self, op: &Op<A>) -> bool
         ensures { result ≡ has self.now op.now }
     {
-        let Ok(index) = find_line(self.lines.as_slice(), row_of(op)) else {
-            return false;
-        };
-        self.lines[index].has(self.arrivals.as_slice(), op)
+        match find_line(&self.lines, row_of(op)) {
+            Some(line) => line.has(self.arrivals.as_slice(), op),
+            None => false,
+        }
     }
 
     /// Whether the journal has an operation with this stamp. In time logarithmic in the rows and in the operations of its row.
@@ -119,10 +129,10 @@ impl<A: Allocator + Copy> Replica<A> {
             site: stamp.site(),
             start: stamp.start(),
         };
-        let Ok(index) = find_line(self.lines.as_slice(), row) else {
-            return false;
-        };
-        self.lines[index].has_stamp(self.arrivals.as_slice(), stamp)
+        match find_line(&self.lines, row) {
+            Some(line) => line.has_stamp(self.arrivals.as_slice(), stamp),
+            None => false,
+        }
     }
 
     /// Whether the two have equal states. Their journals may differ.
@@ -137,7 +147,7 @@ impl<A: Allocator + Copy> Replica<A> {
         ensures { IfOk result (λ copied. copied ≡ self.now) }
     {
         let arrivals = copy_ops(self.alloc, self.as_slice())?;
-        let lines = copy_lines(self.alloc, self.lines.as_slice())?;
+        let lines = copy_lines(self.alloc, &self.lines)?;
         let state = self.state.copy()?;
         Ok(Replica {
             arrivals,
@@ -206,28 +216,31 @@ impl<A: Allocator + Copy> Replica<A> {
 }
 
 /// Adds an operation to the line of its row, to the arrivals and to the state, unless it stands there. Where memory is refused nothing changes.
-fn file_at<A: Allocator + Copy>(
-    lines: &mut Vec<Line<A>, A>,
-    index: usize,
+fn file_in<A: Allocator + Copy>(
+    lines: &mut ChunkList<Line<A>, A>,
     arrivals: &mut Vec<Op<A>, A>,
     state: &mut State<A>,
+    alloc: A,
     op: Op<A>,
 ) -> Result<Taken, NoMemory>
-    requires lines { AreLines arrivals.old.items lines.old.items }
-    requires index { index < length lines.old.items }
-    requires row { (d : ℕ × ℕ) → slice_index_or (rows_of lines.old.items) index d ≡ (op.stamp.site, op.stamp.start) }
+    requires lines { AreLines arrivals.old.items lines.old }
+    requires row { Contains (rows_of lines.old) (op.stamp.site, op.stamp.start) }
     ensures ok { IfOk result (λ taken. (taken ≡ taken_of (has arrivals.old.items op))
         × (arrivals.new.items ≡ arrived arrivals.old.items op)
-        × AreLines arrivals.new.items lines.new.items
+        × AreLines arrivals.new.items lines.new
         × (state.new ≡ (if has arrivals.old.items op then state.old else with_effect state.old op))) }
-    ensures err { OnErr result ((arrivals.new.items ≡ arrivals.old.items) × (lines.new.items ≡ lines.old.items)
+    ensures err { OnErr result ((arrivals.new.items ≡ arrivals.old.items) × (lines.new ≡ lines.old)
         × (state.new ≡ state.old)) }
 {
-    let line = &mut lines[index];
-    file(line, arrivals, state, op)
+    let Some(mut line) = exchange(lines, Line::new(alloc, row_of(&op))) else {
+        unreachable!()
+    };
+    let taken = file(&mut line, arrivals, state, op);
+    let _empty = exchange(lines, line);
+    taken
 }
 
-/// Adds an operation to the line of its row, to the arrivals and to the state, unless it stands there. Where memory is refused nothing changes.
+/// Adds an operation to its line, to the arrivals and to the state, unless it stands there. Where memory is refused nothing changes.
 fn file<A: Allocator + Copy>(
     line: &mut Line<A>,
     arrivals: &mut Vec<Op<A>, A>,
@@ -244,25 +257,46 @@ fn file<A: Allocator + Copy>(
     ensures err { OnErr result ((arrivals.new.items ≡ arrivals.old.items) × (line.new ≡ line.old)
         × (state.new ≡ state.old)) }
 {
-    let index = line.rank_of(arrivals.as_slice(), &op);
-    if line.has_at(arrivals.as_slice(), index, &op) {
+    if line.has(arrivals.as_slice(), &op) {
         return Ok(Taken::Known);
     }
     arrivals.try_reserve(1)?;
-    line.places.try_reserve(1)?;
-    state.take(&op)?;
-    line.places.insert(index, arrivals.len())?;
+    enter(line, arrivals.as_slice(), state, &op)?;
     arrivals.push(op)?;
     line.reach = climbed(arrivals.as_slice(), line);
     Ok(Taken::New)
 }
 
-/// Copies of lines, in their order.
-fn copy_lines<A: Allocator + Copy>(alloc: A, lines: &[Line<A>]) -> Result<Vec<Line<A>, A>, NoMemory>
-    ensures { IfOk result (λ copies. copies.items ≡ lines.now) }
+/// Adds the place after all arrivals to the line of an operation, and its effect to the state. Where memory is refused nothing changes.
+fn enter<A: Allocator + Copy>(
+    line: &mut Line<A>,
+    arrivals: &[Op<A>],
+    state: &mut State<A>,
+    op: &Op<A>,
+) -> Result<(), NoMemory>
+    requires { IsFiled arrivals.now line.old }
+    ensures ok { OnOk result ((line.new ≡ with_place arrivals.now line.old op.now)
+        × (state.new ≡ with_effect state.old op.now)) }
+    ensures err { OnErr result ((line.new ≡ line.old) × (state.new ≡ state.old)) }
 {
-    let mut copies = Vec::with_capacity(alloc, lines.len())?;
-    for line in lines {
+    let below = Below { arrivals, op };
+    line.places.insert(&below, arrivals.len())?;
+    if state.take(op).is_err() {
+        let _place = line.places.remove(&below);
+        return Err(NoMemory);
+    }
+    Ok(())
+}
+
+/// Copies of lines, in their order.
+fn copy_lines<A: Allocator + Copy>(
+    alloc: A,
+    lines: &ChunkList<Line<A>, A>,
+) -> Result<ChunkList<Line<A>, A>, NoMemory>
+    ensures { IfOk result (λ copies. copies ≡ lines.now) }
+{
+    let mut copies = ChunkList::new(alloc);
+    for line in lines.iter() {
         copies.push(line.copy(alloc)?)?;
     }
     Ok(copies)

@@ -77,10 +77,6 @@ module _ (sites : ℕ) (steps left : List Step) (world : WorldState) (old mid : 
     printed = printed-append so_far.text text old mid now so_far.printed printed;
   }
 
-  -- memory was refused
-  pub stops_early : (bad : Option ℕ) → Finishes (IsPlayed sites steps bad) old mid (Err (Script NoMemory))
-  stops_early bad = inl (so_far.text, (so_far.played, (left, so_far.whole), (world, so_far.run)), so_far.printed)
-
   -- the output failed
   pub is_cut : (bad : Option ℕ) (step : Step) (rest : List Step) (text : List ℕ) (next : WorldState) (now : ConsoleState) → left ≡ step ∷ rest → PlaysStep world step text next
       → IsCutShort text mid now → Finishes (IsPlayed sites steps bad) old now (Err Output)
@@ -91,16 +87,6 @@ module _ (sites : ℕ) (steps left : List Step) (world : WorldState) (old mid : 
     cut-append so_far.text text old mid now so_far.printed cut,
     refl,
   )
-
-  -- all steps were played
-  all_run : left ≡ [] → IsRunText (new_world sites) steps so_far.text
-  all_run none = (world, subst (λ s. Plays (new_world sites) s so_far.text world) (sym (so_far.whole ∙ ap (λ l. so_far.played ++ l) none ∙ append-nil so_far.played)) so_far.run)
-
-  pub plays_all : (bad : Option ℕ) → left ≡ [] → bad ≡ None → Finishes (IsPlayed sites steps bad) old mid (Ok tt)
-  plays_all bad none sound = inl (so_far.text, (sound, all_run none), so_far.printed)
-
-  pub stops_at_line : (bad : Option ℕ) (line : ℕ) → left ≡ [] → bad ≡ Some line → Finishes (IsPlayed sites steps bad) old mid (Err (Script (BadLine line)))
-  stops_at_line bad line none is = inl (so_far.text, (is, all_run none), so_far.printed)
 
 -- what printing a step's text says
 pub whole_of : (text : List ℕ) (old new : ConsoleState) (done : Unit {0}) → Prints text old new (Ok done) → IsPrinted text old new

@@ -9,7 +9,8 @@ use Rattle.replica_core.specs.InOrder.{IsInOrderOf}
 use Rattle.replica_core.specs.Journal.{all_arrived}
 use Rattle.state_core.specs.State.{state_of}
 use Rattle.report_text.specs.Report.{report_of}
-use Rattle.snapshot_text.specs.Snapshot.{SaysOperations, as_line, snapshot_text}
+use Rattle.byte_ends.specs.Lines.{as_line}
+use Rattle.snapshot_text.specs.Snapshot.{SaysOperations, snapshot_text}
 use Rattle.review_ops.specs.Operation.{Operation}
 use Rattle.script_play.specs.Playing.{AreFirst, IsRunText}
 use Rattle.script_text.specs.Script.{IsUnreadScript, SaysScript}

@@ -67,35 +67,6 @@ no_number fields field rest most cut none number others before =
 module _ (gate : Option GateRules) where
   -- ---- a line has one word
 
-  pub word_has_no_blank : (step : Step) → has_no_blank (word_of step) ≡ true
-  word_has_no_blank (Happens (Intake site draft)) = refl
-  word_has_no_blank (Happens (Send site front)) = refl
-  word_has_no_blank (Happens (Deliver packet site)) = refl
-  word_has_no_blank (Happens (Save site)) = refl
-  word_has_no_blank (Happens (Restart site start)) = refl
-  word_has_no_blank (SendTo site receiver) = refl
-  word_has_no_blank (State site) = refl
-  word_has_no_blank (Front site) = refl
-  word_has_no_blank (Ready site under) = refl
-
-  said_after : (line word fields : List ℕ) → has_no_blank word ≡ true → IsAfterWord line word fields → (step : Step) → SaysStep gate line step → IsSaidAfter gate word fields step
-  said_after line word fields none is step said =
-      let same = one_split (word_of step) said.0 word fields (word_has_no_blank step) none (sym said.1 ∙ is) in
-      (same.0, subst (λ f. SayStep gate f step) same.1 said.2)
-
-  -- a line of the word says only steps of it
-  pub said_after_intake : (line fields : List ℕ) → IsAfterWord line (codes "intake") fields → (step : Step) → SaysStep gate line step → IsSaidAfter gate (codes "intake") fields step
-  said_after_intake line fields is = said_after line (codes "intake") fields refl is
-
-  pub said_after_send : (line fields : List ℕ) → IsAfterWord line (codes "send") fields → (step : Step) → SaysStep gate line step → IsSaidAfter gate (codes "send") fields step
-  said_after_send line fields is = said_after line (codes "send") fields refl is
-
-  pub said_after_deliver : (line fields : List ℕ) → IsAfterWord line (codes "deliver") fields → (step : Step) → SaysStep gate line step → IsSaidAfter gate (codes "deliver") fields step
-  said_after_deliver line fields is = said_after line (codes "deliver") fields refl is
-
-  pub said_after_restart : (line fields : List ℕ) → IsAfterWord line (codes "restart") fields → (step : Step) → SaysStep gate line step → IsSaidAfter gate (codes "restart") fields step
-  said_after_restart line fields is = said_after line (codes "restart") fields refl is
-
   -- ---- the steps of a word
 
   words_differ : (word other : List ℕ) → word ≡ other → pointwise eqb word other ≡ false → ⊥
@@ -118,28 +89,6 @@ module _ (gate : Option GateRules) where
   each_restart : (fields : List ℕ) (P : Step → Type 0) → ((site start : ℕ) → SayStep gate fields (Happens (Restart site start)) → P (Happens (Restart site start))) → (step : Step) → IsSaidAfter gate (codes "restart") fields step → P step
   each_restart fields P f (Happens (Restart site start)) h = f site start h.1
   each_restart fields P f step h = absurd (words_differ (word_of step) (codes "restart") h.0 refl)
-
-  each_save : (field : List ℕ) (P : Step → Type 0) → ((site : ℕ) → SayStep gate field (Happens (Save site)) → P (Happens (Save site))) → (step : Step) → IsSaidAfter gate (codes "save") field step → P step
-  each_save fields P f (Happens (Save site)) h = f site h.1
-  each_save fields P f step h = absurd (words_differ (word_of step) (codes "save") h.0 refl)
-
-  each_state : (field : List ℕ) (P : Step → Type 0) → ((site : ℕ) → SayStep gate field (State site) → P (State site)) → (step : Step) → IsSaidAfter gate (codes "state") field step → P step
-  each_state fields P f (State site) h = f site h.1
-  each_state fields P f (Happens (Intake site draft)) h = absurd (words_differ (word_of (Happens (Intake site draft))) (codes "state") h.0 refl)
-  each_state fields P f (Happens (Send site front)) h = absurd (words_differ (word_of (Happens (Send site front))) (codes "state") h.0 refl)
-  each_state fields P f (Happens (Deliver packet site)) h = absurd (words_differ (word_of (Happens (Deliver packet site))) (codes "state") h.0 refl)
-  each_state fields P f (Happens (Save site)) h = absurd (words_differ (word_of (Happens (Save site))) (codes "state") h.0 refl)
-  each_state fields P f (Happens (Restart site start)) h = absurd (words_differ (word_of (Happens (Restart site start))) (codes "state") h.0 refl)
-  each_state fields P f step h = absurd (words_differ (word_of step) (codes "state") h.0 refl)
-
-  each_front : (field : List ℕ) (P : Step → Type 0) → ((site : ℕ) → SayStep gate field (Front site) → P (Front site)) → (step : Step) → IsSaidAfter gate (codes "front") field step → P step
-  each_front fields P f (Front site) h = f site h.1
-  each_front fields P f (Happens (Intake site draft)) h = absurd (words_differ (word_of (Happens (Intake site draft))) (codes "front") h.0 refl)
-  each_front fields P f (Happens (Send site front)) h = absurd (words_differ (word_of (Happens (Send site front))) (codes "front") h.0 refl)
-  each_front fields P f (Happens (Deliver packet site)) h = absurd (words_differ (word_of (Happens (Deliver packet site))) (codes "front") h.0 refl)
-  each_front fields P f (Happens (Save site)) h = absurd (words_differ (word_of (Happens (Save site))) (codes "front") h.0 refl)
-  each_front fields P f (Happens (Restart site start)) h = absurd (words_differ (word_of (Happens (Restart site start))) (codes "front") h.0 refl)
-  each_front fields P f step h = absurd (words_differ (word_of step) (codes "front") h.0 refl)
 
   each_ready : (field : List ℕ) (P : Step → Type 0) → ((site : ℕ) (under : Bor GateRules) → SayStep gate field (Ready site under) → P (Ready site under)) → (step : Step) → IsSaidAfter gate (codes "ready") field step → P step
   each_ready fields P f (Ready site under) h = f site under h.1
@@ -251,59 +200,8 @@ module _ (gate : Option GateRules) where
 
   -- ---- the words that a site's number follows
 
-  pub no_save : (line field : List ℕ) → IsAfterWord line (codes "save") field → ((site : ℕ) → ¬ IsNumberField field most_site site) → (step : Step) → ¬ SaysStep gate line step
-  no_save line field is none step said = each_save field (λ _. ⊥) none step (said_after line (codes "save") field refl is step said)
-
-  pub save_read : (line field : List ℕ) (site : ℕ) → IsAfterWord line (codes "save") field → IsNumberField field most_site site → (step : Step) → SaysStep gate line step → IsSameStep (Happens (Save site)) step
-  save_read line field site is number step said =
-      each_save field (IsSameStep (Happens (Save site))) (λ other h. ap (λ s. Happens (Save s)) (number.value ∙ sym h.value)) step (said_after line (codes "save") field refl is step said)
-
-  pub no_state : (line field : List ℕ) → IsAfterWord line (codes "state") field → ((site : ℕ) → ¬ IsNumberField field most_site site) → (step : Step) → ¬ SaysStep gate line step
-  no_state line field is none step said = each_state field (λ _. ⊥) none step (said_after line (codes "state") field refl is step said)
-
-  pub state_read : (line field : List ℕ) (site : ℕ) → IsAfterWord line (codes "state") field → IsNumberField field most_site site → (step : Step) → SaysStep gate line step → IsSameStep (State site) step
-  state_read line field site is number step said =
-      each_state field (IsSameStep (State site)) (λ other h. ap State (number.value ∙ sym h.value)) step (said_after line (codes "state") field refl is step said)
-
-  pub no_front : (line field : List ℕ) → IsAfterWord line (codes "front") field → ((site : ℕ) → ¬ IsNumberField field most_site site) → (step : Step) → ¬ SaysStep gate line step
-  no_front line field is none step said = each_front field (λ _. ⊥) none step (said_after line (codes "front") field refl is step said)
-
-  pub front_read : (line field : List ℕ) (site : ℕ) → IsAfterWord line (codes "front") field → IsNumberField field most_site site → (step : Step) → SaysStep gate line step → IsSameStep (Front site) step
-  front_read line field site is number step said =
-      each_front field (IsSameStep (Front site)) (λ other h. ap Front (number.value ∙ sym h.value)) step (said_after line (codes "front") field refl is step said)
-
-  -- a `ready` line says nothing where no gate is given
-  pub no_gate : (fields : List ℕ) → gate ≡ None → (step : Step) → ¬ IsSaidAfter gate (codes "ready") fields step
-  no_gate fields none = each_ready fields (λ _. ⊥) (λ site under h. let bad : None ≡ Some under.now = sym none ∙ h.1 in cc)
-
   pub no_ready : (fields : List ℕ) → ((site : ℕ) → ¬ IsNumberField fields most_site site) → (step : Step) → ¬ IsSaidAfter gate (codes "ready") fields step
   no_ready fields none = each_ready fields (λ _. ⊥) (λ site under h. none site h.0)
-
-  pub ready_read : (fields : List ℕ) (site : ℕ) (under : Bor GateRules) → gate ≡ Some under.now → IsNumberField fields most_site site → (step : Step) → IsSaidAfter gate (codes "ready") fields step → IsSameStep (Ready site under) step
-  ready_read fields site under is number =
-      each_ready fields (IsSameStep (Ready site under)) (λ other another h.
-      let same : Some under.now ≡ Some another.now = sym is ∙ h.1 in
-      (number.value ∙ sym h.0.value, cc))
-
-  pub said_after_ready : (line fields : List ℕ) → IsAfterWord line (codes "ready") fields → (step : Step) → SaysStep gate line step → IsSaidAfter gate (codes "ready") fields step
-  said_after_ready line fields is = said_after line (codes "ready") fields refl is
-
-  -- ---- a line that begins with none of the words
-
-  abbrev LacksWord : List ℕ → List ℕ → Type 0
-  LacksWord line word = (rest : List ℕ) → ¬ IsAfterWord line word rest
-
-  pub no_word : (line : List ℕ) → LacksWord line (codes "intake") → LacksWord line (codes "send") → LacksWord line (codes "deliver") → LacksWord line (codes "restart")
-      → LacksWord line (codes "save") → LacksWord line (codes "state") → LacksWord line (codes "front") → LacksWord line (codes "ready") → (step : Step) → ¬ SaysStep gate line step
-  no_word line a b c d e f g r (Happens (Intake site draft)) h = a h.0 h.1
-  no_word line a b c d e f g r (Happens (Send site front)) h = b h.0 h.1
-  no_word line a b c d e f g r (Happens (Deliver packet site)) h = c h.0 h.1
-  no_word line a b c d e f g r (Happens (Save site)) h = e h.0 h.1
-  no_word line a b c d e f g r (Happens (Restart site start)) h = d h.0 h.1
-  no_word line a b c d e f g r (SendTo site receiver) h = b h.0 h.1
-  no_word line a b c d e f g r (State site) h = f h.0 h.1
-  no_word line a b c d e f g r (Front site) h = g h.0 h.1
-  no_word line a b c d e f g r (Ready site under) h = r h.0 h.1
 
   -- ---- a script
 

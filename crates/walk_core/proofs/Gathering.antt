@@ -88,15 +88,6 @@ pub record HasGathered (rows : List Marks) (firsts before marks ends : List ℕ)
   pub each : (end target : ℕ) → Contains ends end → IsMarkedAt rows (get_or firsts end 0) target → HasMark marks target
   pub right : (target : ℕ) → HasMark marks target → HasMark before target ⊎ ((end : ℕ) × Contains ends end × IsMarkedAt rows (get_or firsts end 0) target)
 
-pub gathered_none : (rows : List Marks) (firsts before : List ℕ) → HasGathered rows firsts before before []
-gathered_none rows firsts before = record {
-  size = refl;
-  more = λ k. omega arith;
-  kept = λ target has. has;
-  each = λ end target here. absurd (Contains-none end here);
-  right = λ target has. inl has;
-}
-
 module _ (rows : List Marks) (firsts before marks read both ends : List ℕ) (i end : ℕ) (within : i < length ends) (is : end ≡ get_or ends i end)
     (was : words_at rows (get_or firsts end 0) ≡ read) (joined : AreJoined marks read both) (gathered : HasGathered rows firsts before marks (take i ends)) where
   pub gathered_more : HasGathered rows firsts before both (take (i + 1) ends)

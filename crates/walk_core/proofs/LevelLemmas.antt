@@ -107,11 +107,6 @@ Discovers-alike P Q n before after level grown alike step = record {
 -- ---- the levels
 
 module _ (graph : List (List ℕ)) (marked : List Bool) (sized : length marked ≡ length graph) where
-  -- what leads to a marked node is a node
-  Leads-starts : (m x : ℕ) → Leads (HasEdge graph) (IsMarked marked) m x → x < length graph
-  Leads-starts zero x leads = let within = slice_get_within marked x true leads in omega (arith, within, sized)
-  Leads-starts (suc m) x leads = HasEdge-starts graph x leads.0 leads.1
-
   not_in_empty : (k x n : ℕ) → ¬ HasDistance (replicate k None) x n
   not_in_empty zero x n has = cc
   not_in_empty (suc k) zero n has = cc

@@ -9,14 +9,6 @@ use Rattle.walk_core.proofs.EdgeLemmas.{Contains-more}
 use Rattle.walk_core.proofs.MarkLemmas.{words_in_range}
 
 module _ (graph : List (List ℕ)) (firsts : List ℕ) where
-  pub passes_first : (rows : List Marks) → Passes graph firsts [] rows rows false
-  passes_first rows = record {
-    size = refl;
-    kept = λ row target has. has;
-    sound = λ block sound. sound;
-    step = (refl, λ x here. absurd (Contains-none x here));
-  }
-
   -- some nodes and then one more
   module _ (nodes : List ℕ) (i node : ℕ) (within : i < length nodes) (is : node ≡ get_or nodes i node) (before mid after : List Marks) where
     abbrev Step : Bool → List ℕ → List Marks → List Marks → Type 0
@@ -49,9 +41,6 @@ module _ (graph : List (List ℕ)) (firsts : List ℕ) where
     pub size : length after ≡ length before
     pub kept : AreKept before after
     pub sound : (block : List ℕ) → AreSound graph block before → AreSound graph block after
-
-  pub passed_none : (rows : List Marks) → HasPassed rows rows
-  passed_none rows = record { size = refl; kept = λ row target has. has; sound = λ block sound. sound }
 
   pub passed_more : (nodes : List ℕ) (before mid after : List Marks) (changes : Bool) → HasPassed before mid → Passes graph firsts nodes mid after changes → HasPassed before after
   passed_more nodes before mid after changes p q = record {

@@ -62,9 +62,6 @@ module _ (graph : List (List ℕ)) (node : ℕ) (start end : List Place) (settle
     whole = whole_after;
   }
 
-  pub now_on : place_of end node ≢ Waiting → WaitsNoLonger node start end
-  now_on other x is = (waited x is, λ same. other (subst (λ y. place_of end y ≡ Waiting) same is))
-
   -- the node is on no cycle: it waits still
   module _ (waiting : place_of end node ≡ Waiting) where
     node_off : ¬ IsOnCycle (HasEdge graph) node
@@ -112,9 +109,3 @@ module _ (graph : List (List ℕ)) (node : ℕ) (start end : List Place) (settle
       off = off_off;
       whole = λ x y is connected. on_still y (whole_after x y (on_before x is) connected);
     }
-
-    pub now_off : WaitsNoLonger node start (set end node OffCycle)
-    now_off x is = elim (at_node x) [
-      | inl at ↦ let no_place : OffCycle ≡ Waiting = sym at.1 ∙ is in cc
-      | inr other ↦ (waited x (sym other.1 ∙ is), other.0)
-    ]

@@ -36,14 +36,6 @@ module _ (E : ℕ → ℕ → Type 0) (sought found : Place) (start : ℕ) (befo
     reached = λ x here. (0, (x, (steps x).0 here, refl));
   }
 
-  pub spreading_ends : (now : List Place) (nodes : List ℕ) → IsSpreading E sought found start before now nodes [] → HasSpread E sought found start before now nodes
-  spreading_ends now nodes spreading = record {
-    size = spreading.size;
-    each = spreading.each;
-    moved = spreading.moved;
-    closed = λ x y from step is. none_listed y (spreading.closed x y from step is);
-  }
-
   module _ (now : List Place) (nodes rest : List ℕ) (node : ℕ) (spreading : IsSpreading E sought found start before now nodes (rest ++ node ∷ [])) where
     -- a node that isn't sought is passed over
     pub spreading_passes : place_of now node ≢ sought → IsSpreading E sought found start before now nodes rest

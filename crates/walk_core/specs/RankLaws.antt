@@ -115,9 +115,6 @@ module _ {N : Type 0} {cmp : N → N → Ordering} (order : IsExactOrder cmp) (E
     rank_at : (place : ℕ) (x : N) → slice_get nodes place ≡ Some x → (rank : Rank N) × (slice_get are.ranks place ≡ Some rank) × (rank.node ≡ x)
     rank_at place x at = at_map (λ rank. rank.node) are.ranks place x (sym (ap (λ xs. slice_get xs place) are.of) ∙ at)
 
-    node_at : (place : ℕ) (rank : Rank N) → slice_get are.ranks place ≡ Some rank → slice_get nodes place ≡ Some rank.node
-    node_at place rank at = ap (λ xs. slice_get xs place) are.of ∙ map_at (λ rank. rank.node) are.ranks place rank at
-
     is_rank_at : (place : ℕ) (rank : Rank N) → slice_get are.ranks place ≡ Some rank → IsRank cmp E P rank
     is_rank_at place rank at = are.each rank (Contains-at are.ranks place rank at)
 

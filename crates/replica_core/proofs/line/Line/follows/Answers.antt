@@ -1,7 +1,6 @@
 use Rattle.std.proofs.Common.{◌∙◌, ◌+◌, ◌==◌, ap, sym, arith}
-use Rattle.std.specs.Prelude.{slice_get}
 use Rattle.replica_core.specs.Lines.{ops_of}
-use Rattle.replica_core.specs.Searches.{is_some_passing}
+use Rattle.chunk_list.specs.Chunks.{is_some_passing}
 use Rattle.replica_core.proofs.Sought.{sought_next}
 use Rattle.replica_core.proofs.Filed.{all_of}
 use Rattle.replica_core.proofs.Greatest.{held_last, holds_of}
@@ -16,7 +15,6 @@ returns-in-Some g c =
     let line = c.args.self.now in
     ap (λ n. n == c.args.seq + 1) (c.seq.ensures.value ∙ ap (λ s. s.seq) c.stamp.ensures.value)
     ∙ ap (is_some_passing (λ o. o.stamp.seq == c.args.seq + 1)) c.in-Some.ensures
-    ∙ ap (λ n. is_some_passing (λ o. o.stamp.seq == c.args.seq + 1) (slice_get (ops_of journal line) n)) c.rank_within.ensures.rank
     ∙ sym (sought_next line.site line.start c.args.seq (ops_of journal line) c.requires.filed.ordered.sorted (all_of journal line c.requires.filed))
     ∙ holds_of journal line c.requires.filed (c.args.seq + 1)
 
@@ -25,6 +23,5 @@ returns-in-None g c =
     let journal = c.args.arrivals.now in
     let line = c.args.self.now in
     ap (is_some_passing (λ o. o.stamp.seq == c.args.seq + 1)) c.in-None.ensures
-    ∙ ap (λ n. is_some_passing (λ o. o.stamp.seq == c.args.seq + 1) (slice_get (ops_of journal line) n)) c.rank_within.ensures.rank
     ∙ sym (sought_next line.site line.start c.args.seq (ops_of journal line) c.requires.filed.ordered.sorted (all_of journal line c.requires.filed))
     ∙ holds_of journal line c.requires.filed (c.args.seq + 1)

@@ -7,6 +7,5 @@ pub invariant_of-result : goal.invariant_of-result
 invariant_of-result g c =
     let inside = c.self.inside in
     let arrivals : c.in_ok-arrivals.arrivals.items ≡ inside.arrivals.items = c.in_ok-arrivals.ensures ∙ c.as_slice.ensures.arrivals ∙ sym c.self.view_is in
-    let lines : c.in_ok-lines.lines.items ≡ inside.lines.items = c.in_ok-lines.ensures ∙ c.as_slice-2.ensures.value in
-    record_same inside.arrivals.items c.in_ok-arrivals.arrivals.items inside.lines.items c.in_ok-lines.lines.items inside.latest inside.state c.in_ok-state.state arrivals
-    (subst (λ j. AreLines j c.in_ok-lines.lines.items) (sym arrivals) (subst (AreLines inside.arrivals.items) (sym lines) c.self.invariant.lines)) c.in_ok-state.ensures c.self.invariant
+    record_same inside.arrivals.items c.in_ok-arrivals.arrivals.items inside.lines c.in_ok-lines.lines inside.latest inside.state c.in_ok-state.state arrivals
+    (subst (λ j. AreLines j c.in_ok-lines.lines) (sym arrivals) (subst (AreLines inside.arrivals.items) (sym c.in_ok-lines.ensures) c.self.invariant.lines)) c.in_ok-state.ensures c.self.invariant

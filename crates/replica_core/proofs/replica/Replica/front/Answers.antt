@@ -1,4 +1,4 @@
-use Rattle.std.proofs.Common.{◌∙◌, ap, sym, subst}
+use Rattle.std.proofs.Common.{sym, subst}
 use Rattle.replica_core.specs.Front.{IsFront}
 use Rattle.replica_core.specs.Lines.{front_of}
 use Rattle.replica_core.proofs.Absorbing.{if_ok}
@@ -8,5 +8,5 @@ use Rattle.replica_core.proofs.replica.Replica.front.Goals as goal
 pub returns : goal.returns
 returns g c =
     let journal = c.self.inside.arrivals.items in
-    let lines = c.self.inside.lines.items in
-    if_ok c.front_of.result (λ front is. subst (IsFront c.args.self.now) (sym (is ∙ ap front_of c.as_slice.ensures.value)) (subst (λ j. IsFront j (front_of lines)) c.self.view_is (IsFront-lines journal lines c.self.invariant.lines))) c.front_of.ensures
+    let lines = c.self.inside.lines in
+    if_ok c.front_of.result (λ front is. subst (IsFront c.args.self.now) (sym is) (subst (λ j. IsFront j (front_of lines)) c.self.view_is (IsFront-lines journal lines c.self.invariant.lines))) c.front_of.ensures

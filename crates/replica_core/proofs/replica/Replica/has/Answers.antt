@@ -1,18 +1,32 @@
-use Rattle.std.proofs.Common.{◌∙◌, ap}
+use Rattle.std.proofs.Common.{◌∙◌, ap, sym, subst}
+use Rattle.std.specs.List.{Contains}
 use Rattle.replica_core.specs.Journal.{has}
-use Rattle.replica_core.specs.Lines.{ops_of}
+use Rattle.replica_core.specs.Lines.{ops_of, rows_of, IsFiled}
 use Rattle.replica_core.proofs.Filing.{has_row}
-use Rattle.replica_core.proofs.Lookups.{line_at, row_found, found_in}
+use Rattle.replica_core.proofs.Lookups.{line_in, has_none}
 use Rattle.replica_core.proofs.replica.Replica.has.Goals as goal
 
-pub returns : goal.returns
-returns g c =
+pub find_line-requires : goal.find_line-requires
+find_line-requires g c = c.self.invariant.lines.sorted
+
+pub has-requires : goal.has-requires
+has-requires g c =
     let journal = c.self.inside.arrivals.items in
-    let lines = c.self.inside.lines.items in
-    let line = c.index.result.now in
-    let index = c.in-Ok.index in
+    let line = c.in-Some.line.now in
+    subst (λ j. IsFiled j line) (sym c.as_slice.ensures.value) (line_in journal c.self.inside.lines c.self.invariant.lines line c.in-Some.ensures.0).filed
+
+pub returns-in-Some : goal.returns-in-Some
+returns-in-Some g c =
+    let journal = c.self.inside.arrivals.items in
+    let line = c.in-Some.line.now in
     let op = c.args.op.now in
-    let found = found_in c.as_slice.result.now lines c.as_slice.ensures.value index (c.row_of.result.site, c.row_of.result.start) (op.stamp.site, op.stamp.start) (ap (λ row. (row.site, row.start)) c.row_of.ensures) c.in-Ok.ensures in
-    c.has.ensures ∙ ap (λ j. has (ops_of j line) op) c.as_slice-2.ensures.value
-    ∙ has_row journal line (line_at journal lines c.self.invariant.lines index found.0 line c.index.ensures).filed op (row_found journal lines c.self.invariant.lines index found.0 line c.index.ensures (op.stamp.site, op.stamp.start) found.1)
+    c.has.ensures ∙ ap (λ j. has (ops_of j line) op) c.as_slice.ensures.value
+    ∙ has_row journal line (line_in journal c.self.inside.lines c.self.invariant.lines line c.in-Some.ensures.0).filed op (c.in-Some.ensures.1 ∙ ap (λ row. (row.site, row.start)) c.row_of.ensures)
+    ∙ ap (λ j. has j op) c.self.view_is
+
+pub returns-in-None : goal.returns-in-None
+returns-in-None g c =
+    let lines = c.self.inside.lines in
+    let op = c.args.op.now in
+    sym (has_none c.self.inside.arrivals.items lines c.self.invariant.lines op (λ there. c.in-None.ensures (subst (λ row. Contains (rows_of lines) (row.site, row.start)) (sym c.row_of.ensures) there)))
     ∙ ap (λ j. has j op) c.self.view_is

@@ -1,0 +1,4 @@
+pub mod Ranks
+pub mod Chunks
+pub mod RankLaws
+pub mod Looks
