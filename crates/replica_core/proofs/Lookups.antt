@@ -7,7 +7,7 @@ use Rattle.review_ops.specs.Operation.{Operation}
 use Rattle.replica_core.specs.Clock.{is_of}
 use Rattle.std.proofs.lemmas.Bool.{false_from_ne_true}
 use Rattle.lattice_core.specs.Exact.{same_by_test}
-use Rattle.replica_core.specs.Journal.{has_stamp}
+use Rattle.replica_core.specs.Journal.{has, has_stamp}
 use Rattle.replica_core.specs.Sets.{any_alike, has-from_Contains}
 use Rattle.replica_core.specs.RowLine.{RowLine}
 use Rattle.replica_core.specs.Lines.{ops_of, row_of, rows_of, IsFiled, IsLine, AreLines}
@@ -37,6 +37,9 @@ module _ (journal : List Operation) (line : RowLine) (filed : IsFiled journal li
       ∙ ap (λ f. list_any f journal) (λ i op. of_both (has_it stamp op) (is_of line.site line.start op) (of_stamp op) i)
 
 module _ (journal : List Operation) (lines : List RowLine) (are : AreLines journal lines) where
+  pub has_none : (op : Operation) → (Contains (rows_of lines) (op.stamp.site, op.stamp.start) → ⊥) → has journal op ≡ false
+  has_none op none = false_from_ne_true (has journal op) (λ h. none (are.whole op h))
+
   pub has_stamp_none : (stamp : Timestamp) → (Contains (rows_of lines) (stamp.site, stamp.start) → ⊥) → has_stamp journal stamp ≡ false
   has_stamp_none stamp none = false_from_ne_true (has_stamp journal stamp) (λ h.
       let found : Any (λ op. has_it stamp op ≡ true) journal = Any-from_list_any (has_it stamp) journal h in
