@@ -1,5 +1,5 @@
 -- The verdicts, item after item.
-use Rattle.std.proofs.Common.{◌≡◌, ◌<◌, ◌≤◌, ◌+◌, ◌⊎◌, ℕ, List, [], ◌∷◌, ◌++◌, length, Contains, Option, Some, None, sym, ap, ◌∙◌, subst, arith, inl, inr}
+use Rattle.std.proofs.Common.{◌≡◌, ◌<◌, ◌≤◌, ◌+◌, ◌⊎◌, ◌↔◌, ℕ, List, [], ◌∷◌, ◌++◌, length, Contains, Option, Some, None, sym, ap, ◌∙◌, subst, arith, inl, inr}
 use Rattle.std.specs.declared.cmp.Ordering.{Ordering}
 use Rattle.std.specs.declared.cmp.Ordering.TheVariants.{Less}
 use Rattle.std.specs.List.Sorted.{IsStrictlySortedBy}
@@ -20,7 +20,7 @@ use Rattle.ready_core.specs.declared.verdicts.Refusal.{Refusal}
 use Rattle.ready_core.specs.declared.verdicts.Left.{Left}
 use Rattle.ready_core.specs.Closed.{IsClosed-safe, IsInClosedSet-AreSafe, AreSafe}
 use Rattle.ready_core.specs.Refusals.{IsEligible, IsReady, IsRefused}
-use Rattle.ready_core.specs.Verdicts.{AreVerdicts, Judged, items_out}
+use Rattle.ready_core.specs.Verdicts.{Judged, items_out}
 use Rattle.ready_core.specs.Causes.{AreCauses, IsCauseOf, AreJudged, StandsBefore, IsSafeItem}
 use Rattle.ready_core.proofs.Refusing.{refused_ineligible}
 
@@ -116,6 +116,14 @@ module _ (gate : GateRules) (state : State) (items : List Item) (sorted : IsStri
       }
 
 -- ---- all items judged
+
+-- the verdicts but for the order of the ready items
+pub record AreSplit (gate : GateRules) (state : State) (verdicts : Judged) : Type 0 where
+  pub ready : (item : Item) → Contains verdicts.ready item ↔ IsReady gate state item
+  pub out : (item : Item) → Contains (items_out verdicts.out) item ↔ (IsItem state item × ¬ IsReady gate state item)
+  pub refused : (left : Left) → Contains verdicts.out left → IsRefused gate state left.item left.refusal left.rank
+  pub out_in_order : IsStrictlySortedBy item_cmp (items_out verdicts.out)
+
 module _ (gate : GateRules) (state : State) (graph : ItemGraph) (verdicts : Judged) (is : IsGraphOf gate state graph)
     (are : AreJudged gate state graph.items (length graph.items) verdicts.ready verdicts.out) where
   stands : (item : Item) → Contains graph.items item → StandsBefore graph.items (length graph.items) item
@@ -134,13 +142,13 @@ module _ (gate : GateRules) (state : State) (graph : ItemGraph) (verdicts : Judg
     complete = λ item c safe. (are.ready item).1 (stands item c, safe);
   }
 
-  ready_is_safe : (item : Item) → IsReady gate state item → IsSafeItem gate state item
+  pub ready_is_safe : (item : Item) → IsReady gate state item → IsSafeItem gate state item
   ready_is_safe item ready = λ n. IsClosed-safe {E = IsDependency gate state} {IsEligible = IsEligible gate state} ready.closed n item ready.has
 
-  ready_is_item : (item : Item) → IsReady gate state item → IsItem state item
+  pub ready_is_item : (item : Item) → IsReady gate state item → IsItem state item
   ready_is_item item ready = let eligible = ready.closed.members item ready.has in eligible.there
 
-  pub all_judged : ((item : Item) → Contains graph.items item → IsEligible gate state item ⊎ ¬ IsEligible gate state item) → AreVerdicts gate state verdicts
+  pub all_judged : ((item : Item) → Contains graph.items item → IsEligible gate state item ⊎ ¬ IsEligible gate state item) → AreSplit gate state verdicts
   all_judged decided =
       let union = IsInClosedSet-AreSafe {E = IsDependency gate state} {IsEligible = IsEligible gate state} held decided safe_items in
       record {
@@ -155,7 +163,6 @@ module _ (gate : GateRules) (state : State) (graph : ItemGraph) (verdicts : Judg
               (are.out item).1 (stands item there, λ safe. left.1 ((union item there).0 ((are.ready item).1 (stands item there, safe)))),
         );
         refused = are.refused;
-        ready_in_order = are.ready_in_order;
         out_in_order = are.out_in_order;
       }
 

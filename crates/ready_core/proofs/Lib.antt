@@ -3,6 +3,8 @@ pub mod Causing
 pub mod Refusing
 pub mod Ranking
 pub mod Judging
+pub mod GateOrder
+pub mod GateVerdicts
 pub mod Following
 pub mod Unique
 mod Guessed

@@ -1,16 +1,13 @@
 -- One state has one list of verdicts under one gate.
 use Rattle.std.proofs.Common.{◌≡◌, ◌≤◌, ◌⊎◌, ◌↔◌, ℕ, true, List, [], ◌∷◌, Contains, Some, suc, refl, sym, ap, ◌∙◌, subst, arith, inl, inr}
 use Rattle.std.specs.Prelude.{nat_lt}
-use Rattle.std.specs.declared.cmp.Ordering.{Ordering}
-use Rattle.std.specs.declared.cmp.Ordering.TheVariants.{Less}
-use Rattle.std.specs.Cmp.{IsTotalOrder}
-use Rattle.std.specs.List.{AllByRecursion}
-use Rattle.std.specs.List.Sorted.{IsStrictlySortedBy}
 use Rattle.std.proofs.lemmas.Bool.{lt-ltb, cases_lt}
-use Rattle.std.proofs.lemmas.List.Elements.{All-from_recursion, All-contains}
+use Rattle.lattice_core.specs.Keep.{IsExactOrder}
 use Rattle.walk_core.specs.Walks.{IsDistance-once}
+use Rattle.walk_core.specs.RankLaws.{one_rank_order}
+use Rattle.walk_core.specs.SortedLists.{sorted_same}
 use Rattle.gate_rules.specs.Rules.{GateRules}
-use Rattle.state_core.specs.Items.{IsItem}
+use Rattle.state_core.specs.Items.{IsItem, item_cmp}
 use Rattle.gate_rules.specs.Own.{IsOwn, IsFirstBroken, ItemStanding, standing_of, clause_before, side_before}
 use Rattle.state_core.specs.declared.item.Item.{Item}
 use Rattle.gate_rules.specs.declared.condition.Condition.{Condition}
@@ -21,47 +18,18 @@ use Rattle.gate_rules.specs.declared.condition.Side.TheVariants.{Require, Reject
 use Rattle.state_core.specs.State.{State}
 use Rattle.graph_core.specs.Dependencies.{IsDependency}
 use Rattle.state_core.specs.GreatestKnown.{greatest_known}
-use Rattle.lattice_core.specs.MemberLaws.{Contains-cons_cases, Contains-first, Contains-later, Contains-none, Contains-to_map}
-use Rattle.lattice_core.specs.PlaceLaws.{not_below_itself, earlier_or_same}
-use Rattle.state_core.specs.ItemLaws.{items_total}
+use Rattle.lattice_core.specs.MemberLaws.{Contains-first, Contains-later, Contains-to_map}
+use Rattle.lattice_core.specs.PlaceLaws.{earlier_or_same}
+use Rattle.state_core.specs.ItemLaws.{items_exact, items_total}
 use Rattle.ready_core.specs.declared.verdicts.Refusal.{Refusal}
 use Rattle.ready_core.specs.declared.verdicts.Refusal.TheVariants.{Own, Cycle, Unknown, Dependency}
 use Rattle.ready_core.specs.declared.verdicts.Left.{Left}
-use Rattle.ready_core.specs.Refusals.{IsIneligible, IsRefused, BeginsShortest}
+use Rattle.ready_core.specs.Refusals.{IsIneligible, IsReady, IsRefused, BeginsShortest}
 use Rattle.ready_core.specs.Verdicts.{AreVerdicts, Judged, items_out}
 use Rattle.ready_core.proofs.Refusing.{own_excludes, refused_rank}
 
--- ---- one list in order has some members
-module _ {X : Type 0} {cmp : X → X → Ordering} (total : IsTotalOrder cmp) where
-  above : (x z : X) (xs : List X) → AllByRecursion (λ y. cmp x y ≡ Less) xs → Contains xs z → cmp x z ≡ Less
-  above x z xs each c = All-contains (λ y. cmp x y ≡ Less) xs z (All-from_recursion (λ y. cmp x y ≡ Less) xs each) c
-
-  heads : (x y : X) → (y ≡ x) ⊎ (cmp y x ≡ Less) → (x ≡ y) ⊎ (cmp x y ≡ Less) → x ≡ y
-  heads x y (inl e) q = sym e
-  heads x y (inr p) (inl e) = e
-  heads x y (inr p) (inr q) = absurd (not_below_itself total x (total.trans x y x q p))
-
-  first_or_above : (x y : X) (ys : List X) → AllByRecursion (λ z. cmp y z ≡ Less) ys → Contains (y ∷ ys) x → (y ≡ x) ⊎ (cmp y x ≡ Less)
-  first_or_above x y ys each c = elim (Contains-cons_cases y ys x c) [ inl same ↦ inl same | inr later ↦ inr (above y x ys each later) ]
-
-  later_also : (x z : X) (xs ys : List X) → AllByRecursion (λ y. cmp x y ≡ Less) xs → Contains xs z → Contains (x ∷ ys) z → Contains ys z
-  later_also x z xs ys each c also = elim (Contains-cons_cases x ys z also) [
-    | inl same ↦ absurd (not_below_itself total x (subst (λ w. cmp x w ≡ Less) (sym same) (above x z xs each c)))
-    | inr later ↦ later
-  ]
-
-  sorted_same : (xs ys : List X) → IsStrictlySortedBy cmp xs → IsStrictlySortedBy cmp ys → ((z : X) → Contains xs z ↔ Contains ys z) → xs ≡ ys
-  unfolding IsStrictlySortedBy
-  sorted_same [] [] p q same = refl
-  sorted_same [] (y ∷ ys) p q same = absurd (Contains-none y ((same y).1 (Contains-first y ys)))
-  sorted_same (x ∷ xs) [] p q same = absurd (Contains-none x ((same x).0 (Contains-first x xs)))
-  sorted_same (x ∷ xs) (y ∷ ys) p q same =
-      let first : x ≡ y = heads x y (first_or_above x y ys q.0 ((same x).0 (Contains-first x xs))) (first_or_above y x xs p.0 ((same y).1 (Contains-first y ys))) in
-      let rest : xs ≡ ys = sorted_same xs ys p.1 q.1 (λ z. (
-        λ c. later_also x z xs ys p.0 c (subst (λ w. Contains (w ∷ ys) z) (sym first) ((same z).0 (Contains-later x xs z c))),
-        λ c. later_also y z ys xs q.0 c (subst (λ w. Contains (w ∷ xs) z) first ((same z).1 (Contains-later y ys z c))),
-      )) in
-      λ i. first i ∷ rest i
+pub items_exactly : IsExactOrder item_cmp
+items_exactly = record { total = items_total; exact = items_exact }
 
 -- lists whose items are the same, where an item has one entry
 lefts_same : (xs ys : List Left) → items_out xs ≡ items_out ys → ((l m : Left) → Contains xs l → Contains ys m → l.item ≡ m.item → l ≡ m) → xs ≡ ys
@@ -168,7 +136,7 @@ both_ways p r = (λ x. r.1 (p.0 x), λ x. p.1 (r.0 x))
 
 pub one_verdicts : (gate : GateRules) (state : State) (a b : Judged) → AreVerdicts gate state a → AreVerdicts gate state b → a ≡ b
 one_verdicts gate state a b are also =
-    let ready = sorted_same items_total a.ready b.ready are.ready_in_order also.ready_in_order (λ item. both_ways (are.ready item) (also.ready item)) in
+    let ready = one_rank_order items_exactly (IsDependency gate state) (IsReady gate state) a.ready b.ready are.ready_in_order also.ready_in_order in
     let items = sorted_same items_total (items_out a.out) (items_out b.out) are.out_in_order also.out_in_order (λ item. both_ways (are.out item) (also.out item)) in
     let out = lefts_same a.out b.out items (λ l m c d same.
     let there = (are.out l.item).0 (Contains-to_map (λ (left : Left). left.item) a.out l c) in

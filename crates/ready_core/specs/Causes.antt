@@ -1,8 +1,10 @@
 -- What the search for verdicts knows of the items in turn.
-use Rattle.std.specs.Prelude.{◌≡◌, ◌<◌, ◌≤◌, ◌↔◌, ℕ, Bool, List, Option, None, Some, map, is_some, length, slice_get, Contains}
+use Rattle.std.specs.Prelude.{◌≡◌, ◌<◌, ◌≤◌, ◌↔◌, ℕ, Bool, List, Option, None, Some, map, is_none, is_some, length, slice_get, slice_index_or, Contains}
 use Rattle.std.specs.List.{AllZip}
 use Rattle.std.specs.List.Sorted.{IsStrictlySortedBy}
-use Rattle.walk_core.specs.Digraphs.{AreDistances, IsWithin}
+use Rattle.std.specs.Ordering.{nat_cmp}
+use Rattle.walk_core.specs.Digraphs.{AreDistances, HasEdge, IsMarked, IsWithin}
+use Rattle.walk_core.specs.Ranks.{IsInRankOrder}
 use Rattle.gate_rules.specs.Rules.{GateRules}
 use Rattle.state_core.specs.declared.item.Item.{Item}
 use Rattle.state_core.specs.State.{State}
@@ -75,3 +77,22 @@ pub record AreJudged (gate : GateRules) (state : State) (items : List Item) (cou
 abbrev pub AreJudgedBy : ItemGraph → List (Option Refusal) → ℕ → List Item → List Left → Type 0
 AreJudgedBy graph causes count ready out =
     (gate : GateRules) (state : State) → IsGraphOf gate state graph → AreCauses gate state graph.items causes → AreJudged gate state graph.items count ready out
+
+-- ---- the order of the ready items
+
+-- the item at a place; a number that is no place has none
+abbrev pub item_at : List Item → ℕ → Item
+item_at items place = slice_index_or items place (record { change = 0; set = 0 })
+
+-- the places without a rank
+abbrev pub safe_flags : List (Option ℕ) → List Bool
+safe_flags ranks = map is_none ranks
+
+-- the items were judged place by place, and those that are ready were put in rank order
+pub record IsJudgement (graph : ItemGraph) (causes : List (Option Refusal)) (ranks : List (Option ℕ)) (ready : List Item) (out : List Left) : Type 0 where
+  pub searched : AreSearched graph causes ranks
+  pub safe : List Item
+  pub judged : AreJudgedBy graph causes (length graph.items) safe out
+  pub places : List ℕ
+  pub in_order : IsInRankOrder nat_cmp (HasEdge graph.ends) (IsMarked (safe_flags ranks)) places
+  pub ready_at : ready ≡ map (item_at graph.items) places

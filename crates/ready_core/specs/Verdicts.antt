@@ -2,7 +2,9 @@
 use Rattle.std.specs.Prelude.{◌≡◌, ◌↔◌, ℕ, List, Contains, map}
 use Rattle.std.proofs.Common.{suc}
 use Rattle.std.specs.List.Sorted.{IsStrictlySortedBy}
+use Rattle.walk_core.specs.Ranks.{IsInRankOrder}
 use Rattle.gate_rules.specs.Rules.{GateRules}
+use Rattle.graph_core.specs.Dependencies.{IsDependency}
 use Rattle.state_core.specs.Items.{IsItem}
 use Rattle.state_core.specs.declared.item.Item.{Item}
 use Rattle.state_core.specs.State.{State}
@@ -21,13 +23,19 @@ pub record Judged : Type 0 where
 abbrev pub items_out : List Left → List Item
 items_out = map (λ left. left.item)
 
+-- just the ready items, in rank order: by how many ready items an item waits for, over others, itself among them, then by the least item of its
+-- cycle, then by itself
+abbrev pub IsInGateOrder : GateRules → State → List Item → Type 0
+IsInGateOrder gate state = IsInRankOrder item_cmp (IsDependency gate state) (IsReady gate state)
+
 -- the verdicts are those of the state under the gate: just the items that some closed set of eligible items has are ready, each other one is
--- left out for its refusal, and both lists are in order, each item once
+-- left out for its refusal, and both lists are in order, each item once: the ready ones in gate order, in which each comes after what it waits for,
+-- but for its cycle, and the others by change and patch set
 pub record AreVerdicts (gate : GateRules) (state : State) (verdicts : Judged) : Type 0 where
   pub ready : (item : Item) → Contains verdicts.ready item ↔ IsReady gate state item
   pub out : (item : Item) → Contains (items_out verdicts.out) item ↔ (IsItem state item × ¬ IsReady gate state item)
   pub refused : (left : Left) → Contains verdicts.out left → IsRefused gate state left.item left.refusal left.rank
-  pub ready_in_order : IsStrictlySortedBy item_cmp verdicts.ready
+  pub ready_in_order : IsInGateOrder gate state verdicts.ready
   pub out_in_order : IsStrictlySortedBy item_cmp (items_out verdicts.out)
 
 -- the change's current item is left out with this rank

@@ -1,4 +1,4 @@
-ghost use Rattle.std.specs.Prelude.{◌≡◌, ◌<◌, ◌↔◌, ℕ, IsTrue, IfOk, MatchOption, All, Contains, length};
+ghost use Rattle.std.specs.Prelude.{◌≡◌, ◌<◌, ◌↔◌, ℕ, IsTrue, IfOk, MatchOption, All, Contains, length, map};
 ghost use Rattle.state_core.specs.State.{State as Changes};
 ghost use Rattle.walk_core.specs.Digraphs.{ends_of};
 ghost use Rattle.gate_rules.specs.Rules.{GateRules};
@@ -6,7 +6,7 @@ ghost use Rattle.state_core.specs.declared.item.Item.{Item};
 ghost use Rattle.graph_core.specs.ItemGraph.{IsAt, IsGraphOf};
 ghost use Rattle.ready_core.specs.Refusals.{IsRefused};
 ghost use Rattle.ready_core.specs.Verdicts.{AreVerdicts};
-ghost use Rattle.ready_core.specs.Causes.{AreCauses, AreJudgedBy, AreSearched, HasRank, IsNearest};
+ghost use Rattle.ready_core.specs.Causes.{AreCauses, AreJudgedBy, AreSearched, HasRank, IsJudgement, IsNearest, item_at, safe_flags};
 
 use super::causes::{all_causes, flags_of};
 use super::verdicts::{Left, Refusal, Verdicts};
@@ -17,7 +17,8 @@ use state_core::{Item, State};
 use std::alloc::Global;
 
 /// Which items of a state are ready under a gate, and why each other one isn't. It costs the bytes of the messages, the votes on each change
-/// times its patch sets and the gate's patterns, and time and memory that grow with the items and what they wait for, but for a logarithm.
+/// times its patch sets and the gate's patterns, time and memory that grow with the items and what they wait for, but for a logarithm, and, for the
+/// order of the ready items, a walk over these and what they wait for from each 512 of them.
 pub fn evaluate(alloc: Global, state: &State, gate: &Gate) -> Result<Verdicts, NoMemory>
     ensures { IfOk result (AreVerdicts gate.now state.now) }
 {
@@ -30,6 +31,42 @@ pub fn evaluate(alloc: Global, state: &State, gate: &Gate) -> Result<Verdicts, N
 
 /// The verdicts, by why each item isn't eligible and how far it is from one that isn't.
 pub fn judged(
+    alloc: Global,
+    graph: &Graph,
+    causes: &[Option<Refusal>],
+    ranks: &[Option<usize>],
+) -> Result<Verdicts, NoMemory>
+    requires { AreSearched graph.now causes.now ranks.now }
+    ensures { IfOk result (λ verdicts. IsJudgement graph.now causes.now ranks.now verdicts.ready verdicts.out) }
+{
+    let verdicts = by_place(alloc, graph, causes, ranks)?;
+    let safe = unranked(alloc, ranks)?;
+    let places = graph.digraph().in_rank_order(safe.as_slice())?;
+    let ready = items_at(alloc, graph.items(), places.as_slice())?;
+    Ok(verdicts.with_ready(ready))
+}
+
+/// Which places have no rank.
+fn unranked(alloc: Global, ranks: &[Option<usize>]) -> Result<Vec<bool>, NoMemory>
+    ensures { IfOk result (λ flags. flags.items ≡ safe_flags ranks.now) }
+{
+    Ok(ranks.iter().map(|rank| rank.is_none()).collect(alloc)?)
+}
+
+/// The items at some places.
+fn items_at(alloc: Global, items: &[Item], places: &[usize]) -> Result<Vec<Item>, NoMemory>
+    requires { All (λ place. place < length items.now) places.now }
+    ensures { IfOk result (λ found. found.items ≡ map (item_at items.now) places.now) }
+{
+    let mut found = Vec::with_capacity(alloc, places.len())?;
+    for place in places {
+        found.push(items[*place])?;
+    }
+    Ok(found)
+}
+
+/// The verdicts with the ready items in number order, as the others.
+fn by_place(
     alloc: Global,
     graph: &Graph,
     causes: &[Option<Refusal>],

@@ -3,6 +3,7 @@
 ghost use Rattle.std.specs.Prelude.{◌≡◌, ◌↔◌, ◌<◌, ℕ, Bool, List, Contains, length};
 ghost use Rattle.std.proofs.Common.{suc};
 ghost use Rattle.walk_core.specs.Walks.{IsEdge, IsOfKind};
+ghost use Rattle.walk_core.specs.Ranks.{EndsStandBefore, TogetherStandTogether};
 ghost use Rattle.gate_rules.specs.Rules.{GateRules};
 ghost use Rattle.state_core.specs.declared.item.Item.{Item};
 ghost use Rattle.state_core.specs.State.{State};
@@ -37,6 +38,15 @@ pub fn ready_items_are_the_greatest_closed_set()
     ensures greatest { (gate : GateRules) → (state : State) → (verdicts : Judged) → AreVerdicts gate state verdicts
         → (set : List Item) → IsClosed (IsDependency gate state) (IsEligible gate state) set
         → (item : Item) → Contains set item → Contains verdicts.ready item }
+{}
+
+/// A law: of a ready item each item that it waits for stands before it or on its cycle, and what stands between two items of a cycle is on it. There
+/// is one such list, as `verdicts_are_unique` says.
+pub fn ready_items_stand_in_gate_order()
+    ensures ends { (gate : GateRules) → (state : State) → (verdicts : Judged) → AreVerdicts gate state verdicts
+        → EndsStandBefore (IsDependency gate state) verdicts.ready }
+    ensures together { (gate : GateRules) → (state : State) → (verdicts : Judged) → AreVerdicts gate state verdicts
+        → TogetherStandTogether (IsDependency gate state) verdicts.ready }
 {}
 
 /// A law: an item that is left out for a dependency has a rank above 0, and the current item of that dependency is left out, too, with the rank

@@ -10,6 +10,9 @@
 //! | `Cycle` | it is on a cycle, and the gate allows none | 0 |
 //! | `Unknown` | the least change that it waits for and of which no patch set is known | 0 |
 //! | `Dependency` | the least change that begins a shortest walk to an item that isn't eligible | the length of that walk |
+//!
+//! The ready items stand in gate order: by how many ready items an item waits for, over others, itself among them; then by the least item of its
+//! cycle; then by change and patch set. So what an item waits for stands before it, and the items of an allowed cycle stand together.
 #![tactic(auto)]
 
 mod causes;
@@ -26,6 +29,6 @@ mod verdicts;
 pub use judge::evaluate;
 pub use laws::{
     closed_sets_are_safe, dependencies_lead_to_a_cause, ready_items_are_the_greatest_closed_set,
-    safe_nodes_are_closed, verdicts_are_unique,
+    ready_items_stand_in_gate_order, safe_nodes_are_closed, verdicts_are_unique,
 };
 pub use verdicts::{Left, Refusal, Verdicts};

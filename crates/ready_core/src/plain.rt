@@ -148,6 +148,53 @@ impl Case {
         Ok(next)
     }
 
+    /// The changes that a change waits for, over others, itself among them, by repeated relaxing.
+    fn led_to(&self, change: u32) -> Result<Vec<u32>, NoMemory> {
+        let mut led = Vec::new(self.alloc);
+        led.push(change)?;
+        for _ in 0..self.approved.len() {
+            for (from, to) in &self.edges {
+                if self.waits(*from, *to) && led.as_slice().contains(from) {
+                    led.push(*to)?;
+                }
+            }
+            led.sort_unstable();
+            led.dedup();
+        }
+        Ok(led)
+    }
+
+    /// How many changes a change waits for, itself among them, the least of these that wait for it, and itself.
+    fn rank(&self, change: u32) -> Result<(usize, u32, u32), NoMemory> {
+        let led = self.led_to(change)?;
+        let mut first = change;
+        for other in &led {
+            if self.led_to(*other)?.as_slice().contains(&change) {
+                first = first.min(*other);
+            }
+        }
+        Ok((led.len(), first, change))
+    }
+
+    /// The items of the changes that have no refusal, in the order of their ranks.
+    fn ready(&self, refusals: &[Option<(Refusal, usize)>]) -> Result<Vec<Item>, NoMemory> {
+        let mut ranks = Vec::new(self.alloc);
+        for (change, refusal) in (1u32..).zip(refusals) {
+            if refusal.is_none() {
+                ranks.push(self.rank(change)?)?;
+            }
+        }
+        ranks.sort_unstable();
+        let mut ready = Vec::new(self.alloc);
+        for (_, _, change) in &ranks {
+            ready.push(Item {
+                change: *change,
+                set: 1,
+            })?;
+        }
+        Ok(ready)
+    }
+
     /// What a change needs.
     fn needs(&self, change: u32) -> Result<Vec<u32>, NoMemory> {
         let mut needs = Vec::new(self.alloc);
@@ -199,17 +246,6 @@ impl Case {
     }
 }
 
-/// The items of the changes that have no refusal.
-fn ready_of(alloc: Global, refusals: &[Option<(Refusal, usize)>]) -> Result<Vec<Item>, NoMemory> {
-    let mut ready = Vec::new(alloc);
-    for (change, refusal) in (1u32..).zip(refusals) {
-        if refusal.is_none() {
-            ready.push(Item { change, set: 1 })?;
-        }
-    }
-    Ok(ready)
-}
-
 /// The items of the changes that have a refusal.
 fn out_of(alloc: Global, refusals: &[Option<(Refusal, usize)>]) -> Result<Vec<Left>, NoMemory> {
     let mut out = Vec::new(alloc);
@@ -226,14 +262,14 @@ fn out_of(alloc: Global, refusals: &[Option<(Refusal, usize)>]) -> Result<Vec<Le
     Ok(out)
 }
 
-/// These items are ready in both programs.
+/// These items are ready in both programs, in the same order.
 fn assert_ready(
     rt: &impl Abort,
-    alloc: Global,
+    case: &Case,
     ready: &[Item],
     refusals: &[Option<(Refusal, usize)>],
 ) -> Result<(), Fail> {
-    let wanted = ready_of(alloc, refusals)?;
+    let wanted = case.ready(refusals)?;
     assert_eq!(rt; ready, wanted.as_slice());
     Ok(())
 }
@@ -263,7 +299,7 @@ fn assert_plain(rt: &impl Abort, case: &Case) -> Result<(), Fail> {
     let verdicts = case.verdicts()?;
     assert_rounds(rt, case, &verdicts)?;
     let refusals = case.refusals()?;
-    assert_ready(rt, case.alloc, verdicts.ready(), refusals.as_slice())?;
+    assert_ready(rt, case, verdicts.ready(), refusals.as_slice())?;
     assert_out(rt, case.alloc, verdicts.out(), refusals.as_slice())
 }
 

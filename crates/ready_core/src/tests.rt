@@ -289,12 +289,50 @@ const AN_UNKNOWN_CHANGE: &[Step] = &[
     PatchSet(7, 1, &[], None),
     Report("ready 7,1\nout 6,1 unknown 9 0\n"),
     Merged(9),
-    Report("ready 6,1\nready 7,1\n"),
+    Report("ready 7,1\nready 6,1\n"),
 ];
 
 #[test]
 fn an_unknown_change(rt: HostRuntime) -> Result<(), Fail> {
     play(&rt, rt.alloc(), AN_UNKNOWN_CHANGE)
+}
+
+const A_CHAIN_FROM_ITS_END: &[Step] = &[
+    Approved(3, &[1]),
+    Approved(1, &[2]),
+    Approved(2, &[]),
+    Report("ready 2,1\nready 1,1\nready 3,1\n"),
+];
+
+#[test]
+fn a_chain_from_its_end(rt: HostRuntime) -> Result<(), Fail> {
+    play(&rt, rt.alloc(), A_CHAIN_FROM_ITS_END)
+}
+
+const A_CYCLE_AFTER_WHAT_NEEDS_NOTHING: &[Step] = &[
+    Approved(1, &[3]),
+    Approved(2, &[]),
+    Approved(3, &[1]),
+    Approved(4, &[]),
+    CyclesReport("ready 2,1\nready 4,1\nready 1,1\nready 3,1\n"),
+];
+
+#[test]
+fn a_cycle_after_what_needs_nothing(rt: HostRuntime) -> Result<(), Fail> {
+    play(&rt, rt.alloc(), A_CYCLE_AFTER_WHAT_NEEDS_NOTHING)
+}
+
+const TWO_CYCLES_STAND_APART: &[Step] = &[
+    Approved(1, &[4]),
+    Approved(2, &[3]),
+    Approved(3, &[2]),
+    Approved(4, &[1]),
+    CyclesReport("ready 1,1\nready 4,1\nready 2,1\nready 3,1\n"),
+];
+
+#[test]
+fn two_cycles_stand_apart(rt: HostRuntime) -> Result<(), Fail> {
+    play(&rt, rt.alloc(), TWO_CYCLES_STAND_APART)
 }
 
 // A cycle is told before an unknown change, and an own condition before both.

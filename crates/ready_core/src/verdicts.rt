@@ -49,14 +49,24 @@ impl Verdicts {
         Verdicts { ready, out }
     }
 
-    /// The items that are ready, in order. Takes no memory, as `out`.
+    /// The verdicts with another list of ready items.
+    pub(crate) fn with_ready(self, ready: Vec<Item>) -> Verdicts
+        ensures { result ≡ record { ready = ready.items; out = self.out } }
+    {
+        Verdicts {
+            ready,
+            out: self.out,
+        }
+    }
+
+    /// The items that are ready, in gate order: each after what it waits for, but for its cycle. Takes no memory, as `out`.
     pub fn ready(&self) -> &[Item]
         ensures { result.now ≡ self.now.ready }
     {
         self.ready.as_slice()
     }
 
-    /// The other items, in order, each with its refusal and its rank.
+    /// The other items, by change and patch set, each with its refusal and its rank.
     pub fn out(&self) -> &[Left]
         ensures { result.now ≡ self.now.out }
     {

@@ -79,7 +79,7 @@ fn sites_report_what_may_be_enqueued(rt: HostRuntime) {
         // An unknown change that becomes known.
         (
             "sites 1\nintake 1 {\"change\":7,\"label\":\"Workflow\",\"op\":\"vote\",\"set\":1,\"value\":1,\"voter\":\"ann\"}\nintake 1 {\"change\":7,\"label\":\"Verified\",\"op\":\"vote\",\"set\":1,\"value\":1,\"voter\":\"zuul\"}\nintake 1 {\"change\":6,\"message\":\"Depends-On: https://review.example.org/7\",\"op\":\"patchset\",\"set\":1}\nintake 1 {\"change\":6,\"label\":\"Workflow\",\"op\":\"vote\",\"set\":1,\"value\":1,\"voter\":\"ann\"}\nintake 1 {\"change\":6,\"label\":\"Verified\",\"op\":\"vote\",\"set\":1,\"value\":1,\"voter\":\"zuul\"}\nready 1\nintake 1 {\"change\":7,\"message\":\"m\",\"op\":\"patchset\",\"set\":1}\nready 1\n",
-            "ok 1,1,1,1\nok 2,1,1,2\nok 3,1,1,3\nok 4,1,1,4\nok 5,1,1,5\nout 6,1 unknown 7\nend 0 1\nok 6,1,1,6\nready 6,1\nready 7,1\nend 2 0\n",
+            "ok 1,1,1,1\nok 2,1,1,2\nok 3,1,1,3\nok 4,1,1,4\nok 5,1,1,5\nout 6,1 unknown 7\nend 0 1\nok 6,1,1,6\nready 7,1\nready 6,1\nend 2 0\n",
         ),
     ];
     for (script, output) in cases {

@@ -5,9 +5,9 @@ use Rattle.walk_core.specs.Digraphs.{AreDistances}
 use Rattle.graph_core.specs.Dependencies.{IsDependency}
 use Rattle.graph_core.specs.WalkLaws.{ends_within}
 use Rattle.lattice_core.specs.ZipLaws.{length-AllZip}
-use Rattle.ready_core.specs.Causes.{IsCauseOf, AreCauses, AreJudgedBy, flags_of}
+use Rattle.ready_core.specs.Causes.{IsCauseOf, AreCauses, IsJudgement, flags_of}
 use Rattle.ready_core.specs.Verdicts.{AreVerdicts}
-use Rattle.ready_core.proofs.Judging.{all_judged, decided_all}
+use Rattle.ready_core.proofs.GateVerdicts.{all_ordered}
 use Rattle.ready_core.proofs.judge.evaluate.Goals as goal
 
 pub distances-requires : goal.distances-requires
@@ -39,8 +39,8 @@ pub returns : goal.returns
 returns c =
     let gate = c.args.gate.now in
     let state = c.args.state.now in
-    IfOk-weaker c.judged.result (λ verdicts. AreJudgedBy c.in_ok-graph.graph c.as_slice-3.result.now (length c.in_ok-graph.graph.items) verdicts.ready verdicts.out) (AreVerdicts gate state)
+    IfOk-weaker c.judged.result (λ verdicts. IsJudgement c.in_ok-graph.graph c.as_slice-3.result.now c.as_slice-4.result.now verdicts.ready verdicts.out) (AreVerdicts gate state)
     (λ verdicts are.
     let of = subst (AreCauses gate state c.in_ok-graph.graph.items) (sym c.as_slice-3.ensures.value) c.in_ok-causes.ensures in
-    all_judged gate state c.in_ok-graph.graph verdicts c.in_ok-graph.ensures (are gate state c.in_ok-graph.ensures of) (decided_all gate state c.in_ok-graph.graph.items c.as_slice-3.result.now of))
+    all_ordered gate state c.in_ok-graph.graph c.as_slice-3.result.now c.as_slice-4.result.now verdicts c.in_ok-graph.ensures of are)
     c.judged.ensures

@@ -1,32 +1,22 @@
-use Rattle.std.proofs.Common.{None, Some, ap, get_or, length, refl, arith}
-use Rattle.state_core.specs.declared.item.Item.{Item}
-use Rattle.ready_core.proofs.Ranking.{read_at, here_at, safe_at, unsafe_at}
-use Rattle.ready_core.proofs.Judging.{judged_nothing, judged_ready, judged_out}
+use Rattle.std.proofs.Common.{◌≡◌, Contains, length, get_or, is_none, sym, ap, ◌∙◌, subst, arith}
+use Rattle.std.proofs.lemmas.List.{length-map}
+use Rattle.std.proofs.lemmas.List.Elements.{Contains-get_or}
+use Rattle.std.proofs.lemmas.Option.{slice_get_within}
+use Rattle.walk_core.specs.Digraphs.{HasEdge, IsMarked}
+use Rattle.ready_core.specs.Causes.{safe_flags}
+use Rattle.ready_core.proofs.GateVerdicts.{flags_closed}
 use Rattle.ready_core.proofs.judge.judged.Goals as goal
 
-pub loop-place-init : goal.loop-place-init
-loop-place-init c = λ gate state is of. rw (c.new-ready.ensures.items, c.new-out.ensures.items) (judged_nothing gate state c.args.graph.now.items)
+pub in_rank_order-requires-clause-closed : goal.in_rank_order-requires-clause-closed
+in_rank_order-requires-clause-closed c = λ x y marked edge.
+    let flags : c.as_slice.result.now ≡ safe_flags c.args.ranks.now = c.as_slice.ensures.value ∙ c.in_ok-safe.ensures in
+    subst (λ marks. IsMarked marks y) (sym flags)
+    (flags_closed c.args.graph.now c.args.causes.now c.args.ranks.now c.requires x y (subst (λ marks. IsMarked marks x) flags marked) (subst (λ ends. HasEdge ends x y) c.digraph.ensures.ends edge))
 
-pub loop-place-preserved-in_default : goal.loop-place-preserved-in_default
-loop-place-preserved-in_default c = λ gate state is of.
-    let next : Item = get_or c.items-items.result.now c.loop-place.place (record { change = 0; set = 0 }) in
-    let here = here_at c.args.graph.now.items c.items-items.result.now c.loop-place.place (record { change = 0; set = 0 }) c.items-items.ensures (omega arith) in
-    let none = read_at c.args.ranks.now c.loop-place.place None (omega (arith, c.requires.distances.nodes, c.requires.nodes, ap length c.items-items.ensures)) c.in_default.is in
-    rw c.in_ok-push.ensures.items
-    (judged_ready gate state c.args.graph.now.items is.items.in_order c.loop-place.place c.loop-place.ready.items c.loop-place.out.items (c.loop-place.invariant gate state is of) next here
-    (safe_at gate state c.args.graph.now c.args.causes.now c.args.ranks.now is of c.requires c.loop-place.place next here none))
-
-pub refusal_of-refusal-requires-clause-rank : goal.refusal_of-refusal-requires-clause-rank
-refusal_of-refusal-requires-clause-rank c =
-    read_at c.args.ranks.now c.loop-place.place (Some c.in-Some.rank) (omega (arith, c.requires.distances.nodes, c.requires.nodes, ap length c.items-items.ensures)) c.in-Some.is
-
-pub loop-place-preserved : goal.loop-place-preserved
-loop-place-preserved c = λ gate state is of.
-    let next : Item = get_or c.items-items.result.now c.loop-place.place (record { change = 0; set = 0 }) in
-    let here = here_at c.args.graph.now.items c.items-items.result.now c.loop-place.place (record { change = 0; set = 0 }) c.items-items.ensures (omega arith) in
-    let rank = read_at c.args.ranks.now c.loop-place.place (Some c.in-Some.rank) (omega (arith, c.requires.distances.nodes, c.requires.nodes, ap length c.items-items.ensures)) c.in-Some.is in
-    rw c.in_ok-push-2.ensures.items
-    (judged_out gate state c.args.graph.now.items is.items.in_order c.loop-place.place c.loop-place.ready.items c.loop-place.out.items (c.loop-place.invariant gate state is of) next here
-    (record { item = next; refusal = c.refusal_of-refusal.result; rank = c.in-Some.rank }) refl
-    (unsafe_at gate state c.args.graph.now c.args.causes.now c.args.ranks.now is of c.requires c.loop-place.place next c.in-Some.rank here rank)
-    (c.refusal_of-refusal.ensures gate state next is of here))
+pub items_at-requires : goal.items_at-requires
+items_at-requires c = λ k d within.
+    let flags : c.as_slice.result.now ≡ safe_flags c.args.ranks.now = c.as_slice.ensures.value ∙ c.in_ok-safe.ensures in
+    let sized : length (safe_flags c.args.ranks.now) ≡ length c.args.graph.now.items = length-map c.args.ranks.now is_none ∙ c.requires.distances.nodes ∙ c.requires.nodes in
+    let here = subst (λ places. Contains places (get_or c.as_slice-2.result.now k d)) c.as_slice-2.ensures.value (Contains-get_or c.as_slice-2.result.now k d within) in
+    let inside = slice_get_within c.as_slice.result.now _ _ ((c.in_ok-places.ensures.just _).0 here) in
+    omega (arith, inside, ap length flags, sized, ap length c.items.ensures)

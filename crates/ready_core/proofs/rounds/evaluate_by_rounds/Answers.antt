@@ -6,7 +6,7 @@ use Rattle.graph_core.specs.Dependencies.{IsDependency}
 use Rattle.graph_core.specs.WalkLaws.{ends_within}
 use Rattle.lattice_core.specs.ZipLaws.{length-AllZip}
 use Rattle.ready_core.specs.Causes.{IsCauseOf, AreCauses, flags_of}
-use Rattle.ready_core.proofs.Judging.{all_judged, decided_all}
+use Rattle.ready_core.proofs.GateVerdicts.{all_ordered}
 use Rattle.ready_core.proofs.rounds.evaluate_by_rounds.Goals as goal
 
 pub ranks_by_rounds-requires : goal.ranks_by_rounds-requires
@@ -40,4 +40,4 @@ returns c =
     let gate = c.args.gate.now in
     let state = c.args.state.now in
     let of = subst (AreCauses gate state c.in_ok-graph.graph.items) (sym c.as_slice-3.ensures.value) c.in_ok-causes.ensures in
-    all_judged gate state c.in_ok-graph.graph c.in_ok-verdicts.verdicts c.in_ok-graph.ensures (c.in_ok-verdicts.ensures gate state c.in_ok-graph.ensures of) (decided_all gate state c.in_ok-graph.graph.items c.as_slice-3.result.now of)
+    all_ordered gate state c.in_ok-graph.graph c.as_slice-3.result.now c.as_slice-4.result.now c.in_ok-verdicts.verdicts c.in_ok-graph.ensures of c.in_ok-verdicts.ensures

@@ -1,0 +1,88 @@
+-- The items that were judged place by place, with the ready ones in rank order, are the verdicts.
+use Rattle.std.proofs.Common.{◌≡◌, ◌↔◌, ◌<◌, ℕ, Bool, true, List, Contains, Option, Some, None, map, length, is_none, refl, sym, ◌∙◌, ap, subst, arith}
+use Rattle.std.specs.Prelude.{slice_get, option_map}
+use Rattle.std.proofs.lemmas.List.{length-map}
+use Rattle.std.proofs.lemmas.Option.{slice_get-map, slice_get_within}
+use Rattle.lattice_core.specs.PlaceLaws.{Contains-at, at_below}
+use Rattle.gate_rules.specs.Rules.{GateRules}
+use Rattle.state_core.specs.declared.item.Item.{Item}
+use Rattle.state_core.specs.State.{State}
+use Rattle.state_core.specs.Items.{item_cmp}
+use Rattle.walk_core.specs.Digraphs.{HasEdge, IsMarked}
+use Rattle.walk_core.specs.Edges.{AreDistances-before}
+use Rattle.walk_core.specs.Ranks.{IsInRankOrder}
+use Rattle.graph_core.specs.Dependencies.{IsDependency}
+use Rattle.graph_core.specs.ItemGraph.{ItemGraph, IsAt, IsGraphOf}
+use Rattle.ready_core.specs.declared.verdicts.Refusal.{Refusal}
+use Rattle.ready_core.specs.Refusals.{IsReady}
+use Rattle.ready_core.specs.Verdicts.{AreVerdicts, Judged}
+use Rattle.ready_core.specs.Causes.{AreCauses, AreJudged, AreSearched, IsJudgement, IsSafeItem, flags_of, item_at, safe_flags}
+use Rattle.ready_core.proofs.Ranking.{held, safe_at, unsafe_at}
+use Rattle.ready_core.proofs.Judging.{all_judged, decided_all}
+use Rattle.ready_core.proofs.GateOrder.{in_gate_order}
+
+none_of : (rank : Option ℕ) → is_none rank ≡ true → rank ≡ None
+none_of None is = refl
+none_of (Some rank) is = cc
+
+flag_of : (ranks : List (Option ℕ)) (place : ℕ) (found : Option (Option ℕ)) → slice_get ranks place ≡ found → option_map is_none found ≡ Some true → slice_get ranks place ≡ Some None
+flag_of ranks place None at is = cc
+flag_of ranks place (Some rank) at is = let none : is_none rank ≡ true = one (is_none rank) is in at ∙ ap Some (none_of rank none) where
+  one : (b : Bool) → Some b ≡ Some true → b ≡ true
+  one b e = cc
+
+pub unranked_at : (ranks : List (Option ℕ)) (place : ℕ) → IsMarked (safe_flags ranks) place → slice_get ranks place ≡ Some None
+unranked_at ranks place marked = flag_of ranks place (slice_get ranks place) refl (sym (slice_get-map is_none ranks place) ∙ marked)
+
+pub at_unranked : (ranks : List (Option ℕ)) (place : ℕ) → slice_get ranks place ≡ Some None → IsMarked (safe_flags ranks) place
+at_unranked ranks place none = slice_get-map is_none ranks place ∙ ap (option_map is_none) none
+
+-- the places without a rank hold the ends of their edges
+flag_on : (ranks : List (Option ℕ)) (x y : ℕ) (found : Option ℕ) → slice_get ranks x ≡ Some None → slice_get ranks y ≡ Some found → ((m : ℕ) → slice_get ranks y ≡ Some (Some m) → (n : ℕ) × (slice_get ranks x ≡ Some (Some n))) → IsMarked (safe_flags ranks) y
+flag_on ranks x y None none at before = at_unranked ranks y at
+flag_on ranks x y (Some m) none at before = let there = (before m at).1 in cc
+
+pub flags_closed : (graph : ItemGraph) (causes : List (Option Refusal)) (ranks : List (Option ℕ)) → AreSearched graph causes ranks → (x y : ℕ) → IsMarked (safe_flags ranks) x → HasEdge graph.ends x y → IsMarked (safe_flags ranks) y
+flags_closed graph causes ranks searched x y marked edge =
+    let within = searched.within x y edge in
+    let found = at_below ranks y (omega (arith, within, searched.distances.nodes)) in
+    flag_on ranks x y found.0 (unranked_at ranks x marked) found.1 (λ m at. AreDistances-before graph.ends (flags_of causes) ranks searched.distances x y m edge at)
+
+module _ (gate : GateRules) (state : State) (graph : ItemGraph) (causes : List (Option Refusal)) (ranks : List (Option ℕ)) (verdicts : Judged)
+    (is : IsGraphOf gate state graph) (of : AreCauses gate state graph.items causes) (judgement : IsJudgement graph causes ranks verdicts.ready verdicts.out) where
+  split : Judged
+  split = record { ready = judgement.safe; out = verdicts.out }
+
+  judged : AreJudged gate state graph.items (length graph.items) judgement.safe verdicts.out
+  judged = judgement.judged gate state is of
+
+  sizes : length (safe_flags ranks) ≡ length graph.items
+  sizes = length-map ranks is_none ∙ judgement.searched.distances.nodes ∙ judgement.searched.nodes
+
+  unranked_place : (place : ℕ) (item : Item) (found : Option ℕ) → IsAt graph.items place item → IsSafeItem gate state item → slice_get ranks place ≡ Some found → slice_get ranks place ≡ Some None
+  unranked_place place item None here safe at = at
+  unranked_place place item (Some rank) here safe at = absurd (unsafe_at gate state graph causes ranks is of judgement.searched place item rank here at safe)
+
+  some_rank : (place : ℕ) → place < length ranks → (found : Option ℕ) × (slice_get ranks place ≡ Some found)
+  some_rank place within = at_below ranks place within
+
+  pub all_ordered : AreVerdicts gate state verdicts
+  unfolding split
+  all_ordered =
+      let are = all_judged gate state graph split is judged (decided_all gate state graph.items causes of) in
+      let stands_safe : (item : Item) → IsReady gate state item → IsSafeItem gate state item = λ item ready. ((judged.ready item).0 ((are.ready item).1 ready)).1 in
+      let listed : (item : Item) → IsReady gate state item → Contains graph.items item = λ item ready. let stands = ((judged.ready item).0 ((are.ready item).1 ready)).0 in Contains-at graph.items stands.place item stands.here in
+      let says : (place : ℕ) (item : Item) → IsAt graph.items place item → IsMarked (safe_flags ranks) place ↔ IsReady gate state item = λ place item here. (
+        λ marked.
+            let safe = safe_at gate state graph causes ranks is of judgement.searched place item here (unranked_at ranks place marked) in
+            (are.ready item).0 ((judged.ready item).1 (record { place = place; before = slice_get_within graph.items place item here; here = here }, safe)),
+        λ ready.
+            let within = slice_get_within graph.items place item here in
+            let found = some_rank place (omega (arith, within, judgement.searched.distances.nodes, judgement.searched.nodes)) in
+            at_unranked ranks place (unranked_place place item found.0 here (stands_safe item ready) found.1),
+      ) in
+      let order : IsInRankOrder item_cmp (IsDependency gate state) (IsReady gate state) (map (item_at graph.items) judgement.places) =
+      in_gate_order (IsDependency gate state) graph.items graph.ends is.ends is.items.in_order (held gate state graph causes ranks is of judgement.searched) (IsReady gate state) (safe_flags ranks) sizes says listed
+      judgement.places judgement.in_order in
+      let in_order : IsInRankOrder item_cmp (IsDependency gate state) (IsReady gate state) verdicts.ready = subst (IsInRankOrder item_cmp (IsDependency gate state) (IsReady gate state)) (sym judgement.ready_at) order in
+      record { ready = in_order.just; out = are.out; refused = are.refused; ready_in_order = in_order; out_in_order = are.out_in_order }
