@@ -6,7 +6,7 @@ use Rattle.std.proofs.lemmas.Option.{slice_get_within}
 use Rattle.walk_core.specs.Walks.{Leads}
 use Rattle.walk_core.specs.Digraphs.{row, HasEdge, IsMarked, IsDistanceTo, AreDistances}
 use Rattle.lattice_core.specs.PlaceLaws.{at_Contains, at_below}
-use Rattle.ready_core.specs.Causes.{HasRank}
+use Rattle.walk_core.specs.Levels.{HasDistance}
 use Rattle.ready_core.specs.Rounds.{IsRankOf, Follows}
 
 -- only a node has edges
@@ -22,23 +22,23 @@ module _ (graph : List (List ℕ)) (marked : List Bool) (ranks : List (Option �
   ranked : (x : ℕ) (rank : Option ℕ) → IsRankOf ranks x rank → Follows graph marked ranks x
   ranked x rank is = follow x (omega (arith, as_ranks, slice_get_within ranks x rank is))
 
-  leads_there : (n x : ℕ) → HasRank ranks x n → Leads (HasEdge graph) (IsMarked marked) n x
+  leads_there : (n x : ℕ) → HasDistance ranks x n → Leads (HasEdge graph) (IsMarked marked) n x
   leads_there zero x is = (ranked x (Some zero) is).source (Some zero) is
   leads_there (suc n) x is =
       let from = (ranked x (Some (suc n)) is).source (Some (suc n)) is in
       (from.1, from.2, leads_there n from.1 from.3)
 
-  marked_rank : (x : ℕ) (rank : Option ℕ) → IsRankOf ranks x rank → IsMarked marked x → HasRank ranks x 0
+  marked_rank : (x : ℕ) (rank : Option ℕ) → IsRankOf ranks x rank → IsMarked marked x → HasDistance ranks x 0
   marked_rank x None is mark = absurd ((ranked x None is).source None is mark)
   marked_rank x (Some zero) is mark = is
   marked_rank x (Some (suc n)) is mark = absurd (((ranked x (Some (suc n)) is).source (Some (suc n)) is).0 mark)
 
-  next_rank : (x y k : ℕ) (rank : Option ℕ) → IsRankOf ranks x rank → HasEdge graph x y → HasRank ranks y k → (n : ℕ) × (n ≤ suc k) × HasRank ranks x n
+  next_rank : (x y k : ℕ) (rank : Option ℕ) → IsRankOf ranks x rank → HasEdge graph x y → HasDistance ranks y k → (n : ℕ) × (n ≤ suc k) × HasDistance ranks x n
   next_rank x y k None is edge near = absurd ((ranked x None is).ends y None (Some k) edge is near)
   next_rank x y k (Some n) is edge near = (n, (ranked x (Some n) is).ends y (Some n) (Some k) edge is near, is)
 
   -- a walk of so many edges leads from a place that is no further
-  near : (m x : ℕ) → Leads (HasEdge graph) (IsMarked marked) m x → (n : ℕ) × (n ≤ m) × HasRank ranks x n
+  near : (m x : ℕ) → Leads (HasEdge graph) (IsMarked marked) m x → (n : ℕ) × (n ≤ m) × HasDistance ranks x n
   near zero x mark =
       let at = at_below ranks x (omega (arith, as_ranks, as_marked, slice_get_within marked x Bool.true mark)) in
       (0, omega arith, marked_rank x at.0 at.1 mark)

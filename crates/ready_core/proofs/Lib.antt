@@ -1,5 +1,6 @@
 pub mod Known
 pub mod Causing
+mod OwnConditions
 pub mod Refusing
 pub mod Ranking
 pub mod Judging

@@ -21,7 +21,8 @@ use Rattle.lattice_core.specs.ZipLaws.{AllZip-at}
 use Rattle.ready_core.specs.declared.verdicts.Refusal.{Refusal}
 use Rattle.ready_core.specs.declared.verdicts.Refusal.TheVariants.{Dependency}
 use Rattle.ready_core.specs.Refusals.{IsEligible, IsIneligible, IsRefused, IsRank}
-use Rattle.ready_core.specs.Causes.{IsCauseOf, AreCauses, AreSearched, HasRank, IsNearest, IsSafeItem, flags_of}
+use Rattle.walk_core.specs.Levels.{HasDistance}
+use Rattle.ready_core.specs.Causes.{IsCauseOf, AreCauses, AreSearched, IsNearest, IsSafeItem, flags_of}
 use Rattle.ready_core.proofs.Refusing.{refused_ineligible}
 
 -- what was read of a list at a place
@@ -40,7 +41,7 @@ one_flag a b e = cc
 
 -- a place without a cause isn't marked, so a rank there is above 0
 pub rank_above : (graph : ItemGraph) (causes : List (Option Refusal)) (ranks : List (Option ℕ)) → AreSearched graph causes ranks
-    → (place rank : ℕ) → HasRank ranks place rank → slice_get causes place ≡ Some None → (rest : ℕ) × (rank ≡ suc rest)
+    → (place rank : ℕ) → HasDistance ranks place rank → slice_get causes place ≡ Some None → (rest : ℕ) × (rank ≡ suc rest)
 rank_above graph causes ranks searched place zero at none =
     let marked = (searched.distances.each place (Some 0) at).leads in
     let e : false ≡ true = one_flag false true (sym (flag_at causes place None none) ∙ marked) in cc
@@ -48,7 +49,7 @@ rank_above graph causes ranks searched place (suc rest) at none = (rest, refl)
 
 -- and an edge leads on from it to a place with the rank below
 pub rank_next : (graph : ItemGraph) (causes : List (Option Refusal)) (ranks : List (Option ℕ)) → AreSearched graph causes ranks
-    → (place rest : ℕ) → HasRank ranks place (suc rest) → (end : ℕ) × Contains (ends_of graph.ends place) end × HasRank ranks end rest
+    → (place rest : ℕ) → HasDistance ranks place (suc rest) → (end : ℕ) × Contains (ends_of graph.ends place) end × HasDistance ranks end rest
 rank_next graph causes ranks searched place rest at = AreDistances-next graph.ends (flags_of causes) ranks searched.distances searched.within place rest at
 
 module _ (gate : GateRules) (state : State) (graph : ItemGraph) (causes : List (Option Refusal)) (ranks : List (Option ℕ))
@@ -88,7 +89,7 @@ module _ (gate : GateRules) (state : State) (graph : ItemGraph) (causes : List (
   pub safe_at : (place : ℕ) (item : Item) → IsAt graph.items place item → slice_get ranks place ≡ Some None → IsSafeItem gate state item
   safe_at place item here none = λ n leads. searched.distances.each place None none n (by_places n place item here leads)
 
-  pub rank_at : (place : ℕ) (item : Item) (rank : ℕ) → IsAt graph.items place item → HasRank ranks place rank → IsRank gate state item rank
+  pub rank_at : (place : ℕ) (item : Item) (rank : ℕ) → IsAt graph.items place item → HasDistance ranks place rank → IsRank gate state item rank
   rank_at place item rank here at =
       let far = searched.distances.each place (Some rank) at in
       record {
@@ -96,23 +97,23 @@ module _ (gate : GateRules) (state : State) (graph : ItemGraph) (causes : List (
         fewest = λ m less leads. far.fewest m less (by_places m place item here leads);
       }
 
-  pub unsafe_at : (place : ℕ) (item : Item) (rank : ℕ) → IsAt graph.items place item → HasRank ranks place rank → ¬ IsSafeItem gate state item
+  pub unsafe_at : (place : ℕ) (item : Item) (rank : ℕ) → IsAt graph.items place item → HasDistance ranks place rank → ¬ IsSafeItem gate state item
   unsafe_at place item rank here at safe = let far = rank_at place item rank here at in safe rank far.leads
 
   -- an item at some distance has that rank at its place
-  has_rank_at : (place : ℕ) (item : Item) (rank : ℕ) (found : Option ℕ) → IsAt graph.items place item → slice_get ranks place ≡ Some found → IsRank gate state item rank → HasRank ranks place rank
+  has_rank_at : (place : ℕ) (item : Item) (rank : ℕ) (found : Option ℕ) → IsAt graph.items place item → slice_get ranks place ≡ Some found → IsRank gate state item rank → HasDistance ranks place rank
   has_rank_at place item rank None here at far = absurd (safe_at place item here at rank far.leads)
   has_rank_at place item rank (Some other) here at far =
       let same : other ≡ rank = IsDistance-once {E = IsDependency gate state} {P = IsIneligible gate state} other rank item (rank_at place item other here at) far in
       at ∙ ap (λ r. Some (Some r)) same
 
-  ranked_here : (place : ℕ) (item : Item) (rank : ℕ) → IsAt graph.items place item → IsRank gate state item rank → HasRank ranks place rank
+  ranked_here : (place : ℕ) (item : Item) (rank : ℕ) → IsAt graph.items place item → IsRank gate state item rank → HasDistance ranks place rank
   ranked_here place item rank here far =
       let within : place < length ranks = omega (arith, slice_get_within graph.items place item here, searched.nodes, searched.distances.nodes) in
       has_rank_at place item rank (get_or ranks place None) here (slice_get-get_or ranks place None within) far
 
   -- ---- the refusals
-  pub refused_by_cause : (place : ℕ) (item : Item) (rank : ℕ) (refusal : Refusal) → IsAt graph.items place item → HasRank ranks place rank → slice_get causes place ≡ Some (Some refusal) → IsRefused gate state item refusal rank
+  pub refused_by_cause : (place : ℕ) (item : Item) (rank : ℕ) (refusal : Refusal) → IsAt graph.items place item → HasDistance ranks place rank → slice_get causes place ≡ Some (Some refusal) → IsRefused gate state item refusal rank
   refused_by_cause place item rank refusal here at cause =
       let marked : IsMarked (flags_of causes) place = flag_at causes place (Some refusal) cause in
       let its = cause_here place item here in
@@ -141,7 +142,7 @@ module _ (gate : GateRules) (state : State) (graph : ItemGraph) (causes : List (
   not_before : (k index : ℕ) → ¬ (k < index) → index ≤ k
   not_before k index h = omega (arith, h)
 
-  least_place : (places : List ℕ) (wanted place other : ℕ) → IsStrictlyIncreasing places → IsNearest ranks places wanted place → Contains places other → HasRank ranks other wanted → place ≤ other
+  least_place : (places : List ℕ) (wanted place other : ℕ) → IsStrictlyIncreasing places → IsNearest ranks places wanted place → Contains places other → HasDistance ranks other wanted → place ≤ other
   least_place places wanted place other rising nearest c at =
       let there = at_Contains places other c in
       let behind = not_before there.0 nearest.index (λ less. nearest.first there.0 other less there.1 at) in
@@ -152,7 +153,7 @@ module _ (gate : GateRules) (state : State) (graph : ItemGraph) (causes : List (
         | inr same ↦ let e = one_item places there.0 place other (subst (λ k. slice_get places k ≡ Some place) same nearest.here) there.1 in omega (arith, e)
       ]
 
-  pub refused_by_dependency : (place : ℕ) (item : Item) (rest end : ℕ) (next : Item) → IsAt graph.items place item → HasRank ranks place (suc rest) → slice_get causes place ≡ Some None
+  pub refused_by_dependency : (place : ℕ) (item : Item) (rest end : ℕ) (next : Item) → IsAt graph.items place item → HasDistance ranks place (suc rest) → slice_get causes place ≡ Some None
       → IsNearest ranks (ends_of graph.ends place) rest end → IsAt graph.items end next → IsRefused gate state item (Dependency next.change) (suc rest)
   refused_by_dependency place item rest end next here at none nearest there =
       let beside = AllZip-at (AreEnds (IsDependency gate state) graph.items) graph.items graph.ends is.ends place item here in
@@ -177,7 +178,7 @@ module _ (gate : GateRules) (state : State) (graph : ItemGraph) (causes : List (
       )
 
   -- the same, of what was found
-  pub refused_by_nearest : (place : ℕ) (item : Item) (rank end number : ℕ) (places : List ℕ) → IsAt graph.items place item → HasRank ranks place rank → slice_get causes place ≡ Some None
+  pub refused_by_nearest : (place : ℕ) (item : Item) (rank end number : ℕ) (places : List ℕ) → IsAt graph.items place item → HasDistance ranks place rank → slice_get causes place ≡ Some None
       → places ≡ ends_of graph.ends place → IsNearest ranks places (rank - 1) end → end < length graph.items → ((next : Item) → IsAt graph.items end next → number ≡ next.change)
       → IsRefused gate state item (Dependency number) rank
   refused_by_nearest place item rank end number places here at none row_is nearest within answers =
@@ -187,26 +188,26 @@ module _ (gate : GateRules) (state : State) (graph : ItemGraph) (causes : List (
       let found : IsNearest ranks (ends_of graph.ends place) rest.0 end = subst (λ l. IsNearest ranks l rest.0 end) row_is (subst (λ r. IsNearest ranks places r end) one_less nearest) in
       subst (λ r. IsRefused gate state item (Dependency number) r) (sym rest.1)
       (subst (λ n. IsRefused gate state item (Dependency n) (suc rest.0)) (sym (answers next.0 next.1))
-      (refused_by_dependency place item rest.0 end next.0 here (subst (HasRank ranks place) rest.1 at) none found next.1))
+      (refused_by_dependency place item rest.0 end next.0 here (subst (HasDistance ranks place) rest.1 at) none found next.1))
 
 -- some place of the row has the rank below, so one is found
 found_by : (ranks : List (Option ℕ)) (places : List ℕ) (wanted : ℕ) (found : Option ℕ)
-    → MatchOption found ((place : ℕ) → Contains places place → ¬ HasRank ranks place wanted) (IsNearest ranks places wanted)
-    → (end : ℕ) × Contains places end × HasRank ranks end wanted → IsSome found
+    → MatchOption found ((place : ℕ) → Contains places place → ¬ HasDistance ranks place wanted) (IsNearest ranks places wanted)
+    → (end : ℕ) × Contains places end × HasDistance ranks end wanted → IsSome found
 found_by ranks places wanted None none some = absurd (none some.0 some.1 some.2)
 found_by ranks places wanted (Some place) is some = refl
 
 pub is_found : (graph : ItemGraph) (causes : List (Option Refusal)) (ranks : List (Option ℕ)) → AreSearched graph causes ranks
-    → (place rank : ℕ) (places : List ℕ) (found : Option ℕ) → HasRank ranks place rank → slice_get causes place ≡ Some None → places ≡ ends_of graph.ends place
-    → MatchOption found ((end : ℕ) → Contains places end → ¬ HasRank ranks end (rank - 1)) (IsNearest ranks places (rank - 1)) → IsSome found
+    → (place rank : ℕ) (places : List ℕ) (found : Option ℕ) → HasDistance ranks place rank → slice_get causes place ≡ Some None → places ≡ ends_of graph.ends place
+    → MatchOption found ((end : ℕ) → Contains places end → ¬ HasDistance ranks end (rank - 1)) (IsNearest ranks places (rank - 1)) → IsSome found
 is_found graph causes ranks searched place rank places found at none row_is matches =
     let rest = rank_above graph causes ranks searched place rank at none in
     let one_less : rest.0 ≡ rank - 1 = omega (arith, rest.1) in
-    let next = rank_next graph causes ranks searched place rest.0 (subst (HasRank ranks place) rest.1 at) in
-    found_by ranks places (rank - 1) found matches (next.0, subst (λ l. Contains l next.0) (sym row_is) next.1, subst (HasRank ranks next.0) one_less next.2)
+    let next = rank_next graph causes ranks searched place rest.0 (subst (HasDistance ranks place) rest.1 at) in
+    found_by ranks places (rank - 1) found matches (next.0, subst (λ l. Contains l next.0) (sym row_is) next.1, subst (HasDistance ranks next.0) one_less next.2)
 
 pub nearest_of : (ranks : List (Option ℕ)) (places : List ℕ) (wanted : ℕ) (found : Option ℕ) (end : ℕ) → found ≡ Some end
-    → MatchOption found ((place : ℕ) → Contains places place → ¬ HasRank ranks place wanted) (IsNearest ranks places wanted) → IsNearest ranks places wanted end
+    → MatchOption found ((place : ℕ) → Contains places place → ¬ HasDistance ranks place wanted) (IsNearest ranks places wanted) → IsNearest ranks places wanted end
 nearest_of ranks places wanted None end e is = cc
 nearest_of ranks places wanted (Some place) end e is = let same : place ≡ end = cc in subst (IsNearest ranks places wanted) same is
 

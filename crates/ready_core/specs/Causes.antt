@@ -4,8 +4,12 @@ use Rattle.std.specs.List.{AllZip}
 use Rattle.std.specs.List.Sorted.{IsStrictlySortedBy}
 use Rattle.std.specs.Ordering.{nat_cmp}
 use Rattle.walk_core.specs.Digraphs.{AreDistances, HasEdge, IsMarked, IsWithin}
+use Rattle.walk_core.specs.Levels.{HasDistance}
 use Rattle.walk_core.specs.Ranks.{IsInRankOrder}
+use Rattle.std.proofs.Common.{suc}
 use Rattle.gate_rules.specs.Rules.{GateRules}
+use Rattle.gate_rules.specs.Own.{IsOwn}
+use Rattle.gate_rules.specs.declared.condition.Condition.{Condition}
 use Rattle.state_core.specs.declared.item.Item.{Item}
 use Rattle.state_core.specs.State.{State}
 use Rattle.state_core.specs.Items.{item_cmp}
@@ -35,12 +39,29 @@ AreCauses gate state items causes = AllZip (IsCauseOf gate state) items causes
 abbrev pub flags_of : List (Option Refusal) → List Bool
 flags_of causes = map is_some causes
 
+-- ---- own conditions, item by item
+
+-- the own condition of the item before the place, where there is one
+abbrev pub IsOwnBefore : GateRules → State → List Item → ℕ → Option Condition → Type 0
+IsOwnBefore gate state items place own =
+    (earlier : ℕ) (item : Item) → place ≡ suc earlier → IsAt items earlier item → IsOwn gate state item own
+
+-- the items before and after the one at the place are of its change
+pub record IsAmongItsOwn (items : List Item) (place : ℕ) : Type 0 where
+  pub earlier : ℕ
+  pub follows : place ≡ suc earlier
+  pub before : Item
+  pub here : Item
+  pub after : Item
+  pub before_at : IsAt items earlier before
+  pub here_at : IsAt items place here
+  pub after_at : IsAt items (suc place) after
+  pub of_before : before.change ≡ here.change
+  pub of_after : after.change ≡ here.change
+
 -- how far each place is from one with a cause
 abbrev pub AreRanks : List (List ℕ) → List (Option Refusal) → List (Option ℕ) → Type 0
 AreRanks ends causes ranks = AreDistances ends (flags_of causes) ranks
-
-abbrev pub HasRank : List (Option ℕ) → ℕ → ℕ → Type 0
-HasRank ranks place rank = slice_get ranks place ≡ Some (Some rank)
 
 -- what was searched of a graph: why each of its items isn't eligible, and how far each is from one that isn't
 pub record AreSearched (graph : ItemGraph) (causes : List (Option Refusal)) (ranks : List (Option ℕ)) : Type 0 where
@@ -53,8 +74,8 @@ pub record AreSearched (graph : ItemGraph) (causes : List (Option Refusal)) (ran
 pub record IsNearest (ranks : List (Option ℕ)) (places : List ℕ) (wanted place : ℕ) : Type 0 where
   pub index : ℕ
   pub here : slice_get places index ≡ Some place
-  pub rank : HasRank ranks place wanted
-  pub first : (earlier other : ℕ) → earlier < index → slice_get places earlier ≡ Some other → ¬ HasRank ranks other wanted
+  pub rank : HasDistance ranks place wanted
+  pub first : (earlier other : ℕ) → earlier < index → slice_get places earlier ≡ Some other → ¬ HasDistance ranks other wanted
 
 -- the item stands at one of the first places
 pub record StandsBefore (items : List Item) (count : ℕ) (item : Item) : Type 0 where

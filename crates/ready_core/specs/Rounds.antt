@@ -2,7 +2,7 @@
 use Rattle.std.specs.Prelude.{◌≡◌, ◌≤◌, ℕ, Bool, List, Option, None, Some, slice_get}
 use Rattle.std.proofs.Common.{zero, suc}
 use Rattle.walk_core.specs.Digraphs.{HasEdge, IsMarked}
-use Rattle.ready_core.specs.Causes.{HasRank}
+use Rattle.walk_core.specs.Levels.{HasDistance}
 
 abbrev pub IsRankOf : List (Option ℕ) → ℕ → Option ℕ → Type 0
 IsRankOf ranks place rank = slice_get ranks place ≡ Some rank
@@ -11,7 +11,7 @@ IsRankOf ranks place rank = slice_get ranks place ≡ Some rank
 abbrev pub ComesFrom : List (List ℕ) → List Bool → List (Option ℕ) → ℕ → Option ℕ → Type 0
 ComesFrom graph marked ranks place None = ¬ IsMarked marked place
 ComesFrom graph marked ranks place (Some zero) = IsMarked marked place
-ComesFrom graph marked ranks place (Some (suc rank)) = ¬ IsMarked marked place × (end : ℕ) × HasEdge graph place end × HasRank ranks end rank
+ComesFrom graph marked ranks place (Some (suc rank)) = ¬ IsMarked marked place × (end : ℕ) × HasEdge graph place end × HasDistance ranks end rank
 
 -- the first rank is at most one more than the second
 abbrev pub IsNoFurther : Option ℕ → Option ℕ → Type 0

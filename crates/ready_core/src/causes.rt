@@ -3,12 +3,13 @@ ghost use Rattle.std.specs.List.Sorted.{IsStrictlyIncreasing};
 ghost use Rattle.state_core.specs.State.{State as Changes};
 ghost use Rattle.state_core.specs.declared.item.Item.{Item};
 ghost use Rattle.state_core.specs.Known.{IsKnown};
-ghost use Rattle.graph_core.specs.ItemGraph.{IsAt, IsGraphOf};
+ghost use Rattle.gate_rules.specs.Own.{IsOwn};
+ghost use Rattle.graph_core.specs.ItemGraph.{AreItems, IsAt, IsGraphOf};
 ghost use Rattle.ready_core.specs.Refusals.{IsOffCycles, IsOnBarredCycle};
-ghost use Rattle.ready_core.specs.Causes.{AreCauses, IsCauseOf, IsFirstUnknown, flags_of};
+ghost use Rattle.ready_core.specs.Causes.{AreCauses, IsAmongItsOwn, IsCauseOf, IsFirstUnknown, IsOwnBefore, flags_of};
 
 use super::verdicts::Refusal;
-use gate_rules::Gate;
+use gate_rules::{Condition, Gate};
 use graph_core::Graph;
 use lattice_core::NoMemory;
 use state_core::{Item, State};
@@ -40,13 +41,51 @@ fn is_barred(gate: &Gate, graph: &Graph, place: usize) -> bool
     graph.on_cycles()[place]
 }
 
-/// Why the item at a place isn't eligible, if it isn't.
-fn cause_of(state: &State, gate: &Gate, graph: &Graph, place: usize, item: Item) -> Option<Refusal>
-    requires graph { IsGraphOf gate.now state.now graph.now }
-    requires here { IsAt graph.now.items place item }
-    ensures { IsCauseOf gate.now state.now item result }
+/// Whether the items before and after the one at a place are of its change, so that neither it nor the one before it is the current one.
+fn is_among_its_own(items: &[Item], place: usize) -> bool
+    requires { place < length items.now }
+    ensures { IsTrue result → IsAmongItsOwn items.now place }
 {
-    if let Some(condition) = gate.own(state, item) {
+    if place == 0 || place + 1 == items.len() {
+        return false;
+    }
+    items[place - 1].change == items[place].change && items[place + 1].change == items[place].change
+}
+
+/// The own condition of the item at a place, where that of the item before it is known. Items of one change that aren't the current one compare
+/// alike with every condition, so that the first of them is judged for all.
+fn own_at(
+    state: &State,
+    gate: &Gate,
+    items: &[Item],
+    place: usize,
+    before: Option<Condition>,
+) -> Option<Condition>
+    requires items { AreItems state.now items.now }
+    requires place { place < length items.now }
+    requires before { IsOwnBefore gate.now state.now items.now place before }
+    ensures { (item : Item) → IsAt items.now place item → IsOwn gate.now state.now item result }
+{
+    if is_among_its_own(items, place) {
+        return before;
+    }
+    gate.own(state, items[place])
+}
+
+/// Why the item at a place isn't eligible, if it isn't.
+fn cause_of(
+    state: &State,
+    gate: &Gate,
+    graph: &Graph,
+    place: usize,
+    own: Option<Condition>,
+) -> Option<Refusal>
+    requires graph { IsGraphOf gate.now state.now graph.now }
+    requires place { place < length graph.now.items }
+    requires own { (item : Item) → IsAt graph.now.items place item → IsOwn gate.now state.now item own }
+    ensures { (item : Item) → IsAt graph.now.items place item → IsCauseOf gate.now state.now item result }
+{
+    if let Some(condition) = own {
         return Some(Refusal::Own(condition));
     }
     if is_barred(gate, graph, place) {
@@ -71,8 +110,10 @@ pub fn all_causes(
 {
     let items = graph.items();
     let mut causes = Vec::with_capacity(alloc, items.len())?;
+    let mut own = None;
     for place in 0..items.len() {
-        causes.push(cause_of(state, gate, graph, place, items[place]))?;
+        own = own_at(state, gate, items, place, own);
+        causes.push(cause_of(state, gate, graph, place, own))?;
     }
     Ok(causes)
 }

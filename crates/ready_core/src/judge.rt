@@ -6,7 +6,8 @@ ghost use Rattle.state_core.specs.declared.item.Item.{Item};
 ghost use Rattle.graph_core.specs.ItemGraph.{IsAt, IsGraphOf};
 ghost use Rattle.ready_core.specs.Refusals.{IsRefused};
 ghost use Rattle.ready_core.specs.Verdicts.{AreVerdicts};
-ghost use Rattle.ready_core.specs.Causes.{AreCauses, AreJudgedBy, AreSearched, HasRank, IsJudgement, IsNearest, item_at, safe_flags};
+ghost use Rattle.walk_core.specs.Levels.{HasDistance};
+ghost use Rattle.ready_core.specs.Causes.{AreCauses, AreJudgedBy, AreSearched, IsJudgement, IsNearest, item_at, safe_flags};
 
 use super::causes::{all_causes, flags_of};
 use super::verdicts::{Left, Refusal, Verdicts};
@@ -16,9 +17,9 @@ use lattice_core::NoMemory;
 use state_core::{Item, State};
 use std::alloc::Global;
 
-/// Which items of a state are ready under a gate, and why each other one isn't. It costs the bytes of the messages, the votes on each change
-/// times its patch sets and the gate's patterns, time and memory that grow with the items and what they wait for, but for a logarithm, and, for the
-/// order of the ready items, a walk over these and what they wait for from each 512 of them.
+/// Which items of a state are ready under a gate, and why each other one isn't. It costs the bytes of the messages, the votes on each change times
+/// the gate's patterns, O(n log n) time and O(n) memory for n items with what they wait for, and, for the order of the ready items, what
+/// `Digraph::in_rank_order` costs.
 pub fn evaluate(alloc: Global, state: &State, gate: &Gate) -> Result<Verdicts, NoMemory>
     ensures { IfOk result (AreVerdicts gate.now state.now) }
 {
@@ -102,7 +103,7 @@ fn refusal_of(
     rank: usize,
 ) -> Refusal
     requires searched { AreSearched graph.now causes.now ranks.now }
-    requires rank { HasRank ranks.now place rank }
+    requires rank { HasDistance ranks.now place rank }
     requires place { place < length graph.now.items }
     ensures { (gate : GateRules) (state : Changes) (item : Item) → IsGraphOf gate state graph.now
         → AreCauses gate state graph.now.items causes.now → IsAt graph.now.items place item
@@ -126,7 +127,7 @@ fn change_at(items: &[Item], place: usize) -> u32
 /// The first of some places that has a rank.
 pub fn nearest(places: &[usize], ranks: &[Option<usize>], wanted: usize) -> Option<usize>
     requires { All (λ place. place < length ranks.now) places.now }
-    ensures { MatchOption result ((place : ℕ) → Contains places.now place → ¬ HasRank ranks.now place wanted)
+    ensures { MatchOption result ((place : ℕ) → Contains places.now place → ¬ HasDistance ranks.now place wanted)
         (IsNearest ranks.now places.now wanted) }
 {
     for place in places {
@@ -140,7 +141,7 @@ pub fn nearest(places: &[usize], ranks: &[Option<usize>], wanted: usize) -> Opti
 /// Whether a place has a rank.
 fn has_rank(ranks: &[Option<usize>], place: usize, wanted: usize) -> bool
     requires { place < length ranks.now }
-    ensures { IsTrue result ↔ HasRank ranks.now place wanted }
+    ensures { IsTrue result ↔ HasDistance ranks.now place wanted }
 {
     match ranks[place] {
         Some(rank) => rank == wanted,

@@ -5,14 +5,19 @@ use Rattle.std.specs.declared.cmp.Ordering.TheVariants.{Less, Equal, Greater}
 use Rattle.std.specs.Ordering.{nat_cmp, ordering_then, MatchOrdering}
 use Rattle.std.specs.Cmp.{IsTotalOrder, nat_cmp_total}
 use Rattle.std.specs.List.Sorted.{IsStrictlySortedBy}
-use Rattle.std.proofs.Common.{refl, sym, subst, arith, inl, inr}
+use Rattle.std.proofs.Common.{refl, sym, ap, subst, arith, inl, inr}
 use Rattle.std.proofs.lemmas.Cmp.{on_total, then_total, ranked}
+use Rattle.std.proofs.lemmas.Map.Lookups.{CmpEqualImpliesEq, exact_pairs, exact_unsigned}
 use Rattle.lattice_core.specs.PlaceLaws.{sorted_at, one_item, earlier_or_same}
 use Rattle.state_core.specs.declared.item.Item.{Item}
 use Rattle.state_core.specs.Items.{item_cmp}
 
 pub items_total : IsTotalOrder item_cmp
 items_total = then_total (on_total (λ (item : Item). item.change) nat_cmp_total) (on_total (λ (item : Item). item.set) nat_cmp_total)
+
+-- items that compare alike are one
+pub items_exact : CmpEqualImpliesEq item_cmp
+items_exact a b h = ap (λ (p : ℕ × ℕ). record { change = p.0; set = p.1 }) (exact_pairs nat_cmp nat_cmp exact_unsigned exact_unsigned (a.change, a.set) (b.change, b.set) h)
 
 -- what comes first has no greater change
 at_most_by : (r s : Ordering) (m n : ℕ) → MatchOrdering r (m < n) (m ≡ n) (n < m) → ordering_then r s ≡ Less → m ≤ n
