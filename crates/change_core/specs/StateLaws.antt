@@ -159,7 +159,7 @@ module _ {X : Type 0} (test : X → Bool) where
   some_alike : (xs ys : List X) → ((x : X) → Contains xs x → Contains ys x) → list_any test xs ≡ true → list_any test ys ≡ true
   some_alike xs ys there e = let r = what_passed xs e in passes ys r.0 (there r.0 r.1) r.2
 
-  any_alike : (xs ys : List X) → ((x : X) → Contains xs x → Contains ys x) → ((x : X) → Contains ys x → Contains xs x) → list_any test xs ≡ list_any test ys
+  pub any_alike : (xs ys : List X) → ((x : X) → Contains xs x → Contains ys x) → ((x : X) → Contains ys x → Contains xs x) → list_any test xs ≡ list_any test ys
   any_alike xs ys there back =
       elim (list_any test xs) as (λ t. list_any test xs ≡ t → t ≡ list_any test ys) [
         | true ↦ λ e. sym (some_alike xs ys there e)

@@ -19,10 +19,11 @@ use Rattle.serde_json.specs.declared.value.Value.{Value}
 use Rattle.replica_core.specs.declared.front.Row.{Row}
 use Rattle.replica_core.specs.Clock.{greatest}
 use Rattle.replica_core.specs.Front.{Reaches, row_order, rows_exact, reach_of, raised, AreReached}
-use Rattle.replica_core.specs.FrontLaws.{AreReached-empty, AreReached-raised, reach_of-raised, rows_alike, same_reaches}
+use Rattle.replica_core.specs.FrontLaws.{AreReached-empty, AreReached-raised, reach_of-raised, rows_alike}
 use Rattle.lattice_core.specs.Exact.{same_by_test}
 use Rattle.op_text.specs.declared.fault.OpTextFault.{OpTextFault}
 use Rattle.op_text.specs.declared.fault.OpTextFault.TheVariants.{NoMemory}
+use Rattle.op_text.specs.OneSpelling.{SayFront-unique}
 use Rattle.op_text.specs.Front.{Entry, IsEntry, AreEntries, SpellsEntries, counts_of, SayFront, SpellsFront, IsFrontRefusal, entry_of, entry_of_row, entry_data, entries_data, entries_of, front_text}
 use Rattle.op_text.proofs.Fronts.{AreEntries-push}
 
@@ -66,10 +67,6 @@ SayFront-push entries entry front grown say grown_is = record {
       ∙ sym (greatest-push entries entry site start);
   reached = subst AreReached (sym grown_is) (AreReached-raised front entry.0 entry.1 entry.2 say.reached);
 }
-
--- entries say one front
-SayFront-unique : (entries : List Entry) (f g : Reaches) → SayFront entries f → SayFront entries g → f ≡ g
-SayFront-unique entries f g say_f say_g = same_reaches f g say_f.reached say_g.reached (λ site start. say_f.reaches site start ∙ sym (say_g.reaches site start))
 
 -- ---- reading
 pub front_is_said : (text : List ℕ) (read : List Entry) (result : Result Reaches OpTextFault) → SpellsEntries text read → IfOk result (SayFront read)

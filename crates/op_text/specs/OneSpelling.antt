@@ -1,7 +1,9 @@
--- A text spells one body or operation at most: an object has one value, and a value one stamp and one deed.
-use Rattle.std.specs.Prelude.{◌≡◌, ℕ, ℤ, pos, List, [], Option, Some, cond}
+-- A text spells one body, operation or front at most: an object has one value, and a value one stamp, one deed or one list of entries.
+use Rattle.std.specs.Prelude.{◌≡◌, ℕ, ℤ, pos, List, [], ◌∷◌, Option, Some, cond}
 use Rattle.std.proofs.Common.{eqb, get_or, unwrap_or, refl, sym, ap, ◌∙◌, subst}
-use Rattle.serde_json.specs.Data.{Members, object}
+use Rattle.serde_json.specs.Data.{Data, Members, object, array, Items, no_items, item}
+use Rattle.replica_core.specs.Front.{Reaches}
+use Rattle.replica_core.specs.FrontLaws.{same_reaches}
 use Rattle.review_ops.specs.Timestamp.{Timestamp}
 use Rattle.review_ops.specs.Deed.{Deed, patch_set, vote, withdraw, abandon, restore, merged, change_of, set_of, message_of, parent_of, label_of, voter_of, value_of, kept_deed}
 use Rattle.review_ops.specs.Operation.{Operation}
@@ -9,6 +11,7 @@ use Rattle.op_text.specs.declared.field.Kind.{Kind}
 use Rattle.op_text.specs.declared.field.Kind.TheVariants.{PatchSet, Vote, Withdraw, Abandon, Restore, Merged}
 use Rattle.op_text.specs.Field.{name_of}
 use Rattle.op_text.specs.Shape.{IsObject, NamesKind}
+use Rattle.op_text.specs.Front.{Entry, HoldsEntry, IsEntry, IsList, AreEntries, SpellsEntries, SayFront, SpellsFront}
 use Rattle.op_text.specs.Spelling.{kind_of, HoldsDeed, HoldsStamp, SpellsBody, SpellsOperation}
 
 some : {T : Type 0} (x y : T) → Some x ≡ Some y → x ≡ y
@@ -94,3 +97,37 @@ one_operation text x y p q =
     let deed = same_deed q.members p.deed q.deed (subst (λ m. HoldsDeed m p.deed) same p.spells.holds) q.spells.holds in
     let kept = p.kept ∙ ap kept_deed deed ∙ sym q.kept in
     λ i. record { stamp = stamp i; deed = kept i }
+
+-- ---- fronts
+
+one_entry : (value : Data) (a b : Entry) → IsEntry value a → IsEntry value b → a ≡ b
+one_entry (array (item site (item start (item count no_items)))) a b p q =
+    let sites = some a.0 b.0 (sym p.0 ∙ q.0) in
+    let starts = some a.1 b.1 (sym p.2 ∙ q.2) in
+    let counts = some a.2 b.2 (sym p.4 ∙ q.4) in
+    λ i. (sites i, starts i, counts i)
+one_entry value a b p q = absurd p
+
+one_entries : (values : Items) (xs ys : List Entry) → AreEntries values xs → AreEntries values ys → xs ≡ ys
+one_entries no_items [] [] p q = refl
+one_entries no_items [] (y ∷ ys) p q = absurd q
+one_entries no_items (x ∷ xs) ys p q = absurd p
+one_entries (item value values) [] ys p q = absurd p
+one_entries (item value values) (x ∷ xs) [] p q = absurd q
+one_entries (item value values) (x ∷ xs) (y ∷ ys) p q =
+    let first = one_entry value x y p.0 q.0 in
+    let rest = one_entries values xs ys p.1 q.1 in
+    λ i. first i ∷ rest i
+
+same_items : (text : List ℕ) (v w : Items) → IsList text v → IsList text w → v ≡ w
+same_items text v w p q = let e : Some (array v) ≡ Some (array w) = sym p.value ∙ q.value in cc
+
+-- entries say one front
+pub SayFront-unique : (entries : List Entry) (f g : Reaches) → SayFront entries f → SayFront entries g → f ≡ g
+SayFront-unique entries f g say_f say_g = same_reaches f g say_f.reached say_g.reached (λ site start. say_f.reaches site start ∙ sym (say_g.reaches site start))
+
+pub one_front : (text : List ℕ) (f g : Reaches) → SpellsFront text f → SpellsFront text g → f ≡ g
+one_front text f g p q =
+    let values = same_items text p.1.0 q.1.0 p.1.1 q.1.1 in
+    let entries = one_entries q.1.0 p.0 q.0 (subst (λ v. AreEntries v p.0) values p.1.2) q.1.2 in
+    SayFront-unique q.0 f g (subst (λ e. SayFront e f) entries p.2) q.2

@@ -4,6 +4,8 @@ ghost use Rattle.review_ops.specs.Good.{IsGood};
 ghost use Rattle.review_ops.specs.Operation.{Operation};
 ghost use Rattle.review_ops.specs.Deed.{Deed};
 ghost use Rattle.review_ops.specs.Timestamp.{IsNumbered};
+ghost use Rattle.replica_core.specs.Front.{Reaches};
+ghost use Rattle.op_text.specs.Front.{SpellsFront};
 ghost use Rattle.op_text.specs.Spelling.{SpellsBody, SpellsOperation};
 
 /// A law: the text of each operation stands on one line, and spells the operation.
@@ -18,8 +20,9 @@ pub fn bodies_are_spelled()
     ensures spells { (deed : Deed) → IsGood deed → SpellsBody (body_text deed) deed }
 {}
 
-/// A law: a text spells one operation at most, and one body.
+/// A law: a text spells one operation at most, one body and one front.
 pub fn texts_spell_once()
     ensures operation { (text : List ℕ) (op other : Operation) → SpellsOperation text op → SpellsOperation text other → op ≡ other }
     ensures body { (text : List ℕ) (deed other : Deed) → SpellsBody text deed → SpellsBody text other → deed ≡ other }
+    ensures front { (text : List ℕ) (front other : Reaches) → SpellsFront text front → SpellsFront text other → front ≡ other }
 {}

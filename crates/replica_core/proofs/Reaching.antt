@@ -10,10 +10,10 @@ use Rattle.std.proofs.lemmas.List.Elements.{All-head, All-tail}
 use Rattle.std.proofs.lemmas.List.Folds.{list_any_at}
 use Rattle.std.proofs.lemmas.List.{length-map}
 use Rattle.review_ops.specs.Operation.{Operation}
-use Rattle.replica_core.specs.Front.{Reaches, row_order, reach_of, holds, ReachesInto, IsFront, AreReached}
+use Rattle.replica_core.specs.Front.{Reaches, row_order, reach_of, holds, ReachesInto, IsFront, AreReached, IsGapless}
 use Rattle.replica_core.specs.FrontLaws.{reach_of-raised, AreReached-empty, AreReached-raised}
 use Rattle.replica_core.specs.RowLine.{RowLine}
-use Rattle.replica_core.specs.Lines.{raised_by, front_of, row_of, rows_of, IsGapless, AreLines}
+use Rattle.replica_core.specs.Lines.{raised_by, front_of, row_of, rows_of, AreLines}
 use Rattle.replica_core.proofs.Sought.{both}
 use Rattle.replica_core.proofs.LineLists.{none_held, row_at, empty_line}
 
@@ -97,7 +97,7 @@ module _ (journal : List Operation) (lines : List RowLine) (are : AreLines journ
 
 into : (held : ℕ → Bool) (found : Option ℕ) → IfSome found (λ reach. 1 ≤ reach) → IsGapless held (unwrap_or found 0) → ReachesInto held found
 into held None some is = is.ends
-into held (Some reach) some is = record { some = some; gapless = is.gapless; ends = is.ends }
+into held (Some reach) some is = (some, is)
 
 pub IsFront-lines : (journal : List Operation) (lines : List RowLine) → AreLines journal lines → IsFront journal (front_of lines)
 IsFront-lines journal lines are site start =

@@ -32,14 +32,13 @@ abbrev pub holds : List Operation → ℕ → ℕ → ℕ → Bool
 holds journal site start seq = list_any (λ op. is_of site start op && op.stamp.seq == seq) journal
 
 -- each number up to this one is held, and the next isn't
-pub record IsReach (held : ℕ → Bool) (reach : ℕ) : Type 0 where
-  pub some : 1 ≤ reach
+pub record IsGapless (held : ℕ → Bool) (reach : ℕ) : Type 0 where
   pub gapless : (seq : ℕ) → 1 ≤ seq → seq ≤ reach → held seq ≡ true
   pub ends : held (reach + 1) ≡ false
 
 -- a front has a row just where its first number is held, and reaches as far in it as there is no gap
 abbrev pub ReachesInto : (ℕ → Bool) → Option ℕ → Type 0
-ReachesInto held reach = MatchOption reach (held 1 ≡ false) (IsReach held)
+ReachesInto held reach = MatchOption reach (held 1 ≡ false) (λ number. (1 ≤ number) × IsGapless held number)
 
 -- the front is that of the journal
 abbrev pub IsFront : List Operation → Reaches → Type 0

@@ -15,18 +15,18 @@ use Rattle.lattice_core.specs.Exact.{same_by_test, test_of_same, test_of_differe
 use Rattle.replica_core.specs.Sets.{IsSameSet, any_alike, filtered_alike}
 use Rattle.replica_core.specs.InOrder.{IsInOrder-same, IsInOrder-unique}
 use Rattle.replica_core.specs.Clock.{is_of}
-use Rattle.replica_core.specs.Front.{Reaches, row_order, rows_exact, reach_of, raised, holds, IsReach, ReachesInto, IsFront, AreReached}
+use Rattle.replica_core.specs.Front.{Reaches, row_order, rows_exact, reach_of, raised, holds, IsGapless, ReachesInto, IsFront, AreReached}
 use Rattle.replica_core.specs.Missing.{is_past, IsMissing, row_by_row_exact}
 
 -- ---- one front
-further : (held : ℕ → Bool) (a b : ℕ) → IsReach held a → IsReach held b → ¬ (a + 1 ≤ b)
+further : (held : ℕ → Bool) (a b : ℕ) → IsGapless held a → IsGapless held b → ¬ (a + 1 ≤ b)
 further held a b is_a is_b high = false≢true (sym is_a.ends ∙ is_b.gapless (a + 1) (omega arith) high)
 
 one_reach : (held : ℕ → Bool) (a b : Option ℕ) → ReachesInto held a → ReachesInto held b → a ≡ b
 one_reach held None None is_a is_b = refl
-one_reach held None (Some b) is_a is_b = absurd (false≢true (sym is_a ∙ is_b.gapless 1 (omega arith) is_b.some))
-one_reach held (Some a) None is_a is_b = absurd (false≢true (sym is_b ∙ is_a.gapless 1 (omega arith) is_a.some))
-one_reach held (Some a) (Some b) is_a is_b = ap Some (omega (arith, further held a b is_a is_b, further held b a is_b is_a))
+one_reach held None (Some b) is_a is_b = absurd (false≢true (sym is_a ∙ is_b.1.gapless 1 (omega arith) is_b.0))
+one_reach held (Some a) None is_a is_b = absurd (false≢true (sym is_b ∙ is_a.1.gapless 1 (omega arith) is_a.0))
+one_reach held (Some a) (Some b) is_a is_b = ap Some (omega (arith, further held a b is_a.1 is_b.1, further held b a is_b.1 is_a.1))
 
 pub IsFront-unique : (journal : List Operation) (f g : Reaches) → IsFront journal f → IsFront journal g → f ≡ g
 IsFront-unique journal f g is_f is_g = same_at_each_key rows_exact f g (λ row. one_reach (holds journal row.0 row.1) (get f row) (get g row) (is_f row.0 row.1) (is_g row.0 row.1))

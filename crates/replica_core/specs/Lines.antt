@@ -1,5 +1,5 @@
 -- The lines of a journal: one for each row, in the order of the rows. A line has the places of its row's operations in their order.
-use Rattle.std.specs.Prelude.{◌≡◌, ◌≤◌, ◌<◌, ◌+◌, ℕ, Bool, true, false, List, map, filter, fold, length, slice_index_or}
+use Rattle.std.specs.Prelude.{◌≡◌, ◌<◌, ℕ, true, List, map, filter, fold, length, slice_index_or}
 use Rattle.std.specs.List.{All, Contains}
 use Rattle.std.specs.List.Sorted.{IsStrictlySortedBy}
 use Rattle.std.specs.FinMap.{empty}
@@ -7,7 +7,7 @@ use Rattle.review_ops.specs.Deed.{merged}
 use Rattle.review_ops.specs.Operation.{Operation}
 use Rattle.replica_core.specs.Journal.{has}
 use Rattle.replica_core.specs.Clock.{is_of}
-use Rattle.replica_core.specs.Front.{row_order, holds, Reaches, raised}
+use Rattle.replica_core.specs.Front.{row_order, holds, Reaches, raised, IsGapless}
 use Rattle.replica_core.specs.InOrder.{IsInOrder}
 use Rattle.replica_core.specs.Missing.{row_by_row}
 use Rattle.replica_core.specs.RowLine.{RowLine}
@@ -22,11 +22,6 @@ op_at journal place = slice_index_or journal place nothing
 
 abbrev pub ops_at : List Operation → List ℕ → List Operation
 ops_at journal places = map (op_at journal) places
-
--- each number up to the reach is held, and the next isn't
-pub record IsGapless (held : ℕ → Bool) (reach : ℕ) : Type 0 where
-  pub gapless : (seq : ℕ) → 1 ≤ seq → seq ≤ reach → held seq ≡ true
-  pub ends : held (reach + 1) ≡ false
 
 abbrev pub ops_of : List Operation → RowLine → List Operation
 ops_of journal line = ops_at journal line.places

@@ -6,7 +6,7 @@ use Rattle.std.proofs.lemmas.Bool.{false≢true}
 use Rattle.std.proofs.lemmas.List.Folds.{Any-from_list_any, list_any-from_Any}
 use Rattle.std.proofs.Math.Nat.{le-max_left, le-max_right, max-le}
 use Rattle.review_ops.specs.Operation.{Operation}
-use Rattle.std.proofs.lemmas.Bool.{false_from_ne_true}
+use Rattle.change_core.specs.StateLaws.{any_alike as tested_alike}
 use Rattle.replica_core.specs.Journal.{has, same_operation}
 use Rattle.replica_core.specs.InOrder.{same_is_equal, same_itself}
 use Rattle.replica_core.specs.Clock.{greatest, is_of, next_of}
@@ -31,17 +31,8 @@ members_alike xs ys same op c = Contains-from_has ys op (sym (same op) ∙ has-f
 
 -- ---- tests of a journal's operations
 module _ (test : Operation → Bool) where
-  some_alike : (xs ys : List Operation) → IsSameSet xs ys → list_any test xs ≡ true → list_any test ys ≡ true
-  some_alike xs ys same h =
-      let found : Any (λ op. test op ≡ true) xs = Any-from_list_any test xs h in
-      let there = members_alike xs ys same found.1 (found.0, found.2, found.3) in
-      list_any-from_Any test ys (there.0, found.1, there.1, there.2, found.4)
-
   pub any_alike : (xs ys : List Operation) → IsSameSet xs ys → list_any test xs ≡ list_any test ys
-  any_alike xs ys same = elim (list_any test xs) as (λ t. list_any test xs ≡ t → t ≡ list_any test ys) [
-    | true ↦ λ e. sym (some_alike xs ys same e)
-    | false ↦ λ e. sym (false_from_ne_true (list_any test ys) (λ h. false≢true (sym e ∙ some_alike ys xs (λ op. sym (same op)) h)))
-  ] refl
+  any_alike xs ys same = tested_alike test xs ys (members_alike xs ys same) (members_alike ys xs (λ op. sym (same op)))
 
   kept_true : (b : Bool) (x op : Operation) (rest later : Bool) → same_operation x op ≡ b → test x ≡ true → rest ≡ (test op && later) → (b || rest) ≡ (test op && (b || later))
   kept_true true x op rest later e passes is = sym (ap (λ t. t && true) (ap test (sym (same_is_equal x op e)) ∙ passes))

@@ -5,9 +5,9 @@ ghost use Rattle.std.specs.List.{All};
 ghost use Rattle.std.specs.Option.{option_copied};
 ghost use Rattle.chunk_list.specs.Ranks.{rank};
 ghost use Rattle.replica_core.specs.Clock.{greatest, seqs};
-ghost use Rattle.replica_core.specs.Front.{holds};
+ghost use Rattle.replica_core.specs.Front.{holds, IsGapless};
 ghost use Rattle.replica_core.specs.Journal.{has, has_stamp};
-ghost use Rattle.replica_core.specs.Lines.{ops_at, ops_of, IsFiled, IsGapless};
+ghost use Rattle.replica_core.specs.Lines.{ops_at, ops_of, IsFiled};
 ghost use Rattle.replica_core.specs.Searches.{is_below, is_before, is_within, ops_past};
 
 use super::front::Row;

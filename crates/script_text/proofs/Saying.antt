@@ -24,7 +24,7 @@ use Rattle.script_text.specs.Script.{IsNumberBefore, IsSaidAfter, IsSameStep, Sa
 -- ---- a field ends at the first blank, so there is one way to split
 
 -- no byte of it is a blank
-abbrev has_no_blank : List ℕ → Bool
+abbrev pub has_no_blank : List ℕ → Bool
 has_no_blank [] = true
 has_no_blank (byte ∷ field) = cond (byte == 32) false (has_no_blank field)
 
@@ -42,7 +42,7 @@ without_blank (byte ∷ field) none =
       | false ↦ λ e. without_blank field (λ h. none (suc h.0, omega (arith, h.1), h.2))
     ] refl
 
-one_split : (field rest other others : List ℕ) → has_no_blank field ≡ true → has_no_blank other ≡ true → field ++ 32 ∷ rest ≡ other ++ 32 ∷ others → (field ≡ other) × (rest ≡ others)
+pub one_split : (field rest other others : List ℕ) → has_no_blank field ≡ true → has_no_blank other ≡ true → field ++ 32 ∷ rest ≡ other ++ 32 ∷ others → (field ≡ other) × (rest ≡ others)
 one_split [] rest [] others p q e = (refl, cc)
 one_split [] rest (b ∷ other) others p q e = let same : 32 ≡ b = cc in absurd (no_blank_first b other q (sym same))
 one_split (a ∷ field) rest [] others p q e = let same : a ≡ 32 = cc in absurd (no_blank_first a field p same)
@@ -90,7 +90,7 @@ module _ (gate : Option GateRules) where
   each_restart fields P f (Happens (Restart site start)) h = f site start h.1
   each_restart fields P f step h = absurd (words_differ (word_of step) (codes "restart") h.0 refl)
 
-  each_ready : (field : List ℕ) (P : Step → Type 0) → ((site : ℕ) (under : Bor GateRules) → SayStep gate field (Ready site under) → P (Ready site under)) → (step : Step) → IsSaidAfter gate (codes "ready") field step → P step
+  pub each_ready : (field : List ℕ) (P : Step → Type 0) → ((site : ℕ) (under : Bor GateRules) → SayStep gate field (Ready site under) → P (Ready site under)) → (step : Step) → IsSaidAfter gate (codes "ready") field step → P step
   each_ready fields P f (Ready site under) h = f site under h.1
   each_ready fields P f (Happens (Intake site draft)) h = absurd (words_differ (word_of (Happens (Intake site draft))) (codes "ready") h.0 refl)
   each_ready fields P f (Happens (Send site front)) h = absurd (words_differ (word_of (Happens (Send site front))) (codes "ready") h.0 refl)
@@ -98,6 +98,28 @@ module _ (gate : Option GateRules) where
   each_ready fields P f (Happens (Save site)) h = absurd (words_differ (word_of (Happens (Save site))) (codes "ready") h.0 refl)
   each_ready fields P f (Happens (Restart site start)) h = absurd (words_differ (word_of (Happens (Restart site start))) (codes "ready") h.0 refl)
   each_ready fields P f step h = absurd (words_differ (word_of step) (codes "ready") h.0 refl)
+
+  pub each_save : (fields : List ℕ) (P : Step → Type 0) → ((site : ℕ) → SayStep gate fields (Happens (Save site)) → P (Happens (Save site))) → (step : Step) → IsSaidAfter gate (codes "save") fields step → P step
+  each_save fields P f (Happens (Save site)) h = f site h.1
+  each_save fields P f step h = absurd (words_differ (word_of step) (codes "save") h.0 refl)
+
+  pub each_state : (fields : List ℕ) (P : Step → Type 0) → ((site : ℕ) → SayStep gate fields (State site) → P (State site)) → (step : Step) → IsSaidAfter gate (codes "state") fields step → P step
+  each_state fields P f (State site) h = f site h.1
+  each_state fields P f (Happens (Intake site draft)) h = absurd (words_differ (codes "intake") (codes "state") h.0 refl)
+  each_state fields P f (Happens (Send site front)) h = absurd (words_differ (codes "send") (codes "state") h.0 refl)
+  each_state fields P f (Happens (Deliver packet site)) h = absurd (words_differ (codes "deliver") (codes "state") h.0 refl)
+  each_state fields P f (Happens (Save site)) h = absurd (words_differ (codes "save") (codes "state") h.0 refl)
+  each_state fields P f (Happens (Restart site start)) h = absurd (words_differ (codes "restart") (codes "state") h.0 refl)
+  each_state fields P f step h = absurd (words_differ (word_of step) (codes "state") h.0 refl)
+
+  pub each_front : (fields : List ℕ) (P : Step → Type 0) → ((site : ℕ) → SayStep gate fields (Front site) → P (Front site)) → (step : Step) → IsSaidAfter gate (codes "front") fields step → P step
+  each_front fields P f (Front site) h = f site h.1
+  each_front fields P f (Happens (Intake site draft)) h = absurd (words_differ (codes "intake") (codes "front") h.0 refl)
+  each_front fields P f (Happens (Send site front)) h = absurd (words_differ (codes "send") (codes "front") h.0 refl)
+  each_front fields P f (Happens (Deliver packet site)) h = absurd (words_differ (codes "deliver") (codes "front") h.0 refl)
+  each_front fields P f (Happens (Save site)) h = absurd (words_differ (codes "save") (codes "front") h.0 refl)
+  each_front fields P f (Happens (Restart site start)) h = absurd (words_differ (codes "restart") (codes "front") h.0 refl)
+  each_front fields P f step h = absurd (words_differ (word_of step) (codes "front") h.0 refl)
 
   -- ---- `intake`
 

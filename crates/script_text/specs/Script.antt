@@ -1,5 +1,5 @@
--- What the lines of a script say. The grammar is the project's own. A `ready` line says something only where a gate is given, which its reports
--- are made under.
+-- What the lines of a script say. The grammar is the project's own. A `ready` line says something only under a gate, which its reports are
+-- made under.
 use Rattle.std.specs.Prelude.{◌≡◌, ◌≤◌, ◌==◌, ℕ, Bool, false, List, [], ◌∷◌, Option, None, Some, Result, Ok, Err, codes}
 use Rattle.byte_ends.specs.Lines.{lines_of}
 use Rattle.gate_rules.specs.Rules.{GateRules}
@@ -36,7 +36,7 @@ pub record IsNumberBefore (fields : List ℕ) (most number : ℕ) (rest : List �
   pub cut : IsSplit fields field rest
   pub written : IsNumberField field most number
 
--- whether a front is given as that of a site, which `@` says
+-- whether a front is named as that of a site, which `@` says
 abbrev pub names_site : List ℕ → Bool
 names_site [] = false
 names_site (byte ∷ text) = byte == 64
@@ -58,34 +58,34 @@ word_of (Ready site gate) = codes "ready"
 -- what follows the word and a blank
 abbrev pub SayStep : Option GateRules → List ℕ → Step → Type 0
 -- `SITE BODY`
-SayStep given fields (Happens (Intake site draft)) = (body : List ℕ) × IsNumberBefore fields most_site site body × SpellsBody body (deed_of draft)
+SayStep under fields (Happens (Intake site draft)) = (body : List ℕ) × IsNumberBefore fields most_site site body × SpellsBody body (deed_of draft)
 -- `SITE FRONT`
-SayStep given fields (Happens (Send site front)) = (text : List ℕ) × IsNumberBefore fields most_site site text × (names_site text ≡ false) × SpellsFront text front
+SayStep under fields (Happens (Send site front)) = (text : List ℕ) × IsNumberBefore fields most_site site text × (names_site text ≡ false) × SpellsFront text front
 -- `PACKET SITE`
-SayStep given fields (Happens (Deliver packet site)) = (field : List ℕ) × IsNumberBefore fields most_packet packet field × IsNumberField field most_site site
+SayStep under fields (Happens (Deliver packet site)) = (field : List ℕ) × IsNumberBefore fields most_packet packet field × IsNumberField field most_site site
 -- `SITE`
-SayStep given fields (Happens (Save site)) = IsNumberField fields most_site site
+SayStep under fields (Happens (Save site)) = IsNumberField fields most_site site
 -- `SITE START`
-SayStep given fields (Happens (Restart site start)) = (field : List ℕ) × IsNumberBefore fields most_site site field × IsNumberField field most_start start
+SayStep under fields (Happens (Restart site start)) = (field : List ℕ) × IsNumberBefore fields most_site site field × IsNumberField field most_start start
 -- `SITE @SITE`
-SayStep given fields (SendTo site receiver) = (field : List ℕ) × IsNumberBefore fields most_site site (64 ∷ field) × IsNumberField field most_site receiver
+SayStep under fields (SendTo site receiver) = (field : List ℕ) × IsNumberBefore fields most_site site (64 ∷ field) × IsNumberField field most_site receiver
 -- `SITE`
-SayStep given fields (State site) = IsNumberField fields most_site site
-SayStep given fields (Front site) = IsNumberField fields most_site site
--- `SITE`, where a gate is given
-SayStep given fields (Ready site gate) = IsNumberField fields most_site site × (given ≡ Some gate.now)
+SayStep under fields (State site) = IsNumberField fields most_site site
+SayStep under fields (Front site) = IsNumberField fields most_site site
+-- `SITE`, under a gate
+SayStep under fields (Ready site gate) = IsNumberField fields most_site site × (under ≡ Some gate.now)
 
 -- the line is the step's word, a blank and its fields
 abbrev pub SaysStep : Option GateRules → List ℕ → Step → Type 0
-SaysStep given line step = (fields : List ℕ) × IsAfterWord line (word_of step) fields × SayStep given fields step
+SaysStep under line step = (fields : List ℕ) × IsAfterWord line (word_of step) fields × SayStep under fields step
 
 -- the same of a line that begins with this word
 abbrev pub IsSaidAfter : Option GateRules → List ℕ → List ℕ → Step → Type 0
-IsSaidAfter given word fields step = (word_of step ≡ word) × SayStep given fields step
+IsSaidAfter under word fields step = (word_of step ≡ word) × SayStep under fields step
 
 -- the line says no step
 abbrev pub SaysNoStep : Option GateRules → List ℕ → Type 0
-SaysNoStep given line = (step : Step) → ¬ SaysStep given line step
+SaysNoStep under line = (step : Step) → ¬ SaysStep under line step
 
 -- steps that ask for the same: drafts of the same deed are as good as one, and so are gates with the same rules
 abbrev pub IsSameStep : Step → Step → Type 0
@@ -114,24 +114,36 @@ pub record SaysSites (line : List ℕ) (sites : ℕ) : Type 0 where
   pub number : IsNumberField field 64 sites
   pub some : 1 ≤ sites
 
--- the lines say these steps, one each, up to the first that says none, whose number is given
+-- the lines say these steps, one each, up to the first that says none, whose number comes with them
 abbrev pub SaySteps : Option GateRules → List (ℕ × List ℕ) → List Step → Option ℕ → Type 0
-SaySteps given [] [] bad = bad ≡ None
-SaySteps given [] (step ∷ steps) bad = ⊥
-SaySteps given (next ∷ lines) [] bad = (bad ≡ Some next.0) × SaysNoStep given next.1
-SaySteps given (next ∷ lines) (step ∷ steps) bad = SaysStep given next.1 step × SaySteps given lines steps bad
+SaySteps under [] [] bad = bad ≡ None
+SaySteps under [] (step ∷ steps) bad = ⊥
+SaySteps under (next ∷ lines) [] bad = (bad ≡ Some next.0) × SaysNoStep under next.1
+SaySteps under (next ∷ lines) (step ∷ steps) bad = SaysStep under next.1 step × SaySteps under lines steps bad
 
 -- the first line says how many sites there are, and the lines after it say the steps
 abbrev pub SpeaksScript : Option GateRules → List (ℕ × List ℕ) → ℕ → List Step → Option ℕ → Type 0
-SpeaksScript given [] sites steps bad = ⊥
-SpeaksScript given (first ∷ lines) sites steps bad = SaysSites first.1 sites × SaySteps given lines steps bad
+SpeaksScript under [] sites steps bad = ⊥
+SpeaksScript under (first ∷ lines) sites steps bad = SaysSites first.1 sites × SaySteps under lines steps bad
 
 -- the text's lines that say something, with their numbers from 1 on
 abbrev pub spoken : List ℕ → List (ℕ × List ℕ)
 spoken text = spoken_after 0 (lines_of text)
 
+-- what the whole text of a script says
 abbrev pub SaysScript : Option GateRules → List ℕ → ℕ → List Step → Option ℕ → Type 0
-SaysScript given text sites steps bad = SpeaksScript given (spoken text) sites steps bad
+SaysScript under text sites steps bad = SpeaksScript under (spoken text) sites steps bad
+
+-- the same steps, one by one
+abbrev pub AreSameSteps : List Step → List Step → Type 0
+AreSameSteps [] [] = Unit {0}
+AreSameSteps [] (other ∷ others) = ⊥
+AreSameSteps (step ∷ steps) [] = ⊥
+AreSameSteps (step ∷ steps) (other ∷ others) = IsSameStep step other × AreSameSteps steps others
+
+-- two readings of a script that are one: as many sites, the same steps, and the same line that says none
+abbrev pub IsSameScript : ℕ → List Step → Option ℕ → ℕ → List Step → Option ℕ → Type 0
+IsSameScript sites steps bad others more worse = (sites ≡ others) × AreSameSteps steps more × (bad ≡ worse)
 
 -- the first line that says something isn't `sites N`, or there is none
 abbrev pub SpeaksNoSites : List (ℕ × List ℕ) → Type 0

@@ -12,15 +12,17 @@
 //! | `save SITE` | a site saves its record |
 //! | `restart SITE START` | a site starts again from what it saved |
 //! | `state SITE`, `front SITE` | the state or the front of a site is printed |
-//! | `ready SITE` | the report of a site is printed, where a gate is given |
+//! | `ready SITE` | the report of a site is printed, under the gate |
 #![tactic(auto)]
 
 mod fault;
 mod fields;
+mod laws;
 mod script;
 mod script_lines;
 #[cfg(test)]
 mod tests;
 
 pub use fault::ScriptFault;
+pub use laws::scripts_have_one_reading;
 pub use script::{Script, Step, read_script};

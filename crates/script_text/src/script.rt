@@ -57,8 +57,8 @@ enum LineFault {
 }
 
 /// Reads a script: its first line that says something is `sites N`, N from 1 to 64, and each later one says a step, up to the first that
-/// says none. A `ready` line says a step only where a gate is given. Refusals: 1 `BadSites`, the first line says no number of sites, or there is none; 3 `NoMemory`. It costs the length of the
-/// text.
+/// says none. A `ready` line says a step only under a gate. Refusals: 1 `BadSites`, the first line says no number of sites, or there is none;
+/// 3 `NoMemory`. In O(n) for a text of n bytes.
 pub fn read_script<'a>(
     alloc: Global,
     text: &[u8],
@@ -145,7 +145,7 @@ fn read_step<'a>(alloc: Global, line: &[u8], gate: Option<&'a Gate>) -> Result<S
     Err(LineFault::Bad)
 }
 
-/// `SITE`, under the gate that is given
+/// `SITE`, under the gate
 fn read_ready<'a>(field: &[u8], gate: Option<&'a Gate>) -> Result<Step<'a>, LineFault>
     ensures says { IfOk result (IsSaidAfter (option_copied gate.entry) (codes "ready") field.now) }
     ensures only { (step : Step) → IsSaidAfter (option_copied gate.entry) (codes "ready") field.now step → IsRead step result }

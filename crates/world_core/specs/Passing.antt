@@ -28,7 +28,7 @@ twin_held held stamp h =
 
 within_reach : (held : List Operation) (op : Operation) (reach : Option ℕ) → ReachesInto (holds held op.stamp.site op.stamp.start) reach → 1 ≤ op.stamp.seq → op.stamp.seq ≤ unwrap_or reach 0 → holds held op.stamp.site op.stamp.start op.stamp.seq ≡ true
 within_reach held op None is first within = absurd (omega arith)
-within_reach held op (Some reach) is first within = is.gapless op.stamp.seq first within
+within_reach held op (Some reach) is first within = is.1.gapless op.stamp.seq first within
 
 -- each operation of the other journal is held, or lacked by the front
 pub held_or_lacked : (held other lacked : List Operation) (front : Reaches) → IsFront held front → IsMissing other front lacked

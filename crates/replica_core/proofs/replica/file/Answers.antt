@@ -1,8 +1,8 @@
 use Rattle.std.proofs.Common.{◌≡◌, ◌∙◌, ◌++◌, ◌∷◌, [], true, false, cond, ap, sym, refl, subst}
-use Rattle.replica_core.specs.Front.{holds}
+use Rattle.replica_core.specs.Front.{holds, IsGapless}
 use Rattle.replica_core.specs.Journal.{taken_of, has}
 use Rattle.chunk_list.specs.Ranks.{rank}
-use Rattle.replica_core.specs.Lines.{ops_of, row_of, IsFiled, IsGapless}
+use Rattle.replica_core.specs.Lines.{ops_of, row_of, IsFiled}
 use Rattle.replica_core.specs.Searches.{is_below, with_place}
 use Rattle.state_core.specs.State.{with_effect}
 use Rattle.replica_core.proofs.Absorbing.{on_err_always}
