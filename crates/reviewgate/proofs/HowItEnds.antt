@@ -4,12 +4,14 @@ use Rattle.std.specs.Io.KnownBytes.{Appends}
 use Rattle.replica_core.specs.InOrder.{IsInOrderOf}
 use Rattle.snapshot_text.specs.Snapshot.{snapshot_text}
 use Rattle.review_ops.specs.Operation.{Operation}
-use Rattle.reviewgate.specs.Answers.{Ended, IsWhole}
-use Rattle.reviewgate.specs.Console.{ConsoleState, IsPrinted}
-use Rattle.reviewgate.specs.Ending.{Finishes, Prints, PrintsSnapshot}
-use Rattle.reviewgate.specs.Inputs.{AreHad, Input, IsFirstRefused, IsHad, IsRefused, IsSound}
-use Rattle.reviewgate.specs.declared.refusal.Refusal.{Refusal}
-use Rattle.reviewgate.specs.declared.refusal.Refusal.TheVariants.{Memory}
+use Rattle.console.specs.Printing.{Ended}
+use Rattle.reviewgate.specs.Answers.{IsWhole}
+use Rattle.console.specs.Console.{ConsoleState, IsPrinted}
+use Rattle.console.specs.Printing.{Prints, PrintsSnapshot}
+use Rattle.reviewgate.specs.Ending.{Finishes}
+use Rattle.console.specs.Inputs.{AreHad, Input, IsFirstRefused, IsHad, IsRefused, IsSound}
+use Rattle.console.specs.declared.refusals.Refusal.{Refusal}
+use Rattle.console.specs.declared.refusals.Refusal.TheVariants.{Memory}
 
 -- ---- what was printed
 

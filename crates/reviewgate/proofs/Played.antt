@@ -7,11 +7,13 @@ use Rattle.world_core.specs.World.{WorldState, new_world}
 use Rattle.script_text.specs.declared.fault.ScriptFault.TheVariants.{BadLine, NoMemory}
 use Rattle.script_text.specs.declared.script.Step.{Step}
 use Rattle.script_play.specs.Playing.{IsRunText, Plays, PlaysStep}
-use Rattle.reviewgate.specs.Answers.{Ended, IsPlayed}
-use Rattle.reviewgate.specs.Console.{ConsoleState, IsCutShort, IsPrinted, one_more}
-use Rattle.reviewgate.specs.Ending.{Finishes, Prints}
-use Rattle.reviewgate.specs.declared.refusal.Refusal.{Refusal}
-use Rattle.reviewgate.specs.declared.refusal.Refusal.TheVariants.{Output, Script}
+use Rattle.console.specs.Printing.{Ended}
+use Rattle.reviewgate.specs.Answers.{IsPlayed}
+use Rattle.console.specs.Console.{ConsoleState, IsCutShort, IsPrinted, one_more}
+use Rattle.console.specs.Printing.{Prints}
+use Rattle.reviewgate.specs.Ending.{Finishes}
+use Rattle.console.specs.declared.refusals.Refusal.{Refusal}
+use Rattle.console.specs.declared.refusals.Refusal.TheVariants.{Output, Script}
 use Rattle.reviewgate.proofs.HowItEnds.{nothing_printed}
 
 -- ---- texts printed one after the other

@@ -4,11 +4,11 @@ use Rattle.std.specs.Prelude.{if◌then◌else◌}
 use Rattle.byte_ends.specs.declared.faults.BytesFault.{BytesFault}
 use Rattle.byte_ends.specs.declared.faults.BytesFault.TheVariants.{TooLong, ReadFault, NoMemory}
 use Rattle.command_line.specs.declared.words.Command.{Command}
-use Rattle.reviewgate.specs.Answers.{Ended}
-use Rattle.reviewgate.specs.Console.{ConsoleState, IsUnread, is_input, once_failed, once_read, one_more}
+use Rattle.console.specs.Printing.{Ended}
+use Rattle.console.specs.Console.{ConsoleState, IsUnread, is_input, once_failed, once_read, one_more}
 use Rattle.reviewgate.specs.Ending.{Ends, Finishes, IsAnswer, inputs_of}
-use Rattle.reviewgate.specs.Inputs.{AreHad, Input, IsFirstRefused, limit_of}
-use Rattle.reviewgate.specs.declared.refusal.Refusal.{Refusal}
+use Rattle.console.specs.Inputs.{AreHad, Input, IsFirstRefused, limit_of}
+use Rattle.console.specs.declared.refusals.Refusal.{Refusal}
 
 kept-read : (name : List ℕ) (console : ConsoleState) → (once_read name console).ends ≡ console.ends
 kept-read name console =

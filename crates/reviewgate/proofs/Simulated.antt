@@ -5,12 +5,13 @@ use Rattle.command_line.specs.declared.words.Command.TheVariants.{Simulate}
 use Rattle.gate_rules.specs.Rules.{GateRules}
 use Rattle.script_text.specs.Script.{IsUnreadScript}
 use Rattle.script_text.specs.declared.fault.ScriptFault.{ScriptFault}
-use Rattle.reviewgate.specs.Answers.{Ended, IsPlayedText}
-use Rattle.reviewgate.specs.Console.{ConsoleState}
+use Rattle.console.specs.Printing.{Ended}
+use Rattle.reviewgate.specs.Answers.{IsPlayedText}
+use Rattle.console.specs.Console.{ConsoleState}
 use Rattle.reviewgate.specs.Ending.{Ends, Finishes, inputs_of}
-use Rattle.reviewgate.specs.Inputs.{IsFirstRefused, IsGateHad, IsHad, IsRefused, gate_file, input, script_file}
-use Rattle.reviewgate.specs.declared.refusal.Refusal.{Refusal}
-use Rattle.reviewgate.specs.declared.refusal.Refusal.TheVariants.{Script}
+use Rattle.console.specs.Inputs.{IsFirstRefused, IsGateHad, IsHad, IsRefused, gate_file, input, script_file}
+use Rattle.console.specs.declared.refusals.Refusal.{Refusal}
+use Rattle.console.specs.declared.refusals.Refusal.TheVariants.{Script}
 use Rattle.reviewgate.proofs.HowItEnds.{nothing_printed}
 
 -- what answers in one way answers in another

@@ -1,5 +1,6 @@
 -- What each command prints: its text as a relation to the texts of its inputs.
-use Rattle.std.specs.Prelude.{◌≡◌, ◌⊎◌, ℕ, List, [], ◌∷◌, ◌++◌, Option, None, Some, Result, Ok, Err, codes, decimal, flat_map, length}
+use Rattle.std.specs.Prelude.{◌≡◌, ◌⊎◌, ℕ, List, [], ◌∷◌, ◌++◌, Option, None, Some, Ok, Err}
+use Rattle.std.specs.Prelude.{codes, decimal, flat_map, length}
 use Rattle.byte_ends.specs.Lines.{lines_of}
 use Rattle.footer_text.specs.Footers.{AreFooters}
 use Rattle.gate_rules.specs.Rules.{GateRules}
@@ -15,15 +16,11 @@ use Rattle.review_ops.specs.Operation.{Operation}
 use Rattle.script_play.specs.Playing.{AreFirst, IsRunText}
 use Rattle.script_text.specs.Script.{IsUnreadScript, SaysScript}
 use Rattle.script_text.specs.declared.fault.ScriptFault.{ScriptFault}
-use Rattle.script_text.specs.declared.fault.ScriptFault.TheVariants.{BadLine, BadSites, NoMemory}
+use Rattle.script_text.specs.declared.fault.ScriptFault.TheVariants.{BadLine, NoMemory}
 use Rattle.script_text.specs.declared.script.Step.{Step}
 use Rattle.world_core.specs.World.{new_world}
-use Rattle.reviewgate.specs.declared.refusal.Refusal.{Refusal}
-use Rattle.reviewgate.specs.declared.refusal.Refusal.TheVariants.{File, Gate, Memory, NotText, Output, Script, Snapshot}
-
--- how a command ends
-abbrev pub Ended : Type 0
-Ended = Result (Unit {0}) Refusal
+use Rattle.console.specs.Printing.{Ended}
+use Rattle.console.specs.declared.refusals.Refusal.TheVariants.{Memory, Script}
 
 -- the answer is so; or memory was refused before anything was printed
 abbrev pub IsWhole : (List ℕ → Type 0) → List ℕ → Ended → Type 0
@@ -84,12 +81,12 @@ GivesGate [] under = under ≡ None
 GivesGate (gate ∷ []) under = (rules : GateRules) × SpellsGate gate rules × (under ≡ Some rules)
 GivesGate (gate ∷ other ∷ texts) under = ⊥
 
--- how a script of these steps is played: to its end; to its bad line, once the lines before that are answered; or over some first steps, where
--- memory is refused. The answer is the text of a run of the steps that were played
+-- how a script of these steps is played: to its end; to its bad line, once the lines before that are answered; or over
+-- some first steps, where memory is refused. The answer is the text of a run of the steps that were played
 abbrev pub IsPlayed : ℕ → List Step → Option ℕ → List ℕ → Ended → Type 0
 IsPlayed sites steps bad answer (Ok done) = (bad ≡ None) × IsRunText (new_world sites) steps answer
-IsPlayed sites steps bad answer (Err (Script (BadLine line))) = (bad ≡ Some line) × IsRunText (new_world sites) steps answer
-IsPlayed sites steps bad answer (Err (Script BadSites)) = ⊥
+IsPlayed sites steps bad answer (Err (Script (BadLine line))) =
+    (bad ≡ Some line) × IsRunText (new_world sites) steps answer
 IsPlayed sites steps bad answer (Err (Script NoMemory)) =
     (first : List Step) × AreFirst first steps × IsRunText (new_world sites) first answer
 IsPlayed sites steps bad answer (Err refusal) = ⊥

@@ -1,15 +1,15 @@
--- The law of all commands. A command is one row in each of two tables: its inputs, in the order in which they are read and judged, and the
--- answer that it prints where all are had.
+-- The law of all commands. A command is one row in each of two tables: its inputs, in the order in which they are read
+-- and judged, and the answer that it prints where all are had.
 use Rattle.std.specs.Prelude.{◌≡◌, ◌⊎◌, ℕ, List, [], ◌∷◌, IsErrAnd, IsErrOf, IsOk, Option, None, Some, string_bytes}
 use Rattle.command_line.specs.declared.words.Command.{Command}
-use Rattle.command_line.specs.declared.words.Command.TheVariants.{Footers, Help, Merge, NoMemory, Ready, Simulate, Usage}
-use Rattle.replica_core.specs.InOrder.{IsInOrderOf}
-use Rattle.snapshot_text.specs.Snapshot.{snapshot_text}
-use Rattle.review_ops.specs.Operation.{Operation}
-use Rattle.reviewgate.specs.Answers.{AreFooterLines, Ended, IsMerged, IsReport, IsSimulated, IsWhole}
-use Rattle.reviewgate.specs.Console.{ConsoleState, IsCutShort, IsPrinted}
-use Rattle.reviewgate.specs.Inputs.{AreHad, Input, IsFirstRefused, gate_file, input, message_file, script_file, snapshot_file}
-use Rattle.reviewgate.specs.declared.refusal.Refusal.TheVariants.{Memory, Output}
+use Rattle.command_line.specs.declared.words.Command.TheVariants.{Footers, Help, Merge, NoMemory, Ready, Simulate}
+use Rattle.command_line.specs.declared.words.Command.TheVariants.{Usage}
+use Rattle.console.specs.Printing.{Ended}
+use Rattle.reviewgate.specs.Answers.{AreFooterLines, IsMerged, IsReport, IsSimulated, IsWhole}
+use Rattle.console.specs.Console.{ConsoleState, IsCutShort, IsPrinted}
+use Rattle.console.specs.Inputs.{AreHad, Input, IsFirstRefused, input}
+use Rattle.console.specs.Inputs.{gate_file, message_file, script_file, snapshot_file}
+use Rattle.console.specs.declared.refusals.Refusal.TheVariants.{Memory, Output}
 
 abbrev pub inputs_of : Command → List Input
 inputs_of (Simulate script None) = input script_file script.now ∷ []
@@ -17,36 +17,26 @@ inputs_of (Simulate script (Some gate)) = input script_file script.now ∷ input
 inputs_of (Ready gate snapshot) = input gate_file gate.now ∷ input snapshot_file snapshot.now ∷ []
 inputs_of (Merge first second) = input snapshot_file first.now ∷ input snapshot_file second.now ∷ []
 inputs_of (Footers gate message change) = input gate_file gate.now ∷ input message_file message.now ∷ []
-inputs_of (Help text) = []
-inputs_of (Usage text) = []
-inputs_of NoMemory = []
+inputs_of command = []
 
 -- of these texts the command prints this answer, and ends so once it is printed
 abbrev pub IsAnswer : Command → List (List ℕ) → List ℕ → Ended → Type 0
 IsAnswer (Simulate script gate) (text ∷ gates) answer ended = IsSimulated text gates answer ended
 IsAnswer (Ready gate snapshot) (one ∷ other ∷ []) answer ended = IsWhole (IsReport one other) answer ended
 IsAnswer (Merge first second) (one ∷ other ∷ []) answer ended = IsWhole (IsMerged one other) answer ended
-IsAnswer (Footers gate message change) (one ∷ other ∷ []) answer ended = IsWhole (AreFooterLines one other change) answer ended
+IsAnswer (Footers gate message change) (one ∷ other ∷ []) answer ended =
+    IsWhole (AreFooterLines one other change) answer ended
 IsAnswer (Help text) [] answer ended = (answer ≡ string_bytes text) × IsOk ended
 IsAnswer (Usage text) [] answer ended = (answer ≡ []) × IsOk ended
 IsAnswer NoMemory [] answer ended = (answer ≡ []) × IsErrOf ended Memory
 IsAnswer command texts answer ended = ⊥
 
--- all of the text was printed; or the output failed, and a proper prefix of it was printed
-abbrev pub Prints : List ℕ → ConsoleState → ConsoleState → Ended → Type 0
-Prints text old new ended = (IsOk ended × IsPrinted text old new) ⊎ (IsErrOf ended Output × IsCutShort text old new)
-
--- the same of the snapshot of a journal; or memory was refused, and nothing was printed
-abbrev pub PrintsSnapshot : List Operation → ConsoleState → ConsoleState → Ended → Type 0
-PrintsSnapshot journal old new ended =
-    ((ops : List Operation) × IsInOrderOf journal ops × Prints (snapshot_text ops) old new ended)
-    ⊎ (IsErrOf ended Memory × (new ≡ old))
-
--- all of the answer was printed, and the command ends as the answer does; or the output failed, and a proper prefix was printed
+-- all of the answer was printed, and the command ends as it does; or the output failed, and a proper prefix was printed
 abbrev pub Finishes : (List ℕ → Ended → Type 0) → ConsoleState → ConsoleState → Ended → Type 0
 Finishes IsTheAnswer old new ended =
     ((answer : List ℕ) × IsTheAnswer answer ended × IsPrinted answer old new)
-    ⊎ ((answer : List ℕ) × (other : Ended) × IsTheAnswer answer other × IsCutShort answer old new × IsErrOf ended Output)
+    ⊎ ((answer : List ℕ) × (other : Ended) × IsTheAnswer answer other
+    × IsCutShort answer old new × IsErrOf ended Output)
 
 -- the first input that can't be had is refused, and nothing is printed; or all are had, and the command finishes
 abbrev pub Ends : Command → ConsoleState → ConsoleState → Ended → Type 0

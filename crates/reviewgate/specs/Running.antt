@@ -4,11 +4,11 @@ use Rattle.std.specs.Io.KnownBytes.{Appends}
 use Rattle.byte_ends.specs.Failures.{OneFailed}
 use Rattle.command_line.specs.declared.words.Command.{Command}
 use Rattle.command_line.specs.declared.words.Command.TheVariants.{Usage}
-use Rattle.reviewgate.specs.Answers.{Ended}
-use Rattle.reviewgate.specs.Console.{ConsoleState, Contents}
+use Rattle.console.specs.Printing.{Ended}
+use Rattle.console.specs.Console.{ConsoleState, Contents}
 use Rattle.reviewgate.specs.Ending.{Ends}
-use Rattle.reviewgate.specs.Refusals.{refusal_line}
-use Rattle.reviewgate.specs.declared.refusal.Refusal.TheVariants.{Memory}
+use Rattle.console.specs.Refusals.{refusal_line}
+use Rattle.console.specs.declared.refusals.Refusal.TheVariants.{Memory}
 
 -- what was printed, where that is known, and how many calls of each end failed
 pub record Counts : Type 0 where
@@ -24,7 +24,8 @@ abbrev pub counts_of : ConsoleState → Counts
 counts_of console = counts console.printed console.input_failed console.files_failed console.output_failed
 
 -- the command ends so over a console of this input and these files
-pub record Runs (command : Command) (left : Option (List ℕ)) (files : Contents) (old new : Counts) (ended : Ended) : Type 0 where
+pub record Runs (command : Command) (left : Option (List ℕ)) (files : Contents) (old new : Counts) (ended : Ended)
+    : Type 0 where
   pub before : ConsoleState
   pub after : ConsoleState
   pub input : before.left ≡ left
@@ -45,11 +46,14 @@ error_output taken failed = record { taken = taken; failed = failed }
 abbrev pub Shows : List ℕ → ErrorOutput → ErrorOutput → Type 0
 Shows text old new =
     (Appends old.taken new.taken text × (new.failed ≡ old.failed))
-    ⊎ ((count : ℕ) × (count < length text) × Appends old.taken new.taken (take count text) × OneFailed old.failed new.failed)
+    ⊎ ((count : ℕ) × (count < length text) × Appends old.taken new.taken (take count text)
+    × OneFailed old.failed new.failed)
 
--- what is written, and the status: nothing and 0 of a command that was done; its line and 1 of one that was refused, or, where memory is
--- refused for the line, the line of that; and what is wrong with the words and 2 where they ask for no command
+-- what is written, and the status: nothing and 0 of a command that was done; its line and 1 of one that was refused,
+-- or, where memory is refused for the line, the line of that; and what is wrong with the words and 2 where they ask for
+-- no command
 abbrev pub Reports : ErrorOutput → ErrorOutput → Command → Ended → ℕ → Type 0
 Reports old new (Usage text) ended status = Shows (string_bytes text) old new × (status ≡ 2)
 Reports old new command (Ok done) status = (new ≡ old) × (status ≡ 0)
-Reports old new command (Err refusal) status = (Shows (refusal_line refusal) old new ⊎ Shows (refusal_line Memory) old new) × (status ≡ 1)
+Reports old new command (Err refusal) status =
+    (Shows (refusal_line refusal) old new ⊎ Shows (refusal_line Memory) old new) × (status ≡ 1)

@@ -5,9 +5,7 @@ ghost use Rattle.footer_text.specs.Footers.{AreFooters};
 ghost use Rattle.reviewgate.specs.Answers.{footers_text, ignored_line, need_line};
 ghost use Rattle.reviewgate.specs.Ending.{Ends};
 
-use super::console::Console;
-use super::inputs::{read_gate, read_message};
-use super::refusal::Refusal;
+use console::{Console, Refusal, read_gate, read_message};
 use command_line::Command;
 use footer_text::depends;
 use gate_rules::Gate;

@@ -1,21 +1,17 @@
 //! `reviewgate`: the review record of Gerrit changes, kept at several sites.
 #![tactic(auto)]
 
-mod console;
 #[cfg(test)]
 mod footer_tests;
 mod footers;
-mod inputs;
 mod merge;
 #[cfg(test)]
 mod merge_tests;
-mod named;
 #[cfg(test)]
 mod one_file;
 mod ready;
 #[cfg(test)]
 mod ready_tests;
-mod refusal;
 mod run;
 mod simulate;
 #[cfg(test)]
@@ -25,8 +21,7 @@ mod tests;
 
 use byte_ends::{Drain, Ends};
 use command_line::Command;
-use named::SystemFiles;
-use refusal::Refusal;
+use console::{Refusal, SystemFiles};
 use run::{report, run_words};
 use std::alloc::Global;
 use std::env::Env;

@@ -2,9 +2,7 @@
 
 ghost use Rattle.reviewgate.specs.Ending.{Ends};
 
-use super::console::Console;
-use super::inputs::read_snapshot;
-use super::refusal::Refusal;
+use console::{Console, Refusal, read_snapshot};
 use command_line::Command;
 use replica_core::{Replica, operations_arrive_as_a_set};
 use std::alloc::Global;

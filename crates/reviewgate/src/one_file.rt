@@ -2,7 +2,7 @@
 
 ghost use Rattle.std.specs.Prelude.{[]};
 
-use super::named::Named;
+use console::Named;
 use byte_ends::BytesFault;
 use std::alloc::Global;
 

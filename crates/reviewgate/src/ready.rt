@@ -2,9 +2,7 @@
 
 ghost use Rattle.reviewgate.specs.Ending.{Ends};
 
-use super::console::Console;
-use super::inputs::{read_gate, read_snapshot};
-use super::refusal::Refusal;
+use console::{Console, Refusal, read_gate, read_snapshot};
 use command_line::Command;
 use ready_core::evaluate;
 use replica_core::Replica;

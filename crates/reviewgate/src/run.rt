@@ -3,17 +3,15 @@
 ghost use Rattle.std.specs.Prelude.{◌⊎◌, map};
 ghost use Rattle.command_line.specs.Asking.{Asks};
 ghost use Rattle.command_line.specs.declared.words.Command.{Command};
-ghost use Rattle.reviewgate.specs.Answers.{Ended};
+ghost use Rattle.console.specs.Printing.{Ended};
 ghost use Rattle.reviewgate.specs.Ending.{Ends};
-ghost use Rattle.reviewgate.specs.Refusals.{refusal_line};
+ghost use Rattle.console.specs.Refusals.{refusal_line};
 ghost use Rattle.reviewgate.specs.Running.{Reports, Runs, Shows, counts, error_output};
 
-use super::console::{Console, Streams};
+use console::{Console, Named, Refusal, Streams};
 use super::footers::footers;
 use super::merge::merge;
-use super::named::Named;
 use super::ready::ready;
-use super::refusal::Refusal;
 use super::simulate::simulate;
 use byte_ends::{Drain, Source, write_all};
 use command_line::{Command, read_words};

@@ -4,9 +4,7 @@ ghost use Rattle.std.specs.Option.{option_copied};
 ghost use Rattle.reviewgate.specs.Ending.{Ends, Finishes};
 ghost use Rattle.reviewgate.specs.Answers.{IsPlayed, IsPlayedText};
 
-use super::console::Console;
-use super::inputs::{read_any_gate, read_script};
-use super::refusal::Refusal;
+use console::{Console, Refusal, read_any_gate, read_script};
 use command_line::Command;
 use gate_rules::Gate;
 use script_play::play_step;

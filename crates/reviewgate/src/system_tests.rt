@@ -1,6 +1,6 @@
 //! Real files, opened by their names.
 
-use super::named::{Named, SystemFiles};
+use console::{Named, SystemFiles};
 use super::run::run_words;
 use byte_ends::Ends;
 use std::alloc::Global;

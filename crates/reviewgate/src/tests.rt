@@ -2,7 +2,7 @@
 
 ghost use Rattle.std.specs.Prelude.{[]};
 
-use super::named::Named;
+use console::Named;
 use super::run::run_words;
 use byte_ends::{Broken, BytesFault, Ends};
 use std::alloc::Global;

@@ -4,8 +4,8 @@ use Rattle.std.specs.Prelude.{IsUtf8}
 use Rattle.footer_text.specs.Footers.{AreFooters}
 use Rattle.gate_rules.specs.Spelling.{SpellsGate}
 use Rattle.reviewgate.specs.Answers.{AreFooterLines, IsWhole, footers_text}
-use Rattle.reviewgate.specs.Ending.{Prints}
-use Rattle.reviewgate.specs.Inputs.{gate_file, input, message_file}
+use Rattle.console.specs.Printing.{Prints}
+use Rattle.console.specs.Inputs.{gate_file, input, message_file}
 use Rattle.reviewgate.proofs.HowItEnds.{both_had, finishes, second_refused, stops}
 use Rattle.reviewgate.proofs.footers.footers.Goals as goal
 

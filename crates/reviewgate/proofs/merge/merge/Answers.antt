@@ -3,7 +3,7 @@ use Rattle.std.proofs.lemmas.Result.{err_from_is_err_and}
 use Rattle.byte_ends.specs.Lines.{lines_of}
 use Rattle.snapshot_text.specs.Snapshot.{SaysOperations}
 use Rattle.reviewgate.specs.Answers.{IsMerged}
-use Rattle.reviewgate.specs.Inputs.{input, snapshot_file}
+use Rattle.console.specs.Inputs.{input, snapshot_file}
 use Rattle.reviewgate.proofs.HowItEnds.{both_had, finishes_snapshot, second_refused}
 use Rattle.reviewgate.proofs.Merged.{is_merged}
 use Rattle.reviewgate.proofs.merge.merge.Goals as goal

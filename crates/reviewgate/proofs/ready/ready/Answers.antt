@@ -8,7 +8,7 @@ use Rattle.state_core.specs.State.{state_of}
 use Rattle.report_text.specs.Report.{report_of}
 use Rattle.snapshot_text.specs.Snapshot.{SaysOperations}
 use Rattle.reviewgate.specs.Answers.{IsReport, IsWhole}
-use Rattle.reviewgate.specs.Inputs.{gate_file, input, snapshot_file}
+use Rattle.console.specs.Inputs.{gate_file, input, snapshot_file}
 use Rattle.reviewgate.proofs.HowItEnds.{both_had, finishes, second_refused, stops}
 use Rattle.reviewgate.proofs.ready.ready.Goals as goal
 

@@ -1,7 +1,7 @@
 use Rattle.std.proofs.Common.{rules, ◌≡◌, inl, inr, subst}
-use Rattle.reviewgate.specs.Refusals.{refusal_line}
+use Rattle.console.specs.Refusals.{refusal_line}
 use Rattle.reviewgate.specs.Running.{Shows, error_output}
-use Rattle.reviewgate.specs.declared.refusal.Refusal.TheVariants.{Memory}
+use Rattle.console.specs.declared.refusals.Refusal.TheVariants.{Memory}
 use Rattle.reviewgate.proofs.run.show_refusal.Goals as goal
 
 pub returns-in-Ok : goal.returns-in-Ok

@@ -6,11 +6,11 @@ ghost use Rattle.report_text.specs.Report.{report_of};
 ghost use Rattle.snapshot_text.specs.Snapshot.{snapshot_text};
 ghost use Rattle.review_ops.specs.Operation.{Operation};
 ghost use Rattle.std.specs.Prelude.{List};
-ghost use Rattle.reviewgate.specs.Console.{ConsoleState, IsRead, IsUnread, is_input};
-ghost use Rattle.reviewgate.specs.Ending.{Prints, PrintsSnapshot};
+ghost use Rattle.console.specs.Console.{ConsoleState, IsRead, IsUnread, is_input};
+ghost use Rattle.console.specs.Printing.{Prints, PrintsSnapshot};
 
-use super::named::Named;
-use super::refusal::Refusal;
+use super::files::Named;
+use super::refusals::Refusal;
 use byte_ends::{BytesFault, Drain, Source, read_all, write_all};
 use ready_core::Verdicts;
 use replica_core::Replica;

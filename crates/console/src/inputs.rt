@@ -6,10 +6,10 @@ ghost use Rattle.byte_ends.specs.Lines.{lines_of};
 ghost use Rattle.replica_core.specs.Journal.{all_arrived};
 ghost use Rattle.snapshot_text.specs.Snapshot.{SaysOperations};
 ghost use Rattle.review_ops.specs.Operation.{Operation};
-ghost use Rattle.reviewgate.specs.Inputs.{IsGateHad, IsHad, IsRefused, gate_file, input, message_file, script_file, snapshot_file};
+ghost use Rattle.console.specs.Inputs.{IsGateHad, IsHad, IsRefused, gate_file, input, message_file, script_file, snapshot_file};
 
-use super::console::Console;
-use super::refusal::Refusal;
+use super::streams::Console;
+use super::refusals::Refusal;
 use gate_rules::Gate;
 use replica_core::Replica;
 use snapshot_text::{SNAPSHOT_LIMIT, SnapFault, snapshot_onto};

@@ -1,8 +1,8 @@
 //! Why a command ended with status 1.
 
 ghost use Rattle.std.specs.Prelude.{◌≡◌, ◌++◌, IfOk, OnOk, string_bytes};
-ghost use Rattle.reviewgate.specs.declared.refusal.Refusal.TheVariants.{Script as BadScript, Snapshot as BadSnapshot, Gate as BadGate, File as BadFile};
-ghost use Rattle.reviewgate.specs.Refusals.{cause_detail, fault_text, refusal_line, refusal_text};
+ghost use Rattle.console.specs.declared.refusals.Refusal.TheVariants.{Script as BadScript, Snapshot as BadSnapshot, Gate as BadGate, File as BadFile};
+ghost use Rattle.console.specs.Refusals.{cause_detail, fault_text, refusal_line, refusal_text};
 
 use byte_ends::BytesFault;
 use gate_rules::GateFault;

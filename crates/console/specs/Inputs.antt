@@ -1,4 +1,4 @@
--- The inputs of a command: the limit of each kind, what it has to be, and how it is refused. They are read and judged one after the other.
+-- The inputs of a command, read and judged one after the other: each kind's limit, what it has to be, and its refusals.
 use Rattle.std.specs.Prelude.{◌≡◌, ◌⊎◌, ℕ, List, [], ◌∷◌, IsUtf8, Option, None, Some}
 use Rattle.byte_ends.specs.Lines.{lines_of}
 use Rattle.byte_ends.specs.declared.faults.BytesFault.{BytesFault}
@@ -9,9 +9,9 @@ use Rattle.snapshot_text.specs.Fault.{snap_fault_of}
 use Rattle.snapshot_text.specs.Snapshot.{IsOfText, IsRefusal, SaysOperations, most_bytes}
 use Rattle.snapshot_text.specs.declared.fault.SnapFault.{SnapFault}
 use Rattle.review_ops.specs.Operation.{Operation}
-use Rattle.reviewgate.specs.Console.{ConsoleState, IsRead, IsUnread, once_read}
-use Rattle.reviewgate.specs.declared.refusal.Refusal.{Refusal}
-use Rattle.reviewgate.specs.declared.refusal.Refusal.TheVariants.{File, Gate, NotText, Snapshot}
+use Rattle.console.specs.Console.{ConsoleState, IsRead, IsUnread, once_read}
+use Rattle.console.specs.declared.refusals.Refusal.{Refusal}
+use Rattle.console.specs.declared.refusals.Refusal.TheVariants.{File, Gate, NotText, Snapshot}
 
 pub data Kind : Type 0 where
   gate_file : Kind
@@ -28,17 +28,13 @@ input kind name = record { kind = kind; name = name }
 
 -- the most bytes: 1 MiB, and 1 GiB of a snapshot
 abbrev pub limit_of : Kind → ℕ
-limit_of gate_file = 1048576
-limit_of message_file = 1048576
-limit_of script_file = 1048576
 limit_of snapshot_file = most_bytes
+limit_of kind = 1048576
 
 -- how an input is refused whose bytes can't be had
 abbrev pub unread_as : Kind → BytesFault → Refusal
-unread_as gate_file fault = File fault
-unread_as message_file fault = File fault
-unread_as script_file fault = File fault
 unread_as snapshot_file fault = Snapshot (snap_fault_of fault)
+unread_as kind fault = File fault
 
 -- what an input has to be. A script is judged as it is played
 abbrev pub IsSound : Kind → List ℕ → Type 0
@@ -52,7 +48,8 @@ abbrev pub IsFlawed : Kind → List ℕ → Refusal → Type 0
 IsFlawed gate_file text refusal = (fault : GateFault) × (refusal ≡ Gate fault) × IsRefusalOf text fault
 IsFlawed message_file text refusal = (refusal ≡ NotText) × (¬ IsUtf8 text)
 IsFlawed script_file text refusal = ⊥
-IsFlawed snapshot_file text refusal = (fault : SnapFault) × (refusal ≡ Snapshot fault) × IsRefusal text fault × IsOfText fault
+IsFlawed snapshot_file text refusal =
+    (fault : SnapFault) × (refusal ≡ Snapshot fault) × IsRefusal text fault × IsOfText fault
 
 -- the input is had: it is read, and its text is so
 abbrev pub IsHad : Input → (List ℕ → Type 0) → ConsoleState → ConsoleState → Type 0
@@ -67,16 +64,17 @@ IsGateHad name rules old new = ⊥
 -- the input is refused: its bytes can't be had, or aren't what they have to be
 abbrev pub IsRefused : Input → ConsoleState → ConsoleState → Refusal → Type 0
 IsRefused input old new refusal =
-    ((fault : BytesFault) × (refusal ≡ unread_as input.kind fault) × IsUnread input.name (limit_of input.kind) old new fault)
+    ((fault : BytesFault) × (refusal ≡ unread_as input.kind fault)
+    × IsUnread input.name (limit_of input.kind) old new fault)
     ⊎ IsHad input (λ text. IsFlawed input.kind text refusal) old new
 
 -- all inputs are had, one after the other, and these are their texts
 abbrev pub AreHad : List Input → ConsoleState → List (List ℕ) → ConsoleState → Type 0
 AreHad [] old [] new = new ≡ old
-AreHad [] old (text ∷ texts) new = ⊥
-AreHad (input ∷ inputs) old [] new = ⊥
 AreHad (input ∷ inputs) old (text ∷ texts) new =
-    (mid : ConsoleState) × IsRead input.name (limit_of input.kind) old mid text × IsSound input.kind text × AreHad inputs mid texts new
+    (mid : ConsoleState) × IsRead input.name (limit_of input.kind) old mid text × IsSound input.kind text
+    × AreHad inputs mid texts new
+AreHad inputs old texts new = ⊥
 
 -- the first input that can't be had is refused, and those after it aren't read
 abbrev pub IsFirstRefused : List Input → ConsoleState → ConsoleState → Refusal → Type 0

@@ -1,5 +1,6 @@
--- A console: the input, the output and the files of the program, as one value. The name `-` is POSIX's for standard input.
-use Rattle.std.specs.Prelude.{◌≡◌, ◌≤◌, ◌<◌, ◌+◌, ℕ, Bool, List, [], ◌∷◌, Option, None, Some, IfSome, codes, length, min, nat_eq, take, if◌then◌else◌}
+-- A console: the input, the output and the files of a command, as one value. The name `-` is that of the input (POSIX).
+use Rattle.std.specs.Prelude.{◌≡◌, ◌≤◌, ◌<◌, ◌+◌, ℕ, Bool, List, [], ◌∷◌, Option, None, Some, IfSome, if◌then◌else◌}
+use Rattle.std.specs.Prelude.{codes, length, min, nat_eq, take}
 use Rattle.std.specs.Cmp.Lexicographic.{pointwise}
 use Rattle.std.specs.Io.KnownBytes.{Appends}
 use Rattle.byte_ends.specs.Failures.{most_failures}
@@ -15,7 +16,7 @@ abbrev pub file_of : Contents → List ℕ → Option (List ℕ)
 file_of [] name = None
 file_of (file ∷ files) name = if pointwise nat_eq file.0 name then Some file.1 else file_of files name
 
--- what the input has left and what was printed, where that is known; how many calls of each end failed; and which three ends these are
+-- what the input has left and what was printed, where that is known; how many calls of each end failed; and which ends
 pub record ConsoleState : Type 0 where
   pub left : Option (List ℕ)
   pub files : Contents
@@ -57,7 +58,8 @@ pub record IsRead (name : List ℕ) (limit : ℕ) (old new : ConsoleState) (byte
 
 -- why a name isn't read: there is more than the limit, its end failed in this call, or memory was refused
 abbrev pub IsUnread : List ℕ → ℕ → ConsoleState → ConsoleState → BytesFault → Type 0
-IsUnread name limit old new TooLong = IfSome (contents_of name old) (λ contents. limit < length contents) × (new ≡ once_read name old)
+IsUnread name limit old new TooLong =
+    IfSome (contents_of name old) (λ contents. limit < length contents) × (new ≡ once_read name old)
 IsUnread name limit old new ReadFault = new ≡ once_failed name old
 IsUnread name limit old new NoMemory = new ≡ once_read name old
 

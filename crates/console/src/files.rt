@@ -2,7 +2,7 @@
 
 ghost use Rattle.std.specs.Prelude.{◌≡◌, ◌<◌, ◌≤◌, ℕ, List, [], length, vec_len, IfOk, IfSome, IsErrOf};
 ghost use Rattle.byte_ends.specs.ReadAll.{CountsRead};
-ghost use Rattle.reviewgate.specs.Console.{Contents, file_of};
+ghost use Rattle.console.specs.Console.{Contents, file_of};
 
 use byte_ends::{BytesFault, Ends, read_all};
 use std::alloc::Global;

@@ -1,6 +1,6 @@
 use Rattle.std.proofs.Common.{inr, refl, subst}
 use Rattle.snapshot_text.specs.Snapshot.{IsRefusal}
-use Rattle.reviewgate.proofs.inputs.read_snapshot.Goals as goal
+use Rattle.console.proofs.inputs.read_snapshot.Goals as goal
 
 pub returns-clause-refused : goal.returns-clause-refused
 returns-clause-refused g c =

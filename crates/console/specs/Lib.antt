@@ -1,0 +1,4 @@
+pub mod Console
+pub mod Inputs
+pub mod Printing
+pub mod Refusals

@@ -1,0 +1,14 @@
+//! The console of a command: its input, its output and the files that it names, the inputs that it reads from there, and how it is refused.
+//!
+//! The name `-` is that of the input, which is read once: a second `-` is empty. Each kind of input has its limit, and is judged once it is read.
+#![tactic(auto)]
+
+mod files;
+mod inputs;
+mod refusals;
+mod streams;
+
+pub use files::{Named, SystemFiles};
+pub use inputs::{read_any_gate, read_gate, read_message, read_script, read_snapshot};
+pub use refusals::Refusal;
+pub use streams::{Console, Streams};
