@@ -1,5 +1,6 @@
 //! Plays a script, and prints what each of its lines answers.
 
+ghost use Rattle.std.specs.Prelude.{IsErrOf, IsOk, MatchOption};
 ghost use Rattle.std.specs.Option.{option_copied};
 ghost use Rattle.reviewgate.specs.Ending.{Ends, Finishes};
 ghost use Rattle.reviewgate.specs.Answers.{IsPlayed, IsPlayedText};
@@ -14,8 +15,9 @@ use world_core::{World, worlds_converge};
 
 /// Plays the script of a name, with reports under the gate of another, where that is named: its events happen in a new world one after the
 /// other, by `World::step`, and what a line answers is printed once it is known. Every such run converges, as `worlds_converge` says.
-/// Refusals: those of the script's bytes, then of the gate file; `Script` 1 `BadSites`; `Script` 2 `BadLine`, the script ends at a line that says nothing, once the lines before it are answered; `Script` 3
-/// `NoMemory`, the script, the sites or an answer couldn't be held; `Output`. It costs what reading and the events cost.
+/// Refusals: those of the script's bytes, then of the gate file; `Script` 1 `BadSites`; `Script` 2 `BadLine`, the script ends at a line that
+/// says nothing, once the lines before it are answered; `Script` 3 `NoMemory`, the script, the sites or an answer couldn't be held; `Output`. It
+/// costs what reading and the events cost.
 pub fn simulate<C: Console>(
     alloc: Global,
     script: &str,
@@ -61,6 +63,13 @@ fn play<C: Console>(alloc: Global, script: Script<'_>, console: &mut C) -> Resul
         };
         console.print(text.as_bytes())?;
     }
+    end_of(bad_line)
+}
+
+/// How a script ends whose steps were played: at the line that says none, if there is one.
+fn end_of(bad_line: Option<u64>) -> Result<(), Refusal>
+    ensures { MatchOption bad_line (IsOk result) (λ line. IsErrOf result (Refusal.Script (ScriptFault.BadLine line))) }
+{
     match bad_line {
         Some(line) => Err(Refusal::Script(ScriptFault::BadLine(line))),
         None => Ok(()),
