@@ -1,5 +1,5 @@
 -- A block of targets: its marks, and what they add to the counts.
-use Rattle.std.proofs.Common.{◌≡◌, ◌⊎◌, inl, inr, ◌+◌, ◌-◌, ◌*◌, ◌/◌, ◌%◌, ◌<◌, ◌≤◌, ◌^◌, ℕ, zero, suc, List, [], ◌∷◌, ◌++◌, refl, sym, ◌∙◌, ap, subst, length, set, take, drop, replicate, get_or, min, arith}
+use Rattle.std.proofs.Common.{◌≡◌, ◌⊎◌, inl, inr, ◌+◌, ◌-◌, ◌*◌, ◌/◌, ◌%◌, ◌<◌, ◌≤◌, ◌^◌, ℕ, zero, suc, List, [], ◌∷◌, ◌++◌, refl, sym, ◌∙◌, ap, subst, length, set, take, drop, replicate, get_or, arith}
 use Rattle.std.specs.Prelude.{count_ones}
 use Rattle.std.specs.Int.{bit_at}
 use Rattle.std.specs.Int.Count.{ones_step}
@@ -7,9 +7,9 @@ use Rattle.std.specs.List.{AllByRecursion, Contains, sum_by}
 use Rattle.std.specs.declared.cmp.Ordering.TheVariants.{Less}
 use Rattle.std.specs.Ordering.{nat_cmp}
 use Rattle.std.specs.List.Sorted.{IsStrictlySortedBy}
-use Rattle.std.proofs.lemmas.Bool.{cases_eq, cases_lt}
-use Rattle.std.proofs.lemmas.List.{append_assoc, append-nil, get_or-set_same, get_or-set_other, length-append, length-set, length_push, take-append-drop}
-use Rattle.std.proofs.lemmas.List.Elements.{All-contains, All-from_recursion, All-push, recursion_from_All, Contains-push_cases, Contains-push, Contains-append_left, Contains-append_right}
+use Rattle.std.proofs.lemmas.Bool.{cases_eq}
+use Rattle.std.proofs.lemmas.List.{append_assoc, append-nil, length-append, length-set, length_push, take-append-drop}
+use Rattle.std.proofs.lemmas.List.Elements.{All-contains, Contains-get_or, Contains-push_cases, Contains-push, Contains-append_left, Contains-append_right}
 use Rattle.std.proofs.lemmas.List.Sums.{sum_by-cons}
 use Rattle.std.proofs.Math.Seq.{take-add}
 use Rattle.std.proofs.lemmas.Option.{slice_get_past}
@@ -21,10 +21,10 @@ use Rattle.walk_core.specs.Digraphs.{HasEdge}
 use Rattle.walk_core.specs.Ranks.{LeadsTo, HasCount}
 use Rattle.walk_core.specs.RankLaws.{LeadsTo-trans}
 use Rattle.lattice_core.specs.Keep.{numbers_exact}
-use Rattle.lattice_core.specs.MemberLaws.{sorted_push, Contains-none, Contains-first, Contains-later}
+use Rattle.lattice_core.specs.MemberLaws.{sorted_push, Contains-none}
 use Rattle.walk_core.specs.SortedLists.{sorted_part}
 use Rattle.walk_core.specs.Components.{AreFirsts}
-use Rattle.walk_core.specs.Marks.{HasMark, PutsMark, words_of, words_at, IsMarkedAt, AreBare, AreSound, LeadsToTarget, AreMarked, PassesAll, TakesCounts, LeadsToCount, CountsBlock, HoldEnds}
+use Rattle.walk_core.specs.Marks.{HasMark, PutsMark, words_of, words_at, IsMarkedAt, IsFirstOf, AreBare, AreCountsElsewhere, AreSound, LeadsToTarget, AreMarked, PassesAll, TakesCounts, LeadsToCount, CountsBlock, HoldEnds}
 use Rattle.walk_core.specs.declared.block.Marks.{Marks}
 use Rattle.walk_core.proofs.Gathering.{first_within, row_set}
 
@@ -34,12 +34,14 @@ pub record AreMarkedTo (graph : List (List ℕ)) (firsts block : List ℕ) (rows
   pub size : length rows ≡ length graph
   pub sound : AreSound graph block rows
   pub each : (target : ℕ) → target < count → IsMarkedAt rows (get_or firsts (get_or block target 0) 0) target
+  pub only : (row target : ℕ) → IsMarkedAt rows row target → IsFirstOf firsts block row
 
 pub marked_none : (graph : List (List ℕ)) (firsts block : List ℕ) (rows : List Marks) → length rows ≡ length graph → AreBare rows → AreMarkedTo graph firsts block rows 0
 marked_none graph firsts block rows size bare = record {
   size = size;
   sound = λ row target has. absurd (bare row target has);
   each = λ target less. absurd (omega (arith, less));
+  only = λ row target has. absurd (bare row target has);
 }
 
 module _ (graph : List (List ℕ)) (firsts block : List ℕ) (rows : List Marks) (target : ℕ) (are : AreFirsts graph firsts) (marked : AreMarkedTo graph firsts block rows target)
@@ -80,6 +82,10 @@ module _ (graph : List (List ℕ)) (firsts block : List ℕ) (rows : List Marks)
     | inl here ↦ subst (λ words. HasMark words target) (sym here.1) ((puts target).1 (inr refl))
   ]
 
+  first_here : (other : ℕ) → other ≡ row → IsFirstOf firsts block other
+  unfolding row
+  first_here other same = (get_or block target 0, Contains-get_or block target 0 within, sym same)
+
   pub marked_more : AreMarkedTo graph firsts block (set rows (get_or firsts (get_or block target 0) 0) now) (target + 1)
   unfolding row
   marked_more = record {
@@ -88,6 +94,10 @@ module _ (graph : List (List ℕ)) (firsts block : List ℕ) (rows : List Marks)
     each = λ other less. elim (cases_eq other target) [
       | inl same ↦ subst (λ k. IsMarkedAt (set rows row now) (get_or firsts (get_or block k 0) 0) k) (sym same) marked_here
       | inr apart ↦ kept_now (get_or firsts (get_or block other 0) 0) other (marked.each other (omega (arith, less, apart)))
+    ];
+    only = λ other offset has. elim (row_set rows row now inside other) [
+      | inl here ↦ first_here other here.0
+      | inr kept ↦ marked.only other offset (subst (λ words. HasMark words offset) kept.1 has)
     ];
   }
 
@@ -116,7 +126,7 @@ bits_split f (suc a) b =
     let same = bits_same (λ i. f (suc (a + i))) (λ i. f (suc a + i)) b (λ i less. let e : suc (a + i) ≡ suc a + i = omega arith in ap f e) in
     omega (arith, rest, sizes, same)
 
-bits_none : (f : ℕ → ℕ) (k : ℕ) → ((i : ℕ) → i < k → f i ≡ 0) → bits_below f k ≡ 0
+pub bits_none : (f : ℕ → ℕ) (k : ℕ) → ((i : ℕ) → i < k → f i ≡ 0) → bits_below f k ≡ 0
 bits_none f zero none = refl
 bits_none f (suc k) none =
     let first : f 0 ≡ 0 = none 0 (omega arith) in
@@ -169,10 +179,10 @@ sorted_part_left [] ys sorted = tt
 sorted_part_left (x ∷ xs) ys sorted = (recursion_left (λ z. nat_cmp x z ≡ Less) xs ys sorted.0, sorted_part_left xs ys sorted.1)
 
 module _ (Q : ℕ → Type 0) where
-  abbrev CountIn : List ℕ → ℕ → Type 0
+  abbrev pub CountIn : List ℕ → ℕ → Type 0
   CountIn nodes count = HasCount nat_cmp (λ y. Contains nodes y × Q y) count
 
-  count_yes : (done : List ℕ) (y count : ℕ) → IsStrictlySortedBy nat_cmp (done ++ y ∷ []) → Q y → CountIn done count → CountIn (done ++ y ∷ []) (count + 1)
+  pub count_yes : (done : List ℕ) (y count : ℕ) → IsStrictlySortedBy nat_cmp (done ++ y ∷ []) → Q y → CountIn done count → CountIn (done ++ y ∷ []) (count + 1)
   count_yes done y count sorted has counted = record {
     members = counted.members ++ y ∷ [];
     in_order = sorted_push nat_cmp counted.members y counted.in_order (λ x here. All-contains (λ z. nat_cmp z y ≡ Less) done x (All-before_last nat_cmp done y sorted) ((counted.just x).0 here).0);
@@ -189,7 +199,7 @@ module _ (Q : ℕ → Type 0) where
     size = length_push counted.members y ∙ ap (λ n. n + 1) counted.size;
   }
 
-  count_no : (done : List ℕ) (y count : ℕ) → ¬ Q y → CountIn done count → CountIn (done ++ y ∷ []) count
+  pub count_no : (done : List ℕ) (y count : ℕ) → ¬ Q y → CountIn done count → CountIn (done ++ y ∷ []) count
   count_no done y count not counted = record {
     members = counted.members;
     in_order = counted.in_order;
@@ -235,12 +245,12 @@ words_fit [] row within = absurd (omega (arith, within))
 words_fit (marks ∷ rows) zero within = (marks.size, marks.in_range)
 words_fit (marks ∷ rows) (suc row) within = words_fit rows row (omega (arith, within))
 
-bit_cases : (bit : ℕ) → bit < 2 → (bit ≡ 1) ⊎ (bit ≡ 0)
+pub bit_cases : (bit : ℕ) → bit < 2 → (bit ≡ 1) ⊎ (bit ≡ 0)
 bit_cases zero less = inr refl
 bit_cases (suc bit) less = inl (omega (arith, less))
 
 module _ (graph : List (List ℕ)) (firsts nodes block : List ℕ) (marked passed taken : List Marks) (counts now : List ℕ) (are : AreFirsts graph firsts) (hold : HoldEnds graph nodes)
-    (few : length block ≤ 512) (is : AreMarked graph firsts block marked) (passes : PassesAll graph firsts nodes marked passed) (size : length passed ≡ length graph) (takes : TakesCounts passed taken counts now) where
+    (few : length block ≤ 512) (is : AreMarked graph firsts block marked) (passes : PassesAll graph firsts nodes marked passed) (size : length passed ≡ length graph) (takes : TakesCounts firsts nodes passed taken counts now) where
   -- a node is marked with each target that it leads to
   marked_by_walk : (n x target : ℕ) → target < length block → Contains nodes x → Walk (HasEdge graph) n x (get_or block target 0) → IsMarkedAt passed (get_or firsts x 0) target
   marked_by_walk zero x target within here same = subst (λ z. IsMarkedAt passed (get_or firsts z 0) target) (sym same) (passes.kept (get_or firsts (get_or block target 0) 0) target (is.each target within))
@@ -293,59 +303,31 @@ module _ (graph : List (List ℕ)) (firsts nodes block : List ℕ) (marked passe
         let before = get_or counts (get_or firsts x 0) 0 in
         let more = count_all (LeadsTo (HasEdge graph) x) block done before bit sorted bit_says counted in
         let bound = count_within (LeadsTo (HasEdge graph) x) (done ++ block) (before + bits_below bit (length block)) sorted more in
-        let each = takes.each (get_or firsts x 0) row_within in
+        let each = (takes.taken (get_or firsts x 0) (x, here, refl)).count in
         let same : before + bits_below bit (length block) ≡ get_or now (get_or firsts x 0) 0 = omega (arith, each, bits_counted, bound, short) in
         subst (LeadsToCount graph (done ++ block) x) same more
 
   pub counts_block : CountsBlock graph firsts nodes block counts now
   counts_block x done here sorted short counted = count_more x here done sorted short counted
 
--- ---- the marks are counted and taken away, node by node
+  -- what is taken leaves no mark
+  module _ (targets : (target : ℕ) → Contains block target → Contains nodes target) where
+    not_first : (row target : ℕ) → IsMarkedAt taken row target → ¬ IsFirstOf firsts nodes row
+    not_first row target has is_first = (takes.taken row is_first).bare target has
 
-pub record AreTakenTo (before after : List Marks) (counts now : List ℕ) (node : ℕ) : Type 0 where
-  pub size : length after ≡ length before
-  pub counts_size : length now ≡ length counts
-  pub bare : (row target : ℕ) → row < node → ¬ IsMarkedAt after row target
-  pub left : (row : ℕ) → node ≤ row → words_at after row ≡ words_at before row
-  pub each : (row : ℕ) → row < node → get_or now row 0 ≡ min (get_or counts row 0 + sum_by count_ones (words_at before row)) (2 ^ 64 - 1)
-  pub counts_left : (row : ℕ) → node ≤ row → get_or now row 0 ≡ get_or counts row 0
+    pub taken_bare : AreBare taken
+    taken_bare row target has = elim (takes.left row) [
+      | inl is_first ↦ not_first row target has is_first
+      | inr left ↦ elim (passes.elsewhere row) [
+        | inl is_first ↦ not_first row target has is_first
+        | inr kept ↦
+            let first = is.only row target (subst (λ words. HasMark words target) (left.words ∙ kept) has) in
+            not_first row target has (first.0, targets first.0 first.1, first.2)
+      ]
+    ]
 
-pub taken_none : (rows : List Marks) (counts : List ℕ) → AreTakenTo rows rows counts counts 0
-taken_none rows counts = record {
-  size = refl;
-  counts_size = refl;
-  bare = λ row target less. absurd (omega (arith, less));
-  left = λ row past. refl;
-  each = λ row less. absurd (omega (arith, less));
-  counts_left = λ row past. refl;
-}
-
-module _ (before after : List Marks) (counts now : List ℕ) (node : ℕ) (taken : AreTakenTo before after counts now node) (within : node < length after) (inside : node < length now)
-    (was none : Marks) (read : words_at after node ≡ was.words) (bare : (target : ℕ) → ¬ HasMark none.words target)
-    (count sum : ℕ) (counted : count ≡ sum_by count_ones was.words) (added : sum ≡ min (get_or now node 0 + count) (2 ^ 64 - 1)) where
-  sum_here : sum ≡ min (get_or counts node 0 + sum_by count_ones (words_at before node)) (2 ^ 64 - 1)
-  sum_here =
-      let words : sum_by count_ones (words_at before node) ≡ sum_by count_ones was.words = ap (sum_by count_ones) (sym (taken.left node (omega arith)) ∙ read) in
-      omega (arith, added, counted, words, taken.counts_left node (omega arith))
-
-  pub taken_more : AreTakenTo before (set after node none) counts (set now node sum) (node + 1)
-  taken_more = record {
-    size = length-set after node none ∙ taken.size;
-    counts_size = length-set now node sum ∙ taken.counts_size;
-    bare = λ row target less. elim (row_set after node none within row) [
-      | inl here ↦ λ has. bare target (subst (λ words. HasMark words target) here.1 has)
-      | inr other ↦ λ has. let apart = other.0 in taken.bare row target (omega (arith, less, apart)) (subst (λ words. HasMark words target) other.1 has)
-    ];
-    left = λ row past. elim (row_set after node none within row) [
-      | inl here ↦ let same = here.0 in absurd (omega (arith, past, same))
-      | inr other ↦ other.1 ∙ taken.left row (omega (arith, past))
-    ];
-    each = λ row less. elim (cases_eq row node) [
-      | inl same ↦ subst (λ r. get_or (set now node sum) r 0 ≡ min (get_or counts r 0 + sum_by count_ones (words_at before r)) (2 ^ 64 - 1)) (sym same) (get_or-set_same now node sum 0 inside ∙ sum_here)
-      | inr apart ↦ get_or-set_other now node row sum 0 apart ∙ taken.each row (omega (arith, less, apart))
-    ];
-    counts_left = λ row past. get_or-set_other now node row sum 0 (omega (arith, past)) ∙ taken.counts_left row (omega (arith, past));
-  }
+  pub counts_elsewhere : AreCountsElsewhere firsts nodes counts now
+  counts_elsewhere row = elim (takes.left row) [ inl is_first ↦ inl is_first | inr left ↦ inr left.count ]
 
 -- a number that is no node has no mark
 past_bare : (rows : List Marks) (row target : ℕ) → length rows ≤ row → ¬ IsMarkedAt rows row target
@@ -353,17 +335,6 @@ past_bare rows row target past has =
     let none : words_at rows row ≡ [] = ap words_of (slice_get_past rows row past) in
     let zero_bit : bit_at (get_or (words_at rows row) (target / 64) 0) (target % 64) ≡ 0 = ap (λ words. bit_at (get_or words (target / 64) 0) (target % 64)) none ∙ bit_at-zero (target % 64) in
     omega (arith, has, zero_bit)
-
-pub taken_all : (before after : List Marks) (counts now : List ℕ) (node : ℕ) → length before ≤ node → AreTakenTo before after counts now node → TakesCounts before after counts now
-taken_all before after counts now node all taken = record {
-  size = taken.size;
-  counts_size = taken.counts_size;
-  bare = λ row target has. elim (cases_lt row node) [
-    | inl less ↦ taken.bare row target less has
-    | inr past ↦ past_bare after row target (omega (arith, past, all, taken.size)) has
-  ];
-  each = λ row less. taken.each row (omega (arith, less, all));
-}
 
 -- ---- one block after the other
 
@@ -376,13 +347,16 @@ pub none_sorted : IsStrictlySortedBy nat_cmp []
 unfolding IsStrictlySortedBy
 none_sorted = tt
 
-pub count_none : (graph : List (List ℕ)) (x : ℕ) → LeadsToCount graph [] x 0
-count_none graph x = record {
+pub count_none_of : (Q : ℕ → Type 0) → HasCount nat_cmp (λ y. Contains [] y × Q y) 0
+count_none_of Q = record {
   members = [];
   in_order = none_sorted;
   just = λ y. (λ here. absurd (Contains-none y here), λ has. absurd (Contains-none y has.0));
   size = refl;
 }
+
+pub count_none : (graph : List (List ℕ)) (x : ℕ) → LeadsToCount graph [] x 0
+count_none graph x = count_none_of (LeadsTo (HasEdge graph) x)
 
 pub block_within : (start size : ℕ) (xs : List ℕ) (x : ℕ) → Contains (take size (drop start xs)) x → Contains xs x
 block_within start size xs x here =

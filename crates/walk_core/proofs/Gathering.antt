@@ -13,7 +13,7 @@ use Rattle.walk_core.specs.Digraphs.{HasEdge}
 use Rattle.walk_core.specs.Edges.{HasEdge-starts}
 use Rattle.walk_core.specs.Ranks.{LeadsTo}
 use Rattle.walk_core.specs.RankLaws.{LeadsTo-trans, LeadsTo-edge}
-use Rattle.lattice_core.specs.MemberLaws.{Contains-none, Contains-cons_cases}
+use Rattle.lattice_core.specs.MemberLaws.{Contains-none, Contains-first, Contains-cons_cases}
 use Rattle.walk_core.specs.Components.{AreFirsts}
 use Rattle.walk_core.specs.Marks.{HasMark, AreJoined, words_of, words_at, IsMarkedAt, AreSound, LeadsToTarget, Passes}
 use Rattle.walk_core.specs.declared.block.Marks.{Marks}
@@ -139,6 +139,10 @@ module _ (graph : List (List ℕ)) (firsts : List ℕ) (node : ℕ) (rows : List
       | inl here ↦ subst (λ r. LeadsToTarget graph block r target) (sym here.0) (leads_on block sound target (subst (λ words. HasMark words target) here.1 has))
       | inr other ↦ sound row target (subst (λ words. HasMark words target) other.1 has)
     ];
+    elsewhere = λ row. elim (row_set rows (get_or firsts node 0) marks within row) [
+      | inl here ↦ inl (node, Contains-first node [], sym here.0)
+      | inr other ↦ inr other.1
+    ];
     step =
         let row_sum : Marks → ℕ = λ m. words_sum m.words in
         let changed = sum_by-set row_sum rows (get_or firsts node 0) marks before within in
@@ -152,6 +156,7 @@ module _ (graph : List (List ℕ)) (firsts : List ℕ) (node : ℕ) (rows : List
     size = refl;
     kept = λ row target has. has;
     sound = λ block sound. sound;
+    elsewhere = λ row. inr refl;
     step = (
       refl,
       λ x here y target edge has. elim (Contains-cons_cases node [] x here) [

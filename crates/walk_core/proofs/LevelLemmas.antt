@@ -10,7 +10,6 @@ use Rattle.walk_core.proofs.Writes.{slice_get-set_other, slice_get-set_same}
 use Rattle.walk_core.proofs.EdgeLemmas.{Contains-more}
 use Rattle.walk_core.specs.Walks.{Leads, IsDistance, IsDistance-zero}
 use Rattle.walk_core.specs.Digraphs.{HasEdge, IsMarked, IsDistanceTo, AreDistances}
-use Rattle.walk_core.specs.Edges.{HasEdge-starts}
 use Rattle.walk_core.specs.Levels.{HasDistance, is_unreached, unreached, Discovers, LeadsInto, AreKnownTo, IsLevel}
 
 -- a node has one distance at most in a list

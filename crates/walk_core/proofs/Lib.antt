@@ -15,5 +15,10 @@ pub mod MarkLemmas
 pub mod Gathering
 pub mod Passing
 pub mod Blocks
+pub mod Taking
 pub mod Kept
 pub mod Ordered
+pub mod Labels
+pub mod Adding
+pub mod Exits
+pub mod Regional

@@ -28,7 +28,7 @@ node_rank_cmp a b = rank_cmp nat_cmp (to_rank a) (to_rank b)
 abbrev pub node_of : NodeRank → ℕ
 node_of rank = rank.node
 
-count_same : (P Q : ℕ → Type 0) (count : ℕ) → ((x : ℕ) → P x ↔ Q x) → HasCount nat_cmp P count → HasCount nat_cmp Q count
+pub count_same : (P Q : ℕ → Type 0) (count : ℕ) → ((x : ℕ) → P x ↔ Q x) → HasCount nat_cmp P count → HasCount nat_cmp Q count
 count_same P Q count same counted = record {
   members = counted.members;
   in_order = counted.in_order;

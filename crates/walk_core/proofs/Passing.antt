@@ -2,8 +2,8 @@
 use Rattle.std.proofs.Common.{◌≡◌, inl, inr, ◌+◌, ◌*◌, ◌<◌, ◌≤◌, ◌^◌, ℕ, List, [], ◌∷◌, Bool, true, false, MatchBool, refl, sym, ◌∙◌, ap, subst, length, take, get_or, arith}
 use Rattle.std.specs.List.{sum_by}
 use Rattle.std.proofs.lemmas.List.Sums.{sum_by-le}
-use Rattle.lattice_core.specs.MemberLaws.{Contains-none, Contains-first}
-use Rattle.walk_core.specs.Marks.{AreKept, AreSound, IsGathered, AreGathered, total_of, Passes, PassesAll}
+use Rattle.lattice_core.specs.MemberLaws.{Contains-none, Contains-first, Contains-cons_cases}
+use Rattle.walk_core.specs.Marks.{AreKept, AreKeptElsewhere, AreSound, IsGathered, AreGathered, total_of, Passes, PassesAll}
 use Rattle.walk_core.specs.declared.block.Marks.{Marks}
 use Rattle.walk_core.proofs.EdgeLemmas.{Contains-more}
 use Rattle.walk_core.proofs.MarkLemmas.{words_in_range}
@@ -13,6 +13,18 @@ module _ (graph : List (List ℕ)) (firsts : List ℕ) where
   module _ (nodes : List ℕ) (i node : ℕ) (within : i < length nodes) (is : node ≡ get_or nodes i node) (before mid after : List Marks) where
     abbrev Step : Bool → List ℕ → List Marks → List Marks → Type 0
     Step changes some from to = MatchBool changes (total_of from < total_of to) ((to ≡ from) × AreGathered graph firsts some to)
+
+    both_elsewhere : AreKeptElsewhere firsts (take i nodes) before mid → AreKeptElsewhere firsts (node ∷ []) mid after → AreKeptElsewhere firsts (take (i + 1) nodes) before after
+    both_elsewhere p q row = elim (q row) [
+      | inl here ↦ elim (Contains-cons_cases node [] here.0 here.1) [
+        | inl same ↦ inl (node, (Contains-more nodes i node node within is).1 (inr refl), ap (λ x. get_or firsts x 0) same ∙ here.2)
+        | inr none ↦ absurd (Contains-none here.0 none)
+      ]
+      | inr kept ↦ elim (p row) [
+        | inl earlier ↦ inl (earlier.0, (Contains-more nodes i earlier.0 node within is).1 (inl earlier.1), earlier.2)
+        | inr was ↦ inr (kept ∙ was)
+      ]
+    ]
 
     both_steps : (some one : Bool) (joint : Bool) → Step some (take i nodes) before mid → Step one (node ∷ []) mid after → (some ≡ false → one ≡ false → joint ≡ false) → (some ≡ true → joint ≡ true) → (one ≡ true → joint ≡ true) → Step joint (take (i + 1) nodes) before after
     both_steps true true joint p q none left right = subst (λ b. Step b (take (i + 1) nodes) before after) (sym (left refl)) (omega (arith, p, q))
@@ -32,28 +44,42 @@ module _ (graph : List (List ℕ)) (firsts : List ℕ) where
       size = q.size ∙ p.size;
       kept = λ row target has. q.kept row target (p.kept row target has);
       sound = λ block sound. q.sound block (p.sound block sound);
+      elsewhere = both_elsewhere p.elsewhere q.elsewhere;
       step = both_steps some one joint p.step q.step none left right;
     }
 
   -- ---- until nothing changes
 
-  pub record HasPassed (before after : List Marks) : Type 0 where
+  pub record HasPassed (nodes : List ℕ) (before after : List Marks) : Type 0 where
     pub size : length after ≡ length before
     pub kept : AreKept before after
     pub sound : (block : List ℕ) → AreSound graph block before → AreSound graph block after
+    pub elsewhere : AreKeptElsewhere firsts nodes before after
 
-  pub passed_more : (nodes : List ℕ) (before mid after : List Marks) (changes : Bool) → HasPassed before mid → Passes graph firsts nodes mid after changes → HasPassed before after
+  pub passed_none : (nodes : List ℕ) (rows : List Marks) → HasPassed nodes rows rows
+  passed_none nodes rows = record {
+    size = refl;
+    kept = λ row target has. has;
+    sound = λ block sound. sound;
+    elsewhere = λ row. inr refl;
+  }
+
+  pub passed_more : (nodes : List ℕ) (before mid after : List Marks) (changes : Bool) → HasPassed nodes before mid → Passes graph firsts nodes mid after changes → HasPassed nodes before after
   passed_more nodes before mid after changes p q = record {
     size = q.size ∙ p.size;
     kept = λ row target has. q.kept row target (p.kept row target has);
     sound = λ block sound. q.sound block (p.sound block sound);
+    elsewhere = λ row. elim (q.elsewhere row) [
+      | inl here ↦ inl here
+      | inr kept ↦ elim (p.elsewhere row) [ inl here ↦ inl here | inr was ↦ inr (kept ∙ was) ]
+    ];
   }
 
-  pub passed_all : (nodes : List ℕ) (before mid after : List Marks) (changes : Bool) → changes ≡ false → HasPassed before mid → Passes graph firsts nodes mid after changes → PassesAll graph firsts nodes before after
+  pub passed_all : (nodes : List ℕ) (before mid after : List Marks) (changes : Bool) → changes ≡ false → HasPassed nodes before mid → Passes graph firsts nodes mid after changes → PassesAll graph firsts nodes before after
   passed_all nodes before mid after changes stops p q =
       let passed = passed_more nodes before mid after changes p q in
       let last = subst (λ b. MatchBool b (total_of mid < total_of after) ((after ≡ mid) × AreGathered graph firsts nodes after)) stops q.step in
-      record { size = passed.size; kept = passed.kept; sound = passed.sound; gathered = last.1 }
+      record { size = passed.size; kept = passed.kept; sound = passed.sound; elsewhere = passed.elsewhere; gathered = last.1 }
 
 -- all marks as one number have a bound
 pub total_bound : (rows : List Marks) → total_of rows ≤ length rows * (8 * 2 ^ 64)

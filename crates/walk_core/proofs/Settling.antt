@@ -3,7 +3,7 @@ use Rattle.std.proofs.Common.{◌≡◌, ◌≢◌, ◌⊎◌, inl, inr, ◌<◌
 use Rattle.std.proofs.lemmas.List.{length-set}
 use Rattle.walk_core.specs.Walks.{Reaches-trans, IsOnCycle}
 use Rattle.walk_core.specs.Digraphs.{HasEdge}
-use Rattle.walk_core.specs.Components.{place_of, AreConnected, HasComponent, AreSettled, WaitsNoLonger}
+use Rattle.walk_core.specs.Components.{place_of, AreConnected, HasComponent, AreSettled}
 use Rattle.walk_core.specs.declared.component.Place.{Place}
 use Rattle.walk_core.specs.declared.component.Place.TheVariants.{Waiting, Behind, OnCycle, OffCycle}
 use Rattle.walk_core.proofs.Places.{place_set, place_within}

@@ -5,7 +5,7 @@ use Rattle.std.specs.Prelude.{◌↔◌}
 use Rattle.std.proofs.lemmas.List.{length-set}
 use Rattle.std.proofs.lemmas.List.Elements.{All-pop, Contains-push, Contains-push_cases, Contains-append_left, Contains-append_right, Contains-append_cases}
 use Rattle.walk_core.specs.Walks.{Reaches, Reaches-trans}
-use Rattle.walk_core.specs.Components.{place_of, IsFound, HasSpread}
+use Rattle.walk_core.specs.Components.{place_of, IsFound}
 use Rattle.walk_core.specs.declared.component.Place.{Place}
 use Rattle.walk_core.proofs.Places.{place_set}
 

@@ -8,3 +8,5 @@ pub mod Edges
 pub mod Levels
 pub mod Marks
 pub mod NodeRanks
+pub mod Regions
+pub mod Sums

@@ -59,11 +59,20 @@ AreGathered graph firsts nodes rows = (x : ℕ) → Contains nodes x → IsGathe
 abbrev pub total_of : List Marks → ℕ
 total_of rows = sum_by (λ marks. sum_by (λ word. word) marks.words) rows
 
+-- it is the first node of one of these
+abbrev pub IsFirstOf : List ℕ → List ℕ → ℕ → Type 0
+IsFirstOf firsts nodes row = (x : ℕ) × Contains nodes x × (slice_index firsts x ≡ row)
+
+-- each row is that of a first node of these, or has the marks that it had
+abbrev pub AreKeptElsewhere : List ℕ → List ℕ → List Marks → List Marks → Type 0
+AreKeptElsewhere firsts nodes before after = (row : ℕ) → IsFirstOf firsts nodes row ⊎ (words_at after row ≡ words_at before row)
+
 -- marks were passed on against edges of the nodes: some are new, or there was none to pass on
 pub record Passes (graph : List (List ℕ)) (firsts nodes : List ℕ) (before after : List Marks) (changes : Bool) : Type 0 where
   pub size : length after ≡ length before
   pub kept : AreKept before after
   pub sound : (block : List ℕ) → AreSound graph block before → AreSound graph block after
+  pub elsewhere : AreKeptElsewhere firsts nodes before after
   pub step : MatchBool changes (total_of before < total_of after) ((after ≡ before) × AreGathered graph firsts nodes after)
 
 -- marks were passed on until nothing changed
@@ -71,19 +80,31 @@ pub record PassesAll (graph : List (List ℕ)) (firsts nodes : List ℕ) (before
   pub size : length after ≡ length before
   pub kept : AreKept before after
   pub sound : (block : List ℕ) → AreSound graph block before → AreSound graph block after
+  pub elsewhere : AreKeptElsewhere firsts nodes before after
   pub gathered : AreGathered graph firsts nodes after
 
--- each target is marked at its first node
+-- each target is marked at its first node, and nothing else is marked
 pub record AreMarked (graph : List (List ℕ)) (firsts block : List ℕ) (rows : List Marks) : Type 0 where
   pub sound : AreSound graph block rows
   pub each : (target : ℕ) → target < length block → IsMarkedAt rows (slice_index firsts (slice_index block target)) target
+  pub only : (row target : ℕ) → IsMarkedAt rows row target → IsFirstOf firsts block row
 
--- the marks were added to the counts, and taken away
-pub record TakesCounts (before after : List Marks) (counts now : List ℕ) : Type 0 where
+-- a node's marks were added to its count, and taken away
+pub record IsTaken (before after : List Marks) (counts now : List ℕ) (row : ℕ) : Type 0 where
+  pub bare : (target : ℕ) → ¬ IsMarkedAt after row target
+  pub count : slice_index now row ≡ min (slice_index counts row + sum_by count_ones (words_at before row)) (2 ^ 64 - 1)
+
+-- a node has the marks and the count that it had
+pub record IsLeft (before after : List Marks) (counts now : List ℕ) (row : ℕ) : Type 0 where
+  pub words : words_at after row ≡ words_at before row
+  pub count : slice_index now row ≡ slice_index counts row
+
+-- the marks of the first nodes of these were added to their counts, and taken away; nothing else changed
+pub record TakesCounts (firsts nodes : List ℕ) (before after : List Marks) (counts now : List ℕ) : Type 0 where
   pub size : length after ≡ length before
   pub counts_size : length now ≡ length counts
-  pub bare : AreBare after
-  pub each : (row : ℕ) → row < length before → slice_index now row ≡ min (slice_index counts row + sum_by count_ones (words_at before row)) (2 ^ 64 - 1)
+  pub taken : (row : ℕ) → IsFirstOf firsts nodes row → IsTaken before after counts now row
+  pub left : (row : ℕ) → IsFirstOf firsts nodes row ⊎ IsLeft before after counts now row
 
 -- how many of some nodes the node leads to
 abbrev pub LeadsToCount : List (List ℕ) → List ℕ → ℕ → ℕ → Type 0
@@ -93,6 +114,10 @@ LeadsToCount graph nodes x count = HasCount nat_cmp (λ y. Contains nodes y × L
 abbrev pub CountsBlock : List (List ℕ) → List ℕ → List ℕ → List ℕ → List ℕ → List ℕ → Type 0
 CountsBlock graph firsts nodes block counts now = (x : ℕ) (done : List ℕ) → Contains nodes x → IsStrictlySortedBy nat_cmp (done ++ block) → length (done ++ block) < 2 ^ 64
     → LeadsToCount graph done x (slice_index counts (slice_index firsts x)) → LeadsToCount graph (done ++ block) x (slice_index now (slice_index firsts x))
+
+-- each count is that of a first node of these, or as it was
+abbrev pub AreCountsElsewhere : List ℕ → List ℕ → List ℕ → List ℕ → Type 0
+AreCountsElsewhere firsts nodes counts now = (row : ℕ) → IsFirstOf firsts nodes row ⊎ (slice_index now row ≡ slice_index counts row)
 
 -- the nodes hold the ends of their edges
 pub record HoldEnds (graph : List (List ℕ)) (nodes : List ℕ) : Type 0 where

@@ -1,51 +1,48 @@
-//! How many nodes each node leads to. The nodes are taken in blocks of targets; in each block a node is marked with the targets that it leads to,
-//! by passing the marks on against the edges until nothing changes. The nodes of a cycle, which lead to the same nodes, have their marks and their
+//! How many targets each node leads to. The targets are taken in blocks; in each block a node is marked with the targets that it leads to, by
+//! passing the marks on against the edges until nothing changes. The nodes of a cycle, which lead to the same nodes, have their marks and their
 //! count at the first of them.
 
-ghost use Rattle.std.specs.Prelude.{◌≡◌, ◌<◌, ◌≤◌, ◌∷◌, [], ℕ, Contains, IfOk, length, slice_index};
+ghost use Rattle.std.specs.Prelude.{◌≡◌, ◌<◌, ◌≤◌, ◌∷◌, [], ℕ, Contains, length, slice_index};
 ghost use Rattle.std.specs.Ordering.{nat_cmp};
 ghost use Rattle.std.specs.List.Sorted.{IsStrictlySortedBy};
 ghost use Rattle.walk_core.specs.Components.{AreFirsts};
-ghost use Rattle.walk_core.specs.Marks.{AreBare, AreMarked, CountsBlock, HoldEnds, LeadsToCount, Passes, PassesAll, TakesCounts};
+ghost use Rattle.walk_core.specs.Marks.{AreBare, AreCountsElsewhere, AreMarked, CountsBlock, HoldEnds, LeadsToCount, Passes, PassesAll, TakesCounts};
 
 use super::block::{Marks, TARGETS};
 use super::digraph::Digraph;
-use lattice_core::NoMemory;
 use std::alloc::Allocator;
 
-/// How many of the targets each of the nodes leads to, at its first node. Each block of 512 targets costs the nodes and the edges, times the sweeps
-/// that change something; where the nodes stand in such an order that each comes after what it leads to, that is one sweep, and one more that
-/// changes nothing.
-pub fn lead_counts<A: Allocator + Copy>(
-    alloc: A,
+/// Counts how many of the targets each of the nodes leads to, at its first node; other counts stay. Each block of 512 targets costs the nodes and
+/// their edges, times the sweeps that change something; where the nodes stand in such an order that each comes after what it leads to, that is one
+/// sweep, and one more that changes nothing.
+pub fn count_targets<A: Allocator + Copy>(
     graph: &Digraph<A>,
     firsts: &[usize],
     nodes: &[usize],
     targets: &[usize],
-) -> Result<Vec<usize, A>, NoMemory>
+    rows: &mut Vec<Marks, A>,
+    counts: &mut Vec<usize, A>,
+)
     requires firsts { AreFirsts graph.now firsts.now }
     requires nodes { HoldEnds graph.now nodes.now }
-    requires targets { (target : ℕ) → Contains targets.now target → target < length graph.now }
+    requires targets { (target : ℕ) → Contains targets.now target → Contains nodes.now target }
     requires in_order { IsStrictlySortedBy nat_cmp targets.now }
-    ensures { IfOk result (λ counts. (length counts.items ≡ length graph.now)
-        × ((x : ℕ) → Contains nodes.now x → LeadsToCount graph.now targets.now x (slice_index counts.items (slice_index firsts.now x)))) }
+    requires rows { length rows.old.items ≡ length graph.now }
+    requires bare { AreBare rows.old.items }
+    requires counts { length counts.old.items ≡ length graph.now }
+    requires zero { (x : ℕ) → Contains nodes.now x → slice_index counts.old.items (slice_index firsts.now x) ≡ 0 }
+    ensures rows { length rows.new.items ≡ length graph.now }
+    ensures bare { AreBare rows.new.items }
+    ensures counts { length counts.new.items ≡ length graph.now }
+    ensures each { (x : ℕ) → Contains nodes.now x → LeadsToCount graph.now targets.now x (slice_index counts.new.items (slice_index firsts.now x)) }
+    ensures elsewhere { AreCountsElsewhere firsts.now nodes.now counts.old.items counts.new.items }
 {
-    let mut counts = vec![in alloc; 0; graph.len()]?;
-    let mut rows = vec![in alloc; Marks::none(); graph.len()]?;
     let mut start = 0;
     while start < targets.len() {
         let end = start + TARGETS.min(targets.len() - start);
-        count_block(
-            graph,
-            firsts,
-            nodes,
-            &targets[start..end],
-            &mut rows,
-            &mut counts,
-        );
+        count_block(graph, firsts, nodes, &targets[start..end], rows, counts);
         start = end;
     }
-    Ok(counts)
 }
 
 /// Adds to the count of each node how many of a block's targets it leads to.
@@ -59,7 +56,7 @@ fn count_block<A: Allocator + Copy>(
 )
     requires firsts { AreFirsts graph.now firsts.now }
     requires nodes { HoldEnds graph.now nodes.now }
-    requires targets { (target : ℕ) → Contains block.now target → target < length graph.now }
+    requires targets { (target : ℕ) → Contains block.now target → Contains nodes.now target }
     requires few { length block.now ≤ 512 }
     requires rows { length rows.old.items ≡ length graph.now }
     requires bare { AreBare rows.old.items }
@@ -68,10 +65,11 @@ fn count_block<A: Allocator + Copy>(
     ensures bare { AreBare rows.new.items }
     ensures counts { length counts.new.items ≡ length graph.now }
     ensures each { CountsBlock graph.now firsts.now nodes.now block.now counts.old.items counts.new.items }
+    ensures elsewhere { AreCountsElsewhere firsts.now nodes.now counts.old.items counts.new.items }
 {
     mark_block(graph, firsts, block, rows);
     pass_all(graph, firsts, nodes, rows);
-    take_counts(rows, counts);
+    take_counts(firsts, nodes, rows, counts);
 }
 
 /// Marks each target of a block at its first node.
@@ -152,13 +150,21 @@ fn gather<A: Allocator + Copy>(
     true
 }
 
-/// Adds the marks of each node to its count, and takes them away.
-fn take_counts<A: Allocator + Copy>(rows: &mut Vec<Marks, A>, counts: &mut Vec<usize, A>)
-    requires { length rows.old.items ≡ length counts.old.items }
-    ensures { TakesCounts rows.old.items rows.new.items counts.old.items counts.new.items }
+/// Adds the marks of each of the nodes to its count, and takes them away. Of a cycle's nodes the first that comes finds the marks.
+fn take_counts<A: Allocator + Copy>(
+    firsts: &[usize],
+    nodes: &[usize],
+    rows: &mut Vec<Marks, A>,
+    counts: &mut Vec<usize, A>,
+)
+    requires sized { length rows.old.items ≡ length counts.old.items }
+    requires nodes { (x : ℕ) → Contains nodes.now x → x < length firsts.now }
+    requires firsts { (x : ℕ) → Contains nodes.now x → slice_index firsts.now x < length rows.old.items }
+    ensures { TakesCounts firsts.now nodes.now rows.old.items rows.new.items counts.old.items counts.new.items }
 {
-    for node in 0..rows.len() {
-        counts[node] = counts[node].saturating_add(rows[node].count());
-        rows[node] = Marks::none();
+    for node in nodes {
+        let first = firsts[*node];
+        counts[first] = counts[first].saturating_add(rows[first].count());
+        rows[first] = Marks::none();
     }
 }

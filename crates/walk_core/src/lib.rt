@@ -11,9 +11,12 @@ mod digraph;
 mod distances;
 mod finish;
 mod laws;
+mod leads;
 #[cfg(test)]
 mod rank_tests;
 mod ranks;
+mod regions;
+mod sums;
 #[cfg(test)]
 mod tests;
 

@@ -7,9 +7,9 @@ ghost use Rattle.walk_core.specs.Digraphs.{HasEdge, IsMarked};
 ghost use Rattle.walk_core.specs.Ranks.{IsInRankOrder};
 ghost use Rattle.walk_core.specs.NodeRanks.{node_rank};
 
-use super::counts::lead_counts;
 use super::cycles::Components;
 use super::digraph::Digraph;
+use super::leads::lead_counts;
 use lattice_core::NoMemory;
 use std::alloc::Allocator;
 
@@ -35,7 +35,14 @@ pub fn ranked_nodes<A: Allocator + Copy>(
     let firsts = components.firsts.as_slice();
     let targets = kept_numbers(alloc, kept)?;
     let nodes = kept_from_last(alloc, components.nodes.as_slice(), kept)?;
-    let counts = lead_counts(alloc, graph, firsts, nodes.as_slice(), targets.as_slice())?;
+    let counts = lead_counts(
+        alloc,
+        graph,
+        firsts,
+        kept,
+        nodes.as_slice(),
+        targets.as_slice(),
+    )?;
     let mut ranks = ranks_of(alloc, firsts, counts.as_slice(), targets.as_slice())?;
     ranks.sort_unstable();
     nodes_of(alloc, ranks.as_slice())

@@ -1,7 +1,10 @@
 use Rattle.std.proofs.Common.{◌≡◌, ◌<◌, ◌≤◌, ◌*◌, ◌^◌, length, MatchBool, subst, arith}
 use Rattle.walk_core.specs.Marks.{AreGathered, total_of}
-use Rattle.walk_core.proofs.Passing.{passed_more, passed_all, total_bound}
+use Rattle.walk_core.proofs.Passing.{passed_none, passed_more, passed_all, total_bound}
 use Rattle.walk_core.proofs.counts.pass_all.Goals as goal
+
+pub sweeps-init : goal.sweeps-init
+sweeps-init g c = passed_none c.args.graph.now c.args.firsts.now c.args.nodes.now _
 
 pub sweeps-smaller : goal.sweeps-smaller
 sweeps-smaller g c =

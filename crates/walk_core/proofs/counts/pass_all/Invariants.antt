@@ -4,7 +4,7 @@ use Rattle.walk_core.proofs.Passing.{HasPassed}
 use Rattle.walk_core.proofs.counts.pass_all.Given as goal
 
 abbrev pub invariant-sweeps : goal.invariant-sweeps
-invariant-sweeps g l = HasPassed l.graph l.firsts l.initial.rows.items l.rows.items
+invariant-sweeps g l = HasPassed l.graph l.firsts l.nodes l.initial.rows.items l.rows.items
 
 -- each sweep but the last raises the number of all marks, which has a bound
 abbrev pub decreases-sweeps : goal.decreases-sweeps

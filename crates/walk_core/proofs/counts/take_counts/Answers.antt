@@ -1,21 +1,32 @@
-use Rattle.std.proofs.Common.{◌<◌, length, ◌∙◌, arith}
+use Rattle.std.proofs.Common.{◌<◌, length, slice_index, ◌∙◌, arith}
 use Rattle.std.proofs.lemmas.List.{get_or_default}
+use Rattle.std.proofs.lemmas.List.Elements.{Contains-get_or}
 use Rattle.walk_core.proofs.Gathering.{row_read}
-use Rattle.walk_core.proofs.Blocks.{taken_none, taken_more, taken_all}
+use Rattle.walk_core.proofs.Taking.{takes_none, takes_more}
 use Rattle.walk_core.proofs.counts.take_counts.Goals as goal
 
 pub loop-node-init : goal.loop-node-init
-loop-node-init g c = taken_none _ _
+loop-node-init g c = takes_none c.args.firsts.now _ _
+
+pub bounds-firsts-node : goal.bounds-firsts-node
+bounds-firsts-node g c = c.requires.nodes _ (Contains-get_or c.args.nodes.now c.loop-node.node-index 0 c.loop-node-test.true)
+
+pub offset_bounds-firsts-node : goal.offset_bounds-firsts-node
+offset_bounds-firsts-node g c =
+    let inside = c.requires.nodes _ (Contains-get_or c.args.nodes.now c.loop-node.node-index 0 c.loop-node-test.true) in
+    omega (arith, inside)
 
 pub loop-node-preserved : goal.loop-node-preserved
 loop-node-preserved g c =
+    let nodes = c.args.nodes.now in
+    let node = slice_index nodes c.loop-node.node-index in
+    let row = slice_index c.args.firsts.now node in
     let rows = c.loop-node.rows.items in
-    let taken = c.loop-node.invariant in
-    let within : c.loop-node.node < length rows = omega (arith, c.loop-node-test.true, c.len-node-end.ensures, taken.size, c.args.rows.now.ok.0) in
-    let inside : c.loop-node.node < length c.loop-node.counts.items = omega (arith, within, taken.size, taken.counts_size, c.requires) in
-    let old = c.index.ensures ∙ get_or_default c.loop-node.counts.items c.loop-node.node _ 0 inside in
-    taken_more _ rows _ _ c.loop-node.node taken within inside c.index-in-loop-node.result.now c.none.result (row_read rows c.loop-node.node c.index-in-loop-node.result.now within c.index-in-loop-node.ensures)
-    c.none.ensures c.count.result c.saturating_add.result c.count.ensures (omega (arith, c.saturating_add.ensures, old))
-
-pub returns : goal.returns
-returns g c = taken_all _ _ _ _ c.loop-node.node (omega (arith, c.loop-node-test.false, c.len-node-end.ensures, c.args.rows.now.ok.0)) c.loop-node.invariant
+    let takes = c.loop-node.invariant in
+    let first = c.requires.firsts node (Contains-get_or nodes c.loop-node.node-index 0 c.loop-node-test.true) in
+    let within : row < length rows = omega (arith, first, takes.size) in
+    let inside : row < length c.loop-node.counts.items = omega (arith, first, takes.counts_size, c.requires.sized) in
+    let old = c.index.ensures ∙ get_or_default c.loop-node.counts.items row _ 0 inside in
+    takes_more c.args.firsts.now nodes c.loop-node.node-index node c.loop-node-test.true (get_or_default nodes c.loop-node.node-index 0 _ c.loop-node-test.true) _ rows _ _ takes within inside
+    c.index-in-loop-node.result.now c.none.result (row_read rows row c.index-in-loop-node.result.now within c.index-in-loop-node.ensures) c.none.ensures
+    c.saturating_add.result (omega (arith, c.saturating_add.ensures, c.count.ensures, old))

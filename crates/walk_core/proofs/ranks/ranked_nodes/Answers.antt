@@ -25,10 +25,14 @@ lead_counts-requires-clause-nodes g c =
       ends = λ x y here edge. (kept y).1 (c.requires.closed x y ((kept x).0 here) edge);
     })
 
+pub lead_counts-requires-clause-are_kept : goal.lead_counts-requires-clause-are_kept
+lead_counts-requires-clause-are_kept g c = λ x here. (c.in_ok-nodes.ensures x).0 (rw c.as_slice-2.ensures.value at here)
+
 pub lead_counts-requires-clause-targets : goal.lead_counts-requires-clause-targets
-lead_counts-requires-clause-targets g c = λ x here.
-    let within = slice_get_within c.args.kept.now x _ ((c.in_ok-targets.ensures.just x).0 (rw c.as_slice-3.ensures.value at here)) in
-    omega (arith, within, c.requires.sized)
+lead_counts-requires-clause-targets g c = rw (c.as_slice-2.ensures.value, c.as_slice-3.ensures.value) (λ x. (
+  λ here. (c.in_ok-nodes.ensures x).1 ((c.in_ok-targets.ensures.just x).0 here),
+  λ here. (c.in_ok-targets.ensures.just x).1 ((c.in_ok-nodes.ensures x).0 here),
+))
 
 pub ranks_of-requires-clause-firsts : goal.ranks_of-requires-clause-firsts
 ranks_of-requires-clause-firsts g c = λ x here.

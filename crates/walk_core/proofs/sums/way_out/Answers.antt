@@ -1,0 +1,22 @@
+use Rattle.std.proofs.Common.{◌≡◌, slice_index, arith}
+use Rattle.std.proofs.lemmas.List.{get_or_default}
+use Rattle.std.proofs.lemmas.List.Elements.{Contains-get_or}
+use Rattle.walk_core.proofs.Exits.{each_more, each_all}
+use Rattle.walk_core.proofs.sums.way_out.Goals as goal
+
+pub bounds-firsts-end : goal.bounds-firsts-end
+bounds-firsts-end c = c.requires _ (Contains-get_or c.args.ends.now c.loop-end.end-index 0 c.loop-end-test.true)
+
+pub offset_bounds-firsts-end : goal.offset_bounds-firsts-end
+offset_bounds-firsts-end c =
+    let inside = c.requires _ (Contains-get_or c.args.ends.now c.loop-end.end-index 0 c.loop-end-test.true) in
+    omega (arith, inside)
+
+pub loop-end-preserved : goal.loop-end-preserved
+loop-end-preserved c =
+    let ends = c.args.ends.now in
+    each_more (λ x. slice_index c.args.firsts.now x ≡ c.args.first) ends c.loop-end.end-index (slice_index ends c.loop-end.end-index) c.loop-end-test.true
+    (get_or_default ends c.loop-end.end-index 0 _ c.loop-end-test.true) c.loop-end.invariant c.if-to-first.false
+
+pub returns : goal.returns
+returns c = each_all (λ x. slice_index c.args.firsts.now x ≡ c.args.first) c.args.ends.now c.loop-end.end-index 0 c.loop-end-test.false c.loop-end.invariant

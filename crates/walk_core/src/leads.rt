@@ -1,0 +1,118 @@
+//! How many nodes each kept node leads to: counts that add up, and the others region by region in blocks of marks.
+
+ghost use Rattle.std.specs.Prelude.{◌≡◌, ◌↔◌, ◌<◌, ℕ, Contains, IfOk, MatchBool, length, slice_index};
+ghost use Rattle.std.specs.Ordering.{nat_cmp};
+ghost use Rattle.std.specs.List.Sorted.{IsStrictlySortedBy};
+ghost use Rattle.walk_core.specs.Components.{AreFirsts};
+ghost use Rattle.walk_core.specs.Digraphs.{IsMarked};
+ghost use Rattle.walk_core.specs.Marks.{HoldEnds, LeadsToCount};
+ghost use Rattle.walk_core.specs.Sums.{LacksSum, PutsSums};
+
+use super::block::Marks;
+use super::counts::count_targets;
+use super::digraph::Digraph;
+use super::regions::{grouped, region_labels};
+use super::sums::lead_sums;
+use lattice_core::NoMemory;
+use std::alloc::Allocator;
+
+/// How many of the kept nodes each of them leads to, at its first node. The nodes are to stand in such an order that each comes after what it leads
+/// to; in another order it takes more time. It takes time that grows with the nodes and edges where no cycle leads into two others, and else, in each
+/// region that has such a cycle, the time of a walk over the region for each 512 of its nodes; and memory that grows with the nodes.
+pub fn lead_counts<A: Allocator + Copy>(
+    alloc: A,
+    graph: &Digraph<A>,
+    firsts: &[usize],
+    kept: &[bool],
+    nodes: &[usize],
+    targets: &[usize],
+) -> Result<Vec<usize, A>, NoMemory>
+    requires firsts { AreFirsts graph.now firsts.now }
+    requires kept { length kept.now ≡ length graph.now }
+    requires nodes { HoldEnds graph.now nodes.now }
+    requires are_kept { (x : ℕ) → Contains nodes.now x → IsMarked kept.now x }
+    requires targets { (x : ℕ) → Contains targets.now x ↔ Contains nodes.now x }
+    requires in_order { IsStrictlySortedBy nat_cmp targets.now }
+    ensures { IfOk result (λ counts. (length counts.items ≡ length graph.now)
+        × ((x : ℕ) → Contains nodes.now x → LeadsToCount graph.now targets.now x (slice_index counts.items (slice_index firsts.now x)))) }
+{
+    let sums = lead_sums(alloc, graph, firsts, nodes, targets)?;
+    let mut counts = other_counts(alloc, graph, firsts, kept, nodes, targets, sums.as_slice())?;
+    put_sums(sums.as_slice(), &mut counts);
+    Ok(counts)
+}
+
+/// How many of the kept nodes each of them leads to, where there is no sum, at its first node: region by region in blocks of marks.
+fn other_counts<A: Allocator + Copy>(
+    alloc: A,
+    graph: &Digraph<A>,
+    firsts: &[usize],
+    kept: &[bool],
+    nodes: &[usize],
+    targets: &[usize],
+    sums: &[Option<usize>],
+) -> Result<Vec<usize, A>, NoMemory>
+    requires firsts { AreFirsts graph.now firsts.now }
+    requires kept { length kept.now ≡ length graph.now }
+    requires nodes { HoldEnds graph.now nodes.now }
+    requires are_kept { (x : ℕ) → Contains nodes.now x → IsMarked kept.now x }
+    requires targets { (x : ℕ) → Contains targets.now x ↔ Contains nodes.now x }
+    requires in_order { IsStrictlySortedBy nat_cmp targets.now }
+    requires sums { length sums.now ≡ length graph.now }
+    ensures { IfOk result (λ counts. (length counts.items ≡ length graph.now)
+        × ((x : ℕ) → Contains nodes.now x → LacksSum firsts.now sums.now x
+        → LeadsToCount graph.now targets.now x (slice_index counts.items (slice_index firsts.now x)))) }
+{
+    let mut counts = vec![in alloc; 0; graph.len()]?;
+    if have_sums(firsts, sums, nodes) {
+        return Ok(counts);
+    }
+    let labels = region_labels(alloc, graph, kept)?;
+    let node_rows = grouped(alloc, labels.as_slice(), nodes)?;
+    let target_rows = grouped(alloc, labels.as_slice(), targets)?;
+    let mut rows = vec![in alloc; Marks::none(); graph.len()]?;
+    for label in 0..graph.len() {
+        let region = node_rows[label].as_slice();
+        if have_sums(firsts, sums, region) {
+            continue;
+        }
+        count_targets(
+            graph,
+            firsts,
+            region,
+            target_rows[label].as_slice(),
+            &mut rows,
+            &mut counts,
+        );
+    }
+    Ok(counts)
+}
+
+/// Whether each of the nodes has a sum, at its first node.
+fn have_sums(firsts: &[usize], sums: &[Option<usize>], nodes: &[usize]) -> bool
+    requires nodes { (x : ℕ) → Contains nodes.now x → x < length firsts.now }
+    requires firsts { (x : ℕ) → Contains nodes.now x → slice_index firsts.now x < length sums.now }
+    ensures { MatchBool result
+        ((x : ℕ) → Contains nodes.now x → ¬ LacksSum firsts.now sums.now x)
+        ((x : ℕ) × Contains nodes.now x × LacksSum firsts.now sums.now x) }
+{
+    for node in nodes {
+        if sums[firsts[*node]].is_none() {
+            return false;
+        }
+    }
+    true
+}
+
+/// Puts the sums that are there in place of the counts.
+fn put_sums<A: Allocator + Copy>(sums: &[Option<usize>], counts: &mut Vec<usize, A>)
+    requires { length sums.now ≡ length counts.old.items }
+    ensures { PutsSums sums.now counts.old.items counts.new.items }
+{
+    for (node, sum) in sums.iter().enumerate() {
+        let Some(sum) = sum else {
+            continue;
+        };
+        counts[node] = *sum;
+    }
+}
