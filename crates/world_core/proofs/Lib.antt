@@ -1,3 +1,4 @@
+pub mod Saving
 pub mod Sites
 pub mod Runs
 pub mod Moves

@@ -144,7 +144,7 @@ impl<A: Allocator + Copy> World<A> {
         at.deliver(self.packets[packet].as_slice())
     }
 
-    /// A site copies its journal.
+    /// A site saves its journal.
     fn save(&mut self, site: u16) -> Result<Reply, WorldFault>
         ensures { AtSite IsSave site self.old result self.new }
     {
@@ -152,7 +152,8 @@ impl<A: Allocator + Copy> World<A> {
             return Err(WorldFault::NoSite);
         };
         let at = &mut self.sites[place];
-        at.save()
+        at.save();
+        Ok(Reply::Saved)
     }
 
     /// A site goes back to what it saved.
