@@ -6,3 +6,4 @@ pub mod Stamps
 pub mod Making
 pub mod Coming
 pub mod Passed
+pub mod Histories
