@@ -56,7 +56,6 @@ packet_comes A packets packet site (Some ops) at answer after came keeps h is = 
 
 save_comes : (A : Type 0) (packets : List (List Operation)) (site : ℕ) (at : SiteState) (answer : Answer) (after : SiteState) (came : Came) → IsSave at answer after → HasCome came at → HasCome (came_with {A = A} packets came (Save site) answer) after
 save_comes A packets site at (Ok Saved) after came h is = come_as _ _ after h (record { here = is.here; saved = is.here })
-save_comes A packets site at (Err (NoMemory taken)) after came h is = come_as came at after h.1 is
 save_comes A packets site at answer after came h is = absurd h
 
 restart_comes : (A : Type 0) (packets : List (List Operation)) (site start : ℕ) (at : SiteState) (answer : Answer) (after : SiteState) (came : Came) → IsRestart start at answer after → HasCome came at → HasCome (came_with {A = A} packets came (Restart site start) answer) after

@@ -1,3 +1,4 @@
+pub mod Saving
 pub mod Sites
 pub mod Runs
 pub mod Moves
@@ -5,3 +6,4 @@ pub mod Stamps
 pub mod Making
 pub mod Coming
 pub mod Passed
+pub mod Histories

@@ -105,7 +105,6 @@ module _ (P : Operation → Type 0) where
 
   save_holds : (at : SiteState) (answer : Answer) (after : SiteState) → IsSave at answer after → SiteHolds P at → SiteHolds P after
   save_holds at (Ok Saved) after h all = holds_as _ after h (record { journal = all.journal; saved = all.journal })
-  save_holds at (Err (NoMemory taken)) after h all = holds_as at after h.1 all
   save_holds at answer after h all = absurd h
 
   restart_holds : (start : ℕ) (at : SiteState) (answer : Answer) (after : SiteState) → IsRestart start at answer after → SiteHolds P at → SiteHolds P after

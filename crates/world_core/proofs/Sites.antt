@@ -17,6 +17,7 @@ use Rattle.world_core.specs.declared.event.WorldFault.TheVariants.{NoSite, NoPac
 use Rattle.world_core.specs.Numbered.{numbered, numbered_at, replaced_at, replaced_back, numbered_past}
 use Rattle.world_core.specs.Step.{Answer, AtSite, IsDelivery, IsDeliveryOf, IsSend, IsSendAt}
 use Rattle.world_core.specs.World.{SiteState, WorldState, new_site, new_world, with_site}
+use Rattle.world_core.proofs.Saving.{site_with, grows, take-all_arrived}
 
 pub at_ok : {T E P : Type 0} (r : Result T E) (failed : Bool) → failed ≡ is_err r → failed ≡ false → OnOk r P → P
 at_ok (Ok x) failed is no_error h = h
@@ -36,11 +37,13 @@ grown journal ops new before after came is_before is_after =
     omega (arith, longer, same, is_before, is_after)
 
 -- a delivery counts what was new
-pub delivered : (ops : List Operation) (at : SiteState) (new : List Operation) (before after : ℕ) (answer : Answer) → new ≡ all_arrived at.journal ops → before ≡ length at.journal → after ≡ length new → answer ≡ Ok (Delivered (after - before)) → IsDelivery ops at answer (record at { journal = new })
-delivered ops at new before after answer came is_before is_after is =
-    let no_less = grown at.journal ops new before after came is_before is_after in
-    let count : length at.journal + (after - before) ≡ length new = omega (arith, no_less, is_before, is_after) in
-    subst (λ r. IsDelivery ops at r (record at { journal = new })) (sym is) (ap (λ j. record at { journal = j }) came, count)
+pub delivered : (ops journal new : List Operation) (saved start before after : ℕ) (answer : Answer) → saved ≤ length journal → new ≡ all_arrived journal ops → before ≡ length journal → after ≡ length new → answer ≡ Ok (Delivered (after - before))
+    → IsDelivery ops (site_with journal saved start) answer (site_with new saved start)
+delivered ops journal new saved start before after answer within came is_before is_after is =
+    let no_less = grown journal ops new before after came is_before is_after in
+    let count : length journal + (after - before) ≡ length new = omega (arith, no_less, is_before, is_after) in
+    subst (λ r. IsDelivery ops (site_with journal saved start) r (site_with new saved start)) (sym is)
+    (grows journal (all_arrived journal ops) new saved start came (take-all_arrived saved journal ops within), count)
 
 get_map : {S T : Type 0} (shown : S → T) (things : List S) (place : ℕ) (thing : S) → slice_get things place ≡ Some thing → slice_get (map shown things) place ≡ Some (shown thing)
 get_map shown [] place thing e = cc

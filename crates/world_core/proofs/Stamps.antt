@@ -52,7 +52,6 @@ packet_goes_on (Some ops) at answer after h = delivery_goes_on ops at answer aft
 
 save_goes_on : (at : SiteState) (answer : Answer) (after : SiteState) → IsSave at answer after → GoesOn at after
 save_goes_on at (Ok Saved) after h = inr (ap (λ s. s.start) (sym h), λ op e. ap (λ s. has s.journal op) h ∙ e)
-save_goes_on at (Err (NoMemory taken)) after h = stays at after h.1
 save_goes_on at answer after h = absurd h
 
 restart_goes_on : (start : ℕ) (at : SiteState) (answer : Answer) (after : SiteState) → IsRestart start at answer after → GoesOn at after

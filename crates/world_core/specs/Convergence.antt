@@ -110,6 +110,21 @@ pub record Converges {A : Type 0} (events : List (Event A)) (answers : List Answ
   pub stamps : NoTwins (stamps_of answers)
   pub made : WorldHolds (λ op. has (made events answers) op ≡ true) world
 
+-- a run from empty sites that led to the world
+pub record History (A : Type 0) (world : WorldState) : Type 0 where
+  pub sites : ℕ
+  pub events : List (Event A)
+  pub answers : List Answer
+  pub run : Run (new_world sites) events answers world
+
+-- the world came about by events alone
+abbrev pub CameAbout : (A : Type 0) → WorldState → Type 0
+CameAbout A world = ∥ History A world ∥₁
+
+-- and it converges on what happened
+abbrev pub HasConverged : (A : Type 0) → WorldState → Type 0
+HasConverged A world = ∥ ((history : History A world) × Converges history.events history.answers world) ∥₁
+
 -- the same of events that go on where others left the world
 abbrev pub ConvergesOn : {A : Type 0} → WorldState → List (Event A) → List Answer → WorldState → Type 0
 ConvergesOn {A} old events answers new = (sites : ℕ) (earlier : List (Event A)) (before : List Answer) → Run (new_world sites) earlier before old → Converges (earlier ++ events) (before ++ answers) new

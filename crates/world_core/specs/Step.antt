@@ -54,10 +54,9 @@ IsDelivery ops old (Ok (Delivered count)) new = (new ≡ record old { journal = 
 IsDelivery ops old (Err (NoMemory taken)) new = (taken < length ops) × (new ≡ record old { journal = all_arrived old.journal (take taken ops) })
 IsDelivery ops old answer new = ⊥
 
--- a site saves its journal
+-- a site saves its journal, which is never refused
 abbrev pub IsSave : SiteState → Answer → SiteState → Type 0
 IsSave old (Ok Saved) new = new ≡ record old { saved = old.journal }
-IsSave old (Err (NoMemory taken)) new = (taken ≡ 0) × (new ≡ old)
 IsSave old answer new = ⊥
 
 -- a site goes back to what it saved, under a start above all that it had

@@ -15,7 +15,7 @@ pub enum Event<A: Allocator + Copy = Global> {
     Send { site: u16, front: Front<A> },
     /// A site takes the operations of a packet.
     Deliver { packet: u64, site: u16 },
-    /// A site copies its journal.
+    /// A site saves its journal, which takes no memory.
     Save { site: u16 },
     /// A site goes back to the journal that it saved last, or to the empty one, under a new start.
     Restart { site: u16, start: u32 },

@@ -3,6 +3,7 @@
 
 mod event;
 mod laws;
+mod machine;
 mod site;
 #[cfg(test)]
 mod tests;

@@ -1,8 +1,8 @@
-ghost use Rattle.std.specs.Prelude.{◌≡◌, ◌<◌, MatchResult, OnOk, OnErr, length, take};
+ghost use Rattle.std.specs.Prelude.{◌≡◌, ◌<◌, ◌≤◌, MatchResult, IfOk, OnOk, OnErr, length, take};
 ghost use Rattle.review_ops.specs.Draft.{deed_of};
 ghost use Rattle.replica_core.specs.Journal.{arrived, all_arrived};
 ghost use Rattle.world_core.specs.World.{new_site};
-ghost use Rattle.world_core.specs.Step.{IsIntake, IsDelivery, IsSave, IsRestart};
+ghost use Rattle.world_core.specs.Step.{IsIntake, IsDelivery, IsRestart};
 
 use super::event::{Reply, WorldFault};
 use lattice_core::NoMemory;
@@ -11,20 +11,24 @@ use review_ops::{Body, Draft, Op};
 use std::alloc::{Allocator, Global};
 use std::marker::Model;
 
-/// A site: its replica, the copy that it saved last, and the number of its run.
+/// A site: its replica, what it saved last, and the number of its run. A journal only grows between restarts, so what was saved is the first
+/// so many of its arrivals, and only their number is kept.
 #[derive(Drop)]
 pub struct Site<A: Allocator + Copy = Global> {
     replica: Replica<A>,
-    saved: Replica<A>,
+    saved: usize,
     start: u32,
 }
 
 impl<A: Allocator + Copy> Model for Site<A> {
+    ghost use Rattle.std.specs.Prelude.{◌≤◌, length, take};
     ghost use Rattle.world_core.specs.World.{SiteState};
 
     ghost Value = { SiteState };
 
-    ghost view = { λ site. record { journal = site.replica; saved = site.saved; start = site.start } };
+    ghost view = { λ site. record { journal = site.replica; saved = take site.saved site.replica; start = site.start } };
+
+    ghost invariant = { λ site. site.saved ≤ length site.replica };
 }
 
 impl<A: Allocator + Copy> Site<A> {
@@ -34,7 +38,7 @@ impl<A: Allocator + Copy> Site<A> {
     {
         Site {
             replica: Replica::new(alloc),
-            saved: Replica::new(alloc),
+            saved: 0,
             start: 1,
         }
     }
@@ -58,10 +62,19 @@ impl<A: Allocator + Copy> Site<A> {
             Ok(body) => body,
             Err(cause) => return Err(WorldFault::BadBody(cause)),
         };
-        match self.replica.take(Op::new(stamp, body)) {
-            Ok(_) => Ok(Reply::Took(stamp)),
-            Err(_) => Err(WorldFault::NoMemory(0)),
+        match self.take(Op::new(stamp, body)) {
+            Ok(()) => Ok(Reply::Took(stamp)),
+            Err(NoMemory) => Err(WorldFault::NoMemory(0)),
         }
+    }
+
+    /// Takes an operation. Where memory is refused nothing changes.
+    fn take(&mut self, op: Op<A>) -> Result<(), NoMemory>
+        ensures ok { OnOk result (self.new ≡ record self.old { journal = arrived self.old.journal op }) }
+        ensures err { OnErr result (self.new ≡ self.old) }
+    {
+        self.replica.take(op)?;
+        Ok(())
     }
 
     /// Takes copies of these operations.
@@ -75,34 +88,53 @@ impl<A: Allocator + Copy> Site<A> {
         }
     }
 
-    /// Keeps a copy of the journal.
-    pub fn save(&mut self) -> Result<Reply, WorldFault>
-        ensures { IsSave self.old result self.new }
+    /// Saves the journal. It takes no memory, and constant time.
+    pub fn save(&mut self)
+        ensures { self.new ≡ record self.old { saved = self.old.journal } }
     {
-        match self.replica.copy() {
-            Ok(saved) => {
-                self.saved = saved;
-                Ok(Reply::Saved)
-            }
-            Err(_) => Err(WorldFault::NoMemory(0)),
-        }
+        self.saved = self.replica.arrivals();
     }
 
-    /// Goes back to a copy of what was saved last, under this start.
+    /// Goes back to what was saved last, under this start. In constant time where nothing came since, else in O(n log n) for n saved operations
+    /// and their bytes.
     pub fn restart(&mut self, start: u32) -> Result<Reply, WorldFault>
         ensures { IsRestart start self.old result self.new }
     {
         if start <= self.start {
             return Err(WorldFault::StartUsed);
         }
-        match self.saved.copy() {
-            Ok(replica) => {
-                self.replica = replica;
-                self.start = start;
-                Ok(Reply::Restarted)
-            }
-            Err(_) => Err(WorldFault::NoMemory(0)),
+        if self.go_back().is_err() {
+            return Err(WorldFault::NoMemory(0));
         }
+        self.start = start;
+        Ok(Reply::Restarted)
+    }
+
+    /// Forgets what came since the last save. Where memory is refused nothing changes.
+    fn go_back(&mut self) -> Result<(), NoMemory>
+        ensures ok { OnOk result (self.new ≡ record self.old { journal = self.old.saved }) }
+        ensures err { OnErr result (self.new ≡ self.old) }
+    {
+        if self.saved == self.replica.arrivals() {
+            return Ok(());
+        }
+        self.replica = replica_of_first(&self.replica, self.saved)?;
+        Ok(())
+    }
+}
+
+/// A replica of the first so many arrivals of another.
+fn replica_of_first<A: Allocator + Copy>(
+    replica: &Replica<A>,
+    count: usize,
+) -> Result<Replica<A>, NoMemory>
+    requires { count ≤ length replica.now }
+    ensures { IfOk result (λ first. first ≡ take count replica.now) }
+{
+    let mut first = Replica::new(replica.allocator());
+    match take_copies(&mut first, &replica.as_slice()[..count]) {
+        Ok(()) => Ok(first),
+        Err(_) => Err(NoMemory),
     }
 }
 
@@ -120,11 +152,14 @@ fn take_copies<A: Allocator + Copy>(replica: &mut Replica<A>, ops: &[Op<A>]) -> 
     Ok(())
 }
 
-/// Takes a copy of an operation. Where memory is refused nothing changes.
+/// Takes a copy of an operation, made only where the operation is new. Where memory is refused nothing changes.
 fn take_copy<A: Allocator + Copy>(replica: &mut Replica<A>, op: &Op<A>) -> Result<(), NoMemory>
     ensures ok { OnOk result (replica.new ≡ arrived replica.old op.now) }
     ensures err { OnErr result (replica.new ≡ replica.old) }
 {
+    if replica.has(op) {
+        return Ok(());
+    }
     replica.take(op.copy()?)?;
     Ok(())
 }

@@ -13,7 +13,7 @@ use std::test::Fail;
 const MEMORY: &str = "memory";
 
 /// A site takes in that a change is merged.
-fn merged(site: u16, change: u32) -> Event {
+fn merged<A: Allocator + Copy>(site: u16, change: u32) -> Event<A> {
     Event::Intake {
         site,
         draft: Draft::Merged { change },
@@ -268,6 +268,26 @@ fn refused_memory_leaves_what_is_stated(rt: HostRuntime) -> Result<(), Fail> {
         suffices = now;
     }
     assert!(rt; suffices);
+    Ok(())
+}
+
+#[test]
+fn a_save_takes_no_memory(rt: HostRuntime) -> Result<(), Fail> {
+    let heap = LocalHeap::new(rt.alloc(), 8192)?;
+    let mut world = World::new(&heap, 1)?;
+    for _ in 0..1000u32 {
+        if world.step(merged(1, 5)).is_err() {
+            break;
+        }
+    }
+    let taken = count(&world, 1);
+    assert!(rt; taken < 1000);
+    assert_eq!(rt; world.step(Event::Save { site: 1 }), Ok(Reply::Saved));
+    assert_eq!(rt;
+        world.step(Event::Restart { site: 1, start: 2 }),
+        Ok(Reply::Restarted)
+    );
+    assert_eq!(rt; count(&world, 1), taken);
     Ok(())
 }
 

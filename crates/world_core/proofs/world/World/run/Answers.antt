@@ -13,7 +13,7 @@ loop-event-preserved g c =
     record {
       goes = one_more c.args.self.now c.args.events.items c.loop-event.answers.items c.push.new.self.items c.loop-event.self c.step.new.self c.in-Some.event
           (into_iter_items c.loop-event.event-iterator) (into_iter_items c.next.new.self) c.step.result
-          c.in-Some.ensures.steps.0 c.in_ok-push.ensures.items c.step.ensures c.loop-event.invariant.goes;
+          c.in-Some.ensures.steps.0 c.in_ok-push.ensures.items c.step.ensures.step c.loop-event.invariant.goes;
       room = omega (arith, fewer, c.in_ok-push.ensures.len, c.in_ok-push.ensures.capacity, c.loop-event.invariant.room);
     }
 

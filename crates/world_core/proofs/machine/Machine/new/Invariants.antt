@@ -1,7 +1,7 @@
 use Rattle.std.proofs.Common.{◌≡◌}
 use Rattle.std.specs.Prelude.{replicate}
 use Rattle.world_core.specs.World.{new_site}
-use Rattle.world_core.proofs.world.World.new.Given as goal
+use Rattle.world_core.proofs.machine.Machine.new.Given as goal
 
 -- so many sites are there
 abbrev pub invariant-loop : goal.invariant-loop

@@ -1,7 +1,7 @@
 use Rattle.std.proofs.Common.{◌≡◌, ◌<◌, Some, length, subst, arith}
 use Rattle.world_core.specs.Numbered.{numbered}
 use Rattle.world_core.proofs.Sites.{shown_at}
-use Rattle.world_core.proofs.world.World.packet.Goals as goal
+use Rattle.world_core.proofs.machine.Machine.packet.Goals as goal
 
 pub returns : goal.returns
 returns g c =

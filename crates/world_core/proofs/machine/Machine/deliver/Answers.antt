@@ -5,7 +5,7 @@ use Rattle.world_core.specs.Numbered.{numbered}
 use Rattle.world_core.specs.Step.{AtSite, IsDeliveryOf}
 use Rattle.world_core.specs.World.{WorldState}
 use Rattle.world_core.proofs.Sites.{delivery_of_none, delivery_of_one}
-use Rattle.world_core.proofs.world.World.deliver.Goals as goal
+use Rattle.world_core.proofs.machine.Machine.deliver.Goals as goal
 
 pub returns-in_default-place_of : goal.returns-in_default-place_of
 returns-in_default-place_of g c =

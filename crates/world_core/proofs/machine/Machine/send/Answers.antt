@@ -4,7 +4,7 @@ use Rattle.world_core.specs.declared.event.WorldFault.TheVariants.{NoMemory}
 use Rattle.world_core.specs.Step.{IsSend}
 use Rattle.world_core.specs.World.{WorldState}
 use Rattle.world_core.proofs.Sites.{at_sender, sent, pushed, not_pushed}
-use Rattle.world_core.proofs.world.World.send.Goals as goal
+use Rattle.world_core.proofs.machine.Machine.send.Goals as goal
 
 pub returns-then-is_err : goal.returns-then-is_err
 returns-then-is_err g c =
