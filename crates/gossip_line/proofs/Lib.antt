@@ -1,0 +1,4 @@
+pub mod Answering
+pub mod Ending
+pub mod Talking
+pub mod Words

@@ -1,0 +1,5 @@
+pub mod Fault
+pub mod Texts
+pub mod Commands
+pub mod Answers
+pub mod Session

@@ -1,0 +1,64 @@
+//! How sessions and pulls fail.
+
+ghost use Rattle.std.specs.Prelude.{◌≡◌};
+ghost use Rattle.gossip_line.specs.Fault.{number_of, name_of};
+
+use thiserror::Error;
+
+/// Why a session or a pull ended early. `BadAnswer` and `Closed` are of pulls alone.
+#[derive(Clone, Copy, Debug, PartialEq, Eq, Error)]
+pub enum LineFault {
+    /// 1: a line is longer than 524,288 bytes.
+    #[error("a line is too long")]
+    LongLine,
+    /// 2: the other side speaks another version, or names none first.
+    #[error("another version is spoken")]
+    BadVersion,
+    /// 3: the source failed, or a session has read as many lines as one may have.
+    #[error("the source failed")]
+    ReadFault,
+    /// 4: the drain failed.
+    #[error("the drain failed")]
+    WriteFault,
+    /// 5: memory was refused.
+    #[error("no memory")]
+    NoMemory,
+    /// 6: the answer is none that a session gives, or it is cut.
+    #[error("a bad answer")]
+    BadAnswer,
+    /// 7: the sink has ended.
+    #[error("the sink has ended")]
+    Closed,
+}
+
+impl LineFault {
+    /// The fault's number.
+    pub fn number(&self) -> u8
+        ensures { result ≡ number_of self.now }
+    {
+        match self {
+            LineFault::LongLine => 1,
+            LineFault::BadVersion => 2,
+            LineFault::ReadFault => 3,
+            LineFault::WriteFault => 4,
+            LineFault::NoMemory => 5,
+            LineFault::BadAnswer => 6,
+            LineFault::Closed => 7,
+        }
+    }
+
+    /// The fault's name.
+    pub fn name(&self) -> &'static str
+        ensures { result.now ≡ name_of self.now }
+    {
+        match self {
+            LineFault::LongLine => "LongLine",
+            LineFault::BadVersion => "BadVersion",
+            LineFault::ReadFault => "ReadFault",
+            LineFault::WriteFault => "WriteFault",
+            LineFault::NoMemory => "NoMemory",
+            LineFault::BadAnswer => "BadAnswer",
+            LineFault::Closed => "Closed",
+        }
+    }
+}

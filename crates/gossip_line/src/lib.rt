@@ -1,0 +1,36 @@
+//! Sessions, in which a site answers line by line, and pulls, by which one site takes what another has. Lines end in LF, and one carriage return
+//! before it is dropped.
+//!
+//! | Line | Answer |
+//! |---|---|
+//! | `hello 2`, which comes first | `hello 2` |
+//! | `take BODY` | `ok STAMP` |
+//! | `front FRONT` | up to 256 lines `op OPERATION`, then `more` or `done` |
+//! | `ready` | the report |
+//! | `state` | the state text |
+//! | `quit` | `bye`; the session ends well |
+//!
+//! What is refused is answered `no NUMBER NAME`:
+//!
+//! | Answer | Where |
+//! |---|---|
+//! | `no 1 LongLine` | a line has more than 524,288 bytes; the session ends |
+//! | `no 2 BadVersion` | the first line isn't `hello 2`, or another version is named; the session ends |
+//! | `no 5 NoMemory` | memory was refused |
+//! | `no 6 BadCommand` | any other line |
+//! | `no 7 BadText` | BODY or FRONT isn't read |
+//! | `no 8 BadBody` | the body is refused |
+//! | `no 9 ClockSpent` | no stamp is left |
+//! | `no 10 Closed` | the site has ended |
+#![tactic(auto)]
+
+mod answer;
+mod command;
+mod fault;
+mod send;
+mod session;
+#[cfg(test)]
+mod tests;
+
+pub use fault::LineFault;
+pub use session::session_run;

@@ -1,0 +1,51 @@
+-- Lines as they come from a source. A line ends at its LF; one carriage return before that is dropped.
+use Rattle.std.specs.Prelude.{◌≡◌, ◌≢◌, ◌≤◌, ◌<◌, ◌+◌, ℕ, Bool, true, false, List, ◌++◌, Result, Ok, Err, length, take, drop, All}
+use Rattle.byte_ends.specs.Lines.{as_line, without_cr}
+use Rattle.byte_ends.specs.declared.faults.BytesFault.{BytesFault}
+use Rattle.byte_ends.specs.declared.faults.BytesFault.TheVariants.{TooLong, ReadFault, NoMemory}
+
+abbrev pub HasNoLf : List ℕ → Type 0
+HasNoLf bytes = All (λ byte. byte ≢ 10) bytes
+
+-- the first LF of these bytes is at this place
+pub record HasFirstLf (bytes : List ℕ) (at : ℕ) : Type 0 where
+  pub within : at < length bytes
+  pub before : HasNoLf (take at bytes)
+  pub whole : bytes ≡ as_line (take at bytes) ++ drop (at + 1) bytes
+
+-- what a reader of lines shows: how long a line may be, the line that it handed out last, and what it read past that
+pub record Reading : Type 0 where
+  pub limit : ℕ
+  pub line : List ℕ
+  pub held : List ℕ
+
+-- the bytes begin with a line: a piece with no LF, of at most so many bytes, and its LF
+pub record BeginsWithLine (limit : ℕ) (bytes piece rest : List ℕ) : Type 0 where
+  pub whole : bytes ≡ as_line piece ++ rest
+  pub plain : HasNoLf piece
+  pub short : length piece ≤ limit
+
+-- the bytes are a line whose LF didn't come yet
+pub record IsUnfinished (limit : ℕ) (bytes : List ℕ) : Type 0 where
+  pub plain : HasNoLf bytes
+  pub short : length bytes ≤ limit
+
+-- the bytes begin with more bytes than a line may have, and no LF among those
+pub record IsTooLong (limit : ℕ) (bytes : List ℕ) : Type 0 where
+  pub more : limit < length bytes
+  pub plain : HasNoLf (take (limit + 1) bytes)
+
+-- what a call answers and leaves, where it reads these bytes
+abbrev pub Hands : Reading → List ℕ → Result Bool BytesFault → Reading → Type 0
+Hands old came (Ok true) new = (piece : List ℕ) × BeginsWithLine old.limit (old.held ++ came) piece new.held × (new.line ≡ without_cr piece)
+Hands old came (Ok false) new = IsUnfinished old.limit (old.held ++ came) × (new.held ≡ old.held ++ came)
+Hands old came (Err TooLong) new = IsTooLong old.limit (old.held ++ came) × (new.held ≡ old.held ++ came)
+Hands old came (Err ReadFault) new = new.held ≡ old.held ++ came
+Hands old came (Err NoMemory) new = new.held ≡ old.held ++ came
+
+-- the places of the line and of what follows it, among the bytes that were read; a block isn't empty
+pub record IsPlaced (start stop next count block : ℕ) : Type 0 where
+  pub ordered : start ≤ stop
+  pub followed : stop ≤ next
+  pub within : next ≤ count
+  pub some : 0 < block

@@ -1,0 +1,2 @@
+pub mod OneReply
+pub mod Handed

@@ -1,0 +1,4 @@
+pub mod Fault
+pub mod Ports
+pub mod Sinks
+pub mod OwnSite

@@ -1,0 +1,24 @@
+-- What a site is offered in a pull, and how it takes that up.
+use Rattle.std.specs.Prelude.{List, Result, Ok, Err}
+use Rattle.replica_core.specs.Front.{Reaches}
+use Rattle.review_ops.specs.Operation.{Operation}
+use Rattle.site_port.specs.declared.fault.SinkFault.{SinkFault}
+
+pub data Offer : Type 0 where
+  -- to say how far the record goes
+  fronts : Offer
+  -- to take these operations
+  hands : (ops : List Operation) → Offer
+
+pub data Uptake : Type 0 where
+  reached : (front : Reaches) → Uptake
+  took : Uptake
+  declined : (fault : SinkFault) → Uptake
+
+-- how a call's result takes an offer up
+abbrev pub uptake_by : {T : Type 0} → (T → Uptake) → Result T SinkFault → Uptake
+uptake_by says (Ok value) = says value
+uptake_by says (Err fault) = declined fault
+
+abbrev pub taken_by : Result (Unit {0}) SinkFault → Uptake
+taken_by = uptake_by (λ _. took)
