@@ -35,6 +35,10 @@ approval_of vote = record { label = vote.label; voter = vote.voter; value = vote
 abbrev pub approvals_among : List GivenVote → List GivenApproval
 approvals_among votes = map approval_of (filter (λ vote. not (int_eq vote.value (pos 0))) votes)
 
+-- the first slot that a vote on the patch set could have
+abbrev pub first_slot : ℕ → Slot
+first_slot set = record { set = set; label = []; voter = [] }
+
 -- the votes on a patch set, by label, then voter
 abbrev pub votes_of : Change → ℕ → List GivenVote
 votes_of change set = votes_among set (finite.entries change.votes)

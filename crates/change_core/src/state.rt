@@ -1,8 +1,11 @@
-ghost use Rattle.std.specs.Prelude.{◌≡◌, ◌↔◌, IsTrue, IfOk, OnOk, OnErr, string_bytes};
+ghost use Rattle.std.specs.Prelude.{◌≡◌, ◌↔◌, IsTrue, IfOk, OnOk, OnErr, Some, string_bytes};
+ghost use Rattle.std.specs.FinMap as finite;
 ghost use Rattle.std.specs.Ordering.{ord_max};
+ghost use Rattle.lattice_core.specs.Join.{Covers, option_joined};
 ghost use Rattle.lattice_core.specs.JoinMap.{put_joined};
+ghost use Rattle.change_core.specs.Slots.{patch_cmp};
 ghost use Rattle.change_core.specs.Change.{no_change, effect_of, change_joined, patch_order, vote_order};
-ghost use Rattle.change_core.specs.Parts.{sets_shown, votes_shown};
+ghost use Rattle.change_core.specs.Parts.{patch_of, sets_shown, votes_shown};
 ghost use Rattle.std.specs.Option.{option_map};
 ghost use Rattle.change_core.specs.Views.{status_of, IsKnownSet, IsCurrent, message_of, parent_of};
 ghost use Rattle.change_core.specs.Votes.{AreVotedSets, votes_of, approvals_of};
@@ -14,6 +17,7 @@ use super::votes::{Approvals, VotedSets, Votes};
 use lattice_core::{Flag, Greatest, Join, JoinMap, Keep, NoMemory, Register};
 use review_ops::{Draft, Op, Stamp};
 use std::alloc::{Allocator, Global};
+use std::cmp::Ordering;
 use std::marker::Model;
 
 /// The state of one change: what the operations on it add up to, in whatever order they came. Contracts see a `Change`: whether it is
@@ -165,16 +169,16 @@ impl<A: Allocator + Copy> ChangeState<A> {
         &self.votes
     }
 
-    /// The votes on a patch set, by label, then voter; a withdrawn vote is one of 0. To walk them takes time linear in all
-    /// votes of the change.
+    /// The votes on a patch set, by label, then voter; a withdrawn vote is one of 0. It costs time logarithmic in all votes of the change, and
+    /// to walk them time linear in those on the patch set.
     pub fn votes(&self, set: u32) -> Votes<'_, A>
         ensures { result ≡ votes_of self.now set }
     {
         Votes::on(set, &self.votes)
     }
 
-    /// The votes on a patch set that aren't 0, by label, then voter. To walk them takes time linear in all votes of the
-    /// change.
+    /// The votes on a patch set that aren't 0, by label, then voter. It costs time logarithmic in all votes of the change, and to walk them time
+    /// linear in those on the patch set.
     pub fn approvals(&self, set: u32) -> Approvals<'_, A>
         ensures { result ≡ approvals_of self.now set }
     {
@@ -243,7 +247,7 @@ impl<A: Allocator + Copy> Join for ChangeState<A> {
     }
 }
 
-/// Writes a commit to the register of its patch set.
+/// Writes a commit to the register of its patch set. The message is copied only where the commit wins.
 fn write_set<A: Allocator + Copy>(
     sets: &mut JoinMap<u32, Register<Stamp, Commit<A>>, A>,
     stamp: Stamp,
@@ -254,9 +258,71 @@ fn write_set<A: Allocator + Copy>(
     ensures ok { OnOk result (sets_shown sets.new ≡ put_joined (ord_max patch_order) (sets_shown sets.old) set (stamp, record { message = string_bytes message.now; parent = parent })) }
     ensures err { OnErr result (sets_shown sets.new ≡ sets_shown sets.old) }
 {
+    if is_outdone(sets, stamp, set, message.as_str(), parent) {
+        return Ok(());
+    }
     let message = message.copy()?;
     let register = Register::new(stamp, Commit { message, parent });
     sets.join_at(set, register)
+}
+
+/// Whether the register of a patch set holds as great a commit already, so that to write this one would change nothing.
+fn is_outdone<A: Allocator + Copy>(
+    sets: &JoinMap<u32, Register<Stamp, Commit<A>>, A>,
+    stamp: Stamp,
+    set: u32,
+    message: &str,
+    parent: Option<u32>,
+) -> bool
+    ensures { IsTrue result ↔ Covers (option_joined (ord_max patch_order)) (finite.get (sets_shown sets.now) set)
+        (Some (stamp, record { message = message.now; parent = parent })) }
+{
+    match sets.get(&set) {
+        Some(held) => outdoes(held, stamp, message, parent),
+        None => false,
+    }
+}
+
+/// Whether a register holds a commit as great as this one under this stamp.
+fn outdoes<A: Allocator + Copy>(
+    held: &Register<Stamp, Commit<A>>,
+    stamp: Stamp,
+    message: &str,
+    parent: Option<u32>,
+) -> bool
+    ensures { IsTrue result ↔ Covers (ord_max patch_order) (held.now.0, patch_of held.now.1)
+        (stamp, record { message = message.now; parent = parent }) }
+{
+    held_order(held, stamp, message, parent) != Ordering::Less
+}
+
+/// How what a register holds compares to a commit under a stamp: by stamp, then as commits.
+fn held_order<A: Allocator + Copy>(
+    held: &Register<Stamp, Commit<A>>,
+    stamp: Stamp,
+    message: &str,
+    parent: Option<u32>,
+) -> Ordering
+    ensures { result ≡ patch_order (held.now.0, patch_of held.now.1) (stamp, record { message = message.now; parent = parent }) }
+{
+    match held.key().cmp(&stamp) {
+        Ordering::Equal => commit_order(held.value(), message, parent),
+        decided => decided,
+    }
+}
+
+/// How a commit compares to one with this message and parent: by message, byte by byte, then by parent.
+fn commit_order<A: Allocator + Copy>(
+    commit: &Commit<A>,
+    message: &str,
+    parent: Option<u32>,
+) -> Ordering
+    ensures { result ≡ patch_cmp (patch_of commit.now) (record { message = message.now; parent = parent }) }
+{
+    match commit.message.as_str().cmp(message) {
+        Ordering::Equal => commit.parent.cmp(&parent),
+        decided => decided,
+    }
 }
 
 /// Writes a score to the register of its slot.

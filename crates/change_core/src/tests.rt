@@ -275,6 +275,21 @@ fn votes_stay_with_their_patch_set(rt: HostRuntime) -> Result<(), Fail> {
     )
 }
 
+/// Votes on two patch sets that stand beside each other, and on the last that there could be.
+const NEIGHBOURS: [Step; 3] = [
+    Step::Vote(3, 1, "Workflow", "zuul", 1),
+    Step::Vote(4, 2, "-", "!", 2),
+    Step::Vote(5, u32::MAX, "Workflow", "ann", -1),
+];
+
+#[test]
+fn votes_on_neighbours_stay_apart(rt: HostRuntime) -> Result<(), Fail> {
+    let state = state_of(&rt, rt.alloc(), &NEIGHBOURS)?;
+    assert_approvals(&rt, rt.alloc(), &state, 1, "workflow zuul 1\n")?;
+    assert_approvals(&rt, rt.alloc(), &state, 2, "- ! 2\n")?;
+    assert_approvals(&rt, rt.alloc(), &state, u32::MAX, "workflow ann -1\n")
+}
+
 /// A patch set, and a later one with a lower number.
 const SETS: [Step; 2] = [Step::PatchSet(5, 3, Some(7)), Step::PatchSet(6, 2, None)];
 
@@ -518,5 +533,32 @@ fn refused_calls_leave_the_stated_state(rt: HostRuntime) -> Result<(), Fail> {
     }
     assert!(rt; takes.is_both() && effects.is_both());
     assert!(rt; joins.is_both() && copies.is_both());
+    Ok(())
+}
+
+/// Takes a commit in a heap that may be too small for it. Where it suffices, it suffices for an earlier one too, which loses. Answers whether
+/// memory was refused.
+fn assert_loser_is_taken<'a>(
+    rt: &impl Abort,
+    ample: &'a LocalHeap,
+    tight: &'a LocalHeap,
+) -> Option<bool> {
+    let mut state = ChangeState::new(tight);
+    let later = patch_set(ample, 2, 1, None)?;
+    let earlier = patch_set(ample, 1, 1, None)?;
+    let refused = state.take(&later).is_err();
+    assert!(rt; refused || state.take(&earlier).is_ok());
+    Some(refused)
+}
+
+#[test]
+fn a_commit_that_loses_takes_no_memory(rt: HostRuntime) -> Result<(), Fail> {
+    let mut seen = Seen::new();
+    for steps in 0..128usize {
+        let ample = LocalHeap::new(rt.alloc(), 4096)?;
+        let tight = LocalHeap::new(rt.alloc(), steps * 16)?;
+        seen.add(assert_loser_is_taken(&rt, &ample, &tight));
+    }
+    assert!(rt; seen.is_both());
     Ok(())
 }

@@ -1,13 +1,13 @@
 ghost use Rattle.std.specs.Prelude.{◌≡◌, None};
 ghost use Rattle.std.specs.FinMap as finite;
-ghost use Rattle.change_core.specs.Votes.{votes_among, approvals_among, sets_among, first_of_each};
-ghost use Rattle.change_core.specs.Parts.{votes_shown};
+ghost use Rattle.change_core.specs.Votes.{votes_among, approvals_among, sets_among, first_of_each, first_slot as least_slot};
+ghost use Rattle.change_core.specs.Parts.{registers_shown, slot_of, votes_shown};
 
 use super::vote_slot::VoteSlot;
 use lattice_core::{JoinMap, Register};
 use review_ops::Stamp;
 use std::alloc::{Allocator, Global};
-use std::collections::btree_map::Iter;
+use std::collections::btree_map::{Iter, Range};
 use std::marker::Model;
 
 /// A vote on a patch set.
@@ -38,7 +38,7 @@ pub struct Approval<'a> {
 #[derive(Drop)]
 pub struct Votes<'a, A: Allocator = Global> {
     set: u32,
-    registers: Iter<'a, VoteSlot<A>, Register<Stamp, i8>>,
+    registers: Range<'a, VoteSlot<A>, Register<Stamp, i8>>,
 }
 
 impl<'a, A: Allocator> Model for Votes<'a, A> {
@@ -60,8 +60,34 @@ impl<'a, A: Allocator + Copy> Votes<'a, A> {
     {
         Votes {
             set,
-            registers: registers.iter(),
+            registers: registers_of(set, registers),
         }
+    }
+}
+
+/// The registers of the slots of a patch set: those from its first slot on, up to the first of the next.
+fn registers_of<A: Allocator + Copy>(
+    set: u32,
+    registers: &JoinMap<VoteSlot<A>, Register<Stamp, i8>, A>,
+) -> Range<'_, VoteSlot<A>, Register<Stamp, i8>>
+    ensures { votes_among set (registers_shown result) ≡ votes_among set (finite.entries (votes_shown registers.now)) }
+{
+    let alloc = registers.allocator();
+    let first = first_slot(alloc, set);
+    match set.checked_add(1) {
+        Some(next) => registers.range(first..first_slot(alloc, next)),
+        None => registers.range(first..),
+    }
+}
+
+/// The first slot that a vote on a patch set could have: that of the empty label and the empty voter. It takes no memory.
+fn first_slot<A: Allocator + Copy>(alloc: A, set: u32) -> VoteSlot<A>
+    ensures { slot_of result ≡ least_slot set }
+{
+    VoteSlot {
+        set,
+        label: String::new(alloc),
+        voter: String::new(alloc),
     }
 }
 

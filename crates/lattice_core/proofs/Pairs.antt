@@ -1,17 +1,21 @@
 -- The pairs of a `BTreeMap`, and the finite map of their shapes.
-use Rattle.std.specs.Prelude.{◌≡◌, Bool, true, false, cond, ◌&&◌, T as Holds, List, [], ◌∷◌, map, length, Option, None, Some, IsSome, is_some, ◌↔◌}
+use Rattle.std.specs.Prelude.{◌≡◌, Bool, true, false, cond, not, ◌&&◌, T as Holds, List, [], ◌∷◌, map, length, Option, None, Some, IsSome, is_some, ◌↔◌}
 use Rattle.std.specs.declared.cmp.Ordering.{Ordering}
 use Rattle.std.specs.declared.cmp.Ordering.TheVariants.{Less, Equal, Greater}
-use Rattle.std.specs.Ordering.{is_eq, is_lt, eq_by_cmp, match_ordering, ordering_reverse}
+use Rattle.std.specs.Ordering.{is_eq, is_le, is_lt, eq_by_cmp, match_ordering, ordering_reverse}
 use Rattle.std.specs.Cmp.{tied_itself}
 use Rattle.std.specs.Option.{option_map}
 use Rattle.std.specs.List.{AllByRecursion}
 use Rattle.std.specs.List.Sorted.{IsStrictlySortedBy}
 use Rattle.std.specs.Map.{lookup, set_value, keys_of}
 use Rattle.std.specs.BTreeMap.{is_at, insert_entry}
+use Rattle.std.specs.BTreeMap.Range.{is_from_start, is_past_end, range_contains, entries_between}
+use Rattle.std.specs.Range.Bound.{bound_map}
+use Rattle.std.specs.declared.ops.Bound.{Bound}
+use Rattle.std.specs.declared.ops.Bound.TheVariants.{Included, Excluded, Unbounded}
 use Rattle.std.specs.FinMap.{empty, get, insert, get-empty, entries, len, from_sorted, find, is_sorted, get-insert, get-from_entries, get-from_sorted, entries-from_sorted, len-entries}
 use Rattle.std.specs.FinMap.Entries.{below_all, put, by_order, find-put}
-use Rattle.std.proofs.Common.{refl, sym, ap, ◌∙◌, subst, arith}
+use Rattle.std.proofs.Common.{refl, sym, ap, ap₂, ◌∙◌, subst, arith}
 use Rattle.std.proofs.lemmas.List.{length-map}
 use Rattle.std.proofs.lemmas.Map.Keys.{sorted_head, sorted_tail}
 use Rattle.lattice_core.specs.Tests.{equal}
@@ -76,6 +80,29 @@ module _ {K V S T : Type 0} {cmp : K → K → Ordering} {order : S → S → Or
   -- pairs in order are the map's entries
   pub entries-map_of : (es : List (K × V)) → IsStrictlySortedBy cmp (keys_of es) → entries (map_of order key_shape value_shape es) ≡ shapes es
   entries-map_of es h = ap entries (map_of-sorted es h) ∙ entries-from_sorted order (shapes es) (sorted_shapes es h)
+
+  -- ---- the pairs in a range are those whose shapes are between the shapes of its bounds
+  start_shapes : (start : Bound K) (k : K) → is_from_start cmp start k ≡ is_from_start order (bound_map key_shape start) (key_shape k)
+  start_shapes (Included a) k = ap is_le (compares a k)
+  start_shapes (Excluded a) k = ap is_lt (compares a k)
+  start_shapes Unbounded k = refl
+
+  end_shapes : (end : Bound K) (k : K) → is_past_end cmp end k ≡ is_past_end order (bound_map key_shape end) (key_shape k)
+  end_shapes (Included a) k = ap is_lt (compares a k)
+  end_shapes (Excluded a) k = ap is_le (compares a k)
+  end_shapes Unbounded k = refl
+
+  pub shapes-entries_between : (start end : Bound K) (es : List (K × V)) → shapes (entries_between cmp start end es) ≡ entries_between order (bound_map key_shape start) (bound_map key_shape end) (shapes es)
+  shapes-entries_between start end [] = refl
+  shapes-entries_between start end (e ∷ es) =
+      let within = ap₂ (λ from past. from && not past) (start_shapes start e.0) (end_shapes end e.0) in
+      let rest = shapes-entries_between start end es in
+      let there = entries_between order (bound_map key_shape start) (bound_map key_shape end) (shapes es) in
+      elim (range_contains cmp start end e.0) as (λ t. shapes (cond t (e ∷ entries_between cmp start end es) (entries_between cmp start end es)) ≡ cond t ((key_shape e.0, value_shape e.1) ∷ there) there) [
+        | true ↦ ap (λ l. (key_shape e.0, value_shape e.1) ∷ l) rest
+        | false ↦ rest
+      ]
+      ∙ ap (λ t. cond t ((key_shape e.0, value_shape e.1) ∷ there) there) within
 
   pub len-map_of : (es : List (K × V)) → IsStrictlySortedBy cmp (keys_of es) → len (map_of order key_shape value_shape es) ≡ length es
   len-map_of es h = len-entries _ ∙ ap length (entries-map_of es h) ∙ length-map es (λ e. (key_shape e.0, value_shape e.1))

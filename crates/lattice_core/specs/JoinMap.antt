@@ -127,6 +127,13 @@ module _ {S T : Type 0} {order : S → S → Ordering} (exact_order : IsExactOrd
         | false ↦ λ t. refl
       ] refl)
 
+  -- to join in what is covered changes nothing
+  pub put_joined-Covers : (joined : T → T → T) (m : FinMap order T) (k : S) (v : T) → Covers (option_joined joined) (get m k) (Some v) → put_joined joined m k v ≡ m
+  put_joined-Covers joined m k v covers = elim (get m k) as (λ o. get m k ≡ o → Covers (option_joined joined) o (Some v) → insert m k (joined_to joined o v) ≡ m) [
+    | None ↦ λ e h. cc
+    | Some w ↦ λ e h. insert-same m k (joined w v) (e ∙ sym h)
+  ] refl covers
+
   Covers-insert : {joined : T → T → T} → IsJoin joined → (m : FinMap order T) (k : S) (v w : T) → Covers joined v w → Covers (map_joined joined) (insert m k v) (insert m k w)
   Covers-insert {joined = joined} laws m k v w covers = Covers-from_each_key joined _ _ (λ q.
       ap (λ o. option_joined joined o (get (insert m k w) q)) (get-insert exact_order.total m k v q)

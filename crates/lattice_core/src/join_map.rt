@@ -4,6 +4,8 @@ ghost use Rattle.std.specs.Ordering.{nat_cmp};
 ghost use Rattle.std.specs.Cmp.Lexicographic.{slice_cmp};
 ghost use Rattle.std.specs.FinMap as finite;
 ghost use Rattle.std.specs.Map.Iter.{ShowsInOrder, ShowsInReverse, deref_pair};
+ghost use Rattle.std.specs.BTreeMap.Range.{IsLeBy, IsLtBy, entries_between};
+ghost use Rattle.std.specs.Range.Bound.{bound_map};
 ghost use Rattle.std.specs.Borrow.{sem};
 ghost use Rattle.lattice_core.specs.Join.{IsBetween, Covers, option_joined};
 ghost use Rattle.lattice_core.specs.JoinMap.{map_of, map_joined, put_joined, maps_join};
@@ -14,8 +16,9 @@ use super::keep::Keep;
 use super::memory::NoMemory;
 use std::alloc::{Allocator, Global};
 use std::collections::BTreeMap;
-use std::collections::btree_map::Iter;
+use std::collections::btree_map::{Iter, Range};
 use std::marker::Model;
+use std::ops::RangeBounds;
 
 /// A finite map from keys to states, in the order of the keys. The join of two maps has at each key the join of what the
 /// two have there.
@@ -141,6 +144,26 @@ impl<K: Keep, V: Join, A: Allocator + Copy> JoinMap<K, V, A> {
         ensures fits { length result < 2 ^ 63 }
     {
         self.entries.iter()
+    }
+
+    /// The pairs whose keys lie within a range, in the order of the keys, from either end. It costs logarithmic time, and to walk them time
+    /// linear in them alone.
+    pub fn range<R: RangeBounds<K> + Drop>(&self, range: R) -> Range<'_, K, V>
+        requires { R.is_forward range (IsLeBy K.cmp) (IsLtBy K.cmp) }
+        ensures rest { R.has_bounds range → result ≡ entries_between K.cmp (R.start_bound range) (R.end_bound range) self.now }
+        ensures entries { R.has_bounds range → map (λ pair. (K.shape pair.0, V.shape pair.1)) result
+            ≡ entries_between K.order (bound_map K.shape (R.start_bound range)) (bound_map K.shape (R.end_bound range))
+            (finite.entries (map_of K.order K.shape V.shape self.now)) }
+        ensures runs { ShowsInOrder (deref_pair {K = K} {X = V}) }
+        ensures runs_back { ShowsInReverse (deref_pair {K = K} {X = V}) }
+        ensures fits { length result < 2 ^ 63 }
+    {
+        self.entries.range(range)
+    }
+
+    /// The allocator that the map takes memory from.
+    pub fn allocator(&self) -> A {
+        self.alloc
     }
 }
 

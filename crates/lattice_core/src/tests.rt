@@ -177,6 +177,8 @@ fn maps_are_joined(rt: HostRuntime) -> Result<(), Fail> {
         (3, true, false)
     );
     assert_eq!(rt; whole.iter().count(), 3);
+    assert_eq!(rt; whole.range(2u16..7).count(), 1);
+    assert_eq!(rt; whole.range(2u16..).count(), 2);
     Ok(())
 }
 
