@@ -55,7 +55,14 @@ returns-clause-pulls g c =
     let after : Moment g.row.K.Denot = record { port = c.take_all.new.self; left = g.S.Source.left c.read_answer.new.source; taken = g.D.Drain.taken c.send_front.new.drain; unread = g.S.Source.failed c.read_answer.new.source; unwritten = g.D.Drain.failed c.send_front.new.drain } in
     let failed = declined_failed g.K.Sink.sinks c.args.reader.now.limit mid after c.args.reader.now.held why c.declined-in-Err-take_all.result c.declined-in-Err-take_all.ensures
     (inr (
-      round, reads.0, c.read_answer.new.reader.held, c.front.new.self, reads.2.2, reads.1, reads.2.4, c.in-Ok.ensures,
+      round,
+      reads.0,
+      c.read_answer.new.reader.held,
+      c.front.new.self,
+      reads.2.2,
+      reads.1,
+      reads.2.4,
+      c.in-Ok.ensures,
       subst (λ ops. g.K.Sink.sinks c.front.new.self (hands ops) (declined why) c.take_all.new.self) ops_are c.in-Err-take_all.ensures,
     ))
     c.in_ok-ops.ensures.counted c.in_ok-send_front.ensures.none_failed in

@@ -15,7 +15,7 @@ loop-round-init g c =
       came.0,
       [],
       first_pull g.K.Sink.sinks c.args.limit _ _ c.in-Ok.reader.held greets.0 came.0 c.greet.new.reader.held (ap (λ (r : Reading). r.held) c.in-Ok.ensures) greets.1
-      (subst (λ l. BeginsWithLine l (c.in-Ok.reader.held ++ greets.0) came.0 c.greet.new.reader.held) limit came.1) came.2 refl came.3 came.4,
+          (subst (λ l. BeginsWithLine l (c.in-Ok.reader.held ++ greets.0) came.0 c.greet.new.reader.held) limit came.1) came.2 refl came.3 came.4,
       tt,
       refl,
       refl,

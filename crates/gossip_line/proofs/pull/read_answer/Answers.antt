@@ -61,7 +61,7 @@ lines-preserved g c =
       added.2 ∙ ap (λ l. l ++ added.0 ∷ []) before.4 ∙ sym (ops_with before.0 line),
       omega (arith, before.5, length-append before.0 (line ∷ []), ap length before.4, length-map before.0 (λ (l : OperationLine). l.op), c.lines.ops.ok.0, c.len.ensures, c.if-len-eq-ANSWER_LIMIT.false),
       read_further c.args.reader.now.held before.1 (bytes_in before.0) c.lines.reader.held now.0 (as_line now.2.0) c.await_line.new.reader.held before.6 now.2.1.whole
-      ∙ ap (λ l. l ++ c.await_line.new.reader.held) (sym (bytes_with before.0 line)),
+          ∙ ap (λ l. l ++ c.await_line.new.reader.held) (sym (bytes_with before.0 line)),
       c.await_line.ensures.limit ∙ before.7,
       c.in_ok-await_line.ensures.counted ∙ before.8,
     )
