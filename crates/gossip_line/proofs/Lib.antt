@@ -2,3 +2,4 @@ pub mod Answering
 pub mod Ending
 pub mod Talking
 pub mod Words
+pub mod Pulling

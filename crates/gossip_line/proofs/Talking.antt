@@ -13,11 +13,11 @@ use Rattle.gossip_line.specs.Session.{Answered, IsLast, IsPiece, IsTalk, Moment,
 use Rattle.gossip_line.specs.Texts.{Answer, answer_text, next_of}
 
 -- what a list's last element adds
-flat_map-push : {T : Type 0} (f : T → List ℕ) (xs : List T) (x : T) → flat_map f (xs ++ x ∷ []) ≡ flat_map f xs ++ f x
+pub flat_map-push : {T : Type 0} (f : T → List ℕ) (xs : List T) (x : T) → flat_map f (xs ++ x ∷ []) ≡ flat_map f xs ++ f x
 flat_map-push f [] x = append-nil (f x)
 flat_map-push f (y ∷ xs) x = ap (λ l. f y ++ l) (flat_map-push f xs x) ∙ sym (append_assoc (f y) (flat_map f xs) (f x))
 
-All-push : {T : Type 0} (Q : T → Type 0) (xs : List T) (x : T) → AllByRecursion Q xs → Q x → AllByRecursion Q (xs ++ x ∷ [])
+pub All-push : {T : Type 0} (Q : T → Type 0) (xs : List T) (x : T) → AllByRecursion Q xs → Q x → AllByRecursion Q (xs ++ x ∷ [])
 All-push Q [] x all one = (one, tt)
 All-push Q (y ∷ xs) x all one = (all.0, All-push Q xs x all.1 one)
 

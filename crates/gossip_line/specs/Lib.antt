@@ -3,3 +3,4 @@ pub mod Texts
 pub mod Commands
 pub mod Answers
 pub mod Session
+pub mod Pull

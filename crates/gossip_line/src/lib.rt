@@ -27,10 +27,12 @@
 mod answer;
 mod command;
 mod fault;
+mod pull;
 mod send;
 mod session;
 #[cfg(test)]
 mod tests;
 
 pub use fault::LineFault;
+pub use pull::{Pulled, pull_run};
 pub use session::session_run;

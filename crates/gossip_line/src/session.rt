@@ -13,7 +13,7 @@ use site_port::Port;
 use std::alloc::Global;
 
 /// How many bytes a line may have.
-const LINE_LIMIT: usize = 524288;
+pub const LINE_LIMIT: usize = 524288;
 
 /// How many lines a session may have.
 const LINES: usize = 1000000;

@@ -1,0 +1,200 @@
+-- A pull: in each round the sink's front is written, a whole answer is read, and its operations are handed to the sink.
+use Rattle.std.specs.Prelude.{◌≡◌, ◌⊎◌, ◌≤◌, ◌+◌, ℕ, Bool, true, false, List, [], ◌∷◌, ◌++◌, Option, Result, Ok, Err, codes, flat_map, length, map, sum_by, if◌then◌else◌}
+use Rattle.std.specs.List.{AllByRecursion}
+use Rattle.std.specs.Io.KnownBytes.{Consumes}
+use Rattle.byte_ends.specs.Failures.{OneFailed}
+use Rattle.byte_ends.specs.Lines.{as_line, without_cr}
+use Rattle.gossip_line.specs.Answers.{IsCutShort, IsWritten}
+use Rattle.gossip_line.specs.Commands.{Follows, front_word}
+use Rattle.gossip_line.specs.Session.{IsPiece, Moment}
+use Rattle.gossip_line.specs.Texts.{hello}
+use Rattle.gossip_line.specs.declared.fault.LineFault.{LineFault}
+use Rattle.gossip_line.specs.declared.fault.LineFault.TheVariants.{LongLine, BadVersion, ReadFault, WriteFault, NoMemory, BadAnswer, Closed}
+use Rattle.gossip_line.specs.declared.pull.Handed.{Handed}
+use Rattle.gossip_line.specs.declared.pull.Pulled.{Pulled}
+use Rattle.line_reader.specs.Lines.{BeginsWithLine, IsTooLong, IsUnfinished, Reading}
+use Rattle.op_text.specs.Front.{front_text}
+use Rattle.op_text.specs.Spelling.{SpellsOperation}
+use Rattle.replica_core.specs.Front.{Reaches}
+use Rattle.replica_core.specs.declared.missing.Missing.{Missing}
+use Rattle.review_ops.specs.Operation.{Operation}
+use Rattle.site_port.specs.Sinks.{Offer, Uptake, fronts, hands, reached, took, declined}
+use Rattle.site_port.specs.declared.fault.SinkFault.{SinkFault}
+use Rattle.site_port.specs.declared.fault.SinkFault.TheVariants as sink
+
+-- ---- one answer
+
+abbrev pub SaysOperation : List ℕ → Operation → Type 0
+SaysOperation line op = (text : List ℕ) × Follows (codes "op ") line text × SpellsOperation text op
+
+-- the line after an answer's operations says whether others are left
+abbrev pub rest_word : Bool → List ℕ
+rest_word more = if more then codes "more" else codes "done"
+
+-- a line of an operation as it came, without its LF, and what it says
+pub record OperationLine : Type 0 where
+  pub piece : List ℕ
+  pub op : Operation
+
+-- a round: the front that was written, and the answer that was read
+pub record Round : Type 0 where
+  pub front : Reaches
+  pub lines : List OperationLine
+  pub last : List ℕ
+  pub more : Bool
+
+abbrev pub ops_in : List OperationLine → List Operation
+ops_in lines = map (λ line. line.op) lines
+
+abbrev pub bytes_in : List OperationLine → List ℕ
+bytes_in lines = flat_map (λ line. as_line line.piece) lines
+
+-- what was read of a round, and what was written
+abbrev pub answer_in : Round → List ℕ
+answer_in round = bytes_in round.lines ++ as_line round.last
+
+abbrev pub front_line : Reaches → List ℕ
+front_line front = as_line (front_word ++ front_text front)
+
+abbrev pub AreOperations : ℕ → List OperationLine → Type 0
+AreOperations limit lines = AllByRecursion (λ line. IsPiece limit line.piece × SaysOperation (without_cr line.piece) line.op) lines
+
+-- an answer is whole: at most 256 lines of operations, and then one that says whether others are left
+pub record IsWhole (limit : ℕ) (lines : List OperationLine) (last : List ℕ) (more : Bool) : Type 0 where
+  pub operations : AreOperations limit lines
+  pub few : length lines ≤ 256
+  pub ends : IsPiece limit last
+  pub says : without_cr last ≡ rest_word more
+
+abbrev pub IsWholeRound : ℕ → Round → Type 0
+IsWholeRound limit round = IsWhole limit round.lines round.last round.more
+
+-- the rounds, of which each but the last said that others are left, and the last one says this
+abbrev pub EndWith : List Round → Bool → Type 0
+EndWith [] more = ⊥
+EndWith (round ∷ []) more = round.more ≡ more
+EndWith (round ∷ next ∷ rounds) more = (round.more ≡ true) × EndWith (next ∷ rounds) more
+
+-- how a fault is counted, of reads and of writes: each of the two by its own fault alone
+abbrev pub CountsEnds : (unread reads unwritten writes : ℕ) → LineFault → Type 0
+CountsEnds unread reads unwritten writes ReadFault = OneFailed unread reads × (writes ≡ unwritten)
+CountsEnds unread reads unwritten writes WriteFault = (reads ≡ unread) × OneFailed unwritten writes
+CountsEnds unread reads unwritten writes fault = (reads ≡ unread) × (writes ≡ unwritten)
+
+-- how a pull fails where its sink does
+abbrev pub fault_of : SinkFault → LineFault
+fault_of sink.NoMemory = NoMemory
+fault_of sink.Closed = Closed
+
+-- ---- reading
+
+-- why a line or an answer isn't read
+abbrev pub IsReadingFault : LineFault → Type 0
+IsReadingFault LongLine = Unit {0}
+IsReadingFault ReadFault = Unit {0}
+IsReadingFault NoMemory = Unit {0}
+IsReadingFault BadAnswer = Unit {0}
+IsReadingFault fault = ⊥
+
+abbrev pub CountsReading : {T : Type 0} → ℕ → ℕ → Result T LineFault → Type 0
+CountsReading unread reads (Err ReadFault) = OneFailed unread reads
+CountsReading unread reads result = reads ≡ unread
+
+-- a line has to come; where the bytes end before its LF, or it is too long, that is told
+abbrev pub Awaits : Reading → List ℕ → Result (Unit {0}) LineFault → Reading → Type 0
+Awaits old came (Ok done) new = (piece : List ℕ) × BeginsWithLine old.limit (old.held ++ came) piece new.held × (new.line ≡ without_cr piece)
+Awaits old came (Err LongLine) new = IsTooLong old.limit (old.held ++ came)
+Awaits old came (Err BadAnswer) new = IsUnfinished old.limit (old.held ++ came)
+Awaits old came (Err fault) new = IsReadingFault fault
+
+-- an answer is read whole, or not at all
+abbrev pub ReadsAnswer : {A : Type 0} → Reading → List ℕ → Result (Missing A) LineFault → Reading → Type 0
+ReadsAnswer old came (Ok missing) new =
+    (lines : List OperationLine) × (last : List ℕ) × IsWhole old.limit lines last missing.more × (missing.ops.items ≡ ops_in lines)
+    × (old.held ++ came ≡ (bytes_in lines ++ as_line last) ++ new.held)
+ReadsAnswer old came (Err fault) new = IsReadingFault fault
+
+-- the front's line is written, or memory is refused for it before its first byte
+abbrev pub SendsFront : Reaches → Option (List ℕ) → Option (List ℕ) → ℕ → ℕ → Result (Unit {0}) LineFault → Type 0
+SendsFront front taken later failed failures (Ok done) = IsWritten (front_line front) taken later failed failures
+SendsFront front taken later failed failures (Err WriteFault) = IsCutShort (front_line front) taken later failed failures
+SendsFront front taken later failed failures (Err NoMemory) = (later ≡ taken) × (failures ≡ failed)
+SendsFront front taken later failed failures (Err fault) = ⊥
+
+-- the version is written, and the line that comes first has to name it
+abbrev pub Greets : Reading → List ℕ → Option (List ℕ) → Option (List ℕ) → (unread reads unwritten writes : ℕ) → Result (Unit {0}) LineFault → Reading → Type 0
+Greets old came taken later unread reads unwritten writes (Ok done) new =
+    (greeting : List ℕ) × BeginsWithLine old.limit (old.held ++ came) greeting new.held × (without_cr greeting ≡ hello)
+    × IsWritten (as_line hello) taken later unwritten writes × (reads ≡ unread)
+Greets old came taken later unread reads unwritten writes (Err fault) new = CountsEnds unread reads unwritten writes fault
+
+-- ---- all rounds, over any sink, which stands in the place of the port
+module _ {K : Type 0} (sinks : K → Offer → Uptake → K → Type 0) where
+  -- the sink says its front, and takes the operations of the whole answer to it
+  abbrev pub Takes : K → Round → K → Type 0
+  Takes old round new = (mid : K) × sinks old fronts (reached round.front) mid × sinks mid (hands (ops_in round.lines)) took new
+
+  abbrev pub TakesAll : K → List Round → K → Type 0
+  TakesAll old [] new = new ≡ old
+  TakesAll old (round ∷ rounds) new = (mid : K) × Takes old round mid × TakesAll mid rounds new
+
+  -- up to now these rounds were whole, and these bytes are held that were read past them
+  pub record IsPull (limit : ℕ) (before now : Moment K) (greeting : List ℕ) (rounds : List Round) (held : List ℕ) : Type 0 where
+    pub greeted : without_cr greeting ≡ hello
+    pub came : Consumes before.left now.left ((as_line greeting ++ flat_map answer_in rounds) ++ held)
+    pub whole : AllByRecursion (IsWholeRound limit) rounds
+    pub taken : TakesAll before.port rounds now.port
+    pub written : IsWritten (as_line hello ++ flat_map (λ round. front_line round.front) rounds) before.taken now.taken before.unwritten now.unwritten
+    pub none_unread : now.unread ≡ before.unread
+
+  -- the sink took no more, but may have said its front
+  abbrev pub IsUntaken : K → K → Type 0
+  IsUntaken old new = (new ≡ old) ⊎ ((front : Reaches) × sinks old fronts (reached front) new)
+
+  -- the sink declined to say its front, or to take the operations of a whole answer that was read
+  abbrev pub IsDeclined : ℕ → Moment K → List ℕ → SinkFault → Moment K → Type 0
+  IsDeclined limit mid held why after =
+      sinks mid.port fronts (declined why) after.port
+      ⊎ ((round : Round) × (came : List ℕ) × (rest : List ℕ) × (late : K) × IsWholeRound limit round × Consumes mid.left after.left came × (held ++ came ≡ answer_in round ++ rest)
+      × sinks mid.port fronts (reached round.front) late × sinks late (hands (ops_in round.lines)) (declined why) after.port)
+
+  -- what is left of the sink where a round isn't whole
+  abbrev pub Leaves : ℕ → Moment K → List ℕ → LineFault → Moment K → Type 0
+  Leaves limit mid held Closed after = IsDeclined limit mid held sink.Closed after
+  Leaves limit mid held NoMemory after = IsUntaken mid.port after.port ⊎ IsDeclined limit mid held sink.NoMemory after
+  Leaves limit mid held fault after = IsUntaken mid.port after.port
+
+  -- one round
+  abbrev pub PullsRound : ℕ → Moment K → List ℕ → Result Handed LineFault → Moment K → List ℕ → Type 0
+  PullsRound limit mid held (Ok handed) after later =
+      (round : Round) × (came : List ℕ) × IsWholeRound limit round × Consumes mid.left after.left came × (held ++ came ≡ answer_in round ++ later) × Takes mid.port round after.port
+      × IsWritten (front_line round.front) mid.taken after.taken mid.unwritten after.unwritten × (after.unread ≡ mid.unread)
+      × (handed.count ≡ length round.lines) × (handed.more ≡ round.more)
+  PullsRound limit mid held (Err fault) after later = Leaves limit mid held fault after × CountsEnds mid.unread after.unread mid.unwritten after.unwritten fault
+
+  -- a pull that ends well has written `quit` after the last round, which said that nothing is left, or was the last that may be
+  pub record PullsWell (limit most : ℕ) (before after : Moment K) (pulled : Pulled) : Type 0 where
+    pub mid : Moment K
+    pub greeting : List ℕ
+    pub rounds : List Round
+    pub held : List ℕ
+    pub pull : IsPull limit before mid greeting rounds held
+    pub quit : IsWritten (codes "quit\n") mid.taken after.taken mid.unwritten after.unwritten
+    pub same : (after.port ≡ mid.port) × (after.left ≡ mid.left) × (after.unread ≡ mid.unread)
+    pub counted : pulled.rounds ≡ length rounds
+    pub few : length rounds ≤ most
+    pub summed : pulled.taken ≡ sum_by (λ round. length round.lines) rounds
+    pub ends : EndWith rounds pulled.more
+    pub last : (pulled.more ≡ false) ⊎ (length rounds ≡ most)
+
+  -- a pull that fails has handed over the operations of the whole answers before, and nothing more
+  abbrev pub Fails : ℕ → ℕ → Moment K → Moment K → LineFault → Type 0
+  Fails limit most before after fault =
+      CountsEnds before.unread after.unread before.unwritten after.unwritten fault
+      × ((after.port ≡ before.port)
+      ⊎ ((mid : Moment K) × (greeting : List ℕ) × (rounds : List Round) × (held : List ℕ) × IsPull limit before mid greeting rounds held × (length rounds ≤ most)
+      × Leaves limit mid held fault after))
+
+  abbrev pub Pull : ℕ → ℕ → Moment K → Moment K → Result Pulled LineFault → Type 0
+  Pull limit most before after (Ok pulled) = PullsWell limit most before after pulled
+  Pull limit most before after (Err fault) = Fails limit most before after fault

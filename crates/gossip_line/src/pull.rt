@@ -1,0 +1,269 @@
+//! Runs a pull.
+
+ghost use Rattle.std.specs.Prelude.{◌≡◌, ◌++◌, ◌<◌, ◌≤◌, ℕ, List, IfErr, IfNone, IfOk, IfSome, MatchOption, MatchResult, Ok, OnOk, length, ◌∷◌, [], ◌≢◌, Err};
+ghost use Rattle.review_ops.specs.Operation.{Operation};
+ghost use Rattle.std.specs.Io.KnownBytes.{Consumes, IsAtEnd};
+ghost use Rattle.std.specs.Prelude.{string_bytes};
+ghost use Rattle.gossip_line.specs.Pull.{Awaits, CountsEnds, CountsReading, Greets, IsReadingFault, Pull, PullsRound, ReadsAnswer, SaysOperation, SendsFront, fault_of, front_line, rest_word};
+ghost use Rattle.gossip_line.specs.Session.{Moment};
+
+use super::command::{HELLO, after};
+use super::fault::LineFault;
+use super::send::send;
+use super::session::LINE_LIMIT;
+use byte_ends::{BytesFault, Drain, Source};
+use lattice_core::NoMemory;
+use line_reader::LineReader;
+use op_text::{OpTextFault, read_op, write_front};
+use replica_core::{Front, Missing};
+use review_ops::Op;
+use site_port::{Sink, SinkFault};
+use std::alloc::Global;
+
+/// How many operations an answer may have.
+const ANSWER_LIMIT: usize = 256;
+
+/// How many rounds a pull may have.
+const ROUNDS: u32 = 4096;
+
+/// What a pull that ended well did.
+#[derive(Clone, Copy, Debug, PartialEq, Eq)]
+pub struct Pulled {
+    /// How many answers were read whole and handed over.
+    pub rounds: u32,
+    /// How many operations they had.
+    pub taken: u64,
+    /// Whether the last one said that others are left.
+    pub more: bool,
+}
+
+/// What a round handed over.
+#[derive(Clone, Copy, Debug, PartialEq, Eq)]
+pub struct Handed {
+    pub count: usize,
+    pub more: bool,
+}
+
+/// Takes from a session what the sink lacks, in rounds: the sink's front is written, an answer is read, and once it is whole its operations are
+/// handed over, in their order. After an answer that says that nothing is left, or after 4,096 rounds, `quit` is written and nothing more is read.
+/// Refusals: 1 `LongLine`, a line has more than 524,288 bytes; 2 `BadVersion`, the first line names another version; 3 `ReadFault`, the source
+/// failed; 4 `WriteFault`, the drain failed; 5 `NoMemory`, memory was refused, here or in the sink; 6 `BadAnswer`, a line is none that an answer
+/// has, an operation isn't read, a 257th one came, or the input ended where a line is awaited; 7 `Closed`, the sink has ended. Of an answer that
+/// isn't whole nothing is handed over. It costs what the sink costs, and O(n) for n bytes that are read and written.
+pub fn pull_run<S: Source, D: Drain, K: Sink>(
+    alloc: Global,
+    source: &mut S,
+    drain: &mut D,
+    sink: &mut K,
+) -> Result<Pulled, LineFault>
+    ensures { Pull K.sinks 524288 4096
+        (record { port = sink.old; left = S.left source.old; taken = D.taken drain.old; unread = S.failed source.old; unwritten = D.failed drain.old })
+        (record { port = sink.new; left = S.left source.new; taken = D.taken drain.new; unread = S.failed source.new; unwritten = D.failed drain.new })
+        result }
+{
+    pull_rounds(alloc, LINE_LIMIT, ROUNDS, source, drain, sink)
+}
+
+/// Takes in rounds, at most so many, and by lines of at most so many bytes.
+pub fn pull_rounds<S: Source, D: Drain, K: Sink>(
+    alloc: Global,
+    limit: usize,
+    most: u32,
+    source: &mut S,
+    drain: &mut D,
+    sink: &mut K,
+) -> Result<Pulled, LineFault>
+    requires { 0 < most }
+    ensures { Pull K.sinks limit most
+        (record { port = sink.old; left = S.left source.old; taken = D.taken drain.old; unread = S.failed source.old; unwritten = D.failed drain.old })
+        (record { port = sink.new; left = S.left source.new; taken = D.taken drain.new; unread = S.failed source.new; unwritten = D.failed drain.new })
+        result }
+{
+    let Ok(mut reader) = LineReader::new(alloc, limit) else {
+        return Err(LineFault::NoMemory);
+    };
+    greet(&mut reader, source, drain)?;
+    let mut taken: u64 = 0;
+    for round in 0..most {
+        let handed = pull_round(alloc, &mut reader, source, drain, sink)?;
+        taken += handed.count as u64;
+        if !handed.more {
+            send(drain, "quit\n")?;
+            return Ok(Pulled {
+                rounds: round + 1,
+                taken,
+                more: false,
+            });
+        }
+    }
+    send(drain, "quit\n")?;
+    Ok(Pulled {
+        rounds: most,
+        taken,
+        more: true,
+    })
+}
+
+/// Names the version, and awaits that it is named back.
+fn greet<S: Source, D: Drain>(
+    reader: &mut LineReader,
+    source: &mut S,
+    drain: &mut D,
+) -> Result<(), LineFault>
+    ensures greets { (came : List ℕ) × Consumes (S.left source.old) (S.left source.new) came
+        × Greets reader.old came (D.taken drain.old) (D.taken drain.new) (S.failed source.old) (S.failed source.new)
+        (D.failed drain.old) (D.failed drain.new) result reader.new }
+    ensures limit { reader.new.limit ≡ reader.old.limit }
+{
+    send(drain, "hello 2\n")?;
+    await_line(reader, source)?;
+    if reader.line() == HELLO {
+        return Ok(());
+    }
+    match after(reader.line(), b"hello ") {
+        Some(_) => Err(LineFault::BadVersion),
+        None => Err(LineFault::BadAnswer),
+    }
+}
+
+/// Pulls one answer, and hands over its operations.
+fn pull_round<S: Source, D: Drain, K: Sink>(
+    alloc: Global,
+    reader: &mut LineReader,
+    source: &mut S,
+    drain: &mut D,
+    sink: &mut K,
+) -> Result<Handed, LineFault>
+    ensures pulls { PullsRound K.sinks reader.old.limit
+        (record { port = sink.old; left = S.left source.old; taken = D.taken drain.old; unread = S.failed source.old; unwritten = D.failed drain.old })
+        reader.old.held result
+        (record { port = sink.new; left = S.left source.new; taken = D.taken drain.new; unread = S.failed source.new; unwritten = D.failed drain.new })
+        reader.new.held }
+    ensures limit { reader.new.limit ≡ reader.old.limit }
+{
+    let front = match sink.front() {
+        Ok(front) => front,
+        Err(fault) => return Err(declined(fault)),
+    };
+    send_front(alloc, drain, &front)?;
+    let Missing { ops, more } = read_answer(alloc, reader, source)?;
+    let count = ops.as_slice().len();
+    match sink.take_all(ops) {
+        Ok(()) => Ok(Handed { count, more }),
+        Err(fault) => Err(declined(fault)),
+    }
+}
+
+/// How a pull fails where its sink does.
+fn declined(fault: SinkFault) -> LineFault
+    ensures { result ≡ fault_of fault }
+{
+    match fault {
+        SinkFault::NoMemory => LineFault::NoMemory,
+        SinkFault::Closed => LineFault::Closed,
+    }
+}
+
+/// Asks for what a front lacks.
+fn send_front<D: Drain>(alloc: Global, drain: &mut D, front: &Front) -> Result<(), LineFault>
+    ensures { SendsFront front.now (D.taken drain.old) (D.taken drain.new) (D.failed drain.old) (D.failed drain.new) result }
+{
+    let Ok(line) = line_of(alloc, front) else {
+        return Err(LineFault::NoMemory);
+    };
+    send(drain, line.as_str())
+}
+
+/// The line that asks for what a front lacks.
+fn line_of(alloc: Global, front: &Front) -> Result<String, NoMemory>
+    ensures { IfOk result (λ line. string_bytes line ≡ front_line front.now) }
+{
+    let text = write_front(alloc, front)?;
+    let mut line = String::new(alloc);
+    line.push_str("front ")?;
+    line.push_str(text.as_str())?;
+    line.push_str("\n")?;
+    Ok(line)
+}
+
+/// Reads an answer whole.
+fn read_answer<S: Source>(
+    alloc: Global,
+    reader: &mut LineReader,
+    source: &mut S,
+) -> Result<Missing, LineFault>
+    ensures reads { (came : List ℕ) × Consumes (S.left source.old) (S.left source.new) came
+        × ReadsAnswer reader.old came result reader.new }
+    ensures limit { reader.new.limit ≡ reader.old.limit }
+    ensures counted { CountsReading (S.failed source.old) (S.failed source.new) result }
+{
+    let mut ops = Vec::new(alloc);
+    'lines: loop {
+        await_line(reader, source)?;
+        if let Some(more) = rest_of(reader.line()) {
+            return Ok(Missing { ops, more });
+        }
+        if ops.len() == ANSWER_LIMIT {
+            return Err(LineFault::BadAnswer);
+        }
+        add_operation(&mut ops, alloc, reader.line())?;
+    }
+}
+
+/// Reads a line, which has to come.
+fn await_line<S: Source>(reader: &mut LineReader, source: &mut S) -> Result<(), LineFault>
+    ensures awaits { (came : List ℕ) × Consumes (S.left source.old) (S.left source.new) came
+        × Awaits reader.old came result reader.new }
+    ensures end { result ≡ Err LineFault.BadAnswer → IsAtEnd (S.left source.new) }
+    ensures limit { reader.new.limit ≡ reader.old.limit }
+    ensures counted { CountsReading (S.failed source.old) (S.failed source.new) result }
+{
+    match reader.next_line(source) {
+        Ok(true) => Ok(()),
+        Ok(false) => Err(LineFault::BadAnswer),
+        Err(BytesFault::TooLong) => Err(LineFault::LongLine),
+        Err(BytesFault::ReadFault) => Err(LineFault::ReadFault),
+        Err(BytesFault::NoMemory) => Err(LineFault::NoMemory),
+    }
+}
+
+/// Whether others are left, where a line says so.
+fn rest_of(line: &[u8]) -> Option<bool>
+    ensures { IfSome result (λ more. line.now ≡ rest_word more) }
+{
+    if line == b"more".as_slice() {
+        return Some(true);
+    }
+    if line == b"done".as_slice() {
+        return Some(false);
+    }
+    None
+}
+
+/// Adds the operation of a line.
+fn add_operation(ops: &mut Vec<Op>, alloc: Global, line: &[u8]) -> Result<(), LineFault>
+    ensures ok { OnOk result ((op : Operation) × SaysOperation line.now op × (ops.new.items ≡ ops.old.items ++ op ∷ [])) }
+    ensures err { IfErr result IsReadingFault }
+    ensures unread { IfErr result (λ fault. fault ≢ LineFault.ReadFault) }
+{
+    let Some(text) = after(line, b"op ") else {
+        return Err(LineFault::BadAnswer);
+    };
+    let op = match read_op(alloc, text) {
+        Ok(op) => op,
+        Err(OpTextFault::NoMemory) => return Err(LineFault::NoMemory),
+        Err(_) => return Err(LineFault::BadAnswer),
+    };
+    if add(ops, op).is_err() {
+        return Err(LineFault::NoMemory);
+    }
+    Ok(())
+}
+
+/// Adds an operation at the end.
+fn add(ops: &mut Vec<Op>, op: Op) -> Result<(), NoMemory>
+    ensures { OnOk result (ops.new.items ≡ ops.old.items ++ op ∷ []) }
+{
+    ops.push(op)?;
+    Ok(())
+}
