@@ -1,8 +1,8 @@
 -- Labels of regions: a search on its way, all searches, and the nodes of each label.
 use Rattle.std.proofs.Common.{◌≡◌, ◌≢◌, ◌⊎◌, inl, inr, ◌+◌, ◌<◌, ◌≤◌, ◌++◌, ◌∷◌, [], ℕ, zero, suc, Bool, true, false, cond, is_none, List, Option, None, Some, refl, sym, ◌∙◌, ap, subst, length, replicate, set, take, get_or, arith}
 use Rattle.std.specs.List.{Contains, count_by, filter}
-use Rattle.std.proofs.lemmas.Bool.{cases_eq, cases_lt, eq-eqb, ne_eqb, eqb-true}
-use Rattle.std.proofs.lemmas.List.{append-nil, get_or_past, get_or-replicate, get_or-set_same, get_or-set_other, length-replicate, length-set}
+use Rattle.std.proofs.lemmas.Bool.{cases_eq, eq-eqb, ne_eqb, eqb-true}
+use Rattle.std.proofs.lemmas.List.{append-nil, get_or-set_same, get_or-set_other, length-replicate, length-set}
 use Rattle.std.proofs.lemmas.List.Elements.{Contains-push_cases, Contains-append_left, Contains-append_right, filter_more}
 use Rattle.std.proofs.lemmas.List.Sums.{sum_by-set}
 use Rattle.lattice_core.specs.MemberLaws.{Contains-none}
