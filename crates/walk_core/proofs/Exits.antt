@@ -3,8 +3,8 @@ use Rattle.std.proofs.Common.{◌≡◌, inl, inr, ◌+◌, ◌<◌, ◌≤◌, 
 use Rattle.std.specs.List.{Contains}
 use Rattle.std.specs.Ordering.{nat_cmp}
 use Rattle.std.specs.List.Sorted.{IsStrictlySortedBy}
-use Rattle.std.proofs.lemmas.Bool.{cases_eq, cases_lt}
-use Rattle.std.proofs.lemmas.List.{get_or_past, get_or-replicate, get_or-set_same, get_or-set_other, length-replicate, length-set, length-take, take-append-drop, take_all, take_more}
+use Rattle.std.proofs.lemmas.Bool.{cases_eq}
+use Rattle.std.proofs.lemmas.List.{get_or-set_same, get_or-set_other, length-replicate, length-set, length-take, take-append-drop, take_all, take_more}
 use Rattle.lattice_core.specs.MemberLaws.{Contains-none}
 use Rattle.walk_core.specs.Digraphs.{HasEdge, IsMarked}
 use Rattle.walk_core.specs.Ranks.{LeadsTo, HasCount}
@@ -12,7 +12,7 @@ use Rattle.walk_core.specs.RankLaws.{LeadsTo-trans, LeadsTo-edge}
 use Rattle.walk_core.specs.Components.{AreFirsts}
 use Rattle.walk_core.specs.Sums.{option_at, IsNext, AreNexts, IsHereOrNext, AreForks, AreSizes, IsWayOut}
 use Rattle.walk_core.proofs.EdgeLemmas.{Contains-more}
-use Rattle.walk_core.proofs.Writes.{slice_get-set_other, slice_get-set_same}
+use Rattle.walk_core.proofs.Writes.{none_read, slice_get-set_other, slice_get-set_same}
 use Rattle.walk_core.proofs.Gathering.{first_within}
 use Rattle.walk_core.proofs.Blocks.{count_none_of, count_within, count_yes, count_no, sorted_part_left}
 use Rattle.walk_core.proofs.Adding.{first_again}
@@ -31,17 +31,11 @@ module _ (P : ℕ → Type 0) (xs : List ℕ) (i end : ℕ) where
 
 -- ---- the next cycles
 
-pub none_at : (size x : ℕ) → option_at (replicate size None) x ≡ None
-none_at size x = elim (cases_lt x size) [
-  | inl within ↦ get_or-replicate size x None None within
-  | inr past ↦ get_or_past (replicate size None) x None (omega (arith, past, length-replicate {A = Option ℕ} size None))
-]
-
 module _ (graph : List (List ℕ)) (firsts : List ℕ) where
   pub nexts_none : (size : ℕ) → size ≡ length graph → AreNexts graph firsts (replicate size None)
   nexts_none size sized = record {
     size = length-replicate size None ∙ sized;
-    each = λ from to is. let no_next : None ≡ Some to = sym (none_at size from) ∙ is in cc;
+    each = λ from to is. let no_next : None ≡ Some to = sym (none_read size from) ∙ is in cc;
   }
 
   module _ (are : AreFirsts graph firsts) (node : ℕ) (within : node < length graph) (ends : List ℕ) (are_ends : (y : ℕ) → Contains ends y → HasEdge graph node y)

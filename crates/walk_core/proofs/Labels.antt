@@ -1,14 +1,14 @@
 -- Labels of regions: a search on its way, all searches, and the nodes of each label.
 use Rattle.std.proofs.Common.{◌≡◌, ◌≢◌, ◌⊎◌, inl, inr, ◌+◌, ◌<◌, ◌≤◌, ◌++◌, ◌∷◌, [], ℕ, zero, suc, Bool, true, false, cond, is_none, List, Option, None, Some, refl, sym, ◌∙◌, ap, subst, length, replicate, set, take, get_or, arith}
 use Rattle.std.specs.List.{Contains, count_by, filter}
-use Rattle.std.proofs.lemmas.Bool.{cases_eq, cases_lt, eq-eqb, ne_eqb, eqb-true}
-use Rattle.std.proofs.lemmas.List.{append-nil, get_or_past, get_or-replicate, get_or-set_same, get_or-set_other, length-replicate, length-set}
+use Rattle.std.proofs.lemmas.Bool.{cases_eq, eq-eqb, ne_eqb, eqb-true}
+use Rattle.std.proofs.lemmas.List.{append-nil, get_or-set_same, get_or-set_other, length-replicate, length-set}
 use Rattle.std.proofs.lemmas.List.Elements.{Contains-push_cases, Contains-append_left, Contains-append_right, filter_more}
 use Rattle.std.proofs.lemmas.List.Sums.{sum_by-set}
 use Rattle.lattice_core.specs.MemberLaws.{Contains-none}
 use Rattle.walk_core.specs.Digraphs.{HasEdge, IsMarked, ends_of, row}
 use Rattle.walk_core.specs.Regions.{label_of, AreAlike, AreRegions, Waits, HasLabelled, is_label, has_label, AreGrouped}
-use Rattle.walk_core.proofs.Writes.{slice_get-set_other, slice_get-set_same}
+use Rattle.walk_core.proofs.Writes.{none_read, slice_get-set_other, slice_get-set_same}
 
 -- ---- labels read and written
 
@@ -172,18 +172,12 @@ pub record AreRegionsTo (graph : List (List ℕ)) (kept : List Bool) (labels : L
   pub within : (x label : ℕ) → label_of labels x ≡ Some label → label < length graph
   pub alike : AreAlike graph kept labels
 
-none_labelled : (size x : ℕ) → label_of (replicate size None) x ≡ None
-none_labelled size x = elim (cases_lt x size) [
-  | inl within ↦ get_or-replicate size x None None within
-  | inr past ↦ get_or_past (replicate size None) x None (omega (arith, past, length-replicate {A = Option ℕ} size None))
-]
-
 pub regions_none : (graph : List (List ℕ)) (kept : List Bool) (size : ℕ) → size ≡ length graph → AreRegionsTo graph kept (replicate size None) 0
 regions_none graph kept size sized = record {
   size = length-replicate size None ∙ sized;
   named = λ x less. absurd (omega (arith, less));
-  within = λ x label is. let no_label : None ≡ Some label = sym (none_labelled size x) ∙ is in cc;
-  alike = λ x y x_kept y_kept edge. none_labelled size x ∙ sym (none_labelled size y);
+  within = λ x label is. let no_label : None ≡ Some label = sym (none_read size x) ∙ is in cc;
+  alike = λ x y x_kept y_kept edge. none_read size x ∙ sym (none_read size y);
 }
 
 module _ (graph : List (List ℕ)) (kept : List Bool) (labels : List (Option ℕ)) (count : ℕ) (are : AreRegionsTo graph kept labels count) where

@@ -1,7 +1,8 @@
--- What is read of a list after a write.
-use Rattle.std.proofs.Common.{◌≡◌, ◌≢◌, ℕ, zero, suc, ◌<◌, List, [], ◌∷◌, length, set, Some, refl, ap, ◌∙◌, arith}
+-- What is read of a list after a write, and of a list of nothing.
+use Rattle.std.proofs.Common.{◌≡◌, ◌≢◌, ℕ, zero, suc, ◌<◌, List, [], ◌∷◌, length, replicate, set, get_or, Option, None, Some, inl, inr, refl, ap, ◌∙◌, arith}
 use Rattle.std.specs.List.{slice_get}
-use Rattle.std.proofs.lemmas.List.{length-set, get_or-set_same}
+use Rattle.std.proofs.lemmas.Bool.{cases_lt}
+use Rattle.std.proofs.lemmas.List.{length-replicate, length-set, get_or_past, get_or-replicate, get_or-set_same}
 use Rattle.std.proofs.lemmas.Option.{slice_get-get_or}
 
 pub slice_get-set_other : {T : Type 0} (xs : List T) (i : ℕ) (y : T) (j : ℕ) → j ≢ i → slice_get (set xs i y) j ≡ slice_get xs j
@@ -15,3 +16,9 @@ pub slice_get-set_same : {T : Type 0} (xs : List T) (i : ℕ) (y : T) → i < le
 slice_get-set_same xs i y within =
     let longer : i < length (set xs i y) = omega (arith, length-set xs i y) in
     slice_get-get_or (set xs i y) i y longer ∙ ap Some (get_or-set_same xs i y y within)
+
+pub none_read : (size x : ℕ) → get_or {A = Option ℕ} (replicate size None) x None ≡ None
+none_read size x = elim (cases_lt x size) [
+  | inl within ↦ get_or-replicate size x None None within
+  | inr past ↦ get_or_past (replicate size None) x None (omega (arith, past, length-replicate {A = Option ℕ} size None))
+]

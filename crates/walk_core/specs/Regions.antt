@@ -1,4 +1,5 @@
--- Regions of the kept nodes of a graph: no edge leads from one region into another. A region is named by one of its nodes, which is its label.
+-- Regions of the kept nodes of a graph: no edge leads from one region into another. A region is named by one of its
+-- nodes, which is its label.
 use Rattle.std.specs.Prelude.{◌≡◌, ◌≢◌, ◌⊎◌, ◌<◌, ◌==◌, ℕ, Bool, false, List, Option, None, Some, filter, length, slice_index_or}
 use Rattle.walk_core.specs.Digraphs.{HasEdge, IsMarked, ends_of}
 
@@ -7,7 +8,8 @@ label_of labels x = slice_index_or labels x None
 
 -- kept nodes that an edge joins have the same label
 abbrev pub AreAlike : List (List ℕ) → List Bool → List (Option ℕ) → Type 0
-AreAlike graph kept labels = (x y : ℕ) → IsMarked kept x → IsMarked kept y → HasEdge graph x y → label_of labels x ≡ label_of labels y
+AreAlike graph kept labels =
+    (x y : ℕ) → IsMarked kept x → IsMarked kept y → HasEdge graph x y → label_of labels x ≡ label_of labels y
 
 -- each kept node has a label, and no edge leads from one region into another
 pub record AreRegions (graph : List (List ℕ)) (kept : List Bool) (labels : List (Option ℕ)) : Type 0 where

@@ -1,5 +1,5 @@
--- Counts that add up: where a cycle leads into at most one other, it leads to its own nodes and to those that the other leads to. Each cycle is named
--- by its first node, and a node that is on none is one by itself.
+-- Counts that add up: where a cycle leads into at most one other, it leads to its own nodes and to those that the other
+-- leads to. Each cycle is named by its first node, and a node that is on none is one by itself.
 use Rattle.std.specs.Prelude.{◌≡◌, ◌≢◌, ◌⊎◌, ◌+◌, ◌-◌, ◌<◌, ◌^◌, ℕ, Bool, List, Option, None, Some, Contains, length, min, option_map, slice_index, slice_index_or, unwrap_or}
 use Rattle.std.specs.Ordering.{nat_cmp}
 use Rattle.walk_core.specs.Ranks.{HasCount, LeadsTo}
@@ -33,7 +33,8 @@ pub record AreForks (graph : List (List ℕ)) (firsts : List ℕ) (nexts : List 
 
 -- how many of some nodes are on each cycle
 abbrev pub AreSizes : List ℕ → List ℕ → List ℕ → Type 0
-AreSizes firsts nodes sizes = (first : ℕ) → first < length firsts → HasCount nat_cmp (λ y. Contains nodes y × (slice_index firsts y ≡ first)) (slice_index sizes first)
+AreSizes firsts nodes sizes = (first : ℕ) → first < length firsts
+    → HasCount nat_cmp (λ y. Contains nodes y × (slice_index firsts y ≡ first)) (slice_index sizes first)
 
 -- each sum that is there is how many of some nodes its node leads to
 pub record AreSums (graph : List (List ℕ)) (targets : List ℕ) (sums : List (Option ℕ)) : Type 0 where

@@ -187,17 +187,39 @@ fn two_thousand_nodes_are_counted_in_blocks(rt: HostRuntime) -> Result<(), Fail>
     Ok(())
 }
 
+/// Two such graphs, of the even nodes and of the odd ones.
+fn two_long_edges(alloc: Global, nodes: usize) -> Result<Vec<(usize, usize)>, NoMemory> {
+    let mut edges = Vec::new(alloc);
+    for node in 2..nodes {
+        edges.push((node, node - 2))?;
+        edges.push((node, node / 4 * 2 + node % 2))?;
+    }
+    Ok(edges)
+}
+
+#[test]
+fn two_regions_are_counted_apart(rt: HostRuntime) -> Result<(), Fail> {
+    let nodes = 2400;
+    let edges = two_long_edges(rt.alloc(), nodes)?;
+    let order = order_of(rt.alloc(), nodes, edges.as_slice())?;
+    assert_eq!(rt; order.len(), nodes);
+    for (place, node) in order.iter().enumerate() {
+        assert_eq!(rt; *node, place);
+    }
+    Ok(())
+}
+
 /// Whether a heap of this size suffices for a graph and its order, which is right then. What was refused keeps no memory: the second time ends as
 /// the first.
 fn suffices(rt: &impl Abort, alloc: Global, size: usize) -> Result<bool, Fail> {
     let heap = LocalHeap::new(alloc, size)?;
-    let edges = [(0, 1), (1, 2), (2, 0), (2, 3)];
-    let first = order_of(&heap, 4, &edges);
+    let edges = [(0, 1), (1, 2), (2, 0), (2, 3), (1, 4)];
+    let first = order_of(&heap, 5, &edges);
     let done = first.is_ok();
     if let Ok(order) = first {
-        assert_eq!(rt; order.as_slice(), [3, 0, 1, 2].as_slice());
+        assert_eq!(rt; order.as_slice(), [3, 4, 0, 1, 2].as_slice());
     }
-    let second = order_of(&heap, 4, &edges);
+    let second = order_of(&heap, 5, &edges);
     assert_eq!(rt; second.is_ok(), done);
     Ok(done)
 }

@@ -1,4 +1,5 @@
 use Rattle.std.proofs.Common.{◌≡◌, ◌+◌, ◌-◌, [], take, drop, inl, inr, refl, sym, ◌∙◌, subst, arith}
+use Rattle.std.proofs.lemmas.List.{take_all}
 use Rattle.walk_core.specs.Marks.{CountsBlock, LeadsToCount}
 use Rattle.walk_core.proofs.Blocks.{count_none, block_within, next_counts}
 use Rattle.walk_core.proofs.counts.count_targets.Goals as goal
@@ -34,3 +35,6 @@ loop-start-preserved g c =
         | inr kept ↦ elim (c.loop-start.invariant.elsewhere row) [ inl here ↦ inl here | inr was ↦ inr (kept ∙ was) ]
       ];
     }
+
+pub returns-clause-each : goal.returns-clause-each
+returns-clause-each g c = rw (take_all c.loop-start.start c.args.targets.now c.loop-start-test.false) at c.loop-start.invariant.each
