@@ -1,9 +1,7 @@
 -- A script is played step by step, and what the steps print is printed one after the other.
 use Rattle.std.proofs.Common.{◌≡◌, inl, inr, ℕ, ◌+◌, ◌<◌, List, [], ◌∷◌, ◌++◌, append-nil, append_assoc, length, take, Option, None, Some, Ok, Err, refl, ap, sym, ◌∙◌, subst, arith}
-use Rattle.std.specs.Prelude.{IsErrOf, IsOk, MatchOption}
 use Rattle.std.specs.Io.KnownBytes.{Appends}
 use Rattle.std.proofs.Math.Seq.{take-append-add}
-use Rattle.std.proofs.lemmas.Bool.{false≢true}
 use Rattle.std.proofs.lemmas.List.{length-append}
 use Rattle.world_core.specs.World.{WorldState, new_world}
 use Rattle.script_text.specs.declared.fault.ScriptFault.TheVariants.{BadLine, NoMemory}
@@ -63,16 +61,6 @@ pub begins : (sites : ℕ) (steps left : List Step) (world : WorldState) (old : 
 begins sites steps left world old new all =
     record { played = []; whole = sym all; text = []; run = (refl, new); printed = nothing_printed old }
 
--- a script that was played to its end ends at its bad line, if it has one
-ended_at : (sites : ℕ) (steps : List Step) (bad : Option ℕ) (text : List ℕ) (ended : Ended) → IsRunText (new_world sites) steps text
-    → MatchOption bad (IsOk ended) (λ line. IsErrOf ended (Script (BadLine line))) → IsPlayed sites steps bad text ended
-ended_at sites steps None text (Ok done) run ends = (refl, run)
-ended_at sites steps None text (Err refusal) run ends = absurd (false≢true ends)
-ended_at sites steps (Some line) text (Ok done) run ends = cc
-ended_at sites steps (Some line) text (Err refusal) run ends =
-    let is : refusal ≡ Script (BadLine line) = cc in
-    subst (λ r. IsPlayed sites steps (Some line) text (Err r)) (sym is) (refl, run)
-
 module _ (sites : ℕ) (steps left : List Step) (world : WorldState) (old mid : ConsoleState) (so_far : HasPlayed sites steps left world old mid) where
   -- one step more is played
   next_whole : (step : Step) (rest : List Step) → left ≡ step ∷ rest → steps ≡ (so_far.played ++ step ∷ []) ++ rest
@@ -101,14 +89,6 @@ module _ (sites : ℕ) (steps left : List Step) (world : WorldState) (old mid : 
     cut-append so_far.text text old mid now so_far.printed cut,
     refl,
   )
-
-  -- no step is left
-  pub is_done : (bad : Option ℕ) (ended : Ended) → left ≡ [] → MatchOption bad (IsOk ended) (λ line. IsErrOf ended (Script (BadLine line)))
-      → Finishes (IsPlayed sites steps bad) old mid ended
-  is_done bad ended empty ends =
-      let all : steps ≡ so_far.played = so_far.whole ∙ ap (λ l. so_far.played ++ l) empty ∙ append-nil so_far.played in
-      let run : IsRunText (new_world sites) steps so_far.text = (world, subst (λ l. Plays (new_world sites) l so_far.text world) (sym all) so_far.run) in
-      inl (so_far.text, ended_at sites steps bad so_far.text ended run ends, so_far.printed)
 
 -- what printing a step's text says
 pub whole_of : (text : List ℕ) (old new : ConsoleState) (done : Unit {0}) → Prints text old new (Ok done) → IsPrinted text old new
