@@ -40,10 +40,6 @@ pub record IsNew (kept : List Bool) (start : ℕ) (before now : List (Option ℕ
   pub was : Waits kept before x
   pub is : label_of now x ≡ Some start
 
--- an edge joins two nodes
-abbrev Joins : List (List ℕ) → ℕ → ℕ → Type 0
-Joins graph x y = HasEdge graph x y ⊎ HasEdge graph y x
-
 pub record IsLabelling (graph : List (List ℕ)) (kept : List Bool) (start : ℕ) (before now : List (Option ℕ)) (ahead : List ℕ) : Type 0 where
   pub size : length now ≡ length before
   pub each : (x : ℕ) → (label_of now x ≡ label_of before x) ⊎ IsNew kept start before now x

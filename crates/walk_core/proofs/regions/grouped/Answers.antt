@@ -1,9 +1,9 @@
-use Rattle.std.proofs.Common.{◌≡◌, ◌<◌, ◌++◌, ◌∷◌, [], Some, Vec, ℕ, length, map, set, slice_index, ap, sym, ◌∙◌, subst, arith}
+use Rattle.std.proofs.Common.{◌≡◌, ◌<◌, ◌++◌, ◌∷◌, [], Some, Vec, ℕ, length, map, set, slice_index, refl, ap, sym, ◌∙◌, subst, arith}
 use Rattle.std.proofs.lemmas.List.{get_or_default, length-map, map-set}
 use Rattle.std.proofs.lemmas.List.Elements.{Contains-get_or}
 use Rattle.walk_core.specs.Regions.{AreGrouped, label_of}
 use Rattle.walk_core.proofs.EdgeLemmas.{ends_of-read}
-use Rattle.walk_core.proofs.Labels.{grouped_takes}
+use Rattle.walk_core.proofs.Labels.{grouped_none, grouped_skips, grouped_takes}
 use Rattle.walk_core.proofs.regions.grouped.Goals as goal
 
 pub bounds : goal.bounds
@@ -38,3 +38,14 @@ loop-node-preserved g c =
     let written : map items (set rows label c.push.new.self) ≡ set (map items rows) label (was.items ++ node ∷ []) =
     map-set items rows label c.push.new.self ∙ ap (set (map items rows) label) c.in_ok-push.ensures.items in
     subst (AreGrouped c.args.labels.now _) (sym written) more
+
+pub loop-node-init : goal.loop-node-init
+loop-node-init g c = grouped_none c.args.labels.now _ _ c.in_ok-rows.ensures refl
+
+pub loop-node-preserved-in_default : goal.loop-node-preserved-in_default
+loop-node-preserved-in_default g c =
+    let items = λ (row : Vec ℕ g.row.A.Denot). row.items in
+    let nodes = c.args.nodes.now in
+    let node = slice_index nodes c.loop-node.node-index in
+    grouped_skips c.args.labels.now nodes c.loop-node.node-index node c.loop-node-test.true (get_or_default nodes c.loop-node.node-index 0 _ c.loop-node-test.true)
+    (map items c.loop-node.rows.items) c.loop-node.invariant c.in_default.is

@@ -1,10 +1,11 @@
-use Rattle.std.proofs.Common.{◌^◌, ◌<◌, ◌∷◌, [], length, arith}
+use Rattle.std.proofs.Common.{◌≡◌, ◌^◌, ◌<◌, ◌∷◌, [], length, subst, arith}
+use Rattle.std.proofs.lemmas.List.{nil_from_length}
 use Rattle.std.specs.List.{All}
 use Rattle.std.proofs.lemmas.List.Elements.{All-append, All-from_recursion}
 use Rattle.lattice_core.specs.MemberLaws.{Contains-first}
 use Rattle.walk_core.specs.Regions.{Waits}
 use Rattle.walk_core.proofs.Spreading.{taken_within}
-use Rattle.walk_core.proofs.Labels.{fewer_unlabelled, labelling_starts, labelling_passes, labelling_takes}
+use Rattle.walk_core.proofs.Labels.{IsLabelling, fewer_unlabelled, labelled_all, labelling_starts, labelling_passes, labelling_takes}
 use Rattle.walk_core.proofs.regions.label_region.Goals as goal
 
 pub loop-node-init : goal.loop-node-init
@@ -49,3 +50,8 @@ loop-node-preserved g c =
       labelling = labelling_passes _ _ _ _ _ _ _ old (rw c.as_slice.ensures.value at c.if-waits.ensures);
       within = taken.1;
     }
+
+pub returns : goal.returns
+returns g c =
+    let none : c.loop-node.ahead.items ≡ [] = nil_from_length _ (omega (arith, c.in_default.ensures.cases.0, c.loop-node.ahead.ok)) in
+    labelled_all _ _ _ _ _ (subst (IsLabelling c.args.graph.now c.args.kept.now c.args.start c.args.labels.now.items c.loop-node.labels.items) none c.loop-node.invariant.labelling)
