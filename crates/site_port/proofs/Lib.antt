@@ -1,2 +1,3 @@
 pub mod OneReply
 pub mod Handed
+pub mod PassingOn

@@ -11,8 +11,10 @@ mod fault;
 mod laws;
 mod own;
 mod port;
+#[cfg(test)]
+mod tests;
 
 pub use fault::{PortFault, SinkFault};
-pub use laws::own_replies_are_one;
+pub use laws::{last_answers_pass_on_all, own_replies_are_one};
 pub use own::OwnPort;
 pub use port::{Port, Sink};
