@@ -1,21 +1,24 @@
 -- How a pull goes on by one line, and by one round.
-use Rattle.std.proofs.Common.{◌≡◌, ◌+◌, ◌≤◌, ℕ, Bool, true, false, List, [], ◌∷◌, ◌++◌, Option, Result, Ok, Err, length, refl, sym, ap, ◌∙◌, subst, inl, inr, append_assoc, append-nil, arith, length-append}
-use Rattle.std.specs.Prelude.{◌⊎◌, flat_map, map, not, sum_by}
+use Rattle.std.proofs.Common.{◌≡◌, ◌+◌, ◌≤◌, ℕ, Bool, true, false, List, [], ◌∷◌, ◌++◌, Option, Ok, Err, length, drop, refl, sym, ap, ◌∙◌, subst, inl, inr, append_assoc, append-nil, arith}
+use Rattle.std.specs.Prelude.{codes, flat_map, map, not, sum_by}
 use Rattle.std.specs.List.{AllByRecursion}
-use Rattle.std.specs.Io.KnownBytes.{Appends, Consumes}
+use Rattle.std.specs.Io.KnownBytes.{Appends, Consumes, IsAtEnd}
 use Rattle.std.proofs.KnownBytes.{Appends-trans, Consumes-trans}
 use Rattle.byte_ends.specs.Lines.{as_line, without_cr}
-use Rattle.site_port.specs.Sinks.{Offer, Uptake, fronts, hands, reached, took}
+use Rattle.op_text.specs.Spelling.{SpellsOperation}
+use Rattle.op_text.specs.declared.fault.OpTextFault.{OpTextFault}
+use Rattle.op_text.specs.declared.fault.OpTextFault.TheVariants as text
+use Rattle.site_port.specs.Sinks.{Offer, Uptake, fronts, reached}
 use Rattle.gossip_line.proofs.Talking.{All-push, flat_map-push}
 use Rattle.gossip_line.specs.Answers.{IsWritten, Sends}
-use Rattle.gossip_line.specs.Pull.{AreOperations, Awaits, CountsEnds, CountsReading, EndWith, Fails, IsDeclined, IsPull, IsReadingFault, IsUntaken, IsWholeRound, Leaves, OperationLine, PullsRound, Round, SaysOperation, SendsFront, Takes, TakesAll, answer_in, bytes_in, fault_of, front_line, ops_in}
+use Rattle.gossip_line.specs.Pull.{AreOperations, Awaits, Breaks, CountsEnds, CountsReading, EndWith, Fails, IsBroken, IsDeclined, IsPull, IsUngreeted, IsUnsaid, IsUnspelled, IsUntaken, IsWholeRound, Leaves, OperationLine, PullsRound, Round, SaysOperation, SendsFront, Takes, TakesAll, answer_in, bytes_in, fault_of, front_line, ops_in, rest_word, unread_fault}
 use Rattle.gossip_line.specs.Session.{IsPiece, Moment}
 use Rattle.gossip_line.specs.Texts.{hello}
 use Rattle.gossip_line.specs.declared.fault.LineFault.{LineFault}
 use Rattle.gossip_line.specs.declared.fault.LineFault.TheVariants as line
 use Rattle.gossip_line.specs.declared.pull.Handed.{Handed}
 use Rattle.byte_ends.specs.Failures.{OneFailed}
-use Rattle.line_reader.specs.Lines.{BeginsWithLine, Reading}
+use Rattle.line_reader.specs.Lines.{BeginsWithLine, IsTooLong, IsUnfinished, Reading}
 use Rattle.site_port.specs.declared.fault.SinkFault.{SinkFault}
 use Rattle.site_port.specs.declared.fault.SinkFault.TheVariants as sink
 use Rattle.std.proofs.lemmas.List.Sums.{sum_by-append}
@@ -28,6 +31,9 @@ use Rattle.review_ops.specs.Operation.{Operation}
 pub read_further : (first came done held next text later : List ℕ) → first ++ came ≡ done ++ held → held ++ next ≡ text ++ later → first ++ (came ++ next) ≡ (done ++ text) ++ later
 read_further first came done held next text later before now =
     sym (append_assoc first came next) ∙ ap (λ l. l ++ next) before ∙ append_assoc done held next ∙ ap (λ l. done ++ l) now ∙ sym (append_assoc done text later)
+
+pub goes_further : (first came done held next : List ℕ) → first ++ came ≡ done ++ held → first ++ (came ++ next) ≡ done ++ (held ++ next)
+goes_further first came done held next before = sym (append_assoc first came next) ∙ ap (λ l. l ++ next) before ∙ append_assoc done held next
 
 map-push : {S T : Type 0} (f : S → T) (xs : List S) (x : S) → map f (xs ++ x ∷ []) ≡ map f xs ++ f x ∷ []
 map-push f [] x = refl
@@ -72,24 +78,72 @@ sum_with rounds round = sum_by-append (λ (r : Round). length r.lines) rounds (r
 
 -- ---- faults
 
--- why a line isn't read
-pub awaits_reading : (old new : Reading) (came : List ℕ) (fault : LineFault) → Awaits old came (Err fault) new → IsReadingFault fault
-awaits_reading old new came line.LongLine h = tt
-awaits_reading old new came line.BadVersion h = h
-awaits_reading old new came line.ReadFault h = tt
-awaits_reading old new came line.WriteFault h = h
-awaits_reading old new came line.NoMemory h = tt
-awaits_reading old new came line.BadAnswer h = tt
-awaits_reading old new came line.Closed h = h
+-- what the count of failed reads tells where reading fails
+pub counts_broken : (limit count : ℕ) (rest : List ℕ) (left : Option (List ℕ)) (unread reads unwritten writes : ℕ) (fault : LineFault) → Breaks limit count rest left fault
+    → CountsReading {T = Unit {0}} unread reads (Err fault) → writes ≡ unwritten → CountsEnds unread reads unwritten writes fault
+counts_broken limit count rest left unread reads unwritten writes line.LongLine is h same = (h, same)
+counts_broken limit count rest left unread reads unwritten writes line.BadVersion is h same = absurd is
+counts_broken limit count rest left unread reads unwritten writes line.ReadFault is h same = (h, same)
+counts_broken limit count rest left unread reads unwritten writes line.WriteFault is h same = absurd is
+counts_broken limit count rest left unread reads unwritten writes line.NoMemory is h same = (h, same)
+counts_broken limit count rest left unread reads unwritten writes line.BadAnswer is h same = (h, same)
+counts_broken limit count rest left unread reads unwritten writes line.Closed is h same = absurd is
 
-pub counts_reading : (unread reads unwritten writes : ℕ) (fault : LineFault) → IsReadingFault fault → CountsReading {T = Unit {0}} unread reads (Err fault) → writes ≡ unwritten → CountsEnds unread reads unwritten writes fault
-counts_reading unread reads unwritten writes line.LongLine is h same = (h, same)
-counts_reading unread reads unwritten writes line.BadVersion is h same = absurd is
-counts_reading unread reads unwritten writes line.ReadFault is h same = (h, same)
-counts_reading unread reads unwritten writes line.WriteFault is h same = absurd is
-counts_reading unread reads unwritten writes line.NoMemory is h same = (h, same)
-counts_reading unread reads unwritten writes line.BadAnswer is h same = (h, same)
-counts_reading unread reads unwritten writes line.Closed is h same = absurd is
+-- a line that doesn't come breaks an answer
+pub awaits_breaks : (limit count : ℕ) (old new : Reading) (came : List ℕ) (left : Option (List ℕ)) (fault : LineFault) → old.limit ≡ limit → Awaits old came (Err fault) new
+    → (fault ≡ line.BadAnswer → IsAtEnd left) → Breaks limit count (old.held ++ came) left fault
+awaits_breaks limit count old new came left line.LongLine is h at_end = subst (λ l. IsTooLong l (old.held ++ came)) is h
+awaits_breaks limit count old new came left line.BadAnswer is h at_end = inl (subst (λ l. IsUnfinished l (old.held ++ came)) is h, at_end refl)
+awaits_breaks limit count old new came left line.ReadFault is h at_end = tt
+awaits_breaks limit count old new came left line.NoMemory is h at_end = tt
+awaits_breaks limit count old new came left line.BadVersion is h at_end = h
+awaits_breaks limit count old new came left line.WriteFault is h at_end = h
+awaits_breaks limit count old new came left line.Closed is h at_end = h
+
+-- and a greeting
+pub awaits_ungreeted : (limit : ℕ) (old new : Reading) (came : List ℕ) (left : Option (List ℕ)) (unread reads unwritten writes : ℕ) (fault : LineFault) → old.limit ≡ limit → Awaits old came (Err fault) new
+    → (fault ≡ line.BadAnswer → IsAtEnd left) → CountsReading {T = Unit {0}} unread reads (Err fault) → writes ≡ unwritten
+    → CountsEnds unread reads unwritten writes fault × IsUngreeted limit (old.held ++ came) left fault
+awaits_ungreeted limit old new came left unread reads unwritten writes line.LongLine is h at_end counted same = ((counted, same), subst (λ l. IsTooLong l (old.held ++ came)) is h)
+awaits_ungreeted limit old new came left unread reads unwritten writes line.BadAnswer is h at_end counted same = ((counted, same), inl (subst (λ l. IsUnfinished l (old.held ++ came)) is h, at_end refl))
+awaits_ungreeted limit old new came left unread reads unwritten writes line.ReadFault is h at_end counted same = ((counted, same), tt)
+awaits_ungreeted limit old new came left unread reads unwritten writes line.NoMemory is h at_end counted same = ((counted, same), tt)
+awaits_ungreeted limit old new came left unread reads unwritten writes line.BadVersion is h at_end counted same = absurd h
+awaits_ungreeted limit old new came left unread reads unwritten writes line.WriteFault is h at_end counted same = absurd h
+awaits_ungreeted limit old new came left unread reads unwritten writes line.Closed is h at_end counted same = absurd h
+
+pub unsent_ungreeted : (limit : ℕ) (bytes : List ℕ) (left : Option (List ℕ)) (unread unwritten writes : ℕ) (fault : LineFault) → fault ≡ line.WriteFault → OneFailed unwritten writes
+    → CountsEnds unread unread unwritten writes fault × IsUngreeted limit bytes left fault
+unsent_ungreeted limit bytes left unread unwritten writes fault is one =
+    subst (λ f. CountsEnds unread unread unwritten writes f × IsUngreeted limit bytes left f) (sym is) ((refl, one), tt)
+
+-- a text that isn't read spells nothing, unless memory was refused
+pub unread_unspelled : (spelling : List ℕ) (fault : OpTextFault) → ((op : Operation) → SpellsOperation spelling op → fault ≡ text.NoMemory) → IsUnspelled spelling (unread_fault fault)
+unread_unspelled spelling text.NoMemory only = tt
+unread_unspelled spelling text.NotJson only = λ op is. let e = only op is in cc
+unread_unspelled spelling (text.BadShape key) only = λ op is. let e = only op is in cc
+unread_unspelled spelling (text.BadBody cause) only = λ op is. let e = only op is in cc
+
+pub unspelled_unsaid : (said spelling : List ℕ) (fault : LineFault) → said ≡ codes "op " ++ spelling → IsUnspelled spelling fault → IsUnsaid said fault
+unspelled_unsaid said spelling line.BadAnswer is h = λ op says. h op (subst (λ t. SpellsOperation t op) (ap (drop 3) (sym says.1 ∙ is)) says.2)
+unspelled_unsaid said spelling line.NoMemory is h = tt
+unspelled_unsaid said spelling line.LongLine is h = h
+unspelled_unsaid said spelling line.BadVersion is h = h
+unspelled_unsaid said spelling line.ReadFault is h = h
+unspelled_unsaid said spelling line.WriteFault is h = h
+unspelled_unsaid said spelling line.Closed is h = h
+
+-- an operation that isn't taken breaks an answer
+pub unsaid_breaks : (limit count : ℕ) (rest piece later said : List ℕ) (left : Option (List ℕ)) (fault : LineFault) → BeginsWithLine limit rest piece later → said ≡ without_cr piece
+    → ((more : Bool) → ¬ (said ≡ rest_word more)) → IsUnsaid said fault → Breaks limit count rest left fault
+unsaid_breaks limit count rest piece later said left line.BadAnswer begins is none h =
+    inr (piece, later, begins, record { rest = λ more e. none more (is ∙ e); operation = inr (subst (λ l. (op : Operation) → ¬ SaysOperation l op) is h) })
+unsaid_breaks limit count rest piece later said left line.NoMemory begins is none h = tt
+unsaid_breaks limit count rest piece later said left line.LongLine begins is none h = absurd h
+unsaid_breaks limit count rest piece later said left line.BadVersion begins is none h = absurd h
+unsaid_breaks limit count rest piece later said left line.ReadFault begins is none h = absurd h
+unsaid_breaks limit count rest piece later said left line.WriteFault begins is none h = absurd h
+unsaid_breaks limit count rest piece later said left line.Closed begins is none h = absurd h
 
 -- where a fixed text isn't written
 pub not_sent : (text : List ℕ) (taken later : Option (List ℕ)) (failed failures : ℕ) (fault : LineFault) → Sends {T = Unit {0}} text (Ok tt) taken later failed failures (Err fault)
@@ -137,15 +191,16 @@ module _ {K : Type 0} (sinks : K → Offer → Uptake → K → Type 0) where
         none_unread = none_unread ∙ pull.none_unread;
       }
 
-  -- where reading fails the sink takes no more
-  pub untaken_left : (limit : ℕ) (mid after : Moment K) (held : List ℕ) (fault : LineFault) → IsReadingFault fault → IsUntaken sinks mid.port after.port → Leaves sinks limit mid held fault after
-  untaken_left limit mid after held line.LongLine is h = h
-  untaken_left limit mid after held line.BadVersion is h = h
-  untaken_left limit mid after held line.ReadFault is h = h
-  untaken_left limit mid after held line.WriteFault is h = h
-  untaken_left limit mid after held line.NoMemory is h = inl h
-  untaken_left limit mid after held line.BadAnswer is h = h
-  untaken_left limit mid after held line.Closed is h = absurd is
+  -- where an answer isn't whole the sink takes no more
+  pub broken_left : (limit : ℕ) (mid after : Moment K) (held came : List ℕ) (front : Reaches) (fault : LineFault) → sinks mid.port fronts (reached front) after.port → Consumes mid.left after.left came
+      → IsBroken limit (held ++ came) after.left fault → Leaves sinks limit mid held fault after
+  broken_left limit mid after held came front line.LongLine says read h = (front, came, says, read, h)
+  broken_left limit mid after held came front line.BadAnswer says read h = (front, came, says, read, h)
+  broken_left limit mid after held came front line.ReadFault says read h = inr (front, says)
+  broken_left limit mid after held came front line.NoMemory says read h = inl (inr (front, says))
+  broken_left limit mid after held came front line.BadVersion says read h = absurd h.breaks
+  broken_left limit mid after held came front line.WriteFault says read h = absurd h.breaks
+  broken_left limit mid after held came front line.Closed says read h = absurd h.breaks
 
   -- why a round isn't whole
   pub record IsRoundFailed (limit : ℕ) (mid : Moment K) (held : List ℕ) (fault : LineFault) (after : Moment K) : Type 0 where

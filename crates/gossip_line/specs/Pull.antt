@@ -1,11 +1,11 @@
 -- A pull: in each round the sink's front is written, a whole answer is read, and its operations are handed to the sink.
-use Rattle.std.specs.Prelude.{◌≡◌, ◌⊎◌, ◌≤◌, ◌+◌, ℕ, Bool, true, false, List, [], ◌∷◌, ◌++◌, Option, Result, Ok, Err, codes, flat_map, length, map, sum_by, if◌then◌else◌}
+use Rattle.std.specs.Prelude.{◌≡◌, ◌≢◌, ◌⊎◌, ◌≤◌, ℕ, Bool, true, false, List, [], ◌∷◌, ◌++◌, Option, Result, Ok, Err, codes, flat_map, length, map, sum_by, if◌then◌else◌}
 use Rattle.std.specs.List.{AllByRecursion}
-use Rattle.std.specs.Io.KnownBytes.{Consumes}
+use Rattle.std.specs.Io.KnownBytes.{Consumes, IsAtEnd}
 use Rattle.byte_ends.specs.Failures.{OneFailed}
 use Rattle.byte_ends.specs.Lines.{as_line, without_cr}
 use Rattle.gossip_line.specs.Answers.{IsCutShort, IsWritten}
-use Rattle.gossip_line.specs.Commands.{Follows, front_word}
+use Rattle.gossip_line.specs.Commands.{Begins, Follows, front_word, version_word}
 use Rattle.gossip_line.specs.Session.{IsPiece, Moment}
 use Rattle.gossip_line.specs.Texts.{hello}
 use Rattle.gossip_line.specs.declared.fault.LineFault.{LineFault}
@@ -15,6 +15,8 @@ use Rattle.gossip_line.specs.declared.pull.Pulled.{Pulled}
 use Rattle.line_reader.specs.Lines.{BeginsWithLine, IsTooLong, IsUnfinished, Reading}
 use Rattle.op_text.specs.Front.{front_text}
 use Rattle.op_text.specs.Spelling.{SpellsOperation}
+use Rattle.op_text.specs.declared.fault.OpTextFault.{OpTextFault}
+use Rattle.op_text.specs.declared.fault.OpTextFault.TheVariants as text
 use Rattle.replica_core.specs.Front.{Reaches}
 use Rattle.replica_core.specs.declared.missing.Missing.{Missing}
 use Rattle.review_ops.specs.Operation.{Operation}
@@ -107,12 +109,49 @@ Awaits old came (Err LongLine) new = IsTooLong old.limit (old.held ++ came)
 Awaits old came (Err BadAnswer) new = IsUnfinished old.limit (old.held ++ came)
 Awaits old came (Err fault) new = IsReadingFault fault
 
+-- a line that can't stand in an answer, after so many operations
+pub record IsNoLine (count : ℕ) (line : List ℕ) : Type 0 where
+  pub rest : (more : Bool) → line ≢ rest_word more
+  pub operation : (count ≡ 256) ⊎ ((op : Operation) → ¬ SaysOperation line op)
+
+-- why an answer isn't whole, after so many lines of operations and with this rest of what was read
+abbrev pub Breaks : ℕ → ℕ → List ℕ → Option (List ℕ) → LineFault → Type 0
+Breaks limit count rest left LongLine = IsTooLong limit rest
+Breaks limit count rest left BadAnswer =
+    (IsUnfinished limit rest × IsAtEnd left) ⊎ ((piece : List ℕ) × (later : List ℕ) × BeginsWithLine limit rest piece later × IsNoLine count (without_cr piece))
+Breaks limit count rest left ReadFault = Unit {0}
+Breaks limit count rest left NoMemory = Unit {0}
+Breaks limit count rest left fault = ⊥
+
+pub record IsBroken (limit : ℕ) (bytes : List ℕ) (left : Option (List ℕ)) (fault : LineFault) : Type 0 where
+  pub lines : List OperationLine
+  pub rest : List ℕ
+  pub operations : AreOperations limit lines
+  pub whole : bytes ≡ bytes_in lines ++ rest
+  pub breaks : Breaks limit (length lines) rest left fault
+
+-- why the text of an operation isn't read
+abbrev pub unread_fault : OpTextFault → LineFault
+unread_fault text.NoMemory = NoMemory
+unread_fault fault = BadAnswer
+
+abbrev pub IsUnspelled : List ℕ → LineFault → Type 0
+IsUnspelled spelling BadAnswer = (op : Operation) → ¬ SpellsOperation spelling op
+IsUnspelled spelling NoMemory = Unit {0}
+IsUnspelled spelling fault = ⊥
+
+-- why the line of an operation isn't taken
+abbrev pub IsUnsaid : List ℕ → LineFault → Type 0
+IsUnsaid line BadAnswer = (op : Operation) → ¬ SaysOperation line op
+IsUnsaid line NoMemory = Unit {0}
+IsUnsaid line fault = ⊥
+
 -- an answer is read whole, or not at all
-abbrev pub ReadsAnswer : {A : Type 0} → Reading → List ℕ → Result (Missing A) LineFault → Reading → Type 0
-ReadsAnswer old came (Ok missing) new =
+abbrev pub ReadsAnswer : {A : Type 0} → Reading → List ℕ → Option (List ℕ) → Result (Missing A) LineFault → Reading → Type 0
+ReadsAnswer old came left (Ok missing) new =
     (lines : List OperationLine) × (last : List ℕ) × IsWhole old.limit lines last missing.more × (missing.ops.items ≡ ops_in lines)
     × (old.held ++ came ≡ (bytes_in lines ++ as_line last) ++ new.held)
-ReadsAnswer old came (Err fault) new = IsReadingFault fault
+ReadsAnswer old came left (Err fault) new = IsBroken old.limit (old.held ++ came) left fault
 
 -- the front's line is written, or memory is refused for it before its first byte
 abbrev pub SendsFront : Reaches → Option (List ℕ) → Option (List ℕ) → ℕ → ℕ → Result (Unit {0}) LineFault → Type 0
@@ -121,12 +160,23 @@ SendsFront front taken later failed failures (Err WriteFault) = IsCutShort (fron
 SendsFront front taken later failed failures (Err NoMemory) = (later ≡ taken) × (failures ≡ failed)
 SendsFront front taken later failed failures (Err fault) = ⊥
 
+-- why the version isn't named back
+abbrev pub IsUngreeted : ℕ → List ℕ → Option (List ℕ) → LineFault → Type 0
+IsUngreeted limit bytes left LongLine = IsTooLong limit bytes
+IsUngreeted limit bytes left BadVersion =
+    (piece : List ℕ) × (later : List ℕ) × BeginsWithLine limit bytes piece later × Begins version_word (without_cr piece) × (without_cr piece ≢ hello)
+IsUngreeted limit bytes left BadAnswer =
+    (IsUnfinished limit bytes × IsAtEnd left) ⊎ ((piece : List ℕ) × (later : List ℕ) × BeginsWithLine limit bytes piece later × (¬ Begins version_word (without_cr piece)))
+IsUngreeted limit bytes left Closed = ⊥
+IsUngreeted limit bytes left fault = Unit {0}
+
 -- the version is written, and the line that comes first has to name it
-abbrev pub Greets : Reading → List ℕ → Option (List ℕ) → Option (List ℕ) → (unread reads unwritten writes : ℕ) → Result (Unit {0}) LineFault → Reading → Type 0
-Greets old came taken later unread reads unwritten writes (Ok done) new =
+abbrev pub Greets : Reading → List ℕ → Option (List ℕ) → Option (List ℕ) → Option (List ℕ) → (unread reads unwritten writes : ℕ) → Result (Unit {0}) LineFault → Reading → Type 0
+Greets old came left taken later unread reads unwritten writes (Ok done) new =
     (greeting : List ℕ) × BeginsWithLine old.limit (old.held ++ came) greeting new.held × (without_cr greeting ≡ hello)
     × IsWritten (as_line hello) taken later unwritten writes × (reads ≡ unread)
-Greets old came taken later unread reads unwritten writes (Err fault) new = CountsEnds unread reads unwritten writes fault
+Greets old came left taken later unread reads unwritten writes (Err fault) new =
+    CountsEnds unread reads unwritten writes fault × IsUngreeted old.limit (old.held ++ came) left fault
 
 -- ---- all rounds, over any sink, which stands in the place of the port
 module _ {K : Type 0} (sinks : K → Offer → Uptake → K → Type 0) where
@@ -158,11 +208,20 @@ module _ {K : Type 0} (sinks : K → Offer → Uptake → K → Type 0) where
       ⊎ ((round : Round) × (came : List ℕ) × (rest : List ℕ) × (late : K) × IsWholeRound limit round × Consumes mid.left after.left came × (held ++ came ≡ answer_in round ++ rest)
       × sinks mid.port fronts (reached round.front) late × sinks late (hands (ops_in round.lines)) (declined why) after.port)
 
+  -- the sink said its front, and the answer isn't whole
+  abbrev pub IsCutOff : ℕ → Moment K → List ℕ → LineFault → Moment K → Type 0
+  IsCutOff limit mid held fault after =
+      (front : Reaches) × (came : List ℕ) × sinks mid.port fronts (reached front) after.port × Consumes mid.left after.left came × IsBroken limit (held ++ came) after.left fault
+
   -- what is left of the sink where a round isn't whole
   abbrev pub Leaves : ℕ → Moment K → List ℕ → LineFault → Moment K → Type 0
   Leaves limit mid held Closed after = IsDeclined limit mid held sink.Closed after
   Leaves limit mid held NoMemory after = IsUntaken mid.port after.port ⊎ IsDeclined limit mid held sink.NoMemory after
-  Leaves limit mid held fault after = IsUntaken mid.port after.port
+  Leaves limit mid held ReadFault after = IsUntaken mid.port after.port
+  Leaves limit mid held WriteFault after = IsUntaken mid.port after.port
+  Leaves limit mid held LongLine after = IsCutOff limit mid held LongLine after
+  Leaves limit mid held BadAnswer after = IsCutOff limit mid held BadAnswer after
+  Leaves limit mid held BadVersion after = ⊥
 
   -- one round
   abbrev pub PullsRound : ℕ → Moment K → List ℕ → Result Handed LineFault → Moment K → List ℕ → Type 0
@@ -191,7 +250,7 @@ module _ {K : Type 0} (sinks : K → Offer → Uptake → K → Type 0) where
   abbrev pub Fails : ℕ → ℕ → Moment K → Moment K → LineFault → Type 0
   Fails limit most before after fault =
       CountsEnds before.unread after.unread before.unwritten after.unwritten fault
-      × ((after.port ≡ before.port)
+      × (((after.port ≡ before.port) × (came : List ℕ) × Consumes before.left after.left came × IsUngreeted limit came after.left fault)
       ⊎ ((mid : Moment K) × (greeting : List ℕ) × (rounds : List Round) × (held : List ℕ) × IsPull limit before mid greeting rounds held × (length rounds ≤ most)
       × Leaves limit mid held fault after))
 

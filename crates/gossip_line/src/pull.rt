@@ -1,10 +1,11 @@
 //! Runs a pull.
 
-ghost use Rattle.std.specs.Prelude.{◌≡◌, ◌++◌, ◌<◌, ◌≤◌, ℕ, List, IfErr, IfNone, IfOk, IfSome, MatchOption, MatchResult, Ok, OnOk, length, ◌∷◌, [], ◌≢◌, Err};
+ghost use Rattle.std.specs.Prelude.{Bool, ◌≡◌, ◌++◌, ◌<◌, ◌≤◌, ℕ, List, IfErr, IfNone, IfOk, IfSome, MatchOption, MatchResult, Ok, OnOk, length, ◌∷◌, [], ◌≢◌, Err};
+ghost use Rattle.op_text.specs.Spelling.{SpellsOperation};
 ghost use Rattle.review_ops.specs.Operation.{Operation};
 ghost use Rattle.std.specs.Io.KnownBytes.{Consumes, IsAtEnd};
 ghost use Rattle.std.specs.Prelude.{string_bytes};
-ghost use Rattle.gossip_line.specs.Pull.{Awaits, CountsEnds, CountsReading, Greets, IsReadingFault, Pull, PullsRound, ReadsAnswer, SaysOperation, SendsFront, fault_of, front_line, rest_word};
+ghost use Rattle.gossip_line.specs.Pull.{Awaits, CountsEnds, CountsReading, Greets, IsUnsaid, IsUnspelled, Pull, PullsRound, ReadsAnswer, SaysOperation, SendsFront, fault_of, front_line, rest_word, unread_fault};
 ghost use Rattle.gossip_line.specs.Session.{Moment};
 
 use super::command::{HELLO, after};
@@ -111,7 +112,7 @@ fn greet<S: Source, D: Drain>(
     drain: &mut D,
 ) -> Result<(), LineFault>
     ensures greets { (came : List ℕ) × Consumes (S.left source.old) (S.left source.new) came
-        × Greets reader.old came (D.taken drain.old) (D.taken drain.new) (S.failed source.old) (S.failed source.new)
+        × Greets reader.old came (S.left source.new) (D.taken drain.old) (D.taken drain.new) (S.failed source.old) (S.failed source.new)
         (D.failed drain.old) (D.failed drain.new) result reader.new }
     ensures limit { reader.new.limit ≡ reader.old.limit }
 {
@@ -193,7 +194,7 @@ fn read_answer<S: Source>(
     source: &mut S,
 ) -> Result<Missing, LineFault>
     ensures reads { (came : List ℕ) × Consumes (S.left source.old) (S.left source.new) came
-        × ReadsAnswer reader.old came result reader.new }
+        × ReadsAnswer reader.old came (S.left source.new) result reader.new }
     ensures limit { reader.new.limit ≡ reader.old.limit }
     ensures counted { CountsReading (S.failed source.old) (S.failed source.new) result }
 {
@@ -229,7 +230,8 @@ fn await_line<S: Source>(reader: &mut LineReader, source: &mut S) -> Result<(), 
 
 /// Whether others are left, where a line says so.
 fn rest_of(line: &[u8]) -> Option<bool>
-    ensures { IfSome result (λ more. line.now ≡ rest_word more) }
+    ensures some { IfSome result (λ more. line.now ≡ rest_word more) }
+    ensures none { IfNone result ((more : Bool) → line.now ≢ rest_word more) }
 {
     if line == b"more".as_slice() {
         return Some(true);
@@ -243,21 +245,40 @@ fn rest_of(line: &[u8]) -> Option<bool>
 /// Adds the operation of a line.
 fn add_operation(ops: &mut Vec<Op>, alloc: Global, line: &[u8]) -> Result<(), LineFault>
     ensures ok { OnOk result ((op : Operation) × SaysOperation line.now op × (ops.new.items ≡ ops.old.items ++ op ∷ [])) }
-    ensures err { IfErr result IsReadingFault }
-    ensures unread { IfErr result (λ fault. fault ≢ LineFault.ReadFault) }
+    ensures err { IfErr result (IsUnsaid line.now) }
 {
     let Some(text) = after(line, b"op ") else {
         return Err(LineFault::BadAnswer);
     };
-    let op = match read_op(alloc, text) {
+    let op = match read_operation(alloc, text) {
         Ok(op) => op,
-        Err(OpTextFault::NoMemory) => return Err(LineFault::NoMemory),
-        Err(_) => return Err(LineFault::BadAnswer),
+        Err(fault) => return Err(fault),
     };
     if add(ops, op).is_err() {
         return Err(LineFault::NoMemory);
     }
     Ok(())
+}
+
+/// Reads the text of an operation.
+fn read_operation(alloc: Global, text: &[u8]) -> Result<Op, LineFault>
+    ensures ok { IfOk result (SpellsOperation text.now) }
+    ensures err { IfErr result (IsUnspelled text.now) }
+{
+    match read_op(alloc, text) {
+        Ok(op) => Ok(op),
+        Err(fault) => Err(unread(&fault)),
+    }
+}
+
+/// How a pull fails where an operation isn't read.
+fn unread(fault: &OpTextFault) -> LineFault
+    ensures { result ≡ unread_fault fault.now }
+{
+    match fault {
+        OpTextFault::NoMemory => LineFault::NoMemory,
+        _ => LineFault::BadAnswer,
+    }
 }
 
 /// Adds an operation at the end.

@@ -1,8 +1,8 @@
-use Rattle.std.proofs.Common.{◌≡◌, ◌++◌, ◌∙◌, refl, sym, ap, subst, inl, inr, arith, length}
+use Rattle.std.proofs.Common.{refl, ap, subst, inr, arith, length}
 use Rattle.std.proofs.lemmas.List.{length-map}
 use Rattle.std.proofs.lemmas.Result.{err_from_is_err_and}
-use Rattle.gossip_line.proofs.Pulling.{counts_reading, declined_failed, front_failed, untaken_left}
-use Rattle.gossip_line.specs.Pull.{IsUntaken, OperationLine, Round, ops_in}
+use Rattle.gossip_line.proofs.Pulling.{broken_left, counts_broken, declined_failed, front_failed}
+use Rattle.gossip_line.specs.Pull.{OperationLine, Round}
 use Rattle.gossip_line.specs.Session.{Moment}
 use Rattle.site_port.specs.Sinks.{declined, hands, took}
 use Rattle.gossip_line.proofs.pull.pull_round.Goals as goal
@@ -21,9 +21,10 @@ returns-in_err-ops-clause-pulls g c =
     let mid : Moment g.row.K.Denot = record { port = c.args.sink.now; left = g.S.Source.left c.args.source.now; taken = g.D.Drain.taken c.args.drain.now; unread = g.S.Source.failed c.args.source.now; unwritten = g.D.Drain.failed c.args.drain.now } in
     let after : Moment g.row.K.Denot = record { port = c.front.new.self; left = g.S.Source.left c.read_answer.new.source; taken = g.D.Drain.taken c.send_front.new.drain; unread = g.S.Source.failed c.read_answer.new.source; unwritten = g.D.Drain.failed c.send_front.new.drain } in
     let reads = c.in_err-ops.ensures.reads in
+    let fault = c.in_err-ops.field-0.0 in
     rw (p.1, p.2) (
-      untaken_left g.K.Sink.sinks c.args.reader.now.limit mid after c.args.reader.now.held c.in_err-ops.field-0.0 reads.2 (inr (c.in-Ok.front, c.in-Ok.ensures)),
-      counts_reading _ _ _ _ c.in_err-ops.field-0.0 reads.2 c.in_err-ops.ensures.counted c.in_ok-send_front.ensures.none_failed,
+      broken_left g.K.Sink.sinks c.args.reader.now.limit mid after c.args.reader.now.held reads.0 c.in-Ok.front fault c.in-Ok.ensures reads.1 reads.2,
+      counts_broken c.args.reader.now.limit (length reads.2.lines) reads.2.rest after.left mid.unread after.unread mid.unwritten after.unwritten fault reads.2.breaks c.in_err-ops.ensures.counted c.in_ok-send_front.ensures.none_failed,
     )
 
 pub returns-in-Ok-take_all-clause-pulls : goal.returns-in-Ok-take_all-clause-pulls

@@ -1,9 +1,10 @@
-use Rattle.std.proofs.Common.{◌≡◌, ◌++◌, ◌∷◌, [], ◌∙◌, refl, sym, ap, subst, inl, inr, arith, length, length-append, List, false, ◌+◌, ◌-◌}
+use Rattle.std.proofs.Common.{◌≡◌, ◌++◌, ◌∷◌, [], ◌∙◌, refl, sym, ap, subst, inl, inr, arith, length, length-append, false, ◌+◌, ◌-◌}
+use Rattle.std.proofs.KnownBytes.{Consumes-nil}
 use Rattle.std.proofs.lemmas.Result.{err_from_is_err_and}
 use Rattle.std.specs.Prelude.{sum_by}
 use Rattle.line_reader.specs.Lines.{BeginsWithLine, Reading}
 use Rattle.gossip_line.proofs.Pulling.{all_more_end, ends_with, fails_after, first_pull, more_with, not_false, not_quit, not_true, one_more, sum_with}
-use Rattle.gossip_line.specs.Pull.{IsPull, IsUntaken, Leaves, Round}
+use Rattle.gossip_line.specs.Pull.{IsUngreeted, Leaves, Round}
 use Rattle.gossip_line.specs.Session.{Moment}
 use Rattle.gossip_line.proofs.pull.pull_rounds.Goals as goal
 
@@ -115,3 +116,14 @@ returns g c =
       ends = all_more_end so_far.1 (c.args.most - 1) (omega (arith, so_far.4)) so_far.3;
       last = inr (omega (arith, so_far.4));
     }
+
+pub returns-in_default : goal.returns-in_default
+returns-in_default g c = ((refl, refl), inl (refl, [], Consumes-nil _, tt))
+
+pub returns-in_err-greet : goal.returns-in_err-greet
+returns-in_err-greet g c =
+    let p = err_from_is_err_and c.from_residual.result c.from_residual.ensures.1 in
+    let greets = c.in_err-greet.ensures.greets in
+    let fault = c.in_err-greet.field-0.0 in
+    let ungreeted = subst (λ (r : Reading). IsUngreeted r.limit (r.held ++ greets.0) (g.S.Source.left c.greet.new.source) fault) c.in-Ok.ensures greets.2.1 in
+    rw (p.1, p.2) (greets.2.0, inl (refl, greets.0, greets.1, ungreeted))
