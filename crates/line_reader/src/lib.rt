@@ -2,5 +2,7 @@
 #![tactic(auto)]
 
 mod reader;
+#[cfg(test)]
+mod tests;
 
 pub use reader::LineReader;
