@@ -11,7 +11,7 @@ use Rattle.op_text.specs.declared.fault.OpTextFault.TheVariants as text
 use Rattle.site_port.specs.Sinks.{Offer, Uptake, fronts, reached}
 use Rattle.gossip_line.proofs.Talking.{All-push, flat_map-push}
 use Rattle.gossip_line.specs.Answers.{IsWritten, Sends}
-use Rattle.gossip_line.specs.Pull.{AreOperations, Awaits, Breaks, CountsEnds, CountsReading, EndWith, Fails, IsBroken, IsDeclined, IsPull, IsUngreeted, IsUnsaid, IsUnspelled, IsUntaken, IsWholeRound, Leaves, OperationLine, PullsRound, Round, SaysOperation, SendsFront, Takes, TakesAll, answer_in, bytes_in, fault_of, front_line, ops_in, rest_word, unread_fault}
+use Rattle.gossip_line.specs.Pull.{AreOperations, Awaits, Breaks, CountsEnds, CountsReading, EndWith, Fails, IsBroken, IsDeclined, IsPull, IsUngreeted, IsUnsaid, IsUnspelled, IsWholeRound, Leaves, OperationLine, PullsRound, Round, SaysOperation, SendsFront, Takes, TakesAll, answer_in, bytes_in, fault_of, front_line, ops_in, rest_word, unread_fault}
 use Rattle.gossip_line.specs.Session.{IsPiece, Moment}
 use Rattle.gossip_line.specs.Texts.{hello}
 use Rattle.gossip_line.specs.declared.fault.LineFault.{LineFault}
@@ -193,14 +193,14 @@ module _ {K : Type 0} (sinks : K → Offer → Uptake → K → Type 0) where
 
   -- where an answer isn't whole the sink takes no more
   pub broken_left : (limit : ℕ) (mid after : Moment K) (held came : List ℕ) (front : Reaches) (fault : LineFault) → sinks mid.port fronts (reached front) after.port → Consumes mid.left after.left came
-      → IsBroken limit (held ++ came) after.left fault → Leaves sinks limit mid held fault after
-  broken_left limit mid after held came front line.LongLine says read h = (front, came, says, read, h)
-  broken_left limit mid after held came front line.BadAnswer says read h = (front, came, says, read, h)
-  broken_left limit mid after held came front line.ReadFault says read h = inr (front, says)
-  broken_left limit mid after held came front line.NoMemory says read h = inl (inr (front, says))
-  broken_left limit mid after held came front line.BadVersion says read h = absurd h.breaks
-  broken_left limit mid after held came front line.WriteFault says read h = absurd h.breaks
-  broken_left limit mid after held came front line.Closed says read h = absurd h.breaks
+      → IsBroken limit (held ++ came) after.left fault → Appends mid.taken after.taken (front_line front) → Leaves sinks limit mid held fault after
+  broken_left limit mid after held came front line.LongLine says read h asked = (front, came, says, read, h, asked)
+  broken_left limit mid after held came front line.BadAnswer says read h asked = (front, came, says, read, h, asked)
+  broken_left limit mid after held came front line.ReadFault says read h asked = (front, came, says, read, h, asked)
+  broken_left limit mid after held came front line.NoMemory says read h asked = inr (inl (front, came, says, read, h, asked))
+  broken_left limit mid after held came front line.BadVersion says read h asked = absurd h.breaks
+  broken_left limit mid after held came front line.WriteFault says read h asked = absurd h.breaks
+  broken_left limit mid after held came front line.Closed says read h asked = absurd h.breaks
 
   -- why a round isn't whole
   pub record IsRoundFailed (limit : ℕ) (mid : Moment K) (held : List ℕ) (fault : LineFault) (after : Moment K) : Type 0 where
@@ -208,18 +208,18 @@ module _ {K : Type 0} (sinks : K → Offer → Uptake → K → Type 0) where
     pub counts : CountsEnds mid.unread after.unread mid.unwritten after.unwritten fault
 
   pub front_failed : (limit : ℕ) (mid after : Moment K) (held : List ℕ) (front : Reaches) (fault : LineFault) → SendsFront front mid.taken after.taken mid.unwritten after.unwritten (Err fault)
-      → after.unread ≡ mid.unread → IsUntaken sinks mid.port after.port → IsRoundFailed limit mid held fault after
-  front_failed limit mid after held front line.WriteFault h same untaken = record { leaves = untaken; counts = (same, h.one_failed) }
-  front_failed limit mid after held front line.NoMemory h same untaken = record { leaves = inl untaken; counts = (same, h.1) }
-  front_failed limit mid after held front line.LongLine h same untaken = absurd h
-  front_failed limit mid after held front line.BadVersion h same untaken = absurd h
-  front_failed limit mid after held front line.ReadFault h same untaken = absurd h
-  front_failed limit mid after held front line.BadAnswer h same untaken = absurd h
-  front_failed limit mid after held front line.Closed h same untaken = absurd h
+      → after.unread ≡ mid.unread → sinks mid.port fronts (reached front) after.port → IsRoundFailed limit mid held fault after
+  front_failed limit mid after held front line.WriteFault h same says = record { leaves = inr (front, says); counts = (same, h.one_failed) }
+  front_failed limit mid after held front line.NoMemory h same says = record { leaves = inl (front, says, h.0); counts = (same, h.1) }
+  front_failed limit mid after held front line.LongLine h same says = absurd h
+  front_failed limit mid after held front line.BadVersion h same says = absurd h
+  front_failed limit mid after held front line.ReadFault h same says = absurd h
+  front_failed limit mid after held front line.BadAnswer h same says = absurd h
+  front_failed limit mid after held front line.Closed h same says = absurd h
 
   pub declined_failed : (limit : ℕ) (mid after : Moment K) (held : List ℕ) (why : SinkFault) (fault : LineFault) → fault ≡ fault_of why → IsDeclined sinks limit mid held why after
       → after.unread ≡ mid.unread → after.unwritten ≡ mid.unwritten → IsRoundFailed limit mid held fault after
-  declined_failed limit mid after held sink.NoMemory fault is h reads writes = subst (λ f. IsRoundFailed limit mid held f after) (sym is) (record { leaves = inr h; counts = (reads, writes) })
+  declined_failed limit mid after held sink.NoMemory fault is h reads writes = subst (λ f. IsRoundFailed limit mid held f after) (sym is) (record { leaves = inr (inr h); counts = (reads, writes) })
   declined_failed limit mid after held sink.Closed fault is h reads writes = subst (λ f. IsRoundFailed limit mid held f after) (sym is) (record { leaves = h; counts = (reads, writes) })
 
   -- at first the version was named

@@ -1,7 +1,7 @@
 -- A pull: in each round the sink's front is written, a whole answer is read, and its operations are handed to the sink.
 use Rattle.std.specs.Prelude.{◌≡◌, ◌≢◌, ◌⊎◌, ◌≤◌, ℕ, Bool, true, false, List, [], ◌∷◌, ◌++◌, Option, Result, Ok, Err, codes, flat_map, length, map, sum_by, if◌then◌else◌}
 use Rattle.std.specs.List.{AllByRecursion}
-use Rattle.std.specs.Io.KnownBytes.{Consumes, IsAtEnd}
+use Rattle.std.specs.Io.KnownBytes.{Appends, Consumes, IsAtEnd}
 use Rattle.byte_ends.specs.Failures.{OneFailed}
 use Rattle.byte_ends.specs.Lines.{as_line, without_cr}
 use Rattle.gossip_line.specs.Answers.{IsCutShort, IsWritten}
@@ -197,28 +197,32 @@ module _ {K : Type 0} (sinks : K → Offer → Uptake → K → Type 0) where
     pub written : IsWritten (as_line hello ++ flat_map (λ round. front_line round.front) rounds) before.taken now.taken before.unwritten now.unwritten
     pub none_unread : now.unread ≡ before.unread
 
-  -- the sink took no more, but may have said its front
-  abbrev pub IsUntaken : K → K → Type 0
-  IsUntaken old new = (new ≡ old) ⊎ ((front : Reaches) × sinks old fronts (reached front) new)
-
-  -- the sink declined to say its front, or to take the operations of a whole answer that was read
+  -- the sink declined to say its front, and nothing was written; or it declined to take the operations of a whole answer that was read
   abbrev pub IsDeclined : ℕ → Moment K → List ℕ → SinkFault → Moment K → Type 0
   IsDeclined limit mid held why after =
-      sinks mid.port fronts (declined why) after.port
+      (sinks mid.port fronts (declined why) after.port × (after.taken ≡ mid.taken))
       ⊎ ((round : Round) × (came : List ℕ) × (rest : List ℕ) × (late : K) × IsWholeRound limit round × Consumes mid.left after.left came × (held ++ came ≡ answer_in round ++ rest)
-      × sinks mid.port fronts (reached round.front) late × sinks late (hands (ops_in round.lines)) (declined why) after.port)
+      × sinks mid.port fronts (reached round.front) late × sinks late (hands (ops_in round.lines)) (declined why) after.port × Appends mid.taken after.taken (front_line round.front))
 
-  -- the sink said its front, and the answer isn't whole
+  -- the sink said its front, which was written, and the answer isn't whole
   abbrev pub IsCutOff : ℕ → Moment K → List ℕ → LineFault → Moment K → Type 0
   IsCutOff limit mid held fault after =
       (front : Reaches) × (came : List ℕ) × sinks mid.port fronts (reached front) after.port × Consumes mid.left after.left came × IsBroken limit (held ++ came) after.left fault
+      × Appends mid.taken after.taken (front_line front)
 
-  -- what is left of the sink where a round isn't whole
+  -- the sink said its front, of which nothing was written, or of which it isn't known how much was
+  abbrev pub IsUnasked : Moment K → Moment K → Type 0
+  IsUnasked mid after = (front : Reaches) × sinks mid.port fronts (reached front) after.port × (after.taken ≡ mid.taken)
+
+  abbrev pub IsUnwritten : Moment K → Moment K → Type 0
+  IsUnwritten mid after = (after.port ≡ mid.port) ⊎ ((front : Reaches) × sinks mid.port fronts (reached front) after.port)
+
+  -- what is left of the sink, and what was written, where a round isn't whole
   abbrev pub Leaves : ℕ → Moment K → List ℕ → LineFault → Moment K → Type 0
   Leaves limit mid held Closed after = IsDeclined limit mid held sink.Closed after
-  Leaves limit mid held NoMemory after = IsUntaken mid.port after.port ⊎ IsDeclined limit mid held sink.NoMemory after
-  Leaves limit mid held ReadFault after = IsUntaken mid.port after.port
-  Leaves limit mid held WriteFault after = IsUntaken mid.port after.port
+  Leaves limit mid held NoMemory after = IsUnasked mid after ⊎ (IsCutOff limit mid held NoMemory after ⊎ IsDeclined limit mid held sink.NoMemory after)
+  Leaves limit mid held WriteFault after = IsUnwritten mid after
+  Leaves limit mid held ReadFault after = IsCutOff limit mid held ReadFault after
   Leaves limit mid held LongLine after = IsCutOff limit mid held LongLine after
   Leaves limit mid held BadAnswer after = IsCutOff limit mid held BadAnswer after
   Leaves limit mid held BadVersion after = ⊥

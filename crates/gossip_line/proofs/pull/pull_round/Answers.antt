@@ -12,7 +12,7 @@ returns-in_err-send_front-clause-pulls g c =
     let p = err_from_is_err_and c.from_residual.result c.from_residual.ensures.1 in
     let mid : Moment g.row.K.Denot = record { port = c.args.sink.now; left = g.S.Source.left c.args.source.now; taken = g.D.Drain.taken c.args.drain.now; unread = g.S.Source.failed c.args.source.now; unwritten = g.D.Drain.failed c.args.drain.now } in
     let after : Moment g.row.K.Denot = record { port = c.front.new.self; left = g.S.Source.left c.args.source.now; taken = g.D.Drain.taken c.send_front.new.drain; unread = g.S.Source.failed c.args.source.now; unwritten = g.D.Drain.failed c.send_front.new.drain } in
-    let failed = front_failed g.K.Sink.sinks c.args.reader.now.limit mid after c.args.reader.now.held c.in-Ok.front c.in_err-send_front.field-0.0 c.in_err-send_front.ensures refl (inr (c.in-Ok.front, c.in-Ok.ensures)) in
+    let failed = front_failed g.K.Sink.sinks c.args.reader.now.limit mid after c.args.reader.now.held c.in-Ok.front c.in_err-send_front.field-0.0 c.in_err-send_front.ensures refl c.in-Ok.ensures in
     rw (p.1, p.2) (failed.leaves, failed.counts)
 
 pub returns-in_err-ops-clause-pulls : goal.returns-in_err-ops-clause-pulls
@@ -23,7 +23,7 @@ returns-in_err-ops-clause-pulls g c =
     let reads = c.in_err-ops.ensures.reads in
     let fault = c.in_err-ops.field-0.0 in
     rw (p.1, p.2) (
-      broken_left g.K.Sink.sinks c.args.reader.now.limit mid after c.args.reader.now.held reads.0 c.in-Ok.front fault c.in-Ok.ensures reads.1 reads.2,
+      broken_left g.K.Sink.sinks c.args.reader.now.limit mid after c.args.reader.now.held reads.0 c.in-Ok.front fault c.in-Ok.ensures reads.1 reads.2 c.in_ok-send_front.ensures.whole,
       counts_broken c.args.reader.now.limit (length reads.2.lines) reads.2.rest after.left mid.unread after.unread mid.unwritten after.unwritten fault reads.2.breaks c.in_err-ops.ensures.counted c.in_ok-send_front.ensures.none_failed,
     )
 
@@ -65,6 +65,7 @@ returns-clause-pulls g c =
       reads.2.4,
       c.in-Ok.ensures,
       subst (λ ops. g.K.Sink.sinks c.front.new.self (hands ops) (declined why) c.take_all.new.self) ops_are c.in-Err-take_all.ensures,
+      c.in_ok-send_front.ensures.whole,
     ))
     c.in_ok-ops.ensures.counted c.in_ok-send_front.ensures.none_failed in
     (failed.leaves, failed.counts)
