@@ -8,8 +8,8 @@ ghost use Rattle.snapshot_text.specs.Snapshot.{SaysOperations};
 ghost use Rattle.review_ops.specs.Operation.{Operation};
 ghost use Rattle.console.specs.Inputs.{IsGateHad, IsHad, IsRefused, gate_file, input, message_file, script_file, snapshot_file};
 
-use super::streams::Console;
 use super::refusals::Refusal;
+use super::streams::Console;
 use gate_rules::Gate;
 use replica_core::Replica;
 use snapshot_text::{SNAPSHOT_LIMIT, SnapFault, snapshot_onto};

@@ -32,12 +32,24 @@ fn assert_lines(
 
 #[test]
 fn lines_come_one_by_one(rt: HostRuntime) -> Result<(), Fail> {
-    assert_lines(&rt, rt.alloc(), b"ab\r\n\nabc\nab", &[b"ab", b"", b"abc"], Ok(false))
+    assert_lines(
+        &rt,
+        rt.alloc(),
+        b"ab\r\n\nabc\nab",
+        &[b"ab", b"", b"abc"],
+        Ok(false),
+    )
 }
 
 #[test]
 fn a_line_may_be_too_long(rt: HostRuntime) -> Result<(), Fail> {
-    assert_lines(&rt, rt.alloc(), b"\nabcd\n", &[b""], Err(BytesFault::TooLong))?;
+    assert_lines(
+        &rt,
+        rt.alloc(),
+        b"\nabcd\n",
+        &[b""],
+        Err(BytesFault::TooLong),
+    )?;
     assert_lines(&rt, rt.alloc(), b"abcd", &[], Err(BytesFault::TooLong))
 }
 

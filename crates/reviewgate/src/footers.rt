@@ -5,8 +5,8 @@ ghost use Rattle.footer_text.specs.Footers.{AreFooters};
 ghost use Rattle.reviewgate.specs.Answers.{footers_text, ignored_line, need_line};
 ghost use Rattle.reviewgate.specs.Ending.{Ends};
 
-use console::{Console, Refusal, read_gate, read_message};
 use command_line::Command;
+use console::{Console, Refusal, read_gate, read_message};
 use footer_text::depends;
 use gate_rules::Gate;
 use lattice_core::NoMemory;

@@ -2,8 +2,8 @@
 
 ghost use Rattle.reviewgate.specs.Ending.{Ends};
 
-use console::{Console, Refusal, read_snapshot};
 use command_line::Command;
+use console::{Console, Refusal, read_snapshot};
 use replica_core::{Replica, operations_arrive_as_a_set};
 use std::alloc::Global;
 

@@ -2,8 +2,8 @@
 
 ghost use Rattle.std.specs.Prelude.{[]};
 
-use console::Named;
 use byte_ends::BytesFault;
+use console::Named;
 use std::alloc::Global;
 
 /// The only file that is there.

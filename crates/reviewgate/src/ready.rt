@@ -2,8 +2,8 @@
 
 ghost use Rattle.reviewgate.specs.Ending.{Ends};
 
-use console::{Console, Refusal, read_gate, read_snapshot};
 use command_line::Command;
+use console::{Console, Refusal, read_gate, read_snapshot};
 use ready_core::evaluate;
 use replica_core::Replica;
 use std::alloc::Global;

@@ -8,13 +8,13 @@ ghost use Rattle.reviewgate.specs.Ending.{Ends};
 ghost use Rattle.console.specs.Refusals.{refusal_line};
 ghost use Rattle.reviewgate.specs.Running.{Reports, Runs, Shows, counts, error_output};
 
-use console::{Console, Named, Refusal, Streams};
 use super::footers::footers;
 use super::merge::merge;
 use super::ready::ready;
 use super::simulate::simulate;
 use byte_ends::{Drain, Source, write_all};
 use command_line::{Command, read_words};
+use console::{Console, Named, Refusal, Streams};
 use std::alloc::Global;
 use std::convert::AsStr;
 

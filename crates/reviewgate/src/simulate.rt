@@ -5,8 +5,8 @@ ghost use Rattle.std.specs.Option.{option_copied};
 ghost use Rattle.reviewgate.specs.Ending.{Ends, Finishes};
 ghost use Rattle.reviewgate.specs.Answers.{IsPlayed, IsPlayedText};
 
-use console::{Console, Refusal, read_any_gate, read_script};
 use command_line::Command;
+use console::{Console, Refusal, read_any_gate, read_script};
 use gate_rules::Gate;
 use script_play::play_step;
 use script_text::{Script, ScriptFault};

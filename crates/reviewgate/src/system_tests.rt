@@ -1,8 +1,8 @@
 //! Real files, opened by their names.
 
-use console::{Named, SystemFiles};
 use super::run::run_words;
 use byte_ends::Ends;
+use console::{Named, SystemFiles};
 use std::alloc::Global;
 use std::fs;
 use std::process::Abort;

@@ -2,9 +2,9 @@
 
 ghost use Rattle.std.specs.Prelude.{[]};
 
-use console::Named;
 use super::run::run_words;
 use byte_ends::{Broken, BytesFault, Ends};
+use console::Named;
 use std::alloc::Global;
 use std::process::Abort;
 use std::test::Fail;
