@@ -103,7 +103,7 @@ fn sites_report_what_waits_for_what(rt: HostRuntime) {
         // A Git parent is a dependency, unless it is the change itself.
         (
             "sites 1\nintake 1 {\"change\":1,\"message\":\"m\",\"op\":\"patchset\",\"set\":1}\nintake 1 {\"change\":2,\"message\":\"m\",\"op\":\"patchset\",\"parent\":1,\"set\":1}\nintake 1 {\"change\":2,\"label\":\"Workflow\",\"op\":\"vote\",\"set\":1,\"value\":1,\"voter\":\"ann\"}\nintake 1 {\"change\":2,\"label\":\"Verified\",\"op\":\"vote\",\"set\":1,\"value\":1,\"voter\":\"zuul\"}\nintake 1 {\"change\":3,\"message\":\"m\",\"op\":\"patchset\",\"parent\":3,\"set\":1}\nintake 1 {\"change\":3,\"label\":\"Workflow\",\"op\":\"vote\",\"set\":1,\"value\":1,\"voter\":\"ann\"}\nintake 1 {\"change\":3,\"label\":\"Verified\",\"op\":\"vote\",\"set\":1,\"value\":1,\"voter\":\"zuul\"}\nready 1\nintake 1 {\"change\":1,\"label\":\"Workflow\",\"op\":\"vote\",\"set\":1,\"value\":1,\"voter\":\"ann\"}\nintake 1 {\"change\":1,\"label\":\"Verified\",\"op\":\"vote\",\"set\":1,\"value\":1,\"voter\":\"zuul\"}\nready 1\n",
-            "ok 1,1,1,1\nok 2,1,1,2\nok 3,1,1,3\nok 4,1,1,4\nok 5,1,1,5\nok 6,1,1,6\nok 7,1,1,7\nready 3,1\nout 1,1 require approval 1\nout 2,1 dependency 1\nend 1 2\nok 8,1,1,8\nok 9,1,1,9\nready 1,1\nready 2,1\nready 3,1\nend 3 0\n",
+            "ok 1,1,1,1\nok 2,1,1,2\nok 3,1,1,3\nok 4,1,1,4\nok 5,1,1,5\nok 6,1,1,6\nok 7,1,1,7\nready 3,1\nout 1,1 require approval 1\nout 2,1 dependency 1\nend 1 2\nok 8,1,1,8\nok 9,1,1,9\nready 1,1\nready 3,1\nready 2,1\nend 3 0\n",
         ),
         // Two changes that depend on each other.
         (
