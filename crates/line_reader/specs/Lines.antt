@@ -1,5 +1,5 @@
 -- Lines as they come from a source. A line ends at its LF; one carriage return before that is dropped.
-use Rattle.std.specs.Prelude.{◌≡◌, ◌≢◌, ◌≤◌, ◌<◌, ◌+◌, ℕ, Bool, true, false, List, ◌++◌, Result, Ok, Err, length, take, drop, All}
+use Rattle.std.specs.Prelude.{◌≡◌, ◌≢◌, ◌≤◌, ◌<◌, ◌+◌, ℕ, Bool, true, false, List, [], ◌++◌, Result, Ok, Err, length, take, drop, All}
 use Rattle.byte_ends.specs.Lines.{as_line, without_cr}
 use Rattle.byte_ends.specs.declared.faults.BytesFault.{BytesFault}
 use Rattle.byte_ends.specs.declared.faults.BytesFault.TheVariants.{TooLong, ReadFault, NoMemory}
@@ -42,6 +42,17 @@ Hands old came (Ok false) new = IsUnfinished old.limit (old.held ++ came) × (ne
 Hands old came (Err TooLong) new = IsTooLong old.limit (old.held ++ came) × (new.held ≡ old.held ++ came)
 Hands old came (Err ReadFault) new = new.held ≡ old.held ++ came
 Hands old came (Err NoMemory) new = new.held ≡ old.held ++ came
+
+-- what a call that passes over a line answers, by what was held before and after, where it reads these bytes
+abbrev pub Passes : List ℕ → List ℕ → Result Bool BytesFault → List ℕ → Type 0
+Passes old came (Ok true) new = (piece : List ℕ) × HasNoLf piece × (old ++ came ≡ as_line piece ++ new)
+Passes old came (Ok false) new = HasNoLf (old ++ came) × (new ≡ [])
+Passes old came (Err fault) new = HasNoLf (old ++ came) × (new ≡ [])
+
+-- the same where nothing is read
+abbrev pub PassesHeld : List ℕ → Bool → List ℕ → Type 0
+PassesHeld old true new = (piece : List ℕ) × HasNoLf piece × (old ≡ as_line piece ++ new)
+PassesHeld old false new = HasNoLf old × (new ≡ [])
 
 -- the places of the line and of what follows it, among the bytes that were read; a block isn't empty
 pub record IsPlaced (start stop next count block : ℕ) : Type 0 where

@@ -4,7 +4,7 @@ ghost use Rattle.std.specs.Prelude.{◌≡◌, ◌≢◌, ◌++◌, List, ℕ, f
 ghost use Rattle.std.specs.Io.KnownBytes.{Consumes, IsAtEnd, Keeps};
 ghost use Rattle.byte_ends.specs.ReadAll.{CountsRead};
 ghost use Rattle.byte_ends.specs.Lines.{without_cr};
-ghost use Rattle.line_reader.specs.Lines.{HasNoLf, HasFirstLf, Hands};
+ghost use Rattle.line_reader.specs.Lines.{HasNoLf, HasFirstLf, Hands, Passes, PassesHeld};
 
 use byte_ends::{BytesFault, Source};
 use lattice_core::NoMemory;
@@ -73,6 +73,39 @@ impl<A: Allocator + Copy> LineReader<A> {
         self.read_line(source)
     }
 
+    /// Passes over what comes up to the next LF, as the rest of a line that is too long, and says whether there was an LF: where not, the source
+    /// is at its end. What was passed over isn't held: beside what was held before a block of the source is held at most. Refusals: 6 `TooLong`,
+    /// no LF was among 2^64 - 1 blocks; 7 `ReadFault`, the source failed; 8 `NoMemory`. What was read until then is passed over. It costs O(n)
+    /// for n bytes.
+    pub fn pass_over<S: Source>(&mut self, source: &mut S) -> Result<bool, BytesFault>
+        ensures passes { (came : List ℕ) × Consumes (S.left source.old) (S.left source.new) came
+            × Passes self.old.held came result self.new.held }
+        ensures end { result ≡ Ok false → IsAtEnd (S.left source.new) }
+        ensures limit { self.new.limit ≡ self.old.limit }
+        ensures counted { CountsRead (S.failed source.old) (S.failed source.new) result }
+    {
+        if self.pass_held() {
+            return Ok(true);
+        }
+        for _block in 0..u64::MAX {
+            match self.read_block(source)? {
+                0 => return Ok(false),
+                _count => {}
+            }
+            if self.pass_held() {
+                return Ok(true);
+            }
+        }
+        Err(BytesFault::TooLong)
+    }
+
+    /// What was read past the line that was handed out last. It takes no memory.
+    pub fn held(&self) -> &[u8]
+        ensures { result.now ≡ self.now.held }
+    {
+        &self.bytes[self.next..]
+    }
+
     /// The line that was handed out last. It takes no memory.
     pub fn line(&self) -> &[u8]
         ensures { result.now ≡ self.now.line }
@@ -82,13 +115,6 @@ impl<A: Allocator + Copy> LineReader<A> {
 }
 
 impl<A: Allocator + Copy> LineReader<A> {
-    /// What is held.
-    fn held(&self) -> &[u8]
-        ensures { result.now ≡ self.now.held }
-    {
-        &self.bytes[self.next..]
-    }
-
     /// Gives up the bytes before those that are held.
     fn drop_front(&mut self)
         ensures held { self.new.held ≡ self.old.held }
@@ -98,6 +124,24 @@ impl<A: Allocator + Copy> LineReader<A> {
         self.start = 0;
         self.end = 0;
         self.next = 0;
+    }
+
+    /// Gives up what is held up to the first LF, and says whether there was one.
+    fn pass_held(&mut self) -> bool
+        ensures passes { PassesHeld self.old.held result self.new.held }
+        ensures limit { self.new.limit ≡ self.old.limit }
+    {
+        match first_lf(self.held()) {
+            Some(length) => {
+                self.next += length + 1;
+                true
+            }
+            None => {
+                self.next = self.bytes.len();
+                self.drop_front();
+                false
+            }
+        }
     }
 
     /// Hands out the line of this length that is held, unless it is too long.

@@ -73,3 +73,34 @@ fn refused_memory_is_told(rt: HostRuntime) -> Result<(), Fail> {
     assert_eq!(rt; reader.next_line(&mut source), Err(BytesFault::NoMemory));
     Ok(())
 }
+
+#[test]
+fn a_long_line_is_passed_over(rt: HostRuntime) -> Result<(), Fail> {
+    let mut reader = LineReader::new(rt.alloc(), 3)?;
+    let mut source = Ends::new(b"abcdefg\nab\nabcd".as_slice());
+    assert_eq!(rt; reader.next_line(&mut source), Err(BytesFault::TooLong));
+    assert_eq!(rt; reader.pass_over(&mut source), Ok(true));
+    assert_eq!(rt; reader.held(), b"ab\nabcd".as_slice());
+    assert_line(&rt, &mut reader, &mut source, b"ab");
+    assert_eq!(rt; reader.next_line(&mut source), Err(BytesFault::TooLong));
+    assert_eq!(rt; reader.pass_over(&mut source), Ok(false));
+    assert_eq!(rt; reader.held(), b"".as_slice());
+    assert_eq!(rt; reader.next_line(&mut source), Ok(false));
+    Ok(())
+}
+
+/// A line of three blocks and one byte more.
+#[test]
+fn a_line_of_many_blocks_is_passed_over(rt: HostRuntime) -> Result<(), Fail> {
+    let mut text = vec![in rt.alloc(); b'a'; 3 * 65536]?;
+    text.extend_from_slice(b"a\nbc\n")?;
+    let mut reader = LineReader::new(rt.alloc(), 3)?;
+    let mut source = Broken::at_call(Ends::new(text.as_slice()), 3);
+    assert_eq!(rt; reader.next_line(&mut source), Err(BytesFault::TooLong));
+    assert_eq!(rt; reader.pass_over(&mut source), Err(BytesFault::ReadFault));
+    assert_eq!(rt; reader.held(), b"".as_slice());
+    assert_eq!(rt; reader.pass_over(&mut source), Ok(true));
+    assert_eq!(rt; reader.next_line(&mut source), Ok(true));
+    assert_eq!(rt; reader.line(), b"bc".as_slice());
+    Ok(())
+}
