@@ -19,6 +19,13 @@ use std::str;
 /// The most bytes of a script, a gate file or a message file: 1 MiB.
 const TEXT_LIMIT: usize = 1_048_576;
 
+/// A gate file: its rules, and the bytes that spell them.
+#[derive(Drop)]
+pub struct GateFile {
+    pub rules: Gate,
+    pub text: Vec<u8>,
+}
+
 /// The gate of a name. Refusals: `File`, it isn't read; `Gate`, it spells no gate.
 pub fn read_gate<C: Console>(alloc: Global, name: &str, console: &mut C) -> Result<Gate, Refusal>
     ensures had { IfOk result (λ rules. IsHad (input gate_file name.now) (λ text. SpellsGate text rules) (C.state console.old) (C.state console.new)) }
@@ -27,6 +34,21 @@ pub fn read_gate<C: Console>(alloc: Global, name: &str, console: &mut C) -> Resu
     let text = console.read(alloc, name, TEXT_LIMIT)?;
     let rules = Gate::read(alloc, text.as_slice())?;
     Ok(rules)
+}
+
+/// The gate file of a name. The refusals are those of `read_gate`.
+pub fn read_gate_file<C: Console>(
+    alloc: Global,
+    name: &str,
+    console: &mut C,
+) -> Result<GateFile, Refusal>
+    ensures had { IfOk result (λ file. IsHad (input gate_file name.now)
+        (λ text. SpellsGate text file.rules × (text ≡ file.text.items)) (C.state console.old) (C.state console.new)) }
+    ensures refused { IfErr result (IsRefused (input gate_file name.now) (C.state console.old) (C.state console.new)) }
+{
+    let text = console.read(alloc, name, TEXT_LIMIT)?;
+    let rules = Gate::read(alloc, text.as_slice())?;
+    Ok(GateFile { rules, text })
 }
 
 /// The gate of a name, where one is given. The refusals are those of `read_gate`.

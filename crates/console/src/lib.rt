@@ -9,6 +9,8 @@ mod refusals;
 mod streams;
 
 pub use files::{Named, SystemFiles};
-pub use inputs::{read_any_gate, read_gate, read_message, read_script, read_snapshot};
+pub use inputs::{
+    GateFile, read_any_gate, read_gate, read_gate_file, read_message, read_script, read_snapshot,
+};
 pub use refusals::Refusal;
 pub use streams::{Console, Streams};

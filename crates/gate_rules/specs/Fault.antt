@@ -1,5 +1,5 @@
 -- The numbers and names of faults in reports.
-use Rattle.std.specs.Prelude.{ℕ, List, codes}
+use Rattle.std.specs.Prelude.{ℕ, List, ◌++◌, codes, string_bytes}
 use Rattle.gate_rules.specs.declared.fault.GateFault.{GateFault}
 use Rattle.gate_rules.specs.declared.fault.GateFault.TheVariants.{NotJson, UnknownKey, BadValue, Unsupported, NoMemory}
 
@@ -16,3 +16,10 @@ name_of (UnknownKey key) = codes "UnknownKey"
 name_of (BadValue key) = codes "BadValue"
 name_of (Unsupported key) = codes "Unsupported"
 name_of NoMemory = codes "NoMemory"
+
+-- the name, and the key where there is one
+abbrev pub words_of : GateFault → List ℕ
+words_of (UnknownKey key) = codes "UnknownKey " ++ string_bytes key
+words_of (BadValue key) = codes "BadValue " ++ string_bytes key
+words_of (Unsupported key) = codes "Unsupported " ++ string_bytes key
+words_of fault = name_of fault

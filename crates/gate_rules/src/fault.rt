@@ -1,8 +1,9 @@
-ghost use Rattle.std.specs.Prelude.{◌≡◌};
-ghost use Rattle.gate_rules.specs.Fault.{number_of, name_of};
+ghost use Rattle.std.specs.Prelude.{◌≡◌, ◌++◌, OnOk, string_bytes};
+ghost use Rattle.gate_rules.specs.Fault.{number_of, name_of, words_of};
 ghost use Rattle.gate_rules.specs.declared.fault.GateFault.TheVariants.{NoMemory as OutOfMemory};
 
 use lattice_core::NoMemory;
+use std::alloc::AllocError;
 use thiserror::Error;
 
 /// Why a gate file isn't read.
@@ -49,6 +50,18 @@ impl GateFault {
             GateFault::BadValue(_) => "BadValue",
             GateFault::Unsupported(_) => "Unsupported",
             GateFault::NoMemory => "NoMemory",
+        }
+    }
+
+    /// Writes the fault's words in reports: its name, and the key where there is one. In O(n) for their length.
+    pub fn write_words(&self, text: &mut String) -> Result<(), AllocError>
+        ensures { OnOk result (string_bytes text.new ≡ string_bytes text.old ++ words_of self.now) }
+    {
+        match self {
+            GateFault::UnknownKey(key) => write!(text, "UnknownKey {key}"),
+            GateFault::BadValue(key) => write!(text, "BadValue {key}"),
+            GateFault::Unsupported(key) => write!(text, "Unsupported {key}"),
+            GateFault::NotJson | GateFault::NoMemory => text.push_str(self.name()),
         }
     }
 }

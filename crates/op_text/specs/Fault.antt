@@ -1,5 +1,6 @@
 -- The numbers and names of faults in reports.
-use Rattle.std.specs.Prelude.{ℕ, List, codes}
+use Rattle.std.specs.Prelude.{ℕ, List, ◌++◌, codes, string_bytes}
+use Rattle.review_ops.specs.Fault as body
 use Rattle.op_text.specs.declared.fault.OpTextFault.{OpTextFault}
 use Rattle.op_text.specs.declared.fault.OpTextFault.TheVariants.{NotJson, BadShape, BadBody, NoMemory}
 
@@ -14,3 +15,9 @@ name_of NotJson = codes "NotJson"
 name_of (BadShape key) = codes "BadShape"
 name_of (BadBody fault) = codes "BadBody"
 name_of NoMemory = codes "NoMemory"
+
+-- the name, and the key that isn't as it should be or the name of the body's fault
+abbrev pub words_of : OpTextFault → List ℕ
+words_of (BadShape key) = codes "BadShape " ++ string_bytes key
+words_of (BadBody fault) = codes "BadBody " ++ body.name_of fault
+words_of fault = name_of fault

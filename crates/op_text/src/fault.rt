@@ -1,5 +1,5 @@
-ghost use Rattle.std.specs.Prelude.{◌≡◌};
-ghost use Rattle.op_text.specs.Fault.{number_of, name_of};
+ghost use Rattle.std.specs.Prelude.{◌≡◌, ◌++◌, OnOk, string_bytes};
+ghost use Rattle.op_text.specs.Fault.{number_of, name_of, words_of};
 ghost use Rattle.op_text.specs.declared.fault.OpTextFault.TheVariants.{NoMemory as OutOfMemory};
 
 use lattice_core::NoMemory;
@@ -46,6 +46,20 @@ impl OpTextFault {
             OpTextFault::BadShape(_) => "BadShape",
             OpTextFault::BadBody(_) => "BadBody",
             OpTextFault::NoMemory => "NoMemory",
+        }
+    }
+
+    /// Writes the fault's words in reports: its name, and the key that isn't as it should be or the name of the body's fault. In O(n) for their length.
+    pub fn write_words(&self, text: &mut String) -> Result<(), AllocError>
+        ensures { OnOk result (string_bytes text.new ≡ string_bytes text.old ++ words_of self.now) }
+    {
+        match self {
+            OpTextFault::BadShape(key) => write!(text, "BadShape {key}"),
+            OpTextFault::BadBody(fault) => {
+                let name = fault.name();
+                write!(text, "BadBody {name}")
+            }
+            OpTextFault::NotJson | OpTextFault::NoMemory => text.push_str(self.name()),
         }
     }
 }

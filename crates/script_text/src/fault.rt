@@ -1,8 +1,9 @@
 //! Why a script isn't read or played to its end.
 
-ghost use Rattle.std.specs.Prelude.{◌≡◌};
-ghost use Rattle.script_text.specs.Fault.{number_of, name_of};
+ghost use Rattle.std.specs.Prelude.{◌≡◌, ◌++◌, OnOk, string_bytes};
+ghost use Rattle.script_text.specs.Fault.{number_of, name_of, words_of};
 
+use std::alloc::AllocError;
 use thiserror::Error;
 
 /// Why a script isn't played to its end.
@@ -39,6 +40,16 @@ impl ScriptFault {
             ScriptFault::BadSites => "BadSites",
             ScriptFault::BadLine(_) => "BadLine",
             ScriptFault::NoMemory => "NoMemory",
+        }
+    }
+
+    /// Writes the fault's words in reports: its name, and the number of a bad line. In O(n) for their length.
+    pub fn write_words(&self, text: &mut String) -> Result<(), AllocError>
+        ensures { OnOk result (string_bytes text.new ≡ string_bytes text.old ++ words_of self.now) }
+    {
+        match self {
+            ScriptFault::BadLine(line) => write!(text, "BadLine {line}"),
+            ScriptFault::BadSites | ScriptFault::NoMemory => text.push_str(self.name()),
         }
     }
 }

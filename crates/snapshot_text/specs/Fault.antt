@@ -1,7 +1,8 @@
 -- The numbers and names of faults in reports. They are the project's own.
-use Rattle.std.specs.Prelude.{ℕ, List, codes}
+use Rattle.std.specs.Prelude.{ℕ, List, ◌++◌, codes, decimal}
 use Rattle.byte_ends.specs.declared.faults.BytesFault.{BytesFault}
 use Rattle.byte_ends.specs.declared.faults.BytesFault.TheVariants as bytes
+use Rattle.op_text.specs.Fault as operation
 use Rattle.snapshot_text.specs.declared.fault.SnapFault.{SnapFault}
 use Rattle.snapshot_text.specs.declared.fault.SnapFault.TheVariants.{BadHeader, BadLine, NoEnd, BadCount, AfterEnd, TooLong, ReadFault, NoMemory}
 use Rattle.snapshot_text.specs.declared.fault.WriteSnapFault.{WriteSnapFault}
@@ -26,6 +27,11 @@ name_of AfterEnd = codes "AfterEnd"
 name_of TooLong = codes "TooLong"
 name_of ReadFault = codes "ReadFault"
 name_of NoMemory = codes "NoMemory"
+
+-- the name, and of a bad line its number and the words of the cause
+abbrev pub words_of : SnapFault → List ℕ
+words_of (BadLine line cause) = codes "BadLine " ++ decimal line ++ codes " " ++ operation.words_of cause
+words_of fault = name_of fault
 
 -- where bytes aren't handed out, a snapshot is refused so, with the same number and name
 abbrev pub snap_fault_of : BytesFault → SnapFault

@@ -1,12 +1,13 @@
 //! Why a snapshot isn't read or written.
 
-ghost use Rattle.std.specs.Prelude.{◌≡◌};
-ghost use Rattle.snapshot_text.specs.Fault.{number_of, name_of, write_number_of, write_name_of, snap_fault_of};
+ghost use Rattle.std.specs.Prelude.{◌≡◌, ◌++◌, OnOk, string_bytes};
+ghost use Rattle.snapshot_text.specs.Fault.{number_of, name_of, words_of, write_number_of, write_name_of, snap_fault_of};
 ghost use Rattle.snapshot_text.specs.declared.fault.WriteSnapFault.TheVariants.{WriteFault as WriteFailed, NoMemory as OutOfMemory};
 
 use byte_ends::{BytesFault, Failed};
 use lattice_core::NoMemory;
 use op_text::OpTextFault;
+use std::alloc::AllocError;
 use thiserror::Error;
 
 /// Why a snapshot isn't read. Of the faults in a text the first in line order stands.
@@ -80,6 +81,19 @@ impl SnapFault {
             SnapFault::TooLong => "TooLong",
             SnapFault::ReadFault => "ReadFault",
             SnapFault::NoMemory => "NoMemory",
+        }
+    }
+
+    /// Writes the fault's words in reports: its name, and of a bad line its number and the words of the cause. In O(n) for their length.
+    pub fn write_words(&self, text: &mut String) -> Result<(), AllocError>
+        ensures { OnOk result (string_bytes text.new ≡ string_bytes text.old ++ words_of self.now) }
+    {
+        match self {
+            SnapFault::BadLine(line, cause) => {
+                write!(text, "BadLine {line} ")?;
+                cause.write_words(text)
+            }
+            _ => text.push_str(self.name()),
         }
     }
 }
