@@ -7,6 +7,7 @@ pub mod Front
 pub mod FrontShown
 pub mod Missing
 pub mod FrontLaws
+pub mod Passing
 pub mod RowLine
 pub mod Lines
 pub mod Searches

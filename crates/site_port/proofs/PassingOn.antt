@@ -1,5 +1,5 @@
 -- What a front lacks, taken whole, is all that its site lacks.
-use Rattle.std.proofs.Common.{◌≡◌, ◌≤◌, true, false, List, ◌++◌, length, take, sym, ap, ◌∙◌, inl, inr}
+use Rattle.std.proofs.Common.{◌≡◌, ◌≤◌, true, false, List, length, take, sym, ap, ◌∙◌, inl, inr}
 use Rattle.std.proofs.lemmas.Bool.{ltb-false}
 use Rattle.std.proofs.lemmas.List.{take_all}
 use Rattle.replica_core.specs.Front.{IsFront, Reaches}
@@ -9,8 +9,7 @@ use Rattle.review_ops.specs.Operation.{Operation}
 use Rattle.site_port.specs.OwnSite.{OwnGives, OwnSinks, OwnState}
 use Rattle.site_port.specs.Ports.{lacked, lacks}
 use Rattle.site_port.specs.Sinks.{hands, took}
-use Rattle.world_core.specs.Convergence.{AreTwins}
-use Rattle.world_core.specs.Passing.{held_or_lacked}
+use Rattle.replica_core.specs.Passing.{AreTwins, held_or_lacked}
 
 pub all_passed_on : (port later sink after : OwnState) (front : Reaches) (ops : List Operation) → IsFront sink.journal front → OwnGives port (lacks front) (lacked ops false) later
     → OwnSinks sink (hands ops) took after → ((op : Operation) → has port.journal op ≡ true → 1 ≤ op.stamp.seq)

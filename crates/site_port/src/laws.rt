@@ -8,7 +8,7 @@ ghost use Rattle.review_ops.specs.Operation.{Operation};
 ghost use Rattle.site_port.specs.OwnSite.{OwnGives, OwnSinks, OwnState};
 ghost use Rattle.site_port.specs.Ports.{Call, IsGiven, IsLook, Reply, lacked, lacks};
 ghost use Rattle.site_port.specs.Sinks.{hands, took};
-ghost use Rattle.world_core.specs.Convergence.{AreTwins};
+ghost use Rattle.replica_core.specs.Passing.{AreTwins};
 
 use ready_core::verdicts_are_unique;
 

@@ -13,7 +13,8 @@ use Rattle.world_core.specs.declared.event.Event.{Event}
 use Rattle.world_core.specs.declared.event.Event.TheVariants.{Intake, Send, Deliver, Save, Restart}
 use Rattle.world_core.specs.declared.event.Reply.TheVariants.{Took, Packet, Delivered, Saved, Restarted}
 use Rattle.world_core.specs.declared.event.WorldFault.TheVariants.{StartUsed, ClockSpent, BadBody, NoMemory}
-use Rattle.world_core.specs.Convergence.{stamps_of, made, AreTwins, NoTwins, SiteHolds, WorldHolds}
+use Rattle.world_core.specs.Convergence.{stamps_of, made, NoTwins, SiteHolds, WorldHolds}
+use Rattle.replica_core.specs.Passing.{AreTwins}
 use Rattle.replica_core.specs.JournalLaws.{IsPartOf, has-arrived, has-all_arrived, has-append_cases, has-append_left, has-append_right, one_is, filtered, same_operation_cases, has-first, has-take}
 use Rattle.world_core.specs.Numbered.{numbered, numbered-push}
 use Rattle.world_core.specs.Step.{Answer, taken_in, IsIntake, IsSend, IsDelivery, IsDeliveryOf, IsSave, IsRestart, Step, Run}

@@ -16,7 +16,7 @@ use Rattle.world_core.specs.declared.event.WorldFault.TheVariants.{NoSite}
 use Rattle.world_core.specs.Convergence.{made, NoTwins, SiteHolds, MayBecome}
 use Rattle.replica_core.specs.JournalLaws.{IsPartOf, has-all_arrived, has-append_right, has-first, has-later, same_operation_cases}
 use Rattle.world_core.specs.Numbered.{numbered, numbered_last, numbered-replaced_same}
-use Rattle.world_core.specs.Passing.{held_or_lacked}
+use Rattle.replica_core.specs.Passing.{held_or_lacked}
 use Rattle.world_core.specs.Step.{Answer, taken_in, IsSendAt, IsDelivery, IsDeliveryOf, AtSite, Run}
 use Rattle.world_core.specs.World.{SiteState, WorldState, new_world}
 use Rattle.world_core.proofs.Moves.{site_cases, send_cases, run_keeps}

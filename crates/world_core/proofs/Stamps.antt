@@ -15,7 +15,8 @@ use Rattle.world_core.specs.declared.event.Event.{Event}
 use Rattle.world_core.specs.declared.event.Event.TheVariants.{Intake, Send, Deliver, Save, Restart}
 use Rattle.world_core.specs.declared.event.Reply.TheVariants.{Took, Delivered, Saved, Restarted}
 use Rattle.world_core.specs.declared.event.WorldFault.TheVariants.{NoSite, NoPacket, StartUsed, ClockSpent, BadBody, NoMemory}
-use Rattle.world_core.specs.Convergence.{stamps_of, AreTwins, NoTwins}
+use Rattle.world_core.specs.Convergence.{stamps_of, NoTwins}
+use Rattle.replica_core.specs.Passing.{AreTwins}
 use Rattle.replica_core.specs.JournalLaws.{IsPartOf, part_passes, one_passes, kept-arrived, kept-all_arrived, has-arrived, has-append_right}
 use Rattle.world_core.specs.Numbered.{numbered, numbered-replaced_same}
 use Rattle.world_core.specs.Step.{Answer, taken_in, IsIntake, IsSendAt, IsDelivery, IsDeliveryOf, IsSave, IsRestart, AtSite, Step, Run}

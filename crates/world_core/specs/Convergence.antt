@@ -6,6 +6,7 @@ use Rattle.review_ops.specs.Draft.{deed_of}
 use Rattle.review_ops.specs.Operation.{Operation}
 use Rattle.review_ops.specs.Timestamp.{Timestamp}
 use Rattle.replica_core.specs.Journal.{has}
+use Rattle.replica_core.specs.Passing.{AreTwins}
 use Rattle.state_core.specs.State.{IsJournalState, state_of}
 use Rattle.world_core.specs.declared.event.Event.{Event}
 use Rattle.world_core.specs.declared.event.Event.TheVariants.{Intake, Send, Deliver, Save, Restart}
@@ -69,12 +70,6 @@ abbrev pub made : {A : Type 0} → List (Event A) → List Answer → List Opera
 made (Intake site draft ∷ events) (Ok (Took stamp) ∷ answers) = taken_in stamp (deed_of draft) ∷ made events answers
 made (event ∷ events) (answer ∷ answers) = made events answers
 made events answers = []
-
--- two stamps of one site under one start with one sequence number
-pub record AreTwins (stamp other : Timestamp) : Type 0 where
-  pub site : stamp.site ≡ other.site
-  pub start : stamp.start ≡ other.start
-  pub seq : stamp.seq ≡ other.seq
 
 -- no two are twins
 abbrev pub NoTwins : List Timestamp → Type 0

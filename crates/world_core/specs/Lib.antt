@@ -3,4 +3,3 @@ pub mod Numbered
 pub mod World
 pub mod Step
 pub mod Convergence
-pub mod Passing

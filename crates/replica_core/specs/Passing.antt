@@ -10,8 +10,13 @@ use Rattle.replica_core.specs.Clock.{is_of}
 use Rattle.replica_core.specs.Front.{Reaches, reach_of, holds, ReachesInto, IsFront}
 use Rattle.replica_core.specs.Journal.{has}
 use Rattle.replica_core.specs.Missing.{IsMissing, is_past}
-use Rattle.world_core.specs.Convergence.{AreTwins}
 use Rattle.replica_core.specs.JournalLaws.{has_one, has-filter}
+
+-- two stamps of one site under one start with one sequence number
+pub record AreTwins (stamp other : Timestamp) : Type 0 where
+  pub site : stamp.site ≡ other.site
+  pub start : stamp.start ≡ other.start
+  pub seq : stamp.seq ≡ other.seq
 
 both_are : (a b : Bool) → (a && b) ≡ true → (a ≡ true) × (b ≡ true)
 both_are true b h = (refl, h)
