@@ -3,3 +3,4 @@ pub mod Ending
 pub mod Talking
 pub mod Words
 pub mod Pulling
+pub mod PassingOn

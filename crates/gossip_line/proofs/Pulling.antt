@@ -10,14 +10,13 @@ use Rattle.op_text.specs.declared.fault.OpTextFault.{OpTextFault}
 use Rattle.op_text.specs.declared.fault.OpTextFault.TheVariants as text
 use Rattle.site_port.specs.Sinks.{Offer, Uptake, fronts, reached}
 use Rattle.gossip_line.proofs.Talking.{All-push, flat_map-push}
-use Rattle.gossip_line.specs.Answers.{IsWritten, Sends}
-use Rattle.gossip_line.specs.Pull.{AreOperations, Awaits, Breaks, CountsEnds, CountsReading, EndWith, Fails, IsBroken, IsDeclined, IsPull, IsUngreeted, IsUnsaid, IsUnspelled, IsWholeRound, Leaves, OperationLine, PullsRound, Round, SaysOperation, SendsFront, Takes, TakesAll, answer_in, bytes_in, fault_of, front_line, ops_in, rest_word, unread_fault}
+use Rattle.gossip_line.specs.Answers.{IsCutShort, IsWritten, Sends}
+use Rattle.gossip_line.specs.Pull.{AreOperations, Awaits, Breaks, CountsEnds, CountsReading, EndWith, Fails, Hails, IsBroken, IsDeclined, IsPull, IsUngreeted, IsUnsaid, IsUnspelled, IsWholeRound, Leaves, OperationLine, PullsRound, Round, SaysOperation, SendsFront, Takes, TakesAll, answer_in, bytes_in, fault_of, front_line, ops_in, rest_word, unread_fault}
 use Rattle.gossip_line.specs.Session.{IsPiece, Moment}
 use Rattle.gossip_line.specs.Texts.{hello}
 use Rattle.gossip_line.specs.declared.fault.LineFault.{LineFault}
 use Rattle.gossip_line.specs.declared.fault.LineFault.TheVariants as line
 use Rattle.gossip_line.specs.declared.pull.Handed.{Handed}
-use Rattle.byte_ends.specs.Failures.{OneFailed}
 use Rattle.line_reader.specs.Lines.{BeginsWithLine, IsTooLong, IsUnfinished, Reading}
 use Rattle.site_port.specs.declared.fault.SinkFault.{SinkFault}
 use Rattle.site_port.specs.declared.fault.SinkFault.TheVariants as sink
@@ -101,21 +100,25 @@ awaits_breaks limit count old new came left line.WriteFault is h at_end = h
 awaits_breaks limit count old new came left line.Closed is h at_end = h
 
 -- and a greeting
-pub awaits_ungreeted : (limit : ℕ) (old new : Reading) (came : List ℕ) (left : Option (List ℕ)) (unread reads unwritten writes : ℕ) (fault : LineFault) → old.limit ≡ limit → Awaits old came (Err fault) new
-    → (fault ≡ line.BadAnswer → IsAtEnd left) → CountsReading {T = Unit {0}} unread reads (Err fault) → writes ≡ unwritten
-    → CountsEnds unread reads unwritten writes fault × IsUngreeted limit (old.held ++ came) left fault
-awaits_ungreeted limit old new came left unread reads unwritten writes line.LongLine is h at_end counted same = ((counted, same), subst (λ l. IsTooLong l (old.held ++ came)) is h)
-awaits_ungreeted limit old new came left unread reads unwritten writes line.BadAnswer is h at_end counted same = ((counted, same), inl (subst (λ l. IsUnfinished l (old.held ++ came)) is h, at_end refl))
-awaits_ungreeted limit old new came left unread reads unwritten writes line.ReadFault is h at_end counted same = ((counted, same), tt)
-awaits_ungreeted limit old new came left unread reads unwritten writes line.NoMemory is h at_end counted same = ((counted, same), tt)
-awaits_ungreeted limit old new came left unread reads unwritten writes line.BadVersion is h at_end counted same = absurd h
-awaits_ungreeted limit old new came left unread reads unwritten writes line.WriteFault is h at_end counted same = absurd h
-awaits_ungreeted limit old new came left unread reads unwritten writes line.Closed is h at_end counted same = absurd h
+pub awaits_ungreeted : (limit : ℕ) (old new : Reading) (came : List ℕ) (left taken later : Option (List ℕ)) (unread reads unwritten writes : ℕ) (fault : LineFault) → old.limit ≡ limit → Awaits old came (Err fault) new
+    → (fault ≡ line.BadAnswer → IsAtEnd left) → CountsReading {T = Unit {0}} unread reads (Err fault) → writes ≡ unwritten → Appends taken later (as_line hello)
+    → CountsEnds unread reads unwritten writes fault × IsUngreeted limit (old.held ++ came) left fault × Hails taken later fault
+awaits_ungreeted limit old new came left taken later unread reads unwritten writes line.LongLine is h at_end counted same hails =
+    ((counted, same), subst (λ l. IsTooLong l (old.held ++ came)) is h, hails)
+awaits_ungreeted limit old new came left taken later unread reads unwritten writes line.BadAnswer is h at_end counted same hails =
+    ((counted, same), inl (subst (λ l. IsUnfinished l (old.held ++ came)) is h, at_end refl), hails)
+awaits_ungreeted limit old new came left taken later unread reads unwritten writes line.ReadFault is h at_end counted same hails = ((counted, same), tt, hails)
+awaits_ungreeted limit old new came left taken later unread reads unwritten writes line.NoMemory is h at_end counted same hails = ((counted, same), tt, inr hails)
+awaits_ungreeted limit old new came left taken later unread reads unwritten writes line.BadVersion is h at_end counted same hails = absurd h
+awaits_ungreeted limit old new came left taken later unread reads unwritten writes line.WriteFault is h at_end counted same hails = absurd h
+awaits_ungreeted limit old new came left taken later unread reads unwritten writes line.Closed is h at_end counted same hails = absurd h
 
-pub unsent_ungreeted : (limit : ℕ) (bytes : List ℕ) (left : Option (List ℕ)) (unread unwritten writes : ℕ) (fault : LineFault) → fault ≡ line.WriteFault → OneFailed unwritten writes
-    → CountsEnds unread unread unwritten writes fault × IsUngreeted limit bytes left fault
-unsent_ungreeted limit bytes left unread unwritten writes fault is one =
-    subst (λ f. CountsEnds unread unread unwritten writes f × IsUngreeted limit bytes left f) (sym is) ((refl, one), tt)
+pub unsent_ungreeted : (limit : ℕ) (bytes : List ℕ) (left taken later : Option (List ℕ)) (unread unwritten writes : ℕ) (fault : LineFault) → fault ≡ line.WriteFault
+    → IsCutShort (as_line hello) taken later unwritten writes
+    → CountsEnds unread unread unwritten writes fault × IsUngreeted limit bytes left fault × Hails taken later fault
+unsent_ungreeted limit bytes left taken later unread unwritten writes fault is cut =
+    subst (λ f. CountsEnds unread unread unwritten writes f × IsUngreeted limit bytes left f × Hails taken later f) (sym is)
+    ((refl, cut.one_failed), tt, (cut.count, cut.proper, cut.prefix))
 
 -- a text that isn't read spells nothing, unless memory was refused
 pub unread_unspelled : (spelling : List ℕ) (fault : OpTextFault) → ((op : Operation) → SpellsOperation spelling op → fault ≡ text.NoMemory) → IsUnspelled spelling (unread_fault fault)
@@ -147,8 +150,8 @@ unsaid_breaks limit count rest piece later said left line.Closed begins is none 
 
 -- where a fixed text isn't written
 pub not_sent : (text : List ℕ) (taken later : Option (List ℕ)) (failed failures : ℕ) (fault : LineFault) → Sends {T = Unit {0}} text (Ok tt) taken later failed failures (Err fault)
-    → (fault ≡ line.WriteFault) × OneFailed failed failures
-not_sent text taken later failed failures line.WriteFault h = (refl, h.one_failed)
+    → (fault ≡ line.WriteFault) × IsCutShort text taken later failed failures
+not_sent text taken later failed failures line.WriteFault h = (refl, h)
 not_sent text taken later failed failures line.LongLine h = let e = h.0 in cc
 not_sent text taken later failed failures line.BadVersion h = let e = h.0 in cc
 not_sent text taken later failed failures line.ReadFault h = let e = h.0 in cc
@@ -267,7 +270,7 @@ module _ {K : Type 0} (sinks : K → Offer → Uptake → K → Type 0) where
       → after.port ≡ mid.port → after.unread ≡ mid.unread → IsRoundFailed limit mid held fault after
   not_quit limit mid after held text fault h same reads =
       let failed = not_sent text mid.taken after.taken mid.unwritten after.unwritten fault h in
-      subst (λ f. IsRoundFailed limit mid held f after) (sym failed.0) (record { leaves = inl same; counts = (reads, failed.1) })
+      subst (λ f. IsRoundFailed limit mid held f after) (sym failed.0) (record { leaves = inl same; counts = (reads, failed.1.one_failed) })
 
 -- what a negated test says
 pub not_true : (test : Bool) → not test ≡ true → test ≡ false

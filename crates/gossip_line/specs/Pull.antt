@@ -1,5 +1,5 @@
 -- A pull: in each round the sink's front is written, a whole answer is read, and its operations are handed to the sink.
-use Rattle.std.specs.Prelude.{◌≡◌, ◌≢◌, ◌⊎◌, ◌≤◌, ℕ, Bool, true, false, List, [], ◌∷◌, ◌++◌, Option, Result, Ok, Err, codes, flat_map, length, map, sum_by, if◌then◌else◌}
+use Rattle.std.specs.Prelude.{◌≡◌, ◌≢◌, ◌⊎◌, ◌≤◌, ◌<◌, ℕ, Bool, true, false, List, [], ◌∷◌, ◌++◌, Option, Result, Ok, Err, codes, flat_map, length, map, sum_by, take, if◌then◌else◌}
 use Rattle.std.specs.List.{AllByRecursion}
 use Rattle.std.specs.Io.KnownBytes.{Appends, Consumes, IsAtEnd}
 use Rattle.byte_ends.specs.Failures.{OneFailed}
@@ -170,13 +170,20 @@ IsUngreeted limit bytes left BadAnswer =
 IsUngreeted limit bytes left Closed = ⊥
 IsUngreeted limit bytes left fault = Unit {0}
 
+-- what was written of the version where it isn't named back: all of its line; where writing failed, a proper prefix; where memory was refused,
+-- all or nothing
+abbrev pub Hails : Option (List ℕ) → Option (List ℕ) → LineFault → Type 0
+Hails taken later WriteFault = (count : ℕ) × (count < length (as_line hello)) × Appends taken later (take count (as_line hello))
+Hails taken later NoMemory = (later ≡ taken) ⊎ Appends taken later (as_line hello)
+Hails taken later fault = Appends taken later (as_line hello)
+
 -- the version is written, and the line that comes first has to name it
 abbrev pub Greets : Reading → List ℕ → Option (List ℕ) → Option (List ℕ) → Option (List ℕ) → (unread reads unwritten writes : ℕ) → Result (Unit {0}) LineFault → Reading → Type 0
 Greets old came left taken later unread reads unwritten writes (Ok done) new =
     (greeting : List ℕ) × BeginsWithLine old.limit (old.held ++ came) greeting new.held × (without_cr greeting ≡ hello)
     × IsWritten (as_line hello) taken later unwritten writes × (reads ≡ unread)
 Greets old came left taken later unread reads unwritten writes (Err fault) new =
-    CountsEnds unread reads unwritten writes fault × IsUngreeted old.limit (old.held ++ came) left fault
+    CountsEnds unread reads unwritten writes fault × IsUngreeted old.limit (old.held ++ came) left fault × Hails taken later fault
 
 -- ---- all rounds, over any sink, which stands in the place of the port
 module _ {K : Type 0} (sinks : K → Offer → Uptake → K → Type 0) where
@@ -254,7 +261,8 @@ module _ {K : Type 0} (sinks : K → Offer → Uptake → K → Type 0) where
   abbrev pub Fails : ℕ → ℕ → Moment K → Moment K → LineFault → Type 0
   Fails limit most before after fault =
       CountsEnds before.unread after.unread before.unwritten after.unwritten fault
-      × (((after.port ≡ before.port) × (came : List ℕ) × Consumes before.left after.left came × IsUngreeted limit came after.left fault)
+      × (((after.port ≡ before.port) × (came : List ℕ) × Consumes before.left after.left came × IsUngreeted limit came after.left fault
+      × Hails before.taken after.taken fault)
       ⊎ ((mid : Moment K) × (greeting : List ℕ) × (rounds : List Round) × (held : List ℕ) × IsPull limit before mid greeting rounds held × (length rounds ≤ most)
       × Leaves limit mid held fault after))
 

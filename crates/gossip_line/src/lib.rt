@@ -27,6 +27,7 @@
 mod answer;
 mod command;
 mod fault;
+mod laws;
 mod pull;
 mod send;
 mod session;
@@ -34,5 +35,6 @@ mod session;
 mod tests;
 
 pub use fault::LineFault;
+pub use laws::pulls_pass_on_all;
 pub use pull::{Pulled, pull_run};
 pub use session::session_run;

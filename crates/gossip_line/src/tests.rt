@@ -1,8 +1,8 @@
 //! Sessions and pulls over texts, worked out by hand.
 
 use super::session::answer_lines;
-use super::{LineFault, Pulled, pull_run, session_run};
-use byte_ends::{Broken, Ends};
+use super::{LineFault, Pulled, pull_run, pulls_pass_on_all, session_run};
+use byte_ends::{Broken, Drain, Ends};
 use gate_rules::Gate;
 use op_text::read_op;
 use ready_core::Verdicts;
@@ -173,6 +173,83 @@ fn a_failing_drain_ends_the_session(rt: HostRuntime) -> Result<(), Fail> {
     Ok(())
 }
 
+/// A writer that fails at each of its calls in turn: the session ends there, and a site that was only asked stays as it was.
+#[test]
+fn each_write_may_fail(rt: HostRuntime) -> Result<(), Fail> {
+    let mut last = 0;
+    for call in 1..=100_u64 {
+        let mut port = port_of(rt.alloc(), &[MERGE_5, MERGE_6])?;
+        let mut source = Ends::new(
+            b"hello 2\nfront [[1,1,1]]\nready\nstate\nfoo\nquit\n".as_slice(),
+        );
+        let mut drain = Broken::at_call(Ends::new(Vec::new(rt.alloc())), call);
+        match session_run(rt.alloc(), &mut source, &mut drain, &mut port) {
+            Ok(()) => break,
+            Err(fault) => assert_eq!(rt; fault, LineFault::WriteFault),
+        }
+        assert_eq!(rt; port.replica().len(), 2);
+        assert_eq!(rt; drain.failures(), 1);
+        last = call;
+    }
+    assert!(rt; 6 <= last && last < 100);
+    Ok(())
+}
+
+/// A text of this first line, `count` empty lines and this last line.
+fn empty_lines(alloc: Global, count: usize, last: &str) -> Result<String, Fail> {
+    let mut text = String::from_str(alloc, "hello 2\n")?;
+    for _ in 0..count {
+        text.push_str("\n")?;
+    }
+    text.push_str(last)?;
+    Ok(text)
+}
+
+#[test]
+fn a_session_has_a_million_lines(rt: HostRuntime) -> Result<(), Fail> {
+    for (count, last, fault, end) in [
+        (999_998, "", None, "no 6 BadCommand\n"),
+        (999_998, "quit\n", None, "bye\n"),
+        (999_999, "", Some(LineFault::ReadFault), "no 6 BadCommand\n"),
+        (
+            999_999,
+            "quit\n",
+            Some(LineFault::ReadFault),
+            "no 6 BadCommand\n",
+        ),
+    ] {
+        let mut port = port_of(rt.alloc(), &[])?;
+        let text = empty_lines(rt.alloc(), count, last)?;
+        let mut source = Ends::new(text.as_bytes());
+        let mut drain = Ends::new(Vec::new(rt.alloc()));
+        let ended = session_run(rt.alloc(), &mut source, &mut drain, &mut port);
+        assert_eq!(rt; ended.err(), fault);
+        let written = drain.into_inner();
+        assert!(rt; written.as_slice().ends_with(end.as_bytes()));
+    }
+    Ok(())
+}
+
+#[test]
+fn a_line_has_half_a_mebibyte(rt: HostRuntime) -> Result<(), Fail> {
+    let mut lines = String::from_str(rt.alloc(), "hello 2\n")?;
+    for length in [524_288, 524_289] {
+        for _ in 0..length {
+            lines.push_str("a")?;
+        }
+        lines.push_str("\n")?;
+    }
+    let mut port = port_of(rt.alloc(), &[])?;
+    let mut source = Ends::new(lines.as_bytes());
+    let mut drain = Ends::new(Vec::new(rt.alloc()));
+    let ended = session_run(rt.alloc(), &mut source, &mut drain, &mut port);
+    assert_eq!(rt; ended.err(), Some(LineFault::LongLine));
+    let written = drain.into_inner();
+    let answers = b"hello 2\nno 6 BadCommand\nno 1 LongLine\n".as_slice();
+    assert_eq!(rt; written.as_slice(), answers);
+    Ok(())
+}
+
 /// A site that has ended.
 #[derive(Drop)]
 struct Ended;
@@ -258,6 +335,7 @@ fn assert_pulls(rt: &impl Abort, alloc: Global, pulling: &Pulling) -> Result<(),
 
 #[test]
 fn whole_answers_are_handed_over(rt: HostRuntime) -> Result<(), Fail> {
+    pulls_pass_on_all();
     for pulling in &[
         Pulling {
             peer: b"hello 2\nop {\"change\":5,\"op\":\"merged\",\"seq\":1,\"site\":1,\"start\":1,\"time\":1}\ndone\n",
@@ -290,6 +368,65 @@ fn whole_answers_are_handed_over(rt: HostRuntime) -> Result<(), Fail> {
     ] {
         assert_pulls(&rt, rt.alloc(), pulling)?;
     }
+    Ok(())
+}
+
+/// What a peer answers of so many merges, in one round.
+fn answer_of(alloc: Global, count: u32) -> Result<String, Fail> {
+    let mut text = String::from_str(alloc, "hello 2\n")?;
+    for number in 1..=count {
+        write!(
+            text,
+            "op {{\"change\":{number},\"op\":\"merged\",\"seq\":{number},\"site\":1,\"start\":1,\"time\":{number}}}\n"
+        )?;
+    }
+    text.push_str("done\n")?;
+    Ok(text)
+}
+
+#[test]
+fn an_answer_has_256_operations(rt: HostRuntime) -> Result<(), Fail> {
+    for (count, ended, held) in [
+        (
+            256,
+            Ok(Pulled {
+                rounds: 1,
+                taken: 256,
+                more: false,
+            }),
+            256,
+        ),
+        (257, Err(LineFault::BadAnswer), 0),
+    ] {
+        let text = answer_of(rt.alloc(), count)?;
+        let mut sink = port_of(rt.alloc(), &[])?;
+        let mut source = Ends::new(text.as_bytes());
+        let mut drain = Ends::new(Vec::new(rt.alloc()));
+        let pulled = pull_run(rt.alloc(), &mut source, &mut drain, &mut sink);
+        assert_eq!(rt; pulled, ended);
+        assert_eq!(rt; sink.replica().len(), held);
+    }
+    Ok(())
+}
+
+/// Two votes under one stamp are two operations of a pull, and the greater value counts.
+#[test]
+fn one_stamp_may_bring_two_votes(rt: HostRuntime) -> Result<(), Fail> {
+    let peer =
+        b"hello 2\nop {\"change\":101,\"message\":\"m\",\"op\":\"patchset\",\"seq\":1,\"set\":1,\"site\":1,\"start\":1,\"time\":1}\nop {\"change\":101,\"label\":\"workflow\",\"op\":\"vote\",\"seq\":3,\"set\":1,\"site\":1,\"start\":1,\"time\":3,\"value\":1,\"voter\":\"ann\"}\nop {\"change\":101,\"label\":\"workflow\",\"op\":\"vote\",\"seq\":3,\"set\":1,\"site\":1,\"start\":1,\"time\":3,\"value\":2,\"voter\":\"ann\"}\ndone\n".as_slice();
+    let mut sink = port_of(rt.alloc(), &[])?;
+    let mut source = Ends::new(peer);
+    let mut drain = Ends::new(Vec::new(rt.alloc()));
+    let pulled = pull_run(rt.alloc(), &mut source, &mut drain, &mut sink)?;
+    assert_eq!(rt; pulled.taken, 3);
+    assert_eq!(rt; sink.replica().len(), 3);
+    let mut lines = Ends::new(b"hello 2\nstate\n".as_slice());
+    let mut answers = Ends::new(Vec::new(rt.alloc()));
+    session_run(rt.alloc(), &mut lines, &mut answers, &mut sink)?;
+    let written = answers.into_inner();
+    let state =
+        b"hello 2\nchange 101 NEW\nset 101,1 1,1,1,1 \"m\"\nvote 101,1 workflow ann 2 3,1,1,3\nend 1\n".as_slice();
+    assert_eq!(rt; written.as_slice(), state);
     Ok(())
 }
 

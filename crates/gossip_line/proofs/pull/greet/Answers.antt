@@ -8,7 +8,7 @@ pub returns-in_err-send-clause-greets : goal.returns-in_err-send-clause-greets
 returns-in_err-send-clause-greets g c =
     let p = err_from_is_err_and c.from_residual.result c.from_residual.ensures.1 in
     let failed = not_sent _ _ _ _ _ c.in_err-send.field-0.0 c.in_err-send.ensures in
-    ([], Consumes-nil _, rw (p.1, p.2) (unsent_ungreeted c.args.reader.now.limit (c.args.reader.now.held ++ []) _ _ _ _ c.in_err-send.field-0.0 failed.0 failed.1))
+    ([], Consumes-nil _, rw (p.1, p.2) (unsent_ungreeted c.args.reader.now.limit (c.args.reader.now.held ++ []) _ _ _ _ _ _ c.in_err-send.field-0.0 failed.0 failed.1))
 
 pub returns-in_err-await_line-clause-greets : goal.returns-in_err-await_line-clause-greets
 returns-in_err-await_line-clause-greets g c =
@@ -16,6 +16,6 @@ returns-in_err-await_line-clause-greets g c =
     let now = c.in_err-await_line.ensures.awaits in (
       now.0,
       now.1,
-      rw (p.1, p.2) (awaits_ungreeted c.args.reader.now.limit c.args.reader.now c.await_line.new.reader now.0 _ _ _ _ _ c.in_err-await_line.field-0.0 refl now.2
-          (λ e. c.in_err-await_line.ensures.end (ap Err e)) c.in_err-await_line.ensures.counted c.in_ok-send.ensures.1.none_failed),
+      rw (p.1, p.2) (awaits_ungreeted c.args.reader.now.limit c.args.reader.now c.await_line.new.reader now.0 _ _ _ _ _ _ _ c.in_err-await_line.field-0.0 refl now.2
+          (λ e. c.in_err-await_line.ensures.end (ap Err e)) c.in_err-await_line.ensures.counted c.in_ok-send.ensures.1.none_failed c.in_ok-send.ensures.1.whole),
     )

@@ -118,7 +118,7 @@ returns g c =
     }
 
 pub returns-in_default : goal.returns-in_default
-returns-in_default g c = ((refl, refl), inl (refl, [], Consumes-nil _, tt))
+returns-in_default g c = ((refl, refl), inl (refl, [], Consumes-nil _, tt, inl refl))
 
 pub returns-in_err-greet : goal.returns-in_err-greet
 returns-in_err-greet g c =
@@ -126,4 +126,4 @@ returns-in_err-greet g c =
     let greets = c.in_err-greet.ensures.greets in
     let fault = c.in_err-greet.field-0.0 in
     let ungreeted = subst (λ (r : Reading). IsUngreeted r.limit (r.held ++ greets.0) (g.S.Source.left c.greet.new.source) fault) c.in-Ok.ensures greets.2.1 in
-    rw (p.1, p.2) (greets.2.0, inl (refl, greets.0, greets.1, ungreeted))
+    rw (p.1, p.2) (greets.2.0, inl (refl, greets.0, greets.1, ungreeted, greets.2.2))
