@@ -1,0 +1,5 @@
+pub mod Asking
+pub mod Cycles
+pub mod Lookups
+pub mod Steps
+pub mod Values

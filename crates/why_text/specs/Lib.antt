@@ -1,0 +1,5 @@
+pub mod Asked
+pub mod Chain
+pub mod Cycle
+pub mod Wanted
+pub mod Why

@@ -1,0 +1,77 @@
+//! The words of items and refusals.
+
+ghost use Rattle.std.specs.Prelude.{◌≡◌, ◌++◌, OnOk, string_bytes, decimal};
+ghost use Rattle.report_text.specs.Report.{clause_text, item_text, refusal_text, side_name};
+
+use gate_rules::{Clause, Condition, Side};
+use lattice_core::NoMemory;
+use ready_core::Refusal;
+use state_core::Item;
+
+/// Adds an item to a text, as `101,2`.
+pub fn add_item(text: &mut String, item: Item) -> Result<(), NoMemory>
+    ensures { OnOk result (string_bytes text.new ≡ string_bytes text.old ++ item_text item) }
+{
+    let Item { change, set } = item;
+    write!(text, "{change},{set}")?;
+    Ok(())
+}
+
+/// Adds to a text why an item is left out, in the words of a report.
+pub fn add_refusal(text: &mut String, refusal: Refusal) -> Result<(), NoMemory>
+    ensures { OnOk result (string_bytes text.new ≡ string_bytes text.old ++ refusal_text refusal) }
+{
+    match refusal {
+        Refusal::Own(condition) => add_condition(text, condition),
+        Refusal::Cycle => add_word(text, "cycle"),
+        Refusal::Unknown(change) => add_named(text, "unknown ", u64::from(change)),
+        Refusal::Dependency(change) => add_named(text, "dependency ", u64::from(change)),
+    }
+}
+
+/// Adds a condition, as `require approval 2`.
+fn add_condition(text: &mut String, condition: Condition) -> Result<(), NoMemory>
+    ensures { OnOk result (string_bytes text.new ≡ string_bytes text.old ++ refusal_text (Refusal.Own condition)) }
+{
+    text.push_str(side_word(condition.side))?;
+    text.push_str(" ")?;
+    add_clause(text, condition.clause)
+}
+
+/// A side's key in a gate file.
+pub fn side_word(side: Side) -> &'static str
+    ensures { result.now ≡ side_name side }
+{
+    match side {
+        Side::Require => "require",
+        Side::Reject => "reject",
+    }
+}
+
+/// Adds a clause: its key in a gate file, and for an approval which one it is, from 1.
+fn add_clause(text: &mut String, clause: Clause) -> Result<(), NoMemory>
+    ensures { OnOk result (string_bytes text.new ≡ string_bytes text.old ++ clause_text clause) }
+{
+    match clause {
+        Clause::OpenState => add_word(text, "open"),
+        Clause::CurrentSet => add_word(text, "current-patchset"),
+        Clause::StatusIn => add_word(text, "status"),
+        Clause::Approval(number) => add_named(text, "approval ", number as u64),
+    }
+}
+
+/// Adds a word.
+fn add_word(text: &mut String, word: &str) -> Result<(), NoMemory>
+    ensures { OnOk result (string_bytes text.new ≡ string_bytes text.old ++ word.now) }
+{
+    text.push_str(word)?;
+    Ok(())
+}
+
+/// Adds a number after what names it.
+fn add_named(text: &mut String, name: &str, number: u64) -> Result<(), NoMemory>
+    ensures { OnOk result (string_bytes text.new ≡ string_bytes text.old ++ (name.now ++ decimal number)) }
+{
+    write!(text, "{name}{number}")?;
+    Ok(())
+}
