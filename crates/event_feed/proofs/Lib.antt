@@ -1,0 +1,3 @@
+pub mod Saying
+pub mod Stepping
+pub mod Feeding

@@ -1,0 +1,26 @@
+use Rattle.std.proofs.Common.{refl, ◌∙◌}
+use Rattle.event_feed.proofs.Stepping.{handed, line_step, long_step, none_read, too_long}
+use Rattle.event_feed.proofs.feed.next_line.Goals as goal
+
+pub returns-in-Ok-true-clause-step : goal.returns-in-Ok-true-clause-step
+returns-in-Ok-true-clause-step g c =
+    let hands = c.in-Ok-true.ensures.hands in
+    let line = handed c.args.reader.now c.next_line.new.self hands.0 c.in-Ok-true.field-0
+    c.in-Ok-true.field-0-test hands.2 in
+    line_step c.args.reader.now.limit c.args.number _ _ _ _ hands.0 line.0 c.line.result.now hands.1
+    c.in-Ok-true.ensures.counted line.1 (c.line.ensures ∙ line.2) c.take_line.result c.take_line.ensures
+
+pub returns-in-Err-TooLong-clause-step : goal.returns-in-Err-TooLong-clause-step
+returns-in-Err-TooLong-clause-step g c =
+    let hands = c.in-Err-TooLong.ensures.hands in
+    let long = too_long c.args.reader.now c.next_line.new.self hands.0 c.in-Err-TooLong.field-0
+    c.in-Err-TooLong.field-0-is hands.2 in
+    long_step c.args.reader.now.limit c.args.number _
+    (record {
+      left = g.S.Source.left c.next_line.new.source;
+      failed = g.S.Source.failed c.next_line.new.source;
+      held = c.next_line.new.self.held;
+    })
+    _ _ _ hands.0 hands.1
+    (none_read _ _ c.in-Err-TooLong.field-0 c.in-Err-TooLong.field-0-is c.in-Err-TooLong.ensures.counted)
+    long.0 long.1 refl refl c.pass_line.result c.pass_line.ensures.step

@@ -1,0 +1,53 @@
+-- The lines that are written for what was found in a line.
+use Rattle.std.specs.Prelude.{ℕ, List, [], ◌++◌, Bool, true, false, codes, decimal, flat_map}
+use Rattle.std.specs.List.{list_any}
+use Rattle.op_text.specs.Text.{body_text}
+use Rattle.gerrit_events.specs.Fault.{text_of}
+use Rattle.gerrit_events.specs.declared.fault.EventFault.{EventFault}
+use Rattle.gerrit_events.specs.declared.fault.EventFault.TheVariants.{BadEvent, Dropped}
+use Rattle.gerrit_events.specs.declared.fault.EventKey.TheVariants.{Line}
+use Rattle.gerrit_events.specs.declared.finding.Finding.{Finding}
+use Rattle.gerrit_events.specs.declared.finding.Finding.TheVariants.{Brings, Refuses}
+
+-- a body, as a session takes it
+abbrev pub take_line : Finding → List ℕ
+take_line (Brings body) = codes "take " ++ body_text body ++ codes "\n"
+take_line (Refuses fault) = []
+
+-- the key that a fault names, at the end of its line
+abbrev pub key_text : List ℕ → List ℕ
+key_text key = codes " " ++ key ++ codes "\n"
+
+abbrev pub bad_event_line : ℕ → List ℕ → List ℕ
+bad_event_line number key = (codes "reviewgate: events 1 BadEvent " ++ decimal number) ++ key_text key
+
+abbrev pub dropped_line : ℕ → List ℕ
+dropped_line number = codes "reviewgate: events 2 Dropped " ++ decimal number ++ codes "\n"
+
+-- what is refused of the line of this number
+abbrev pub fault_line : ℕ → EventFault → List ℕ
+fault_line number (BadEvent key) = bad_event_line number (text_of key)
+fault_line number Dropped = dropped_line number
+
+abbrev pub refusal_line : ℕ → Finding → List ℕ
+refusal_line number (Brings body) = []
+refusal_line number (Refuses fault) = fault_line number fault
+
+abbrev pub take_lines : List Finding → List ℕ
+take_lines findings = flat_map take_line findings
+
+abbrev pub refusal_lines : ℕ → List Finding → List ℕ
+refusal_lines number findings = flat_map (refusal_line number) findings
+
+-- a line that is no event
+abbrev pub no_event : Finding
+no_event = Refuses (BadEvent Line)
+
+-- Gerrit dropped events
+abbrev pub is_drop : Finding → Bool
+is_drop (Brings body) = false
+is_drop (Refuses (BadEvent key)) = false
+is_drop (Refuses Dropped) = true
+
+abbrev pub drops : List Finding → Bool
+drops findings = list_any is_drop findings

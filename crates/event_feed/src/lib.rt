@@ -1,0 +1,19 @@
+//! Feeds what Gerrit writes to a session of a site, line by line: its stream of events, or what it answers to a
+//! query. The output is what a client of the session says, `hello 2` and then a line `take BODY` for each body. What
+//! is lost of a line is reported on the errors:
+//!
+//! | Line of the errors | Where |
+//! |---|---|
+//! | `reviewgate: events 1 BadEvent n KEY` | line n is no event, lacks what its kind needs, or has a bad body |
+//! | `reviewgate: events 2 Dropped n` | line n says that Gerrit dropped events; the feed ends |
+#![tactic(auto)]
+
+mod fault;
+mod feed;
+mod line;
+#[cfg(test)]
+mod tests;
+mod texts;
+
+pub use fault::FeedFault;
+pub use feed::events_run;

@@ -1,0 +1,5 @@
+pub mod Numbers
+pub mod Lists
+pub mod Remembered
+pub mod Agreeing
+pub mod Settled

@@ -1,0 +1,10 @@
+pub mod Fault
+pub mod Values
+pub mod Kinds
+pub mod Revisions
+pub mod RevisionsKept
+pub mod Patches
+pub mod PatchShown
+pub mod Claims
+pub mod ClaimShown
+pub mod Reading

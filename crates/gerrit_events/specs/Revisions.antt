@@ -1,0 +1,23 @@
+-- The revisions that a run has seen: of each the change and the patch set, the oldest first. How many are kept is the
+-- project's own.
+use Rattle.std.specs.Prelude.{ℕ, ◌-◌, List, [], ◌∷◌, ◌++◌, length, drop, if◌then◌else◌, Option, is_some}
+use Rattle.std.specs.Str.{bytes_eq}
+use Rattle.std.specs.Map.{lookup}
+
+abbrev pub Revision : Type 0
+Revision = List ℕ × (ℕ × ℕ)
+
+abbrev pub most_revisions : ℕ
+most_revisions = 100000
+
+-- the change and the patch set of a revision, where it is known
+abbrev pub place_of : List Revision → List ℕ → Option (ℕ × ℕ)
+place_of known revision = lookup (bytes_eq revision) known
+
+-- the last so many of a list
+abbrev pub last_of : {A : Type 0} → ℕ → List A → List A
+last_of count xs = drop (length xs - count) xs
+
+-- a revision that is known stays as it is; another comes last, and where they are too many the oldest is forgotten
+abbrev pub with_revision : List Revision → Revision → List Revision
+with_revision known new = if is_some (place_of known new.0) then known else last_of most_revisions (known ++ new ∷ [])

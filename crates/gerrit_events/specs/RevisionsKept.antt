@@ -1,0 +1,23 @@
+-- How the revisions that are known are kept: in the order of their ages, and in the order of their texts.
+use Rattle.std.specs.Prelude.{◌≡◌, ℕ, ◌≤◌, List, [], ◌∷◌, length, None, String, string_bytes}
+use Rattle.std.specs.BTreeMap.{BTreeMap, get_by_text}
+use Rattle.std.specs.declared.alloc.Global.{Global}
+use Rattle.gerrit_events.specs.declared.known.Seen.{Seen}
+use Rattle.gerrit_events.specs.Revisions.{Revision, place_of, most_revisions}
+
+abbrev pub seen_shown : Seen → Revision
+seen_shown seen = (string_bytes seen.revision, (seen.change, seen.set))
+
+-- no revision comes twice
+abbrev pub AreApart : List Revision → Type 0
+AreApart [] = Unit {0}
+AreApart (seen ∷ known) = (place_of known seen.0 ≡ None) × AreApart known
+
+-- the map has just what is known
+pub record Agree (places : BTreeMap (String Global) (ℕ × ℕ)) (known : List Revision) : Type 0 where
+  pub same : (revision : List ℕ) → get_by_text places revision ≡ place_of known revision
+  pub apart : AreApart known
+
+pub record AreKept (places : BTreeMap (String Global) (ℕ × ℕ)) (known : List Revision) : Type 0 where
+  pub agree : Agree places known
+  pub few : length known ≤ most_revisions

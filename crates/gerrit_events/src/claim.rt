@@ -1,0 +1,80 @@
+//! What a line claims, before it is settled.
+
+ghost use Rattle.std.specs.Prelude.{◌≡◌};
+ghost use Rattle.review_ops.specs.Draft.{deed_of};
+ghost use Rattle.gerrit_events.specs.Claims.{drafts, refuses, bad};
+ghost use Rattle.gerrit_events.specs.Reading.{IsSettled};
+
+use super::fault::{EventFault, EventKey, key_of};
+use super::finding::Finding;
+use review_ops::{Body, Draft};
+use std::marker::Model;
+
+/// What a claim is.
+#[derive(Drop)]
+pub enum Claimed {
+    Draft(Draft),
+    Fault(EventFault),
+}
+
+/// A body that a line spells, good or not, or something of the line that is lost.
+#[derive(Drop)]
+pub struct Claim {
+    claimed: Claimed,
+}
+
+impl Model for Claim {
+    ghost use Rattle.gerrit_events.specs.Claims.{Claim};
+    ghost use Rattle.gerrit_events.specs.ClaimShown.{claim_shown};
+
+    ghost Value = { Claim };
+
+    ghost view = { λ claim. claim_shown claim.claimed };
+}
+
+impl Claim {
+    /// A body.
+    pub fn drafts(draft: Draft) -> Claim
+        ensures { result ≡ drafts (deed_of draft) }
+    {
+        Claim {
+            claimed: Claimed::Draft(draft),
+        }
+    }
+
+    /// Something that is lost.
+    pub fn refuses(fault: EventFault) -> Claim
+        ensures { result ≡ refuses fault }
+    {
+        Claim {
+            claimed: Claimed::Fault(fault),
+        }
+    }
+
+    /// Something that is lost for the value under a key.
+    pub fn bad(key: EventKey) -> Claim
+        ensures { result ≡ bad key }
+    {
+        Claim::refuses(EventFault::BadEvent(key))
+    }
+
+    /// What is found: a body that is good, or what is wrong with it.
+    pub fn settled(self) -> Finding
+        ensures { IsSettled self result }
+    {
+        let Claim { claimed } = self;
+        match claimed {
+            Claimed::Draft(draft) => settled_draft(draft),
+            Claimed::Fault(fault) => Finding::Refuses(fault),
+        }
+    }
+}
+
+fn settled_draft(draft: Draft) -> Finding
+    ensures { IsSettled (drafts (deed_of draft)) result }
+{
+    match Body::checked(draft) {
+        Ok(body) => Finding::Brings(body),
+        Err(fault) => Finding::Refuses(EventFault::BadEvent(key_of(fault))),
+    }
+}

@@ -1,0 +1,123 @@
+//! The revisions that a run has seen.
+
+ghost use Rattle.std.specs.Prelude.{◌≡◌, [], ◌∷◌, ◌++◌, None, OnOk, OnErr, map, drop};
+ghost use Rattle.gerrit_events.specs.Revisions.{place_of, with_revision};
+ghost use Rattle.gerrit_events.specs.RevisionsKept.{seen_shown, Agree};
+
+use lattice_core::NoMemory;
+use std::alloc::Global;
+use std::collections::{BTreeMap, VecDeque};
+use std::marker::Model;
+
+/// How many revisions are kept.
+const MOST: usize = 100000;
+
+/// A revision, and of which patch set it is.
+#[derive(Drop)]
+pub struct Seen {
+    pub revision: String,
+    pub change: u32,
+    pub set: u32,
+}
+
+/// What a run keeps between lines: of at most 100,000 revisions the change and the patch set. The oldest one is
+/// forgotten first. Contracts see the list of them, the oldest first.
+#[derive(Drop)]
+pub struct Known {
+    alloc: Global,
+    ages: VecDeque<Seen>,
+    places: BTreeMap<String, (u32, u32)>,
+}
+
+impl Model for Known {
+    ghost use Rattle.std.specs.Prelude.{List, map};
+    ghost use Rattle.gerrit_events.specs.Revisions.{Revision};
+    ghost use Rattle.gerrit_events.specs.RevisionsKept.{seen_shown, AreKept};
+
+    ghost Value = { List Revision };
+
+    ghost view = { λ known. map seen_shown known.ages.items };
+
+    ghost invariant = { λ known. AreKept known.places (map seen_shown known.ages.items) };
+}
+
+impl Known {
+    /// Nothing is known yet.
+    pub fn new(alloc: Global) -> Known
+        ensures { result ≡ [] }
+    {
+        Known {
+            alloc,
+            ages: VecDeque::new(alloc),
+            places: BTreeMap::new(alloc),
+        }
+    }
+
+    /// The change and the patch set of a revision, where it is known. It costs the logarithm of what is known.
+    pub fn place_of(&self, revision: &str) -> Option<(u32, u32)>
+        ensures { result ≡ place_of self.now revision.now }
+    {
+        self.places.get(revision).copied()
+    }
+
+    /// Learns of a revision. One that is known stays as it is; where they are too many the oldest is forgotten. Where
+    /// memory is refused nothing changes. It costs the logarithm of what is known.
+    pub fn learn(&mut self, revision: &str, change: u32, set: u32) -> Result<(), NoMemory>
+        ensures ok { OnOk result (self.new ≡ with_revision self.old (revision.now, (change, set))) }
+        ensures err { OnErr result (self.new ≡ self.old) }
+    {
+        if self.place_of(revision).is_some() {
+            return Ok(());
+        }
+        add_seen(
+            self.alloc,
+            &mut self.ages,
+            &mut self.places,
+            revision,
+            (change, set),
+        )?;
+        if self.ages.len() > MOST {
+            forget_oldest(&mut self.ages, &mut self.places);
+        }
+        Ok(())
+    }
+}
+
+/// Adds a revision that isn't known. Where memory is refused nothing changes.
+fn add_seen(
+    alloc: Global,
+    ages: &mut VecDeque<Seen>,
+    places: &mut BTreeMap<String, (u32, u32)>,
+    revision: &str,
+    place: (u32, u32),
+) -> Result<(), NoMemory>
+    requires agree { Agree places.old (map seen_shown ages.old.items) }
+    requires unknown { place_of (map seen_shown ages.old.items) revision.now ≡ None }
+    ensures agree { Agree places.new (map seen_shown ages.new.items) }
+    ensures ok { OnOk result (map seen_shown ages.new.items
+        ≡ map seen_shown ages.old.items ++ (revision.now, place) ∷ []) }
+    ensures err { OnErr result (ages.new.items ≡ ages.old.items) }
+{
+    let seen = Seen {
+        revision: String::from_str(alloc, revision)?,
+        change: place.0,
+        set: place.1,
+    };
+    places.insert(String::from_str(alloc, revision)?, place)?;
+    if ages.push_back(seen).is_err() {
+        places.remove(revision);
+        return Err(NoMemory);
+    }
+    Ok(())
+}
+
+/// Forgets the oldest revision.
+fn forget_oldest(ages: &mut VecDeque<Seen>, places: &mut BTreeMap<String, (u32, u32)>)
+    requires { Agree places.old (map seen_shown ages.old.items) }
+    ensures agree { Agree places.new (map seen_shown ages.new.items) }
+    ensures rest { map seen_shown ages.new.items ≡ drop 1 (map seen_shown ages.old.items) }
+{
+    if let Some(oldest) = ages.pop_front() {
+        places.remove(oldest.revision.as_str());
+    }
+}
