@@ -1,0 +1,6 @@
+pub mod Prefixes
+pub mod Adding
+pub mod Shows
+pub mod Spared
+pub mod Turning
+pub mod PublishLaws

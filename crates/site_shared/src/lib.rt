@@ -1,0 +1,42 @@
+//! A running site that threads share without locks: one desk takes in and publishes, up to eight windows look beside it and never wait for it, and
+//! receipts tell a window what it must have seen.
+//!
+//! What was published is one list, which begins with the journal that the site was opened with and only grows. The desk's account is that list and
+//! what is held; each look of a window is at one prefix of the list, which goes on from all that the window has seen and learnt.
+//!
+//! | Fault | Where |
+//! |---|---|
+//! | `OpenFault` 1 `NoMemory`, 2 `NoPlace`, 3 `StartUsed` | of `open_site` |
+//! | `DeskFault` 1 `ClockSpent`, 2 `BadBody` | of an intake or a hold: nothing changes |
+//! | `DeskFault` 3 `NoMemory` | of a call of the desk: the first so many of its operations are held |
+//! | `Stranger` 1 | of `Window::learn`: a receipt of another site or start |
+//! | `WindowFault` 2 `NoMemory`, 3 `Closed` | of a look |
+#![tactic(auto)]
+
+mod desk;
+mod fault;
+mod law;
+mod laws;
+mod open;
+mod pause;
+mod receipt;
+mod showing;
+mod shown;
+mod sight;
+mod spares;
+mod stage;
+#[cfg(test)]
+mod tests;
+#[cfg(test)]
+mod threads;
+mod told;
+mod window;
+
+pub use desk::Desk;
+pub use fault::{DeskFault, OpenFault, Stranger, WindowFault};
+pub use laws::{later_journals_go_on, publishes_are_steps, stamps_are_above_all};
+pub use open::open_site;
+pub use pause::Pause;
+pub use receipt::Receipt;
+pub use told::{Naming, Told};
+pub use window::Window;

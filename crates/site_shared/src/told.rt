@@ -1,0 +1,56 @@
+//! Receipts that go from thread to thread, in messages, and say in their type of which opening they are.
+
+ghost use Rattle.std.specs.Prelude.{◌≡◌};
+
+use crate::receipt::Receipt;
+use std::marker::{Brand, Model, PhantomData};
+
+/// Which opening it is. Each call of a program picks it, with `Brand`.
+pub trait Naming {
+    ghost use Rattle.logbook.specs.Pages.{Book};
+
+    ghost book: { Book };
+}
+
+impl Naming for Brand {
+    ghost book = { record { number = 0; log_name = 0; cells_name = 0 } };
+}
+
+/// A receipt of the opening that its type names, so that a window of that opening may learn it wherever it came from.
+#[derive(Drop)]
+pub struct Told<J: Naming> {
+    receipt: Receipt,
+    of: PhantomData<J>,
+}
+
+impl<J: Naming> Model for Told<J> {
+    ghost use Rattle.std.specs.Prelude.{◌≡◌};
+    ghost use Rattle.site_shared.specs.Accounts.{Extent};
+
+    ghost Value = { Extent };
+
+    ghost view = { λ told. told.receipt };
+
+    ghost invariant = { λ told. told.receipt.book ≡ J.book };
+}
+
+impl<J: Naming> Told<J> {
+    /// A message with a receipt of the opening.
+    pub fn new(receipt: Receipt) -> Told<J>
+        requires { receipt.book ≡ J.book }
+        ensures { result ≡ receipt }
+    {
+        Told {
+            receipt,
+            of: PhantomData,
+        }
+    }
+
+    /// The receipt, which is one of the opening.
+    pub fn receipt(&self) -> &Receipt
+        ensures same { result.now ≡ self.now }
+        ensures own { result.now.book ≡ J.book }
+    {
+        &self.receipt
+    }
+}

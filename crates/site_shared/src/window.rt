@@ -1,0 +1,220 @@
+//! How threads look at a running site.
+
+ghost use Rattle.std.specs.Prelude.{◌≡◌, ◌⊎◌, ◌<◌, ◌↔◌, List, Err, IfErr, IfNone, IfOk, IfSome, IsOk, MatchBool, OnErr, OnOk, Some, length, nat_lt, take};
+ghost use Rattle.std.specs.Arc.{arc_value};
+ghost use mathlib.Core.List.{IsPrefix};
+ghost use Rattle.left_right.specs.Sides.{view};
+ghost use Rattle.ready_core.specs.Verdicts.{AreVerdicts};
+ghost use Rattle.replica_core.specs.Front.{IsFront};
+ghost use Rattle.replica_core.specs.Journal.{has_stamp};
+ghost use Rattle.replica_core.specs.Missing.{IsMissing};
+ghost use Rattle.review_ops.specs.Operation.{Operation};
+ghost use Rattle.site_shared.specs.Pauses.{Pauses};
+ghost use Rattle.site_shared.specs.Publishes.{arrive};
+ghost use Rattle.state_core.specs.State.{state_of};
+
+use crate::fault::{Stranger, WindowFault};
+use crate::pause::{AtOnce, Pause, hold};
+use crate::receipt::Receipt;
+use crate::showing::{Glass, Look, Sees, Show, TakesIn, Tells};
+use crate::sight::Sight;
+use gate_rules::Gate;
+use ready_core::{Verdicts, evaluate};
+use replica_core::{Front, Missing, Replica};
+use review_ops::Stamp;
+use std::alloc::AllocError;
+use std::marker::Model;
+
+/// A place from which one thread looks at a running site, beside the desk and the other windows. It never waits for them. Each look is at one moment: at
+/// a prefix of the publishes, which goes on from all that the window has seen and learnt before. Contracts see that prefix.
+#[derive(Drop)]
+pub struct Window {
+    glass: Option<Glass>,
+    sight: Sight,
+    site: u16,
+    start: u32,
+}
+
+impl Model for Window {
+    ghost use Rattle.std.specs.Prelude.{IfSome};
+    ghost use Rattle.left_right.specs.Sides.{view as known_at};
+    ghost use Rattle.site_shared.specs.Accounts.{Watch};
+    ghost use Rattle.site_shared.specs.Showing.{Knows};
+
+    ghost Value = { Watch };
+
+    ghost view = { λ w. record { book = w.sight.seen.book; seen = w.sight.seen.log; site = w.site; start = w.start } };
+
+    ghost invariant = { λ w. IfSome w.glass (λ glass. Knows w.sight.seen.book (known_at glass.place)) };
+}
+
+impl Window {
+    ghost use Rattle.site_shared.specs.Accounts.{GoesOn, IsOwn, Watch};
+    ghost use Rattle.site_shared.specs.Showing.{Knows};
+    ghost use Rattle.site_shared.specs.declared.fault.WindowFault.TheVariants.{Closed};
+
+    /// A window that has seen what the desk has seen.
+    pub(crate) fn new(
+        show: &mut Show,
+        sight: &Sight,
+        site: u16,
+        start: u32,
+    ) -> Result<Window, AllocError>
+        requires { view show.old.desk.place ≡ Some sight.now.seen }
+        ensures told { view show.new.desk.place ≡ Some sight.now.seen }
+        ensures kept { (show.new.desk.shown ≡ show.old.desk.shown) × (show.new.log ≡ show.old.log) × (show.new.behind ≡ show.old.behind) }
+        ensures ok { IfOk result (λ w. w ≡ record { book = sight.now.seen.book; seen = sight.now.seen.log; site = site; start = start }) }
+    {
+        let mut glass = show.factory().reader()?;
+        let note = show.tell::<Tells>();
+        glass.learn::<TakesIn>(note);
+        Ok(Window {
+            glass: Some(glass),
+            sight: sight.again(),
+            site,
+            start,
+        })
+    }
+
+    /// Takes in a receipt: from now on the window sees no less than the publish that it was answered for. A receipt that bears the window's own site and
+    /// start comes from the window's opening; of any other one nothing is taken in. Takes no memory.
+    pub fn learn(&mut self, receipt: &Receipt) -> Result<(), Stranger>
+        requires { IsOwn self.old receipt.now → receipt.now.book ≡ self.old.book }
+        ensures own { IsOk result ↔ IsOwn self.old receipt.now }
+        ensures ok { OnOk result (GoesOn self.old self.new × IsPrefix receipt.now.published self.new.seen
+            × ((self.new.seen ≡ self.old.seen) ⊎ (self.new.seen ≡ receipt.now.published))) }
+        ensures err { OnErr result (self.new ≡ self.old) }
+    {
+        if receipt.origin() != (self.site, self.start) {
+            return Err(Stranger);
+        }
+        self.sight = self.sight.longer(receipt.sight());
+        Ok(())
+    }
+
+    /// Whether this window has seen all that another one of its opening has. What one of the two has seen begins what the other has: they see one list.
+    pub fn covers(&self, other: &Window) -> bool
+        requires { other.now.book ≡ self.now.book }
+        ensures { MatchBool result (IsPrefix other.now.seen self.now.seen) (IsPrefix self.now.seen other.now.seen) }
+    {
+        self.sight.covers(&other.sight)
+    }
+
+    /// Which items are ready, and why each other one isn't. Costs what `evaluate` does.
+    pub fn report(&mut self, gate: &Gate) -> Result<Verdicts, WindowFault>
+        ensures later { GoesOn self.old self.new }
+        ensures verdicts { IfOk result (AreVerdicts gate.now (state_of (arrive self.new.seen))) }
+        ensures closed { result ≡ Err Closed → self.new ≡ self.old }
+    {
+        self.report_with(gate, &mut AtOnce)
+    }
+
+    /// As `report`, with a pause: the window enters, asks the pause until it answers false, at most 1,000,000 times, and then looks at what it entered at.
+    pub fn report_with<P: Pause>(
+        &mut self,
+        gate: &Gate,
+        pause: &mut P,
+    ) -> Result<Verdicts, WindowFault>
+        ensures later { GoesOn self.old self.new }
+        ensures verdicts { IfOk result (AreVerdicts gate.now (state_of (arrive self.new.seen))) }
+        ensures paused { ¬ (result ≡ Err Closed) → Pauses P.turns 1000000 pause.old pause.new }
+        ensures closed { result ≡ Err Closed → (self.new ≡ self.old) × (pause.new ≡ pause.old) }
+    {
+        let Some(look) = self.enter() else {
+            return Err(WindowFault::Closed);
+        };
+        hold(pause);
+        let replica = &*look.get().replica;
+        let verdicts = evaluate(replica.allocator(), replica.state(), gate);
+        self.leave(look);
+        verdicts.map_err(|_| WindowFault::NoMemory)
+    }
+
+    /// Whether the journal has an operation with this stamp. Takes no memory, and time logarithmic in the rows and in the operations of its row.
+    pub fn has(&mut self, stamp: Stamp) -> Result<bool, WindowFault>
+        ensures later { GoesOn self.old self.new }
+        ensures ok { IfOk result (λ found. found ≡ has_stamp (arrive self.new.seen) stamp) }
+        ensures closed { IfErr result (λ fault. (fault ≡ Closed) × (self.new ≡ self.old)) }
+    {
+        let Some(look) = self.enter() else {
+            return Err(WindowFault::Closed);
+        };
+        let found = look.get().replica.has_stamp(stamp);
+        self.leave(look);
+        Ok(found)
+    }
+
+    /// How far the journal goes without a gap. Grows with the pairs of a site and a start.
+    pub fn front(&mut self) -> Result<Front, WindowFault>
+        ensures later { GoesOn self.old self.new }
+        ensures ok { IfOk result (IsFront (arrive self.new.seen)) }
+        ensures closed { result ≡ Err Closed → self.new ≡ self.old }
+    {
+        let Some(look) = self.enter() else {
+            return Err(WindowFault::Closed);
+        };
+        let front = look.get().replica.front();
+        self.leave(look);
+        front.map_err(|_| WindowFault::NoMemory)
+    }
+
+    /// Copies of the operations that a front lacks, by site, start, sequence number, time and body: the first `limit` of them. Grows with what it
+    /// answers.
+    pub fn missing(&mut self, front: &Front, limit: usize) -> Result<Missing, WindowFault>
+        ensures later { GoesOn self.old self.new }
+        ensures ok { IfOk result (λ missing. (all : List Operation) × IsMissing (arrive self.new.seen) front.now all
+            × (missing.ops.items ≡ take limit all) × (missing.more ≡ nat_lt limit (length all))) }
+        ensures closed { result ≡ Err Closed → self.new ≡ self.old }
+    {
+        let Some(look) = self.enter() else {
+            return Err(WindowFault::Closed);
+        };
+        let missing = look.get().replica.missing(front, limit);
+        self.leave(look);
+        missing.map_err(|_| WindowFault::NoMemory)
+    }
+
+    /// A copy of the replica: the opening's arrivals, and then those of each publish, in its order. It costs the journal.
+    pub fn snapshot(&mut self) -> Result<Replica, WindowFault>
+        ensures later { GoesOn self.old self.new }
+        ensures ok { IfOk result (λ copied. copied ≡ arrive self.new.seen) }
+        ensures closed { result ≡ Err Closed → self.new ≡ self.old }
+    {
+        let Some(look) = self.enter() else {
+            return Err(WindowFault::Closed);
+        };
+        let copied = look.get().replica.copy();
+        self.leave(look);
+        copied.map_err(|_| WindowFault::NoMemory)
+    }
+
+    /// Takes what is shown. None where the desk has ended, and where less is shown than was learnt, which no desk does.
+    fn enter(&mut self) -> Option<Look>
+        ensures some { IfSome result (λ look. (look.part.value.sight.seen.log ≡ self.new.seen) × Knows self.new.book (view look.place)) }
+        ensures later { GoesOn self.old self.new }
+        ensures none { IfNone result (self.new ≡ self.old) }
+    {
+        match self.glass.take()?.enter_as::<Sees>() {
+            Ok(look) => {
+                if look.get().sight.covers(&self.sight) {
+                    self.sight = look.get().sight.again();
+                    return Some(look);
+                }
+                self.glass = Some(look.leave());
+                None
+            }
+            Err(glass) => {
+                self.glass = Some(glass);
+                None
+            }
+        }
+    }
+
+    /// Ends a look.
+    fn leave(&mut self, look: Look)
+        requires { Knows self.old.book (view look.place) }
+        ensures { self.new ≡ self.old }
+    {
+        self.glass = Some(look.leave());
+    }
+}
