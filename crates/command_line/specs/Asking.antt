@@ -1,12 +1,14 @@
 -- What the words of a command line ask for. Which command words name, what they give its arguments, and what is wrong with them is clap's
 -- (docs.rs/clap), over the program's commands.
-use Rattle.std.specs.Prelude.{◌≡◌, ◌≢◌, ◌⊎◌, ◌<◌, ◌^◌, ℕ, List, [], MatchOption, Option, Some, codes, option_map}
+use Rattle.std.specs.Prelude.{◌≡◌, ◌≢◌, ◌⊎◌, ◌<◌, ◌==◌, ◌^◌, ℕ, Bool, List, [], MatchOption, Option, None, Some, codes, length}
+use Rattle.std.specs.Prelude.{option_map}
+use Rattle.std.specs.List.{position_or_len, before_first, after_first}
 use Rattle.std.specs.Str.Parse.{IsNumeral, digits_value, without_leading_plus}
 use Rattle.clap.specs.Words.{Row, Text, first_of, subcommand_of, fault_of, IsAmong}
 use Rattle.clap.specs.declared.error.kind.ErrorKind.{ErrorKind}
 use Rattle.clap.specs.declared.error.kind.ErrorKind.TheVariants.{DisplayHelp, DisplayVersion, OutOfMemory}
 use Rattle.command_line.specs.declared.words.Command.{Command}
-use Rattle.command_line.specs.declared.words.Command.TheVariants.{Simulate, Ready, Merge, Footers, Help, Usage, NoMemory}
+use Rattle.command_line.specs.declared.words.Command.TheVariants.{Simulate, Ready, Merge, Footers, Why, Help, Usage, NoMemory}
 use Rattle.command_line.specs.Commands.{program}
 
 -- what clap matched: the command that the words name, if they name one, and the values of its arguments
@@ -27,6 +29,20 @@ WritesNumber text number =
 abbrev pub GivesChange : List Row → ℕ → Type 0
 GivesChange rows change = MatchOption (first_of (codes "change") rows) (change ≡ 0) (λ text. WritesNumber text change)
 
+-- a text names an item: the number of a change; or that, a comma and the number of a patch set
+abbrev pub is_comma : ℕ → Bool
+is_comma byte = byte == 44
+
+abbrev pub NamesItem : List ℕ → ℕ → Option ℕ → Type 0
+NamesItem text change None = (position_or_len is_comma text ≡ length text) × WritesNumber text change
+NamesItem text change (Some set) =
+    (position_or_len is_comma text < length text) × WritesNumber (before_first is_comma text) change
+    × WritesNumber (after_first is_comma text) set
+
+-- the argument names this item
+abbrev pub GivesItem : List Row → ℕ → Option ℕ → Type 0
+GivesItem rows change set = (text : List ℕ) × Gives rows (codes "CHANGE[,SET]") text × NamesItem text change set
+
 -- what was matched is a command, with all that it needs
 abbrev pub IsCommand : Matched → Command → Type 0
 IsCommand matched (Simulate script gate) =
@@ -37,6 +53,9 @@ IsCommand matched (Merge first second) =
     (rows : List Row) × (matched ≡ Some (codes "merge", rows)) × Gives rows (codes "FIRST") first.now × Gives rows (codes "SECOND") second.now
 IsCommand matched (Footers gate message change) =
     (rows : List Row) × (matched ≡ Some (codes "footers", rows)) × Gives rows (codes "GATE") gate.now × Gives rows (codes "FILE") message.now × GivesChange rows change
+IsCommand matched (Why gate snapshot change set) =
+    (rows : List Row) × (matched ≡ Some (codes "why", rows)) × Gives rows (codes "GATE") gate.now
+    × Gives rows (codes "SNAPSHOT") snapshot.now × GivesItem rows change set
 IsCommand matched (Help text) = ⊥
 IsCommand matched (Usage text) = ⊥
 IsCommand matched NoMemory = ⊥
@@ -63,6 +82,8 @@ Asks words (Simulate script gate) = IsFaultless words × IsCommand (subcommand_o
 Asks words (Ready gate snapshot) = IsFaultless words × IsCommand (subcommand_of program words) (Ready gate snapshot)
 Asks words (Merge first second) = IsFaultless words × IsCommand (subcommand_of program words) (Merge first second)
 Asks words (Footers gate message change) = IsFaultless words × IsCommand (subcommand_of program words) (Footers gate message change)
+Asks words (Why gate snapshot change set) =
+    IsFaultless words × IsCommand (subcommand_of program words) (Why gate snapshot change set)
 Asks words (Help text) = AsksForHelp words
 Asks words (Usage text) = IsFaulty words ⊎ IsNoCommand (subcommand_of program words)
 Asks words NoMemory = Unit {0}
@@ -73,6 +94,7 @@ Means matched (Simulate script gate) = IsCommand matched (Simulate script gate)
 Means matched (Ready gate snapshot) = IsCommand matched (Ready gate snapshot)
 Means matched (Merge first second) = IsCommand matched (Merge first second)
 Means matched (Footers gate message change) = IsCommand matched (Footers gate message change)
+Means matched (Why gate snapshot change set) = IsCommand matched (Why gate snapshot change set)
 Means matched (Help text) = ⊥
 Means matched (Usage text) = IsNoCommand matched
 Means matched NoMemory = Unit {0}
@@ -83,6 +105,7 @@ IsRefused kind (Simulate script gate) = ⊥
 IsRefused kind (Ready gate snapshot) = ⊥
 IsRefused kind (Merge first second) = ⊥
 IsRefused kind (Footers gate message change) = ⊥
+IsRefused kind (Why gate snapshot change set) = ⊥
 IsRefused kind (Help text) = (kind ≡ DisplayHelp) ⊎ (kind ≡ DisplayVersion)
 IsRefused kind (Usage text) = (kind ≢ OutOfMemory) × (kind ≢ DisplayHelp) × (kind ≢ DisplayVersion)
 IsRefused kind NoMemory = Unit {0}
@@ -93,6 +116,7 @@ IsUsage (Simulate script gate) = ⊥
 IsUsage (Ready gate snapshot) = ⊥
 IsUsage (Merge first second) = ⊥
 IsUsage (Footers gate message change) = ⊥
+IsUsage (Why gate snapshot change set) = ⊥
 IsUsage (Help text) = ⊥
 IsUsage (Usage text) = Unit {0}
 IsUsage NoMemory = Unit {0}

@@ -29,6 +29,16 @@ change_rule = record (new_rule (codes "change")) { long = Some (codes "change");
 abbrev pub footers_app : App
 footers_app = with_rule (with_rule (with_rule (new_app (codes "footers")) (needed (codes "GATE"))) (needed (codes "FILE"))) change_rule
 
+-- `why GATE SNAPSHOT CHANGE[,SET]`
+abbrev pub why_app : App
+why_app =
+    with_rule (with_rule (with_rule (new_app (codes "why")) (needed (codes "GATE"))) (needed (codes "SNAPSHOT")))
+    (needed (codes "CHANGE[,SET]"))
+
+-- `events`, which takes no other word
+abbrev pub events_app : App
+events_app = new_app (codes "events")
+
 -- the program, before it has its commands: its name isn't among the words, it has a version, and a command has to be
 abbrev pub bare_app : App
 bare_app = let app = new_app (codes "reviewgate") in
@@ -36,7 +46,9 @@ bare_app = let app = new_app (codes "reviewgate") in
 
 -- the program
 abbrev pub program : App
-program = with_subcommand (with_subcommand (with_subcommand (with_subcommand bare_app simulate_app.top) ready_app.top) merge_app.top) footers_app.top
+program =
+    with_subcommand (with_subcommand (with_subcommand (with_subcommand (with_subcommand (with_subcommand bare_app simulate_app.top) ready_app.top)
+    merge_app.top) footers_app.top) why_app.top) events_app.top
 
 -- an argument that clap reads by this rule, at its own command alone
 abbrev pub IsRule : Rule → Arg → Type 0

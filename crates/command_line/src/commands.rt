@@ -2,7 +2,7 @@
 
 ghost use Rattle.std.specs.Prelude.{IfOk, codes};
 ghost use Rattle.clap.specs.Words.{new_rule};
-ghost use Rattle.command_line.specs.Commands.{IsApp, IsRule, change_rule, footers_app, merge_app, needed, program, ready_app, simulate_app};
+ghost use Rattle.command_line.specs.Commands.{IsApp, IsRule, change_rule, events_app, footers_app, merge_app, needed, program, ready_app, simulate_app, why_app};
 
 use clap::{Arg, Command};
 use std::alloc::{AllocError, Global};
@@ -18,6 +18,7 @@ pub fn commands<'a>(alloc: Global) -> Result<Command<'a>, AllocError>
     let ready = ready_command(alloc)?;
     let merge = merge_command(alloc)?;
     let footers = footers_command(alloc)?;
+    let why = why_command(alloc)?;
     Command::new(alloc, "reviewgate")
         .bin_name("reviewgate")?
         .version(VERSION)
@@ -27,7 +28,9 @@ pub fn commands<'a>(alloc: Global) -> Result<Command<'a>, AllocError>
         .subcommand(simulate)?
         .subcommand(ready)?
         .subcommand(merge)?
-        .subcommand(footers)
+        .subcommand(footers)?
+        .subcommand(why)?
+        .subcommand(events_command(alloc))
 }
 
 /// An argument that has to be given.
@@ -121,4 +124,33 @@ fn change_option<'a>(alloc: Global) -> Arg<'a>
         .long("change")
         .value_name("N")
         .help("The number of the message's own change")
+}
+
+/// `why GATE SNAPSHOT CHANGE[,SET]`
+fn why_command<'a>(alloc: Global) -> Result<Command<'a>, AllocError>
+    ensures { IfOk result (IsApp why_app) }
+{
+    let gate = file(alloc, "GATE", "The gate file, or - for standard input");
+    let snapshot = file(
+        alloc,
+        "SNAPSHOT",
+        "The snapshot's file, or - for standard input",
+    );
+    let item = file(
+        alloc,
+        "CHANGE[,SET]",
+        "The change's number, and that of a patch set if not the current one",
+    );
+    Command::new(alloc, "why")
+        .about("Prints why an item waits, down to the cause")
+        .arg(gate)?
+        .arg(snapshot)?
+        .arg(item)
+}
+
+/// `events`, which takes no other word
+fn events_command<'a>(alloc: Global) -> Command<'a>
+    ensures { IsApp events_app result }
+{
+    Command::new(alloc, "events").about("Feeds what Gerrit writes to a session of a site")
 }

@@ -11,6 +11,7 @@ fn first_name<'a>(command: &Command<'a>) -> &'a str {
         Command::Ready { gate, .. } => gate,
         Command::Merge { first, .. } => first,
         Command::Footers { gate, .. } => gate,
+        Command::Why { gate, .. } => gate,
         Command::Help(_) => "help",
         Command::Usage(_) => "usage",
         Command::NoMemory => "memory",
@@ -26,6 +27,7 @@ fn second_name<'a>(command: &Command<'a>) -> &'a str {
         Command::Ready { snapshot, .. } => snapshot,
         Command::Merge { second, .. } => second,
         Command::Footers { message, .. } => message,
+        Command::Why { snapshot, .. } => snapshot,
         _ => "",
     }
 }
@@ -33,7 +35,7 @@ fn second_name<'a>(command: &Command<'a>) -> &'a str {
 /// The change that is asked about, and 7 where none is.
 fn change_of(command: &Command<'_>) -> u32 {
     match command {
-        Command::Footers { change, .. } => *change,
+        Command::Footers { change, .. } | Command::Why { change, .. } => *change,
         _ => 7,
     }
 }
@@ -82,6 +84,46 @@ fn a_change_is_a_number(rt: HostRuntime) {
     }
 }
 
+/// The patch set that is asked about, and 7 where none is.
+fn set_of(command: &Command<'_>) -> u32 {
+    match command {
+        Command::Why { set: Some(set), .. } => *set,
+        _ => 7,
+    }
+}
+
+#[test]
+fn an_item_is_a_change_and_a_patch_set(rt: HostRuntime) {
+    let cases = [
+        ("101", 101, 7),
+        ("101,2", 101, 2),
+        ("4294967295,0", 4_294_967_295, 0),
+    ];
+    for (item, change, set) in cases {
+        let words = ["why", "g", "-", item];
+        assert_asks(&rt, rt.alloc(), words.as_slice(), "g", "-", change);
+        assert_eq!(rt; set_of(&read_words(rt.alloc(), words.as_slice())), set);
+    }
+}
+
+#[test]
+fn other_items_are_faults(rt: HostRuntime) {
+    for item in [
+        "",
+        ",",
+        "1,",
+        ",1",
+        "1,2,3",
+        "1, 2",
+        "4294967296",
+        "1,x",
+        "-1",
+    ] {
+        let words = ["why", "g", "s", item];
+        assert_asks(&rt, rt.alloc(), words.as_slice(), "usage", "", 7);
+    }
+}
+
 #[test]
 fn other_changes_are_faults(rt: HostRuntime) {
     for number in ["4294967296", "x", "", "1.0"] {
@@ -92,7 +134,8 @@ fn other_changes_are_faults(rt: HostRuntime) {
 
 #[test]
 fn other_words_ask_for_nothing(rt: HostRuntime) {
-    let cases: [&[&str]; 9] = [
+    let cases: [&[&str]; 10] = [
+        &["why", "g", "s"],
         &[],
         &["simulate"],
         &["ready"],

@@ -1,9 +1,10 @@
 //! What the words of a command line ask for.
 
-ghost use Rattle.std.specs.Prelude.{◌≡◌, ◌≢◌, ◌⊎◌, ℕ, List, Some, IfErr, IfOk, IfSome, IfNone, map, codes};
+ghost use Rattle.std.specs.Prelude.{◌≡◌, ◌≢◌, ◌⊎◌, ℕ, List, Option, Some, IfErr, IfOk, IfSome, IfNone, map, codes};
 ghost use Rattle.clap.specs.Words.{Row, Text, found_of, rows_of, subcommand_rows_of, fault_of, kind_of, HasKind};
 ghost use Rattle.command_line.specs.Commands.{program};
-ghost use Rattle.command_line.specs.Asking.{GivesChange, Asks, Means, IsCommand, IsNoCommand, IsRefused, IsUsage};
+ghost use Rattle.command_line.specs.Asking.{GivesChange, GivesItem, NamesItem, WritesNumber};
+ghost use Rattle.command_line.specs.Asking.{Asks, Means, IsCommand, IsNoCommand, IsRefused, IsUsage};
 
 use super::commands::commands;
 use clap::ArgMatches;
@@ -16,6 +17,9 @@ const MISSING: &str = "error: a command and what it needs are missing\n";
 
 /// What is wrong with a change that is no number.
 const NO_NUMBER: &str = "error: the change has to be a number from 0 to 4294967295\n";
+
+/// What is wrong with an item that is none.
+const NO_ITEM: &str = "error: CHANGE and SET have to be numbers from 0 to 4294967295\n";
 
 /// A command, as the words ask for it.
 #[derive(Drop)]
@@ -40,6 +44,13 @@ pub enum Command<'a> {
         gate: &'a str,
         message: &'a str,
         change: u32,
+    },
+    /// To print why an item of a snapshot waits under a gate file: the patch set `set` of the change, or its current one.
+    Why {
+        gate: &'a str,
+        snapshot: &'a str,
+        change: u32,
+        set: Option<u32>,
     },
     /// The help text, or the version, for the output.
     Help(String),
@@ -76,6 +87,7 @@ fn command_in<'a>(alloc: Global, matches: &ArgMatches<'a>) -> Command<'a>
         "ready" => (ready_in(found), MISSING),
         "merge" => (merge_in(found), MISSING),
         "footers" => (footers_in(found), NO_NUMBER),
+        "why" => (why_in(found), NO_ITEM),
         _ => (None, MISSING),
     };
     match command {
@@ -136,8 +148,52 @@ fn change_of(found: &ArgMatches<'_>) -> Option<u32>
 {
     match found.get_str("change") {
         None => Some(0),
-        Some(text) => text.parse::<u32>().ok(),
+        Some(text) => number_in(text),
     }
+}
+
+/// The number that a text writes.
+fn number_in(text: &str) -> Option<u32>
+    ensures some { IfSome result (WritesNumber text.now) }
+    ensures none { IfNone result ((number : ℕ) → ¬ WritesNumber text.now number) }
+{
+    text.parse::<u32>().ok()
+}
+
+/// `why GATE SNAPSHOT CHANGE[,SET]`
+fn why_in<'a>(found: &ArgMatches<'a>) -> Option<Command<'a>>
+    ensures some { IfSome result (IsCommand (Some (codes "why", rows_of (found_of found.now)))) }
+    ensures none { IfNone result (IsNoCommand (Some (codes "why", rows_of (found_of found.now)))) }
+{
+    let gate = found.get_str("GATE")?;
+    let snapshot = found.get_str("SNAPSHOT")?;
+    let (change, set) = item_of(found)?;
+    Some(Command::Why {
+        gate,
+        snapshot,
+        change,
+        set,
+    })
+}
+
+/// The item that `CHANGE[,SET]` names.
+fn item_of(found: &ArgMatches<'_>) -> Option<(u32, Option<u32>)>
+    ensures some { IfSome result (λ item. GivesItem (rows_of (found_of found.now)) item.0 item.1) }
+    ensures none { IfNone result ((change : ℕ) (set : Option ℕ) → ¬ GivesItem (rows_of (found_of found.now)) change set) }
+{
+    item_in(found.get_str("CHANGE[,SET]")?)
+}
+
+/// The item that a text names.
+fn item_in(text: &str) -> Option<(u32, Option<u32>)>
+    ensures some { IfSome result (λ item. NamesItem text.now item.0 item.1) }
+    ensures none { IfNone result ((change : ℕ) (set : Option ℕ) → ¬ NamesItem text.now change set) }
+{
+    let Some((change, set)) = text.split_once(',') else {
+        return Some((number_in(text)?, None));
+    };
+    let change = number_in(change)?;
+    Some((change, Some(number_in(set)?)))
 }
 
 /// Help, a fault of the words or want of memory, as `clap` says.

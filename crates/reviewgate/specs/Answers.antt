@@ -8,7 +8,8 @@ use Rattle.gate_rules.specs.Spelling.{SpellsGate}
 use Rattle.ready_core.specs.Verdicts.{AreVerdicts, Judged}
 use Rattle.replica_core.specs.InOrder.{IsInOrderOf}
 use Rattle.replica_core.specs.Journal.{all_arrived}
-use Rattle.state_core.specs.State.{state_of}
+use Rattle.state_core.specs.State.{State, state_of}
+use Rattle.state_core.specs.declared.item.Item.{Item}
 use Rattle.report_text.specs.Report.{report_of}
 use Rattle.byte_ends.specs.Lines.{as_line}
 use Rattle.snapshot_text.specs.Snapshot.{SaysOperations, snapshot_text}
@@ -18,9 +19,11 @@ use Rattle.script_text.specs.Script.{IsUnreadScript, SaysScript}
 use Rattle.script_text.specs.declared.fault.ScriptFault.{ScriptFault}
 use Rattle.script_text.specs.declared.fault.ScriptFault.TheVariants.{BadLine, NoMemory}
 use Rattle.script_text.specs.declared.script.Step.{Step}
+use Rattle.why_text.specs.Asked.{IsAsked}
+use Rattle.why_text.specs.Why.{IsWhy}
 use Rattle.world_core.specs.World.{new_world}
 use Rattle.console.specs.Printing.{Ended}
-use Rattle.console.specs.declared.refusals.Refusal.TheVariants.{Memory, Script}
+use Rattle.console.specs.declared.refusals.Refusal.TheVariants.{Memory, NoItem, Script}
 
 -- the answer is so; or memory was refused before anything was printed
 abbrev pub IsWhole : (List ℕ → Type 0) → List ℕ → Ended → Type 0
@@ -37,6 +40,36 @@ pub record IsReport (gate snapshot answer : List ℕ) : Type 0 where
   pub verdicts : Judged
   pub judged : AreVerdicts rules (state_of (all_arrived [] ops)) verdicts
   pub text : answer ≡ report_of verdicts
+
+-- ---- `why`: why the item waits under the gate, in the snapshot's record
+
+pub record IsReasonIn
+    (gate : List ℕ) (rules : GateRules) (state : State) (change : ℕ) (set : Option ℕ) (answer : List ℕ) : Type 0 where
+  pub item : Item
+  pub asked : IsAsked state change set item
+  pub verdicts : Judged
+  pub judged : AreVerdicts rules state verdicts
+  pub text : IsWhy gate rules state verdicts item answer
+
+-- the answer is so of the rules that the gate file spells and the state of the operations that the snapshot says
+pub record IsReason (gate snapshot : List ℕ) (change : ℕ) (set : Option ℕ) (answer : List ℕ) : Type 0 where
+  pub rules : GateRules
+  pub spelled : SpellsGate gate rules
+  pub ops : List Operation
+  pub says : SaysOperations (lines_of snapshot) ops
+  pub reason : IsReasonIn gate rules (state_of (all_arrived [] ops)) change set answer
+
+-- the record has no such item
+pub record LacksItem (snapshot : List ℕ) (change : ℕ) (set : Option ℕ) : Type 0 where
+  pub ops : List Operation
+  pub says : SaysOperations (lines_of snapshot) ops
+  pub none : (item : Item) → ¬ IsAsked (state_of (all_arrived [] ops)) change set item
+
+-- the reason is printed; or there is no such item, or memory was refused, before anything was printed
+abbrev pub IsReasoned : List ℕ → List ℕ → ℕ → Option ℕ → List ℕ → Ended → Type 0
+IsReasoned gate snapshot change set answer (Ok done) = IsReason gate snapshot change set answer
+IsReasoned gate snapshot change set answer (Err NoItem) = LacksItem snapshot change set × (answer ≡ [])
+IsReasoned gate snapshot change set answer (Err refusal) = (refusal ≡ Memory) × (answer ≡ [])
 
 -- ---- `merge`: the snapshot of the operations of either, each once, as a grow-only set merges
 

@@ -3,9 +3,9 @@
 use Rattle.std.specs.Prelude.{◌≡◌, ◌⊎◌, ℕ, List, [], ◌∷◌, IsErrAnd, IsErrOf, IsOk, Option, None, Some, string_bytes}
 use Rattle.command_line.specs.declared.words.Command.{Command}
 use Rattle.command_line.specs.declared.words.Command.TheVariants.{Footers, Help, Merge, NoMemory, Ready, Simulate}
-use Rattle.command_line.specs.declared.words.Command.TheVariants.{Usage}
+use Rattle.command_line.specs.declared.words.Command.TheVariants.{Usage, Why}
 use Rattle.console.specs.Printing.{Ended}
-use Rattle.reviewgate.specs.Answers.{AreFooterLines, IsMerged, IsReport, IsSimulated, IsWhole}
+use Rattle.reviewgate.specs.Answers.{AreFooterLines, IsMerged, IsReasoned, IsReport, IsSimulated, IsWhole}
 use Rattle.console.specs.Console.{ConsoleState, IsCutShort, IsPrinted}
 use Rattle.console.specs.Inputs.{AreHad, Input, IsFirstRefused, input}
 use Rattle.console.specs.Inputs.{gate_file, message_file, script_file, snapshot_file}
@@ -17,6 +17,7 @@ inputs_of (Simulate script (Some gate)) = input script_file script.now ∷ input
 inputs_of (Ready gate snapshot) = input gate_file gate.now ∷ input snapshot_file snapshot.now ∷ []
 inputs_of (Merge first second) = input snapshot_file first.now ∷ input snapshot_file second.now ∷ []
 inputs_of (Footers gate message change) = input gate_file gate.now ∷ input message_file message.now ∷ []
+inputs_of (Why gate snapshot change set) = input gate_file gate.now ∷ input snapshot_file snapshot.now ∷ []
 inputs_of command = []
 
 -- of these texts the command prints this answer, and ends so once it is printed
@@ -26,6 +27,7 @@ IsAnswer (Ready gate snapshot) (one ∷ other ∷ []) answer ended = IsWhole (Is
 IsAnswer (Merge first second) (one ∷ other ∷ []) answer ended = IsWhole (IsMerged one other) answer ended
 IsAnswer (Footers gate message change) (one ∷ other ∷ []) answer ended =
     IsWhole (AreFooterLines one other change) answer ended
+IsAnswer (Why gate snapshot change set) (one ∷ other ∷ []) answer ended = IsReasoned one other change set answer ended
 IsAnswer (Help text) [] answer ended = (answer ≡ string_bytes text) × IsOk ended
 IsAnswer (Usage text) [] answer ended = (answer ≡ []) × IsOk ended
 IsAnswer NoMemory [] answer ended = (answer ≡ []) × IsErrOf ended Memory

@@ -10,15 +10,9 @@ use Rattle.reviewgate.specs.Ending.{Ends}
 use Rattle.console.specs.Refusals.{refusal_line}
 use Rattle.console.specs.declared.refusals.Refusal.TheVariants.{Memory}
 
--- what was printed, where that is known, and how many calls of each end failed
-pub record Counts : Type 0 where
-  pub printed : Option (List ℕ)
-  pub input : ℕ
-  pub files : ℕ
-  pub output : ℕ
-
-abbrev pub counts : Option (List ℕ) → ℕ → ℕ → ℕ → Counts
-counts printed input files output = record { printed = printed; input = input; files = files; output = output }
+-- what was printed, where that is known, and how many calls of the input, the files and the output failed
+pub data Counts : Type 0 where
+  counts : Option (List ℕ) → ℕ → ℕ → ℕ → Counts
 
 abbrev pub counts_of : ConsoleState → Counts
 counts_of console = counts console.printed console.input_failed console.files_failed console.output_failed
@@ -35,19 +29,14 @@ pub record Runs (command : Command) (left : Option (List ℕ)) (files : Contents
   pub leaves : counts_of after ≡ new
 
 -- the error output: what it has taken, where that is known, and how many of its calls failed
-pub record ErrorOutput : Type 0 where
-  pub taken : Option (List ℕ)
-  pub failed : ℕ
-
-abbrev pub error_output : Option (List ℕ) → ℕ → ErrorOutput
-error_output taken failed = record { taken = taken; failed = failed }
+pub data ErrorOutput : Type 0 where
+  error_output : Option (List ℕ) → ℕ → ErrorOutput
 
 -- all of the text was written; or a call failed, and a proper prefix of it was
 abbrev pub Shows : List ℕ → ErrorOutput → ErrorOutput → Type 0
-Shows text old new =
-    (Appends old.taken new.taken text × (new.failed ≡ old.failed))
-    ⊎ ((count : ℕ) × (count < length text) × Appends old.taken new.taken (take count text)
-    × OneFailed old.failed new.failed)
+Shows text (error_output old failed) (error_output new now_failed) =
+    (Appends old new text × (now_failed ≡ failed))
+    ⊎ ((count : ℕ) × (count < length text) × Appends old new (take count text) × OneFailed failed now_failed)
 
 -- what is written, and the status: nothing and 0 of a command that was done; its line and 1 of one that was refused,
 -- or, where memory is refused for the line, the line of that; and what is wrong with the words and 2 where they ask for

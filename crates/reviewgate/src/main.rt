@@ -1,6 +1,7 @@
 //! `reviewgate`: the review record of Gerrit changes, kept at several sites.
 #![tactic(auto)]
 
+mod events;
 #[cfg(test)]
 mod footer_tests;
 mod footers;
@@ -18,10 +19,14 @@ mod simulate;
 mod system_tests;
 #[cfg(test)]
 mod tests;
+mod why;
+#[cfg(test)]
+mod why_tests;
 
 use byte_ends::{Drain, Ends};
 use command_line::Command;
 use console::{Refusal, SystemFiles};
+use events::events;
 use run::{report, run_words};
 use std::alloc::Global;
 use std::env::Env;
@@ -36,14 +41,22 @@ fn main(rt: HostRuntime) -> ExitCode {
     let alloc = rt.alloc();
     let mut errors = Ends::new(rt.stderr());
     let status = match words_of(&rt) {
-        Ok(words) => run_words(
-            alloc,
-            words.as_slice(),
-            &mut Ends::new(rt.reader()),
-            &mut Ends::new(io::writer(&rt)),
-            &mut errors,
-            &mut SystemFiles::new(rt),
-        ),
+        Ok(words) => match words.as_slice() {
+            [word] if word.as_str() == "events" => events(
+                alloc,
+                &mut Ends::new(rt.reader()),
+                &mut Ends::new(io::writer(&rt)),
+                &mut errors,
+            ),
+            words => run_words(
+                alloc,
+                words,
+                &mut Ends::new(rt.reader()),
+                &mut Ends::new(io::writer(&rt)),
+                &mut errors,
+                &mut SystemFiles::new(rt),
+            ),
+        },
         Err(error) => report_fault(alloc, &error, &mut errors),
     };
     ExitCode::from(status)

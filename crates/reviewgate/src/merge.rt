@@ -6,6 +6,7 @@ use command_line::Command;
 use console::{Console, Refusal, read_snapshot};
 use replica_core::{Replica, operations_arrive_as_a_set};
 use std::alloc::Global;
+use std::mem::ManuallyDrop;
 
 /// Prints the snapshot of two together: of the operations of either, each once. The second is read into the replica of the first, so that one
 /// journal and one state are held. Refusals: those of the first snapshot, then of the second; `Memory`, memory was refused once both were read;
@@ -21,5 +22,8 @@ pub fn merge<C: Console>(
     operations_arrive_as_a_set();
     let replica = read_snapshot(Replica::new(alloc), first, console)?;
     let both = read_snapshot(replica, second, console)?;
-    console.print_snapshot(alloc, &both)
+    let printed = console.print_snapshot(alloc, &both);
+    // The program ends now, and the record's memory goes with it.
+    let _kept = ManuallyDrop::new(both);
+    printed
 }

@@ -7,6 +7,7 @@ use console::{Console, Refusal, read_gate, read_snapshot};
 use ready_core::evaluate;
 use replica_core::Replica;
 use std::alloc::Global;
+use std::mem::ManuallyDrop;
 
 /// Prints which items of a snapshot may be enqueued under a gate, and why each other one waits. Refusals: those of the gate file, then of the
 /// snapshot; `Memory`, memory was refused once both were read; `Output`. It costs what reading both costs, and what `evaluate` and
@@ -24,5 +25,8 @@ pub fn ready<C: Console>(
     let Ok(verdicts) = evaluate(alloc, replica.state(), &rules) else {
         return Err(Refusal::Memory);
     };
-    console.print_report(&verdicts)
+    let printed = console.print_report(&verdicts);
+    // The program ends now, and the record's memory goes with it: giving back each operation takes a seventh of the whole time.
+    let _kept = ManuallyDrop::new(replica);
+    printed
 }

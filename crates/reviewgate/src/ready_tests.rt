@@ -16,7 +16,7 @@ const CYCLES: &str =
     r#"{"allow-circular-dependencies":true,"bases":["https://review.example.org/"],"reject":{"gerrit":{"approval":[{"Code-Review":-2}]}},"require":{"gerrit":{"open":true,"current-patchset":true,"approval":[{"Workflow":1},{"Verified":[1,2],"username":"zuul"}]}}}"#;
 
 /// What the program prints of a file named `gate` and of the input, and the status.
-fn assert_prints(
+pub(super) fn assert_prints(
     rt: &impl Abort,
     alloc: Global,
     words: &[&str],

@@ -12,6 +12,7 @@ use super::footers::footers;
 use super::merge::merge;
 use super::ready::ready;
 use super::simulate::simulate;
+use super::why::why;
 use byte_ends::{Drain, Source, write_all};
 use command_line::{Command, read_words};
 use console::{Console, Named, Refusal, Streams};
@@ -90,6 +91,12 @@ fn do_command<C: Console>(
             message,
             change,
         } => footers(alloc, gate, message, *change, console),
+        Command::Why {
+            gate,
+            snapshot,
+            change,
+            set,
+        } => why(alloc, gate, snapshot, *change, *set, console),
         Command::Help(text) => console.print(text.as_bytes()),
         Command::Usage(_) => Ok(()),
         Command::NoMemory => Err(Refusal::Memory),

@@ -13,11 +13,11 @@ returns-in-Some-clause-some c =
     let rows = rows_of (found_of c.args.found.now) in
     let shows = shown (found_of c.args.found.now) (codes "change") c.get_str.result c.get_str.ensures in
     let given : first_of (codes "change") rows ≡ Some c.in-Some.text.now = search (rules, shows) in
-    change_read rows c.in-Some.text.now c.parse.result c.ok.result given c.parse.ensures.value.0 c.ok.ensures.value
+    change_read rows c.in-Some.text.now c.number_in.result given c.number_in.ensures.some
 
 pub returns-in-Some-clause-none : goal.returns-in-Some-clause-none
 returns-in-Some-clause-none c =
     let rows = rows_of (found_of c.args.found.now) in
     let shows = shown (found_of c.args.found.now) (codes "change") c.get_str.result c.get_str.ensures in
     let given : first_of (codes "change") rows ≡ Some c.in-Some.text.now = search (rules, shows) in
-    change_unread rows c.in-Some.text.now c.parse.result c.ok.result given c.parse.ensures.value.0 c.ok.ensures.value
+    change_unread rows c.in-Some.text.now c.number_in.result given c.number_in.ensures.none

@@ -40,7 +40,7 @@ returns g c =
       g.C.Console.state c.read_snapshot.new.console,
       both_had (input gate_file c.args.gate.now) (input snapshot_file c.args.snapshot.now)
           (λ text. SpellsGate text c.in_ok-rules.rules) (λ text spells. (c.in_ok-rules.rules, spells)) (λ text. SaysOperations (lines_of text) second.0) (λ text says. (second.0, says)) _ _ _ first second.2,
-      finishes (IsWhole (IsReport first.0 second.2.0)) (report_of c.in-Ok.verdicts) _ _ c.print_report.result
+      finishes (IsWhole (IsReport first.0 second.2.0)) (report_of c.in-Ok.verdicts) _ _ c.print_report-printed.result
           (record {
             rules = c.in_ok-rules.rules;
             spelled = first.2;
@@ -50,5 +50,5 @@ returns g c =
             judged = subst (λ s. AreVerdicts c.in_ok-rules.rules s c.in-Ok.verdicts) (c.state.ensures ∙ ap state_of came) c.in-Ok.ensures;
             text = refl;
           })
-          c.print_report.ensures,
+          c.print_report-printed.ensures,
     )

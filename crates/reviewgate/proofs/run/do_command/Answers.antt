@@ -1,5 +1,5 @@
 use Rattle.std.proofs.Common.{inl, inr, refl, subst, sym, [], Ok}
-use Rattle.command_line.specs.declared.words.Command.TheVariants.{Footers, Help, Merge, NoMemory, Ready, Simulate, Usage}
+use Rattle.command_line.specs.declared.words.Command.TheVariants.{Footers, Help, Merge, NoMemory, Ready, Simulate, Usage, Why}
 use Rattle.reviewgate.specs.Ending.{Ends, IsAnswer}
 use Rattle.reviewgate.proofs.HowItEnds.{finishes, nothing_printed}
 use Rattle.reviewgate.proofs.run.do_command.Goals as goal
@@ -15,6 +15,9 @@ returns-in-Merge g c = rw c.in-Merge.is c.merge.ensures
 
 pub returns-in-Footers : goal.returns-in-Footers
 returns-in-Footers g c = rw c.in-Footers.is c.footers.ensures
+
+pub returns-in-Why : goal.returns-in-Why
+returns-in-Why g c = rw c.in-Why.is c.why.ensures
 
 pub returns-in-Help : goal.returns-in-Help
 returns-in-Help g c =
