@@ -26,6 +26,13 @@ pub record AreItems (state : State) (items : List Item) : Type 0 where
   pub in_order : IsStrictlySortedBy item_cmp items
   pub each : (item : Item) → Contains items item ↔ IsItem state item
 
+-- the items are a part of those of the state, in order, each once, that holds what they wait for: the end of each edge of one of them is among
+-- them. All items of the state are such a part
+pub record ArePart (gate : GateRules) (state : State) (items : List Item) : Type 0 where
+  pub in_order : IsStrictlySortedBy item_cmp items
+  pub each : (item : Item) → Contains items item → IsItem state item
+  pub held : (item other : Item) → Contains items item → IsDependency gate state item other → Contains items other
+
 -- the list has just the changes that the item waits for, in order, each once
 pub record AreTargets (gate : GateRules) (state : State) (item : Item) (targets : List ℕ) : Type 0 where
   pub increasing : IsStrictlyIncreasing targets
@@ -42,10 +49,10 @@ pub record AreEnds (E : Item → Item → Type 0) (items : List Item) (item : It
   pub increasing : IsStrictlyIncreasing ends
   pub each : (place : ℕ) → Contains ends place ↔ EndsAt E items item place
 
--- the graph is that of the state under the gate: its items, and with each of them what it waits for, where the edges to that end, and whether
--- it is on a cycle of edges
+-- the graph is that of a part of the state's items under the gate: with each of them stands what it waits for, where the edges to that end, and
+-- whether it is on a cycle of edges. All of this is as in the whole state, since no edge leads out of the part
 pub record IsGraphOf (gate : GateRules) (state : State) (graph : ItemGraph) : Type 0 where
-  pub items : AreItems state graph.items
+  pub items : ArePart gate state graph.items
   pub targets : AllZip (AreTargets gate state) graph.items graph.targets
   pub ends : AllZip (AreEnds (IsDependency gate state) graph.items) graph.items graph.ends
   pub on_cycle : AllZip (λ item flag. IsTrue flag ↔ IsOnCycle (IsDependency gate state) item) graph.items graph.on_cycle

@@ -11,7 +11,7 @@ use Rattle.state_core.specs.declared.item.Item.{Item}
 use Rattle.state_core.specs.Items.{item_cmp}
 use Rattle.graph_core.specs.ItemGraph.{IsAt, EndsAt, AreEnds}
 use Rattle.lattice_core.specs.MemberLaws.{Contains-none}
-use Rattle.lattice_core.specs.PlaceLaws.{at_Contains, one_item, one_place}
+use Rattle.lattice_core.specs.PlaceLaws.{Contains-at, at_Contains, one_item, one_place}
 use Rattle.state_core.specs.ItemLaws.{items_total}
 use Rattle.lattice_core.specs.ZipLaws.{AllZip-at, AllZip-beside, AllZip-from_places, length-AllZip}
 
@@ -48,13 +48,13 @@ module _ (E : Item → Item → Type 0) (items : List Item) (graph : List (List 
         Leads-items Marked P gives n leads.0 between.2.other between.2.there leads.2,
       )
 
-  module _ (held : (item other : Item) → E item other → Contains items other) where
-    -- and the other way round, where the items have the ends of all edges
+  module _ (held : (item other : Item) → Contains items item → E item other → Contains items other) where
+    -- and the other way round, where the items have the ends of their edges
     pub Leads-places : (Marked : ℕ → Type 0) (P : Item → Type 0) → ((place : ℕ) (item : Item) → IsAt items place item → P item → Marked place)
         → (n place : ℕ) (item : Item) → IsAt items place item → Leads E P n item → Leads (HasEdge graph) Marked n place
     Leads-places Marked P gives zero place item here leads = gives place item here leads
     Leads-places Marked P gives (suc n) place item here leads =
-        let end = at_Contains items leads.0 (held item leads.0 leads.1) in
+        let end = at_Contains items leads.0 (held item leads.0 (Contains-at items place item here) leads.1) in
         (end.0, edge_at place end.0 item leads.0 here end.1 leads.1, Leads-places Marked P gives n end.0 leads.0 end.1 leads.2)
 
     module _ (sorted : IsStrictlySortedBy item_cmp items) where

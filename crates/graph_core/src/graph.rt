@@ -1,6 +1,6 @@
 ghost use Rattle.std.specs.Prelude.{◌≡◌, ◌<◌, ℕ, Bool, IfOk, Contains, length};
 ghost use Rattle.walk_core.specs.Digraphs.{ends_of};
-ghost use Rattle.graph_core.specs.ItemGraph.{IsGraphOf, StandsAt, namers_of};
+ghost use Rattle.graph_core.specs.ItemGraph.{AreItems, ArePart, IsGraphOf, StandsAt, namers_of};
 
 use super::items::{items_of, place_of};
 use super::namers::all_namers;
@@ -13,8 +13,8 @@ use std::collections::BTreeMap;
 use std::marker::Model;
 use walk_core::Digraph;
 
-/// The items of a state with what they wait for under a gate. Contracts see lists side by side: the items, and with each the changes that it
-/// waits for, the places of their current items, and whether it is on a cycle.
+/// Items of a state, all or a part, with what they wait for under a gate. Contracts see lists side by side: the items,
+/// and with each the changes that it waits for, the places of their current items, and whether it is on a cycle.
 #[derive(Drop)]
 pub struct Graph {
     items: Vec<Item>,
@@ -43,12 +43,31 @@ impl Model for Graph {
 }
 
 impl Graph {
-    /// The graph of a state under a gate. It costs the bytes of the messages, and time and memory that grow with the items and what they wait
-    /// for, but for a logarithm.
+    /// The graph of all items of a state under a gate. It costs the bytes of the messages, and time and memory that
+    /// grow with the items and what they wait for, but for a logarithm.
     pub fn build(alloc: Global, state: &State, gate: &Gate) -> Result<Graph, NoMemory>
-        ensures { IfOk result (IsGraphOf gate.now state.now) }
+        ensures graph { IfOk result (IsGraphOf gate.now state.now) }
+        ensures whole { IfOk result (λ graph. AreItems state.now graph.items) }
     {
         let items = items_of(alloc, state)?;
+        let graph = Graph::of_part(alloc, state, gate, items)?;
+        Ok(graph)
+    }
+
+    /// The graph of a part of a state's items, in order, which holds the current item of each known change that one of
+    /// them waits for. What it says of these items is what the graph of all items says. It costs the bytes of their
+    /// messages, and time and memory that grow with them and what they wait for, but for a logarithm, and a logarithm
+    /// of the state for each.
+    pub fn of_part(
+        alloc: Global,
+        state: &State,
+        gate: &Gate,
+        items: Vec<Item>,
+    ) -> Result<Graph, NoMemory>
+        requires { ArePart gate.now state.now items.items }
+        ensures graph { IfOk result (IsGraphOf gate.now state.now) }
+        ensures items { IfOk result (λ graph. graph.items ≡ items.items) }
+    {
         let targets = all_targets(alloc, gate, state, items.as_slice())?;
         let ends = all_ends(alloc, items.as_slice(), targets.as_slice())?;
         let namers = all_namers(alloc, items.as_slice(), targets.as_slice())?;
@@ -104,8 +123,8 @@ impl Graph {
         self.targets[place].as_slice()
     }
 
-    /// The graph over places: an edge leads from an item's place to that of the current item of each change that it waits for, where one is
-    /// known.
+    /// The graph over places: an edge leads from an item's place to that of the current item of each change that it
+    /// waits for, where one is known.
     pub fn digraph(&self) -> &Digraph
         ensures nodes { length self.now.ends ≡ length self.now.items }
         ensures ends { result.now ≡ self.now.ends }

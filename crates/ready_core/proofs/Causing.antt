@@ -23,7 +23,7 @@ barred_by false other cycles same means barred = λ off on. false≢true (same �
 
 module _ (gate : GateRules) (state : State) (graph : ItemGraph) (is : IsGraphOf gate state graph) (place : ℕ) (item : Item) (here : IsAt graph.items place item) where
   pub item_here : IsItem state item
-  item_here = (is.items.each item).0 (Contains-at graph.items place item here)
+  item_here = is.items.each item (Contains-at graph.items place item here)
 
   pub within : place < length graph.items
   within = slice_get_within graph.items place item here

@@ -13,7 +13,7 @@ use Rattle.std.proofs.lemmas.List.Elements.{All-from_recursion, All-contains}
 use Rattle.std.proofs.lemmas.Option.{slice_get_within, slice_get-get_or, get_or_from_slice_get}
 use Rattle.lattice_core.specs.Keep.{numbers_exact}
 use Rattle.lattice_core.specs.MemberLaws.{Contains-cons_cases, Contains-first, Contains-later, Contains-none, Contains-of_map, Contains-to_map, sorted_append}
-use Rattle.lattice_core.specs.PlaceLaws.{at_Contains, one_item, one_place, sorted_at, not_below_itself, earlier_or_same}
+use Rattle.lattice_core.specs.PlaceLaws.{Contains-at, at_Contains, one_item, one_place, sorted_at, not_below_itself, earlier_or_same}
 use Rattle.lattice_core.specs.ZipLaws.{length-AllZip}
 use Rattle.walk_core.specs.Digraphs.{HasEdge, IsMarked}
 use Rattle.walk_core.specs.Ranks.{LeadsTo, AreTogether, HasCount, Rank, rank_cmp, IsRank, IsInRankOrder}
@@ -67,7 +67,7 @@ carried Equal Greater t s' t' e p q u = cc
 carried Equal Equal t s' t' e p q u = ap (λ o. ordering_then o t') (q refl) ∙ u e
 
 module _ (E : Item → Item → Type 0) (items : List Item) (graph : List (List ℕ)) (ends : AllZip (AreEnds E items) items graph) (sorted : IsStrictlySortedBy item_cmp items)
-    (held : (item other : Item) → E item other → Contains items other) where
+    (held : (item other : Item) → Contains items item → E item other → Contains items other) where
   abbrev item_of : ℕ → Item
   item_of = item_at items
 
@@ -89,7 +89,7 @@ module _ (E : Item → Item → Type 0) (items : List Item) (graph : List (List 
   leads_there : (place : ℕ) (item other : Item) → IsAt items place item → LeadsTo E item other → (end : ℕ) × IsAt items end other
   leads_there place item other here (zero, same) = (place, subst (IsAt items place) same here)
   leads_there place item other here (suc n, walk) =
-      let next = at_Contains items walk.0 (held item walk.0 walk.1) in
+      let next = at_Contains items walk.0 (held item walk.0 (Contains-at items place item here) walk.1) in
       leads_there next.0 walk.0 other next.1 (n, walk.2)
 
   leads_within : (place end : ℕ) → place < length items → LeadsTo (HasEdge graph) place end → end < length items

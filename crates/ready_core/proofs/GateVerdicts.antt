@@ -3,7 +3,7 @@ use Rattle.std.proofs.Common.{◌≡◌, ◌↔◌, ◌<◌, ℕ, Bool, true, Li
 use Rattle.std.specs.Prelude.{slice_get, option_map}
 use Rattle.std.proofs.lemmas.List.{length-map}
 use Rattle.std.proofs.lemmas.Option.{slice_get-map, slice_get_within}
-use Rattle.lattice_core.specs.PlaceLaws.{Contains-at, at_below}
+use Rattle.lattice_core.specs.PlaceLaws.{at_below}
 use Rattle.gate_rules.specs.Rules.{GateRules}
 use Rattle.state_core.specs.declared.item.Item.{Item}
 use Rattle.state_core.specs.State.{State}
@@ -15,10 +15,10 @@ use Rattle.graph_core.specs.Dependencies.{IsDependency}
 use Rattle.graph_core.specs.ItemGraph.{ItemGraph, IsAt, IsGraphOf}
 use Rattle.ready_core.specs.declared.verdicts.Refusal.{Refusal}
 use Rattle.ready_core.specs.Refusals.{IsReady}
-use Rattle.ready_core.specs.Verdicts.{AreVerdicts, Judged}
+use Rattle.ready_core.specs.Verdicts.{AreVerdictsOn, Judged}
 use Rattle.ready_core.specs.Causes.{AreCauses, AreJudged, AreSearched, IsJudgement, IsSafeItem, flags_of, item_at, safe_flags}
-use Rattle.ready_core.proofs.Ranking.{held, safe_at, unsafe_at}
-use Rattle.ready_core.proofs.Judging.{all_judged, decided_all}
+use Rattle.ready_core.proofs.Ranking.{safe_at, unsafe_at}
+use Rattle.ready_core.proofs.Judging.{all_judged, decided_all, ready_is_safe}
 use Rattle.ready_core.proofs.GateOrder.{in_gate_order}
 
 none_of : (rank : Option ℕ) → is_none rank ≡ true → rank ≡ None
@@ -66,23 +66,22 @@ module _ (gate : GateRules) (state : State) (graph : ItemGraph) (causes : List (
   some_rank : (place : ℕ) → place < length ranks → (found : Option ℕ) × (slice_get ranks place ≡ Some found)
   some_rank place within = at_below ranks place within
 
-  pub all_ordered : AreVerdicts gate state verdicts
+  pub all_ordered : AreVerdictsOn gate state graph.items verdicts
   unfolding split
   all_ordered =
       let are = all_judged gate state graph split is judged (decided_all gate state graph.items causes of) in
-      let stands_safe : (item : Item) → IsReady gate state item → IsSafeItem gate state item = λ item ready. ((judged.ready item).0 ((are.ready item).1 ready)).1 in
-      let listed : (item : Item) → IsReady gate state item → Contains graph.items item = λ item ready. let stands = ((judged.ready item).0 ((are.ready item).1 ready)).0 in Contains-at graph.items stands.place item stands.here in
-      let says : (place : ℕ) (item : Item) → IsAt graph.items place item → IsMarked (safe_flags ranks) place ↔ IsReady gate state item = λ place item here. (
+      let says : (place : ℕ) (item : Item) → IsAt graph.items place item → IsMarked (safe_flags ranks) place ↔ (Contains graph.items item × IsReady gate state item) = λ place item here. (
         λ marked.
             let safe = safe_at gate state graph causes ranks is of judgement.searched place item here (unranked_at ranks place marked) in
             (are.ready item).0 ((judged.ready item).1 (record { place = place; before = slice_get_within graph.items place item here; here = here }, safe)),
         λ ready.
             let within = slice_get_within graph.items place item here in
             let found = some_rank place (omega (arith, within, judgement.searched.distances.nodes, judgement.searched.nodes)) in
-            at_unranked ranks place (unranked_place place item found.0 here (stands_safe item ready) found.1),
+            at_unranked ranks place (unranked_place place item found.0 here (ready_is_safe gate state graph split is judged item ready.1) found.1),
       ) in
-      let order : IsInRankOrder item_cmp (IsDependency gate state) (IsReady gate state) (map (item_at graph.items) judgement.places) =
-      in_gate_order (IsDependency gate state) graph.items graph.ends is.ends is.items.in_order (held gate state graph causes ranks is of judgement.searched) (IsReady gate state) (safe_flags ranks) sizes says listed
+      let order : IsInRankOrder item_cmp (IsDependency gate state) (λ item. Contains graph.items item × IsReady gate state item) (map (item_at graph.items) judgement.places) =
+      in_gate_order (IsDependency gate state) graph.items graph.ends is.ends is.items.in_order is.items.held (λ item. Contains graph.items item × IsReady gate state item) (safe_flags ranks) sizes says (λ item ready. ready.0)
       judgement.places judgement.in_order in
-      let in_order : IsInRankOrder item_cmp (IsDependency gate state) (IsReady gate state) verdicts.ready = subst (IsInRankOrder item_cmp (IsDependency gate state) (IsReady gate state)) (sym judgement.ready_at) order in
+      let in_order : IsInRankOrder item_cmp (IsDependency gate state) (λ item. Contains graph.items item × IsReady gate state item) verdicts.ready =
+      subst (IsInRankOrder item_cmp (IsDependency gate state) (λ item. Contains graph.items item × IsReady gate state item)) (sym judgement.ready_at) order in
       record { ready = in_order.just; out = are.out; refused = are.refused; ready_in_order = in_order; out_in_order = are.out_in_order }

@@ -7,7 +7,6 @@ use Rattle.std.proofs.lemmas.List.{map_push}
 use Rattle.std.proofs.lemmas.List.Elements.{Contains-push, Contains-push_cases, Contains-append_left}
 use Rattle.std.proofs.lemmas.Option.{slice_get_within}
 use Rattle.gate_rules.specs.Rules.{GateRules}
-use Rattle.state_core.specs.Items.{IsItem}
 use Rattle.state_core.specs.declared.item.Item.{Item}
 use Rattle.state_core.specs.State.{State}
 use Rattle.state_core.specs.Items.{item_cmp}
@@ -117,10 +116,10 @@ module _ (gate : GateRules) (state : State) (items : List Item) (sorted : IsStri
 
 -- ---- all items judged
 
--- the verdicts but for the order of the ready items
-pub record AreSplit (gate : GateRules) (state : State) (verdicts : Judged) : Type 0 where
-  pub ready : (item : Item) → Contains verdicts.ready item ↔ IsReady gate state item
-  pub out : (item : Item) → Contains (items_out verdicts.out) item ↔ (IsItem state item × ¬ IsReady gate state item)
+-- the verdicts on some items but for the order of the ready ones
+pub record AreSplit (gate : GateRules) (state : State) (items : List Item) (verdicts : Judged) : Type 0 where
+  pub ready : (item : Item) → Contains verdicts.ready item ↔ (Contains items item × IsReady gate state item)
+  pub out : (item : Item) → Contains (items_out verdicts.out) item ↔ (Contains items item × ¬ IsReady gate state item)
   pub refused : (left : Left) → Contains verdicts.out left → IsRefused gate state left.item left.refusal left.rank
   pub out_in_order : IsStrictlySortedBy item_cmp (items_out verdicts.out)
 
@@ -132,9 +131,6 @@ module _ (gate : GateRules) (state : State) (graph : ItemGraph) (verdicts : Judg
   listed : (item : Item) → StandsBefore graph.items (length graph.items) item → Contains graph.items item
   listed item at = Contains-at graph.items at.place item at.here
 
-  held : (item other : Item) → Contains graph.items item → IsDependency gate state item other → Contains graph.items other
-  held item other c edge = (is.items.each other).1 (edge.1.change, edge.1.stands, edge.1.greatest.known)
-
   safe_items : AreSafe (IsDependency gate state) (IsEligible gate state) graph.items verdicts.ready
   safe_items = record {
     within = λ item c. listed item ((are.ready item).0 c).0;
@@ -145,22 +141,17 @@ module _ (gate : GateRules) (state : State) (graph : ItemGraph) (verdicts : Judg
   pub ready_is_safe : (item : Item) → IsReady gate state item → IsSafeItem gate state item
   ready_is_safe item ready = λ n. IsClosed-safe {E = IsDependency gate state} {IsEligible = IsEligible gate state} ready.closed n item ready.has
 
-  pub ready_is_item : (item : Item) → IsReady gate state item → IsItem state item
-  ready_is_item item ready = let eligible = ready.closed.members item ready.has in eligible.there
-
-  pub all_judged : ((item : Item) → Contains graph.items item → IsEligible gate state item ⊎ ¬ IsEligible gate state item) → AreSplit gate state verdicts
+  pub all_judged : ((item : Item) → Contains graph.items item → IsEligible gate state item ⊎ ¬ IsEligible gate state item) → AreSplit gate state graph.items verdicts
   all_judged decided =
-      let union = IsInClosedSet-AreSafe {E = IsDependency gate state} {IsEligible = IsEligible gate state} held decided safe_items in
+      let union = IsInClosedSet-AreSafe {E = IsDependency gate state} {IsEligible = IsEligible gate state} is.items.held decided safe_items in
       record {
         ready = λ item. (
-          λ c. (union item (listed item ((are.ready item).0 c).0)).0 c,
-          λ ready. (are.ready item).1 (stands item ((is.items.each item).1 (ready_is_item item ready)), ready_is_safe item ready),
+          λ c. let there = listed item ((are.ready item).0 c).0 in (there, (union item there).0 c),
+          λ ready. (union item ready.0).1 ready.1,
         );
         out = λ item. (
-          λ c. let found = (are.out item).0 c in ((is.items.each item).0 (listed item found.0), λ ready. found.1 (ready_is_safe item ready)),
-          λ left.
-              let there = (is.items.each item).1 left.0 in
-              (are.out item).1 (stands item there, λ safe. left.1 ((union item there).0 ((are.ready item).1 (stands item there, safe)))),
+          λ c. let found = (are.out item).0 c in (listed item found.0, λ ready. found.1 (ready_is_safe item ready)),
+          λ left. (are.out item).1 (stands item left.0, λ safe. left.1 ((union item left.0).0 ((are.ready item).1 (stands item left.0, safe)))),
         );
         refused = are.refused;
         out_in_order = are.out_in_order;

@@ -18,7 +18,7 @@ use Rattle.state_core.specs.Items.{item_cmp}
 use Rattle.gate_rules.specs.Rules.{GateRules}
 use Rattle.gate_rules.specs.declared.condition.Condition.{Condition}
 use Rattle.gate_rules.specs.Own.{ItemStanding, IsBroken, IsFirstBroken, IsOwn, is_new}
-use Rattle.graph_core.specs.ItemGraph.{AreItems, IsAt}
+use Rattle.graph_core.specs.ItemGraph.{ArePart, IsAt}
 use Rattle.ready_core.specs.Causes.{IsAmongItsOwn, IsOwnBefore}
 
 set_below : (r s : Ordering) (m n a b : ℕ) → MatchOrdering r (m < n) (m ≡ n) (n < m) → MatchOrdering s (a < b) (a ≡ b) (b < a) → m ≡ n → ordering_then r s ≡ Less → a < b
@@ -52,12 +52,12 @@ own_alike gate state a b own same alike is change current there greatest =
     (alike change current there greatest)
     (is change current (subst (λ number. finite.get state number ≡ Some change) (sym same) there) greatest)
 
-module _ (gate : GateRules) (state : State) (items : List Item) (are : AreItems state items) (place : ℕ) (among : IsAmongItsOwn items place) where
+module _ (gate : GateRules) (state : State) (items : List Item) (are : ArePart gate state items) (place : ℕ) (among : IsAmongItsOwn items place) where
   -- neither the item nor the one before it is the current one
   not_current : (item : Item) → item.change ≡ among.here.change → item.set < among.after.set
       → (change : Change) (current : ℕ) → finite.get state among.here.change ≡ Some change → IsGreatestKnown change current → (item.set == current) ≡ false
   not_current item same low change current there greatest =
-      let known = (are.each among.after).0 (Contains-at items (suc place) among.after among.after_at) in
+      let known = are.each among.after (Contains-at items (suc place) among.after among.after_at) in
       let one : known.0 ≡ change = one_change (finite.get state among.after.change) known.0 change known.1 (subst (λ number. finite.get state number ≡ Some change) (sym among.of_after) there) in
       let most = greatest.greatest among.after.set (subst (λ c. IsKnownSet c among.after.set) one known.2) in
       ne_eqb item.set current (λ is. absurd (omega (arith, most, low, is)))

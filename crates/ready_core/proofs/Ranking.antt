@@ -54,10 +54,6 @@ rank_next graph causes ranks searched place rest at = AreDistances-next graph.en
 
 module _ (gate : GateRules) (state : State) (graph : ItemGraph) (causes : List (Option Refusal)) (ranks : List (Option ℕ))
     (is : IsGraphOf gate state graph) (of : AreCauses gate state graph.items causes) (searched : AreSearched graph causes ranks) where
-  -- the items have the ends of all edges
-  pub held : (item other : Item) → IsDependency gate state item other → Contains graph.items other
-  held item other edge = (is.items.each other).1 (edge.1.change, edge.1.stands, edge.1.greatest.known)
-
   cause_here : (place : ℕ) (item : Item) → IsAt graph.items place item → (cause : Option Refusal) × (slice_get causes place ≡ Some cause) × IsCauseOf gate state item cause
   cause_here place item here = AllZip-at (IsCauseOf gate state) graph.items causes of place item here
 
@@ -84,7 +80,7 @@ module _ (gate : GateRules) (state : State) (graph : ItemGraph) (causes : List (
   by_items = Leads-items (IsDependency gate state) graph.items graph.ends is.ends (IsMarked (flags_of causes)) (IsIneligible gate state) marked_out
 
   by_places : (n place : ℕ) (item : Item) → IsAt graph.items place item → Leads (IsDependency gate state) (IsIneligible gate state) n item → Leads (HasEdge graph.ends) (IsMarked (flags_of causes)) n place
-  by_places = Leads-places (IsDependency gate state) graph.items graph.ends is.ends held (IsMarked (flags_of causes)) (IsIneligible gate state) out_marked
+  by_places = Leads-places (IsDependency gate state) graph.items graph.ends is.ends is.items.held (IsMarked (flags_of causes)) (IsIneligible gate state) out_marked
 
   pub safe_at : (place : ℕ) (item : Item) → IsAt graph.items place item → slice_get ranks place ≡ Some None → IsSafeItem gate state item
   safe_at place item here none = λ n leads. searched.distances.each place None none n (by_places n place item here leads)
@@ -170,7 +166,7 @@ module _ (gate : GateRules) (state : State) (graph : ItemGraph) (causes : List (
           one_more = refl;
           begins = (next, refl, record { edge = dependency; rest = rank_at end next rest there nearest.rank });
           least = λ number begins.
-              let its = at_Contains graph.items begins.0 (held item begins.0 begins.2.edge) in
+              let its = at_Contains graph.items begins.0 (is.items.held item begins.0 (Contains-at graph.items place item here) begins.2.edge) in
               let its_edge = edge_at (IsDependency gate state) graph.items graph.ends is.ends place its.0 item begins.0 here its.1 begins.2.edge in
               let lower = least_place (ends_of graph.ends place) rest end its.0 rising nearest its_edge (ranked_here its.0 begins.0 rest its.1 begins.2.rest) in
               subst (λ n. next.change ≤ n) begins.1 (changes_rise graph.items is.items.in_order end its.0 next begins.0 lower there its.1);

@@ -36,6 +36,10 @@ IsCauseOf gate state item (Some refusal) = IsRefused gate state item refusal 0
 abbrev pub AreCauses : GateRules → State → List Item → List (Option Refusal) → Type 0
 AreCauses gate state items causes = AllZip (IsCauseOf gate state) items causes
 
+-- the own conditions of the items
+abbrev pub AreOwns : GateRules → State → List Item → List (Option Condition) → Type 0
+AreOwns gate state items owns = AllZip (IsOwn gate state) items owns
+
 abbrev pub flags_of : List (Option Refusal) → List Bool
 flags_of causes = map is_some causes
 

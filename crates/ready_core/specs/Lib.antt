@@ -3,3 +3,4 @@ pub mod Refusals
 pub mod Verdicts
 pub mod Causes
 pub mod Rounds
+pub mod WholeLaws

@@ -38,6 +38,15 @@ pub record AreVerdicts (gate : GateRules) (state : State) (verdicts : Judged) : 
   pub ready_in_order : IsInGateOrder gate state verdicts.ready
   pub out_in_order : IsStrictlySortedBy item_cmp (items_out verdicts.out)
 
+-- the verdicts are those on some items of the state under the gate: of these just the ones that are ready in the whole state are ready, each other
+-- one is left out for its refusal in the whole state, and both lists are in order, as in the verdicts on all items
+pub record AreVerdictsOn (gate : GateRules) (state : State) (items : List Item) (verdicts : Judged) : Type 0 where
+  pub ready : (item : Item) → Contains verdicts.ready item ↔ (Contains items item × IsReady gate state item)
+  pub out : (item : Item) → Contains (items_out verdicts.out) item ↔ (Contains items item × ¬ IsReady gate state item)
+  pub refused : (left : Left) → Contains verdicts.out left → IsRefused gate state left.item left.refusal left.rank
+  pub ready_in_order : IsInRankOrder item_cmp (IsDependency gate state) (λ item. Contains items item × IsReady gate state item) verdicts.ready
+  pub out_in_order : IsStrictlySortedBy item_cmp (items_out verdicts.out)
+
 -- the change's current item is left out with this rank
 pub record IsLeftAt (state : State) (verdicts : Judged) (number rest : ℕ) : Type 0 where
   pub next : Left

@@ -4,9 +4,9 @@ ghost use Rattle.state_core.specs.State.{State as Changes};
 ghost use Rattle.state_core.specs.declared.item.Item.{Item};
 ghost use Rattle.state_core.specs.Known.{IsKnown};
 ghost use Rattle.gate_rules.specs.Own.{IsOwn};
-ghost use Rattle.graph_core.specs.ItemGraph.{AreItems, IsAt, IsGraphOf};
+ghost use Rattle.graph_core.specs.ItemGraph.{ArePart, IsAt, IsGraphOf};
 ghost use Rattle.ready_core.specs.Refusals.{IsOffCycles, IsOnBarredCycle};
-ghost use Rattle.ready_core.specs.Causes.{AreCauses, IsAmongItsOwn, IsCauseOf, IsFirstUnknown, IsOwnBefore, flags_of};
+ghost use Rattle.ready_core.specs.Causes.{AreCauses, AreOwns, IsAmongItsOwn, IsCauseOf, IsFirstUnknown, IsOwnBefore, flags_of};
 
 use super::verdicts::Refusal;
 use gate_rules::{Condition, Gate};
@@ -52,8 +52,8 @@ fn is_among_its_own(items: &[Item], place: usize) -> bool
     items[place - 1].change == items[place].change && items[place + 1].change == items[place].change
 }
 
-/// The own condition of the item at a place, where that of the item before it is known. Items of one change that aren't the current one compare
-/// alike with every condition, so that the first of them is judged for all.
+/// The own condition of the item at a place, where that of the item before it is known. Items of one change that aren't
+/// the current one compare alike with every condition, so that the first of them is judged for all.
 fn own_at(
     state: &State,
     gate: &Gate,
@@ -61,7 +61,7 @@ fn own_at(
     place: usize,
     before: Option<Condition>,
 ) -> Option<Condition>
-    requires items { AreItems state.now items.now }
+    requires items { ArePart gate.now state.now items.now }
     requires place { place < length items.now }
     requires before { IsOwnBefore gate.now state.now items.now place before }
     ensures { (item : Item) → IsAt items.now place item → IsOwn gate.now state.now item result }
@@ -70,6 +70,26 @@ fn own_at(
         return before;
     }
     gate.own(state, items[place])
+}
+
+/// The own conditions of some items, which hold what they wait for, in their order. It costs the votes on each change
+/// times the gate's patterns.
+pub fn own_conditions(
+    alloc: Global,
+    state: &State,
+    gate: &Gate,
+    items: &[Item],
+) -> Result<Vec<Option<Condition>>, NoMemory>
+    requires { ArePart gate.now state.now items.now }
+    ensures { IfOk result (λ owns. AreOwns gate.now state.now items.now owns.items) }
+{
+    let mut owns = Vec::with_capacity(alloc, items.len())?;
+    let mut own = None;
+    for place in 0..items.len() {
+        own = own_at(state, gate, items, place, own);
+        owns.push(own)?;
+    }
+    Ok(owns)
 }
 
 /// Why the item at a place isn't eligible, if it isn't.
@@ -97,23 +117,22 @@ fn cause_of(
     Some(Refusal::Unknown(unknown))
 }
 
-/// Why each item isn't eligible, in the order of the places.
+/// Why each item isn't eligible, in the order of the places, by the items' own conditions.
 pub fn all_causes(
     alloc: Global,
     state: &State,
     gate: &Gate,
     graph: &Graph,
+    owns: &[Option<Condition>],
 ) -> Result<Vec<Option<Refusal>>, NoMemory>
-    requires { IsGraphOf gate.now state.now graph.now }
+    requires graph { IsGraphOf gate.now state.now graph.now }
+    requires owns { AreOwns gate.now state.now graph.now.items owns.now }
     ensures { IfOk result
         (λ causes. AreCauses gate.now state.now graph.now.items causes.items) }
 {
-    let items = graph.items();
-    let mut causes = Vec::with_capacity(alloc, items.len())?;
-    let mut own = None;
-    for place in 0..items.len() {
-        own = own_at(state, gate, items, place, own);
-        causes.push(cause_of(state, gate, graph, place, own))?;
+    let mut causes = Vec::with_capacity(alloc, owns.len())?;
+    for place in 0..owns.len() {
+        causes.push(cause_of(state, gate, graph, place, owns[place]))?;
     }
     Ok(causes)
 }

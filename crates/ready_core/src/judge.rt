@@ -5,29 +5,48 @@ ghost use Rattle.gate_rules.specs.Rules.{GateRules};
 ghost use Rattle.state_core.specs.declared.item.Item.{Item};
 ghost use Rattle.graph_core.specs.ItemGraph.{IsAt, IsGraphOf};
 ghost use Rattle.ready_core.specs.Refusals.{IsRefused};
-ghost use Rattle.ready_core.specs.Verdicts.{AreVerdicts};
+ghost use Rattle.ready_core.specs.Verdicts.{AreVerdicts, AreVerdictsOn};
 ghost use Rattle.walk_core.specs.Levels.{HasDistance};
-ghost use Rattle.ready_core.specs.Causes.{AreCauses, AreJudgedBy, AreSearched, IsJudgement, IsNearest, item_at, safe_flags};
+ghost use Rattle.ready_core.specs.Causes.{AreCauses, AreJudgedBy, AreOwns, AreSearched, IsJudgement, IsNearest, item_at, safe_flags};
 
-use super::causes::{all_causes, flags_of};
+use super::causes::{all_causes, flags_of, own_conditions};
 use super::verdicts::{Left, Refusal, Verdicts};
-use gate_rules::Gate;
+use gate_rules::{Condition, Gate};
 use graph_core::Graph;
 use lattice_core::NoMemory;
 use state_core::{Item, State};
 use std::alloc::Global;
 
-/// Which items of a state are ready under a gate, and why each other one isn't. It costs the bytes of the messages, the votes on each change times
-/// the gate's patterns, O(n log n) time and O(n) memory for n items with what they wait for, and, for the order of the ready items, what
-/// `Digraph::in_rank_order` costs.
+/// Which items of a state are ready under a gate, and why each other one isn't. It costs the bytes of the messages, the
+/// votes on each change times the gate's patterns, O(n log n) time and O(n) memory for n items with what they wait for,
+/// and, for the order of the ready items, what `Digraph::in_rank_order` costs.
 pub fn evaluate(alloc: Global, state: &State, gate: &Gate) -> Result<Verdicts, NoMemory>
     ensures { IfOk result (AreVerdicts gate.now state.now) }
 {
     let graph = Graph::build(alloc, state, gate)?;
-    let causes = all_causes(alloc, state, gate, &graph)?;
+    let owns = own_conditions(alloc, state, gate, graph.items())?;
+    let verdicts = verdicts_on(alloc, state, gate, &graph, owns.as_slice())?;
+    Ok(verdicts)
+}
+
+/// The verdicts on the items of a graph, which may be a part of the state's, by their own conditions: of these items
+/// what `evaluate` says of them. It costs O(n log n) time and O(n) memory for n items with what they wait for, and, for
+/// the order of the ready items, what `Digraph::in_rank_order` costs.
+pub fn verdicts_on(
+    alloc: Global,
+    state: &State,
+    gate: &Gate,
+    graph: &Graph,
+    owns: &[Option<Condition>],
+) -> Result<Verdicts, NoMemory>
+    requires graph { IsGraphOf gate.now state.now graph.now }
+    requires owns { AreOwns gate.now state.now graph.now.items owns.now }
+    ensures { IfOk result (AreVerdictsOn gate.now state.now graph.now.items) }
+{
+    let causes = all_causes(alloc, state, gate, graph, owns)?;
     let ineligible = flags_of(alloc, causes.as_slice())?;
     let ranks = graph.digraph().distances(ineligible.as_slice())?;
-    judged(alloc, &graph, causes.as_slice(), ranks.as_slice())
+    judged(alloc, graph, causes.as_slice(), ranks.as_slice())
 }
 
 /// The verdicts, by why each item isn't eligible and how far it is from one that isn't.

@@ -26,7 +26,8 @@ mod rounds;
 mod tests;
 mod verdicts;
 
-pub use judge::evaluate;
+pub use causes::own_conditions;
+pub use judge::{evaluate, verdicts_on};
 pub use laws::{
     closed_sets_are_safe, dependencies_lead_to_a_cause, ready_items_are_the_greatest_closed_set,
     ready_items_stand_in_gate_order, safe_nodes_are_closed, verdicts_are_unique,

@@ -6,7 +6,7 @@ ghost use Rattle.walk_core.specs.Digraphs.{AreDistances, HasEdge};
 ghost use Rattle.ready_core.specs.Rounds.{ComesFrom, Follows, IsNoFurther, IsRankOf};
 ghost use Rattle.ready_core.specs.Verdicts.{AreVerdicts};
 
-use super::causes::{all_causes, flags_of};
+use super::causes::{all_causes, flags_of, own_conditions};
 use super::judge::{judged, nearest};
 use super::verdicts::Verdicts;
 use gate_rules::Gate;
@@ -25,7 +25,8 @@ pub fn evaluate_by_rounds(
     ensures { IfOk result (λ found. IfSome found (AreVerdicts gate.now state.now)) }
 {
     let graph = Graph::build(alloc, state, gate)?;
-    let causes = all_causes(alloc, state, gate, &graph)?;
+    let owns = own_conditions(alloc, state, gate, graph.items())?;
+    let causes = all_causes(alloc, state, gate, &graph, owns.as_slice())?;
     let ineligible = flags_of(alloc, causes.as_slice())?;
     let Some(ranks) = ranks_by_rounds(alloc, graph.digraph(), ineligible.as_slice())? else {
         return Ok(None);

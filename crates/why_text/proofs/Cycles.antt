@@ -14,7 +14,7 @@ use Rattle.state_core.specs.Items.{IsItem, item_cmp}
 use Rattle.state_core.specs.ItemLaws.{items_total}
 use Rattle.state_core.specs.declared.item.Item.{Item}
 use Rattle.graph_core.specs.Dependencies.{IsDependency}
-use Rattle.graph_core.specs.ItemGraph.{ItemGraph, IsAt, IsGraphOf}
+use Rattle.graph_core.specs.ItemGraph.{AreItems, ItemGraph, IsAt, IsGraphOf}
 use Rattle.graph_core.specs.WalkLaws.{Leads-items, Leads-places}
 use Rattle.lattice_core.specs.MemberLaws.{Contains-none, sorted_push}
 use Rattle.lattice_core.specs.PlaceLaws.{at_Contains, at_below, one_item, one_place, sorted_at, earlier_or_same}
@@ -111,10 +111,10 @@ last_edge : {N : Type 0} (E : N → N → Type 0) (n : ℕ) (x y : N) → Walk E
 last_edge E zero x y walk = (x, subst (E x) walk.2 walk.1)
 last_edge E (suc n) x y walk = last_edge E n walk.0 y walk.2
 
-module _ (gate : GateRules) (state : State) (graph : ItemGraph) (is : IsGraphOf gate state graph) (item : Item) (there : IsItem state item)
+module _ (gate : GateRules) (state : State) (graph : ItemGraph) (is : IsGraphOf gate state graph) (whole : AreItems state graph.items) (item : Item) (there : IsItem state item)
     (behind ahead : List Bool) (lead : AreLeading graph.ends (map (is_item item) graph.items) behind) (reach : AreReached graph.ends (map (is_item item) graph.items) ahead) where
   held : (x y : Item) → IsDependency gate state x y → Contains graph.items y
-  held x y edge = (is.items.each y).1 (edge.1.change, edge.1.stands, edge.1.greatest.known)
+  held x y edge = (whole.each y).1 (edge.1.change, edge.1.stands, edge.1.greatest.known)
 
   behind_is : (place : ℕ) (other : Item) → IsAt graph.items place other → other ≢ item → IsMarked behind place → Reaches (IsDependency gate state) other item
   behind_is place other here differs marked =
@@ -145,7 +145,7 @@ module _ (gate : GateRules) (state : State) (graph : ItemGraph) (is : IsGraphOf 
       λ cycle.
           let edge = last_edge (IsDependency gate state) cycle.ahead.0 item other cycle.ahead.1 in
           let at = at_Contains graph.items other (held edge.0 other edge.1) in
-          let from = at_Contains graph.items item ((is.items.each item).1 there) in
+          let from = at_Contains graph.items item ((whole.each item).1 there) in
           (are.each other).1 (record {
             place = at.0;
             before = slice_get_within graph.items at.0 other at.1;
@@ -154,7 +154,7 @@ module _ (gate : GateRules) (state : State) (graph : ItemGraph) (is : IsGraphOf 
               not_itself = λ marked. cycle.differs (marked_is graph.items item at.0 other at.1 marked);
               is_behind = (lead.each at.0).1 (
                 suc cycle.behind.0,
-                Leads-places (IsDependency gate state) graph.items graph.ends is.ends held (IsMarked (map (is_item item) graph.items)) (λ x. x ≡ item)
+                Leads-places (IsDependency gate state) graph.items graph.ends is.ends is.items.held (IsMarked (map (is_item item) graph.items)) (λ x. x ≡ item)
                     (λ p x here same. is_marked graph.items item p (subst (IsAt graph.items p) same here)) (suc cycle.behind.0) at.0 other at.1 cycle.behind.1,
               );
               is_ahead = (reach.each at.0).1 (
@@ -162,7 +162,7 @@ module _ (gate : GateRules) (state : State) (graph : ItemGraph) (is : IsGraphOf 
                 is_marked graph.items item from.0 from.1,
                 (
                   suc cycle.ahead.0,
-                  Leads-places (IsDependency gate state) graph.items graph.ends is.ends held (λ p. p ≡ at.0) (λ x. x ≡ other)
+                  Leads-places (IsDependency gate state) graph.items graph.ends is.ends is.items.held (λ p. p ≡ at.0) (λ x. x ≡ other)
                       (λ p x here same. one_place items_total graph.items is.items.in_order p at.0 other (subst (IsAt graph.items p) same here) at.1) (suc cycle.ahead.0) from.0 item from.1 cycle.ahead.1,
                 ),
               );

@@ -13,7 +13,7 @@ returns-then-is_among_its_own c =
 pub own-requires : goal.own-requires
 own-requires c =
     let no_item : Item = record { change = 0; set = 0 } in
-    (c.requires.items.each _).0 (Contains-at c.args.items.now c.args.place _ (slice_get-get_or c.args.items.now c.args.place no_item c.requires.place))
+    c.requires.items.each _ (Contains-at c.args.items.now c.args.place _ (slice_get-get_or c.args.items.now c.args.place no_item c.requires.place))
 
 pub returns : goal.returns
 returns c = λ item here.

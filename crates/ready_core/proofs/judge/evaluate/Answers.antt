@@ -1,46 +1,17 @@
-use Rattle.std.proofs.Common.{◌∙◌, sym, ap, subst, length, is_some}
-use Rattle.std.proofs.lemmas.List.{length-map}
-use Rattle.std.proofs.lemmas.Result.{IfOk-weaker}
-use Rattle.walk_core.specs.Digraphs.{AreDistances}
-use Rattle.graph_core.specs.Dependencies.{IsDependency}
-use Rattle.graph_core.specs.WalkLaws.{ends_within}
-use Rattle.lattice_core.specs.ZipLaws.{length-AllZip}
-use Rattle.ready_core.specs.Causes.{IsCauseOf, AreCauses, IsJudgement, flags_of}
-use Rattle.ready_core.specs.Verdicts.{AreVerdicts}
-use Rattle.ready_core.proofs.GateVerdicts.{all_ordered}
+use Rattle.std.proofs.Common.{subst, sym}
+use Rattle.graph_core.specs.ItemGraph.{ArePart}
+use Rattle.ready_core.specs.Causes.{AreOwns}
+use Rattle.ready_core.specs.WholeLaws.{on_all_items}
 use Rattle.ready_core.proofs.judge.evaluate.Goals as goal
 
-pub distances-requires : goal.distances-requires
-distances-requires c =
-    let gate = c.args.gate.now in
-    let state = c.args.state.now in
-    ap length (c.as_slice-2.ensures.value ∙ c.in_ok-ineligible.ensures ∙ ap flags_of c.as_slice.ensures.value)
-    ∙ length-map c.in_ok-causes.causes.items is_some
-    ∙ length-AllZip (IsCauseOf gate state) c.in_ok-graph.graph.items c.in_ok-causes.causes.items c.in_ok-causes.ensures
-    ∙ sym c.digraph.ensures.nodes ∙ ap length (sym c.digraph.ensures.ends)
+pub own_conditions-requires : goal.own_conditions-requires
+own_conditions-requires c = subst (ArePart c.args.gate.now c.args.state.now) (sym c.items.ensures) c.in_ok-graph.ensures.graph.items
 
-pub judged-requires : goal.judged-requires
-judged-requires c =
-    let gate = c.args.gate.now in
-    let state = c.args.state.now in
-    let is = c.in_ok-graph.ensures in
-    record {
-      causes_of_all = ap length c.as_slice-3.ensures.value ∙ length-AllZip (IsCauseOf gate state) c.in_ok-graph.graph.items c.in_ok-causes.causes.items c.in_ok-causes.ensures;
-      nodes = c.digraph.ensures.nodes;
-      within = ends_within (IsDependency gate state) c.in_ok-graph.graph.items c.in_ok-graph.graph.ends is.ends;
-      distances =
-          subst (λ l. AreDistances c.in_ok-graph.graph.ends (flags_of l) c.as_slice-4.result.now) (sym c.as_slice-3.ensures.value)
-          (subst (AreDistances c.in_ok-graph.graph.ends (flags_of c.in_ok-causes.causes.items)) (sym c.as_slice-4.ensures.value)
-          (subst (λ graph. AreDistances graph (flags_of c.in_ok-causes.causes.items) c.in_ok-ranks.ranks.items) c.digraph.ensures.ends
-          (subst (λ l. AreDistances c.digraph.result.now l c.in_ok-ranks.ranks.items) (c.as_slice-2.ensures.value ∙ c.in_ok-ineligible.ensures ∙ ap flags_of c.as_slice.ensures.value) c.in_ok-ranks.ensures)));
-    }
+pub verdicts_on-requires-clause-owns : goal.verdicts_on-requires-clause-owns
+verdicts_on-requires-clause-owns c =
+    subst (AreOwns c.args.gate.now c.args.state.now c.in_ok-graph.graph.items) (sym c.as_slice.ensures.value)
+    (subst (λ items. AreOwns c.args.gate.now c.args.state.now items c.in_ok-owns.owns.items) c.items.ensures c.in_ok-owns.ensures)
 
 pub returns : goal.returns
 returns c =
-    let gate = c.args.gate.now in
-    let state = c.args.state.now in
-    IfOk-weaker c.judged.result (λ verdicts. IsJudgement c.in_ok-graph.graph c.as_slice-3.result.now c.as_slice-4.result.now verdicts.ready verdicts.out) (AreVerdicts gate state)
-    (λ verdicts are.
-    let of = subst (AreCauses gate state c.in_ok-graph.graph.items) (sym c.as_slice-3.ensures.value) c.in_ok-causes.ensures in
-    all_ordered gate state c.in_ok-graph.graph c.as_slice-3.result.now c.as_slice-4.result.now verdicts c.in_ok-graph.ensures of are)
-    c.judged.ensures
+    on_all_items c.args.gate.now c.args.state.now c.in_ok-graph.graph.items c.in_ok-verdicts.verdicts c.in_ok-graph.ensures.whole c.in_ok-verdicts.ensures

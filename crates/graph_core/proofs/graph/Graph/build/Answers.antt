@@ -1,80 +1,10 @@
-use Rattle.std.proofs.Common.{◌∙◌, ℕ, List, Vec, Global, map, subst, sym, ap, length}
-use Rattle.std.specs.Prelude.{All}
-use Rattle.std.specs.List.{AllZip}
-use Rattle.std.specs.List.Sorted.{IsStrictlyIncreasing}
-use Rattle.std.proofs.lemmas.List.{length-map}
-use Rattle.state_core.specs.Items.{IsItem}
-use Rattle.graph_core.specs.Dependencies.{IsDependency}
-use Rattle.graph_core.specs.ItemGraph.{AreEnds, namers_of}
-use Rattle.graph_core.specs.WalkLaws.{ends_within, flags_of_cycles}
-use Rattle.lattice_core.specs.ZipLaws.{length-AllZip}
-use Rattle.graph_core.proofs.Building.{all_are_items, held_by_items, as_many_rows, rows_rise, target_rows, end_rows}
+use Rattle.std.proofs.Common.{subst, sym}
+use Rattle.graph_core.specs.ItemGraph.{AreItems}
+use Rattle.graph_core.proofs.Building.{whole_is_part}
 use Rattle.graph_core.proofs.graph.Graph.build.Goals as goal
 
--- the numbers in a row
-abbrev in_row : Vec ℕ Global → List ℕ
-in_row row = row.items
+pub of_part-requires : goal.of_part-requires
+of_part-requires c = whole_is_part c.args.gate.now c.args.state.now c.in_ok-items.items.items c.in_ok-items.ensures
 
-pub all_targets-requires : goal.all_targets-requires
-all_targets-requires c =
-    subst (All (IsItem c.args.state.now)) (sym c.as_slice.ensures.value) (all_are_items c.args.state.now c.in_ok-items.items.items c.in_ok-items.ensures)
-
-pub all_ends-requires-clause-increasing : goal.all_ends-requires-clause-increasing
-all_ends-requires-clause-increasing c =
-    subst (All (λ row. IsStrictlyIncreasing (in_row row))) (sym c.as_slice-3.ensures.value)
-    (rows_rise in_row in_row c.args.gate.now c.args.state.now c.in_ok-items.items.items c.in_ok-targets.targets.items c.as_slice.result.now c.as_slice.ensures.value c.in_ok-targets.ensures)
-
-pub all_namers-requires-clause-rows : goal.all_namers-requires-clause-rows
-all_namers-requires-clause-rows c =
-    ap length c.as_slice-5.ensures.value
-    ∙ as_many_rows in_row in_row c.args.gate.now c.args.state.now c.in_ok-items.items.items c.in_ok-targets.targets.items c.as_slice.result.now c.as_slice.ensures.value c.in_ok-targets.ensures
-    ∙ ap length (sym c.as_slice-4.ensures.value)
-
-pub all_namers-requires-clause-increasing : goal.all_namers-requires-clause-increasing
-all_namers-requires-clause-increasing c =
-    subst (All (λ row. IsStrictlyIncreasing (in_row row))) (sym c.as_slice-5.ensures.value)
-    (rows_rise in_row in_row c.args.gate.now c.args.state.now c.in_ok-items.items.items c.in_ok-targets.targets.items c.as_slice.result.now c.as_slice.ensures.value c.in_ok-targets.ensures)
-
-pub new-requires : goal.new-requires
-new-requires c =
-    let state = c.args.state.now in
-    ends_within (IsDependency c.args.gate.now state) c.in_ok-items.items.items (map in_row c.in_ok-ends.ends.items)
-    (end_rows in_row in_row c.args.gate.now state c.in_ok-items.items.items c.in_ok-targets.targets.items c.as_slice.result.now c.as_slice.ensures.value c.in_ok-targets.ensures
-    c.in_ok-items.ensures c.as_slice-2.result.now c.as_slice-3.result.now c.in_ok-ends.ends.items c.as_slice-2.ensures.value c.as_slice-3.ensures.value c.in_ok-ends.ensures)
-
-pub invariant_of-result : goal.invariant_of-result
-invariant_of-result c =
-    let gate = c.args.gate.now in
-    let state = c.args.state.now in
-    let items = c.in_ok-items.items.items in
-    let rows = as_many_rows in_row in_row gate state items c.in_ok-targets.targets.items c.as_slice.result.now c.as_slice.ensures.value c.in_ok-targets.ensures in
-    let ends : AllZip (AreEnds (IsDependency gate state) items) items c.in_ok-digraph.digraph =
-    subst (AllZip (AreEnds (IsDependency gate state) items) items) (sym c.in_ok-digraph.ensures)
-    (end_rows in_row in_row gate state items c.in_ok-targets.targets.items c.as_slice.result.now c.as_slice.ensures.value c.in_ok-targets.ensures
-    c.in_ok-items.ensures c.as_slice-2.result.now c.as_slice-3.result.now c.in_ok-ends.ends.items c.as_slice-2.ensures.value c.as_slice-3.ensures.value c.in_ok-ends.ensures) in
-    let nodes = length-AllZip (AreEnds (IsDependency gate state) items) items c.in_ok-digraph.digraph ends in
-    record {
-      in_order = c.in_ok-items.ensures.in_order;
-      rows = length-map c.in_ok-targets.targets.items in_row ∙ rows;
-      nodes = nodes;
-      flags = c.in_ok-on_cycle.ensures.nodes ∙ nodes;
-      named = λ number. c.in_ok-namers.ensures number
-          ∙ ap (λ l. namers_of l (map in_row c.as_slice-5.result.now) number) c.as_slice-4.ensures.value
-          ∙ ap (λ l. namers_of items (map in_row l) number) c.as_slice-5.ensures.value;
-    }
-
-pub returns : goal.returns
-returns c =
-    let gate = c.args.gate.now in
-    let state = c.args.state.now in
-    let items = c.in_ok-items.items.items in
-    let ends : AllZip (AreEnds (IsDependency gate state) items) items c.in_ok-digraph.digraph =
-    subst (AllZip (AreEnds (IsDependency gate state) items) items) (sym c.in_ok-digraph.ensures)
-    (end_rows in_row in_row gate state items c.in_ok-targets.targets.items c.as_slice.result.now c.as_slice.ensures.value c.in_ok-targets.ensures
-    c.in_ok-items.ensures c.as_slice-2.result.now c.as_slice-3.result.now c.in_ok-ends.ends.items c.as_slice-2.ensures.value c.as_slice-3.ensures.value c.in_ok-ends.ensures) in
-    record {
-      items = c.in_ok-items.ensures;
-      targets = target_rows in_row in_row gate state items c.in_ok-targets.targets.items c.as_slice.result.now c.as_slice.ensures.value c.in_ok-targets.ensures;
-      ends = ends;
-      on_cycle = flags_of_cycles (IsDependency gate state) items c.in_ok-digraph.digraph ends (held_by_items state items c.in_ok-items.ensures gate) c.in_ok-items.ensures.in_order c.in_ok-on_cycle.on_cycle.items c.in_ok-on_cycle.ensures;
-    }
+pub returns-clause-whole : goal.returns-clause-whole
+returns-clause-whole c = subst (AreItems c.args.state.now) (sym c.in_ok-graph.ensures.items) c.in_ok-items.ensures
