@@ -1,0 +1,4 @@
+pub mod Along
+pub mod Local
+pub mod Stays
+pub mod Bringing
