@@ -70,7 +70,7 @@ fn assert_text(
     let mut state = State::new(alloc);
     let mut time = 0;
     for step in steps {
-        time += 1;
+        time = u64::saturating_add(time, 1);
         take(&mut state, time, draft_of(alloc, *step)?)?;
     }
     let gate = Gate::read(alloc, GATE.as_bytes())?;
