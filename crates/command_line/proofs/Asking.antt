@@ -10,8 +10,8 @@ use Rattle.clap.specs.declared.error.kind.ErrorKind.TheVariants.{DisplayHelp, Di
 use Rattle.clap.specs.declared.parser.matches.Found.{Found}
 use Rattle.clap.proofs.WalkLemmas.{first_value-rows}
 use Rattle.command_line.specs.declared.words.Command.{Command}
-use Rattle.command_line.specs.declared.words.Command.TheVariants.{Simulate, Ready, Merge, Footers, Why, Help, Usage, NoMemory}
-use Rattle.command_line.specs.Asking.{AsksForHelp, Gives, GivesChange, GivesItem, NamesItem, is_comma, Asks, Means, IsCommand, IsFaultless, IsFaulty, IsNoCommand, IsRefused, Matched, WritesNumber}
+use Rattle.command_line.specs.declared.words.Command.TheVariants.{Simulate, Ready, Merge, Footers, Why, Graph, Help, Usage, NoMemory}
+use Rattle.command_line.specs.Asking.{AsksForHelp, Gives, GivesAround, GivesChange, GivesItem, NamesItem, is_comma, Asks, Means, IsCommand, IsFaultless, IsFaulty, IsNoCommand, IsRefused, Matched, WritesNumber}
 use Rattle.command_line.specs.Commands.{program}
 
 -- ---- what a getter gives
@@ -38,6 +38,7 @@ no_simulate rows none (Ready gate snapshot) (other, is, one, two) = let bad : 11
 no_simulate rows none (Merge first second) (other, is, one, two) = let bad : 115 ≡ 109 = ap name_byte is in absurd (omega (arith, bad))
 no_simulate rows none (Footers gate message change) (other, is, one, two, of) = let bad : 115 ≡ 102 = ap name_byte is in absurd (omega (arith, bad))
 no_simulate rows none (Why gate snapshot change set) (other, is, one, two, of) = let bad : 115 ≡ 119 = ap name_byte is in absurd (omega (arith, bad))
+no_simulate rows none (Graph gate snapshot around) (other, is, one, two, of) = let bad : 115 ≡ 103 = ap name_byte is in absurd (omega (arith, bad))
 no_simulate rows none (Help text) not = not
 no_simulate rows none (Usage text) not = not
 no_simulate rows none NoMemory not = not
@@ -49,6 +50,7 @@ no_merge rows (inl none) (Merge first second) (other, is, one, two) = not_given 
 no_merge rows (inr none) (Merge first second) (other, is, one, two) = not_given rows other (codes "SECOND") second.now (ap rows_in is) none two
 no_merge rows none (Footers gate message change) (other, is, one, two, of) = let bad : 109 ≡ 102 = ap name_byte is in absurd (omega (arith, bad))
 no_merge rows none (Why gate snapshot change set) (other, is, one, two, of) = let bad : 109 ≡ 119 = ap name_byte is in absurd (omega (arith, bad))
+no_merge rows none (Graph gate snapshot around) (other, is, one, two, of) = let bad : 109 ≡ 103 = ap name_byte is in absurd (omega (arith, bad))
 no_merge rows none (Help text) not = not
 no_merge rows none (Usage text) not = not
 no_merge rows none NoMemory not = not
@@ -60,6 +62,7 @@ no_ready rows (inr none) (Ready gate snapshot) (other, is, one, two) = not_given
 no_ready rows none (Merge first second) (other, is, one, two) = let bad : 114 ≡ 109 = ap name_byte is in absurd (omega (arith, bad))
 no_ready rows none (Footers gate message change) (other, is, one, two, of) = let bad : 114 ≡ 102 = ap name_byte is in absurd (omega (arith, bad))
 no_ready rows none (Why gate snapshot change set) (other, is, one, two, of) = let bad : 114 ≡ 119 = ap name_byte is in absurd (omega (arith, bad))
+no_ready rows none (Graph gate snapshot around) (other, is, one, two, of) = let bad : 114 ≡ 103 = ap name_byte is in absurd (omega (arith, bad))
 no_ready rows none (Help text) not = not
 no_ready rows none (Usage text) not = not
 no_ready rows none NoMemory not = not
@@ -75,6 +78,7 @@ no_footers rows (inl none) (Footers gate message change) (other, is, one, two, o
 no_footers rows (inr (inl none)) (Footers gate message change) (other, is, one, two, of) = not_given rows other (codes "FILE") message.now (ap rows_in is) none two
 no_footers rows (inr (inr none)) (Footers gate message change) (other, is, one, two, of) = none change (rw (ap rows_in is) of)
 no_footers rows lacks (Why gate snapshot change set) (other, is, one, two, of) = let bad : 102 ≡ 119 = ap name_byte is in absurd (omega (arith, bad))
+no_footers rows lacks (Graph gate snapshot around) (other, is, one, two, of) = let bad : 102 ≡ 103 = ap name_byte is in absurd (omega (arith, bad))
 no_footers rows lacks (Help text) not = not
 no_footers rows lacks (Usage text) not = not
 no_footers rows lacks NoMemory not = not
@@ -91,9 +95,27 @@ no_why rows lacks (Footers gate message change) (other, is, one, two, of) = let 
 no_why rows (inl none) (Why gate snapshot change set) (other, is, one, two, of) = not_given rows other (codes "GATE") gate.now (ap rows_in is) none one
 no_why rows (inr (inl none)) (Why gate snapshot change set) (other, is, one, two, of) = not_given rows other (codes "SNAPSHOT") snapshot.now (ap rows_in is) none two
 no_why rows (inr (inr none)) (Why gate snapshot change set) (other, is, one, two, of) = none change set (rw (ap rows_in is) of)
+no_why rows lacks (Graph gate snapshot around) (other, is, one, two, of) = let bad : 119 ≡ 103 = ap name_byte is in absurd (omega (arith, bad))
 no_why rows lacks (Help text) not = not
 no_why rows lacks (Usage text) not = not
 no_why rows lacks NoMemory not = not
+
+abbrev pub LacksGraph : List Row → Type 0
+LacksGraph rows =
+    (first_of (codes "GATE") rows ≡ None) ⊎ ((first_of (codes "SNAPSHOT") rows ≡ None) ⊎ ((around : Option ℕ) → ¬ GivesAround rows around))
+
+pub no_graph : (rows : List Row) → LacksGraph rows → IsNoCommand (Some (codes "graph", rows))
+no_graph rows lacks (Simulate script gate) (other, is, given, under) = let bad : 103 ≡ 115 = ap name_byte is in absurd (omega (arith, bad))
+no_graph rows lacks (Ready gate snapshot) (other, is, one, two) = let bad : 103 ≡ 114 = ap name_byte is in absurd (omega (arith, bad))
+no_graph rows lacks (Merge first second) (other, is, one, two) = let bad : 103 ≡ 109 = ap name_byte is in absurd (omega (arith, bad))
+no_graph rows lacks (Footers gate message change) (other, is, one, two, of) = let bad : 103 ≡ 102 = ap name_byte is in absurd (omega (arith, bad))
+no_graph rows lacks (Why gate snapshot change set) (other, is, one, two, of) = let bad : 103 ≡ 119 = ap name_byte is in absurd (omega (arith, bad))
+no_graph rows (inl none) (Graph gate snapshot around) (other, is, one, two, of) = not_given rows other (codes "GATE") gate.now (ap rows_in is) none one
+no_graph rows (inr (inl none)) (Graph gate snapshot around) (other, is, one, two, of) = not_given rows other (codes "SNAPSHOT") snapshot.now (ap rows_in is) none two
+no_graph rows (inr (inr none)) (Graph gate snapshot around) (other, is, one, two, of) = none around (rw (ap rows_in is) of)
+no_graph rows lacks (Help text) not = not
+no_graph rows lacks (Usage text) not = not
+no_graph rows lacks NoMemory not = not
 
 -- ---- the change's number
 
@@ -123,6 +145,14 @@ change_read rows text (Some change) given writes = rw given writes
 pub change_unread : (rows : List Row) (text : List ℕ) (result : Option ℕ) → first_of (codes "change") rows ≡ Some text → IfNone result ((change : ℕ) → ¬ WritesNumber text change) → IfNone result ((change : ℕ) → ¬ GivesChange rows change)
 change_unread rows text None given none = λ change gives. none change (gives_text rows text change given gives)
 change_unread rows text (Some change) given none = tt
+
+-- the change to draw around
+one_around : (rows : List Row) (text other : List ℕ) → first_of (codes "around") rows ≡ Some text → first_of (codes "around") rows ≡ Some other → other ≡ text
+one_around rows text other p q = cc
+
+pub around_unread : (rows : List Row) (text : List ℕ) → first_of (codes "around") rows ≡ Some text → ((number : ℕ) → ¬ WritesNumber text number) → (around : Option ℕ) → ¬ GivesAround rows around
+around_unread rows text given none None absent = let bad : None ≡ Some text = sym absent ∙ given in cc
+around_unread rows text given none (Some number) gives = none number (subst (λ t. WritesNumber t number) (one_around rows text gives.0 given gives.1) gives.2)
 
 -- ---- the item that is named
 
@@ -159,6 +189,7 @@ asks_matched words matched (Ready gate snapshot) faultless same means = (faultle
 asks_matched words matched (Merge first second) faultless same means = (faultless, subst (λ m. IsCommand m (Merge first second)) same means)
 asks_matched words matched (Footers gate message change) faultless same means = (faultless, subst (λ m. IsCommand m (Footers gate message change)) same means)
 asks_matched words matched (Why gate snapshot change set) faultless same means = (faultless, subst (λ m. IsCommand m (Why gate snapshot change set)) same means)
+asks_matched words matched (Graph gate snapshot around) faultless same means = (faultless, subst (λ m. IsCommand m (Graph gate snapshot around)) same means)
 asks_matched words matched (Help text) faultless same means = absurd means
 asks_matched words matched (Usage text) faultless same means = inr (subst IsNoCommand same means)
 asks_matched words matched NoMemory faultless same means = means
@@ -178,6 +209,7 @@ asks_refused words kind (Ready gate snapshot) has refused = absurd refused
 asks_refused words kind (Merge first second) has refused = absurd refused
 asks_refused words kind (Footers gate message change) has refused = absurd refused
 asks_refused words kind (Why gate snapshot change set) has refused = absurd refused
+asks_refused words kind (Graph gate snapshot around) has refused = absurd refused
 asks_refused words kind (Help text) has refused = asks_help words kind has refused
 asks_refused words kind (Usage text) has refused = inl (is_faulty words kind has refused)
 asks_refused words kind NoMemory has refused = refused

@@ -8,7 +8,7 @@ use Rattle.clap.specs.Words.{Row, Text, first_of, subcommand_of, fault_of, IsAmo
 use Rattle.clap.specs.declared.error.kind.ErrorKind.{ErrorKind}
 use Rattle.clap.specs.declared.error.kind.ErrorKind.TheVariants.{DisplayHelp, DisplayVersion, OutOfMemory}
 use Rattle.command_line.specs.declared.words.Command.{Command}
-use Rattle.command_line.specs.declared.words.Command.TheVariants.{Simulate, Ready, Merge, Footers, Why, Help, Usage, NoMemory}
+use Rattle.command_line.specs.declared.words.Command.TheVariants.{Simulate, Ready, Merge, Footers, Why, Graph, Help, Usage, NoMemory}
 use Rattle.command_line.specs.Commands.{program}
 
 -- what clap matched: the command that the words name, if they name one, and the values of its arguments
@@ -43,6 +43,11 @@ NamesItem text change (Some set) =
 abbrev pub GivesItem : List Row → ℕ → Option ℕ → Type 0
 GivesItem rows change set = (text : List ℕ) × Gives rows (codes "CHANGE[,SET]") text × NamesItem text change set
 
+-- the change that the option gives to draw around, and none without it
+abbrev pub GivesAround : List Row → Option ℕ → Type 0
+GivesAround rows None = first_of (codes "around") rows ≡ None
+GivesAround rows (Some number) = (text : List ℕ) × Gives rows (codes "around") text × WritesNumber text number
+
 -- what was matched is a command, with all that it needs
 abbrev pub IsCommand : Matched → Command → Type 0
 IsCommand matched (Simulate script gate) =
@@ -56,6 +61,9 @@ IsCommand matched (Footers gate message change) =
 IsCommand matched (Why gate snapshot change set) =
     (rows : List Row) × (matched ≡ Some (codes "why", rows)) × Gives rows (codes "GATE") gate.now
     × Gives rows (codes "SNAPSHOT") snapshot.now × GivesItem rows change set
+IsCommand matched (Graph gate snapshot around) =
+    (rows : List Row) × (matched ≡ Some (codes "graph", rows)) × Gives rows (codes "GATE") gate.now
+    × Gives rows (codes "SNAPSHOT") snapshot.now × GivesAround rows around
 IsCommand matched (Help text) = ⊥
 IsCommand matched (Usage text) = ⊥
 IsCommand matched NoMemory = ⊥
@@ -84,6 +92,8 @@ Asks words (Merge first second) = IsFaultless words × IsCommand (subcommand_of 
 Asks words (Footers gate message change) = IsFaultless words × IsCommand (subcommand_of program words) (Footers gate message change)
 Asks words (Why gate snapshot change set) =
     IsFaultless words × IsCommand (subcommand_of program words) (Why gate snapshot change set)
+Asks words (Graph gate snapshot around) =
+    IsFaultless words × IsCommand (subcommand_of program words) (Graph gate snapshot around)
 Asks words (Help text) = AsksForHelp words
 Asks words (Usage text) = IsFaulty words ⊎ IsNoCommand (subcommand_of program words)
 Asks words NoMemory = Unit {0}
@@ -95,6 +105,7 @@ Means matched (Ready gate snapshot) = IsCommand matched (Ready gate snapshot)
 Means matched (Merge first second) = IsCommand matched (Merge first second)
 Means matched (Footers gate message change) = IsCommand matched (Footers gate message change)
 Means matched (Why gate snapshot change set) = IsCommand matched (Why gate snapshot change set)
+Means matched (Graph gate snapshot around) = IsCommand matched (Graph gate snapshot around)
 Means matched (Help text) = ⊥
 Means matched (Usage text) = IsNoCommand matched
 Means matched NoMemory = Unit {0}
@@ -106,6 +117,7 @@ IsRefused kind (Ready gate snapshot) = ⊥
 IsRefused kind (Merge first second) = ⊥
 IsRefused kind (Footers gate message change) = ⊥
 IsRefused kind (Why gate snapshot change set) = ⊥
+IsRefused kind (Graph gate snapshot around) = ⊥
 IsRefused kind (Help text) = (kind ≡ DisplayHelp) ⊎ (kind ≡ DisplayVersion)
 IsRefused kind (Usage text) = (kind ≢ OutOfMemory) × (kind ≢ DisplayHelp) × (kind ≢ DisplayVersion)
 IsRefused kind NoMemory = Unit {0}
@@ -117,6 +129,7 @@ IsUsage (Ready gate snapshot) = ⊥
 IsUsage (Merge first second) = ⊥
 IsUsage (Footers gate message change) = ⊥
 IsUsage (Why gate snapshot change set) = ⊥
+IsUsage (Graph gate snapshot around) = ⊥
 IsUsage (Help text) = ⊥
 IsUsage (Usage text) = Unit {0}
 IsUsage NoMemory = Unit {0}

@@ -35,6 +35,15 @@ why_app =
     with_rule (with_rule (with_rule (new_app (codes "why")) (needed (codes "GATE"))) (needed (codes "SNAPSHOT")))
     (needed (codes "CHANGE[,SET]"))
 
+-- the option `--around CHANGE`
+abbrev pub around_rule : Rule
+around_rule = record (new_rule (codes "around")) { long = Some (codes "around"); value_names = 1 }
+
+-- `graph GATE SNAPSHOT [--around CHANGE]`
+abbrev pub graph_app : App
+graph_app =
+    with_rule (with_rule (with_rule (new_app (codes "graph")) (needed (codes "GATE"))) (needed (codes "SNAPSHOT"))) around_rule
+
 -- `events`, which takes no other word
 abbrev pub events_app : App
 events_app = new_app (codes "events")
@@ -47,8 +56,8 @@ bare_app = let app = new_app (codes "reviewgate") in
 -- the program
 abbrev pub program : App
 program =
-    with_subcommand (with_subcommand (with_subcommand (with_subcommand (with_subcommand (with_subcommand bare_app simulate_app.top) ready_app.top)
-    merge_app.top) footers_app.top) why_app.top) events_app.top
+    with_subcommand (with_subcommand (with_subcommand (with_subcommand (with_subcommand (with_subcommand (with_subcommand bare_app
+    simulate_app.top) ready_app.top) merge_app.top) footers_app.top) why_app.top) graph_app.top) events_app.top
 
 -- an argument that clap reads by this rule, at its own command alone
 abbrev pub IsRule : Rule → Arg → Type 0

@@ -2,7 +2,9 @@
 
 ghost use Rattle.std.specs.Prelude.{IfOk, codes};
 ghost use Rattle.clap.specs.Words.{new_rule};
-ghost use Rattle.command_line.specs.Commands.{IsApp, IsRule, change_rule, events_app, footers_app, merge_app, needed, program, ready_app, simulate_app, why_app};
+ghost use Rattle.command_line.specs.Commands.{IsApp, IsRule, around_rule, change_rule, events_app, footers_app};
+ghost use Rattle.command_line.specs.Commands.{graph_app};
+ghost use Rattle.command_line.specs.Commands.{merge_app, needed, program, ready_app, simulate_app, why_app};
 
 use clap::{Arg, Command};
 use std::alloc::{AllocError, Global};
@@ -19,6 +21,7 @@ pub fn commands<'a>(alloc: Global) -> Result<Command<'a>, AllocError>
     let merge = merge_command(alloc)?;
     let footers = footers_command(alloc)?;
     let why = why_command(alloc)?;
+    let graph = graph_command(alloc)?;
     Command::new(alloc, "reviewgate")
         .bin_name("reviewgate")?
         .version(VERSION)
@@ -30,6 +33,7 @@ pub fn commands<'a>(alloc: Global) -> Result<Command<'a>, AllocError>
         .subcommand(merge)?
         .subcommand(footers)?
         .subcommand(why)?
+        .subcommand(graph)?
         .subcommand(events_command(alloc))
 }
 
@@ -146,6 +150,34 @@ fn why_command<'a>(alloc: Global) -> Result<Command<'a>, AllocError>
         .arg(gate)?
         .arg(snapshot)?
         .arg(item)
+}
+
+/// `graph GATE SNAPSHOT [--around CHANGE]`
+fn graph_command<'a>(alloc: Global) -> Result<Command<'a>, AllocError>
+    ensures { IfOk result (IsApp graph_app) }
+{
+    let gate = file(alloc, "GATE", "The gate file, or - for standard input");
+    let snapshot = file(
+        alloc,
+        "SNAPSHOT",
+        "The snapshot's file, or - for standard input",
+    );
+    let around = around_option(alloc);
+    Command::new(alloc, "graph")
+        .about("Prints what items wait for as a Graphviz graph")
+        .arg(gate)?
+        .arg(snapshot)?
+        .arg(around)
+}
+
+/// `--around CHANGE`
+fn around_option<'a>(alloc: Global) -> Arg<'a>
+    ensures { IsRule around_rule result }
+{
+    Arg::new(alloc, "around")
+        .long("around")
+        .value_name("CHANGE")
+        .help("The change around which items are drawn: what it leads to, and what leads to it")
 }
 
 /// `events`, which takes no other word

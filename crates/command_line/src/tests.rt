@@ -12,6 +12,7 @@ fn first_name<'a>(command: &Command<'a>) -> &'a str {
         Command::Merge { first, .. } => first,
         Command::Footers { gate, .. } => gate,
         Command::Why { gate, .. } => gate,
+        Command::Graph { gate, .. } => gate,
         Command::Help(_) => "help",
         Command::Usage(_) => "usage",
         Command::NoMemory => "memory",
@@ -27,7 +28,7 @@ fn second_name<'a>(command: &Command<'a>) -> &'a str {
         Command::Ready { snapshot, .. } => snapshot,
         Command::Merge { second, .. } => second,
         Command::Footers { message, .. } => message,
-        Command::Why { snapshot, .. } => snapshot,
+        Command::Why { snapshot, .. } | Command::Graph { snapshot, .. } => snapshot,
         _ => "",
     }
 }
@@ -36,6 +37,10 @@ fn second_name<'a>(command: &Command<'a>) -> &'a str {
 fn change_of(command: &Command<'_>) -> u32 {
     match command {
         Command::Footers { change, .. } | Command::Why { change, .. } => *change,
+        Command::Graph {
+            around: Some(change),
+            ..
+        } => *change,
         _ => 7,
     }
 }
@@ -57,7 +62,8 @@ fn assert_asks(
 
 #[test]
 fn files_are_named_in_their_order(rt: HostRuntime) {
-    let cases: [(&[&str], &str, &str); 5] = [
+    let cases: [(&[&str], &str, &str); 6] = [
+        (&["graph", "g", "-"], "g", "-"),
         (&["simulate", "-"], "-", ""),
         (&["simulate", "s", "g"], "s", "g"),
         (&["ready", "g", "-"], "g", "-"),
@@ -71,8 +77,10 @@ fn files_are_named_in_their_order(rt: HostRuntime) {
 
 #[test]
 fn a_change_is_a_number(rt: HostRuntime) {
-    let cases: [(&[&str], u32); 3] = [
+    let cases: [(&[&str], u32); 5] = [
         (&["footers", "g", "m"], 0),
+        (&["graph", "g", "m", "--around", "0"], 0),
+        (&["graph", "--around=12", "g", "m"], 12),
         (
             &["footers", "--change", "4294967295", "g", "m"],
             4_294_967_295,
@@ -129,13 +137,16 @@ fn other_changes_are_faults(rt: HostRuntime) {
     for number in ["4294967296", "x", "", "1.0"] {
         let words = ["footers", "g", "m", "--change", number];
         assert_asks(&rt, rt.alloc(), words.as_slice(), "usage", "", 7);
+        let words = ["graph", "g", "m", "--around", number];
+        assert_asks(&rt, rt.alloc(), words.as_slice(), "usage", "", 7);
     }
 }
 
 #[test]
 fn other_words_ask_for_nothing(rt: HostRuntime) {
-    let cases: [&[&str]; 10] = [
+    let cases: [&[&str]; 11] = [
         &["why", "g", "s"],
+        &["graph", "g"],
         &[],
         &["simulate"],
         &["ready"],

@@ -3,7 +3,7 @@
 ghost use Rattle.std.specs.Prelude.{◌≡◌, ◌≢◌, ◌⊎◌, ℕ, List, Option, Some, IfErr, IfOk, IfSome, IfNone, map, codes};
 ghost use Rattle.clap.specs.Words.{Row, Text, found_of, rows_of, subcommand_rows_of, fault_of, kind_of, HasKind};
 ghost use Rattle.command_line.specs.Commands.{program};
-ghost use Rattle.command_line.specs.Asking.{GivesChange, GivesItem, NamesItem, WritesNumber};
+ghost use Rattle.command_line.specs.Asking.{GivesAround, GivesChange, GivesItem, NamesItem, WritesNumber};
 ghost use Rattle.command_line.specs.Asking.{Asks, Means, IsCommand, IsNoCommand, IsRefused, IsUsage};
 
 use super::commands::commands;
@@ -45,12 +45,20 @@ pub enum Command<'a> {
         message: &'a str,
         change: u32,
     },
-    /// To print why an item of a snapshot waits under a gate file: the patch set `set` of the change, or its current one.
+    /// To print why an item of a snapshot waits under a gate file: the patch set `set` of the change, or its current
+    /// one.
     Why {
         gate: &'a str,
         snapshot: &'a str,
         change: u32,
         set: Option<u32>,
+    },
+    /// To draw the items of a snapshot with what they wait for under a gate file: all of them, or those around a
+    /// change.
+    Graph {
+        gate: &'a str,
+        snapshot: &'a str,
+        around: Option<u32>,
     },
     /// The help text, or the version, for the output.
     Help(String),
@@ -60,9 +68,10 @@ pub enum Command<'a> {
     NoMemory,
 }
 
-/// Reads the words that follow the program's name, as `clap` matches them to the program's commands: a command is answered only where `clap`
-/// finds no fault in them. `Usage` is answered where it finds one that isn't a wish for help or for the version, and where the words ask for
-/// no command; its text and that of `Help` are `clap`'s. It costs O(bytes of the words).
+/// Reads the words that follow the program's name, as `clap` matches them to the program's commands: a command is
+/// answered only where `clap` finds no fault in them. `Usage` is answered where it finds one that isn't a wish for
+/// help or for the version, and where the words ask for no command; its text and that of `Help` are `clap`'s. It costs
+/// O(bytes of the words).
 pub fn read_words<'a, S: AsStr>(alloc: Global, words: &'a [S]) -> Command<'a>
     ensures { Asks (map S.text words.entry.now) result }
 {
@@ -82,17 +91,34 @@ fn command_in<'a>(alloc: Global, matches: &ArgMatches<'a>) -> Command<'a>
     let Some((name, found)) = matches.subcommand() else {
         return usage(alloc, MISSING);
     };
-    let (command, wrong) = match name {
-        "simulate" => (simulate_in(found), MISSING),
-        "ready" => (ready_in(found), MISSING),
-        "merge" => (merge_in(found), MISSING),
-        "footers" => (footers_in(found), NO_NUMBER),
-        "why" => (why_in(found), NO_ITEM),
-        _ => (None, MISSING),
-    };
-    match command {
+    match named(name, found) {
         Some(command) => command,
-        None => usage(alloc, wrong),
+        None => usage(alloc, wrong_in(name)),
+    }
+}
+
+/// The command of this name, where it has all that it needs.
+fn named<'a>(name: &str, found: &ArgMatches<'a>) -> Option<Command<'a>>
+    ensures some { IfSome result (IsCommand (Some (name.now, rows_of (found_of found.now)))) }
+    ensures none { IfNone result (IsNoCommand (Some (name.now, rows_of (found_of found.now)))) }
+{
+    match name {
+        "simulate" => simulate_in(found),
+        "ready" => ready_in(found),
+        "merge" => merge_in(found),
+        "footers" => footers_in(found),
+        "why" => why_in(found),
+        "graph" => graph_in(found),
+        _ => None,
+    }
+}
+
+/// What is wrong with the words after a command's name, where they don't ask for it.
+fn wrong_in(name: &str) -> &'static str {
+    match name {
+        "footers" | "graph" => NO_NUMBER,
+        "why" => NO_ITEM,
+        _ => MISSING,
     }
 }
 
@@ -179,7 +205,8 @@ fn why_in<'a>(found: &ArgMatches<'a>) -> Option<Command<'a>>
 /// The item that `CHANGE[,SET]` names.
 fn item_of(found: &ArgMatches<'_>) -> Option<(u32, Option<u32>)>
     ensures some { IfSome result (λ item. GivesItem (rows_of (found_of found.now)) item.0 item.1) }
-    ensures none { IfNone result ((change : ℕ) (set : Option ℕ) → ¬ GivesItem (rows_of (found_of found.now)) change set) }
+    ensures none { IfNone result ((change : ℕ) (set : Option ℕ)
+        → ¬ GivesItem (rows_of (found_of found.now)) change set) }
 {
     item_in(found.get_str("CHANGE[,SET]")?)
 }
@@ -194,6 +221,32 @@ fn item_in(text: &str) -> Option<(u32, Option<u32>)>
     };
     let change = number_in(change)?;
     Some((change, Some(number_in(set)?)))
+}
+
+/// `graph GATE SNAPSHOT [--around CHANGE]`
+fn graph_in<'a>(found: &ArgMatches<'a>) -> Option<Command<'a>>
+    ensures some { IfSome result (IsCommand (Some (codes "graph", rows_of (found_of found.now)))) }
+    ensures none { IfNone result (IsNoCommand (Some (codes "graph", rows_of (found_of found.now)))) }
+{
+    let gate = found.get_str("GATE")?;
+    let snapshot = found.get_str("SNAPSHOT")?;
+    let around = around_of(found)?;
+    Some(Command::Graph {
+        gate,
+        snapshot,
+        around,
+    })
+}
+
+/// The change that `--around` gives, and none without it.
+fn around_of(found: &ArgMatches<'_>) -> Option<Option<u32>>
+    ensures some { IfSome result (GivesAround (rows_of (found_of found.now))) }
+    ensures none { IfNone result ((around : Option ℕ) → ¬ GivesAround (rows_of (found_of found.now)) around) }
+{
+    let Some(text) = found.get_str("around") else {
+        return Some(None);
+    };
+    Some(Some(number_in(text)?))
 }
 
 /// Help, a fault of the words or want of memory, as `clap` says.

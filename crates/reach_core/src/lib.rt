@@ -2,5 +2,7 @@
 #![tactic(auto)]
 
 mod reach;
+#[cfg(test)]
+mod tests;
 
 pub use reach::{leading, reached};

@@ -5,9 +5,11 @@ use Rattle.byte_ends.specs.Lines.{lines_of}
 use Rattle.footer_text.specs.Footers.{AreFooters}
 use Rattle.gate_rules.specs.Rules.{GateRules}
 use Rattle.gate_rules.specs.Spelling.{SpellsGate}
+use Rattle.graph_text.specs.Drawing.{IsGraphText}
 use Rattle.ready_core.specs.Verdicts.{AreVerdicts, Judged}
 use Rattle.replica_core.specs.InOrder.{IsInOrderOf}
 use Rattle.replica_core.specs.Journal.{all_arrived}
+use Rattle.state_core.specs.Known.{IsKnown}
 use Rattle.state_core.specs.State.{State, state_of}
 use Rattle.state_core.specs.declared.item.Item.{Item}
 use Rattle.report_text.specs.Report.{report_of}
@@ -70,6 +72,34 @@ abbrev pub IsReasoned : List ℕ → List ℕ → ℕ → Option ℕ → List �
 IsReasoned gate snapshot change set answer (Ok done) = IsReason gate snapshot change set answer
 IsReasoned gate snapshot change set answer (Err NoItem) = LacksItem snapshot change set × (answer ≡ [])
 IsReasoned gate snapshot change set answer (Err refusal) = (refusal ≡ Memory) × (answer ≡ [])
+
+-- ---- `graph`: the items and what they wait for under the gate, in the snapshot's record
+
+-- a patch set is known of the change to draw around, where there is one
+abbrev pub IsKnownAround : State → Option ℕ → Type 0
+IsKnownAround state None = Unit {0}
+IsKnownAround state (Some number) = IsKnown state number
+
+-- the answer draws the state of the operations that the snapshot says, under the rules that the gate file spells
+pub record IsPicture (gate snapshot : List ℕ) (around : Option ℕ) (answer : List ℕ) : Type 0 where
+  pub rules : GateRules
+  pub spelled : SpellsGate gate rules
+  pub ops : List Operation
+  pub says : SaysOperations (lines_of snapshot) ops
+  pub known : IsKnownAround (state_of (all_arrived [] ops)) around
+  pub drawn : IsGraphText rules (state_of (all_arrived [] ops)) around answer
+
+-- the record has no patch set of the change
+pub record LacksChange (snapshot : List ℕ) (around : Option ℕ) : Type 0 where
+  pub ops : List Operation
+  pub says : SaysOperations (lines_of snapshot) ops
+  pub none : ¬ IsKnownAround (state_of (all_arrived [] ops)) around
+
+-- the picture is printed; or there is no such change, or memory was refused, before anything was printed
+abbrev pub IsPictured : List ℕ → List ℕ → Option ℕ → List ℕ → Ended → Type 0
+IsPictured gate snapshot around answer (Ok done) = IsPicture gate snapshot around answer
+IsPictured gate snapshot around answer (Err NoItem) = LacksChange snapshot around × (answer ≡ [])
+IsPictured gate snapshot around answer (Err refusal) = (refusal ≡ Memory) × (answer ≡ [])
 
 -- ---- `merge`: the snapshot of the operations of either, each once, as a grow-only set merges
 

@@ -2,10 +2,10 @@
 -- and judged, and the answer that it prints where all are had.
 use Rattle.std.specs.Prelude.{◌≡◌, ◌⊎◌, ℕ, List, [], ◌∷◌, IsErrAnd, IsErrOf, IsOk, Option, None, Some, string_bytes}
 use Rattle.command_line.specs.declared.words.Command.{Command}
-use Rattle.command_line.specs.declared.words.Command.TheVariants.{Footers, Help, Merge, NoMemory, Ready, Simulate}
+use Rattle.command_line.specs.declared.words.Command.TheVariants.{Footers, Graph, Help, Merge, NoMemory, Ready, Simulate}
 use Rattle.command_line.specs.declared.words.Command.TheVariants.{Usage, Why}
 use Rattle.console.specs.Printing.{Ended}
-use Rattle.reviewgate.specs.Answers.{AreFooterLines, IsMerged, IsReasoned, IsReport, IsSimulated, IsWhole}
+use Rattle.reviewgate.specs.Answers.{AreFooterLines, IsMerged, IsPictured, IsReasoned, IsReport, IsSimulated, IsWhole}
 use Rattle.console.specs.Console.{ConsoleState, IsCutShort, IsPrinted}
 use Rattle.console.specs.Inputs.{AreHad, Input, IsFirstRefused, input}
 use Rattle.console.specs.Inputs.{gate_file, message_file, script_file, snapshot_file}
@@ -18,6 +18,7 @@ inputs_of (Ready gate snapshot) = input gate_file gate.now ∷ input snapshot_fi
 inputs_of (Merge first second) = input snapshot_file first.now ∷ input snapshot_file second.now ∷ []
 inputs_of (Footers gate message change) = input gate_file gate.now ∷ input message_file message.now ∷ []
 inputs_of (Why gate snapshot change set) = input gate_file gate.now ∷ input snapshot_file snapshot.now ∷ []
+inputs_of (Graph gate snapshot around) = input gate_file gate.now ∷ input snapshot_file snapshot.now ∷ []
 inputs_of command = []
 
 -- of these texts the command prints this answer, and ends so once it is printed
@@ -28,6 +29,7 @@ IsAnswer (Merge first second) (one ∷ other ∷ []) answer ended = IsWhole (IsM
 IsAnswer (Footers gate message change) (one ∷ other ∷ []) answer ended =
     IsWhole (AreFooterLines one other change) answer ended
 IsAnswer (Why gate snapshot change set) (one ∷ other ∷ []) answer ended = IsReasoned one other change set answer ended
+IsAnswer (Graph gate snapshot around) (one ∷ other ∷ []) answer ended = IsPictured one other around answer ended
 IsAnswer (Help text) [] answer ended = (answer ≡ string_bytes text) × IsOk ended
 IsAnswer (Usage text) [] answer ended = (answer ≡ []) × IsOk ended
 IsAnswer NoMemory [] answer ended = (answer ≡ []) × IsErrOf ended Memory

@@ -5,6 +5,9 @@ mod events;
 #[cfg(test)]
 mod footer_tests;
 mod footers;
+mod graph;
+#[cfg(test)]
+mod graph_tests;
 mod merge;
 #[cfg(test)]
 mod merge_tests;

@@ -9,6 +9,7 @@ ghost use Rattle.console.specs.Refusals.{refusal_line};
 ghost use Rattle.reviewgate.specs.Running.{Reports, Runs, Shows, counts, error_output};
 
 use super::footers::footers;
+use super::graph::graph;
 use super::merge::merge;
 use super::ready::ready;
 use super::simulate::simulate;
@@ -97,6 +98,11 @@ fn do_command<C: Console>(
             change,
             set,
         } => why(alloc, gate, snapshot, *change, *set, console),
+        Command::Graph {
+            gate,
+            snapshot,
+            around,
+        } => graph(alloc, gate, snapshot, *around, console),
         Command::Help(text) => console.print(text.as_bytes()),
         Command::Usage(_) => Ok(()),
         Command::NoMemory => Err(Refusal::Memory),

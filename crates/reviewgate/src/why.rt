@@ -16,9 +16,10 @@ use std::alloc::Global;
 use std::mem::ManuallyDrop;
 use why_text::{item_asked, why_text};
 
-/// Prints why an item of a snapshot waits under a gate: the patch set `set` of the change, or its current one where none is named. Refusals: those
-/// of the gate file, then of the snapshot; `NoItem`, the item isn't known; `Memory`, memory was refused once both were read; `Output`. It costs
-/// what reading both costs, and what `evaluate` and `why_text` do.
+/// Prints why an item of a snapshot waits under a gate: the patch set `set` of the change, or its current one where
+/// none is named. Refusals: those of the gate file, then of the snapshot; `NoItem`, the item isn't known; `Memory`,
+/// memory was refused once both were read; `Output`. It costs what reading both costs, and what `evaluate` and
+/// `why_text` do.
 pub fn why<C: Console>(
     alloc: Global,
     gate: &str,
@@ -27,7 +28,8 @@ pub fn why<C: Console>(
     set: Option<u32>,
     console: &mut C,
 ) -> Result<(), Refusal>
-    ensures { Ends (Command.Why gate.entry snapshot.entry change set) (C.state console.old) (C.state console.new) result }
+    ensures { Ends (Command.Why gate.entry snapshot.entry change set)
+        (C.state console.old) (C.state console.new) result }
 {
     let file = read_gate_file(alloc, gate, console)?;
     let replica = read_snapshot(Replica::new(alloc), snapshot, console)?;
@@ -49,8 +51,10 @@ fn reason_of(
     set: Option<u32>,
 ) -> Result<String, Refusal>
     requires { SpellsGate file.now.text.items file.now.rules }
-    ensures reason { IfOk result (λ text. IsReasonIn file.now.text.items file.now.rules state.now change set (string_bytes text)) }
-    ensures refused { IfErr result (λ refusal. ((refusal ≡ Refusal.NoItem) × ((item : Item) → ¬ IsAsked state.now change set item))
+    ensures reason { IfOk result
+        (λ text. IsReasonIn file.now.text.items file.now.rules state.now change set (string_bytes text)) }
+    ensures refused { IfErr result (λ refusal.
+        ((refusal ≡ Refusal.NoItem) × ((item : Item) → ¬ IsAsked state.now change set item))
         ⊎ (refusal ≡ Refusal.Memory)) }
 {
     let Some(item) = item_asked(state, change, set) else {

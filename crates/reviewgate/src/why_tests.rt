@@ -43,8 +43,11 @@ fn a_reason_is_printed(rt: HostRuntime) {
     assert_why(&rt, rt.alloc(), "98", 0, REASON, "");
     assert_why(&rt, rt.alloc(), "98,3", 0, REASON, "");
     let words = ["why", "gate", "-", "101"];
-    let lines =
-        "101,1 dependency 98\n98,3 require approval 1\nwant {\"Verified\":[1,2],\"username\":\"zuul\"}\nhave verified ann 1\n";
+    let lines = r#"101,1 dependency 98
+98,3 require approval 1
+want {"Verified":[1,2],"username":"zuul"}
+have verified ann 1
+"#;
     assert_prints(
         &rt,
         rt.alloc(),

@@ -1,9 +1,10 @@
 ghost use Rattle.std.specs.Prelude.{◌≡◌, ◌↔◌, ◌<◌, ℕ, List, [], All, Contains, IfOk, OnOk, length, map, replicate};
 ghost use Rattle.std.specs.Ordering.{nat_cmp};
+ghost use Rattle.walk_core.specs.Components.{AreFirsts};
 ghost use Rattle.walk_core.specs.Digraphs.{AddsEdges, AreDistances, AreOnCycles, HasEdge, IsMarked, IsReversed, IsWithin, ends_of};
 ghost use Rattle.walk_core.specs.Ranks.{IsInRankOrder};
 
-use super::cycles::cycle_flags;
+use super::cycles::{Components, cycle_flags};
 use super::distances::distances_to;
 use super::ranks::ranked_nodes;
 use lattice_core::NoMemory;
@@ -84,6 +85,15 @@ impl<A: Allocator + Copy> Digraph<A> {
         ensures { IfOk result (λ marked. AreOnCycles self.now marked.items) }
     {
         cycle_flags(self.alloc, self)
+    }
+
+    /// Of each node the least of its cycle, or itself where it is on none: the least of the nodes that lead to it and that it leads to, over some
+    /// edges or none. It takes time and memory that grow with the nodes and edges.
+    pub fn firsts(&self) -> Result<Vec<usize, A>, NoMemory>
+        ensures { IfOk result (λ firsts. AreFirsts self.now firsts.items) }
+    {
+        let components = Components::find(self.alloc, self)?;
+        Ok(components.firsts)
     }
 
     /// The kept nodes, which hold the ends of their edges, in rank order: by how many nodes each leads to, itself among them, so that each comes after

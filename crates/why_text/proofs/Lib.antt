@@ -1,4 +1,5 @@
 pub mod Asking
+pub mod Broken
 pub mod Cycles
 pub mod Lookups
 pub mod Steps

@@ -6,6 +6,7 @@ mod asked;
 mod chain;
 mod cycle;
 mod details;
+mod laws;
 #[cfg(test)]
 mod tests;
 mod wanted;
@@ -13,5 +14,6 @@ mod why;
 mod words;
 
 pub use asked::item_asked;
+pub use laws::broken_conditions_are_wanted;
 pub use why::why_text;
 pub use words::{add_item, add_refusal};

@@ -19,6 +19,9 @@ returns-in-Footers g c = rw c.in-Footers.is c.footers.ensures
 pub returns-in-Why : goal.returns-in-Why
 returns-in-Why g c = rw c.in-Why.is c.why.ensures
 
+pub returns-in-Graph : goal.returns-in-Graph
+returns-in-Graph g c = rw c.in-Graph.is c.graph.ensures
+
 pub returns-in-Help : goal.returns-in-Help
 returns-in-Help g c =
     rw c.in-Help.is (inr (

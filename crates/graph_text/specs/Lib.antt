@@ -1,0 +1,4 @@
+pub mod Drawing
+pub mod Lines
+pub mod Near
+pub mod Places
