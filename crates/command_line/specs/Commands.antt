@@ -39,6 +39,10 @@ why_app =
 abbrev pub events_app : App
 events_app = new_app (codes "events")
 
+-- `serve`, whose words are read apart
+abbrev pub serve_app : App
+serve_app = new_app (codes "serve")
+
 -- the program, before it has its commands: its name isn't among the words, it has a version, and a command has to be
 abbrev pub bare_app : App
 bare_app = let app = new_app (codes "reviewgate") in
@@ -47,8 +51,8 @@ bare_app = let app = new_app (codes "reviewgate") in
 -- the program
 abbrev pub program : App
 program =
-    with_subcommand (with_subcommand (with_subcommand (with_subcommand (with_subcommand (with_subcommand bare_app simulate_app.top) ready_app.top)
-    merge_app.top) footers_app.top) why_app.top) events_app.top
+    with_subcommand (with_subcommand (with_subcommand (with_subcommand (with_subcommand (with_subcommand (with_subcommand bare_app
+    simulate_app.top) ready_app.top) merge_app.top) footers_app.top) why_app.top) events_app.top) serve_app.top
 
 -- an argument that clap reads by this rule, at its own command alone
 abbrev pub IsRule : Rule → Arg → Type 0

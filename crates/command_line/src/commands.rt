@@ -2,7 +2,7 @@
 
 ghost use Rattle.std.specs.Prelude.{IfOk, codes};
 ghost use Rattle.clap.specs.Words.{new_rule};
-ghost use Rattle.command_line.specs.Commands.{IsApp, IsRule, change_rule, events_app, footers_app, merge_app, needed, program, ready_app, simulate_app, why_app};
+ghost use Rattle.command_line.specs.Commands.{IsApp, IsRule, change_rule, events_app, footers_app, merge_app, needed, program, ready_app, serve_app, simulate_app, why_app};
 
 use clap::{Arg, Command};
 use std::alloc::{AllocError, Global};
@@ -30,7 +30,8 @@ pub fn commands<'a>(alloc: Global) -> Result<Command<'a>, AllocError>
         .subcommand(merge)?
         .subcommand(footers)?
         .subcommand(why)?
-        .subcommand(events_command(alloc))
+        .subcommand(events_command(alloc))?
+        .subcommand(serve_command(alloc))
 }
 
 /// An argument that has to be given.
@@ -153,4 +154,11 @@ fn events_command<'a>(alloc: Global) -> Command<'a>
     ensures { IsApp events_app result }
 {
     Command::new(alloc, "events").about("Feeds what Gerrit writes to a session of a site")
+}
+
+/// `serve`, whose words are read by `serve_words`
+fn serve_command<'a>(alloc: Global) -> Command<'a>
+    ensures { IsApp serve_app result }
+{
+    Command::new(alloc, "serve").about("Runs a site: answers sessions, pulls from peers, prints its reports")
 }

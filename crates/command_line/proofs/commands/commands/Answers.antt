@@ -1,6 +1,6 @@
 use Rattle.std.proofs.Common.{rules}
 use Rattle.std.proofs.lemmas.Result.{IfOk-weaker}
-use Rattle.command_line.specs.Commands.{IsApp, bare_app, events_app, footers_app, merge_app, ready_app, simulate_app, why_app}
+use Rattle.command_line.specs.Commands.{IsApp, bare_app, events_app, footers_app, merge_app, ready_app, serve_app, simulate_app, why_app}
 use Rattle.command_line.proofs.Building.{subcommand_added}
 use Rattle.command_line.proofs.commands.commands.Goals as goal
 
@@ -12,4 +12,5 @@ returns c =
     let three = subcommand_added _ merge_app two c.in_ok-merge.ensures c.in_ok-subcommand-3.ensures in
     let four = subcommand_added _ footers_app three c.in_ok-footers.ensures c.in_ok-subcommand-4.ensures in
     let five = subcommand_added _ why_app four c.in_ok-why.ensures c.in_ok-subcommand-5.ensures in
-    IfOk-weaker c.subcommand-6.result _ _ (λ r adds. subcommand_added _ events_app five c.events_command.ensures adds) c.subcommand-6.ensures
+    let six = subcommand_added _ events_app five c.events_command.ensures c.in_ok-subcommand-6.ensures in
+    IfOk-weaker c.subcommand-7.result _ _ (λ r adds. subcommand_added _ serve_app six c.serve_command.ensures adds) c.subcommand-7.ensures
