@@ -46,7 +46,13 @@ fn main(rt: HostRuntime) -> ExitCode {
     let status = match words_of(&rt) {
         Ok(words) => match words.as_slice() {
             [first, rest @ ..] if first.as_str() == "serve" => {
-                let ended = serve(rt, alloc, rest, Ends::new(rt.stderr()));
+                let ended = serve(
+                    rt,
+                    alloc,
+                    rest,
+                    Ends::new(rt.reader()),
+                    Ends::new(rt.stderr()),
+                );
                 report_site(alloc, ended, &mut errors)
             }
             words => do_words(&rt, alloc, words, &mut errors),

@@ -1,10 +1,9 @@
 //! A site that ends with its standard input.
 
-use byte_ends::{BytesFault, Ends, Source};
+use byte_ends::{BytesFault, Source};
 use line_reader::LineReader;
 use site_net::Stop;
 use std::alloc::Global;
-use std::io::Input;
 use std::sync::{Arc, Wait};
 use std::thread;
 use std::thread::Threads;
@@ -14,17 +13,17 @@ const LINE_LIMIT: usize = 1024;
 
 /// Has a thread of its own ask the site to stop once the input ends, or has a line `stop`. Nobody waits for that thread.
 /// Whether the system gave it.
-pub fn stop_with_input<R: Input + Threads + Wait + Copy + Send + Drop + 'static>(
-    rt: R,
-    alloc: Global,
-    stop: Arc<Stop, Global>,
-) -> bool {
-    thread::spawn(&rt, move || await_end(&rt, alloc, &stop)).is_ok()
+pub fn stop_with_input<R, I>(rt: R, alloc: Global, input: I, stop: Arc<Stop, Global>) -> bool
+where
+    R: Threads + Wait + Copy + Send + 'static,
+    I: Source + Send + Drop + 'static,
+{
+    thread::spawn(&rt, move || await_end(&rt, alloc, input, &stop)).is_ok()
 }
 
 /// Asks the site to stop once the input ends, or has a line `stop`.
-fn await_end<R: Input + Wait>(rt: &R, alloc: Global, stop: &Stop) {
-    let mut input = Ends::new(rt.reader());
+fn await_end<R: Wait, I: Source + Drop>(rt: &R, alloc: Global, input: I, stop: &Stop) {
+    let mut input = input;
     if let Ok(mut lines) = LineReader::new(alloc, LINE_LIMIT) {
         for _ in rt.forever() {
             if is_last(&mut lines, &mut input) {

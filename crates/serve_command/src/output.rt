@@ -19,7 +19,7 @@ const LAST_LOOKS: u32 = 300;
 /// Standard output, written by a thread of its own. A write waits for it without end while the site runs; once the site
 /// stops it is given up after 30 seconds, which is a failure.
 #[derive(Drop)]
-pub struct PatientOutput<R: Drop> {
+pub struct PatientOutput<R: Copy> {
     rt: R,
     alloc: Global,
     stop: Arc<Stop, Global>,
@@ -27,7 +27,7 @@ pub struct PatientOutput<R: Drop> {
     done: Receiver<bool, Global>,
 }
 
-impl<R: Print + Threads + Wait + Clock + Copy + Send + Drop + 'static> PatientOutput<R> {
+impl<R: Print + Threads + Wait + Clock + Copy + Send + 'static> PatientOutput<R> {
     /// Starts the thread that writes. None where the system refuses it.
     pub fn new(
         rt: R,
@@ -49,7 +49,7 @@ impl<R: Print + Threads + Wait + Clock + Copy + Send + Drop + 'static> PatientOu
     }
 }
 
-impl<R: Wait + Clock + Drop> Write for PatientOutput<R> {
+impl<R: Wait + Clock + Copy> Write for PatientOutput<R> {
     fn write(&mut self, bytes: &[u8]) -> io::Result<usize> {
         let text = bytes.to_vec(self.alloc)?;
         if self.texts.send(&self.rt, text).is_err() {

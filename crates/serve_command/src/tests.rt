@@ -27,6 +27,7 @@ fn words_that_ask_for_no_site_are_misuse(rt: HostRuntime) -> Result<(), Fail> {
         rt,
         rt.alloc(),
         words.as_slice(),
+        Ends::new(rt.reader()),
         Ends::new(Vec::new(rt.alloc())),
     );
     assert!(rt; matches!(&ended, Ended::Usage(_)));
@@ -43,6 +44,7 @@ fn a_gate_file_that_is_not_there_is_refused(rt: HostRuntime) -> Result<(), Fail>
         rt,
         rt.alloc(),
         words.as_slice(),
+        Ends::new(rt.reader()),
         Ends::new(Vec::new(rt.alloc())),
     );
     assert!(rt; matches!(&ended, Ended::Refused(_)));

@@ -11,7 +11,7 @@ use std::io::{Read, Write};
 use std::net::{Net, Shutdown, TcpListener, TcpStream};
 use std::process::Abort;
 use std::sync::atomic::{AtomicBool, Ordering};
-use std::sync::{Mutex, Wait};
+use std::sync::{Arc, Mutex, Wait};
 use std::test::Fail;
 use std::thread::Threads;
 use std::time::{Clock, Duration, Instant};
@@ -129,18 +129,18 @@ fn a_start_that_was_used_is_refused(rt: HostRuntime) -> Result<(), Fail> {
 
 /// Holds the first session until the second has ended.
 #[derive(Drop)]
-struct SecondFirst<'a, R: Clock> {
-    rt: &'a R,
+struct SecondFirst<R: Clock + Copy> {
+    rt: R,
     is_second_over: AtomicBool,
 }
 
-impl<'a, R: Clock> Turn for SecondFirst<'a, R> {
+impl<R: Clock + Copy> Turn for SecondFirst<R> {
     fn enter(&self, session: u64) {
         for _ in 0..10_000 {
             if session > 1 || self.is_second_over.load(Ordering::SeqCst) {
                 return;
             }
-            let _ = thread::sleep(self.rt, Duration::from_millis(1));
+            let _ = thread::sleep(&self.rt, Duration::from_millis(1));
         }
     }
 
@@ -161,7 +161,7 @@ fn a_held_session_holds_no_other(rt: HostRuntime) -> Result<(), Fail> {
     setup.sessions = 2;
     let stop = Stop::new();
     let turn = SecondFirst {
-        rt: &rt,
+        rt,
         is_second_over: AtomicBool::new(false),
     };
     let (served, (one, other)) = thread::join(
@@ -317,14 +317,14 @@ fn clients_that_stall_hold_no_other_and_no_end(rt: HostRuntime) -> Result<(), Fa
 
 /// An output that another thread looks at.
 #[derive(Drop)]
-struct Shared<'a, R: Wait> {
-    rt: &'a R,
-    printed: &'a Mutex<Vec<u8>>,
+struct Shared<R: Wait + Copy> {
+    rt: R,
+    printed: Arc<Mutex<Vec<u8>>, Global>,
 }
 
-impl<'a, R: Wait> Write for Shared<'a, R> {
+impl<R: Wait + Copy> Write for Shared<R> {
     fn write(&mut self, bytes: &[u8]) -> io::Result<usize> {
-        let mut printed = self.printed.lock(self.rt);
+        let mut printed = self.printed.lock(&self.rt);
         printed.extend_from_slice(bytes)?;
         Ok(bytes.len())
     }
@@ -336,20 +336,20 @@ impl<'a, R: Wait> Write for Shared<'a, R> {
 
 /// Holds a session until a report was printed.
 #[derive(Drop)]
-struct AfterReport<'a, R: Wait + Clock> {
-    rt: &'a R,
-    printed: &'a Mutex<Vec<u8>>,
+struct AfterReport<R: Wait + Clock + Copy> {
+    rt: R,
+    printed: Arc<Mutex<Vec<u8>>, Global>,
     is_printed: AtomicBool,
 }
 
-impl<'a, R: Wait + Clock> Turn for AfterReport<'a, R> {
+impl<R: Wait + Clock + Copy> Turn for AfterReport<R> {
     fn enter(&self, _session: u64) {
         for _ in 0..10_000 {
-            if !self.printed.lock(self.rt).is_empty() {
+            if !self.printed.lock(&self.rt).is_empty() {
                 self.is_printed.store(true, Ordering::SeqCst);
                 return;
             }
-            let _ = thread::sleep(self.rt, Duration::from_millis(1));
+            let _ = thread::sleep(&self.rt, Duration::from_millis(1));
         }
     }
 
@@ -362,15 +362,16 @@ fn a_report_is_printed_before_anything_comes(rt: HostRuntime) -> Result<(), Fail
     let listener = TcpListener::bind(&rt, "127.0.0.1:0")?;
     let port = listener.local_addr()?.port();
     let setup = one_session(alloc, 1)?;
-    let (stop, printed) = (Stop::new(), Mutex::new(Vec::new(alloc)));
+    let stop = Stop::new();
+    let printed = Arc::new(alloc, Mutex::new(Vec::new(alloc)))?;
     let turn = AfterReport {
-        rt: &rt,
-        printed: &printed,
+        rt,
+        printed: Arc::try_clone(&printed)?,
         is_printed: AtomicBool::new(false),
     };
     let output = Ends::new(Shared {
-        rt: &rt,
-        printed: &printed,
+        rt,
+        printed: Arc::try_clone(&printed)?,
     });
     let errors = Ends::new(Vec::new(alloc));
     let (served, answers) = thread::join(

@@ -3,8 +3,8 @@
 use super::input_end::stop_with_input;
 use super::output::PatientOutput;
 use super::save::save;
-use byte_ends::{Drain, Ends, write_all};
-use console::{Refusal, Streams, SystemFiles, read_gate, read_snapshot};
+use byte_ends::{Drain, Ends, Source, write_all};
+use console::{Console, Named, Refusal, Streams, SystemFiles, read_gate, read_snapshot};
 use gate_rules::Gate;
 use replica_core::Replica;
 use serve_words::{ServeWords, Serving, read_serve_words};
@@ -12,7 +12,7 @@ use site_net::Stop;
 use site_serve::{ServeFault, Served, Setup, Turn, serve_run};
 use std::alloc::Global;
 use std::io;
-use std::io::{Input, Print};
+use std::io::Print;
 use std::net::{Net, TcpListener, TcpStream};
 use std::rt::Files;
 use std::sync::{Arc, Wait};
@@ -45,15 +45,16 @@ impl Turn for NoTurn {
 /// Runs the site that the words after `serve` ask for. It reads and judges the gate file and then the snapshot, if one is
 /// named, asks whether the start was used, binds, prints `listening P`, runs the site and saves what it has. What is wrong
 /// while it runs is written to `errors`.
-pub fn serve<R, E>(rt: R, alloc: Global, words: &[String], errors: E) -> Ended
+pub fn serve<R, I, E>(rt: R, alloc: Global, words: &[String], input: I, errors: E) -> Ended
 where
     R: Net<Listener = TcpListener, Stream = TcpStream>,
-    R: Files + Input + Print + Threads + Wait + Clock + AllocGlobal,
-    R: Copy + Send + Sync + Drop + 'static,
+    R: Files + Print + Threads + Wait + Clock + AllocGlobal,
+    R: Copy + Send + Sync + 'static,
+    I: Source + Send + Drop + 'static,
     E: Drain + Send + Drop,
 {
     match read_serve_words(alloc, words) {
-        ServeWords::Serve(serving) => match run_site(rt, alloc, serving, errors) {
+        ServeWords::Serve(serving) => match run_site(rt, alloc, serving, input, errors) {
             Ok(()) => Ended::Well,
             Err(ended) => ended,
         },
@@ -70,14 +71,30 @@ where
 }
 
 /// Runs a site, from its inputs to its snapshot.
-fn run_site<R, E>(rt: R, alloc: Global, serving: Serving<'_>, errors: E) -> Result<(), Ended>
+fn run_site<R, I, E>(
+    rt: R,
+    alloc: Global,
+    serving: Serving<'_>,
+    input: I,
+    errors: E,
+) -> Result<(), Ended>
 where
     R: Net<Listener = TcpListener, Stream = TcpStream>,
-    R: Files + Input + Print + Threads + Wait + Clock + AllocGlobal,
-    R: Copy + Send + Sync + Drop + 'static,
+    R: Files + Print + Threads + Wait + Clock + AllocGlobal,
+    R: Copy + Send + Sync + 'static,
+    I: Source + Send + Drop + 'static,
     E: Drain + Send + Drop,
 {
-    let (gate, replica) = read_inputs(&rt, alloc, serving.gate, serving.load)?;
+    let mut input = input;
+    let inputs = read_from(
+        alloc,
+        serving.gate,
+        serving.load,
+        &mut input,
+        &mut Ends::new(io::writer(&rt)),
+        &mut SystemFiles::new(rt),
+    );
+    let (gate, replica) = inputs.map_err(Ended::Refused)?;
     if is_start_used(&replica, serving.site, serving.start) {
         return Err(Ended::Site(ServeFault::StartUsed));
     }
@@ -85,7 +102,8 @@ where
         return Err(Ended::Site(ServeFault::NoBind));
     };
     say_port(&rt, alloc, &listener)?;
-    let stop = stop_of(rt, alloc, serving.until_input_ends)?;
+    let ending = serving.until_input_ends.then_some(input);
+    let stop = stop_of(rt, alloc, ending)?;
     let name = serving.save;
     let setup = setup_of(serving, gate, replica);
     let output = output_of(rt, alloc, &stop)?;
@@ -96,7 +114,7 @@ where
 }
 
 /// The output that its reports are printed to.
-fn output_of<R: Print + Threads + Wait + Clock + Copy + Send + Drop + 'static>(
+fn output_of<R: Print + Threads + Wait + Clock + Copy + Send + 'static>(
     rt: R,
     alloc: Global,
     stop: &Arc<Stop, Global>,
@@ -136,47 +154,54 @@ fn setup_of(serving: Serving<'_>, gate: Gate, replica: Replica) -> Setup {
     }
 }
 
-/// The wish to stop, which comes with the end of the input where that is asked for.
-fn stop_of<R: Input + Threads + Wait + Copy + Send + Drop + 'static>(
-    rt: R,
-    alloc: Global,
-    until_input_ends: bool,
-) -> Result<Arc<Stop, Global>, Ended> {
+/// The wish to stop, which comes with the end of the input where there is one.
+fn stop_of<R, I>(rt: R, alloc: Global, input: Option<I>) -> Result<Arc<Stop, Global>, Ended>
+where
+    R: Threads + Wait + Copy + Send + 'static,
+    I: Source + Send + Drop + 'static,
+{
     let Ok(stop) = Arc::new(alloc, Stop::new()) else {
         return Err(Ended::Site(ServeFault::NoMemory));
     };
-    if until_input_ends {
+    if let Some(input) = input {
         let Ok(theirs) = Arc::try_clone(&stop) else {
             return Err(Ended::Site(ServeFault::NoMemory));
         };
-        if !stop_with_input(rt, alloc, theirs) {
+        if !stop_with_input(rt, alloc, input, theirs) {
             return Err(Ended::Site(ServeFault::NoPlace));
         }
     }
     Ok(stop)
 }
 
-/// The gate, and the record to begin with.
-fn read_inputs<R: Files + Input + Print + AllocGlobal>(
-    rt: &R,
+/// The gate, and the record to begin with, from these ends.
+fn read_from<I: Source, O: Drain, N: Named>(
     alloc: Global,
     gate: &str,
     load: Option<&str>,
-) -> Result<(Gate, Replica), Ended> {
-    let mut input = Ends::new(rt.reader());
-    let mut output = Ends::new(io::writer(rt));
-    let mut files = SystemFiles::new(rt);
+    input: &mut I,
+    output: &mut O,
+    files: &mut N,
+) -> Result<(Gate, Replica), Refusal> {
     let mut console = Streams {
-        input: &mut input,
-        output: &mut output,
-        files: &mut files,
+        input,
+        output,
+        files,
         is_spent: false,
     };
-    let rules = read_gate(alloc, gate, &mut console).map_err(Ended::Refused)?;
+    read_inputs(alloc, gate, load, &mut console)
+}
+
+/// The gate, and the record to begin with.
+fn read_inputs<C: Console>(
+    alloc: Global,
+    gate: &str,
+    load: Option<&str>,
+    console: &mut C,
+) -> Result<(Gate, Replica), Refusal> {
+    let rules = read_gate(alloc, gate, console)?;
     let replica = match load {
-        Some(name) => {
-            read_snapshot(Replica::new(alloc), name, &mut console).map_err(Ended::Refused)?
-        }
+        Some(name) => read_snapshot(Replica::new(alloc), name, console)?,
         None => Replica::new(alloc),
     };
     Ok((rules, replica))
