@@ -11,7 +11,7 @@ use Rattle.state_core.specs.State.{State}
 use Rattle.state_core.specs.ItemLaws.{items_total}
 use Rattle.state_core.specs.declared.item.Item.{Item}
 use Rattle.graph_core.specs.Dependencies.{IsDependency}
-use Rattle.graph_core.specs.ItemGraph.{ItemGraph, IsAt, IsGraphOf}
+use Rattle.graph_core.specs.ItemGraph.{AreItems, ItemGraph, IsAt, IsGraphOf}
 use Rattle.graph_core.specs.WalkLaws.{Leads-items, Leads-places}
 use Rattle.lattice_core.specs.PlaceLaws.{Contains-at, at_Contains, at_below, one_item, one_place}
 use Rattle.reach_core.specs.Reach.{AreLeading, AreReached}
@@ -26,9 +26,9 @@ all_marked flags n place is within =
     subst (λ l. IsMarked l place) (sym is)
     (slice_get-get_or (replicate n true) place true (omega (arith, within, length-replicate {A = Bool} n true)) ∙ ap Some (get_or-replicate n place true true within))
 
-module _ (gate : GateRules) (state : State) (graph : ItemGraph) (is : IsGraphOf gate state graph) where
+module _ (gate : GateRules) (state : State) (graph : ItemGraph) (is : IsGraphOf gate state graph) (whole : AreItems state graph.items) where
   pub held : (x y : Item) → IsDependency gate state x y → Contains graph.items y
-  held x y edge = (is.items.each y).1 (edge.1.change, edge.1.stands, edge.1.greatest.known)
+  held x y edge = (whole.each y).1 (edge.1.change, edge.1.stands, edge.1.greatest.known)
 
   -- ---- what leads to what
   pub leads_items : (place end : ℕ) (item other : Item) → IsAt graph.items place item → IsAt graph.items end other → LeadsTo (HasEdge graph.ends) place end → LeadsTo (IsDependency gate state) item other
@@ -41,7 +41,7 @@ module _ (gate : GateRules) (state : State) (graph : ItemGraph) (is : IsGraphOf 
   pub leads_places : (place end : ℕ) (item other : Item) → IsAt graph.items place item → IsAt graph.items end other → LeadsTo (IsDependency gate state) item other → LeadsTo (HasEdge graph.ends) place end
   leads_places place end item other here there leads = (
     leads.0,
-    Leads-places (IsDependency gate state) graph.items graph.ends is.ends held (λ p. p ≡ end) (λ o. o ≡ other)
+    Leads-places (IsDependency gate state) graph.items graph.ends is.ends is.items.held (λ p. p ≡ end) (λ o. o ≡ other)
         (λ p o at same. one_place items_total graph.items is.items.in_order p end other (subst (IsAt graph.items p) same at) there) leads.0 place item here leads.1,
   )
 
@@ -68,12 +68,12 @@ module _ (gate : GateRules) (state : State) (graph : ItemGraph) (is : IsGraphOf 
           let reached = (reach.each place).0 marked in
           let from = own_at reached.0 reached.1 in (
             from.0,
-            (is.items.each from.0).0 (Contains-at graph.items reached.0 from.0 from.1),
+            (whole.each from.0).0 (Contains-at graph.items reached.0 from.0 from.1),
             own_is reached.0 from.0 from.1 reached.1,
             leads_items reached.0 place from.0 item from.1 here reached.2,
           ),
       λ ahead.
-          let from = at_Contains graph.items ahead.0 ((is.items.each ahead.0).1 ahead.1) in
+          let from = at_Contains graph.items ahead.0 ((whole.each ahead.0).1 ahead.1) in
           (reach.each place).1 (from.0, own_marked from.0 ahead.0 from.1 ahead.2, leads_places from.0 place ahead.0 item from.1 here ahead.3),
     )
 
@@ -87,7 +87,7 @@ module _ (gate : GateRules) (state : State) (graph : ItemGraph) (is : IsGraphOf 
       λ behind.
           (lead.each place).1 (
             behind.0,
-            Leads-places (IsDependency gate state) graph.items graph.ends is.ends held (IsMarked own) (λ o. o.change ≡ number) own_marked behind.0 place item here behind.1,
+            Leads-places (IsDependency gate state) graph.items graph.ends is.ends is.items.held (IsMarked own) (λ o. o.change ≡ number) own_marked behind.0 place item here behind.1,
           ),
     )
 

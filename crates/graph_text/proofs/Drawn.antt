@@ -25,7 +25,7 @@ use Rattle.state_core.specs.Known.{IsKnown, IsMerged}
 use Rattle.state_core.specs.ItemLaws.{items_total}
 use Rattle.state_core.specs.declared.item.Item.{Item}
 use Rattle.graph_core.specs.Dependencies.{IsDependency, IsTarget}
-use Rattle.graph_core.specs.ItemGraph.{ItemGraph, IsAt, IsGraphOf, AreTargets, AreEnds}
+use Rattle.graph_core.specs.ItemGraph.{AreItems, ItemGraph, IsAt, IsGraphOf, AreTargets, AreEnds}
 use Rattle.graph_core.specs.WalkLaws.{ends_within}
 use Rattle.ready_core.specs.Causes.{item_at}
 use Rattle.ready_core.specs.Verdicts.{AreVerdicts, Judged, items_out}
@@ -127,7 +127,7 @@ row_at : (found : Option (List ℕ)) (r : List ℕ) → found ≡ Some r → row
 row_at None r is = cc
 row_at (Some other) r is = cc
 
-module _ (gate : GateRules) (state : State) (graph : ItemGraph) (is : IsGraphOf gate state graph) (around : Option ℕ) (ahead behind : List Bool)
+module _ (gate : GateRules) (state : State) (graph : ItemGraph) (is : IsGraphOf gate state graph) (whole : AreItems state graph.items) (around : Option ℕ) (ahead behind : List Bool)
     (are_ahead : AreAhead graph around ahead) (are_behind : AreBehind graph around behind) where
   -- ---- which items are drawn
   shown_drawn : (place : ℕ) (item : Item) → IsAt graph.items place item → IsShown state graph.items ahead behind place ↔ IsDrawn gate state around item
@@ -135,11 +135,11 @@ module _ (gate : GateRules) (state : State) (graph : ItemGraph) (is : IsGraphOf 
     λ shown.
         let same = one_item graph.items place shown.item item shown.here here in
         record {
-          there = (is.items.each item).0 (Contains-at graph.items place item here);
+          there = (whole.each item).0 (Contains-at graph.items place item here);
           open_still = λ merged. shown.open_still (subst (λ (i : Item). IsMerged state i.change) (sym same) merged);
           near = elim shown.near [
-            | inl marked ↦ inl ((ahead_at gate state graph is around ahead are_ahead place item here).0 marked)
-            | inr marked ↦ inr ((behind_at gate state graph is around behind are_behind place item here).0 marked)
+            | inl marked ↦ inl ((ahead_at gate state graph is whole around ahead are_ahead place item here).0 marked)
+            | inr marked ↦ inr ((behind_at gate state graph is whole around behind are_behind place item here).0 marked)
           ];
         },
     λ drawn. record {
@@ -147,8 +147,8 @@ module _ (gate : GateRules) (state : State) (graph : ItemGraph) (is : IsGraphOf 
       here = here;
       open_still = drawn.open_still;
       near = elim drawn.near [
-        | inl leads ↦ inl ((ahead_at gate state graph is around ahead are_ahead place item here).1 leads)
-        | inr leads ↦ inr ((behind_at gate state graph is around behind are_behind place item here).1 leads)
+        | inl leads ↦ inl ((ahead_at gate state graph is whole around ahead are_ahead place item here).1 leads)
+        | inr leads ↦ inr ((behind_at gate state graph is whole around behind are_behind place item here).1 leads)
       ];
     },
   )
@@ -164,7 +164,7 @@ module _ (gate : GateRules) (state : State) (graph : ItemGraph) (is : IsGraphOf 
           let end = (beside.2.each found.0).0 (subst (λ l. Contains l found.0) (row_at _ beside.0 beside.1) kept.0) in
           (subst (IsDependency gate state item) (one_item graph.items found.0 end.other other end.there found.2) end.edge, (shown_drawn found.0 other found.2).0 kept.1),
       λ both.
-          let at = at_Contains graph.items other (held gate state graph is item other both.0) in
+          let at = at_Contains graph.items other (held gate state graph is whole item other both.0) in
           let end = (beside.2.each at.0).1 (record { other = other; there = at.1; edge = both.0 }) in
           let kept = (are.kept.each at.0).1 (subst (λ l. Contains l at.0) (sym (row_at _ beside.0 beside.1)) end, (shown_drawn at.0 other at.1).1 both.1) in
           (found_at graph.items is.items.in_order are.places needs all other).1 (at.0, kept, at.1),
@@ -186,11 +186,11 @@ module _ (gate : GateRules) (state : State) (graph : ItemGraph) (is : IsGraphOf 
       λ c.
           let kept = (are.each number).0 c in
           let split = in_cond (flag_at ahead place) (ends_of graph.targets place) number kept.0 in (
-            (ahead_at gate state graph is around ahead are_ahead place item here).0 (marked split.0),
+            (ahead_at gate state graph is whole around ahead are_ahead place item here).0 (marked split.0),
             record { target = (beside.2.each number).0 (subst (λ l. Contains l number) (row_at _ beside.0 beside.1) split.1); unknown = kept.1 },
           ),
       λ both.
-          let flag = (ahead_at gate state graph is around ahead are_ahead place item here).1 both.0 in
+          let flag = (ahead_at gate state graph is whole around ahead are_ahead place item here).1 both.0 in
           let on : flag_at ahead place ≡ true = get_or_from_slice_get ahead place true false flag in
           (are.each number).1 (
             subst (λ b. Contains (cond b (ends_of graph.targets place) []) number) (sym on)
@@ -233,7 +233,7 @@ module _ (gate : GateRules) (state : State) (graph : ItemGraph) (is : IsGraphOf 
       by_flag true at cycles =
           subst (λ b. IsCycleOf gate state item (cond b (Some (item_at graph.items (slice_index firsts place))) None)) (sym at) (
             cycles.0 refl,
-            first_item gate state graph is place (slice_index firsts place) item (item_at graph.items (slice_index firsts place)) here
+            first_item gate state graph is whole place (slice_index firsts place) item (item_at graph.items (slice_index firsts place)) here
                 (slice_get-get_or graph.items (slice_index firsts place) _ first_in) (are_firsts.each place place_in),
           )
       by_flag false at cycles =
@@ -257,7 +257,7 @@ module _ (gate : GateRules) (state : State) (graph : ItemGraph) (is : IsGraphOf 
             let found = (found_at graph.items is.items.in_order are.all.places (items_of nodes) zipped item).0 c in
             (shown_drawn found.0 item found.2).0 ((are.all.kept.each found.0).0 found.1).1,
         λ drawn.
-            let at = at_Contains graph.items item ((is.items.each item).1 drawn.there) in
+            let at = at_Contains graph.items item ((whole.each item).1 drawn.there) in
             let kept = (are.all.kept.each at.0).1 (slice_get_within graph.items at.0 item at.1, (shown_drawn at.0 item at.1).1 drawn) in
             (found_at graph.items is.items.in_order are.all.places (items_of nodes) zipped item).1 (at.0, kept, at.1),
       );
@@ -266,7 +266,7 @@ module _ (gate : GateRules) (state : State) (graph : ItemGraph) (is : IsGraphOf 
           let beside = AllZip-beside (IsNodeAt state graph verdicts.out ahead behind are.firsts) are.all.places nodes are.all.nodes_at at.0 node at.1 in
           let its = beside.2 in
           record {
-            verdict = verdict_drawn node.item ((is.items.each node.item).0 (Contains-at graph.items beside.0 node.item its.item)) node.refusal its.refusal;
+            verdict = verdict_drawn node.item ((whole.each node.item).0 (Contains-at graph.items beside.0 node.item its.item)) node.refusal its.refusal;
             cycle = cycle_drawn are.firsts are.are_firsts beside.0 node.item its.item node.cycle its.cycle;
             needs = needs_drawn beside.0 node.item its.item node.needs.items its.needs;
             unknown = unknown_drawn beside.0 node.item its.item node.unknown.items its.unknown;
@@ -290,7 +290,7 @@ behind_sized : (graph : ItemGraph) → length graph.ends ≡ length graph.items 
 behind_sized graph sized None flags all = ap length all ∙ length-replicate (length graph.items) true
 behind_sized graph sized (Some number) flags lead = lead.nodes ∙ sized
 
-module _ (gate : GateRules) (state : State) (graph : ItemGraph) (is : IsGraphOf gate state graph) (around : Option ℕ) (ahead behind : List Bool)
+module _ (gate : GateRules) (state : State) (graph : ItemGraph) (is : IsGraphOf gate state graph) (whole : AreItems state graph.items) (around : Option ℕ) (ahead behind : List Bool)
     (are_ahead : AreAhead graph around ahead) (are_behind : AreBehind graph around behind) where
   all_nodes : length graph.ends ≡ length graph.items
   all_nodes = length-AllZip (AreEnds (IsDependency gate state) graph.items) graph.items graph.ends is.ends

@@ -16,15 +16,15 @@ use Rattle.state_core.specs.Items.{item_cmp}
 use Rattle.state_core.specs.ItemLaws.{items_total}
 use Rattle.state_core.specs.declared.item.Item.{Item}
 use Rattle.graph_core.specs.Dependencies.{IsDependency}
-use Rattle.graph_core.specs.ItemGraph.{ItemGraph, IsAt, IsGraphOf, AreEnds}
+use Rattle.graph_core.specs.ItemGraph.{AreItems, ItemGraph, IsAt, IsGraphOf, AreEnds}
 use Rattle.graph_core.specs.WalkLaws.{ends_within}
 use Rattle.graph_text.proofs.Around.{held, leads_items, leads_places}
 
-module _ (gate : GateRules) (state : State) (graph : ItemGraph) (is : IsGraphOf gate state graph) where
+module _ (gate : GateRules) (state : State) (graph : ItemGraph) (is : IsGraphOf gate state graph) (whole : AreItems state graph.items) where
   leads_there : (place : ℕ) (item other : Item) → IsAt graph.items place item → LeadsTo (IsDependency gate state) item other → (end : ℕ) × IsAt graph.items end other
   leads_there place item other here (zero, same) = (place, subst (IsAt graph.items place) same here)
   leads_there place item other here (suc n, walk) =
-      let next = at_Contains graph.items walk.0 (held gate state graph is item walk.0 walk.1) in
+      let next = at_Contains graph.items walk.0 (held gate state graph is whole item walk.0 walk.1) in
       leads_there next.0 walk.0 other next.1 (n, walk.2)
 
   module _ (place first : ℕ) (item leader : Item) (here : IsAt graph.items place item) (there : IsAt graph.items first leader) (is_first : IsFirst graph.ends place first) where
@@ -32,8 +32,8 @@ module _ (gate : GateRules) (state : State) (graph : ItemGraph) (is : IsGraphOf 
     not_earlier other together less =
         let at = leads_there place item other here together.forth in
         let places : AreTogether (HasEdge graph.ends) place at.0 = record {
-          forth = leads_places gate state graph is place at.0 item other here at.1 together.forth;
-          back = leads_places gate state graph is at.0 place other item at.1 here together.back;
+          forth = leads_places gate state graph is whole place at.0 item other here at.1 together.forth;
+          back = leads_places gate state graph is whole at.0 place other item at.1 here together.back;
         } in
         elim (cases_lt at.0 first) [
           | inl before ↦ is_first.least at.0 places (nat_cmp-less at.0 first before)
@@ -48,8 +48,8 @@ module _ (gate : GateRules) (state : State) (graph : ItemGraph) (is : IsGraphOf 
     pub first_item : IsLeast item_cmp (AreTogether (IsDependency gate state) item) leader
     first_item = record {
       here = record {
-        forth = leads_items gate state graph is place first item leader here there is_first.here.forth;
-        back = leads_items gate state graph is first place leader item there here is_first.here.back;
+        forth = leads_items gate state graph is whole place first item leader here there is_first.here.forth;
+        back = leads_items gate state graph is whole first place leader item there here is_first.here.back;
       };
       least = not_earlier;
     }

@@ -7,13 +7,9 @@ use Rattle.std.proofs.lemmas.Bool.{lt-ltb}
 use Rattle.std.proofs.lemmas.List.{take_all, take_more}
 use Rattle.std.proofs.lemmas.List.Elements.{Contains-push, Contains-push_cases, Contains-append_left}
 use Rattle.std.proofs.lemmas.Map.Keys.{sorted_from_strictly_increasing, IsStrictlyIncreasing-from_sorted}
-use Rattle.lattice_core.specs.MemberLaws.{Contains-none, sorted_push}
+use Rattle.lattice_core.specs.MemberLaws.{sorted_push}
 use Rattle.lattice_core.specs.PlaceLaws.{earlier_or_same}
 use Rattle.graph_text.specs.Places.{AreKept}
-
-none_sorted : IsStrictlySortedBy nat_cmp []
-unfolding IsStrictlySortedBy
-none_sorted = tt
 
 less_is : (m n : ℕ) → m < n → nat_cmp m n ≡ Less
 less_is m n h = ap (λ b. cond b Less (cond (eqb m n) Equal Greater)) (lt-ltb m n h)
@@ -27,12 +23,6 @@ abbrev pub Grows : (ℕ → Type 0) → (ℕ → Type 0) → ℕ → Type 0
 Grows Q R n = (m : ℕ) → R m ↔ (Q m ⊎ (m ≡ n))
 
 module _ (P : ℕ → Type 0) where
-  pub kept_none : (Q : ℕ → Type 0) → ((m : ℕ) → ¬ Q m) → (kept : List ℕ) → kept ≡ [] → AreKept Q P kept
-  kept_none Q none kept is = record {
-    increasing = subst IsStrictlyIncreasing (sym is) (IsStrictlyIncreasing-from_sorted [] none_sorted);
-    each = λ m. (λ c. absurd (Contains-none m (subst (λ l. Contains l m) is c)), λ has. absurd (none m has.0));
-  }
-
   module _ (Q R : ℕ → Type 0) (kept : List ℕ) (n : ℕ) (are : AreKept Q P kept) (grows : Grows Q R n) where
     pub kept_skips : ¬ P n → AreKept R P kept
     kept_skips not = record {

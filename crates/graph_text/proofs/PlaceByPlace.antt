@@ -14,7 +14,7 @@ use Rattle.ready_core.specs.declared.verdicts.Left.{Left}
 use Rattle.graph_text.specs.Drawing.{AreAllUnknown}
 use Rattle.graph_text.specs.declared.node.Node.{Node}
 use Rattle.graph_text.specs.Places.{AreNodesTo, IsNodeAt, IsShown}
-use Rattle.graph_text.proofs.Kept.{below_grows, kept_none, kept_skips, kept_takes}
+use Rattle.graph_text.proofs.Kept.{below_grows, kept_skips, kept_takes}
 
 zip_push : {X Y : Type 0} (R : X → Y → Type 0) (xs : List X) (ys : List Y) (x : X) (y : Y) → AllZip R xs ys → R x y → AllZip R (xs ++ x ∷ []) (ys ++ y ∷ [])
 zip_push R [] [] x y all r = (r, tt)
@@ -22,17 +22,7 @@ zip_push R [] (b ∷ ys) x y all r = absurd all
 zip_push R (a ∷ xs) [] x y all r = absurd all
 zip_push R (a ∷ xs) (b ∷ ys) x y all r = (all.0, zip_push R xs ys x y all.1 r)
 
-none_below : (m : ℕ) → ¬ (m < 0)
-none_below m less = absurd (omega (arith, less))
-
 module _ (state : State) (graph : ItemGraph) (out : List Left) (ahead behind : List Bool) (firsts : List ℕ) where
-  pub no_nodes : (nodes : List Node) → nodes ≡ [] → AreNodesTo state graph out ahead behind firsts 0 nodes
-  no_nodes nodes is = record {
-    places = [];
-    kept = kept_none (IsShown state graph.items ahead behind) (λ m. m < 0) none_below [] refl;
-    nodes_at = subst (AllZip (IsNodeAt state graph out ahead behind firsts) []) (sym is) tt;
-  }
-
   module _ (count : ℕ) (nodes : List Node) (are : AreNodesTo state graph out ahead behind firsts count nodes) where
     pub node_less : ¬ IsShown state graph.items ahead behind count → AreNodesTo state graph out ahead behind firsts (count + 1) nodes
     node_less not = record {

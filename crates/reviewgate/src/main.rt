@@ -26,15 +26,18 @@ mod why;
 #[cfg(test)]
 mod why_tests;
 
-use byte_ends::{Drain, Ends};
+use byte_ends::{Drain, Ends, write_all};
 use command_line::Command;
 use console::{Refusal, SystemFiles};
 use events::events;
 use run::{report, run_words};
+use serve_command::{Ended, serve};
+use site_serve::ServeFault;
 use std::alloc::Global;
 use std::env::Env;
-use std::io::ErrorKind;
+use std::io::{ErrorKind, Input, Print};
 use std::process::ExitCode;
+use std::rt::Files;
 use std::{env, io};
 
 /// What is wrong with words that are no text.
@@ -45,24 +48,64 @@ fn main(rt: HostRuntime) -> ExitCode {
     let mut errors = Ends::new(rt.stderr());
     let status = match words_of(&rt) {
         Ok(words) => match words.as_slice() {
-            [word] if word.as_str() == "events" => events(
-                alloc,
-                &mut Ends::new(rt.reader()),
-                &mut Ends::new(io::writer(&rt)),
-                &mut errors,
-            ),
-            words => run_words(
-                alloc,
-                words,
-                &mut Ends::new(rt.reader()),
-                &mut Ends::new(io::writer(&rt)),
-                &mut errors,
-                &mut SystemFiles::new(rt),
-            ),
+            [first, rest @ ..] if first.as_str() == "serve" => {
+                let ended = serve(
+                    rt,
+                    alloc,
+                    rest,
+                    Ends::new(rt.reader()),
+                    Ends::new(rt.stderr()),
+                );
+                report_site(alloc, ended, &mut errors)
+            }
+            words => do_words(&rt, alloc, words, &mut errors),
         },
         Err(error) => report_fault(alloc, &error, &mut errors),
     };
     ExitCode::from(status)
+}
+
+/// Feeds Gerrit's lines to a session for `events` alone, or else runs the command that the words ask for. Answers the status.
+fn do_words<R: Files + Input + Print + AllocGlobal, E: Drain>(
+    rt: &R,
+    alloc: Global,
+    words: &[String],
+    errors: &mut E,
+) -> u8 {
+    let mut input = Ends::new(rt.reader());
+    let mut output = Ends::new(io::writer(rt));
+    match words {
+        [word] if word.as_str() == "events" => events(alloc, &mut input, &mut output, errors),
+        _ => run_words(
+            alloc,
+            words,
+            &mut input,
+            &mut output,
+            errors,
+            &mut SystemFiles::new(rt),
+        ),
+    }
+}
+
+/// Reports how `serve` ended. Answers the status: 0 where it ended in order, 2 for words that ask for no site, else 1.
+fn report_site<E: Drain>(alloc: Global, ended: Ended, errors: &mut E) -> u8 {
+    match ended {
+        Ended::Well => 0,
+        Ended::Usage(text) => report(alloc, &Command::Usage(text), &Ok(()), errors),
+        Ended::Refused(refusal) => report(alloc, &Command::NoMemory, &Err(refusal), errors),
+        Ended::Site(fault) => {
+            write_fault(alloc, fault, errors);
+            1
+        }
+    }
+}
+
+/// Writes the line of a site's fault.
+fn write_fault<E: Drain>(alloc: Global, fault: ServeFault, errors: &mut E) {
+    let (number, name) = (fault.number(), fault.name());
+    if let Ok(line) = format!(in alloc; "reviewgate: serve {number} {name}\n") {
+        let _lost = write_all(errors, line.as_bytes());
+    }
 }
 
 /// The words of the command line after the program's name.

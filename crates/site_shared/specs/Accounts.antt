@@ -1,5 +1,5 @@
 -- The account of a running site: what its desk published and holds, and what receipts and windows have seen of that.
-use Rattle.std.specs.Prelude.{◌≡◌, ◌≤◌, ◌<◌, ◌==◌, ◌&&◌, Bool, nat_le, ℕ, List, [], ◌∷◌, ◌++◌, Option, length, take}
+use Rattle.std.specs.Prelude.{◌≡◌, ◌≤◌, ◌<◌, ◌==◌, ◌&&◌, Bool, not, nat_le, ℕ, List, [], ◌∷◌, ◌++◌, Option, length, take}
 use mathlib.Core.List.{IsPrefix}
 use Rattle.logbook.specs.Pages.{Book}
 use Rattle.review_ops.specs.Deed.{Deed, kept_deed}
@@ -8,7 +8,7 @@ use Rattle.review_ops.specs.Good.{IsFaultless}
 use Rattle.review_ops.specs.Operation.{Operation}
 use Rattle.review_ops.specs.Timestamp.{Timestamp}
 use Rattle.replica_core.specs.Clock.{next_of, IsSpent}
-use Rattle.replica_core.specs.Journal.{all_arrived}
+use Rattle.replica_core.specs.Journal.{all_arrived, has}
 use Rattle.site_shared.specs.Publishes.{arrive}
 use Rattle.site_shared.specs.declared.fault.DeskFault.{DeskFault}
 use Rattle.site_shared.specs.declared.fault.DeskFault.TheVariants.{ClockSpent, BadBody, NoMemory}
@@ -106,3 +106,7 @@ RefusesAll old ops fault new = ⊥
 -- whether an operation has a stamp of this site under this start or a later one
 abbrev pub is_used : ℕ → ℕ → Operation → Bool
 is_used site start op = op.stamp.site == site && nat_le start op.stamp.start
+
+-- whether it has such a stamp, though the journal hasn't got it: another process takes in as this site
+abbrev pub is_foreign : ℕ → ℕ → List Operation → Operation → Bool
+is_foreign site start journal op = is_used site start op && not (has journal op)

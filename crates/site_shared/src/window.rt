@@ -2,6 +2,7 @@
 
 ghost use Rattle.std.specs.Prelude.{◌≡◌, ◌⊎◌, ◌<◌, ◌↔◌, List, Err, IfErr, IfNone, IfOk, IfSome, IsOk, MatchBool, OnErr, OnOk, Some, length, nat_lt, take};
 ghost use Rattle.std.specs.Arc.{arc_value};
+ghost use Rattle.std.specs.List.{list_any};
 ghost use mathlib.Core.List.{IsPrefix};
 ghost use Rattle.left_right.specs.Sides.{view};
 ghost use Rattle.ready_core.specs.Verdicts.{AreVerdicts};
@@ -9,6 +10,7 @@ ghost use Rattle.replica_core.specs.Front.{IsFront};
 ghost use Rattle.replica_core.specs.Journal.{has_stamp};
 ghost use Rattle.replica_core.specs.Missing.{IsMissing};
 ghost use Rattle.review_ops.specs.Operation.{Operation};
+ghost use Rattle.site_shared.specs.Accounts.{is_foreign};
 ghost use Rattle.site_shared.specs.Pauses.{Pauses};
 ghost use Rattle.site_shared.specs.Publishes.{arrive};
 ghost use Rattle.state_core.specs.State.{state_of};
@@ -21,7 +23,7 @@ use crate::sight::Sight;
 use gate_rules::Gate;
 use ready_core::{Verdicts, evaluate};
 use replica_core::{Front, Missing, Replica};
-use review_ops::Stamp;
+use review_ops::{Op, Stamp};
 use std::alloc::AllocError;
 use std::marker::Model;
 
@@ -144,6 +146,23 @@ impl Window {
         Ok(found)
     }
 
+    /// Whether one of the operations bears the window's own site, and its start or a later one, though the journal hasn't
+    /// got it: then another process takes in as this site. Takes no memory, and for each operation time logarithmic in the
+    /// rows and in the operations of its row.
+    pub fn has_foreign(&mut self, ops: &[Op]) -> Result<bool, WindowFault>
+        ensures later { GoesOn self.old self.new }
+        ensures ok { IfOk result (λ found. found ≡ list_any (is_foreign self.old.site self.old.start (arrive self.new.seen)) ops.now) }
+        ensures closed { IfErr result (λ fault. (fault ≡ Closed) × (self.new ≡ self.old)) }
+    {
+        let (site, start) = (self.site, self.start);
+        let Some(look) = self.enter() else {
+            return Err(WindowFault::Closed);
+        };
+        let found = is_any_foreign(&look.get().replica, ops, site, start);
+        self.leave(look);
+        Ok(found)
+    }
+
     /// How far the journal goes without a gap. Grows with the pairs of a site and a start.
     pub fn front(&mut self) -> Result<Front, WindowFault>
         ensures later { GoesOn self.old self.new }
@@ -217,4 +236,13 @@ impl Window {
     {
         self.glass = Some(look.leave());
     }
+}
+
+/// Whether one of the operations bears the site and the start or a later one, though the replica hasn't got it.
+fn is_any_foreign(replica: &Replica, ops: &[Op], site: u16, start: u32) -> bool
+    ensures { result ≡ list_any (is_foreign site start replica.now) ops.now }
+{
+    ops.iter().any(|op| {
+        op.stamp().site() == site && start <= op.stamp().start() && !replica.has(op)
+    })
 }

@@ -12,11 +12,11 @@ use Rattle.graph_text.proofs.picture.graph_text.Goals as goal
 pub near_of-requires : goal.near_of-requires
 near_of-requires c =
     let graph = c.in_ok-graph.graph in
-    ends_within (IsDependency c.args.gate.now c.args.state.now) graph.items graph.ends c.in_ok-graph.ensures.ends
+    ends_within (IsDependency c.args.gate.now c.args.state.now) graph.items graph.ends c.in_ok-graph.ensures.graph.ends
 
 pub nodes_of-requires-clause-sides : goal.nodes_of-requires-clause-sides
 nodes_of-requires-clause-sides c =
-    graph_sides c.args.gate.now c.args.state.now c.in_ok-graph.graph c.in_ok-graph.ensures c.args.around _ _ c.in_ok-near.ensures.ahead c.in_ok-near.ensures.behind
+    graph_sides c.args.gate.now c.args.state.now c.in_ok-graph.graph c.in_ok-graph.ensures.graph c.in_ok-graph.ensures.whole c.args.around _ _ c.in_ok-near.ensures.ahead c.in_ok-near.ensures.behind
 
 pub returns : goal.returns
 returns c =
@@ -29,7 +29,7 @@ returns c =
       verdicts = c.in_ok-verdicts.verdicts;
       judged = c.in_ok-verdicts.ensures;
       nodes = nodes;
-      drawn = nodes_drawn gate state c.in_ok-graph.graph c.in_ok-graph.ensures c.args.around _ _ c.in_ok-near.ensures.ahead c.in_ok-near.ensures.behind c.in_ok-verdicts.verdicts c.in_ok-verdicts.ensures nodes c.in_ok-nodes.ensures;
+      drawn = nodes_drawn gate state c.in_ok-graph.graph c.in_ok-graph.ensures.graph c.in_ok-graph.ensures.whole c.args.around _ _ c.in_ok-near.ensures.ahead c.in_ok-near.ensures.behind c.in_ok-verdicts.verdicts c.in_ok-verdicts.ensures nodes c.in_ok-nodes.ensures;
       unknown = unknown;
       all_unknown = subst (λ (l : List Node). AreAllUnknown l unknown) c.as_slice.ensures.value c.in_ok-unknown.ensures;
       lines = lines ∙ ap (λ l. graph_lines l c.as_slice-3.result.now) c.as_slice-2.ensures.value ∙ ap (graph_lines nodes) c.as_slice-3.ensures.value;

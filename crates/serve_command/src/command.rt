@@ -1,0 +1,245 @@
+//! Runs a site over sockets of this machine, as the words of the command line ask for.
+
+use super::input_end::stop_with_input;
+use super::output::PatientOutput;
+use super::save::save;
+use byte_ends::{Drain, Ends, Source, write_all};
+use console::{Console, Named, Refusal, Streams, SystemFiles, read_gate, read_snapshot};
+use gate_rules::Gate;
+use replica_core::Replica;
+use serve_words::{ServeWords, Serving, read_serve_words};
+use site_net::Stop;
+use site_serve::{ServeFault, Served, Setup, Turn, serve_run};
+use std::alloc::Global;
+use std::io;
+use std::io::Print;
+use std::net::{Net, TcpListener, TcpStream};
+use std::rt::Files;
+use std::sync::{Arc, Wait};
+use std::thread::Threads;
+use std::time::Clock;
+
+/// How `serve` ended.
+#[derive(Drop)]
+pub enum Ended {
+    /// In order; or its help was printed.
+    Well,
+    /// The words ask for no site: what is wrong with them.
+    Usage(String),
+    /// Its gate file, its snapshot or its output, or memory.
+    Refused(Refusal),
+    /// The site itself.
+    Site(ServeFault),
+}
+
+/// Nothing is done before and after a session.
+#[derive(Drop)]
+struct NoTurn;
+
+impl Turn for NoTurn {
+    fn enter(&self, _session: u64) {}
+
+    fn left(&self, _session: u64) {}
+}
+
+/// Runs the site that the words after `serve` ask for. It reads and judges the gate file and then the snapshot, if one is
+/// named, asks whether the start was used, binds, prints `listening P`, runs the site and saves what it has. What is wrong
+/// while it runs is written to `errors`.
+pub fn serve<R, I, E>(rt: R, alloc: Global, words: &[String], input: I, errors: E) -> Ended
+where
+    R: Net<Listener = TcpListener, Stream = TcpStream>,
+    R: Files + Print + Threads + Wait + Clock + AllocGlobal,
+    R: Copy + Send + Sync + 'static,
+    I: Source + Send + Drop + 'static,
+    E: Drain + Send + Drop,
+{
+    match read_serve_words(alloc, words) {
+        ServeWords::Serve(serving) => match run_site(rt, alloc, serving, input, errors) {
+            Ok(()) => Ended::Well,
+            Err(ended) => ended,
+        },
+        ServeWords::Help(text) => match write_all(
+            &mut Ends::new(io::writer(&rt)),
+            text.as_bytes(),
+        ) {
+            Ok(()) => Ended::Well,
+            Err(_) => Ended::Refused(Refusal::Output),
+        },
+        ServeWords::Usage(text) => Ended::Usage(text),
+        ServeWords::NoMemory => Ended::Refused(Refusal::Memory),
+    }
+}
+
+/// Runs a site, from its inputs to its snapshot.
+fn run_site<R, I, E>(
+    rt: R,
+    alloc: Global,
+    serving: Serving<'_>,
+    input: I,
+    errors: E,
+) -> Result<(), Ended>
+where
+    R: Net<Listener = TcpListener, Stream = TcpStream>,
+    R: Files + Print + Threads + Wait + Clock + AllocGlobal,
+    R: Copy + Send + Sync + 'static,
+    I: Source + Send + Drop + 'static,
+    E: Drain + Send + Drop,
+{
+    let mut input = input;
+    let inputs = read_from(
+        alloc,
+        serving.gate,
+        serving.load,
+        &mut input,
+        &mut Ends::new(io::writer(&rt)),
+        &mut SystemFiles::new(rt),
+    );
+    let (gate, replica) = inputs.map_err(Ended::Refused)?;
+    if is_start_used(&replica, serving.site, serving.start) {
+        return Err(Ended::Site(ServeFault::StartUsed));
+    }
+    let Ok(listener) = TcpListener::bind(&rt, ("127.0.0.1", serving.port)) else {
+        return Err(Ended::Site(ServeFault::NoBind));
+    };
+    say_port(&rt, alloc, &listener)?;
+    let ending = serving.until_input_ends.then_some(input);
+    let stop = stop_of(rt, alloc, ending)?;
+    let name = serving.save;
+    let setup = setup_of(serving, gate, replica);
+    let output = output_of(rt, alloc, &stop)?;
+    match serve_run(&rt, alloc, listener, setup, &stop, output, errors, &NoTurn) {
+        Ok(served) => keep(&rt, alloc, name, &served),
+        Err(fault) => Err(Ended::Site(fault)),
+    }
+}
+
+/// The output that its reports are printed to.
+fn output_of<R: Print + Threads + Wait + Clock + Copy + Send + 'static>(
+    rt: R,
+    alloc: Global,
+    stop: &Arc<Stop, Global>,
+) -> Result<Ends<PatientOutput<R>>, Ended> {
+    let Ok(theirs) = Arc::try_clone(stop) else {
+        return Err(Ended::Site(ServeFault::NoMemory));
+    };
+    match PatientOutput::new(rt, alloc, theirs) {
+        Ok(Some(output)) => Ok(Ends::new(output)),
+        Ok(None) => Err(Ended::Site(ServeFault::NoPlace)),
+        Err(_) => Err(Ended::Site(ServeFault::NoMemory)),
+    }
+}
+
+/// What a site is run with.
+fn setup_of(serving: Serving<'_>, gate: Gate, replica: Replica) -> Setup {
+    let Serving {
+        peers,
+        site,
+        start,
+        workers,
+        pause_ms,
+        sessions,
+        idle_ms,
+        ..
+    } = serving;
+    Setup {
+        gate,
+        replica,
+        site,
+        start,
+        peers,
+        workers,
+        pause_ms,
+        sessions,
+        idle_ms,
+    }
+}
+
+/// The wish to stop, which comes with the end of the input where there is one.
+fn stop_of<R, I>(rt: R, alloc: Global, input: Option<I>) -> Result<Arc<Stop, Global>, Ended>
+where
+    R: Threads + Wait + Copy + Send + 'static,
+    I: Source + Send + Drop + 'static,
+{
+    let Ok(stop) = Arc::new(alloc, Stop::new()) else {
+        return Err(Ended::Site(ServeFault::NoMemory));
+    };
+    if let Some(input) = input {
+        let Ok(theirs) = Arc::try_clone(&stop) else {
+            return Err(Ended::Site(ServeFault::NoMemory));
+        };
+        if !stop_with_input(rt, alloc, input, theirs) {
+            return Err(Ended::Site(ServeFault::NoPlace));
+        }
+    }
+    Ok(stop)
+}
+
+/// The gate, and the record to begin with, from these ends.
+fn read_from<I: Source, O: Drain, N: Named>(
+    alloc: Global,
+    gate: &str,
+    load: Option<&str>,
+    input: &mut I,
+    output: &mut O,
+    files: &mut N,
+) -> Result<(Gate, Replica), Refusal> {
+    let mut console = Streams {
+        input,
+        output,
+        files,
+        is_spent: false,
+    };
+    read_inputs(alloc, gate, load, &mut console)
+}
+
+/// The gate, and the record to begin with.
+fn read_inputs<C: Console>(
+    alloc: Global,
+    gate: &str,
+    load: Option<&str>,
+    console: &mut C,
+) -> Result<(Gate, Replica), Refusal> {
+    let rules = read_gate(alloc, gate, console)?;
+    let replica = match load {
+        Some(name) => read_snapshot(Replica::new(alloc), name, console)?,
+        None => Replica::new(alloc),
+    };
+    Ok((rules, replica))
+}
+
+/// Whether a record has a stamp of the site under this start or a later one.
+fn is_start_used(replica: &Replica, site: u16, start: u32) -> bool {
+    replica.as_slice().iter().any(|op| op.stamp().site() == site && op.stamp().start() >= start)
+}
+
+/// Prints the port at which the site listens.
+fn say_port<R: Print>(rt: &R, alloc: Global, listener: &TcpListener) -> Result<(), Ended> {
+    let Ok(address) = listener.local_addr() else {
+        return Err(Ended::Site(ServeFault::NoBind));
+    };
+    let port = address.port();
+    let Ok(line) = format!(in alloc; "listening {port}\n") else {
+        return Err(Ended::Refused(Refusal::Memory));
+    };
+    match write_all(&mut Ends::new(io::writer(rt)), line.as_bytes()) {
+        Ok(()) => Ok(()),
+        Err(_) => Err(Ended::Refused(Refusal::Output)),
+    }
+}
+
+/// Saves what a site has left, where a name is given, also where a report couldn't be written, or where the site ended
+/// because its start is taken.
+fn keep<R: Files>(rt: &R, alloc: Global, name: Option<&str>, served: &Served) -> Result<(), Ended> {
+    if let Some(name) = name
+        && save(rt, alloc, name, &served.replica).is_err()
+    {
+        return Err(Ended::Site(ServeFault::NoSave));
+    }
+    if served.is_start_taken {
+        Err(Ended::Site(ServeFault::StartTaken))
+    } else if served.written {
+        Ok(())
+    } else {
+        Err(Ended::Refused(Refusal::Output))
+    }
+}

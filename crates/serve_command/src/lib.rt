@@ -1,0 +1,11 @@
+//! `serve`: a site that runs as a program, from its files and its port to its snapshot.
+#![tactic(auto)]
+
+mod command;
+mod input_end;
+mod output;
+mod save;
+#[cfg(test)]
+mod tests;
+
+pub use command::{Ended, serve};

@@ -1,0 +1,9 @@
+//! What the words after `serve` ask for, by `clap`.
+#![tactic(auto)]
+
+mod options;
+#[cfg(test)]
+mod tests;
+mod words;
+
+pub use words::{ServeWords, Serving, read_serve_words};

@@ -1,0 +1,16 @@
+//! The connections of a site: a listener that can be shut from beside, ends that don't wait for ever, and the wish that a site stops.
+#![tactic(auto)]
+
+mod door;
+mod patience;
+mod reader;
+mod stop;
+#[cfg(test)]
+mod tests;
+mod writer;
+
+pub use door::Door;
+pub use patience::{Awaited, Patience};
+pub use reader::PatientReader;
+pub use stop::Stop;
+pub use writer::PatientWriter;

@@ -1,0 +1,65 @@
+//! What the threads of a site say on its error output.
+
+use byte_ends::{Drain, write_all};
+use gossip_line::LineFault;
+use std::alloc::{AllocError, Global};
+use std::sync::{Mutex, Wait};
+
+/// The error output of a site, which its threads share. A line that it doesn't take is lost, and so is one for which memory is refused.
+#[derive(Drop)]
+pub struct Errors<E: Drain> {
+    drain: Mutex<E>,
+}
+
+impl<E: Drain> Errors<E> {
+    /// Over an end that bytes are written to.
+    pub fn new(drain: E) -> Errors<E> {
+        Errors {
+            drain: Mutex::new(drain),
+        }
+    }
+
+    /// Writes that a session ended with a fault.
+    pub fn session_failed(&self, rt: &impl Wait, alloc: Global, fault: LineFault, session: u64) {
+        if let Ok(line) = line_of(alloc, "session", fault.number(), fault.name(), session) {
+            self.write(rt, line.as_str());
+        }
+    }
+
+    /// Writes that every worker answers a session, so that the next one waits.
+    pub fn all_busy(&self, rt: &impl Wait, alloc: Global) {
+        if let Ok(line) = String::from_str(alloc, "reviewgate: workers 1 AllBusy\n") {
+            self.write(rt, line.as_str());
+        }
+    }
+
+    /// Writes that a pull from a peer failed.
+    pub fn pull_failed(&self, rt: &impl Wait, alloc: Global, fault: LineFault, peer: u16) {
+        if let Ok(line) = line_of(alloc, "peer", fault.number(), fault.name(), u64::from(peer)) {
+            self.write(rt, line.as_str());
+        }
+    }
+
+    /// Writes that a peer can't be reached.
+    pub fn not_reached(&self, rt: &impl Wait, alloc: Global, peer: u16) {
+        if let Ok(line) = line_of(alloc, "peer", 8, "Unreachable", u64::from(peer)) {
+            self.write(rt, line.as_str());
+        }
+    }
+
+    fn write(&self, rt: &impl Wait, line: &str) {
+        let mut drain = self.drain.lock(rt);
+        let _lost = write_all(&mut *drain, line.as_bytes());
+    }
+}
+
+/// The line of a fault, and of what it is about.
+fn line_of(
+    alloc: Global,
+    part: &str,
+    number: u8,
+    name: &str,
+    about: u64,
+) -> Result<String, AllocError> {
+    format!(in alloc; "reviewgate: {part} {number} {name} {about}\n")
+}

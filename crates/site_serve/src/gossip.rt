@@ -1,0 +1,134 @@
+//! Pulls from peers, round after round.
+
+use super::errors::Errors;
+use super::port::SitePort;
+use byte_ends::{Drain, Ends};
+use gossip_line::{LineFault, pull_run};
+use site_net::{Patience, PatientReader, PatientWriter, Stop};
+use site_shared::Naming;
+use std::alloc::Global;
+use std::io;
+use std::net::{IpAddr, Ipv4Addr, Net, SocketAddr, TcpStream};
+use std::sync::Wait;
+use std::time::{Clock, Duration};
+
+/// A peer on this machine, and how the last pull from it ended.
+#[derive(Drop)]
+pub struct Peer {
+    pub port: u16,
+    pub condition: Condition,
+}
+
+/// How a pull from a peer ended.
+#[derive(Clone, Copy, PartialEq, Eq)]
+pub enum Condition {
+    Well,
+    Unreachable,
+    Failed(LineFault),
+}
+
+/// What pulls go by.
+#[derive(Clone, Copy)]
+pub struct Pulling<'a> {
+    pub alloc: Global,
+    /// How long to rest between two rounds.
+    pub pause: Duration,
+    pub patience: Patience,
+    pub stop: &'a Stop,
+}
+
+/// Pulls from each peer in turn, with a rest after each round, until the site stops. It asks for that where another process
+/// takes in as this site.
+pub fn pull_from_peers<R: Wait + Clock + Net<Stream = TcpStream>, E: Drain, J: Naming>(
+    rt: &R,
+    pulling: Pulling<'_>,
+    peers: Vec<Peer>,
+    errors: &Errors<E>,
+    port: &mut SitePort<'_, '_, R, J>,
+) {
+    let mut peers = peers;
+    for _ in rt.forever() {
+        pull_round(rt, pulling, peers.as_mut_slice(), errors, port);
+        pulling.stop.rest(rt, pulling.pause);
+        if pulling.stop.is_asked() {
+            return;
+        }
+    }
+    unreachable!()
+}
+
+/// Pulls from each peer once, unless the site stops.
+fn pull_round<R: Wait + Clock + Net<Stream = TcpStream>, E: Drain, J: Naming>(
+    rt: &R,
+    pulling: Pulling<'_>,
+    peers: &mut [Peer],
+    errors: &Errors<E>,
+    port: &mut SitePort<'_, '_, R, J>,
+) {
+    for peer in peers {
+        let condition = pull_from(rt, pulling, peer.port, port);
+        if port.is_start_taken() {
+            pulling.stop.ask(rt);
+        }
+        if pulling.stop.is_asked() {
+            return;
+        }
+        if condition != peer.condition {
+            peer.condition = condition;
+            tell(rt, pulling.alloc, peer, errors);
+        }
+    }
+}
+
+/// Writes what is wrong with a peer.
+fn tell<E: Drain>(rt: &impl Wait, alloc: Global, peer: &Peer, errors: &Errors<E>) {
+    match peer.condition {
+        Condition::Well => {}
+        Condition::Unreachable => errors.not_reached(rt, alloc, peer.port),
+        Condition::Failed(fault) => errors.pull_failed(rt, alloc, fault, peer.port),
+    }
+}
+
+/// Pulls from one peer, and answers how that ended.
+fn pull_from<R: Wait + Clock + Net<Stream = TcpStream>, J: Naming>(
+    rt: &R,
+    pulling: Pulling<'_>,
+    peer: u16,
+    port: &mut SitePort<'_, '_, R, J>,
+) -> Condition {
+    let Ok(stream) = connected(rt, peer, pulling.patience) else {
+        return Condition::Unreachable;
+    };
+    match pull_over(rt, pulling, &stream, port) {
+        Ok(Ok(())) => Condition::Well,
+        Ok(Err(fault)) => Condition::Failed(fault),
+        Err(_) => Condition::Unreachable,
+    }
+}
+
+/// A connection to a peer.
+fn connected<R: Net<Stream = TcpStream>>(
+    rt: &R,
+    peer: u16,
+    patience: Patience,
+) -> io::Result<TcpStream> {
+    let address = SocketAddr::new(IpAddr::V4(Ipv4Addr::LOCALHOST), peer);
+    let stream = TcpStream::connect_timeout(rt, &address, patience.limit)?;
+    stream.set_nodelay(true)?;
+    Ok(stream)
+}
+
+/// Pulls over a connection.
+fn pull_over<R: Wait + Clock, J: Naming>(
+    rt: &R,
+    pulling: Pulling<'_>,
+    stream: &TcpStream,
+    port: &mut SitePort<'_, '_, R, J>,
+) -> io::Result<Result<(), LineFault>> {
+    let mut source = Ends::new(PatientReader::new(rt, stream, pulling.stop, pulling.patience)?);
+    let mut drain = Ends::new(PatientWriter::new(rt, stream, pulling.patience)?);
+    match pull_run(pulling.alloc, &mut source, &mut drain, port) {
+        Ok(_pulled) => Ok(Ok(())),
+        Err(fault) => Ok(Err(fault)),
+    }
+}

@@ -1,0 +1,58 @@
+//! The newest receipt of a site, for the thread that prints its reports.
+
+use site_shared::{Naming, Told};
+use std::alloc::Global;
+use std::sync::{Arc, Condvar, Mutex, Wait};
+
+/// What is new at a site. A newer receipt takes the place of one that nobody has looked at yet, so that whoever brings it never waits.
+#[derive(Drop)]
+pub struct News<J: Naming> {
+    slot: Mutex<Slot<J>>,
+    changed: Condvar,
+}
+
+/// The newest receipt, and whether others may come.
+#[derive(Drop)]
+struct Slot<J: Naming> {
+    newest: Option<Arc<Told<J>, Global>>,
+    is_closed: bool,
+}
+
+impl<J: Naming> News<J> {
+    /// There is nothing new yet.
+    pub fn new() -> News<J> {
+        News {
+            slot: Mutex::new(Slot {
+                newest: None,
+                is_closed: false,
+            }),
+            changed: Condvar::new(),
+        }
+    }
+
+    /// Brings a receipt. Where memory is refused for that, the next one has what it has.
+    pub fn bring(&self, rt: &impl Wait, receipt: &Arc<Told<J>, Global>) {
+        let Ok(newest) = Arc::try_clone(receipt) else {
+            return;
+        };
+        let mut slot = self.slot.lock(rt);
+        slot.newest = Some(newest);
+        self.changed.notify_all();
+    }
+
+    /// Nothing new comes any more.
+    pub fn close(&self, rt: &impl Wait) {
+        let mut slot = self.slot.lock(rt);
+        slot.is_closed = true;
+        self.changed.notify_all();
+    }
+
+    /// Waits for the newest receipt that nobody has looked at; none once nothing new comes any more.
+    pub fn newest(&self, rt: &impl Wait) -> Option<Arc<Told<J>, Global>> {
+        let slot = self.slot.lock(rt);
+        let mut slot = self
+            .changed
+            .wait_while(rt, slot, |slot| slot.newest.is_none() && !slot.is_closed);
+        slot.newest.take()
+    }
+}

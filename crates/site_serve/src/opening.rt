@@ -1,0 +1,129 @@
+//! What belongs to one opening of a site. That a receipt which a window is handed comes from the window's own opening is
+//! said by their types.
+
+ghost use Rattle.std.specs.Prelude.{◌≡◌, IfOk, List, length, nat_lt, take};
+ghost use Rattle.std.specs.List.{list_any};
+ghost use Rattle.ready_core.specs.Verdicts.{AreVerdicts};
+ghost use Rattle.replica_core.specs.Front.{IsFront};
+ghost use Rattle.replica_core.specs.Missing.{IsMissing};
+ghost use Rattle.review_ops.specs.Operation.{Operation};
+ghost use Rattle.site_shared.specs.Accounts.{GoesOn, is_foreign};
+ghost use Rattle.site_shared.specs.Publishes.{arrive};
+ghost use Rattle.state_core.specs.State.{state_of};
+
+use gate_rules::Gate;
+use ready_core::Verdicts;
+use replica_core::{Front, Missing, Replica};
+use review_ops::{Draft, Op};
+use site_shared::{Desk, DeskFault, Naming, Told, Window, WindowFault};
+use std::marker::PhantomData;
+use std::sync::Wait;
+
+/// A window of the opening.
+#[derive(Drop)]
+pub struct OwnWindow<J: Naming> {
+    window: Window,
+    of: PhantomData<J>,
+    ghost ours: { window.book ≡ J.book },
+}
+
+impl<J: Naming> OwnWindow<J> {
+    /// The window, of this opening.
+    pub fn new(window: Window) -> OwnWindow<J>
+        requires { window.book ≡ J.book }
+    {
+        OwnWindow {
+            window,
+            of: PhantomData,
+        }
+    }
+
+    /// Sees no less than the publish that the receipt was answered for, from now on.
+    pub fn learn(&mut self, told: &Told<J>)
+        ensures { GoesOn self.old.window self.new.window }
+    {
+        let _own = self.window.learn(told.receipt());
+    }
+
+    /// Which items are ready, and why each other one isn't.
+    pub fn report(&mut self, gate: &Gate) -> Result<Verdicts, WindowFault>
+        ensures later { GoesOn self.old.window self.new.window }
+        ensures ok { IfOk result (AreVerdicts gate.now (state_of (arrive self.new.window.seen))) }
+    {
+        self.window.report(gate)
+    }
+
+    /// How far the record goes without a gap.
+    pub fn front(&mut self) -> Result<Front, WindowFault>
+        ensures later { GoesOn self.old.window self.new.window }
+        ensures ok { IfOk result (IsFront (arrive self.new.window.seen)) }
+    {
+        self.window.front()
+    }
+
+    /// The first operations that a front lacks.
+    pub fn missing(&mut self, front: &Front, limit: usize) -> Result<Missing, WindowFault>
+        ensures later { GoesOn self.old.window self.new.window }
+        ensures ok { IfOk result (λ missing. (all : List Operation) × IsMissing (arrive self.new.window.seen) front.now all
+            × (missing.ops.items ≡ take limit all) × (missing.more ≡ nat_lt limit (length all))) }
+    {
+        self.window.missing(front, limit)
+    }
+
+    /// Whether an operation bears the site's number, and its start or a later one, though the record hasn't got it.
+    pub fn has_foreign(&mut self, ops: &[Op]) -> Result<bool, WindowFault>
+        ensures later { GoesOn self.old.window self.new.window }
+        ensures ok { IfOk result (λ found. found
+            ≡ list_any (is_foreign self.old.window.site self.old.window.start (arrive self.new.window.seen)) ops.now) }
+    {
+        self.window.has_foreign(ops)
+    }
+
+    /// A copy of the record.
+    pub fn snapshot(&mut self) -> Result<Replica, WindowFault>
+        ensures later { GoesOn self.old.window self.new.window }
+        ensures ok { IfOk result (λ copied. copied ≡ arrive self.new.window.seen) }
+    {
+        self.window.snapshot()
+    }
+}
+
+/// The desk of the opening.
+pub struct OwnDesk<J: Naming> {
+    desk: Desk,
+    of: PhantomData<J>,
+    ghost ours: { desk.book ≡ J.book },
+}
+
+impl<J: Naming> OwnDesk<J> {
+    /// The desk, of this opening.
+    pub fn new(desk: Desk) -> OwnDesk<J>
+        requires { desk.book ≡ J.book }
+    {
+        OwnDesk {
+            desk,
+            of: PhantomData,
+        }
+    }
+
+    /// Stamps a body and publishes it.
+    pub fn intake<R: Wait>(&mut self, rt: &R, draft: Draft) -> Result<Told<J>, DeskFault> {
+        Ok(Told::new(self.desk.intake(rt, draft)?))
+    }
+
+    /// Publishes operations.
+    pub fn take_all<R: Wait>(&mut self, rt: &R, ops: Vec<Op>) -> Result<Told<J>, DeskFault> {
+        Ok(Told::new(self.desk.take_all(rt, ops)?))
+    }
+
+    /// Publishes what is held.
+    pub fn flush<R: Wait>(&mut self, rt: &R) -> Result<Told<J>, DeskFault> {
+        Ok(Told::new(self.desk.flush(rt)?))
+    }
+
+    /// Ends the desk.
+    pub fn end<R: Wait>(self, rt: &R) {
+        let OwnDesk { desk, of: _ } = self;
+        desk.end(rt);
+    }
+}

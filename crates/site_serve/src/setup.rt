@@ -1,0 +1,97 @@
+//! What a site is run with, and how it ends.
+
+use gate_rules::Gate;
+use replica_core::Replica;
+use thiserror::Error;
+
+/// What a site is run with.
+#[derive(Drop)]
+pub struct Setup {
+    /// What its reports are made under.
+    pub gate: Gate,
+    /// What it has at first.
+    pub replica: Replica,
+    /// Its number, from 1.
+    pub site: u16,
+    /// The start of what it takes in, above every start that it ever ran under.
+    pub start: u32,
+    /// The ports of its peers on this machine.
+    pub peers: Vec<u16>,
+    /// How many sessions it answers side by side, from 1 to 6: none is as 1, and more are as 6.
+    pub workers: usize,
+    /// How many milliseconds pass between two rounds of pulls.
+    pub pause_ms: u64,
+    /// After how many sessions it ends; without end where that is 0.
+    pub sessions: u64,
+    /// How many milliseconds a session may send no whole line; without end where that is 0.
+    pub idle_ms: u64,
+}
+
+/// What a site that ended leaves.
+#[derive(Drop)]
+pub struct Served {
+    /// All that it had.
+    pub replica: Replica,
+    /// Whether every report was written.
+    pub written: bool,
+    /// Whether it ended because another process runs as this site, under this start or a later one.
+    pub is_start_taken: bool,
+}
+
+/// Why a site doesn't run, or doesn't run to its end: `serve_run` answers 2 to 4, and who calls it the others.
+#[derive(Clone, Copy, Debug, PartialEq, Eq, Error)]
+pub enum ServeFault {
+    /// 1: the port can't be listened at.
+    #[error("the port can't be listened at")]
+    NoBind,
+    /// 2: the record has a stamp of the site under this start or a later one.
+    #[error("the start was used before")]
+    StartUsed,
+    /// 3: memory was refused.
+    #[error("no memory")]
+    NoMemory,
+    /// 4: the system refused a thread or a place for one.
+    #[error("no place")]
+    NoPlace,
+    /// 5: what the site has couldn't be saved.
+    #[error("the record couldn't be saved")]
+    NoSave,
+    /// 8: another process runs as this site under this start or a later one.
+    #[error("another process runs under this site's number and start")]
+    StartTaken,
+}
+
+impl ServeFault {
+    /// The fault's number.
+    pub fn number(&self) -> u8 {
+        match self {
+            ServeFault::NoBind => 1,
+            ServeFault::StartUsed => 2,
+            ServeFault::NoMemory => 3,
+            ServeFault::NoPlace => 4,
+            ServeFault::NoSave => 5,
+            ServeFault::StartTaken => 8,
+        }
+    }
+
+    /// The fault's name.
+    pub fn name(&self) -> &'static str {
+        match self {
+            ServeFault::NoBind => "NoBind",
+            ServeFault::StartUsed => "StartUsed",
+            ServeFault::NoMemory => "NoMemory",
+            ServeFault::NoPlace => "NoPlace",
+            ServeFault::NoSave => "NoSave",
+            ServeFault::StartTaken => "StartTaken",
+        }
+    }
+}
+
+/// What is called before and after each session, by the worker that answers it. Sessions are numbered from 1, as they are accepted.
+pub trait Turn {
+    /// The session is answered from now on.
+    fn enter(&self, session: u64);
+
+    /// The session has ended.
+    fn left(&self, session: u64);
+}
