@@ -1,3 +1,6 @@
 pub mod Untouched
 pub mod Touched
 pub mod BroughtUp
+pub mod Asked
+pub mod Watching
+pub mod KeptOwns

@@ -1,5 +1,6 @@
 -- What operations that come to a journal touch, and what waits for that.
-use Rattle.std.specs.Prelude.{◌≡◌, ℕ, Bool, List, Contains}
+use Rattle.std.specs.Prelude.{◌≡◌, ◌==◌, ℕ, Bool, List, Contains}
+use Rattle.std.specs.List.{list_any}
 use Rattle.review_ops.specs.Deed.{change_of}
 use Rattle.review_ops.specs.Operation.{Operation}
 use Rattle.walk_core.specs.Walks.{IsOfKind}
@@ -13,6 +14,10 @@ pub record IsTouched (later : List Operation) (number : ℕ) : Type 0 where
   pub op : Operation
   pub there : Contains later op
   pub on : change_of op.deed ≡ number
+
+-- the same, as a test
+abbrev pub touches : List Operation → ℕ → Bool
+touches later number = list_any (λ op. change_of op.deed == number) later
 
 -- the items hold those of the touched changes, those that waited for a touched change, known or not, before the operations came, and those that
 -- waited for one of the items
