@@ -1,0 +1,3 @@
+mod Registers
+mod Alike
+mod After

@@ -1,0 +1,11 @@
+//! What a record says already, so that a feed needn't send it again: the same commit of a patch set, the same score of a voter, where a withdrawn
+//! vote is none and none is one of 0, and the same status.
+#![tactic(auto)]
+
+mod laws;
+mod said;
+#[cfg(test)]
+mod tests;
+
+pub use laws::{what_is_said_changes_no_view, what_is_taken_in_is_said};
+pub use said::is_said;
