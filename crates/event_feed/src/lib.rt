@@ -17,3 +17,4 @@ mod texts;
 
 pub use fault::FeedFault;
 pub use feed::events_run;
+pub use texts::fault_line;

@@ -1,5 +1,6 @@
 mod WrittenLines
 mod HowItEnds
+mod OfRecord
 mod Merged
 mod Played
 mod Simulated

@@ -1,13 +1,12 @@
 -- A script is played step by step, and what the steps print is printed one after the other.
-use Rattle.std.proofs.Common.{◌≡◌, inl, inr, ℕ, ◌+◌, ◌<◌, List, [], ◌∷◌, ◌++◌, append-nil, append_assoc, length, take, Option, None, Some, Ok, Err, refl, ap, sym, ◌∙◌, subst, arith}
+use Rattle.std.proofs.Common.{◌≡◌, inl, inr, ℕ, ◌+◌, List, [], ◌∷◌, ◌++◌, append-nil, append_assoc, length, take, Option, None, Some, Ok, Err, refl, ap, sym, ◌∙◌, subst, arith}
 use Rattle.std.specs.Io.KnownBytes.{Appends}
 use Rattle.std.proofs.Math.Seq.{take-append-add}
 use Rattle.std.proofs.lemmas.List.{length-append}
 use Rattle.world_core.specs.World.{WorldState, new_world}
-use Rattle.script_text.specs.declared.fault.ScriptFault.TheVariants.{BadLine, NoMemory}
+use Rattle.script_text.specs.declared.fault.ScriptFault.TheVariants.{NoMemory}
 use Rattle.script_text.specs.declared.script.Step.{Step}
-use Rattle.script_play.specs.Playing.{IsRunText, Plays, PlaysStep}
-use Rattle.console.specs.Printing.{Ended}
+use Rattle.script_play.specs.Playing.{Plays, PlaysStep}
 use Rattle.reviewgate.specs.Answers.{IsPlayed}
 use Rattle.console.specs.Console.{ConsoleState, IsCutShort, IsPrinted, one_more}
 use Rattle.console.specs.Printing.{Prints}

@@ -1,5 +1,5 @@
 -- A command keeps to the three ends of its console.
-use Rattle.std.proofs.Common.{◌≡◌, ◌∙◌, ap, inl, inr, true, false, ℕ, List, [], ◌∷◌, Option, None, Some, Ok, Err, refl}
+use Rattle.std.proofs.Common.{◌≡◌, ◌∙◌, ap, inl, inr, true, false, ℕ, List, [], ◌∷◌, Some, Ok, Err, refl}
 use Rattle.std.specs.Prelude.{if◌then◌else◌}
 use Rattle.byte_ends.specs.declared.faults.BytesFault.{BytesFault}
 use Rattle.byte_ends.specs.declared.faults.BytesFault.TheVariants.{TooLong, ReadFault, NoMemory}

@@ -27,79 +27,49 @@ use Rattle.world_core.specs.World.{new_world}
 use Rattle.console.specs.Printing.{Ended}
 use Rattle.console.specs.declared.refusals.Refusal.TheVariants.{Memory, NoItem, Script}
 
--- the answer is so; or memory was refused before anything was printed
-abbrev pub IsWhole : (List ℕ → Type 0) → List ℕ → Ended → Type 0
-IsWhole IsSo answer (Ok done) = IsSo answer
-IsWhole IsSo answer (Err refusal) = (refusal ≡ Memory) × (answer ≡ [])
+-- the answer is printed; or what is asked for isn't there, or memory was refused, before anything was printed
+abbrev pub IsWhole : (List ℕ → Type 0) → Type 0 → List ℕ → Ended → Type 0
+IsWhole IsSo IsMissing answer (Ok done) = IsSo answer
+IsWhole IsSo IsMissing answer (Err NoItem) = IsMissing × (answer ≡ [])
+IsWhole IsSo IsMissing answer (Err refusal) = (refusal ≡ Memory) × (answer ≡ [])
 
--- ---- `ready`: the report of the snapshot's operations under the gate
-
-pub record IsReport (gate snapshot answer : List ℕ) : Type 0 where
+-- the answer is so of the rules that the gate file spells, and of the state of the operations that the snapshot says
+pub record IsOf (gate snapshot : List ℕ) (IsSo : GateRules → State → List ℕ → Type 0) (answer : List ℕ) : Type 0 where
   pub rules : GateRules
   pub spelled : SpellsGate gate rules
   pub ops : List Operation
   pub says : SaysOperations (lines_of snapshot) ops
-  pub verdicts : Judged
-  pub judged : AreVerdicts rules (state_of (all_arrived [] ops)) verdicts
-  pub text : answer ≡ report_of verdicts
+  pub so : IsSo rules (state_of (all_arrived [] ops)) answer
 
--- ---- `why`: why the item waits under the gate, in the snapshot's record
-
-pub record IsReasonIn
-    (gate : List ℕ) (rules : GateRules) (state : State) (change : ℕ) (set : Option ℕ) (answer : List ℕ) : Type 0 where
-  pub item : Item
-  pub asked : IsAsked state change set item
-  pub verdicts : Judged
-  pub judged : AreVerdicts rules state verdicts
-  pub text : IsWhy gate rules state verdicts item answer
-
--- the answer is so of the rules that the gate file spells and the state of the operations that the snapshot says
-pub record IsReason (gate snapshot : List ℕ) (change : ℕ) (set : Option ℕ) (answer : List ℕ) : Type 0 where
-  pub rules : GateRules
-  pub spelled : SpellsGate gate rules
+-- the state of the operations that the snapshot says hasn't got what is asked for
+pub record Lacks (snapshot : List ℕ) (HasIt : State → Type 0) : Type 0 where
   pub ops : List Operation
   pub says : SaysOperations (lines_of snapshot) ops
-  pub reason : IsReasonIn gate rules (state_of (all_arrived [] ops)) change set answer
+  pub none : ¬ HasIt (state_of (all_arrived [] ops))
 
--- the record has no such item
-pub record LacksItem (snapshot : List ℕ) (change : ℕ) (set : Option ℕ) : Type 0 where
-  pub ops : List Operation
-  pub says : SaysOperations (lines_of snapshot) ops
-  pub none : (item : Item) → ¬ IsAsked (state_of (all_arrived [] ops)) change set item
+-- ---- `ready`: the report of the state
 
--- the reason is printed; or there is no such item, or memory was refused, before anything was printed
-abbrev pub IsReasoned : List ℕ → List ℕ → ℕ → Option ℕ → List ℕ → Ended → Type 0
-IsReasoned gate snapshot change set answer (Ok done) = IsReason gate snapshot change set answer
-IsReasoned gate snapshot change set answer (Err NoItem) = LacksItem snapshot change set × (answer ≡ [])
-IsReasoned gate snapshot change set answer (Err refusal) = (refusal ≡ Memory) × (answer ≡ [])
+abbrev pub IsReport : GateRules → State → List ℕ → Type 0
+IsReport rules state answer = (verdicts : Judged) × AreVerdicts rules state verdicts × (answer ≡ report_of verdicts)
 
--- ---- `graph`: the items and what they wait for under the gate, in the snapshot's record
+-- ---- `why`: why an item waits, for which the text of the gate file is looked at, too
 
--- a patch set is known of the change to draw around, where there is one
-abbrev pub IsKnownAround : State → Option ℕ → Type 0
-IsKnownAround state None = Unit {0}
-IsKnownAround state (Some number) = IsKnown state number
+abbrev pub HasItem : ℕ → Option ℕ → State → Type 0
+HasItem change set state = (item : Item) × IsAsked state change set item
 
--- the answer draws the state of the operations that the snapshot says, under the rules that the gate file spells
-pub record IsPicture (gate snapshot : List ℕ) (around : Option ℕ) (answer : List ℕ) : Type 0 where
-  pub rules : GateRules
-  pub spelled : SpellsGate gate rules
-  pub ops : List Operation
-  pub says : SaysOperations (lines_of snapshot) ops
-  pub known : IsKnownAround (state_of (all_arrived [] ops)) around
-  pub drawn : IsGraphText rules (state_of (all_arrived [] ops)) around answer
+abbrev pub IsReason : List ℕ → ℕ → Option ℕ → GateRules → State → List ℕ → Type 0
+IsReason gate change set rules state answer =
+    (item : Item) × (verdicts : Judged) × IsAsked state change set item × AreVerdicts rules state verdicts
+    × IsWhy gate rules state verdicts item answer
 
--- the record has no patch set of the change
-pub record LacksChange (snapshot : List ℕ) (around : Option ℕ) : Type 0 where
-  pub ops : List Operation
-  pub says : SaysOperations (lines_of snapshot) ops
-  pub none : ¬ IsKnownAround (state_of (all_arrived [] ops)) around
+-- ---- `graph`: the items and what they wait for, around a change of which a patch set is known, where one is named
 
--- the picture is printed; or there is no such change, or memory was refused, before anything was printed
-abbrev pub IsPictured : List ℕ → List ℕ → Option ℕ → List ℕ → Ended → Type 0
-IsPictured gate snapshot around answer (Ok done) = IsPicture gate snapshot around answer
-IsPictured gate snapshot around answer (Err NoItem) = LacksChange snapshot around × (answer ≡ [])
-IsPictured gate snapshot around answer (Err refusal) = (refusal ≡ Memory) × (answer ≡ [])
+abbrev pub HasAround : Option ℕ → State → Type 0
+HasAround None state = Unit {0}
+HasAround (Some number) state = IsKnown state number
+
+abbrev pub IsPicture : Option ℕ → GateRules → State → List ℕ → Type 0
+IsPicture around rules state answer = HasAround around state × IsGraphText rules state around answer
 
 -- ---- `merge`: the snapshot of the operations of either, each once, as a grow-only set merges
 

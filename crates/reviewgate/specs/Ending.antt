@@ -1,11 +1,12 @@
 -- The law of all commands. A command is one row in each of two tables: its inputs, in the order in which they are read
 -- and judged, and the answer that it prints where all are had.
-use Rattle.std.specs.Prelude.{◌≡◌, ◌⊎◌, ℕ, List, [], ◌∷◌, IsErrAnd, IsErrOf, IsOk, Option, None, Some, string_bytes}
+use Rattle.std.specs.Prelude.{◌≡◌, ◌⊎◌, ℕ, List, [], ◌∷◌, IsErrAnd, IsErrOf, IsOk, None, Some, string_bytes}
 use Rattle.command_line.specs.declared.words.Command.{Command}
 use Rattle.command_line.specs.declared.words.Command.TheVariants.{Footers, Graph, Help, Merge, NoMemory, Ready, Simulate}
 use Rattle.command_line.specs.declared.words.Command.TheVariants.{Usage, Why}
 use Rattle.console.specs.Printing.{Ended}
-use Rattle.reviewgate.specs.Answers.{AreFooterLines, IsMerged, IsPictured, IsReasoned, IsReport, IsSimulated, IsWhole}
+use Rattle.reviewgate.specs.Answers.{AreFooterLines, HasAround, HasItem, IsMerged, IsOf, IsPicture, IsReason, IsReport}
+use Rattle.reviewgate.specs.Answers.{IsSimulated, IsWhole, Lacks}
 use Rattle.console.specs.Console.{ConsoleState, IsCutShort, IsPrinted}
 use Rattle.console.specs.Inputs.{AreHad, Input, IsFirstRefused, input}
 use Rattle.console.specs.Inputs.{gate_file, message_file, script_file, snapshot_file}
@@ -24,12 +25,14 @@ inputs_of command = []
 -- of these texts the command prints this answer, and ends so once it is printed
 abbrev pub IsAnswer : Command → List (List ℕ) → List ℕ → Ended → Type 0
 IsAnswer (Simulate script gate) (text ∷ gates) answer ended = IsSimulated text gates answer ended
-IsAnswer (Ready gate snapshot) (one ∷ other ∷ []) answer ended = IsWhole (IsReport one other) answer ended
-IsAnswer (Merge first second) (one ∷ other ∷ []) answer ended = IsWhole (IsMerged one other) answer ended
+IsAnswer (Ready gate snapshot) (one ∷ other ∷ []) answer ended = IsWhole (IsOf one other IsReport) ⊥ answer ended
+IsAnswer (Merge first second) (one ∷ other ∷ []) answer ended = IsWhole (IsMerged one other) ⊥ answer ended
 IsAnswer (Footers gate message change) (one ∷ other ∷ []) answer ended =
-    IsWhole (AreFooterLines one other change) answer ended
-IsAnswer (Why gate snapshot change set) (one ∷ other ∷ []) answer ended = IsReasoned one other change set answer ended
-IsAnswer (Graph gate snapshot around) (one ∷ other ∷ []) answer ended = IsPictured one other around answer ended
+    IsWhole (AreFooterLines one other change) ⊥ answer ended
+IsAnswer (Why gate snapshot change set) (one ∷ other ∷ []) answer ended =
+    IsWhole (IsOf one other (IsReason one change set)) (Lacks other (HasItem change set)) answer ended
+IsAnswer (Graph gate snapshot around) (one ∷ other ∷ []) answer ended =
+    IsWhole (IsOf one other (IsPicture around)) (Lacks other (HasAround around)) answer ended
 IsAnswer (Help text) [] answer ended = (answer ≡ string_bytes text) × IsOk ended
 IsAnswer (Usage text) [] answer ended = (answer ≡ []) × IsOk ended
 IsAnswer NoMemory [] answer ended = (answer ≡ []) × IsErrOf ended Memory

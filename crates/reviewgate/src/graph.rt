@@ -2,7 +2,7 @@
 
 ghost use Rattle.std.specs.Prelude.{◌≡◌, ◌⊎◌, ◌↔◌, IfErr, IfOk, IsTrue, string_bytes};
 ghost use Rattle.graph_text.specs.Drawing.{IsGraphText};
-ghost use Rattle.reviewgate.specs.Answers.{IsKnownAround};
+ghost use Rattle.reviewgate.specs.Answers.{HasAround};
 ghost use Rattle.reviewgate.specs.Ending.{Ends};
 
 use command_line::Command;
@@ -46,9 +46,9 @@ fn picture_of(
     state: &State,
     around: Option<u32>,
 ) -> Result<String, Refusal>
-    ensures known { IfOk result (λ text. IsKnownAround state.now around) }
+    ensures known { IfOk result (λ text. HasAround around state.now) }
     ensures drawn { IfOk result (λ text. IsGraphText rules.now state.now around (string_bytes text)) }
-    ensures refused { IfErr result (λ refusal. ((refusal ≡ Refusal.NoItem) × ¬ IsKnownAround state.now around)
+    ensures refused { IfErr result (λ refusal. ((refusal ≡ Refusal.NoItem) × ¬ HasAround around state.now)
         ⊎ (refusal ≡ Refusal.Memory)) }
 {
     if !is_known_around(state, around) {
@@ -62,7 +62,7 @@ fn picture_of(
 
 /// Whether a patch set is known of the change to draw around, where there is one.
 fn is_known_around(state: &State, around: Option<u32>) -> bool
-    ensures { IsTrue result ↔ IsKnownAround state.now around }
+    ensures { IsTrue result ↔ HasAround around state.now }
 {
     match around {
         Some(change) => state.is_known(change),

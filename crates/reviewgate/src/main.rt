@@ -29,15 +29,18 @@ mod why_tests;
 use byte_ends::{Drain, Ends, write_all};
 use command_line::Command;
 use console::{Refusal, SystemFiles};
-use events::events;
+use events::{event_words, events, events_to, report_misuse};
+use feed_client::EventWords;
 use run::{report, run_words};
 use serve_command::{Ended, serve};
 use site_serve::ServeFault;
 use std::alloc::Global;
 use std::env::Env;
 use std::io::{ErrorKind, Input, Print};
+use std::net::{Net, TcpStream};
 use std::process::ExitCode;
 use std::rt::Files;
+use std::time::Clock;
 use std::{env, io};
 
 /// What is wrong with words that are no text.
@@ -65,8 +68,8 @@ fn main(rt: HostRuntime) -> ExitCode {
     ExitCode::from(status)
 }
 
-/// Feeds Gerrit's lines to a session for `events` alone, or else runs the command that the words ask for. Answers the status.
-fn do_words<R: Files + Input + Print + AllocGlobal, E: Drain>(
+/// Feeds Gerrit's lines to a session for `events`, or else runs the command that the words ask for. Answers the status.
+fn do_words<R: Files + Input + Print + AllocGlobal + Clock + Net<Stream = TcpStream>, E: Drain>(
     rt: &R,
     alloc: Global,
     words: &[String],
@@ -74,9 +77,11 @@ fn do_words<R: Files + Input + Print + AllocGlobal, E: Drain>(
 ) -> u8 {
     let mut input = Ends::new(rt.reader());
     let mut output = Ends::new(io::writer(rt));
-    match words {
-        [word] if word.as_str() == "events" => events(alloc, &mut input, &mut output, errors),
-        _ => run_words(
+    match event_words(words) {
+        Some(EventWords::Output) => events(alloc, &mut input, &mut output, errors),
+        Some(EventWords::To(port)) => events_to(rt, alloc, port, &mut input, errors),
+        Some(EventWords::Usage) => report_misuse(errors),
+        Some(EventWords::Help) | None => run_words(
             alloc,
             words,
             &mut input,

@@ -4,7 +4,7 @@ ghost use Rattle.std.specs.Prelude.{◌≡◌, ◌⊎◌, IfErr, IfOk, string_by
 ghost use Rattle.gate_rules.specs.Spelling.{SpellsGate};
 ghost use Rattle.state_core.specs.declared.item.Item.{Item};
 ghost use Rattle.why_text.specs.Asked.{IsAsked};
-ghost use Rattle.reviewgate.specs.Answers.{IsReasonIn};
+ghost use Rattle.reviewgate.specs.Answers.{IsReason};
 ghost use Rattle.reviewgate.specs.Ending.{Ends};
 
 use command_line::Command;
@@ -52,7 +52,7 @@ fn reason_of(
 ) -> Result<String, Refusal>
     requires { SpellsGate file.now.text.items file.now.rules }
     ensures reason { IfOk result
-        (λ text. IsReasonIn file.now.text.items file.now.rules state.now change set (string_bytes text)) }
+        (λ text. IsReason file.now.text.items change set file.now.rules state.now (string_bytes text)) }
     ensures refused { IfErr result (λ refusal.
         ((refusal ≡ Refusal.NoItem) × ((item : Item) → ¬ IsAsked state.now change set item))
         ⊎ (refusal ≡ Refusal.Memory)) }

@@ -1,4 +1,4 @@
-use Rattle.std.proofs.Common.{◌≡◌, ◌∙◌, rules, ap, inl, inr, refl, subst, sym, string_bytes, [], ◌∷◌}
+use Rattle.std.proofs.Common.{◌≡◌, ◌∙◌, rules, inl, inr, refl, subst, sym, string_bytes, [], ◌∷◌}
 use Rattle.std.proofs.lemmas.Result.{err_from_is_err_and}
 use Rattle.std.specs.Prelude.{IsUtf8}
 use Rattle.footer_text.specs.Footers.{AreFooters}
@@ -39,7 +39,7 @@ returns g c =
       g.C.Console.state c.read_message.new.console,
       both_had (input gate_file c.args.gate.now) (input message_file c.args.message.now)
           (λ text. SpellsGate text c.in_ok-rules.rules) (λ text spells. (c.in_ok-rules.rules, spells)) (λ text. text ≡ string_bytes c.in_ok-message.message) (λ text is. subst IsUtf8 (sym (is ∙ text_is)) c.as_str.utf8) _ _ _ first second,
-      finishes (IsWhole (AreFooterLines first.0 second.0 c.args.change)) (footers_text found.0 found.1) _ _ c.print.result
+      finishes (IsWhole (AreFooterLines first.0 second.0 c.args.change) ⊥) (footers_text found.0 found.1) _ _ c.print.result
           (record {
             rules = c.in_ok-rules.rules;
             spelled = first.2;

@@ -1,6 +1,6 @@
-use Rattle.std.proofs.Common.{inl, inr, refl, subst, sym, [], Ok}
+use Rattle.std.proofs.Common.{inl, inr, refl, []}
 use Rattle.command_line.specs.declared.words.Command.TheVariants.{Footers, Help, Merge, NoMemory, Ready, Simulate, Usage, Why}
-use Rattle.reviewgate.specs.Ending.{Ends, IsAnswer}
+use Rattle.reviewgate.specs.Ending.{IsAnswer}
 use Rattle.reviewgate.proofs.HowItEnds.{finishes, nothing_printed}
 use Rattle.reviewgate.proofs.run.do_command.Goals as goal
 

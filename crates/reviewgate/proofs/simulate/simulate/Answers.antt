@@ -1,4 +1,4 @@
-use Rattle.std.proofs.Common.{◌≡◌, ◌∙◌, rules, inl, subst}
+use Rattle.std.proofs.Common.{◌≡◌, rules, inl, subst}
 use Rattle.std.proofs.lemmas.Result.{err_from_is_err_and}
 use Rattle.std.specs.Option.{option_copied}
 use Rattle.reviewgate.specs.Answers.{IsPlayedText}

@@ -1,0 +1,4 @@
+mod Handed
+mod Meeting
+mod Stepping
+mod Turning

@@ -1,0 +1,5 @@
+pub mod Fault
+pub mod Refusals
+pub mod Copies
+pub mod Meeting
+pub mod Feeding

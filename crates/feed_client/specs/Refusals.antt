@@ -1,0 +1,34 @@
+-- What a session answers to a body.
+use Rattle.std.specs.Prelude.{◌≡◌, ◌++◌, ℕ, List, Result, Ok, Err, codes}
+use Rattle.review_ops.specs.Timestamp.{Timestamp, timestamp_text}
+use Rattle.feed_client.specs.declared.intake.Refusal.{Refusal}
+use Rattle.feed_client.specs.declared.intake.Refusal.TheVariants.{NoMemory, BadText, BadBody, ClockSpent, Closed}
+use Rattle.feed_client.specs.declared.intake.IntakeFault.{IntakeFault}
+use Rattle.feed_client.specs.declared.intake.IntakeFault.TheVariants.{Refused}
+use Rattle.feed_client.specs.declared.intake.IntakeFault.TheVariants as fault
+
+abbrev pub text_of : Refusal → List ℕ
+text_of NoMemory = codes "5 NoMemory"
+text_of BadText = codes "7 BadText"
+text_of BadBody = codes "8 BadBody"
+text_of ClockSpent = codes "9 ClockSpent"
+text_of Closed = codes "10 Closed"
+
+abbrev pub ok_word : List ℕ
+ok_word = codes "ok "
+
+abbrev pub no_word : List ℕ
+no_word = codes "no "
+
+-- where a fault is read of the text after `no`, the text is that of the refusal
+abbrev pub IsRefusalText : List ℕ → IntakeFault → Type 0
+IsRefusalText text (Refused refusal) = text ≡ text_of refusal
+IsRefusalText text fault.Ended = Unit {0}
+IsRefusalText text fault.NoMemory = ⊥
+
+-- what is read of a line, where memory isn't refused
+abbrev pub IsAnswer : List ℕ → Result Timestamp IntakeFault → Type 0
+IsAnswer line (Ok stamp) = line ≡ ok_word ++ timestamp_text stamp
+IsAnswer line (Err (Refused refusal)) = line ≡ no_word ++ text_of refusal
+IsAnswer line (Err fault.Ended) = Unit {0}
+IsAnswer line (Err fault.NoMemory) = Unit {0}

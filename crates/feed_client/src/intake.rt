@@ -1,0 +1,55 @@
+//! A site, as a feed sees it.
+
+ghost use Rattle.std.specs.Prelude.{◌≡◌, Result};
+ghost use Rattle.feed_client.specs.Refusals.{text_of};
+ghost use Rattle.feed_client.specs.declared.intake.IntakeFault.{IntakeFault as Fault};
+ghost use Rattle.review_ops.specs.Deed.{Deed};
+ghost use Rattle.review_ops.specs.Timestamp.{Timestamp};
+
+use review_ops::{Body, Stamp};
+
+/// Why a site refuses a body.
+#[derive(Clone, Copy, Debug, PartialEq, Eq)]
+pub enum Refusal {
+    NoMemory,
+    BadText,
+    BadBody,
+    ClockSpent,
+    Closed,
+}
+
+/// Why a body wasn't taken in, as far as the feed knows.
+#[derive(Clone, Copy, Debug, PartialEq, Eq)]
+pub enum IntakeFault {
+    /// The site has refused it, which changed nothing.
+    Refused(Refusal),
+    /// The connection ended, or what came over it was no answer. The body may have been taken in.
+    Ended,
+    /// Memory was refused here. The body may have been taken in.
+    NoMemory,
+}
+
+impl Refusal {
+    /// The number and the name, as a session answers them after `no `.
+    pub fn text(self) -> &'static str
+        ensures { result.now ≡ text_of self }
+    {
+        match self {
+            Refusal::NoMemory => "5 NoMemory",
+            Refusal::BadText => "7 BadText",
+            Refusal::BadBody => "8 BadBody",
+            Refusal::ClockSpent => "9 ClockSpent",
+            Refusal::Closed => "10 Closed",
+        }
+    }
+}
+
+/// A site that takes bodies in. It has a relation of its own between what it is, the body that it is offered, what it replies and what it is then.
+pub trait Intake {
+    /// From the old state a body may be replied to so, and leave the new state.
+    ghost replies: { Self → Deed → Result Timestamp Fault → Self → Type 0 };
+
+    /// Offers a body, and awaits the answer: the stamp under which it was taken in.
+    fn take_in(&mut self, body: &Body) -> Result<Stamp, IntakeFault>
+        ensures { replies self.old body.now result self.new };
+}
