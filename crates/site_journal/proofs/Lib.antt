@@ -1,0 +1,7 @@
+pub mod Bytes
+pub mod Lines
+pub mod Crashes
+pub mod Steps
+pub mod Keeping
+pub mod Starting
+pub mod Fronts

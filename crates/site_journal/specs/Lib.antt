@@ -1,0 +1,9 @@
+pub mod Prefixes
+pub mod Text
+pub mod Fault
+pub mod Tape
+pub mod Book
+pub mod Feeds
+pub mod Memory
+pub mod Reading
+pub mod Recovery

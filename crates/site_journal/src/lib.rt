@@ -1,0 +1,28 @@
+//! A journal on disk: what its file means, how it is opened, and the promise that what is acknowledged survives.
+//!
+//! The first line is `reviewgate 2`; then comes one operation a line, in the order in which they came. What stands past the last line end was torn
+//! while it was written, and counts for nothing.
+#![tactic(auto)]
+
+mod fault;
+mod journal;
+mod keeps;
+mod laws;
+mod memory;
+mod opening;
+mod reading;
+mod recovery;
+mod tape;
+#[cfg(test)]
+mod tests;
+
+pub use fault::{JournalFault, KeepFault, LineCause};
+pub use journal::{Journal, Started};
+pub use keeps::{Keeps, NoJournal};
+pub use laws::{
+    crashes_lose_nothing_acknowledged, journals_have_one_reading, journals_say_their_operations,
+};
+pub use memory::MemoryTape;
+pub use opening::{Opened, open_tape};
+pub use recovery::{RecoverFault, recover};
+pub use tape::{Feed, SourceFeed, Tape};

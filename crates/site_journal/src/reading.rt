@@ -1,0 +1,292 @@
+//! Reads the text of a journal, block by block.
+
+ghost use Rattle.std.specs.Prelude.{IsErrOf, IsTrue, ◌↔◌, ◌≡◌, ◌≤◌, ◌<◌, ◌+◌, ◌++◌, ◌∷◌, [], ℕ, List, IfOk, IfErr, IfSome, MatchOption, MatchResult, OnOk, length, vec_len};
+ghost use Rattle.std.specs.Io.KnownBytes.{Consumes, IsAtEnd};
+ghost use Rattle.byte_ends.specs.Lines.{as_line};
+ghost use Rattle.line_reader.specs.Lines.{HasFirstLf, HasNoLf};
+ghost use Rattle.site_journal.specs.Fault.{CountsFault, IsRefusal, line_fault_of};
+ghost use Rattle.site_journal.specs.Reading.{HasRead, IsFound, IsJudged};
+ghost use Rattle.site_journal.specs.Text.{header_line};
+
+use crate::fault::{JournalFault, LineCause};
+use crate::tape::Feed;
+use memchr::memchr;
+use op_text::{OpTextFault, read_op};
+use replica_core::Replica;
+use std::alloc::Global;
+
+/// The first line of a journal.
+pub const HEADER: &[u8] = b"reviewgate 2\n";
+
+/// The most bytes of a line, without its line end.
+pub const LINE_LIMIT: usize = 524_288;
+
+/// How many bytes are read at once.
+const BLOCK: usize = 65_536;
+
+/// The most bytes of a journal.
+const TEXT_LIMIT: u64 = u64::MAX - 131_071;
+
+/// What was found in the text of a journal.
+#[derive(Drop)]
+pub enum Found {
+    /// So many bytes of its first line, and nothing else.
+    Fresh(usize),
+    /// The operations of its whole lines, which have so many bytes with the first line's; and so many bytes of a torn one.
+    Lines(Replica, u64, usize),
+}
+
+/// Reads a journal to its end.
+pub fn read_text<F: Feed>(alloc: Global, feed: &mut F) -> Result<Found, JournalFault>
+    ensures found { IfOk result (λ found. IfSome (F.left feed.old) (λ text. IsFound text found)) }
+    ensures refused { IfErr result (λ fault. IfSome (F.left feed.old) (λ text. IsRefusal text fault)) }
+    ensures same { F.image feed.new ≡ F.image feed.old }
+    ensures counted { MatchResult result
+        (λ _. F.failed feed.new ≡ F.failed feed.old) (CountsFault (F.failed feed.old) (F.failed feed.new)) }
+{
+    let head = read_head(alloc, feed)?;
+    match judged(head.as_slice()) {
+        Head::Whole => read_lines(alloc, feed),
+        Head::Front => Ok(Found::Fresh(head.as_slice().len())),
+        Head::Other => Err(JournalFault::BadHeader),
+    }
+}
+
+/// What stands where the first line should.
+#[derive(Clone, Copy)]
+pub enum Head {
+    /// The first line.
+    Whole,
+    /// A front of it.
+    Front,
+    /// Something else.
+    Other,
+}
+
+/// Judges what stands where the first line should, up to its length.
+fn judged(head: &[u8]) -> Head
+    requires { length head.now ≤ 13 }
+    ensures { IsJudged head.now result }
+{
+    if is_same(head, HEADER) {
+        return Head::Whole;
+    }
+    if is_same(head, HEADER.split_at(head.len()).0) {
+        return Head::Front;
+    }
+    Head::Other
+}
+
+/// Whether these are the same bytes.
+fn is_same(bytes: &[u8], others: &[u8]) -> bool
+    ensures { IsTrue result ↔ (bytes.now ≡ others.now) }
+{
+    bytes == others
+}
+
+/// Reads what stands where the first line should, up to its length.
+fn read_head<F: Feed>(alloc: Global, feed: &mut F) -> Result<Vec<u8>, JournalFault>
+    ensures came { IfOk result (λ head. Consumes (F.left feed.old) (F.left feed.new) head.items) }
+    ensures most { IfOk result (λ head. vec_len head ≤ 13) }
+    ensures end { IfOk result (λ head. vec_len head < 13 → IsAtEnd (F.left feed.new)) }
+    ensures fault { IfErr result (λ fault. (text : List ℕ) → IsRefusal text fault) }
+    ensures same { F.image feed.new ≡ F.image feed.old }
+    ensures counted { MatchResult result
+        (λ _. F.failed feed.new ≡ F.failed feed.old) (CountsFault (F.failed feed.old) (F.failed feed.new)) }
+{
+    let mut head = Vec::new(alloc);
+    let mut piece = [0u8; 13];
+    while head.len() < HEADER.len() {
+        let most = HEADER.len() - head.len();
+        if read_piece(feed, &mut piece[..most], &mut head)? == 0 {
+            return Ok(head);
+        }
+    }
+    Ok(head)
+}
+
+/// Reads once, and adds what came. 0 is the end.
+fn read_piece<F: Feed>(
+    feed: &mut F,
+    piece: &mut [u8],
+    bytes: &mut Vec<u8>,
+) -> Result<usize, JournalFault>
+    ensures read { IfOk result (λ count. (part : List ℕ) × (length part ≡ count)
+        × (bytes.new.items ≡ bytes.old.items ++ part)
+        × Consumes (F.left feed.old) (F.left feed.new) part) }
+    ensures most { IfOk result (λ count. count ≤ length piece.old) }
+    ensures len { IfOk result (λ count. vec_len bytes.new ≡ vec_len bytes.old + count) }
+    ensures end { IfOk result
+        (λ count. count ≡ 0 → 0 < length piece.old → IsAtEnd (F.left feed.new)) }
+    ensures fault { IfErr result (λ fault. (text : List ℕ) → IsRefusal text fault) }
+    ensures same { F.image feed.new ≡ F.image feed.old }
+    ensures counted { MatchResult result
+        (λ _. F.failed feed.new ≡ F.failed feed.old) (CountsFault (F.failed feed.old) (F.failed feed.new)) }
+{
+    let Ok(count) = feed.read(piece) else {
+        return Err(JournalFault::Failed);
+    };
+    if bytes.extend_from_slice(&piece[..count]).is_err() {
+        return Err(JournalFault::NoMemory);
+    }
+    Ok(count)
+}
+
+/// Reads the lines after the first to their end.
+fn read_lines<F: Feed>(alloc: Global, feed: &mut F) -> Result<Found, JournalFault>
+    ensures found { IfOk result (λ found. IfSome (F.left feed.old) (λ text. IsFound (header_line ++ text) found)) }
+    ensures refused { IfErr result (λ fault. IfSome (F.left feed.old) (λ text. IsRefusal (header_line ++ text) fault)) }
+    ensures same { F.image feed.new ≡ F.image feed.old }
+    ensures counted { MatchResult result
+        (λ _. F.failed feed.new ≡ F.failed feed.old) (CountsFault (F.failed feed.old) (F.failed feed.new)) }
+{
+    let mut piece = vec![in alloc; 0u8; BLOCK]?;
+    let mut reading = Reading::new(alloc);
+    let mut seen = 13u64;
+    while seen <= TEXT_LIMIT {
+        match reading.read_block(feed, piece.as_mut_slice())? {
+            0 => return Ok(reading.found(seen)),
+            count => seen += count as u64,
+        }
+    }
+    Err(JournalFault::TooLong)
+}
+
+/// How far the text of a journal was read: the operations of the lines so far, the front of the next line, and its number from 1.
+#[derive(Drop)]
+struct Reading {
+    pub alloc: Global,
+    pub replica: Replica,
+    pub held: Vec<u8>,
+    pub next: u64,
+}
+
+impl Reading {
+    /// After the first line.
+    pub fn new(alloc: Global) -> Reading
+        ensures { HasRead header_line result.replica result.held.items result.next }
+    {
+        Reading {
+            alloc,
+            replica: Replica::new(alloc),
+            held: Vec::new(alloc),
+            next: 2,
+        }
+    }
+
+    /// What was found, where so many bytes came in all.
+    fn found(self, seen: u64) -> Found
+        requires { length self.held.items ≤ seen }
+        ensures { (came : List ℕ) → HasRead came self.replica self.held.items self.next → length came ≡ seen → IsFound came result }
+    {
+        let Reading { replica, held, .. } = self;
+        let torn = held.as_slice().len();
+        Found::Lines(replica, seen - torn as u64, torn)
+    }
+
+    /// Reads some bytes, and what they say. 0 is the end.
+    fn read_block<F: Feed>(&mut self, feed: &mut F, piece: &mut [u8]) -> Result<usize, JournalFault>
+        ensures read { IfOk result (λ count. (part : List ℕ) × (length part ≡ count)
+            × Consumes (F.left feed.old) (F.left feed.new) part
+            × ((came : List ℕ) → HasRead came self.old.replica self.old.held.items self.old.next
+            → HasRead (came ++ part) self.new.replica self.new.held.items self.new.next)) }
+        ensures most { IfOk result (λ count. count ≤ length piece.old) }
+        ensures end { IfOk result (λ count. count ≡ 0 → 0 < length piece.old → IsAtEnd (F.left feed.new)) }
+        ensures refused { IfErr result (λ fault. (came : List ℕ) → HasRead came self.old.replica self.old.held.items self.old.next
+            → IfSome (F.left feed.old) (λ more. IsRefusal (came ++ more) fault)) }
+        ensures same { F.image feed.new ≡ F.image feed.old }
+        ensures counted { MatchResult result
+            (λ _. F.failed feed.new ≡ F.failed feed.old) (CountsFault (F.failed feed.old) (F.failed feed.new)) }
+    {
+        let Ok(count) = feed.read(piece) else {
+            return Err(JournalFault::Failed);
+        };
+        match self.take_block(piece.split_at(count).0) {
+            Ok(()) => Ok(count),
+            Err(fault) => Err(fault),
+        }
+    }
+
+    /// Reads what came.
+    fn take_block(&mut self, block: &[u8]) -> Result<(), JournalFault>
+        ensures ok { OnOk result ((came : List ℕ) → HasRead came self.old.replica self.old.held.items self.old.next
+            → HasRead (came ++ block.now) self.new.replica self.new.held.items self.new.next) }
+        ensures err { IfErr result (λ fault. (came : List ℕ) → HasRead came self.old.replica self.old.held.items self.old.next
+            → (later : List ℕ) → IsRefusal ((came ++ block.now) ++ later) fault) }
+        ensures unfailing { IsErrOf result JournalFault.Failed → ⊥ }
+    {
+        let mut rest = block;
+        while let Some(at) = first_lf(rest) {
+            self.take_piece(rest.split_at(at).0)?;
+            rest = rest.split_at(at + 1).1;
+        }
+        self.hold(rest)
+    }
+
+    /// Reads the rest of a line, whose end comes after it.
+    fn take_piece(&mut self, piece: &[u8]) -> Result<(), JournalFault>
+        requires { HasNoLf piece.now }
+        ensures ok { OnOk result ((came : List ℕ) → HasRead came self.old.replica self.old.held.items self.old.next
+            → HasRead (came ++ as_line piece.now) self.new.replica self.new.held.items self.new.next) }
+        ensures err { IfErr result (λ fault. (came : List ℕ) → HasRead came self.old.replica self.old.held.items self.old.next
+            → (later : List ℕ) → IsRefusal ((came ++ as_line piece.now) ++ later) fault) }
+        ensures unfailing { IsErrOf result JournalFault.Failed → ⊥ }
+    {
+        self.hold(piece)?;
+        self.take_line()
+    }
+
+    /// Holds more of the line that is read.
+    fn hold(&mut self, piece: &[u8]) -> Result<(), JournalFault>
+        requires { HasNoLf piece.now }
+        ensures ok { OnOk result ((came : List ℕ) → HasRead came self.old.replica self.old.held.items self.old.next
+            → HasRead (came ++ piece.now) self.new.replica self.new.held.items self.new.next) }
+        ensures err { IfErr result (λ fault. (came : List ℕ) → HasRead came self.old.replica self.old.held.items self.old.next
+            → (later : List ℕ) → IsRefusal ((came ++ piece.now) ++ later) fault) }
+        ensures unfailing { IsErrOf result JournalFault.Failed → ⊥ }
+    {
+        self.held.extend_from_slice(piece)?;
+        if self.held.as_slice().len() > LINE_LIMIT {
+            return Err(JournalFault::BadLine(self.next, LineCause::TooLong));
+        }
+        Ok(())
+    }
+
+    /// Takes the operation of the line that is held, whose end came.
+    fn take_line(&mut self) -> Result<(), JournalFault>
+        ensures ok { OnOk result ((came : List ℕ) → HasRead came self.old.replica self.old.held.items self.old.next
+            → HasRead (came ++ 10 ∷ []) self.new.replica self.new.held.items self.new.next) }
+        ensures err { IfErr result (λ fault. (came : List ℕ) → HasRead came self.old.replica self.old.held.items self.old.next
+            → (later : List ℕ) → IsRefusal ((came ++ 10 ∷ []) ++ later) fault) }
+        ensures unfailing { IsErrOf result JournalFault.Failed → ⊥ }
+    {
+        let op = match read_op(self.alloc, self.held.as_slice()) {
+            Ok(op) => op,
+            Err(cause) => return Err(line_fault(self.next, cause)),
+        };
+        let Some(next) = self.next.checked_add(1) else {
+            return Err(JournalFault::TooLong);
+        };
+        let _taken = self.replica.take(op)?;
+        self.held.clear();
+        self.next = next;
+        Ok(())
+    }
+}
+
+/// How it is told that the line of this number isn't read.
+fn line_fault(number: u64, cause: OpTextFault) -> JournalFault
+    ensures { result ≡ line_fault_of number cause }
+{
+    match cause {
+        OpTextFault::NoMemory => JournalFault::NoMemory,
+        cause => JournalFault::BadLine(number, LineCause::Text(cause)),
+    }
+}
+
+/// The place of the first line end.
+fn first_lf(bytes: &[u8]) -> Option<usize>
+    ensures { MatchOption result (HasNoLf bytes.now) (HasFirstLf bytes.now) }
+{
+    memchr(b'\n', bytes)
+}
