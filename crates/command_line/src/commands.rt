@@ -2,7 +2,7 @@
 
 ghost use Rattle.std.specs.Prelude.{IfOk, codes};
 ghost use Rattle.clap.specs.Words.{new_rule};
-ghost use Rattle.command_line.specs.Commands.{IsApp, IsRule, around_rule, change_rule, events_app, footers_app};
+ghost use Rattle.command_line.specs.Commands.{IsApp, IsRule, around_rule, bare_app, change_rule, events_app, footers_app};
 ghost use Rattle.command_line.specs.Commands.{graph_app};
 ghost use Rattle.command_line.specs.Commands.{merge_app, needed, program, ready_app, simulate_app, why_app};
 
@@ -11,6 +11,10 @@ use std::alloc::{AllocError, Global};
 
 /// The program's version, and the identity of the toolchain that proves and builds it, as `rt version` prints it.
 const VERSION: &str = "0.1.0 (rattle-kit-13b logic dac8208d650f15bf)";
+
+/// What the program's help ends with: the command whose words are read by `serve_words`.
+const SITES: &str =
+    "Sites that run:\n  serve     Runs a site: answers sessions, pulls from peers, prints its reports (reviewgate serve --help)";
 
 /// The program.
 pub fn commands<'a>(alloc: Global) -> Result<Command<'a>, AllocError>
@@ -22,12 +26,7 @@ pub fn commands<'a>(alloc: Global) -> Result<Command<'a>, AllocError>
     let footers = footers_command(alloc)?;
     let why = why_command(alloc)?;
     let graph = graph_command(alloc)?;
-    Command::new(alloc, "reviewgate")
-        .bin_name("reviewgate")?
-        .version(VERSION)
-        .about("Keeps the review record of Gerrit changes at several sites")
-        .no_binary_name(true)
-        .subcommand_required(true)
+    bare_program(alloc)?
         .subcommand(simulate)?
         .subcommand(ready)?
         .subcommand(merge)?
@@ -35,6 +34,20 @@ pub fn commands<'a>(alloc: Global) -> Result<Command<'a>, AllocError>
         .subcommand(why)?
         .subcommand(graph)?
         .subcommand(events_command(alloc))
+}
+
+/// The program, before it has its commands.
+fn bare_program<'a>(alloc: Global) -> Result<Command<'a>, AllocError>
+    ensures { IfOk result (IsApp bare_app) }
+{
+    let named = Command::new(alloc, "reviewgate").bin_name("reviewgate")?;
+    let program = named
+        .version(VERSION)
+        .about("Keeps the review record of Gerrit changes at several sites")
+        .after_help(SITES)
+        .no_binary_name(true)
+        .subcommand_required(true);
+    Ok(program)
 }
 
 /// An argument that has to be given.

@@ -1,13 +1,11 @@
-use Rattle.std.proofs.Common.{rules}
 use Rattle.std.proofs.lemmas.Result.{IfOk-weaker}
-use Rattle.command_line.specs.Commands.{IsApp, bare_app, events_app, footers_app, graph_app, merge_app, ready_app, simulate_app, why_app}
+use Rattle.command_line.specs.Commands.{events_app, footers_app, graph_app, merge_app, ready_app, simulate_app, why_app}
 use Rattle.command_line.proofs.Building.{subcommand_added}
 use Rattle.command_line.proofs.commands.commands.Goals as goal
 
 pub returns : goal.returns
 returns c =
-    let bare : IsApp bare_app c.subcommand_required.result = search rules in
-    let one = subcommand_added _ simulate_app bare c.in_ok-simulate.ensures c.in_ok-subcommand.ensures in
+    let one = subcommand_added _ simulate_app c.in_ok-bare_program.ensures c.in_ok-simulate.ensures c.in_ok-subcommand.ensures in
     let two = subcommand_added _ ready_app one c.in_ok-ready.ensures c.in_ok-subcommand-2.ensures in
     let three = subcommand_added _ merge_app two c.in_ok-merge.ensures c.in_ok-subcommand-3.ensures in
     let four = subcommand_added _ footers_app three c.in_ok-footers.ensures c.in_ok-subcommand-4.ensures in

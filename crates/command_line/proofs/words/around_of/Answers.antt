@@ -1,4 +1,4 @@
-use Rattle.std.proofs.Common.{rules, ◌≡◌, ℕ, None, Some, codes}
+use Rattle.std.proofs.Common.{rules, ◌≡◌, ℕ, Some, codes}
 use Rattle.clap.specs.Words.{first_of, found_of, rows_of}
 use Rattle.command_line.specs.Asking.{WritesNumber}
 use Rattle.command_line.proofs.Asking.{around_unread, shown}
