@@ -312,6 +312,68 @@ fn a_site_that_has_ended_says_so(rt: HostRuntime) -> Result<(), Fail> {
     Ok(())
 }
 
+/// A site that is refused memory for all that it is asked.
+#[derive(Drop)]
+struct Full;
+
+impl Port for Full {
+    ghost use Rattle.std.specs.Prelude.{◌≡◌};
+    ghost use Rattle.site_port.specs.Ports.{refused};
+    ghost use Rattle.site_port.specs.declared.fault.PortFault.TheVariants.{NoMemory};
+
+    ghost gives = { λ _ _ reply _. reply ≡ refused NoMemory };
+
+    fn intake(&mut self, _draft: Draft) -> Result<Stamp, PortFault> {
+        Err(PortFault::NoMemory)
+    }
+
+    fn missing(&mut self, _front: &Front) -> Result<Missing, PortFault> {
+        Err(PortFault::NoMemory)
+    }
+
+    fn report(&mut self) -> Result<Verdicts, PortFault> {
+        Err(PortFault::NoMemory)
+    }
+
+    fn look(&mut self) -> Result<Replica, PortFault> {
+        Err(PortFault::NoMemory)
+    }
+}
+
+impl Sink for Full {
+    ghost use Rattle.std.specs.Prelude.{◌≡◌};
+    ghost use Rattle.site_port.specs.Sinks.{declined};
+    ghost use Rattle.site_port.specs.declared.fault.SinkFault.TheVariants.{NoMemory};
+
+    ghost sinks = { λ _ _ uptake _. uptake ≡ declined NoMemory };
+
+    fn front(&mut self) -> Result<Front, SinkFault> {
+        Err(SinkFault::NoMemory)
+    }
+
+    fn take_all(&mut self, _ops: Vec<Op>) -> Result<(), SinkFault> {
+        Err(SinkFault::NoMemory)
+    }
+}
+
+#[test]
+fn refused_memory_is_an_answer(rt: HostRuntime) -> Result<(), Fail> {
+    let lines =
+        b"hello 2\ntake {\"change\":101,\"op\":\"merged\"}\nfront []\nready\nstate\nquit\n".as_slice();
+    let mut source = Ends::new(lines);
+    let mut drain = Ends::new(Vec::new(rt.alloc()));
+    session_run(rt.alloc(), &mut source, &mut drain, &mut Full)?;
+    let written = drain.into_inner();
+    let answers =
+        b"hello 2\nno 5 NoMemory\nno 5 NoMemory\nno 5 NoMemory\nno 5 NoMemory\nbye\n".as_slice();
+    assert_eq!(rt; written.as_slice(), answers);
+    let mut peer = Ends::new(b"hello 2\n".as_slice());
+    let mut asked = Ends::new(Vec::new(rt.alloc()));
+    let pulled = pull_run(rt.alloc(), &mut peer, &mut asked, &mut Full);
+    assert_eq!(rt; pulled, Err(LineFault::NoMemory));
+    Ok(())
+}
+
 /// What a peer says, what a pull by an empty site writes to it, how it ends, and how many operations the site then has.
 #[derive(Clone, Copy)]
 struct Pulling {

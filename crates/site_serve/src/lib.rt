@@ -6,6 +6,8 @@ mod desk;
 mod errors;
 mod evaluator;
 mod gossip;
+#[cfg(test)]
+mod gossip_tests;
 mod news;
 mod opening;
 mod port;

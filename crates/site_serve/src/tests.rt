@@ -35,7 +35,7 @@ const PASSED: &str =
 
 /// Nothing is done before and after a session.
 #[derive(Drop)]
-struct NoTurn;
+pub struct NoTurn;
 
 impl Turn for NoTurn {
     fn enter(&self, _session: u64) {}
@@ -44,7 +44,7 @@ impl Turn for NoTurn {
 }
 
 /// A site under start 1, empty, with one worker and one session.
-fn one_session(alloc: Global, site: u16) -> Result<Setup, Fail> {
+pub fn one_session(alloc: Global, site: u16) -> Result<Setup, Fail> {
     Ok(Setup {
         gate: Gate::read(alloc, GATE)?,
         replica: Replica::new(alloc),
@@ -59,7 +59,7 @@ fn one_session(alloc: Global, site: u16) -> Result<Setup, Fail> {
 }
 
 /// Runs a site that stops by itself, and has its errors and what is printed thrown away.
-fn run_one<R, T>(
+pub fn run_one<R, T>(
     rt: &R,
     alloc: Global,
     listener: TcpListener,
@@ -76,7 +76,7 @@ where
 }
 
 /// What a site answers to these lines, sent at once.
-fn talk<R: Net<Listener = TcpListener, Stream = TcpStream>>(
+pub fn talk<R: Net<Listener = TcpListener, Stream = TcpStream>>(
     rt: &R,
     alloc: Global,
     port: u16,
@@ -273,7 +273,7 @@ fn a_site_that_finds_its_own_start_elsewhere_ends(rt: HostRuntime) -> Result<(),
 }
 
 /// Connects as a client that sends so much and then nothing.
-fn stall<R: Net<Stream = TcpStream>>(rt: &R, port: u16, lines: &str) -> io::Result<TcpStream> {
+pub fn stall<R: Net<Stream = TcpStream>>(rt: &R, port: u16, lines: &str) -> io::Result<TcpStream> {
     let mut stream = TcpStream::connect(rt, ("127.0.0.1", port))?;
     stream.write_all(lines.as_bytes())?;
     Ok(stream)
