@@ -1,0 +1,726 @@
+"""A plain model of reviewgate, written from docs/RULES.md and docs/FORMATS.md alone: for bench/fuzz.
+
+It is as short as can be and slow. Texts are bytes, since that is what the program reads and compares.
+"""
+
+import json
+import re
+from dataclasses import dataclass, field
+
+TOP_U64 = 2**64 - 1
+TOP_U32 = 2**32 - 1
+KINDS = {
+    "patchset": (["change", "message", "set"], ["parent"]),
+    "vote": (["change", "label", "set", "value", "voter"], []),
+    "withdraw": (["change", "label", "set", "voter"], []),
+    "abandon": (["change"], []),
+    "restore": (["change"], []),
+    "merged": (["change"], []),
+}
+RANKS = ["patchset", "vote", "withdraw", "abandon", "restore", "merged"]
+STAMP = {"time": (0, TOP_U64), "site": (0, 65535), "start": (0, TOP_U32), "seq": (1, TOP_U64)}
+RANGES = dict(STAMP, change=(0, TOP_U32), set=(0, TOP_U32), parent=(0, TOP_U32), value=(-128, 127))
+
+
+class Refused(Exception):
+    """What a text or a call is refused with, as it is printed."""
+
+
+# ---- JSON, as serde_json reads and writes it
+
+
+class Fraction(float):
+    """A number that is no whole one."""
+
+
+def whole(digits: str):
+    if digits == "-0":
+        return Fraction(0)
+    return real(digits) if float(digits) in (float("inf"), -float("inf")) else int(digits)
+
+
+def real(digits: str):
+    value = float(digits)
+    if value in (float("inf"), -float("inf")):
+        raise ValueError("out of range")
+    return Fraction(value)
+
+
+def constant(word: str):
+    raise ValueError(word)
+
+
+def depth(text: str) -> int:
+    deepest = now = 0
+    for char in re.sub(r'"(?:[^"\\]|\\.)*"', "", text, flags=re.S):
+        now += (char in "[{") - (char in "]}")
+        deepest = max(deepest, now)
+    return deepest
+
+
+def read_json(data: bytes):
+    """The value, or ValueError."""
+    text = data.decode()
+    if depth(text) > 127:
+        raise ValueError("deep")
+    value = json.loads(text, parse_int=whole, parse_float=real, parse_constant=constant)
+    json.dumps(value, ensure_ascii=False).encode()
+    return value
+
+
+def compact(value) -> bytes:
+    return json.dumps(value, ensure_ascii=False, sort_keys=True, separators=(",", ":")).encode()
+
+
+def is_whole(value, low: int, high: int) -> bool:
+    return type(value) is int and low <= value <= high
+
+
+# ---- operations
+
+
+@dataclass(frozen=True)
+class Deed:
+    kind: str
+    change: int
+    set: int = 0
+    message: bytes = b""
+    parent: int | None = None
+    label: bytes = b""
+    voter: bytes = b""
+    value: int = 0
+
+    def key(self):
+        fields = {
+            "patchset": (self.set, self.message, -1 if self.parent is None else self.parent),
+            "vote": (self.set, self.label, self.voter, self.value),
+            "withdraw": (self.set, self.label, self.voter),
+        }
+        return (RANKS.index(self.kind), self.change) + fields.get(self.kind, ())
+
+    def body(self) -> dict:
+        names = [name for name in KINDS[self.kind][0]]
+        value = {name: getattr(self, name) for name in names}
+        if self.parent is not None:
+            value["parent"] = self.parent
+        return {"op": self.kind} | {k: v.decode() if isinstance(v, bytes) else v for k, v in value.items()}
+
+
+@dataclass(frozen=True)
+class Op:
+    time: int
+    site: int
+    start: int
+    seq: int
+    deed: Deed
+
+    def stamp(self):
+        return (self.time, self.site, self.start, self.seq)
+
+    def key(self):
+        return (self.stamp(), self.deed.key())
+
+    def text(self) -> bytes:
+        return compact(self.deed.body() | dict(time=self.time, site=self.site, start=self.start, seq=self.seq))
+
+
+def accepted(key: str, value) -> bool:
+    return is_whole(value, *RANGES[key]) if key in RANGES else isinstance(value, str)
+
+
+def read_object(data: bytes, stamped: bool) -> dict:
+    """The members of a body or an operation, with the first of their faults."""
+    try:
+        value = read_json(data)
+    except (ValueError, RecursionError):
+        raise Refused("1 NotJson") from None
+    if not isinstance(value, dict):
+        raise Refused("1 NotJson")
+    kind = value.get("op")
+    if not isinstance(kind, str) or kind not in KINDS:
+        raise Refused("2 BadShape op")
+    required, optional = KINDS[kind]
+    required = required + ["op"] + (list(STAMP) if stamped else [])
+    for key in sorted(set(value) | set(required), key=str.encode):
+        if key not in value or key not in required + optional or not accepted(key, value[key]):
+            raise Refused(f"2 BadShape {key}")
+    return value
+
+
+def deed_of(value: dict) -> Deed:
+    names = [name for name in Deed.__dataclass_fields__ if name != "kind" and name in value]
+    fields = {name: value[name].encode() if isinstance(value[name], str) else value[name] for name in names}
+    return Deed(value["op"], **fields)
+
+
+def checked(deed: Deed) -> Deed:
+    """The deed as it is kept, or the name of its first fault."""
+    names = KINDS[deed.kind][0]
+    faults = [
+        ("BadChange", deed.change == 0),
+        ("BadSet", "set" in names and deed.set == 0),
+        ("BadLabel", "label" in names and not re.fullmatch(rb"[A-Za-z0-9-]{1,64}", deed.label)),
+        ("BadVoter", "voter" in names and not re.fullmatch(rb"[\x21-\x7e]{1,64}", deed.voter)),
+        ("LongMessage", len(deed.message) > 65536),
+        ("BadParent", deed.parent == 0),
+    ]
+    for name, is_so in faults:
+        if is_so:
+            raise Refused(name)
+    return Deed(**(deed.__dict__ | {"label": deed.label.lower()}))
+
+
+def read_op(data: bytes) -> Op:
+    value = read_object(data, True)
+    try:
+        deed = checked(deed_of(value))
+    except Refused as cause:
+        raise Refused(f"3 BadBody {cause}") from None
+    return Op(value["time"], value["site"], value["start"], value["seq"], deed)
+
+
+def read_front(data: bytes) -> dict:
+    try:
+        value = read_json(data)
+    except (ValueError, RecursionError):
+        raise Refused("1 NotJson") from None
+    if not isinstance(value, list):
+        raise Refused("1 NotJson")
+    front = {}
+    for row in value:
+        ranges = [(0, 65535), (0, TOP_U32), (0, TOP_U64)]
+        if not isinstance(row, list) or len(row) != 3 or not all(is_whole(n, *r) for n, r in zip(row, ranges)):
+            raise Refused("2 BadShape front")
+        site, start, seq = row
+        front[site, start] = max(seq, front.get((site, start), 0))
+    return {row: seq for row, seq in front.items() if seq}
+
+
+def front_text(front: dict) -> bytes:
+    return compact([[site, start, seq] for (site, start), seq in sorted(front.items())])
+
+
+# ---- a record
+
+
+@dataclass
+class Record:
+    ops: dict = field(default_factory=dict)
+
+    def take(self, op: Op) -> bool:
+        """Whether the operation is new; the order of arrival is that of the keys."""
+        is_new = op not in self.ops
+        self.ops.setdefault(op)
+        return is_new
+
+    def copy(self):
+        return Record(dict(self.ops))
+
+    def front(self) -> dict:
+        rows = {}
+        for op in self.ops:
+            rows.setdefault((op.site, op.start), set()).add(op.seq)
+        front = {}
+        for row, seqs in rows.items():
+            reach = 0
+            while reach + 1 in seqs:
+                reach += 1
+            if reach:
+                front[row] = reach
+        return front
+
+    def missing(self, front: dict) -> list:
+        lacked = [op for op in self.ops if op.seq > front.get((op.site, op.start), 0)]
+        return sorted(lacked, key=lambda op: (op.site, op.start, op.seq, op.time, op.deed.key()))
+
+    def is_spent(self, site: int, start: int) -> bool:
+        seqs = [op.seq for op in self.ops if (op.site, op.start) == (site, start)]
+        return max([op.time for op in self.ops], default=0) == TOP_U64 or max(seqs, default=0) == TOP_U64
+
+    def next_op(self, site: int, start: int, deed: Deed) -> Op:
+        seqs = [op.seq for op in self.ops if (op.site, op.start) == (site, start)]
+        time = max([op.time for op in self.ops], default=0)
+        return Op(time + 1, site, start, max(seqs, default=0) + 1, deed)
+
+
+class State:
+    """What a record's operations come to."""
+
+    def __init__(self, record: Record):
+        self.sets, self.votes, self.lives, self.merged, self.changes = {}, {}, {}, set(), set()
+        for op in record.ops:
+            deed, stamp = op.deed, op.stamp()
+            self.changes.add(deed.change)
+            if deed.kind == "patchset":
+                parent = -1 if deed.parent is None else deed.parent
+                self.win(self.sets, (deed.change, deed.set), (stamp, (deed.message, parent)))
+            elif deed.kind in ("vote", "withdraw"):
+                self.win(self.votes, (deed.change, deed.set, deed.label, deed.voter), (stamp, deed.value))
+            elif deed.kind == "merged":
+                self.merged.add(deed.change)
+            else:
+                self.win(self.lives, deed.change, (stamp, deed.kind == "restore"))
+        self.current = {}
+        for change, number in self.sets:
+            self.current[change] = max(number, self.current.get(change, 0))
+
+    @staticmethod
+    def win(registers: dict, slot, write) -> None:
+        registers[slot] = max(write, registers.get(slot, write))
+
+    def status(self, change: int) -> str:
+        if change in self.merged:
+            return "MERGED"
+        return "ABANDONED" if change in self.lives and not self.lives[change][1] else "NEW"
+
+    def approvals(self, change: int) -> list:
+        now = self.current.get(change)
+        found = [(slot[2], slot[3], value) for slot, (_, value) in self.votes.items() if slot[:2] == (change, now) and value]
+        return sorted(found)
+
+    def text(self) -> bytes:
+        lines = []
+        for change in sorted(self.changes):
+            lines.append(f"change {change} {self.status(change)}".encode())
+            if change in self.lives:
+                stamp, is_restored = self.lives[change]
+                lines.append(f"life {change} {'restored' if is_restored else 'abandoned'} {stamp_text(stamp)}".encode())
+            for (_, number), (stamp, (message, parent)) in sorted(item for item in self.sets.items() if item[0][0] == change):
+                line = f"set {change},{number} {stamp_text(stamp)} ".encode() + compact(message.decode())
+                lines.append(line + (b"" if parent < 0 else f" parent {parent}".encode()))
+            for (_, number, label, voter), (stamp, value) in sorted(item for item in self.votes.items() if item[0][0] == change):
+                lines.append(b"vote %d,%d %s %s %d %s" % (change, number, label, voter, value, stamp_text(stamp).encode()))
+        return b"".join(line + b"\n" for line in lines + [b"end %d" % len(self.changes)])
+
+
+def stamp_text(stamp) -> str:
+    return ",".join(map(str, stamp))
+
+
+# ---- the gate
+
+
+def label_rule(key: str) -> bool:
+    return re.fullmatch(r"[A-Za-z0-9-]{1,64}", key) is not None
+
+
+class Gate:
+    def __init__(self, data: bytes):
+        try:
+            value = read_json(data)
+        except (ValueError, RecursionError):
+            raise Refused("gate 1 NotJson") from None
+        if not isinstance(value, dict):
+            raise Refused("gate 1 NotJson")
+        name = value.get("connection")
+        self.connection = name if isinstance(name, str) else "gerrit"
+        self.walk(value)
+        self.bases = [base.encode() for base in value["bases"]]
+        self.cycles = value.get("allow-circular-dependencies", False)
+        self.sides = {side: value.get(side, {}).get(self.connection, {}) for side in ("require", "reject")}
+
+    def walk(self, value: dict) -> None:
+        """The first fault in the order of the walk."""
+        for key in sorted(value, key=str.encode):
+            if key == "allow-circular-dependencies":
+                self.want(isinstance(value[key], bool), key)
+            elif key == "bases":
+                self.want(self.are_bases(value[key]), key)
+            elif key == "connection":
+                self.want(isinstance(value[key], str), key)
+            elif key in ("require", "reject"):
+                self.want(isinstance(value[key], dict), key)
+                self.walk_side(value[key])
+            else:
+                raise Refused(f"gate 2 UnknownKey {key}")
+        self.want("bases" in value, "bases")
+
+    @staticmethod
+    def want(is_good: bool, key: str) -> None:
+        if not is_good:
+            raise Refused(f"gate 3 BadValue {key}")
+
+    @staticmethod
+    def are_bases(value) -> bool:
+        return isinstance(value, list) and 1 <= len(value) <= 8 and all(
+            isinstance(base, str) and re.fullmatch(rb"[\x21-\x7e]{0,255}/", base.encode()) for base in value)
+
+    def walk_side(self, side: dict) -> None:
+        for key in sorted(side, key=str.encode):
+            if key != self.connection:
+                raise Refused(f"gate 4 Unsupported {key}")
+            self.want(isinstance(side[key], dict), key)
+            for clause in sorted(side[key], key=str.encode):
+                self.walk_clause(clause, side[key][clause])
+
+    def walk_clause(self, key: str, value) -> None:
+        if key in ("open", "current-patchset"):
+            self.want(isinstance(value, bool), key)
+        elif key == "status":
+            names = value if isinstance(value, list) else [value]
+            self.want(all(isinstance(name, str) for name in names), key)
+        elif key == "approval":
+            for pattern in value if isinstance(value, list) else [value]:
+                self.want(isinstance(pattern, dict), key)
+                self.walk_pattern(pattern)
+        elif key in ("wip", "hashtags"):
+            raise Refused(f"gate 4 Unsupported {key}")
+        else:
+            raise Refused(f"gate 2 UnknownKey {key}")
+
+    def walk_pattern(self, pattern: dict) -> None:
+        for key in sorted(pattern, key=str.encode):
+            value = pattern[key]
+            if key == "username":
+                self.want(isinstance(value, str), key)
+            elif key in ("email", "older-than", "newer-than"):
+                raise Refused(f"gate 4 Unsupported {key}")
+            elif label_rule(key):
+                votes = value if isinstance(value, list) else [value]
+                self.want(all(is_whole(vote, -128, 127) for vote in votes), key)
+            else:
+                raise Refused(f"gate 2 UnknownKey {key}")
+
+    def own(self, state: State, item) -> str | None:
+        """The item's own condition."""
+        change, number = item
+        for side in ("require", "reject"):
+            conditions = self.sides[side]
+            holds = []
+            if "open" in conditions:
+                holds.append(("open", (state.status(change) == "NEW") == conditions["open"]))
+            if "current-patchset" in conditions:
+                holds.append(("current-patchset", (state.current[change] == number) == conditions["current-patchset"]))
+            if "status" in conditions:
+                names = conditions["status"]
+                holds.append(("status", state.status(change) in (names if isinstance(names, list) else [names])))
+            patterns = conditions.get("approval", [])
+            for place, pattern in enumerate(patterns if isinstance(patterns, list) else [patterns], 1):
+                holds.append((f"approval {place}", any(takes(pattern, approval) for approval in state.approvals(change))))
+            for words, is_so in holds:
+                if is_so != (side == "require"):
+                    return f"{side} {words}"
+        return None
+
+
+def takes(pattern: dict, approval) -> bool:
+    label, voter, value = approval
+    labels = [key for key in pattern if key != "username"]
+    if "username" in pattern and pattern["username"].encode() != voter or len(labels) > 1:
+        return False
+    if not labels:
+        return True
+    votes = pattern[labels[0]]
+    return labels[0].lower().encode() == label and value in (votes if isinstance(votes, list) else [votes])
+
+
+# ---- footers
+
+
+NUMBER = re.compile(rb"([0-9]{1,10})(?:/(?:[0-9]{1,10}/?)?)?")
+BLANKS = b" \t\r"
+
+
+def number_of(text: bytes) -> int | None:
+    found = NUMBER.fullmatch(text)
+    return int(found[1]) if found and 1 <= int(found[1]) <= TOP_U32 else None
+
+
+def read_under(base: bytes, value: bytes) -> int | None:
+    if not value.startswith(base):
+        return None
+    rest = value[len(base):]
+    project, mark, last = rest[2:].rpartition(b"/+/")
+    forms = [rest] + [rest[4:]] * rest.startswith(b"#/c/") + [last] * (rest.startswith(b"c/") and bool(mark) and bool(project))
+    return next((number for form in forms if (number := number_of(form))), None)
+
+
+def footers(bases: list, own: int, message: bytes):
+    """The changes that a message needs, in order, and the values that it ignores."""
+    needs, ignored = set(), []
+    for line in message.split(b"\n"):
+        word, colon, value = line.partition(b":")
+        if not colon or word.lower() != b"depends-on":
+            continue
+        value = value.strip(BLANKS)
+        named = next((number for base in bases if (number := read_under(base, value))), None)
+        if named is None or named == own:
+            ignored.append(value)
+        else:
+            needs.add(named)
+    return sorted(needs), ignored
+
+
+# ---- judgement
+
+
+class Judged:
+    """The ready items in gate order, and each other one with its refusal."""
+
+    def __init__(self, gate: Gate, state: State):
+        self.state, self.items = state, sorted(state.sets)
+        self.targets = {item: self.targets_of(gate, item) for item in self.items}
+        self.ends = {
+            item: [(c, state.current[c]) for c in self.targets[item] if c in state.current] for item in self.items}
+        self.reach = {item: self.reached(item, self.items) for item in self.items}
+        first = {item: self.first_cause(gate, item) for item in self.items}
+        ready = {item for item in self.items if first[item] is None}
+        while any(end not in ready for item in ready for end in self.ends[item]):
+            ready = {item for item in ready if all(end in ready for end in self.ends[item])}
+        self.out = {item: first[item] for item in self.items if first[item]}
+        ranks = dict.fromkeys(self.out, 0)
+        waiting = [item for item in self.items if item not in ready and item not in ranks]
+        rank = 0
+        while waiting:
+            rank += 1
+            found = {}
+            for item in waiting:
+                near = [end[0] for end in self.ends[item] if ranks.get(end) == rank - 1]
+                if near:
+                    found[item] = f"dependency {min(near)}"
+            self.out |= found
+            ranks |= dict.fromkeys(found, rank)
+            waiting = [item for item in waiting if item not in found]
+        self.ready = sorted(ready, key=lambda item: self.place(item, ready))
+
+    def targets_of(self, gate: Gate, item) -> list:
+        message, parent = self.state.sets[item][1]
+        names = set(footers(gate.bases, item[0], message)[0]) | ({parent} if parent > 0 and parent != item[0] else set())
+        return sorted(name for name in names if name not in self.state.merged)
+
+    def reached(self, item, within) -> set:
+        found, todo = set(), [item]
+        while todo:
+            for end in self.ends[todo.pop()]:
+                if end not in found and end in within:
+                    found.add(end)
+                    todo.append(end)
+        return found
+
+    def first_cause(self, gate: Gate, item) -> str | None:
+        if own := gate.own(self.state, item):
+            return own
+        if not gate.cycles and item in self.reach[item]:
+            return "cycle"
+        unknown = [change for change in self.targets[item] if change not in self.state.current]
+        return f"unknown {unknown[0]}" if unknown else None
+
+    def place(self, item, ready):
+        reached = self.reached(item, ready) | {item}
+        return (len(reached), min(other for other in reached if other == item or item in self.reached(other, ready)), item)
+
+    def text(self) -> bytes:
+        lines = [f"ready {c},{p}" for c, p in self.ready] + [f"out {c},{p} {self.out[c, p]}" for c, p in sorted(self.out)]
+        return "".join(line + "\n" for line in lines + [f"end {len(self.ready)} {len(self.out)}"]).encode()
+
+
+def report(gate: Gate, record: Record) -> bytes:
+    return Judged(gate, State(record)).text()
+
+
+# ---- snapshots
+
+
+def lines_of(text: bytes) -> list:
+    lines = text.split(b"\n")
+    if not lines[-1]:
+        lines.pop()
+    return [line.removesuffix(b"\r") for line in lines]
+
+
+def read_snapshot(text: bytes) -> Record:
+    lines, record, count = lines_of(text), Record(), 0
+    if not lines or lines[0] not in (b"reviewgate 1", b"reviewgate 2"):
+        raise Refused("snapshot 1 BadHeader")
+    for number, line in enumerate(lines[1:], 2):
+        if found := re.fullmatch(rb"end ([0-9]{1,20})", line):
+            if int(found[1]) != count:
+                raise Refused("snapshot 4 BadCount")
+            if number < len(lines):
+                raise Refused("snapshot 5 AfterEnd")
+            return record
+        try:
+            record.take(read_op(line))
+        except Refused as cause:
+            raise Refused(f"snapshot 2 BadLine {number} {str(cause).partition(' ')[2]}") from None
+        count += 1
+    raise Refused("snapshot 3 NoEnd")
+
+
+def snapshot(ops) -> bytes:
+    lines = [op.text() for op in sorted(set(ops), key=Op.key)]
+    return b"".join(line + b"\n" for line in [b"reviewgate 2"] + lines + [b"end %d" % len(lines)])
+
+
+# ---- sites
+
+
+def intake(record: Record, site: int, start: int, deed: Deed, spent: str) -> bytes:
+    """Takes a body in. Answers the stamp's text; refused as the script or the session says."""
+    if record.is_spent(site, start):
+        raise Refused(spent)
+    op = record.next_op(site, start, checked(deed))
+    record.take(op)
+    return stamp_text(op.stamp()).encode()
+
+
+@dataclass
+class Site:
+    number: int
+    record: Record = field(default_factory=Record)
+    saved: Record = field(default_factory=Record)
+    start: int = 1
+
+
+class World:
+    """A script's sites and packets."""
+
+    def __init__(self, sites: int, gate: Gate | None):
+        self.sites = [Site(number) for number in range(1, sites + 1)]
+        self.packets, self.gate = [], gate
+
+    def site(self, number: int) -> Site:
+        if not 1 <= number <= len(self.sites):
+            raise Refused("1 NoSite")
+        return self.sites[number - 1]
+
+    def play(self, word: str, first: int, second) -> bytes:
+        try:
+            return getattr(self, word)(first, second)
+        except Refused as cause:
+            return f"no {cause}\n".encode()
+
+    def intake(self, number, deed) -> bytes:
+        site = self.site(number)
+        try:
+            return b"ok " + intake(site.record, number, site.start, deed, "4 ClockSpent") + b"\n"
+        except Refused as cause:
+            raise Refused(str(cause) if " " in str(cause) else "5 BadBody") from None
+
+    def send(self, number, front) -> bytes:
+        site = self.site(number)
+        front = self.site(front).record.front() if isinstance(front, int) else front
+        lacked = site.record.missing(front)
+        self.packets.append(lacked[:256])
+        return b"packet %d %d %s\n" % (len(self.packets), len(lacked[:256]), b"more" if len(lacked) > 256 else b"done")
+
+    def deliver(self, packet, number) -> bytes:
+        site = self.site(number)
+        if not 1 <= packet <= len(self.packets):
+            raise Refused("2 NoPacket")
+        return b"took %d\n" % sum(site.record.take(op) for op in self.packets[packet - 1])
+
+    def save(self, number, _) -> bytes:
+        self.site(number).saved = self.site(number).record.copy()
+        return b"saved\n"
+
+    def restart(self, number, start) -> bytes:
+        site = self.site(number)
+        if start <= site.start:
+            raise Refused("3 StartUsed")
+        site.start, site.record = start, site.saved.copy()
+        return b"restarted\n"
+
+    def state(self, number, _) -> bytes:
+        return State(self.site(number).record).text()
+
+    def front(self, number, _) -> bytes:
+        return front_text(self.site(number).record.front()) + b"\n"
+
+    def ready(self, number, _) -> bytes:
+        return report(self.gate, self.site(number).record)
+
+
+def digits(text: bytes, most: int) -> int:
+    if not re.fullmatch(rb"[0-9]{1,20}", text) or int(text) > most:
+        raise Refused("BadLine")
+    return int(text)
+
+
+def step_of(line: bytes, has_gate: bool):
+    """What a line of a script plays."""
+    word, _, rest = line.partition(b" ")
+    first, blank, last = rest.partition(b" ")
+    if word == b"intake" and blank:
+        return "intake", digits(first, 65535), deed_of(read_object(last, False))
+    if word == b"send" and blank:
+        site = digits(first, 65535)
+        return "send", site, digits(last[1:], 65535) if last.startswith(b"@") else read_front(last)
+    if word == b"deliver" and blank:
+        return "deliver", digits(first, TOP_U64), digits(last, 65535)
+    if word == b"restart" and blank:
+        return "restart", digits(first, 65535), digits(last, TOP_U32)
+    if word in (b"save", b"state", b"front") or word == b"ready" and has_gate:
+        return word.decode(), digits(rest, 65535), None
+    raise Refused("BadLine")
+
+
+def simulate(script: bytes, gate: Gate | None):
+    """What a script prints, and what it is refused with."""
+    world, printed = None, b""
+    for number, line in enumerate(lines_of(script), 1):
+        if not line or line.startswith(b"#"):
+            continue
+        try:
+            if world is None:
+                if not line.startswith(b"sites ") or not 1 <= digits(line[6:], 64):
+                    raise Refused("BadSites")
+                world = World(digits(line[6:], 64), gate)
+                continue
+            step = step_of(line, gate is not None)
+        except Refused:
+            return printed, "script 1 BadSites" if world is None else f"script 2 BadLine {number}"
+        printed += world.play(*step)
+    return (printed, None) if world else (b"", "script 1 BadSites")
+
+
+# ---- sessions
+
+
+class Session:
+    """What a site answers line by line."""
+
+    def __init__(self, record: Record, gate: Gate, site: int, start: int):
+        self.record, self.gate, self.site, self.start = record, gate, site, start
+
+    def talk(self, text: bytes) -> bytes:
+        answers, is_first = b"", True
+        for line in text.split(b"\n")[:-1]:
+            line = line.removesuffix(b"\r")
+            if len(line) > 524288:
+                return answers + b"no 1 LongLine\n"
+            answer, goes_on = self.first(line) if is_first else self.answer(line)
+            answers, is_first = answers + answer, False
+            if not goes_on:
+                break
+        return answers
+
+    def first(self, line: bytes):
+        return (b"hello 2\n", True) if line == b"hello 2" else (b"no 2 BadVersion\n", False)
+
+    def answer(self, line: bytes):
+        if line == b"quit":
+            return b"bye\n", False
+        if line.startswith(b"hello "):
+            return self.first(line)
+        if line == b"ready":
+            return report(self.gate, self.record), True
+        if line == b"state":
+            return State(self.record).text(), True
+        try:
+            if line.startswith(b"take "):
+                return self.take(line[5:]), True
+            if line.startswith(b"front "):
+                lacked = self.record.missing(read_front(line[6:]))
+                ops = b"".join(b"op " + op.text() + b"\n" for op in lacked[:256])
+                return ops + (b"more\n" if len(lacked) > 256 else b"done\n"), True
+        except Refused:
+            return b"no 7 BadText\n", True
+        return b"no 6 BadCommand\n", True
+
+    def take(self, body: bytes) -> bytes:
+        deed = deed_of(read_object(body, False))
+        try:
+            return b"ok " + intake(self.record, self.site, self.start, deed, "9 ClockSpent") + b"\n"
+        except Refused as cause:
+            return b"no 9 ClockSpent\n" if str(cause) == "9 ClockSpent" else b"no 8 BadBody\n"

@@ -1,0 +1,23 @@
+# Completes the commands and options of reviewgate in bash: source it, or put it into /etc/bash_completion.d.
+_reviewgate() {
+    local word=${COMP_WORDS[COMP_CWORD]} command=${COMP_WORDS[1]} words=""
+    if [ "$COMP_CWORD" -eq 1 ]; then
+        words="ready why graph merge footers simulate serve events help --help --version"
+    else
+        case $command in
+            events) words="--to --help" ;;
+            footers) words="--change --help" ;;
+            graph) words="--around --help" ;;
+            serve)
+                words="--site --start --port --workers --pause --sessions --idle --until-input-ends --load --save --help"
+                ;;
+            *) words="--help" ;;
+        esac
+    fi
+    if [ "$COMP_CWORD" -gt 1 ] && [[ $word != -* ]]; then
+        mapfile -t COMPREPLY < <(compgen -f -- "$word")
+    else
+        mapfile -t COMPREPLY < <(compgen -W "$words" -- "$word")
+    fi
+}
+complete -F _reviewgate reviewgate
