@@ -53,11 +53,15 @@ abbrev pub bare_app : App
 bare_app = let app = new_app (codes "reviewgate") in
     record app { top = record app.top { no_binary_name = true; has_version = true; subcommand_required = true } }
 
+-- the program with the commands that read scripts and snapshots
+abbrev pub reading_app : App
+reading_app = with_subcommand (with_subcommand (with_subcommand bare_app simulate_app.top) ready_app.top) merge_app.top
+
 -- the program
 abbrev pub program : App
 program =
-    with_subcommand (with_subcommand (with_subcommand (with_subcommand (with_subcommand (with_subcommand (with_subcommand bare_app
-    simulate_app.top) ready_app.top) merge_app.top) footers_app.top) why_app.top) graph_app.top) events_app.top
+    with_subcommand (with_subcommand (with_subcommand (with_subcommand reading_app footers_app.top) why_app.top) graph_app.top)
+    events_app.top
 
 -- an argument that clap reads by this rule, at its own command alone
 abbrev pub IsRule : Rule → Arg → Type 0

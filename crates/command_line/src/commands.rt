@@ -4,7 +4,7 @@ ghost use Rattle.std.specs.Prelude.{IfOk, codes};
 ghost use Rattle.clap.specs.Words.{new_rule};
 ghost use Rattle.command_line.specs.Commands.{IsApp, IsRule, around_rule, bare_app, change_rule, events_app, footers_app};
 ghost use Rattle.command_line.specs.Commands.{graph_app};
-ghost use Rattle.command_line.specs.Commands.{merge_app, needed, program, ready_app, simulate_app, why_app};
+ghost use Rattle.command_line.specs.Commands.{merge_app, needed, program, reading_app, ready_app, simulate_app, why_app};
 
 use clap::{Arg, Command};
 use std::alloc::{AllocError, Global};
@@ -20,20 +20,21 @@ const SITES: &str =
 pub fn commands<'a>(alloc: Global) -> Result<Command<'a>, AllocError>
     ensures { IfOk result (IsApp program) }
 {
-    let simulate = simulate_command(alloc)?;
-    let ready = ready_command(alloc)?;
-    let merge = merge_command(alloc)?;
-    let footers = footers_command(alloc)?;
-    let why = why_command(alloc)?;
-    let graph = graph_command(alloc)?;
-    bare_program(alloc)?
-        .subcommand(simulate)?
-        .subcommand(ready)?
-        .subcommand(merge)?
-        .subcommand(footers)?
-        .subcommand(why)?
-        .subcommand(graph)?
-        .subcommand(events_command(alloc))
+    let reading = reading_commands(alloc)?;
+    let depending = reading.subcommand(footers_command(alloc)?)?;
+    let explaining = depending.subcommand(why_command(alloc)?)?;
+    let drawing = explaining.subcommand(graph_command(alloc)?)?;
+    drawing.subcommand(events_command(alloc))
+}
+
+/// The program with the commands that read scripts and snapshots.
+fn reading_commands<'a>(alloc: Global) -> Result<Command<'a>, AllocError>
+    ensures { IfOk result (IsApp reading_app) }
+{
+    let bare = bare_program(alloc)?;
+    let playing = bare.subcommand(simulate_command(alloc)?)?;
+    let judging = playing.subcommand(ready_command(alloc)?)?;
+    judging.subcommand(merge_command(alloc)?)
 }
 
 /// The program, before it has its commands.
