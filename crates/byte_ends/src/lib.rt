@@ -1,6 +1,16 @@
 //! The ends through which bytes come in and go out: a source is read, a drain is written. Each
 //! counts the calls that failed, so that a caller can say that an error came only where its end
 //! failed.
+//!
+//! An example of its use:
+//!
+//! ```
+//! let mut source = Ends::new(b"two\r\nlines".as_slice());
+//! let text = read_all(alloc, &mut source, 80)?;
+//! let mut lines = Lines::new(text.as_slice());
+//! assert_eq!(rt; lines.next_line().ok_or("a line")?, b"two".as_slice());
+//! assert_eq!(rt; lines.next_line().ok_or("a line")?, b"lines".as_slice());
+//! ```
 #![tactic(auto)]
 
 mod breaking;

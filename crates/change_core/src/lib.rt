@@ -1,12 +1,20 @@
 //! The state of one Gerrit change: last-writer-wins registers and a grow-only flag, joined as a lattice.
+//!
+//! An example of its use:
+//!
+//! ```
+//! let stamp = Stamp::new(5, 1, 1, 1).ok_or("a stamp")?;
+//! let op = Op::new(stamp, Body::checked(Draft::Abandon { change: 101 })?);
+//! let mut change = ChangeState::new(alloc);
+//! change.take(&op)?;
+//! assert_eq!(rt; change.status(), Status::Abandoned);
+//! ```
 #![tactic(auto)]
 
 mod commit;
 mod laws;
 mod life;
 mod state;
-#[cfg(test)]
-mod tests;
 mod vote_slot;
 mod votes;
 

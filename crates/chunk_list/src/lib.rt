@@ -1,4 +1,13 @@
 //! Lists in an order of the caller's, kept in chunks, so that an item comes in or goes anywhere in about logarithmic time.
+//!
+//! An example of its use:
+//!
+//! ```
+//! let mut list = ChunkList::new(alloc);
+//! list.push(1u32)?;
+//! list.push(2)?;
+//! assert_eq!(rt; *list.last().ok_or("an item")?, 2);
+//! ```
 #![tactic(auto)]
 
 mod edits;

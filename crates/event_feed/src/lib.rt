@@ -6,6 +6,18 @@
 //! |---|---|
 //! | `reviewgate: events 1 BadEvent n KEY` | line n is no event, lacks what its kind needs, or has a bad body |
 //! | `reviewgate: events 2 Dropped n` | line n says that Gerrit dropped events; the feed ends |
+//!
+//! An example of its use:
+//!
+//! ```
+//! let line = b"{\"type\":\"change-abandoned\",\"change\":{\"number\":101}}\n".as_slice();
+//! let mut source = Ends::new(line);
+//! let mut output = Ends::new(Vec::new(alloc));
+//! let mut errors = Ends::new(Vec::new(alloc));
+//! events_run(alloc, &mut source, &mut output, &mut errors)?;
+//! let lines = b"hello 2\ntake {\"change\":101,\"op\":\"abandon\"}\n".as_slice();
+//! assert_eq!(rt; output.get_ref().as_slice(), lines);
+//! ```
 #![tactic(auto)]
 
 mod fault;

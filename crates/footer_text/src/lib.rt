@@ -1,12 +1,18 @@
 //! The changes that a message's `Depends-On:` footers name.
+//!
+//! An example of its use:
+//!
+//! ```
+//! let bases = Bases::new(alloc, &["https://r/"])?;
+//! let footers = depends(alloc, &bases, 101, "Fix\n\nDepends-On: https://r/98\n")?;
+//! assert_eq!(rt; footers.needs.as_slice(), [98u32].as_slice());
+//! ```
 #![tactic(auto)]
 
 mod bases;
 mod depend;
 mod footer;
 mod reading;
-#[cfg(test)]
-mod tests;
 
 pub use bases::{Bases, BasesFault};
 pub use depend::{Footers, depends, footers_are_unique};

@@ -14,6 +14,14 @@
 //! `username` is a text, and any other key of 1 to 64 ASCII letters, digits and `-` is a label, whose value is a whole
 //! number from -128 to 127 or a list of such numbers. `wip`, `hashtags`, `email`, `older-than` and `newer-than`, which
 //! Zuul has, are refused as not supported.
+//!
+//! An example of its use:
+//!
+//! ```
+//! let gate = Gate::read(alloc, br#"{"bases":["https://r/"],"require":{"gerrit":{"open":true}}}"#)?;
+//! assert!(rt; !gate.cycles());
+//! assert!(rt; Gate::read(alloc, b"{}").is_err());
+//! ```
 #![tactic(auto)]
 
 mod build;
@@ -23,8 +31,6 @@ mod gate;
 mod keys;
 mod laws;
 mod own;
-#[cfg(test)]
-mod tests;
 mod value;
 mod walk;
 

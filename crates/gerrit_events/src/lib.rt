@@ -15,6 +15,15 @@
 //! | none | a line of a query: its patch set, votes and status |
 //!
 //! Each event but these last three brings its patch set first, unless this run has brought it.
+//!
+//! An example of its use:
+//!
+//! ```
+//! let line = br#"{"type":"change-abandoned","change":{"number":101}}"#;
+//! let mut known = Known::new(alloc);
+//! let findings = read_event(alloc, &mut known, line)?;
+//! assert_eq!(rt; findings.len(), 1);
+//! ```
 #![tactic(auto)]
 
 mod claim;
@@ -25,8 +34,6 @@ mod kind;
 mod known;
 mod patch;
 mod read;
-#[cfg(test)]
-mod tests;
 mod value;
 
 pub use fault::{EventFault, EventKey};

@@ -22,6 +22,18 @@
 //! | `no 8 BadBody` | the body is refused |
 //! | `no 9 ClockSpent` | no stamp is left |
 //! | `no 10 Closed` | the site has ended |
+//!
+//! An example of its use:
+//!
+//! ```
+//! let gate = Gate::read(alloc, br#"{"bases":["https://r/"]}"#)?;
+//! let mut port = OwnPort::new(Replica::new(alloc), gate, 1, 1);
+//! let lines = b"hello 2\ntake {\"op\":\"merged\",\"change\":101}\n".as_slice();
+//! let mut source = Ends::new(lines);
+//! let mut answers = Ends::new(Vec::new(alloc));
+//! session_run(alloc, &mut source, &mut answers, &mut port)?;
+//! assert_eq!(rt; answers.get_ref().as_slice(), b"hello 2\nok 1,1,1,1\n".as_slice());
+//! ```
 #![tactic(auto)]
 
 mod answer;

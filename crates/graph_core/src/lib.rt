@@ -2,13 +2,24 @@
 //!
 //! An item is a known patch set of a change. It names the changes in the `Depends-On:` footers of its message, and the change of its Git parent,
 //! unless that is its own. Those of them that aren't merged are its targets. A target that is known stands for its current patch set.
+//!
+//! An example of its use:
+//!
+//! ```
+//! let gate = Gate::read(alloc, br#"{"bases":["https://r/"]}"#)?;
+//! let message = String::from_str(alloc, "Fix\n\nDepends-On: https://r/98\n")?;
+//! let draft = Draft::PatchSet { change: 101, set: 1, message, parent: None };
+//! let stamp = Stamp::new(1, 1, 1, 1).ok_or("a stamp")?;
+//! let mut state = State::new(alloc);
+//! state.take(&Op::new(stamp, Body::checked(draft)?))?;
+//! let graph = Graph::build(alloc, &state, &gate)?;
+//! assert_eq!(rt; graph.targets(Item { change: 101, set: 1 }), [98u32].as_slice());
+//! ```
 #![tactic(auto)]
 
 mod graph;
 mod items;
 mod namers;
 mod targets;
-#[cfg(test)]
-mod tests;
 
 pub use graph::Graph;

@@ -1,4 +1,12 @@
 //! The items of a state and what they wait for as a picture: a graph in the DOT language of Graphviz.
+//!
+//! An example of its use:
+//!
+//! ```
+//! let gate = Gate::read(alloc, br#"{"bases":["https://r/"]}"#)?;
+//! let picture = graph_text(alloc, &gate, &State::new(alloc), None)?;
+//! assert!(rt; picture.as_str().starts_with("digraph"));
+//! ```
 #![tactic(auto)]
 
 mod laws;
@@ -6,8 +14,6 @@ mod near;
 mod node;
 mod nodes;
 mod picture;
-#[cfg(test)]
-mod tests;
 mod text;
 
 pub use laws::words_need_no_escape;

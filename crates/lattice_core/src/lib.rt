@@ -3,6 +3,16 @@
 //! `Join` is the trait of such states, with its laws. `Flag`, `Register` and `Greatest` are the least of them; `Both` and
 //! `JoinMap` are made of others, and their laws follow from those of their parts. `Keep` is the trait of what they hold: keys
 //! and values with an exact order. Contracts speak of shapes: what values are, wherever they lie in memory.
+//!
+//! An example of its use:
+//!
+//! ```
+//! let mut scores = JoinMap::new(alloc);
+//! scores.join_at(7u32, Register::new(1u64, 2u32))?;
+//! scores.join_at(7, Register::new(5, 1))?;
+//! let score = scores.get(&7).ok_or("a score")?;
+//! assert_eq!(rt; *score.value(), 1);
+//! ```
 #![tactic(auto)]
 
 mod both;
@@ -27,6 +37,3 @@ pub use laws::{
 };
 pub use memory::NoMemory;
 pub use register::Register;
-
-#[cfg(test)]
-mod tests;

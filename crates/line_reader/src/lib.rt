@@ -1,4 +1,13 @@
 //! Lines that come from a source: each is handed out once its LF was read, whatever pieces the bytes come in.
+//!
+//! An example of its use:
+//!
+//! ```
+//! let mut source = Ends::new(b"one\r\ntwo\n".as_slice());
+//! let mut reader = LineReader::new(alloc, 80)?;
+//! assert!(rt; reader.next_line(&mut source)?);
+//! assert_eq!(rt; reader.line(), b"one".as_slice());
+//! ```
 #![tactic(auto)]
 
 mod reader;

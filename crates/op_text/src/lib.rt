@@ -14,6 +14,14 @@
 //! `time` is a whole number below 2^64, `seq` one from 1 on, `site` one below 2^16, `start`, `change`, `set` and `parent` are
 //! below 2^32, `value` is from -128 to 127, the others are texts. A label is read in any case, and kept and written in lower
 //! case. A front is a list of lists `[site,start,n]`.
+//!
+//! An example of its use:
+//!
+//! ```
+//! let body = Body::checked(read_body(alloc, br#"{"op":"merged","change":101}"#)?)?;
+//! let text = write_body(alloc, &body)?;
+//! assert_eq!(rt; text.as_str(), r#"{"change":101,"op":"merged"}"#);
+//! ```
 #![tactic(auto)]
 
 mod fault;
@@ -23,8 +31,6 @@ mod laws;
 mod quick;
 mod read;
 mod shape;
-#[cfg(test)]
-mod tests;
 mod write;
 
 pub use fault::OpTextFault;

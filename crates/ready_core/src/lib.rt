@@ -13,6 +13,19 @@
 //!
 //! The ready items stand in gate order: by how many ready items an item waits for, over others, itself among them; then by the least item of its
 //! cycle; then by change and patch set. So what an item waits for stands before it, and the items of an allowed cycle stand together.
+//!
+//! An example of its use:
+//!
+//! ```
+//! let gate = Gate::read(alloc, br#"{"bases":["https://r/"]}"#)?;
+//! let message = String::from_str(alloc, "Fix\n\nDepends-On: https://r/98\n")?;
+//! let draft = Draft::PatchSet { change: 101, set: 1, message, parent: None };
+//! let stamp = Stamp::new(1, 1, 1, 1).ok_or("a stamp")?;
+//! let mut state = State::new(alloc);
+//! state.take(&Op::new(stamp, Body::checked(draft)?))?;
+//! let verdicts = evaluate(alloc, &state, &gate)?;
+//! assert_eq!(rt; verdicts.out()[0].refusal, Refusal::Unknown(98));
+//! ```
 #![tactic(auto)]
 
 mod causes;

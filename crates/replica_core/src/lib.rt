@@ -1,4 +1,16 @@
 //! The record of one site: a journal of operations and the state that they join to.
+//!
+//! An example of its use:
+//!
+//! ```
+//! let mut replica = Replica::new(alloc);
+//! let stamp = replica.next_stamp(1, 1)?;
+//! let op = Op::new(stamp, Body::checked(Draft::Merged { change: 101 })?);
+//! assert_eq!(rt; replica.take(op.copy()?)?, Taken::New);
+//! assert_eq!(rt; replica.take(op)?, Taken::Known);
+//! let missing = replica.missing(&Front::new(alloc), 256)?;
+//! assert_eq!(rt; missing.ops.len(), 1);
+//! ```
 #![tactic(auto)]
 
 mod clock;

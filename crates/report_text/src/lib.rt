@@ -1,4 +1,14 @@
 //! The texts of reports and of states.
+//!
+//! An example of its use:
+//!
+//! ```
+//! let gate = Gate::read(alloc, br#"{"bases":["https://r/"]}"#)?;
+//! let verdicts = evaluate(alloc, &State::new(alloc), &gate)?;
+//! let mut printed = Ends::new(Vec::new(alloc));
+//! write_report(&verdicts, &mut printed)?;
+//! assert_eq!(rt; printed.get_ref().as_slice(), b"end 0 0\n".as_slice());
+//! ```
 #![tactic(auto)]
 
 mod fault;

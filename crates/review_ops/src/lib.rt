@@ -3,6 +3,16 @@
 //! An operation is a stamp and a body. The body is a deed of review: a patch set is uploaded, a vote is cast or
 //! withdrawn, a change is abandoned, restored or merged. Operations are ordered by stamp, then by body, and two
 //! operations that compare alike are equal.
+//!
+//! An example of its use:
+//!
+//! ```
+//! let stamp = Stamp::new(5, 1, 1, 1).ok_or("a stamp")?;
+//! let op: Op = Op::new(stamp, Body::checked(Draft::Abandon { change: 101 })?);
+//! assert_eq!(rt; op.body().change(), 101);
+//! let nobody: Draft = Draft::Abandon { change: 0 };
+//! assert!(rt; Body::checked(nobody).is_err());
+//! ```
 #![tactic(auto)]
 
 mod body;
@@ -10,8 +20,6 @@ mod draft;
 mod fault;
 mod operation;
 mod stamp;
-#[cfg(test)]
-mod tests;
 mod word;
 
 pub use body::Body;

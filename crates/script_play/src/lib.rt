@@ -7,11 +7,17 @@
 //! | `took COUNT` | a packet that came |
 //! | `saved`, `restarted` | a site that saved, or started again |
 //! | `no NUMBER NAME` | what was refused |
+//!
+//! An example of its use:
+//!
+//! ```
+//! let mut world = World::new(alloc, 1)?;
+//! let printed = play_step(alloc, &mut world, Step::Front { site: 1 })?;
+//! assert_eq!(rt; printed.as_bytes(), b"[]\n".as_slice());
+//! ```
 #![tactic(auto)]
 
 mod play;
-#[cfg(test)]
-mod tests;
 mod texts;
 
 pub use play::play_step;

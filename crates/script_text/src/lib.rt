@@ -13,6 +13,14 @@
 //! | `restart SITE START` | a site starts again from what it saved |
 //! | `state SITE`, `front SITE` | the state or the front of a site is printed |
 //! | `ready SITE` | the report of a site is printed, under the gate |
+//!
+//! An example of its use:
+//!
+//! ```
+//! let script = read_script(alloc, b"sites 2\nfront 1\n", None)?;
+//! assert_eq!(rt; script.sites, 2);
+//! assert_eq!(rt; script.steps.len(), 1);
+//! ```
 #![tactic(auto)]
 
 mod fault;
@@ -20,8 +28,6 @@ mod fields;
 mod laws;
 mod script;
 mod script_lines;
-#[cfg(test)]
-mod tests;
 
 pub use fault::ScriptFault;
 pub use laws::scripts_have_one_reading;

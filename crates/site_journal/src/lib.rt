@@ -2,6 +2,19 @@
 //!
 //! The first line is `reviewgate 2`; then comes one operation a line, in the order in which they came. What stands past the last line end was torn
 //! while it was written, and counts for nothing.
+//!
+//! An example of its use:
+//!
+//! ```
+//! let tape = MemoryTape::new(Vec::new(alloc));
+//! let mut started = Journal::open(alloc, tape)?;
+//! let stamp = started.replica.next_stamp(1, 1)?;
+//! let op = Op::new(stamp, Body::checked(Draft::Merged { change: 101 })?);
+//! let line = r#"{"change":101,"op":"merged","seq":1,"site":1,"start":1,"time":1}"#;
+//! started.journal.append(&[op])?;
+//! let text = format!(in alloc; "reviewgate 2\n{line}\n")?;
+//! assert_eq!(rt; started.journal.tape().synced(), text.as_bytes());
+//! ```
 #![tactic(auto)]
 
 mod fault;

@@ -5,6 +5,16 @@
 //! | 1 `ClockSpent`, 2 `BadBody` | of an intake alone |
 //! | 3 `NoMemory` | memory was refused |
 //! | 4 `Closed` | the site has ended |
+//!
+//! An example of its use:
+//!
+//! ```
+//! use site_port::Port;
+//! let gate = Gate::read(alloc, br#"{"bases":["https://r/"]}"#)?;
+//! let mut port = OwnPort::new(Replica::new(alloc), gate, 1, 1);
+//! let stamp = port.intake(Draft::Merged { change: 101 })?;
+//! assert_eq!(rt; stamp.seq(), 1);
+//! ```
 #![tactic(auto)]
 
 mod fault;

@@ -1,12 +1,21 @@
 //! The texts of snapshots: how the operations of a replica are written, and what a text says.
+//!
+//! An example of its use:
+//!
+//! ```
+//! let line = r#"{"change":101,"op":"merged","seq":1,"site":1,"start":1,"time":1}"#;
+//! let text = format!(in alloc; "reviewgate 2\n{line}\nend 1\n")?;
+//! let replica = snapshot_of(alloc, text.as_bytes())?;
+//! let mut written = Ends::new(Vec::new(alloc));
+//! write_snapshot(alloc, &replica, &mut written)?;
+//! assert_eq!(rt; written.get_ref().as_slice(), text.as_bytes());
+//! ```
 #![tactic(auto)]
 
 mod end_line;
 mod fault;
 mod laws;
 mod read;
-#[cfg(test)]
-mod tests;
 mod write;
 
 pub use byte_ends::{BytesFault, read_all};

@@ -1,4 +1,17 @@
 //! Directed graphs: walks, distances and cycles.
+//!
+//! An example of its use:
+//!
+//! ```
+//! let mut first = Vec::new(alloc);
+//! first.push(1usize)?;
+//! let mut ends = Vec::new(alloc);
+//! ends.push(first)?;
+//! ends.push(Vec::new(alloc))?;
+//! let graph = Digraph::new(alloc, ends)?;
+//! let distances = graph.distances(&[false, true])?;
+//! assert_eq!(rt; distances.as_slice(), [Some(1), Some(0)].as_slice());
+//! ```
 #![tactic(auto)]
 
 mod block;

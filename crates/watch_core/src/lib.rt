@@ -1,5 +1,19 @@
 //! Verdicts that follow a replica. What stays as it is when operations come to a record: of changes without a new
 //! operation all that a gate asks of them, and of items that don't reach a change with one their verdicts.
+//!
+//! An example of its use:
+//!
+//! ```
+//! let mut replica = Replica::new(alloc);
+//! let gate = Gate::read(alloc, br#"{"bases":["https://r/"]}"#)?;
+//! let mut evaluator = Evaluator::fresh(gate, &replica)?;
+//! let stamp = replica.next_stamp(1, 1)?;
+//! let message = String::from_str(alloc, "Fix")?;
+//! let draft = Draft::PatchSet { change: 101, set: 1, message, parent: None };
+//! replica.take(Op::new(stamp, Body::checked(draft)?))?;
+//! evaluator.update(&replica)?;
+//! assert_eq!(rt; evaluator.verdicts().ok_or("verdicts")?.ready().len(), 1);
+//! ```
 #![tactic(auto)]
 
 mod evaluator;

@@ -1,5 +1,21 @@
 //! Why an item is left out: the items that wait for each other, down to the cause, and then what is asked and what is
 //! there.
+//!
+//! An example of its use:
+//!
+//! ```
+//! let file = br#"{"bases":["https://r/"]}"#;
+//! let gate = Gate::read(alloc, file)?;
+//! let message = String::from_str(alloc, "Fix\n\nDepends-On: https://r/98\n")?;
+//! let draft = Draft::PatchSet { change: 101, set: 1, message, parent: None };
+//! let stamp = Stamp::new(1, 1, 1, 1).ok_or("a stamp")?;
+//! let mut state = State::new(alloc);
+//! state.take(&Op::new(stamp, Body::checked(draft)?))?;
+//! let verdicts = evaluate(alloc, &state, &gate)?;
+//! let item = item_asked(&state, 101, None).ok_or("an item")?;
+//! let text = why_text(alloc, file, &gate, &state, &verdicts, item)?;
+//! assert_eq!(rt; text.as_str(), "101,1 unknown 98\n");
+//! ```
 #![tactic(auto)]
 
 mod asked;
@@ -7,8 +23,6 @@ mod chain;
 mod cycle;
 mod details;
 mod laws;
-#[cfg(test)]
-mod tests;
 mod wanted;
 mod why;
 mod words;

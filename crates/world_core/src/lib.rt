@@ -1,12 +1,22 @@
 //! A world of sites that take in operations and pass them on in packets, which may be lost, repeated or reordered.
+//!
+//! An example of its use:
+//!
+//! ```
+//! let mut world = World::new(alloc, 2)?;
+//! let draft = Draft::Merged { change: 101 };
+//! world.step(Event::Intake { site: 1, draft })?;
+//! let front = Front::new(alloc);
+//! world.step(Event::Send { site: 1, front })?;
+//! let reply = world.step(Event::Deliver { packet: 1, site: 2 })?;
+//! assert_eq!(rt; reply, Reply::Delivered(1));
+//! ```
 #![tactic(auto)]
 
 mod event;
 mod laws;
 mod machine;
 mod site;
-#[cfg(test)]
-mod tests;
 mod world;
 
 pub use event::{Event, Reply, WorldFault};

@@ -1,5 +1,8 @@
-use super::{Clause, Condition, Gate, GateFault, Side, the_first_fault_is_found};
-use review_ops::{Body, Draft, Op, Stamp};
+//! Gate files and their faults, and own conditions, worked out by hand.
+
+use super::record::{patch_set, take, vote};
+use gate_rules::{Clause, Condition, Gate, GateFault, Side, the_first_fault_is_found};
+use review_ops::Draft;
 use state_core::{Item, State};
 use std::alloc::{AllocError, Global};
 use std::process::Abort;
@@ -417,35 +420,6 @@ enum Step {
 
 use Step::{Abandon, Merged, Own, PatchSet, Vote};
 
-/// Takes a body with the time and sequence number `time`, of site 1 under start 1.
-fn take(state: &mut State, time: u64, draft: Draft) -> Result<(), Fail> {
-    let stamp = Stamp::new(time, 1, 1, time).ok_or("a stamp")?;
-    state.take(&Op::new(stamp, Body::checked(draft)?))?;
-    Ok(())
-}
-
-fn patch_set(alloc: Global, set: u32) -> Result<Draft, Fail> {
-    let message = String::from_str(alloc, "m")?;
-    Ok(Draft::PatchSet {
-        change: 101,
-        set,
-        message,
-        parent: None,
-    })
-}
-
-fn vote(alloc: Global, label: &str, voter: &str, value: i8) -> Result<Draft, Fail> {
-    let label = String::from_str(alloc, label)?;
-    let voter = String::from_str(alloc, voter)?;
-    Ok(Draft::Vote {
-        change: 101,
-        set: 1,
-        label,
-        voter,
-        value,
-    })
-}
-
 /// The own condition of a patch set under the gate, as reports print it.
 fn own(alloc: Global, gate: &Gate, state: &State, set: u32) -> Result<String, Fail> {
     let Some(change) = state.change(101) else {
@@ -483,8 +457,10 @@ fn printed(alloc: Global, condition: Condition) -> Result<String, Fail> {
 /// Plays one step.
 fn play_step(rt: &impl Abort, alloc: Global, state: &mut State, step: Step) -> Result<(), Fail> {
     match step {
-        PatchSet(time, set) => take(state, time, patch_set(alloc, set)?),
-        Vote(time, label, voter, value) => take(state, time, vote(alloc, label, voter, value)?),
+        PatchSet(time, set) => take(state, time, patch_set(alloc, 101, set, &[], None)?),
+        Vote(time, label, voter, value) => {
+            take(state, time, vote(alloc, 101, 1, label, voter, value)?)
+        }
         Abandon(time) => take(state, time, Draft::Abandon { change: 101 }),
         Merged(time) => take(state, time, Draft::Merged { change: 101 }),
         Own(gate, set, wanted) => {

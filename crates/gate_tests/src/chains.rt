@@ -1,13 +1,14 @@
 //! Items that are left out, and the lines that say why.
 
-use super::{item_asked, why_text};
+use super::record::{patch_set, take, vote};
 use gate_rules::Gate;
 use ready_core::evaluate;
-use review_ops::{Body, Draft, Op, Stamp};
+use review_ops::Draft;
 use state_core::{Item, State};
 use std::alloc::Global;
 use std::process::Abort;
 use std::test::Fail;
+use why_text::{item_asked, why_text};
 
 /// A gate that wants two approvals on the current patch set of an open change.
 const GATE: &str = r#"{"bases":["https://r/"],
@@ -29,79 +30,41 @@ enum Step {
 
 use Step::{Abandon, Both, PatchSet, Vote};
 
-/// A record whose operations come one after the other.
-#[derive(Drop)]
-struct Review {
-    state: State,
-    alloc: Global,
-    time: u64,
-}
-
-impl Review {
-    fn take(&mut self, draft: Draft) -> Result<(), Fail> {
-        self.time = self.time.saturating_add(1);
-        let stamp = Stamp::new(self.time, 1, 1, self.time).ok_or("a stamp")?;
-        self.state.take(&Op::new(stamp, Body::checked(draft)?))?;
-        Ok(())
-    }
-
-    fn patch_set(&mut self, change: u32, set: u32, needs: &[u32]) -> Result<(), Fail> {
-        let mut message = String::new(self.alloc);
-        for need in needs {
-            write!(message, "Depends-On: https://r/{need}\n")?;
+/// Takes a step in, whose last operation has this time.
+fn take_step(alloc: Global, state: &mut State, time: u64, step: Step) -> Result<(), Fail> {
+    match step {
+        PatchSet(change, set, needs) => {
+            take(state, time, patch_set(alloc, change, set, needs, None)?)
         }
-        let parent = None;
-        self.take(Draft::PatchSet {
-            change,
-            set,
-            message,
-            parent,
-        })
-    }
-
-    fn vote(
-        &mut self,
-        change: u32,
-        set: u32,
-        label: &str,
-        voter: &str,
-        value: i8,
-    ) -> Result<(), Fail> {
-        let label = String::from_str(self.alloc, label)?;
-        let voter = String::from_str(self.alloc, voter)?;
-        self.take(Draft::Vote {
-            change,
-            set,
-            label,
-            voter,
-            value,
-        })
-    }
-
-    fn step(&mut self, step: Step) -> Result<(), Fail> {
-        match step {
-            PatchSet(change, set, needs) => self.patch_set(change, set, needs),
-            Vote(change, set, label, voter, value) => self.vote(change, set, label, voter, value),
-            Both(change, set) => {
-                self.vote(change, set, "workflow", "ann", 1)?;
-                self.vote(change, set, "verified", "zuul", 2)
-            }
-            Abandon(change) => self.take(Draft::Abandon { change }),
+        Vote(change, set, label, voter, value) => {
+            take(state, time, vote(alloc, change, set, label, voter, value)?)
         }
+        Both(change, set) => {
+            let before = time.saturating_sub(1);
+            take(
+                state,
+                before,
+                vote(alloc, change, set, "workflow", "ann", 1)?,
+            )?;
+            take(
+                state,
+                time,
+                vote(alloc, change, set, "verified", "zuul", 2)?,
+            )
+        }
+        Abandon(change) => take(state, time, Draft::Abandon { change }),
     }
 }
 
 /// The state of steps, one after the other.
 fn state_of(alloc: Global, steps: &[Step]) -> Result<State, Fail> {
-    let mut review = Review {
-        state: State::new(alloc),
-        alloc,
-        time: 0,
-    };
+    let mut state = State::new(alloc);
+    let mut time = 0u64;
     for step in steps {
-        review.step(*step)?;
+        time = time.saturating_add(2);
+        take_step(alloc, &mut state, time, *step)?;
     }
-    Ok(review.state)
+    Ok(state)
 }
 
 /// Under a gate the lines of the item that is asked for, after these steps, are this text.

@@ -1,6 +1,6 @@
 //! Lines as Gerrit writes them, and what is found in them.
 
-use super::{EventFault, EventKey, Finding, Known, read_event};
+use gerrit_events::{EventFault, EventKey, Finding, Known, read_event};
 use op_text::write_body;
 use std::alloc::Global;
 use std::process::Abort;

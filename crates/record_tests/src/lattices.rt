@@ -1,5 +1,6 @@
 //! Worked examples, each type at concrete types, and each request for memory refused in turn.
-use super::{
+
+use lattice_core::{
     Both, Flag, Greatest, Join, JoinMap, Keep, NoMemory, Register,
     covering_is_the_order_of_the_join, join_all, lists_join_in_any_order, maps_join_key_by_key,
     registers_join_to_the_greatest,

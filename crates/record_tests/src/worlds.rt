@@ -1,13 +1,12 @@
 //! Scripts worked out by hand, and what stands after refused memory.
 
-use super::event::{Event, Reply, WorldFault};
-use super::world::World;
 use linked_list_allocator::LocalHeap;
 use replica_core::{Front, Row};
 use review_ops::{BodyFault, Draft, Stamp};
 use std::alloc::{Allocator, Global};
 use std::process::Abort;
 use std::test::Fail;
+use world_core::{Event, Reply, World, WorldFault};
 
 /// What a test lacks where memory is refused that it counts on.
 const MEMORY: &str = "memory";

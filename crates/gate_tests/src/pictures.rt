@@ -1,8 +1,9 @@
 //! Pictures of small records, drawn by hand.
 
-use super::graph_text;
+use super::record::{patch_set, take, vote};
 use gate_rules::Gate;
-use review_ops::{Body, Draft, Op, Stamp};
+use graph_text::graph_text;
+use review_ops::Draft;
 use state_core::State;
 use std::alloc::Global;
 use std::process::Abort;
@@ -25,36 +26,11 @@ enum Step {
 
 use Step::{Merged, PatchSet, Rejected};
 
-/// Takes in an operation of this time.
-fn take(state: &mut State, time: u64, draft: Draft) -> Result<(), Fail> {
-    let stamp = Stamp::new(time, 1, 1, time).ok_or("a stamp")?;
-    state.take(&Op::new(stamp, Body::checked(draft)?))?;
-    Ok(())
-}
-
 /// The draft of a step. The voter's name has a quote and a backslash.
 fn draft_of(alloc: Global, step: Step) -> Result<Draft, Fail> {
     match step {
-        PatchSet(change, set, needs) => {
-            let mut message = String::new(alloc);
-            for need in needs {
-                write!(message, "Depends-On: https://r/{need}\n")?;
-            }
-            let parent = None;
-            Ok(Draft::PatchSet {
-                change,
-                set,
-                message,
-                parent,
-            })
-        }
-        Rejected(change, set) => Ok(Draft::Vote {
-            change,
-            set,
-            label: String::from_str(alloc, "code-review")?,
-            voter: String::from_str(alloc, "a\"b\\")?,
-            value: -2,
-        }),
+        PatchSet(change, set, needs) => patch_set(alloc, change, set, needs, None),
+        Rejected(change, set) => vote(alloc, change, set, "code-review", "a\"b\\", -2),
         Merged(change) => Ok(Draft::Merged { change }),
     }
 }

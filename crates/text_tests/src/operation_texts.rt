@@ -1,4 +1,6 @@
-use super::{OpTextFault, read_body, read_front, read_op, write_body, write_front, write_op};
+//! Texts of operations and fronts, worked out by hand.
+
+use op_text::{OpTextFault, read_body, read_front, read_op, write_body, write_front, write_op};
 use review_ops::{Body, Draft};
 use std::alloc::{AllocError, Global};
 use std::process::Abort;

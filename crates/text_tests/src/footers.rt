@@ -1,4 +1,6 @@
-use super::{Bases, BasesFault, depends, footers_are_unique};
+//! Messages and their footers, worked out by hand.
+
+use footer_text::{Bases, BasesFault, depends, footers_are_unique};
 use lattice_core::NoMemory;
 use linked_list_allocator::LocalHeap;
 use std::process::Abort;

@@ -1,7 +1,7 @@
 //! What the lines of scripts say, worked out by hand.
 
-use super::{ScriptFault, Step, read_script};
 use gate_rules::Gate;
+use script_text::{ScriptFault, Step, read_script};
 use std::alloc::{AllocError, Global};
 use std::test::Fail;
 use world_core::Event;

@@ -1,5 +1,6 @@
 //! Changes worked out by hand, each public function once, and what stands after refused memory.
-use super::{ChangeState, Life, Status, operations_add_up};
+
+use change_core::{ChangeState, Life, Status, operations_add_up};
 use lattice_core::Join;
 use linked_list_allocator::LocalHeap;
 use review_ops::{Body, Draft, Op, Stamp};

@@ -1,9 +1,9 @@
 //! States worked out by hand, and what holds after refused memory.
 
-use super::{Item, State, a_journal_has_one_state, equal_journals_have_equal_states};
 use lattice_core::Join;
 use linked_list_allocator::LocalHeap;
 use review_ops::{Body, Draft, Op, Stamp};
+use state_core::{Item, State, a_journal_has_one_state, equal_journals_have_equal_states};
 use std::alloc::{Allocator, Global};
 use std::process::Abort;
 use std::test::Fail;

@@ -1,12 +1,15 @@
-use super::Graph;
+//! Graphs of small records, worked out by hand.
+
+use super::record::{patch_set, take};
 use gate_rules::Gate;
-use review_ops::{Body, Draft, Op, Stamp};
+use graph_core::Graph;
+use review_ops::Draft;
 use state_core::{Item, State};
 use std::alloc::Global;
 use std::process::Abort;
 use std::test::Fail;
 
-const GATE: &str = r#"{"bases":["https://review.example.org/"]}"#;
+const GATE: &str = r#"{"bases":["https://r/"]}"#;
 
 /// An operation of a record, whose place in the record is its time.
 #[derive(Clone, Copy)]
@@ -19,30 +22,9 @@ enum Step {
 
 use Step::{Abandon, Merged, PatchSet};
 
-/// Takes in an operation of this time.
-fn take(state: &mut State, time: u64, draft: Draft) -> Result<(), Fail> {
-    let stamp = Stamp::new(time, 1, 1, time).ok_or("a stamp")?;
-    state.take(&Op::new(stamp, Body::checked(draft)?))?;
-    Ok(())
-}
-
-/// A message with a footer for each of these changes.
-fn message_of(alloc: Global, needs: &[u32]) -> Result<String, Fail> {
-    let mut message = String::from_str(alloc, "m\n")?;
-    for need in needs {
-        write!(message, "Depends-On: https://review.example.org/{need}\n")?;
-    }
-    Ok(message)
-}
-
 fn draft_of(alloc: Global, step: Step) -> Result<Draft, Fail> {
     match step {
-        PatchSet(change, set, needs, parent) => Ok(Draft::PatchSet {
-            change,
-            set,
-            message: message_of(alloc, needs)?,
-            parent,
-        }),
+        PatchSet(change, set, needs, parent) => patch_set(alloc, change, set, needs, parent),
         Merged(change) => Ok(Draft::Merged { change }),
         Abandon(change) => Ok(Draft::Abandon { change }),
     }

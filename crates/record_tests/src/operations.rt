@@ -1,6 +1,8 @@
-use super::{Body, Draft, Op, Stamp};
+//! Operations, their bodies and stamps: what is good, in which order they stand, and copies, worked out by hand.
+
 use lattice_core::{Keep, NoMemory};
 use linked_list_allocator::LocalHeap;
+use review_ops::{Body, Draft, Op, Stamp};
 use std::alloc::{AllocError, Allocator, Global};
 use std::process::Abort;
 use std::test::Fail;

@@ -1,7 +1,7 @@
 //! Scripts and what their steps print, worked out by hand.
 
-use super::play_step;
 use gate_rules::Gate;
+use script_play::play_step;
 use script_text::{Script, read_script};
 use std::alloc::Global;
 use std::process::Abort;

@@ -1,11 +1,11 @@
 //! Snapshots worked out by hand, and what is answered where an end fails or memory is refused.
 
-use super::{
+use byte_ends::{Broken, Ends};
+use op_text::OpTextFault;
+use snapshot_text::{
     SnapFault, WriteSnapFault, lines_have_one_reading, read_snapshot, snapshot_of, snapshot_onto,
     snapshots_are_one, snapshots_say_their_operations, write_snapshot,
 };
-use byte_ends::{Broken, Ends};
-use op_text::OpTextFault;
 use std::alloc::Global;
 use std::test::Fail;
 

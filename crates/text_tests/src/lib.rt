@@ -1,0 +1,16 @@
+//! Tests of the texts that are read and printed: footers, operations, snapshots, scripts, what scripts print, and
+//! Gerrit's events, through the public functions of their crates. A crate of tests alone, as `record_tests` is.
+#![tactic(auto)]
+
+#[cfg(test)]
+mod events;
+#[cfg(test)]
+mod footers;
+#[cfg(test)]
+mod operation_texts;
+#[cfg(test)]
+mod plays;
+#[cfg(test)]
+mod scripts;
+#[cfg(test)]
+mod snapshots;
