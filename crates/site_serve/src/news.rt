@@ -3,12 +3,14 @@
 use site_shared::{Naming, Told};
 use std::alloc::Global;
 use std::sync::{Arc, Condvar, Mutex, Wait};
+use std::time::{Clock, Duration};
 
 /// What is new at a site. A newer receipt takes the place of one that nobody has looked at yet, so that whoever brings it never waits.
 #[derive(Drop)]
 pub struct News<J: Naming> {
     slot: Mutex<Slot<J>>,
     changed: Condvar,
+    closed: Condvar,
 }
 
 /// The newest receipt, and whether others may come.
@@ -27,6 +29,7 @@ impl<J: Naming> News<J> {
                 is_closed: false,
             }),
             changed: Condvar::new(),
+            closed: Condvar::new(),
         }
     }
 
@@ -45,6 +48,15 @@ impl<J: Naming> News<J> {
         let mut slot = self.slot.lock(rt);
         slot.is_closed = true;
         self.changed.notify_all();
+        self.closed.notify_all();
+    }
+
+    /// Rests for so long, or until nothing new comes any more.
+    pub fn rest<R: Wait + Clock>(&self, rt: &R, pause: Duration) {
+        let slot = self.slot.lock(rt);
+        let _ended = self
+            .closed
+            .wait_timeout_while(rt, slot, pause, |slot| !slot.is_closed);
     }
 
     /// Waits for the newest receipt that nobody has looked at; none once nothing new comes any more.

@@ -250,7 +250,7 @@ where
 }
 
 /// Prints the reports.
-fn print_all<R: Wait, W: Drain + Drop, E: Drain, J: Naming>(
+fn print_all<R: Wait + Clock, W: Drain + Drop, E: Drain, J: Naming>(
     rt: &R,
     alloc: Global,
     common: &Common<E>,
