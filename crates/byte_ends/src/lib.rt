@@ -17,8 +17,6 @@ mod breaking;
 mod cut;
 mod faults;
 mod over_std;
-#[cfg(test)]
-mod tests;
 mod traits;
 mod whole;
 

@@ -15,8 +15,6 @@ mod iter;
 mod list;
 mod probe;
 mod spot;
-#[cfg(test)]
-mod tests;
 
 pub use iter::Iter;
 pub use list::ChunkList;

@@ -10,8 +10,6 @@
 #![tactic(auto)]
 
 mod commands;
-#[cfg(test)]
-mod tests;
 mod words;
 
 pub use words::{Command, read_words};

@@ -23,10 +23,8 @@
 mod fault;
 mod feed;
 mod line;
-#[cfg(test)]
-mod tests;
 mod texts;
 
 pub use fault::FeedFault;
-pub use feed::events_run;
+pub use feed::{events_run, feed_lines};
 pub use texts::fault_line;

@@ -15,8 +15,6 @@
 
 mod laws;
 mod said;
-#[cfg(test)]
-mod tests;
 
 pub use laws::{what_is_said_changes_no_view, what_is_taken_in_is_said};
 pub use said::is_said;

@@ -16,12 +16,9 @@ mod meet;
 mod pull;
 mod session;
 mod sink;
-#[cfg(test)]
-mod site_tests;
-#[cfg(test)]
-mod tests;
 mod words;
 
+pub use answer::read_answer;
 pub use fault::ClientFault;
 pub use feed::feed_site;
 pub use intake::{Intake, IntakeFault, Refusal};

@@ -11,4 +11,6 @@ mod graphs;
 #[cfg(test)]
 mod pictures;
 #[cfg(test)]
+mod reaching;
+#[cfg(test)]
 mod record;

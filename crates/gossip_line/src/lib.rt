@@ -43,10 +43,8 @@ mod laws;
 mod pull;
 mod send;
 mod session;
-#[cfg(test)]
-mod tests;
 
 pub use fault::LineFault;
 pub use laws::pulls_pass_on_all;
 pub use pull::{Pulled, pull_run};
-pub use session::session_run;
+pub use session::{answer_lines, session_run};

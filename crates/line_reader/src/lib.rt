@@ -11,7 +11,5 @@
 #![tactic(auto)]
 
 mod reader;
-#[cfg(test)]
-mod tests;
 
 pub use reader::LineReader;

@@ -15,7 +15,5 @@
 #![tactic(auto)]
 
 mod reach;
-#[cfg(test)]
-mod tests;
 
 pub use reach::{leading, reached};

@@ -7,9 +7,17 @@
 #[cfg(test)]
 mod changes;
 #[cfg(test)]
+mod chunks;
+#[cfg(test)]
 mod lattices;
 #[cfg(test)]
 mod operations;
+#[cfg(test)]
+mod plain_replica;
+#[cfg(test)]
+mod replicas;
+#[cfg(test)]
+mod said;
 #[cfg(test)]
 mod states;
 #[cfg(test)]

@@ -20,13 +20,9 @@ mod laws;
 mod line;
 mod lines;
 mod missing;
-#[cfg(test)]
-mod plain;
 mod probes;
 mod replica;
 mod taken;
-#[cfg(test)]
-mod tests;
 
 pub use front::{Front, Reach, Row};
 pub use laws::{equal_journals_agree, operations_arrive_as_a_set};

@@ -5,7 +5,5 @@ mod command;
 mod input_end;
 mod output;
 mod save;
-#[cfg(test)]
-mod tests;
 
 pub use command::{Ended, serve};

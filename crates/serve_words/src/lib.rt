@@ -2,8 +2,6 @@
 #![tactic(auto)]
 
 mod options;
-#[cfg(test)]
-mod tests;
 mod words;
 
 pub use words::{ServeWords, Serving, read_serve_words};

@@ -26,8 +26,6 @@ mod opening;
 mod reading;
 mod recovery;
 mod tape;
-#[cfg(test)]
-mod tests;
 
 pub use fault::{JournalFault, KeepFault, LineCause};
 pub use journal::{Journal, Started};

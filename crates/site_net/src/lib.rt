@@ -5,8 +5,6 @@ mod door;
 mod patience;
 mod reader;
 mod stop;
-#[cfg(test)]
-mod tests;
 mod writer;
 
 pub use door::Door;

@@ -21,8 +21,6 @@ mod fault;
 mod laws;
 mod own;
 mod port;
-#[cfg(test)]
-mod tests;
 
 pub use fault::{PortFault, SinkFault};
 pub use laws::{last_answers_pass_on_all, own_replies_are_one};

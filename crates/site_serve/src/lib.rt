@@ -6,8 +6,6 @@ mod desk;
 mod errors;
 mod evaluator;
 mod gossip;
-#[cfg(test)]
-mod gossip_tests;
 mod news;
 mod opening;
 mod port;
@@ -15,8 +13,6 @@ mod run;
 mod seats;
 mod sessions;
 mod setup;
-#[cfg(test)]
-mod tests;
 
 pub use run::serve_run;
 pub use setup::{ServeFault, Served, Setup, Turn};

@@ -25,10 +25,6 @@ mod shown;
 mod sight;
 mod spares;
 mod stage;
-#[cfg(test)]
-mod tests;
-#[cfg(test)]
-mod threads;
 mod told;
 mod window;
 

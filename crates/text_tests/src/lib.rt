@@ -3,7 +3,11 @@
 #![tactic(auto)]
 
 #[cfg(test)]
+mod ends;
+#[cfg(test)]
 mod events;
+#[cfg(test)]
+mod feeds;
 #[cfg(test)]
 mod footers;
 #[cfg(test)]

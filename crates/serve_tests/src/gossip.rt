@@ -1,0 +1,205 @@
+//! Sites that pull from each other, and others that don't answer, don't read or don't go.
+
+use super::sites::{NoTurn, one_session, run_one, stall, talk};
+use site_net::Stop;
+use site_serve::{Served, Setup};
+use std::alloc::Global;
+use std::io::Write;
+use std::net::{Net, TcpListener, TcpStream};
+use std::process::Abort;
+use std::sync::Wait;
+use std::test::Fail;
+use std::thread::Threads;
+use std::time::{Clock, Duration, Instant};
+use std::{io, thread};
+
+/// A client that takes in a patch set, and one that takes in a vote on it.
+const PATCH_SET: &str =
+    "hello 2\ntake {\"change\":101,\"message\":\"m\",\"op\":\"patchset\",\"set\":1}\nquit\n";
+
+const VOTE: &str =
+    "hello 2\ntake {\"change\":101,\"label\":\"Workflow\",\"op\":\"vote\",\"set\":1,\"value\":1,\"voter\":\"ann\"}\nquit\n";
+
+/// A client that asks what is ready, and what it is answered before the vote and after it.
+const READY: &str = "hello 2\nready\nquit\n";
+
+const WAITS: &str = "hello 2\nout 101,1 require approval 1\nend 0 1\nbye\n";
+
+const GOES_IN: &str = "hello 2\nready 101,1\nend 1 0\nbye\n";
+
+/// A client that asks for the state, the report and all operations, and the answer of a site that has both.
+const ALL: &str = "hello 2\nstate\nready\nfront []\nquit\n";
+
+const BOTH: &str = "hello 2\n\
+    change 101 NEW\nset 101,1 1,1,1,1 \"m\"\nvote 101,1 workflow ann 1 2,2,1,1\nend 1\n\
+    ready 101,1\nend 1 0\n\
+    op {\"change\":101,\"message\":\"m\",\"op\":\"patchset\",\"seq\":1,\"set\":1,\"site\":1,\"start\":1,\"time\":1}\n\
+    op {\"change\":101,\"label\":\"workflow\",\"op\":\"vote\",\"seq\":1,\"set\":1,\"site\":2,\"start\":1,\"time\":2,\"value\":1,\"voter\":\"ann\"}\n\
+    done\nbye\n";
+
+/// A site without end, with two workers, that pulls from the peer at a port.
+fn with_peer(alloc: Global, site: u16, peer: u16) -> Result<Setup, Fail> {
+    let mut setup = one_session(alloc, site)?;
+    setup.sessions = 0;
+    setup.workers = 2;
+    setup.peers.push(peer)?;
+    Ok(setup)
+}
+
+/// Whether a site comes to answer so.
+fn comes_to_answer<R: Net<Listener = TcpListener, Stream = TcpStream> + Wait + Clock>(
+    rt: &R,
+    alloc: Global,
+    port: u16,
+    lines: &str,
+    wanted: &str,
+) -> bool {
+    for _ in 0..1_000 {
+        match talk(rt, alloc, port, lines) {
+            Ok(answer) if answer.as_str() == wanted => return true,
+            _ => {
+                let _ = thread::sleep(rt, Duration::from_millis(10));
+            }
+        }
+    }
+    false
+}
+
+/// Whether a patch set that the first of two sites takes in comes to the second, and a vote on it that the second takes in to the first, and both answer
+/// alike in the end.
+fn come_to_agree<R: Net<Listener = TcpListener, Stream = TcpStream> + Wait + Clock>(
+    rt: &R,
+    alloc: Global,
+    one: u16,
+    other: u16,
+) -> bool {
+    talk(rt, alloc, one, PATCH_SET).is_ok()
+        && comes_to_answer(rt, alloc, other, READY, WAITS)
+        && talk(rt, alloc, other, VOTE).is_ok()
+        && comes_to_answer(rt, alloc, one, READY, GOES_IN)
+        && comes_to_answer(rt, alloc, one, ALL, BOTH)
+        && comes_to_answer(rt, alloc, other, ALL, BOTH)
+}
+
+#[test]
+fn two_sites_that_pull_from_each_other_answer_alike(rt: HostRuntime) -> Result<(), Fail> {
+    let alloc = rt.alloc();
+    let (first, second) = (
+        TcpListener::bind(&rt, "127.0.0.1:0")?,
+        TcpListener::bind(&rt, "127.0.0.1:0")?,
+    );
+    let (one, other) = (first.local_addr()?.port(), second.local_addr()?.port());
+    let (here, there) = (with_peer(alloc, 1, other)?, with_peer(alloc, 2, one)?);
+    let (stop, stops) = (Stop::new(), Stop::new());
+    let (served, (pulled, agree)) = thread::join(
+        &rt,
+        || run_one(&rt, alloc, first, here, &stop, &NoTurn),
+        || {
+            thread::join(
+                &rt,
+                || run_one(&rt, alloc, second, there, &stops, &NoTurn),
+                || {
+                    let agree = come_to_agree(&rt, alloc, one, other);
+                    stop.ask(&rt);
+                    stops.ask(&rt);
+                    agree
+                },
+            )
+        },
+    );
+    assert!(rt; agree);
+    assert!(rt; served?.replica.same_state(&pulled?.replica));
+    Ok(())
+}
+
+/// Connects as a client that asks for 30 MB of answers and never reads.
+fn deaf<R: Net<Stream = TcpStream>>(rt: &R, alloc: Global, port: u16) -> io::Result<TcpStream> {
+    let mut message = String::new(alloc);
+    for _ in 0..60_000 {
+        message.push('m')?;
+    }
+    let mut stream = stall(rt, port, "hello 2\ntake {\"change\":7,\"message\":\"")?;
+    stream.write_all(message.as_bytes())?;
+    stream.write_all(b"\",\"op\":\"patchset\",\"set\":1}\n")?;
+    for _ in 0..500 {
+        stream.write_all(b"front []\n")?;
+    }
+    Ok(stream)
+}
+
+/// What a client is answered beside one that never reads.
+fn talk_beside_deaf<R: Net<Listener = TcpListener, Stream = TcpStream>>(
+    rt: &R,
+    alloc: Global,
+    port: u16,
+    stop: &Stop,
+) -> io::Result<String>
+where
+    R: Wait,
+{
+    let deaf = deaf(rt, alloc, port);
+    let answers = talk(rt, alloc, port, "hello 2\nquit\n");
+    drop(deaf);
+    stop.ask(rt);
+    answers
+}
+
+#[test]
+fn a_client_that_never_reads_and_a_mute_peer_hold_no_other(rt: HostRuntime) -> Result<(), Fail> {
+    let alloc = rt.alloc();
+    // Who connects to it waits for ever: nobody accepts.
+    let mute = TcpListener::bind(&rt, "127.0.0.1:0")?;
+    let listener = TcpListener::bind(&rt, "127.0.0.1:0")?;
+    let port = listener.local_addr()?.port();
+    let setup = with_peer(alloc, 1, mute.local_addr()?.port())?;
+    let stop = Stop::new();
+    let (served, answers) = thread::join(
+        &rt,
+        || run_one(&rt, alloc, listener, setup, &stop, &NoTurn),
+        || talk_beside_deaf(&rt, alloc, port, &stop),
+    );
+    assert_eq!(rt; answers?.as_str(), "hello 2\nbye\n");
+    assert!(rt; served?.written);
+    Ok(())
+}
+
+/// How long a site with an idle client and a mute peer takes to end once it is asked to.
+fn time_to_end<R>(rt: &R, alloc: Global) -> Result<Duration, Fail>
+where
+    R: Net<Listener = TcpListener, Stream = TcpStream> + Threads + Wait + Clock + Sync,
+{
+    let mute = TcpListener::bind(rt, "127.0.0.1:0")?;
+    let listener = TcpListener::bind(rt, "127.0.0.1:0")?;
+    let port = listener.local_addr()?.port();
+    let setup = with_peer(alloc, 1, mute.local_addr()?.port())?;
+    let stop = Stop::new();
+    let (served, asked) = thread::join(
+        rt,
+        || run_one(rt, alloc, listener, setup, &stop, &NoTurn),
+        || {
+            let idle = stall(rt, port, "hello 2\n");
+            let answers = talk(rt, alloc, port, "hello 2\nquit\n");
+            let asked = Instant::now(rt);
+            stop.ask(rt);
+            let _ended = (idle?, answers?);
+            asked
+        },
+    );
+    let Served { written, .. } = served?;
+    if !written {
+        return Err(Fail::from("reports weren't written"));
+    }
+    Ok(asked?.elapsed(rt)?)
+}
+
+// The quickest of three: the machine may be busy with others.
+#[test]
+fn a_site_ends_within_a_second(rt: HostRuntime) -> Result<(), Fail> {
+    let alloc = rt.alloc();
+    let mut quickest = time_to_end(&rt, alloc)?;
+    for _ in 0..2 {
+        quickest = quickest.min(time_to_end(&rt, alloc)?);
+    }
+    assert!(rt; quickest < Duration::from_secs(1));
+    Ok(())
+}

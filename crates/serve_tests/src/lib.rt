@@ -1,0 +1,16 @@
+//! Tests over sockets of this machine: connections, sites that run, feeds of sites, and `serve` by its words, through the
+//! public functions of their crates. A crate of tests alone, as `record_tests` is.
+#![tactic(auto)]
+
+#[cfg(test)]
+mod connections;
+#[cfg(test)]
+mod feeds;
+#[cfg(test)]
+mod gossip;
+#[cfg(test)]
+mod programs;
+#[cfg(test)]
+mod site_feeds;
+#[cfg(test)]
+mod sites;

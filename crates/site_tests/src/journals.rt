@@ -1,0 +1,201 @@
+//! Journals over tapes in memory.
+
+use byte_ends::{Broken, Ends};
+use op_text::read_op;
+use review_ops::Op;
+use site_journal::{
+    Journal, JournalFault, KeepFault, Keeps, LineCause, MemoryTape, NoJournal, RecoverFault,
+    Started, open_tape, recover,
+};
+use snapshot_text::WriteSnapFault;
+use std::alloc::Global;
+use std::test::Fail;
+
+/// Three operations, in the order of arrival.
+const FIRST: &[u8] = br#"{"change":5,"op":"merged","seq":1,"site":1,"start":2,"time":1}"#;
+
+const SECOND: &[u8] = br#"{"change":6,"op":"merged","seq":2,"site":1,"start":2,"time":2}"#;
+
+const THIRD: &[u8] = br#"{"change":7,"op":"merged","seq":3,"site":1,"start":2,"time":3}"#;
+
+/// The operations of these texts.
+fn ops_of(alloc: Global, texts: &[&[u8]]) -> Result<Vec<Op>, Fail> {
+    let mut ops = Vec::new(alloc);
+    for text in texts {
+        ops.push(read_op(alloc, *text)?)?;
+    }
+    Ok(ops)
+}
+
+/// A journal that was opened over these bytes, none of them synced before.
+fn journal_over(alloc: Global, bytes: &[u8]) -> Result<Started<MemoryTape>, Fail> {
+    Ok(Journal::open(alloc, MemoryTape::new(bytes.to_vec(alloc)?))?)
+}
+
+/// How many operations a journal with these bytes has.
+fn operations_in(alloc: Global, bytes: &[u8]) -> Result<usize, Fail> {
+    Ok(journal_over(alloc, bytes)?.replica.len())
+}
+
+/// The bytes of a journal that kept the operations of these texts.
+fn journal_of(alloc: Global, texts: &[&[u8]]) -> Result<Vec<u8>, Fail> {
+    let ops = ops_of(alloc, texts)?;
+    let Started { mut journal, .. } = journal_over(alloc, b"")?;
+    keep_all(&mut journal, ops.as_slice())?;
+    Ok(journal.tape().synced().to_vec(alloc)?)
+}
+
+/// Whatever keeps operations keeps these.
+fn keep_all<K: Keeps>(keeper: &mut K, ops: &[Op]) -> Result<(), KeepFault> {
+    keeper.keep(ops)
+}
+
+#[test]
+fn what_is_appended_is_found_again(rt: HostRuntime) -> Result<(), Fail> {
+    let alloc = rt.alloc();
+    let ops = ops_of(alloc, &[FIRST, SECOND, THIRD])?;
+    let text = journal_of(alloc, &[FIRST, SECOND, THIRD])?;
+    let Started { replica, torn, .. } = journal_over(alloc, text.as_slice())?;
+    assert_eq!(rt; replica.as_slice(), ops.as_slice());
+    assert_eq!(rt; torn, 0);
+    Ok(())
+}
+
+#[test]
+fn without_a_journal_nothing_is_refused(rt: HostRuntime) -> Result<(), Fail> {
+    assert!(rt; keep_all(&mut NoJournal, &[]).is_ok());
+    Ok(())
+}
+
+/// How many operations are found in the first so many bytes of a journal, and in what it has once it was opened and took another one; and whether
+/// all that it had once it was opened was synced, with the torn bytes as many as before.
+fn cut_at(alloc: Global, whole: &[u8], length: usize) -> Result<(usize, usize, bool), Fail> {
+    let left = whole.get(..length).unwrap_or(whole);
+    let more = ops_of(alloc, &[THIRD])?;
+    let Started {
+        mut journal,
+        replica,
+        torn,
+    } = journal_over(alloc, left)?;
+    let is_synced = journal.tape().synced() == journal.tape().contents();
+    let is_all = journal.tape().synced().len().checked_add(torn) == Some(length);
+    journal.append(more.as_slice())?;
+    let after = operations_in(alloc, journal.tape().synced())?;
+    Ok((replica.len(), after, is_synced && (is_all || length < 13)))
+}
+
+/// Cut at any byte a journal opens with the operations of its whole lines, all of them synced, and takes another one.
+#[test]
+fn a_journal_is_opened_wherever_it_is_cut(rt: HostRuntime) -> Result<(), Fail> {
+    let alloc = rt.alloc();
+    let whole = journal_of(alloc, &[FIRST, SECOND])?;
+    for length in 0..whole.len() {
+        let ends = whole
+            .iter()
+            .take(length)
+            .filter(|byte| **byte == b'\n')
+            .count();
+        let lines = ends.saturating_sub(1);
+        assert_eq!(rt;
+            cut_at(alloc, whole.as_slice(), length)?,
+            (lines, lines.saturating_add(1), true)
+        );
+    }
+    Ok(())
+}
+
+/// What an append over a tape whose calls fail by the bits of a number answers, how many operations are then synced and how many written, and
+/// whether the next append finds the journal spoiled. An operation was kept before; the append is of two more.
+fn append_failing(alloc: Global, failing: u64) -> Result<(bool, usize, usize, bool), Fail> {
+    let ops = ops_of(alloc, &[SECOND, THIRD])?;
+    let mut tape = MemoryTape::new(journal_of(alloc, &[FIRST])?);
+    tape.fail(failing.saturating_mul(16), 20);
+    let Started { mut journal, .. } = Journal::open(alloc, tape)?;
+    let is_kept = journal.append(ops.as_slice()).is_ok();
+    let synced = operations_in(alloc, journal.tape().synced())?;
+    let written = operations_in(alloc, journal.tape().written())?;
+    let is_spoiled = journal.append(ops.as_slice()) == Err(KeepFault::Spoiled);
+    Ok((is_kept, synced, written, is_spoiled))
+}
+
+/// Whichever calls of an append fail, what was acknowledged before is synced, and what is left opens. After the opening's calls an append has two:
+/// it writes and syncs. Where the first fails it cuts and syncs, where the second fails too.
+#[test]
+fn appends_that_fail_lose_nothing(rt: HostRuntime) -> Result<(), Fail> {
+    let alloc = rt.alloc();
+    assert_eq!(rt; append_failing(alloc, 0b0000)?, (true, 3, 3, false));
+    assert_eq!(rt; append_failing(alloc, 0b0001)?, (false, 1, 1, false));
+    assert_eq!(rt; append_failing(alloc, 0b0010)?, (false, 1, 3, true));
+    assert_eq!(rt; append_failing(alloc, 0b0011)?, (false, 1, 1, true));
+    assert_eq!(rt; append_failing(alloc, 0b0101)?, (false, 1, 1, true));
+    assert_eq!(rt; append_failing(alloc, 0b0110)?, (false, 1, 3, true));
+    assert_eq!(rt; append_failing(alloc, 0b1110)?, (false, 1, 3, true));
+    Ok(())
+}
+
+#[test]
+fn other_texts_are_refused_and_stay(rt: HostRuntime) -> Result<(), Fail> {
+    let alloc = rt.alloc();
+    let mut tape = MemoryTape::new(b"reviewgate 1\n".to_vec(alloc)?);
+    assert!(rt; matches!(open_tape(alloc, &mut tape), Err(JournalFault::BadHeader)));
+    assert!(rt; tape.contents() == b"reviewgate 1\n".as_slice());
+    let mut tape = MemoryTape::new(b"reviewgate 2\n{}\n".to_vec(alloc)?);
+    assert!(rt;
+        matches!(
+            open_tape(alloc, &mut tape),
+            Err(JournalFault::BadLine(2, LineCause::Text(_)))
+        )
+    );
+    assert!(rt; tape.contents() == b"reviewgate 2\n{}\n".as_slice());
+    Ok(())
+}
+
+#[test]
+fn a_torn_end_is_left_out_of_a_recovery(rt: HostRuntime) -> Result<(), Fail> {
+    let alloc = rt.alloc();
+    let mut text = journal_of(alloc, &[FIRST, SECOND, THIRD])?;
+    text.extend_from_slice(b"{\"chan")?;
+    let mut drain = Ends::new(Vec::new(alloc));
+    assert!(rt;
+        matches!(
+            recover(alloc, Ends::new(text.as_slice()), &mut drain),
+            Ok(6)
+        )
+    );
+    assert!(rt; drain.get_ref().as_slice().ends_with(b"end 3\n"));
+    Ok(())
+}
+
+#[test]
+fn a_recovery_tells_which_end_failed(rt: HostRuntime) -> Result<(), Fail> {
+    let alloc = rt.alloc();
+    let text = journal_of(alloc, &[FIRST])?;
+    let mut drain = Ends::new(Vec::new(alloc));
+    let source = Broken::at_call(Ends::new(text.as_slice()), 1);
+    assert!(rt;
+        matches!(
+            recover(alloc, source, &mut drain),
+            Err(RecoverFault::Journal(JournalFault::Failed))
+        )
+    );
+    let mut drain = Broken::at_call(Ends::new(Vec::new(alloc)), 1);
+    assert!(rt;
+        matches!(
+            recover(alloc, Ends::new(text.as_slice()), &mut drain),
+            Err(RecoverFault::Snapshot(WriteSnapFault::WriteFault))
+        )
+    );
+    Ok(())
+}
+
+#[test]
+fn faults_have_numbers_and_words(rt: HostRuntime) -> Result<(), Fail> {
+    let alloc = rt.alloc();
+    let fault = JournalFault::BadLine(7, LineCause::TooLong);
+    let mut words = String::new(alloc);
+    fault.write_words(&mut words)?;
+    assert!(rt; words.as_str() == "BadLine 7 TooLong");
+    assert_eq!(rt; fault.number(), 2);
+    assert!(rt; JournalFault::NoMemory.name() == "NoMemory");
+    Ok(())
+}

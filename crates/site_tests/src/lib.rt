@@ -1,0 +1,20 @@
+//! Tests of what a running site is made of (desks and windows, journals, ports, lines), and of the words of the command
+//! line, through the public functions of their crates. A crate of tests alone, as `record_tests` is.
+#![tactic(auto)]
+
+#[cfg(test)]
+mod commands;
+#[cfg(test)]
+mod journals;
+#[cfg(test)]
+mod lines;
+#[cfg(test)]
+mod ports;
+#[cfg(test)]
+mod running;
+#[cfg(test)]
+mod site_words;
+#[cfg(test)]
+mod talks;
+#[cfg(test)]
+mod threads;

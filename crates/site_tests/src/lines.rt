@@ -1,0 +1,106 @@
+//! Lines of sources, worked out by hand.
+
+use byte_ends::{Broken, BytesFault, Ends};
+use line_reader::LineReader;
+use linked_list_allocator::LocalHeap;
+use std::alloc::Global;
+use std::process::Abort;
+use std::test::Fail;
+
+/// The next line is this one.
+fn assert_line(rt: &impl Abort, reader: &mut LineReader, source: &mut Ends<&[u8]>, line: &[u8]) {
+    assert_eq!(rt; reader.next_line(source), Ok(true));
+    assert_eq!(rt; reader.line(), line);
+}
+
+/// The lines come, and then this is answered.
+fn assert_lines(
+    rt: &impl Abort,
+    alloc: Global,
+    text: &[u8],
+    lines: &[&[u8]],
+    end: Result<bool, BytesFault>,
+) -> Result<(), Fail> {
+    let mut reader = LineReader::new(alloc, 3)?;
+    let mut source = Ends::new(text);
+    for line in lines {
+        assert_line(rt, &mut reader, &mut source, line);
+    }
+    assert_eq!(rt; reader.next_line(&mut source), end);
+    Ok(())
+}
+
+#[test]
+fn lines_come_one_by_one(rt: HostRuntime) -> Result<(), Fail> {
+    assert_lines(
+        &rt,
+        rt.alloc(),
+        b"ab\r\n\nabc\nab",
+        &[b"ab", b"", b"abc"],
+        Ok(false),
+    )
+}
+
+#[test]
+fn a_line_may_be_too_long(rt: HostRuntime) -> Result<(), Fail> {
+    assert_lines(
+        &rt,
+        rt.alloc(),
+        b"\nabcd\n",
+        &[b""],
+        Err(BytesFault::TooLong),
+    )?;
+    assert_lines(&rt, rt.alloc(), b"abcd", &[], Err(BytesFault::TooLong))
+}
+
+#[test]
+fn a_source_that_fails_may_be_asked_again(rt: HostRuntime) -> Result<(), Fail> {
+    let mut reader = LineReader::new(rt.alloc(), 3)?;
+    let mut source = Broken::before_byte(Ends::new(b"abc\n".as_slice()), 3);
+    assert_eq!(rt; reader.next_line(&mut source), Err(BytesFault::ReadFault));
+    assert_eq!(rt; reader.next_line(&mut source), Ok(true));
+    assert_eq!(rt; reader.line(), b"abc".as_slice());
+    Ok(())
+}
+
+#[test]
+fn refused_memory_is_told(rt: HostRuntime) -> Result<(), Fail> {
+    let small = LocalHeap::new(rt.alloc(), 1024)?;
+    assert!(rt; LineReader::new(&small, 3).is_err());
+    let heap = LocalHeap::new(rt.alloc(), 70000)?;
+    let mut reader = LineReader::new(&heap, 3)?;
+    let mut source = Ends::new(b"abc\n".as_slice());
+    assert_eq!(rt; reader.next_line(&mut source), Err(BytesFault::NoMemory));
+    Ok(())
+}
+
+#[test]
+fn a_long_line_is_passed_over(rt: HostRuntime) -> Result<(), Fail> {
+    let mut reader = LineReader::new(rt.alloc(), 3)?;
+    let mut source = Ends::new(b"abcdefg\nab\nabcd".as_slice());
+    assert_eq!(rt; reader.next_line(&mut source), Err(BytesFault::TooLong));
+    assert_eq!(rt; reader.pass_over(&mut source), Ok(true));
+    assert_eq!(rt; reader.held(), b"ab\nabcd".as_slice());
+    assert_line(&rt, &mut reader, &mut source, b"ab");
+    assert_eq!(rt; reader.next_line(&mut source), Err(BytesFault::TooLong));
+    assert_eq!(rt; reader.pass_over(&mut source), Ok(false));
+    assert_eq!(rt; reader.held(), b"".as_slice());
+    assert_eq!(rt; reader.next_line(&mut source), Ok(false));
+    Ok(())
+}
+
+/// A line of three blocks and one byte more.
+#[test]
+fn a_line_of_many_blocks_is_passed_over(rt: HostRuntime) -> Result<(), Fail> {
+    let mut text = vec![in rt.alloc(); b'a'; 3 * 65536]?;
+    text.extend_from_slice(b"a\nbc\n")?;
+    let mut reader = LineReader::new(rt.alloc(), 3)?;
+    let mut source = Broken::at_call(Ends::new(text.as_slice()), 3);
+    assert_eq!(rt; reader.next_line(&mut source), Err(BytesFault::TooLong));
+    assert_eq!(rt; reader.pass_over(&mut source), Err(BytesFault::ReadFault));
+    assert_eq!(rt; reader.held(), b"".as_slice());
+    assert_eq!(rt; reader.pass_over(&mut source), Ok(true));
+    assert_eq!(rt; reader.next_line(&mut source), Ok(true));
+    assert_eq!(rt; reader.line(), b"bc".as_slice());
+    Ok(())
+}

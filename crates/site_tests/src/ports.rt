@@ -1,0 +1,21 @@
+//! The faults of ports and sinks.
+
+use review_ops::BodyFault;
+use site_port::{PortFault, SinkFault, last_answers_pass_on_all, own_replies_are_one};
+
+#[test]
+fn faults_have_numbers_and_names(rt: HostRuntime) {
+    own_replies_are_one();
+    last_answers_pass_on_all();
+    for (fault, number, name) in [
+        (PortFault::ClockSpent, 1, "ClockSpent"),
+        (PortFault::BadBody(BodyFault::BadChange), 2, "BadBody"),
+        (PortFault::NoMemory, 3, "NoMemory"),
+        (PortFault::Closed, 4, "Closed"),
+    ] {
+        assert_eq!(rt; fault.number(), number);
+        assert_eq!(rt; fault.name(), name);
+    }
+    assert_eq!(rt; SinkFault::NoMemory.number(), 3);
+    assert_eq!(rt; SinkFault::Closed.name(), "Closed");
+}

@@ -1,0 +1,508 @@
+//! Sessions and pulls over texts, worked out by hand.
+
+use byte_ends::{Broken, Drain, Ends};
+use gate_rules::Gate;
+use gossip_line::{LineFault, Pulled, answer_lines, pull_run, pulls_pass_on_all, session_run};
+use op_text::read_op;
+use ready_core::Verdicts;
+use replica_core::{Front, Missing, Replica};
+use review_ops::{Draft, Op, Stamp};
+use site_port::{OwnPort, Port, PortFault, Sink, SinkFault};
+use std::alloc::Global;
+use std::process::Abort;
+use std::test::Fail;
+
+/// A gate that wants a workflow vote and a verified vote.
+const GATE: &[u8] =
+    br#"{"bases":["https://review.example.org/"],"require":{"gerrit":{"approval":[{"Workflow":1},{"Verified":[1,2],"username":"zuul"}]}}}"#;
+
+/// A patch set under the last stamp there is.
+const LAST: &[u8] =
+    br#"{"change":101,"message":"m","op":"patchset","seq":1,"set":1,"site":2,"start":1,"time":18446744073709551615}"#;
+
+/// Two merges.
+const MERGE_5: &[u8] = br#"{"change":5,"op":"merged","seq":1,"site":1,"start":1,"time":1}"#;
+
+const MERGE_6: &[u8] = br#"{"change":6,"op":"merged","seq":2,"site":1,"start":1,"time":2}"#;
+
+/// A port of site 1 under start 1 that holds these operations.
+fn port_of(alloc: Global, ops: &[&[u8]]) -> Result<OwnPort, Fail> {
+    let mut replica = Replica::new(alloc);
+    for op in ops {
+        let _taken = replica.take(read_op(alloc, op)?)?;
+    }
+    Ok(OwnPort::new(replica, Gate::read(alloc, GATE)?, 1, 1))
+}
+
+/// Lines of a session, what they are answered and how it ends.
+#[derive(Clone, Copy)]
+struct Talk {
+    lines: &'static [u8],
+    text: &'static [u8],
+    fault: Option<LineFault>,
+}
+
+/// The lines are answered so, over a port that holds these operations.
+fn assert_talk(rt: &impl Abort, alloc: Global, ops: &[&[u8]], talk: &Talk) -> Result<(), Fail> {
+    let mut port = port_of(alloc, ops)?;
+    let mut source = Ends::new(talk.lines);
+    let mut drain = Ends::new(Vec::new(alloc));
+    let ended = session_run(alloc, &mut source, &mut drain, &mut port);
+    assert_eq!(rt; ended.err(), talk.fault);
+    let written = drain.into_inner();
+    assert_eq!(rt; written.as_slice(), talk.text);
+    Ok(())
+}
+
+#[test]
+fn each_line_is_answered(rt: HostRuntime) -> Result<(), Fail> {
+    for talk in &[
+        Talk {
+            lines: b"hello 2\ntake {\"change\":101,\"op\":\"merged\"}\nready\nquit\n",
+            text: b"hello 2\nno 9 ClockSpent\nout 101,1 require approval 1\nend 0 1\nbye\n",
+            fault: None,
+        },
+        Talk {
+            lines: b"hello 2\nstate\n",
+            text: b"hello 2\nchange 101 NEW\nset 101,1 18446744073709551615,2,1,1 \"m\"\nend 1\n",
+            fault: None,
+        },
+        Talk {
+            lines: b"ready\n",
+            text: b"no 2 BadVersion\n",
+            fault: Some(LineFault::BadVersion),
+        },
+        Talk {
+            lines: b"hello 1\n",
+            text: b"no 2 BadVersion\n",
+            fault: Some(LineFault::BadVersion),
+        },
+        Talk {
+            lines: b"hello 2\r\nfoo\ntake {}\nfront [[1]]\n\n\xff\ntake \xff\nhello 2\nhello 3\nquit\n",
+            text: b"hello 2\nno 6 BadCommand\nno 7 BadText\nno 7 BadText\nno 6 BadCommand\nno 6 BadCommand\nno 7 BadText\nhello 2\nno 2 BadVersion\n",
+            fault: Some(LineFault::BadVersion),
+        },
+        Talk {
+            lines: b"hello 2\nready",
+            text: b"hello 2\n",
+            fault: None,
+        },
+    ] {
+        assert_talk(&rt, rt.alloc(), &[LAST], talk)?;
+    }
+    Ok(())
+}
+
+#[test]
+fn what_is_lacked_and_taken_is_answered(rt: HostRuntime) -> Result<(), Fail> {
+    let talk = Talk {
+        lines: b"hello 2\nfront [[1,1,1]]\ntake {\"change\":0,\"op\":\"merged\"}\ntake {\"change\":7,\"op\":\"merged\"}\nquit\nquit\n",
+        text: b"hello 2\nop {\"change\":6,\"op\":\"merged\",\"seq\":2,\"site\":1,\"start\":1,\"time\":2}\ndone\nno 8 BadBody\nok 3,1,1,3\nbye\n",
+        fault: None,
+    };
+    assert_talk(&rt, rt.alloc(), &[MERGE_5, MERGE_6], &talk)
+}
+
+/// The lines end so where a line has at most seven bytes and a session three lines.
+fn assert_limited(rt: &impl Abort, alloc: Global, talk: &Talk) -> Result<(), Fail> {
+    let mut port = port_of(alloc, &[])?;
+    let mut source = Ends::new(talk.lines);
+    let mut drain = Ends::new(Vec::new(alloc));
+    let ended = answer_lines(alloc, 7, 3, &mut source, &mut drain, &mut port);
+    assert_eq!(rt; ended.err(), talk.fault);
+    let written = drain.into_inner();
+    assert_eq!(rt; written.as_slice(), talk.text);
+    Ok(())
+}
+
+#[test]
+fn lines_and_sessions_have_their_limits(rt: HostRuntime) -> Result<(), Fail> {
+    for talk in &[
+        Talk {
+            lines: b"hello 2\naaaaaaa\naaaaaaaa\n",
+            text: b"hello 2\nno 6 BadCommand\nno 1 LongLine\n",
+            fault: Some(LineFault::LongLine),
+        },
+        Talk {
+            lines: b"hello 2\n\n\n",
+            text: b"hello 2\nno 6 BadCommand\nno 6 BadCommand\n",
+            fault: Some(LineFault::ReadFault),
+        },
+        Talk {
+            lines: b"hello 2\n\nquit\n",
+            text: b"hello 2\nno 6 BadCommand\nbye\n",
+            fault: None,
+        },
+        Talk {
+            lines: b"hello 2\n\n",
+            text: b"hello 2\nno 6 BadCommand\n",
+            fault: None,
+        },
+    ] {
+        assert_limited(&rt, rt.alloc(), talk)?;
+    }
+    Ok(())
+}
+
+#[test]
+fn a_failing_source_ends_the_session(rt: HostRuntime) -> Result<(), Fail> {
+    let mut port = port_of(rt.alloc(), &[])?;
+    let lines = b"hello 2\ntake".as_slice();
+    let mut source = Broken::before_byte(Ends::new(lines), 11);
+    let mut drain = Ends::new(Vec::new(rt.alloc()));
+    let ended = session_run(rt.alloc(), &mut source, &mut drain, &mut port);
+    assert_eq!(rt; ended.err(), Some(LineFault::ReadFault));
+    let written = drain.into_inner();
+    assert_eq!(rt; written.as_slice(), b"hello 2\n".as_slice());
+    Ok(())
+}
+
+/// Where the writing of an answer fails, what it tells was done.
+#[test]
+fn a_failing_drain_ends_the_session(rt: HostRuntime) -> Result<(), Fail> {
+    for (call, count) in [(1, 0), (2, 1)] {
+        let mut port = port_of(rt.alloc(), &[])?;
+        let lines = b"hello 2\ntake {\"change\":7,\"op\":\"merged\"}\nquit\n".as_slice();
+        let mut source = Ends::new(lines);
+        let mut drain = Broken::at_call(Ends::new(Vec::new(rt.alloc())), call);
+        let ended = session_run(rt.alloc(), &mut source, &mut drain, &mut port);
+        assert_eq!(rt; ended.err(), Some(LineFault::WriteFault));
+        assert_eq!(rt; port.replica().len(), count);
+    }
+    Ok(())
+}
+
+/// A writer that fails at each of its calls in turn: the session ends there, and a site that was only asked stays as it was.
+#[test]
+fn each_write_may_fail(rt: HostRuntime) -> Result<(), Fail> {
+    let mut last = 0;
+    for call in 1..=100_u64 {
+        let mut port = port_of(rt.alloc(), &[MERGE_5, MERGE_6])?;
+        let mut source = Ends::new(
+            b"hello 2\nfront [[1,1,1]]\nready\nstate\nfoo\nquit\n".as_slice(),
+        );
+        let mut drain = Broken::at_call(Ends::new(Vec::new(rt.alloc())), call);
+        match session_run(rt.alloc(), &mut source, &mut drain, &mut port) {
+            Ok(()) => break,
+            Err(fault) => assert_eq!(rt; fault, LineFault::WriteFault),
+        }
+        assert_eq!(rt; port.replica().len(), 2);
+        assert_eq!(rt; drain.failures(), 1);
+        last = call;
+    }
+    assert!(rt; 6 <= last && last < 100);
+    Ok(())
+}
+
+/// A text of this first line, `count` empty lines and this last line.
+fn empty_lines(alloc: Global, count: usize, last: &str) -> Result<String, Fail> {
+    let mut text = String::from_str(alloc, "hello 2\n")?;
+    for _ in 0..count {
+        text.push_str("\n")?;
+    }
+    text.push_str(last)?;
+    Ok(text)
+}
+
+#[test]
+fn a_session_has_a_million_lines(rt: HostRuntime) -> Result<(), Fail> {
+    for (count, last, fault, end) in [
+        (999_998, "", None, "no 6 BadCommand\n"),
+        (999_998, "quit\n", None, "bye\n"),
+        (999_999, "", Some(LineFault::ReadFault), "no 6 BadCommand\n"),
+        (
+            999_999,
+            "quit\n",
+            Some(LineFault::ReadFault),
+            "no 6 BadCommand\n",
+        ),
+    ] {
+        let mut port = port_of(rt.alloc(), &[])?;
+        let text = empty_lines(rt.alloc(), count, last)?;
+        let mut source = Ends::new(text.as_bytes());
+        let mut drain = Ends::new(Vec::new(rt.alloc()));
+        let ended = session_run(rt.alloc(), &mut source, &mut drain, &mut port);
+        assert_eq!(rt; ended.err(), fault);
+        let written = drain.into_inner();
+        assert!(rt; written.as_slice().ends_with(end.as_bytes()));
+    }
+    Ok(())
+}
+
+#[test]
+fn a_line_has_half_a_mebibyte(rt: HostRuntime) -> Result<(), Fail> {
+    let mut lines = String::from_str(rt.alloc(), "hello 2\n")?;
+    for length in [524_288, 524_289] {
+        for _ in 0..length {
+            lines.push_str("a")?;
+        }
+        lines.push_str("\n")?;
+    }
+    let mut port = port_of(rt.alloc(), &[])?;
+    let mut source = Ends::new(lines.as_bytes());
+    let mut drain = Ends::new(Vec::new(rt.alloc()));
+    let ended = session_run(rt.alloc(), &mut source, &mut drain, &mut port);
+    assert_eq!(rt; ended.err(), Some(LineFault::LongLine));
+    let written = drain.into_inner();
+    let answers = b"hello 2\nno 6 BadCommand\nno 1 LongLine\n".as_slice();
+    assert_eq!(rt; written.as_slice(), answers);
+    Ok(())
+}
+
+/// A site that has ended.
+#[derive(Drop)]
+struct Ended;
+
+impl Port for Ended {
+    ghost use Rattle.std.specs.Prelude.{◌≡◌};
+    ghost use Rattle.site_port.specs.Ports.{refused};
+    ghost use Rattle.site_port.specs.declared.fault.PortFault.TheVariants.{Closed};
+
+    ghost gives = { λ _ _ reply _. reply ≡ refused Closed };
+
+    fn intake(&mut self, _draft: Draft) -> Result<Stamp, PortFault> {
+        Err(PortFault::Closed)
+    }
+
+    fn missing(&mut self, _front: &Front) -> Result<Missing, PortFault> {
+        Err(PortFault::Closed)
+    }
+
+    fn report(&mut self) -> Result<Verdicts, PortFault> {
+        Err(PortFault::Closed)
+    }
+
+    fn look(&mut self) -> Result<Replica, PortFault> {
+        Err(PortFault::Closed)
+    }
+}
+
+impl Sink for Ended {
+    ghost use Rattle.std.specs.Prelude.{◌≡◌};
+    ghost use Rattle.site_port.specs.Sinks.{declined};
+    ghost use Rattle.site_port.specs.declared.fault.SinkFault.TheVariants.{Closed};
+
+    ghost sinks = { λ _ _ uptake _. uptake ≡ declined Closed };
+
+    fn front(&mut self) -> Result<Front, SinkFault> {
+        Err(SinkFault::Closed)
+    }
+
+    fn take_all(&mut self, _ops: Vec<Op>) -> Result<(), SinkFault> {
+        Err(SinkFault::Closed)
+    }
+}
+
+#[test]
+fn a_site_that_has_ended_says_so(rt: HostRuntime) -> Result<(), Fail> {
+    let lines = b"hello 2\ntake {\"change\":101,\"op\":\"merged\"}\nquit\n".as_slice();
+    let mut source = Ends::new(lines);
+    let mut drain = Ends::new(Vec::new(rt.alloc()));
+    session_run(rt.alloc(), &mut source, &mut drain, &mut Ended)?;
+    let written = drain.into_inner();
+    assert_eq!(rt;
+        written.as_slice(),
+        b"hello 2\nno 10 Closed\nbye\n".as_slice()
+    );
+    let mut peer = Ends::new(b"hello 2\n".as_slice());
+    let mut asked = Ends::new(Vec::new(rt.alloc()));
+    let pulled = pull_run(rt.alloc(), &mut peer, &mut asked, &mut Ended);
+    assert_eq!(rt; pulled, Err(LineFault::Closed));
+    Ok(())
+}
+
+/// A site that is refused memory for all that it is asked.
+#[derive(Drop)]
+struct Full;
+
+impl Port for Full {
+    ghost use Rattle.std.specs.Prelude.{◌≡◌};
+    ghost use Rattle.site_port.specs.Ports.{refused};
+    ghost use Rattle.site_port.specs.declared.fault.PortFault.TheVariants.{NoMemory};
+
+    ghost gives = { λ _ _ reply _. reply ≡ refused NoMemory };
+
+    fn intake(&mut self, _draft: Draft) -> Result<Stamp, PortFault> {
+        Err(PortFault::NoMemory)
+    }
+
+    fn missing(&mut self, _front: &Front) -> Result<Missing, PortFault> {
+        Err(PortFault::NoMemory)
+    }
+
+    fn report(&mut self) -> Result<Verdicts, PortFault> {
+        Err(PortFault::NoMemory)
+    }
+
+    fn look(&mut self) -> Result<Replica, PortFault> {
+        Err(PortFault::NoMemory)
+    }
+}
+
+impl Sink for Full {
+    ghost use Rattle.std.specs.Prelude.{◌≡◌};
+    ghost use Rattle.site_port.specs.Sinks.{declined};
+    ghost use Rattle.site_port.specs.declared.fault.SinkFault.TheVariants.{NoMemory};
+
+    ghost sinks = { λ _ _ uptake _. uptake ≡ declined NoMemory };
+
+    fn front(&mut self) -> Result<Front, SinkFault> {
+        Err(SinkFault::NoMemory)
+    }
+
+    fn take_all(&mut self, _ops: Vec<Op>) -> Result<(), SinkFault> {
+        Err(SinkFault::NoMemory)
+    }
+}
+
+#[test]
+fn refused_memory_is_an_answer(rt: HostRuntime) -> Result<(), Fail> {
+    let lines =
+        b"hello 2\ntake {\"change\":101,\"op\":\"merged\"}\nfront []\nready\nstate\nquit\n".as_slice();
+    let mut source = Ends::new(lines);
+    let mut drain = Ends::new(Vec::new(rt.alloc()));
+    session_run(rt.alloc(), &mut source, &mut drain, &mut Full)?;
+    let written = drain.into_inner();
+    let answers =
+        b"hello 2\nno 5 NoMemory\nno 5 NoMemory\nno 5 NoMemory\nno 5 NoMemory\nbye\n".as_slice();
+    assert_eq!(rt; written.as_slice(), answers);
+    let mut peer = Ends::new(b"hello 2\n".as_slice());
+    let mut asked = Ends::new(Vec::new(rt.alloc()));
+    let pulled = pull_run(rt.alloc(), &mut peer, &mut asked, &mut Full);
+    assert_eq!(rt; pulled, Err(LineFault::NoMemory));
+    Ok(())
+}
+
+/// What a peer says, what a pull by an empty site writes to it, how it ends, and how many operations the site then has.
+#[derive(Clone, Copy)]
+struct Pulling {
+    peer: &'static [u8],
+    asked: &'static [u8],
+    ended: Result<Pulled, LineFault>,
+    count: usize,
+}
+
+fn assert_pulls(rt: &impl Abort, alloc: Global, pulling: &Pulling) -> Result<(), Fail> {
+    let mut sink = port_of(alloc, &[])?;
+    let mut source = Ends::new(pulling.peer);
+    let mut drain = Ends::new(Vec::new(alloc));
+    let ended = pull_run(alloc, &mut source, &mut drain, &mut sink);
+    assert_eq!(rt; ended, pulling.ended);
+    let asked = drain.into_inner();
+    assert_eq!(rt; asked.as_slice(), pulling.asked);
+    assert_eq!(rt; sink.replica().len(), pulling.count);
+    Ok(())
+}
+
+#[test]
+fn whole_answers_are_handed_over(rt: HostRuntime) -> Result<(), Fail> {
+    pulls_pass_on_all();
+    for pulling in &[
+        Pulling {
+            peer: b"hello 2\nop {\"change\":5,\"op\":\"merged\",\"seq\":1,\"site\":1,\"start\":1,\"time\":1}\ndone\n",
+            asked: b"hello 2\nfront []\nquit\n",
+            ended: Ok(Pulled {
+                rounds: 1,
+                taken: 1,
+                more: false,
+            }),
+            count: 1,
+        },
+        Pulling {
+            peer: b"hello 2\nop {\"change\":5,\"op\":\"merged\",\"seq\":1,\"site\":1,\"start\":1,\"time\":1}\n",
+            asked: b"hello 2\nfront []\n",
+            ended: Err(LineFault::BadAnswer),
+            count: 0,
+        },
+        Pulling {
+            peer: b"hello 2\nop {\"change\":5,\"op\":\"merged\",\"seq\":1,\"site\":1,\"start\":1,\"time\":1}\nmore\nfoo\n",
+            asked: b"hello 2\nfront []\nfront [[1,1,1]]\n",
+            ended: Err(LineFault::BadAnswer),
+            count: 1,
+        },
+        Pulling {
+            peer: b"hello 1\n",
+            asked: b"hello 2\n",
+            ended: Err(LineFault::BadVersion),
+            count: 0,
+        },
+    ] {
+        assert_pulls(&rt, rt.alloc(), pulling)?;
+    }
+    Ok(())
+}
+
+/// What a peer answers of so many merges, in one round.
+fn answer_of(alloc: Global, count: u32) -> Result<String, Fail> {
+    let mut text = String::from_str(alloc, "hello 2\n")?;
+    for number in 1..=count {
+        write!(
+            text,
+            "op {{\"change\":{number},\"op\":\"merged\",\"seq\":{number},\"site\":1,\"start\":1,\"time\":{number}}}\n"
+        )?;
+    }
+    text.push_str("done\n")?;
+    Ok(text)
+}
+
+#[test]
+fn an_answer_has_256_operations(rt: HostRuntime) -> Result<(), Fail> {
+    for (count, ended, held) in [
+        (
+            256,
+            Ok(Pulled {
+                rounds: 1,
+                taken: 256,
+                more: false,
+            }),
+            256,
+        ),
+        (257, Err(LineFault::BadAnswer), 0),
+    ] {
+        let text = answer_of(rt.alloc(), count)?;
+        let mut sink = port_of(rt.alloc(), &[])?;
+        let mut source = Ends::new(text.as_bytes());
+        let mut drain = Ends::new(Vec::new(rt.alloc()));
+        let pulled = pull_run(rt.alloc(), &mut source, &mut drain, &mut sink);
+        assert_eq!(rt; pulled, ended);
+        assert_eq!(rt; sink.replica().len(), held);
+    }
+    Ok(())
+}
+
+/// Two votes under one stamp are two operations of a pull, and the greater value counts.
+#[test]
+fn one_stamp_may_bring_two_votes(rt: HostRuntime) -> Result<(), Fail> {
+    let peer =
+        b"hello 2\nop {\"change\":101,\"message\":\"m\",\"op\":\"patchset\",\"seq\":1,\"set\":1,\"site\":1,\"start\":1,\"time\":1}\nop {\"change\":101,\"label\":\"workflow\",\"op\":\"vote\",\"seq\":3,\"set\":1,\"site\":1,\"start\":1,\"time\":3,\"value\":1,\"voter\":\"ann\"}\nop {\"change\":101,\"label\":\"workflow\",\"op\":\"vote\",\"seq\":3,\"set\":1,\"site\":1,\"start\":1,\"time\":3,\"value\":2,\"voter\":\"ann\"}\ndone\n".as_slice();
+    let mut sink = port_of(rt.alloc(), &[])?;
+    let mut source = Ends::new(peer);
+    let mut drain = Ends::new(Vec::new(rt.alloc()));
+    let pulled = pull_run(rt.alloc(), &mut source, &mut drain, &mut sink)?;
+    assert_eq!(rt; pulled.taken, 3);
+    assert_eq!(rt; sink.replica().len(), 3);
+    let mut lines = Ends::new(b"hello 2\nstate\n".as_slice());
+    let mut answers = Ends::new(Vec::new(rt.alloc()));
+    session_run(rt.alloc(), &mut lines, &mut answers, &mut sink)?;
+    let written = answers.into_inner();
+    let state =
+        b"hello 2\nchange 101 NEW\nset 101,1 1,1,1,1 \"m\"\nvote 101,1 workflow ann 2 3,1,1,3\nend 1\n".as_slice();
+    assert_eq!(rt; written.as_slice(), state);
+    Ok(())
+}
+
+#[test]
+fn faults_have_numbers_and_names(rt: HostRuntime) {
+    for (fault, number, name) in [
+        (LineFault::LongLine, 1, "LongLine"),
+        (LineFault::BadVersion, 2, "BadVersion"),
+        (LineFault::ReadFault, 3, "ReadFault"),
+        (LineFault::WriteFault, 4, "WriteFault"),
+        (LineFault::NoMemory, 5, "NoMemory"),
+        (LineFault::BadAnswer, 6, "BadAnswer"),
+        (LineFault::Closed, 7, "Closed"),
+    ] {
+        assert_eq!(rt; fault.number(), number);
+        assert_eq!(rt; fault.name(), name);
+    }
+}
