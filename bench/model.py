@@ -724,3 +724,152 @@ class Session:
             return b"ok " + intake(self.record, self.site, self.start, deed, "9 ClockSpent") + b"\n"
         except Refused as cause:
             return b"no 9 ClockSpent\n" if str(cause) == "9 ClockSpent" else b"no 8 BadBody\n"
+
+
+# ---- Gerrit's events
+
+
+MISSING, DROPPED = object(), object()
+VOTED = {"comment-added": "author", "vote-deleted": "reviewer", "reviewer-deleted": "reviewer"}
+TURNS = {"change-abandoned": "abandon", "change-deleted": "abandon", "change-restored": "restore", "change-merged": "merged"}
+STATUSES = {"NEW": "restore", "ABANDONED": "abandon", "MERGED": "merged"}
+BODY_KEYS = {"BadLabel": "type", "BadVoter": "username", "LongMessage": "commitMessage"}
+
+
+def under(value, key: str):
+    return value.get(key, MISSING) if isinstance(value, dict) else MISSING
+
+
+def listed(value) -> list:
+    if value is MISSING:
+        return []
+    return value if isinstance(value, list) else [value]
+
+
+def number_in(value, low: int = 1, high: int = TOP_U32) -> int | None:
+    if isinstance(value, str) and re.fullmatch(r"[+-]?[0-9]+", value):
+        value = int(value)
+    return value if is_whole(value, low, high) else None
+
+
+class Event:
+    """A line's object. What it brings are deeds, and what is lost of it are keys."""
+
+    def __init__(self, value: dict, known: dict):
+        self.value, self.known, self.kind = value, known, value.get("type")
+        self.is_query = "type" not in value
+        self.about = value if self.is_query else under(value, "change")
+        self.patch = under(value, "currentPatchSet" if self.is_query else "patchSet")
+        self.change, self.set = number_in(under(self.about, "number")), number_in(under(self.patch, "number"))
+        self.message, self.revision = under(self.about, "commitMessage"), under(self.patch, "revision")
+
+    def found(self) -> list:
+        if not self.is_query and not isinstance(self.kind, str):
+            return ["type"]
+        if self.kind == "stats":
+            return []
+        if self.kind == "dropped-output":
+            return [DROPPED]
+        if not self.is_query and self.kind not in {"patchset-created", *VOTED, *TURNS}:
+            return self.first()
+        if self.change is None:
+            return ["number" if self.is_query else "change"]
+        if self.kind in TURNS:
+            return self.first() + [Deed(TURNS[self.kind], self.change)]
+        if self.set is None:
+            return ["currentPatchSet" if self.is_query else "patchSet"]
+        if self.is_query:
+            return self.first() + self.votes(self.set, under(self.patch, "approvals")) + self.older() + self.status()
+        return self.first() + (self.votes(self.set, under(self.value, "approvals")) if self.kind in VOTED else [])
+
+    def first(self) -> list:
+        """The patch set, where the line brings it, which is known from then on."""
+        needs = self.is_query or self.kind == "patchset-created"
+        if self.change is None or self.set is None or not isinstance(self.message, str):
+            return ["commitMessage"] if needs else []
+        if not needs and self.revision is not MISSING and self.known_as(self.revision) == (self.change, self.set):
+            return []
+        named = listed(under(self.value, "dependsOn") if self.is_query else under(self.patch, "parents"))
+        parents = [parent for parent in map(self.parent, named) if parent is not None]
+        lost = len(named) - bool(parents) if self.is_query else len(parents[1:])
+        if isinstance(self.revision, str):
+            self.known.setdefault(self.revision, (self.change, self.set))
+        deed = Deed("patchset", self.change, self.set, self.message.encode(), parents[0] if parents else None)
+        return [deed] + ["dependsOn" if self.is_query else "parents"] * lost
+
+    def known_as(self, revision):
+        return self.known.get(revision) if isinstance(revision, str) else None
+
+    def parent(self, named) -> int | None:
+        if self.is_query:
+            return number_in(under(named, "number"))
+        place = self.known_as(named)
+        return place and place[0]
+
+    def votes(self, number: int, approvals) -> list:
+        return [self.vote(number, approval) for approval in listed(approvals)]
+
+    def vote(self, number: int, approval):
+        label, value = under(approval, "type"), under(approval, "value")
+        if not isinstance(label, str):
+            return "type"
+        account = under(approval, "by") if self.is_query else under(self.value, VOTED[self.kind])
+        names = [name for name in (under(account, "username"), under(account, "email")) if isinstance(name, str)]
+        if not names:
+            return "by" if self.is_query else VOTED[self.kind]
+        score = 0 if value is MISSING else number_in(value, -128, 127)
+        if score is None:
+            return "value"
+        kind = "vote" if score else "withdraw"
+        return Deed(kind, self.change, number, label=label.encode(), voter=names[0].encode(), value=score)
+
+    def older(self) -> list:
+        found = []
+        for patch in listed(under(self.value, "patchSets")):
+            number = number_in(under(patch, "number"))
+            if number is None:
+                found.append("patchSets")
+            elif number != self.set:
+                found += self.votes(number, under(patch, "approvals"))
+        return found
+
+    def status(self) -> list:
+        name = under(self.value, "status")
+        if not isinstance(name, str):
+            return ["status"]
+        return [Deed(STATUSES[name], self.change)] if name in STATUSES else []
+
+
+def found_in(line: bytes, known: dict) -> list:
+    """What a line brings, and what is lost of it."""
+    try:
+        value = read_json(line)
+    except (ValueError, RecursionError):
+        return ["line"]
+    if not isinstance(value, dict) or len(line) > 1048576:
+        return ["line"]
+    return [settled(found) for found in Event(value, known).found()]
+
+
+def settled(found):
+    try:
+        return checked(found) if isinstance(found, Deed) else found
+    except Refused as cause:
+        return BODY_KEYS[str(cause)]
+
+
+def events(text: bytes):
+    """What a feed prints, what it reports, and its status."""
+    *lines, rest = text.split(b"\n")
+    known, output, errors = {}, b"hello 2\n", b""
+    for number, line in enumerate(lines, 1):
+        for found in found_in(line.removesuffix(b"\r"), known):
+            if found is DROPPED:
+                return output, errors + b"reviewgate: events 2 Dropped %d\n" % number, 1
+            if isinstance(found, Deed):
+                output += b"take " + compact(found.body()) + b"\n"
+            else:
+                errors += b"reviewgate: events 1 BadEvent %d %s\n" % (number, found.encode())
+    if rest:
+        errors += b"reviewgate: events 1 BadEvent %d line\n" % (len(lines) + 1)
+    return output, errors, 0
