@@ -50,7 +50,7 @@ pub fn events_run<S: Source, D: Drain, E: Drain>(
     feed_lines(alloc, LINE_LIMIT, u64::MAX, source, output, errors)
 }
 
-/// A feed of lines of at most so many bytes, and of at most so many lines.
+/// Feeds as `events_run` does, from lines of at most `limit` bytes, and of at most `most` lines. Refusals: as there, with these in place of its limits.
 pub fn feed_lines<S: Source, D: Drain, E: Drain>(
     alloc: Global,
     limit: usize,

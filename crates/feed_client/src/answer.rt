@@ -18,7 +18,8 @@ const REFUSALS: [Refusal; 5] = [
     Refusal::Closed,
 ];
 
-/// What a line answers: `ok STAMP`, or the refusal of `no NUMBER NAME`; any other line is no answer.
+/// What a line answers: `ok STAMP`, or the refusal of `no NUMBER NAME`. Refusals: `Refused`, with what the site refused it for; `Ended`, the line is no
+/// answer; `NoMemory`, memory was refused for reading the stamp.
 pub fn read_answer(alloc: Global, line: &[u8]) -> Result<Stamp, IntakeFault>
     ensures { IsAnswer line.now result }
 {

@@ -38,7 +38,8 @@ pub fn session_run<S: Source, D: Drain, P: Port>(
     answer_lines(alloc, LINE_LIMIT, LINES, source, drain, port)
 }
 
-/// Answers lines of at most so many bytes, and at most so many lines.
+/// Answers a session as `session_run` does, whose lines have at most `limit` bytes, and of which at most `most` lines are answered. Refusals: as there, with
+/// these in place of its limits.
 pub fn answer_lines<S: Source, D: Drain, P: Port>(
     alloc: Global,
     limit: usize,
