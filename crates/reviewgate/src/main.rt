@@ -33,6 +33,7 @@ use events::{event_words, events, events_to, report_misuse};
 use feed_client::EventWords;
 use run::{report, run_words};
 use serve_command::{Ended, serve};
+use site_journal::JournalFault;
 use site_serve::ServeFault;
 use std::alloc::Global;
 use std::env::Env;
@@ -98,10 +99,25 @@ fn report_site<E: Drain>(alloc: Global, ended: Ended, errors: &mut E) -> u8 {
         Ended::Well => 0,
         Ended::Usage(text) => report(alloc, &Command::Usage(text), &Ok(()), errors),
         Ended::Refused(refusal) => report(alloc, &Command::NoMemory, &Err(refusal), errors),
+        Ended::Journal(fault) => {
+            write_journal_fault(alloc, &fault, errors);
+            1
+        }
         Ended::Site(fault) => {
             write_fault(alloc, fault, errors);
             1
         }
+    }
+}
+
+/// Writes the line of a fault of a site's journal.
+fn write_journal_fault<E: Drain>(alloc: Global, fault: &JournalFault, errors: &mut E) {
+    let number = fault.number();
+    let Ok(mut line) = format!(in alloc; "reviewgate: journal {number} ") else {
+        return;
+    };
+    if fault.write_words(&mut line).is_ok() && line.push_str("\n").is_ok() {
+        let _lost = write_all(errors, line.as_bytes());
     }
 }
 

@@ -1,16 +1,24 @@
 //! Runs a site over sockets of this machine, as the words of the command line ask for.
 
+ghost use Rattle.std.specs.Prelude.{List};
+ghost use Rattle.review_ops.specs.Operation.{Operation};
+
 use super::input_end::stop_with_input;
+use super::journal::open_journal;
 use super::output::PatientOutput;
 use super::save::save;
+use super::start::{is_start_used, next_start};
 use byte_ends::{Drain, Ends, Source, write_all};
 use console::{Console, Named, Refusal, Streams, SystemFiles, read_gate, read_snapshot};
 use gate_rules::Gate;
 use replica_core::Replica;
 use serve_words::{ServeWords, Serving, read_serve_words};
+use site_journal::JournalFault;
+use site_ledger::{Keeps, NoJournal};
 use site_net::Stop;
-use site_serve::{ServeFault, Served, Setup, Turn, serve_run};
+use site_serve::{ServeFault, Served, Setup, Turn, serve_keeping};
 use std::alloc::Global;
+use std::fs::File;
 use std::io;
 use std::io::Print;
 use std::net::{Net, TcpListener, TcpStream};
@@ -28,6 +36,8 @@ pub enum Ended {
     Usage(String),
     /// Its gate file, its snapshot or its output, or memory.
     Refused(Refusal),
+    /// Its journal, as it was opened.
+    Journal(JournalFault),
     /// The site itself.
     Site(ServeFault),
 }
@@ -43,12 +53,12 @@ impl Turn for NoTurn {
 }
 
 /// Runs the site that the words after `serve` ask for. It reads and judges the gate file and then the snapshot, if one is
-/// named, asks whether the start was used, binds, prints `listening P`, runs the site and saves what it has. What is wrong
+/// named, opens the journal, asks whether the start was used, binds, prints `listening P`, runs the site and saves what it has. What is wrong
 /// while it runs is written to `errors`.
 pub fn serve<R, I, E>(rt: R, alloc: Global, words: &[String], input: I, errors: E) -> Ended
 where
     R: Net<Listener = TcpListener, Stream = TcpStream>,
-    R: Files + Print + Threads + Wait + Clock + AllocGlobal,
+    R: Files<File = File> + Print + Threads + Wait + Clock + AllocGlobal,
     R: Copy + Send + Sync + 'static,
     I: Source + Send + Drop + 'static,
     E: Drain + Send + Drop,
@@ -80,7 +90,7 @@ fn run_site<R, I, E>(
 ) -> Result<(), Ended>
 where
     R: Net<Listener = TcpListener, Stream = TcpStream>,
-    R: Files + Print + Threads + Wait + Clock + AllocGlobal,
+    R: Files<File = File> + Print + Threads + Wait + Clock + AllocGlobal,
     R: Copy + Send + Sync + 'static,
     I: Source + Send + Drop + 'static,
     E: Drain + Send + Drop,
@@ -94,10 +104,59 @@ where
         &mut Ends::new(io::writer(&rt)),
         &mut SystemFiles::new(rt),
     );
-    let (gate, replica) = inputs.map_err(Ended::Refused)?;
-    if is_start_used(&replica, serving.site, serving.start) {
+    let (gate, loaded) = inputs.map_err(Ended::Refused)?;
+    let Some(name) = serving.journal else {
+        let site = Site {
+            serving,
+            gate,
+            replica: loaded,
+        };
+        return run_kept(rt, alloc, site, input, errors, NoJournal);
+    };
+    let mut errors = errors;
+    let (journal, replica) = open_journal(&rt, alloc, name, loaded, &mut errors)?;
+    let site = Site {
+        serving,
+        gate,
+        replica,
+    };
+    run_kept(rt, alloc, site, input, errors, journal)
+}
+
+/// What a site is run with, once its inputs are read.
+#[derive(Drop)]
+struct Site<'a> {
+    serving: Serving<'a>,
+    gate: Gate,
+    replica: Replica,
+}
+
+/// Runs a site over what keeps its operations, from its start to its snapshot.
+fn run_kept<R, I, E, K>(
+    rt: R,
+    alloc: Global,
+    site: Site<'_>,
+    input: I,
+    errors: E,
+    keeper: K,
+) -> Result<(), Ended>
+where
+    R: Net<Listener = TcpListener, Stream = TcpStream>,
+    R: Files<File = File> + Print + Threads + Wait + Clock + AllocGlobal,
+    R: Copy + Send + Sync + 'static,
+    I: Source + Send + Drop + 'static,
+    E: Drain + Send + Drop,
+    K: Keeps + Drop,
+    requires { (first : List Operation) × K.holds keeper first }
+{
+    let Site {
+        serving,
+        gate,
+        replica,
+    } = site;
+    let Some(start) = start_of(&rt, &serving, &replica) else {
         return Err(Ended::Site(ServeFault::StartUsed));
-    }
+    };
     let Ok(listener) = TcpListener::bind(&rt, ("127.0.0.1", serving.port)) else {
         return Err(Ended::Site(ServeFault::NoBind));
     };
@@ -105,11 +164,22 @@ where
     let ending = serving.until_input_ends.then_some(input);
     let stop = stop_of(rt, alloc, ending)?;
     let name = serving.save;
-    let setup = setup_of(serving, gate, replica);
+    let setup = setup_of(serving, start, gate, replica);
     let output = output_of(rt, alloc, &stop)?;
-    match serve_run(&rt, alloc, listener, setup, &stop, output, errors, &NoTurn) {
+    match serve_keeping(
+        &rt, alloc, listener, setup, &stop, output, errors, &NoTurn, keeper,
+    ) {
         Ok(served) => keep(&rt, alloc, name, &served),
         Err(fault) => Err(Ended::Site(fault)),
+    }
+}
+
+/// The start that a site runs under: the one that is named, unless it was used, or the next one. None where there is none.
+fn start_of<R: Clock>(rt: &R, serving: &Serving<'_>, replica: &Replica) -> Option<u32> {
+    match serving.start {
+        Some(start) if is_start_used(replica, serving.site, start) => None,
+        Some(start) => Some(start),
+        None => next_start(rt, replica, serving.site),
     }
 }
 
@@ -130,11 +200,10 @@ fn output_of<R: Print + Threads + Wait + Clock + Copy + Send + 'static>(
 }
 
 /// What a site is run with.
-fn setup_of(serving: Serving<'_>, gate: Gate, replica: Replica) -> Setup {
+fn setup_of(serving: Serving<'_>, start: u32, gate: Gate, replica: Replica) -> Setup {
     let Serving {
         peers,
         site,
-        start,
         workers,
         pause_ms,
         sessions,
@@ -205,11 +274,6 @@ fn read_inputs<C: Console>(
         None => Replica::new(alloc),
     };
     Ok((rules, replica))
-}
-
-/// Whether a record has a stamp of the site under this start or a later one.
-fn is_start_used(replica: &Replica, site: u16, start: u32) -> bool {
-    replica.as_slice().iter().any(|op| op.stamp().site() == site && op.stamp().start() >= start)
 }
 
 /// Prints the port at which the site listens.

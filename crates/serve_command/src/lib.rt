@@ -3,7 +3,10 @@
 
 mod command;
 mod input_end;
+mod journal;
 mod output;
 mod save;
+mod start;
+mod tape;
 
 pub use command::{Ended, serve};

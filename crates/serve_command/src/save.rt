@@ -1,5 +1,6 @@
 //! Saves a record as a snapshot, so that the file of that name holds the old one whole or the new one whole.
 
+use super::tape::sync_folder;
 use byte_ends::Ends;
 use replica_core::Replica;
 use snapshot_text::write_snapshot;
@@ -25,14 +26,5 @@ pub fn save<R: Files>(rt: &R, alloc: Global, name: &str, replica: &Replica) -> i
     }
     drain.into_inner().sync_all()?;
     fs::rename(rt, beside.as_str(), name)?;
-    fs::open(rt, folder_of(name))?.sync_all()
-}
-
-/// The folder of a file.
-fn folder_of(name: &str) -> &str {
-    match name.rsplit_once('/') {
-        Some(("", _)) => "/",
-        Some((folder, _)) => folder,
-        None => ".",
-    }
+    sync_folder(rt, name)
 }

@@ -3,7 +3,7 @@
 use clap::{Arg, ArgAction, Command};
 use std::alloc::{AllocError, Global};
 
-/// `serve GATE [PEER].. --site N --start N [..]`
+/// `serve GATE [PEER].. --site N [..]`
 pub fn serve_command<'a>(alloc: Global) -> Result<Command<'a>, AllocError> {
     Command::new(alloc, "serve")
         .bin_name("reviewgate serve")?
@@ -26,9 +26,8 @@ pub fn serve_command<'a>(alloc: Global) -> Result<Command<'a>, AllocError> {
             alloc,
             "start",
             "N",
-            "The start, above every start that the site ever ran under",
-        )
-        .required(true))?
+            "The start, above every start that the site ever ran under; with --journal it may be left out",
+        ))?
         .arg(option(
             alloc,
             "port",
@@ -71,6 +70,12 @@ pub fn serve_command<'a>(alloc: Global) -> Result<Command<'a>, AllocError> {
             "save",
             "FILE",
             "The snapshot that is written at the end",
+        ))?
+        .arg(option(
+            alloc,
+            "journal",
+            "FILE",
+            "The journal that keeps what is taken in",
         ))
 }
 

@@ -12,6 +12,9 @@ use std::convert::AsStr;
 /// What is wrong with a number.
 const NO_NUMBER: &str = "error: a number is none or out of its range\n";
 
+/// What is wrong where no start is named.
+const NO_START: &str = "error: without --journal a site needs --start\n";
+
 /// What a site is run with.
 #[derive(Drop)]
 pub struct Serving<'a> {
@@ -21,8 +24,8 @@ pub struct Serving<'a> {
     pub peers: Vec<u16>,
     /// The site's number.
     pub site: u16,
-    /// The start of what it takes in.
-    pub start: u32,
+    /// The start of what it takes in; none is only where a journal is named.
+    pub start: Option<u32>,
     /// The port that it listens at; 0 for one that is free.
     pub port: u16,
     /// How many sessions it answers side by side, from 1 to 6.
@@ -39,6 +42,8 @@ pub struct Serving<'a> {
     pub load: Option<&'a str>,
     /// The name of the snapshot that is written at the end.
     pub save: Option<&'a str>,
+    /// The name of the journal.
+    pub journal: Option<&'a str>,
 }
 
 /// What the words after `serve` ask for.
@@ -54,7 +59,7 @@ pub enum ServeWords<'a> {
     NoMemory,
 }
 
-/// Reads the words that follow `serve`. Numbers out of their ranges are `Usage`. It costs O(bytes of the words).
+/// Reads the words that follow `serve`. Numbers out of their ranges are `Usage`, and so is a site with neither a start nor a journal. It costs O(bytes of the words).
 pub fn read_serve_words<'a, S: AsStr>(alloc: Global, words: &'a [S]) -> ServeWords<'a>
     ensures { AsksWithin result }
 {
@@ -63,6 +68,9 @@ pub fn read_serve_words<'a, S: AsStr>(alloc: Global, words: &'a [S]) -> ServeWor
     };
     match command.try_get_matches_from(words) {
         Ok(found) => match serving_in(alloc, &found) {
+            Some(serving) if serving.start.is_none() && serving.journal.is_none() => {
+                usage(alloc, NO_START)
+            }
             Some(serving) => ServeWords::Serve(serving),
             None => usage(alloc, NO_NUMBER),
         },
@@ -78,7 +86,7 @@ fn serving_in<'a>(alloc: Global, found: &ArgMatches<'a>) -> Option<Serving<'a>>
         gate: found.get_str("GATE")?,
         peers: peers_in(alloc, found)?,
         site: u16::try_from(number_in(found, "site", 0, 1, 65_535)?).ok()?,
-        start: u32::try_from(number_in(found, "start", 0, 1, 4_294_967_295)?).ok()?,
+        start: start_in(found)?,
         port: u16::try_from(number_in(found, "port", 0, 0, 65_535)?).ok()?,
         workers: usize::try_from(number_in(found, "workers", 2, 1, 6)?).ok()?,
         pause_ms: number_in(found, "pause", 1000, 1, 600_000)?,
@@ -87,7 +95,19 @@ fn serving_in<'a>(alloc: Global, found: &ArgMatches<'a>) -> Option<Serving<'a>>
         until_input_ends: found.get_flag("until-input-ends"),
         load: found.get_str("load"),
         save: found.get_str("save"),
+        journal: found.get_str("journal"),
     })
+}
+
+/// The start that is named, if one is; nothing where it isn't within its range.
+fn start_in(found: &ArgMatches<'_>) -> Option<Option<u32>>
+    ensures { IfSome result (λ named. IfSome named (λ start. 1 ≤ start)) }
+{
+    if found.get_str("start").is_none() {
+        return Some(None);
+    }
+    let start = number_in(found, "start", 0, 1, 4_294_967_295)?;
+    Some(Some(u32::try_from(start).ok()?))
 }
 
 /// The number of an option, or the default one, if it is within its range.

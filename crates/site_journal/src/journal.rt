@@ -56,6 +56,7 @@ impl<T: Tape + Drop> Journal<T> {
         requires { IsAtStart (T.image tape) (T.left tape) }
         ensures ok { IfOk result (λ started. (started.journal.is_spoiled ≡ false) × Changes (T.image tape) started.journal.image
             (λ i j. IsSettled j × IsOpened i.contents started.replica started.torn j.contents)) }
+        ensures holds { IfOk result (λ started. (ops : List Operation) × IsHolding started.journal ops) }
         ensures refused { IfErr result (λ fault. IfSome (T.image tape) (λ i. IsRefusal i.contents fault)) }
         ensures counted { MatchResult result (λ started. started.journal.failed ≡ T.failed tape)
             (λ fault. (failed : ℕ) × CountsFault (T.failed tape) failed fault) }

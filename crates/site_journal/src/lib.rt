@@ -19,7 +19,6 @@
 
 mod fault;
 mod journal;
-mod keeps;
 mod laws;
 mod memory;
 mod opening;
@@ -29,7 +28,6 @@ mod tape;
 
 pub use fault::{JournalFault, KeepFault, LineCause};
 pub use journal::{Journal, Started};
-pub use keeps::{Keeps, NoJournal};
 pub use laws::{
     crashes_lose_nothing_acknowledged, journals_have_one_reading, journals_say_their_operations,
 };

@@ -2,7 +2,7 @@
 
 use super::opening::OwnWindow;
 use crossbeam_channel::{Receiver, Sender};
-use review_ops::{Draft, Op};
+use review_ops::{Draft, Op, Stamp};
 use site_shared::{DeskFault, Naming, Told};
 use std::alloc::Global;
 use std::sync::Arc;
@@ -16,8 +16,15 @@ pub enum Ask {
     TakeAll { worker: usize, ops: Vec<Op> },
 }
 
-/// The receipt that threads share, or why nothing was published.
-pub type Answer<J> = Result<Arc<Told<J>, Global>, DeskFault>;
+/// What was published: the receipt that threads share, and the stamp of a body that was taken in.
+#[derive(Drop)]
+pub struct Done<J: Naming> {
+    pub receipt: Arc<Told<J>, Global>,
+    pub stamp: Option<Stamp>,
+}
+
+/// What was published, or why nothing was.
+pub type Answer<J> = Result<Done<J>, DeskFault>;
 
 /// A worker's way to the desk and back.
 #[derive(Drop)]

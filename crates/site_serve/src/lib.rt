@@ -14,5 +14,5 @@ mod seats;
 mod sessions;
 mod setup;
 
-pub use run::serve_run;
+pub use run::{serve_keeping, serve_run};
 pub use setup::{ServeFault, Served, Setup, Turn};

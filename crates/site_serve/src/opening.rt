@@ -12,10 +12,12 @@ ghost use Rattle.site_shared.specs.Publishes.{arrive};
 ghost use Rattle.state_core.specs.State.{state_of};
 
 use gate_rules::Gate;
+use lattice_core::NoMemory;
 use ready_core::Verdicts;
 use replica_core::{Front, Missing, Replica};
-use review_ops::{Draft, Op};
-use site_shared::{Desk, DeskFault, Naming, Told, Window, WindowFault};
+use review_ops::{Draft, Op, Stamp};
+use site_ledger::{Keeps, Ledger, LedgerFault};
+use site_shared::{DeskFault, Naming, Told, Window, WindowFault};
 use std::marker::PhantomData;
 use std::sync::Wait;
 
@@ -88,42 +90,45 @@ impl<J: Naming> OwnWindow<J> {
     }
 }
 
-/// The desk of the opening.
-pub struct OwnDesk<J: Naming> {
-    desk: Desk,
+/// The ledger of the opening.
+pub struct OwnLedger<J: Naming, K: Keeps> {
+    ledger: Ledger<K>,
     of: PhantomData<J>,
-    ghost ours: { desk.book ≡ J.book },
+    ghost ours: { ledger.account.book ≡ J.book },
 }
 
-impl<J: Naming> OwnDesk<J> {
-    /// The desk, of this opening.
-    pub fn new(desk: Desk) -> OwnDesk<J>
-        requires { desk.book ≡ J.book }
+impl<J: Naming, K: Keeps> OwnLedger<J, K> {
+    /// The ledger, of this opening.
+    pub fn new(ledger: Ledger<K>) -> OwnLedger<J, K>
+        requires { ledger.account.book ≡ J.book }
     {
-        OwnDesk {
-            desk,
+        OwnLedger {
+            ledger,
             of: PhantomData,
         }
     }
 
-    /// Stamps a body and publishes it.
-    pub fn intake<R: Wait>(&mut self, rt: &R, draft: Draft) -> Result<Told<J>, DeskFault> {
-        Ok(Told::new(self.desk.intake(rt, draft)?))
+    /// Stamps a body and holds it, without a publish.
+    pub fn hold(&mut self, draft: Draft) -> Result<Stamp, DeskFault> {
+        self.ledger.hold(draft)
     }
 
-    /// Publishes operations.
-    pub fn take_all<R: Wait>(&mut self, rt: &R, ops: Vec<Op>) -> Result<Told<J>, DeskFault> {
-        Ok(Told::new(self.desk.take_all(rt, ops)?))
+    /// Holds an operation, unless it was published or is held.
+    pub fn hold_new(&mut self, op: Op) -> Result<(), NoMemory> {
+        self.ledger.hold_new(op)
     }
 
-    /// Publishes what is held.
-    pub fn flush<R: Wait>(&mut self, rt: &R) -> Result<Told<J>, DeskFault> {
-        Ok(Told::new(self.desk.flush(rt)?))
+    /// Has what is held kept, and then publishes it.
+    pub fn publish<R: Wait>(&mut self, rt: &R) -> Result<Told<J>, LedgerFault> {
+        Ok(Told::new(self.ledger.publish(rt)?))
     }
 
-    /// Ends the desk.
-    pub fn end<R: Wait>(self, rt: &R) {
-        let OwnDesk { desk, of: _ } = self;
-        desk.end(rt);
+    /// Ends the ledger.
+    pub fn end<R: Wait>(self, rt: &R)
+    where
+        K: Drop,
+    {
+        let OwnLedger { ledger, of: _ } = self;
+        ledger.end(rt);
     }
 }

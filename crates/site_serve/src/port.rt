@@ -3,7 +3,7 @@
 ghost use Rattle.std.specs.Prelude.{◌≡◌};
 ghost use Rattle.site_port.specs.Ports.{IsLookingFault};
 
-use super::ask::{Answer, Ask, Place, Wire};
+use super::ask::{Answer, Ask, Done, Place, Wire};
 use super::opening::OwnWindow;
 use gate_rules::Gate;
 use ready_core::Verdicts;
@@ -66,12 +66,12 @@ impl<'a, 'g, R: Wait, J: Naming> Port for SitePort<'a, 'g, R, J> {
         let Some(answer) = self.ask(Ask::Intake { worker, draft }) else {
             return Err(PortFault::Closed);
         };
-        let receipt = match answer {
-            Ok(receipt) => receipt,
+        let Done { receipt, stamp } = match answer {
+            Ok(done) => done,
             Err(fault) => return Err(desk_fault(fault)),
         };
         self.window.learn(&receipt);
-        match receipt.receipt().stamp() {
+        match stamp {
             Some(stamp) => Ok(stamp),
             None => Err(PortFault::Closed),
         }
@@ -122,8 +122,8 @@ impl<'a, 'g, R: Wait, J: Naming> Sink for SitePort<'a, 'g, R, J> {
         }
         let worker = self.wire.worker;
         match self.ask(Ask::TakeAll { worker, ops }) {
-            Some(Ok(receipt)) => {
-                self.window.learn(&receipt);
+            Some(Ok(done)) => {
+                self.window.learn(&done.receipt);
                 Ok(())
             }
             Some(Err(_)) => Err(SinkFault::NoMemory),

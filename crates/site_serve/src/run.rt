@@ -1,23 +1,25 @@
 //! Runs a site.
 
-ghost use Rattle.std.specs.Prelude.{◌≡◌, All};
+ghost use Rattle.std.specs.Prelude.{◌≡◌, ◌∷◌, [], All, List};
 ghost use Rattle.std.specs.Thread.{IsSend, IsSync};
+ghost use Rattle.review_ops.specs.Operation.{Operation};
 
-use super::ask::{Answer, Place};
-use super::desk::{keep_desk, shared};
+use super::ask::Place;
+use super::desk::{NotKept, Published, keep_desk};
 use super::errors::Errors;
 use super::evaluator::{Printed, print_reports, serve_fault};
 use super::gossip::{Condition, Peer, Pulling, pull_from_peers};
 use super::news::News;
-use super::opening::{OwnDesk, OwnWindow};
+use super::opening::{OwnLedger, OwnWindow};
 use super::port::SitePort;
 use super::seats::{Seats, seated};
 use super::sessions::{Sessions, serve_sessions};
 use super::setup::{ServeFault, Served, Setup, Turn};
 use byte_ends::Drain;
 use gate_rules::Gate;
+use site_ledger::{Keeps, Ledger, NoJournal};
 use site_net::{Door, Patience, Stop};
-use site_shared::{Desk, Naming, OpenFault, Told, Window, open_site};
+use site_shared::{Desk, Naming, OpenFault, Window, open_site};
 use std::alloc::{AllocError, Global};
 use std::marker::Brand;
 use std::net::{Net, TcpListener, TcpStream};
@@ -44,10 +46,7 @@ struct Common<E: Drain> {
     is_start_taken: AtomicBool,
 }
 
-/// Runs a site until it is asked to stop, or until all its sessions have ended: its sessions, its pulls and its reports in threads of their own, and its
-/// desk in this one. The report of what it has is printed first, then each one that differs from the last. What ended with a fault, and which peer can't
-/// be reached, is written to `errors`. Refusals: 2 `StartUsed`, the replica has a stamp of the site under this start or a later one; 3 `NoMemory`; 4
-/// `NoPlace`, the system refused a thread or a place for one.
+/// Runs a site that nothing of outlives but what it leaves, as `serve_keeping` does.
 pub fn serve_run<R, W, E, T>(
     rt: &R,
     alloc: Global,
@@ -63,6 +62,36 @@ where
     W: Drain + Send + Drop,
     E: Drain + Send + Drop,
     T: Turn + Sync,
+{
+    serve_keeping(
+        rt, alloc, listener, setup, stop, output, errors, turn, NoJournal,
+    )
+}
+
+/// Runs a site until it is asked to stop, or until all its sessions have ended: its sessions, its pulls and its reports in threads of their own, and its
+/// desk in this one. The report of what it has is printed first, then each one that differs from the last. What ended with a fault, and which peer can't
+/// be reached, is written to `errors`. Refusals: 2 `StartUsed`, the replica has a stamp of the site under this start or a later one; 3 `NoMemory`; 4
+/// `NoPlace`, the system refused a thread or a place for one; 6 `NoJournal`, what was taken in couldn't be kept, and was neither shown nor acknowledged.
+/// Whatever the site takes in is kept first, then shown, then acknowledged. The keeper has to be one that has some operations, all of which stay: a
+/// journal that was just opened is, and `NoJournal`.
+pub fn serve_keeping<R, W, E, T, K>(
+    rt: &R,
+    alloc: Global,
+    listener: TcpListener,
+    setup: Setup,
+    stop: &Stop,
+    output: W,
+    errors: E,
+    turn: &T,
+    keeper: K,
+) -> Result<Served, ServeFault>
+where
+    R: Net<Listener = TcpListener, Stream = TcpStream> + Threads + Wait + Clock + Sync,
+    W: Drain + Send + Drop,
+    E: Drain + Send + Drop,
+    T: Turn + Sync,
+    K: Keeps + Drop,
+    requires { (first : List Operation) × K.holds keeper first }
 {
     let Setup {
         gate,
@@ -91,8 +120,8 @@ where
     };
     match open_site(rt, site, start, workers + 2, replica) {
         Ok((desk, windows)) => {
-            run_opened::<Brand, R, W, E, T>(
-                rt, alloc, &common, stop, peers, desk, windows, output, turn,
+            run_opened::<Brand, R, W, E, T, K>(
+                rt, alloc, &common, stop, peers, desk, windows, output, turn, keeper,
             )
         }
         Err(fault) => Err(open_fault(fault)),
@@ -144,7 +173,7 @@ fn open_fault(fault: OpenFault) -> ServeFault {
 }
 
 /// Runs a site that was opened, and ends its desk.
-fn run_opened<J, R, W, E, T>(
+fn run_opened<J, R, W, E, T, K>(
     rt: &R,
     alloc: Global,
     common: &Common<E>,
@@ -154,6 +183,7 @@ fn run_opened<J, R, W, E, T>(
     windows: Vec<Window>,
     output: W,
     turn: &T,
+    keeper: K,
 ) -> Result<Served, ServeFault>
 where
     J: Naming + Send + Sync,
@@ -161,44 +191,56 @@ where
     W: Drain + Send + Drop,
     E: Drain + Send + Drop,
     T: Turn + Sync,
+    K: Keeps + Drop,
     requires desk { desk.book ≡ J.book }
+    requires opened { (journal : List Operation) × (desk.published ≡ journal ∷ []) }
     requires windows { All (λ window. window.book ≡ J.book) windows.items }
+    requires keeper { (first : List Operation) × K.holds keeper first }
 {
-    let mut desk: OwnDesk<J> = OwnDesk::new(desk);
+    let mut ledger: OwnLedger<J, K> = OwnLedger::new(Ledger::new(desk, keeper));
     let served = match seated(alloc, windows) {
         Ok(Some(seats)) => {
             let news = News::new();
             let ended = run_threads(
-                rt, alloc, common, stop, peers, &mut desk, &news, seats, output, turn,
+                rt,
+                alloc,
+                common,
+                stop,
+                peers,
+                &mut ledger,
+                &news,
+                seats,
+                output,
+                turn,
             );
             left_of(ended, common.is_start_taken.load(Ordering::SeqCst))
         }
         Ok(None) => Err(ServeFault::NoPlace),
         Err(_) => Err(ServeFault::NoMemory),
     };
-    desk.end(rt);
+    ledger.end(rt);
     served
 }
 
 /// How the threads of a site ended.
 #[derive(Drop)]
 struct Ended<J: Naming> {
-    /// What the desk answered when it was flushed.
-    flushed: Answer<J>,
+    /// The last publish; or that the journal failed.
+    flushed: Result<Published<J>, NotKept>,
     /// What the printing of reports left; none where it never began.
     printed: Option<Printed<J>>,
     /// Whether the system refused a thread.
     is_refused: bool,
 }
 
-/// Runs the threads of a site, and keeps its desk in this one until all have ended.
-fn run_threads<J, R, W, E, T>(
+/// Runs the threads of a site, and keeps its ledger in this one until all have ended.
+fn run_threads<J, R, W, E, T, K>(
     rt: &R,
     alloc: Global,
     common: &Common<E>,
     stop: &Stop,
     peers: Vec<Peer>,
-    desk: &mut OwnDesk<J>,
+    ledger: &mut OwnLedger<J, K>,
     news: &News<J>,
     seats: Seats<J>,
     output: W,
@@ -210,6 +252,7 @@ where
     W: Drain + Send + Drop,
     E: Drain + Send + Drop,
     T: Turn + Sync,
+    K: Keeps,
 {
     let Seats {
         reports,
@@ -234,8 +277,10 @@ where
                 stop.ask(rt);
                 let _shut = common.sessions.door.shut();
             }
-            keep_desk(rt, alloc, desk, news, &lines);
-            let flushed = flush(rt, alloc, desk, news);
+            let flushed = keep_desk(rt, alloc, ledger, news, lines);
+            stop.ask(rt);
+            let _shut = common.sessions.door.shut();
+            close(rt, news, &flushed);
             let printed = match reports {
                 Ok(reports) => Some(reports.join(rt)),
                 Err(_) => None,
@@ -307,19 +352,12 @@ where
     serve_sessions(rt, sessions, stop, errors, turn, &mut port);
 }
 
-/// Publishes what is held, and has nothing new come any more.
-fn flush<R: Wait, J: Naming>(
-    rt: &R,
-    alloc: Global,
-    desk: &mut OwnDesk<J>,
-    news: &News<J>,
-) -> Answer<J> {
-    let flushed = desk.flush(rt).and_then(|receipt| shared(alloc, receipt));
-    if let Ok(receipt) = &flushed {
+/// Brings the last publish, and has nothing new come any more.
+fn close<R: Wait, J: Naming>(rt: &R, news: &News<J>, flushed: &Result<Published<J>, NotKept>) {
+    if let Ok(Ok(receipt)) = flushed {
         news.bring(rt, receipt);
     }
     news.close(rt);
-    flushed
 }
 
 /// What a site leaves once its threads have ended: all that it took in, also what could only be held.
@@ -329,6 +367,9 @@ fn left_of<J: Naming>(ended: Ended<J>, is_start_taken: bool) -> Result<Served, S
         printed,
         is_refused,
     } = ended;
+    let Ok(flushed) = flushed else {
+        return Err(ServeFault::NoJournal);
+    };
     let Some(printed) = printed else {
         return Err(ServeFault::NoPlace);
     };

@@ -38,7 +38,7 @@ pub struct Served {
     pub is_start_taken: bool,
 }
 
-/// Why a site doesn't run, or doesn't run to its end: `serve_run` answers 2 to 4, and who calls it the others.
+/// Why a site doesn't run, or doesn't run to its end: `serve_keeping` answers 2 to 4 and 6, and who calls it the others.
 #[derive(Clone, Copy, Debug, PartialEq, Eq, Error)]
 pub enum ServeFault {
     /// 1: the port can't be listened at.
@@ -56,6 +56,12 @@ pub enum ServeFault {
     /// 5: what the site has couldn't be saved.
     #[error("the record couldn't be saved")]
     NoSave,
+    /// 6: what the site took in can't be kept any more.
+    #[error("the journal failed")]
+    NoJournal,
+    /// 7: another process has the journal.
+    #[error("the journal is locked")]
+    Locked,
     /// 8: another process runs as this site under this start or a later one.
     #[error("another process runs under this site's number and start")]
     StartTaken,
@@ -70,6 +76,8 @@ impl ServeFault {
             ServeFault::NoMemory => 3,
             ServeFault::NoPlace => 4,
             ServeFault::NoSave => 5,
+            ServeFault::NoJournal => 6,
+            ServeFault::Locked => 7,
             ServeFault::StartTaken => 8,
         }
     }
@@ -82,6 +90,8 @@ impl ServeFault {
             ServeFault::NoMemory => "NoMemory",
             ServeFault::NoPlace => "NoPlace",
             ServeFault::NoSave => "NoSave",
+            ServeFault::NoJournal => "NoJournal",
+            ServeFault::Locked => "Locked",
             ServeFault::StartTaken => "StartTaken",
         }
     }

@@ -1,8 +1,8 @@
 //! The one that takes in and publishes.
 
-ghost use Rattle.std.specs.Prelude.{◌≡◌, ◌<◌, [], ◌∷◌, ◌++◌, IfErr, IfOk, None, OnErr, OnOk, Some, length};
+ghost use Rattle.std.specs.Prelude.{◌≡◌, ◌<◌, [], ◌∷◌, ◌++◌, IfErr, IfOk, None, OnErr, OnOk, Some, if◌then◌else◌, length};
 ghost use Rattle.std.specs.Arc.{arc_value};
-ghost use Rattle.replica_core.specs.Journal.{arrived};
+ghost use Rattle.replica_core.specs.Journal.{arrived, has};
 ghost use Rattle.review_ops.specs.Draft.{deed_of};
 ghost use Rattle.review_ops.specs.Good.{IsFaultless};
 
@@ -147,6 +147,21 @@ impl Desk {
             }
         }
         Ok(())
+    }
+
+    /// Holds an operation, unless it was published or is held, without a publish. Waits for nobody.
+    pub fn hold_new(&mut self, op: Op) -> Result<(), NoMemory>
+        ensures ok { OnOk result (self.new ≡ (if has (record_of self.old) op then self.old else holding self.old (op ∷ []))) }
+        ensures err { OnErr result (self.new ≡ self.old) }
+        ensures opening { IsSameOpening self.old self.new }
+    {
+        let next = self.take_next()?;
+        let is_known = next.has(&op);
+        self.next = Some(next);
+        if is_known {
+            return Ok(());
+        }
+        self.hold_one(op)
     }
 
     /// What is held, in its order: what was refused for want of memory, and what was to be held.

@@ -12,7 +12,7 @@ fn options_have_defaults(rt: HostRuntime) {
     };
     assert_eq!(rt;
         (serving.gate, serving.site, serving.start),
-        ("gate.json", 1, 7)
+        ("gate.json", 1, Some(7))
     );
     assert_eq!(rt;
         (serving.port, serving.workers, serving.pause_ms),
@@ -47,6 +47,8 @@ fn all_options_are_read(rt: HostRuntime) {
         "a",
         "--save",
         "b",
+        "--journal",
+        "c",
         "--until-input-ends",
     ];
     let ServeWords::Serve(serving) = read_serve_words(rt.alloc(), words.as_slice()) else {
@@ -56,6 +58,7 @@ fn all_options_are_read(rt: HostRuntime) {
         peers,
         load,
         save,
+        journal,
         ..
     } = &serving;
     assert_eq!(rt; peers.as_slice(), [8001, 8002].as_slice());
@@ -64,7 +67,7 @@ fn all_options_are_read(rt: HostRuntime) {
         (8000, 6, 600_000)
     );
     assert_eq!(rt; (serving.sessions, serving.idle_ms), (3, 5));
-    assert_eq!(rt; (*load, *save), (Some("a"), Some("b")));
+    assert_eq!(rt; (*load, *save, *journal), (Some("a"), Some("b"), Some("c")));
     assert!(rt; serving.until_input_ends);
 }
 
@@ -79,10 +82,14 @@ fn numbers_have_their_ranges(rt: HostRuntime) -> Result<(), Fail> {
         ["g", "--site", "1", "--start", "1", "--pause", "0"],
         ["g", "0", "--site", "1", "--start", "1", "--nothing"],
         ["g", "0", "1", "--site", "1", "--start", "1"],
+        ["g", "1", "2", "3", "4", "--site", "1"],
     ] {
         let read = read_serve_words(rt.alloc(), words.as_slice());
         assert!(rt; matches!(&read, ServeWords::Usage(_)));
     }
+    let journal = ["g", "--site", "1", "--journal", "j"];
+    let read = read_serve_words(rt.alloc(), journal.as_slice());
+    assert!(rt; matches!(&read, ServeWords::Serve(_)));
     let help = read_serve_words(rt.alloc(), ["--help"].as_slice());
     assert!(rt; matches!(&help, ServeWords::Help(_)));
     Ok(())

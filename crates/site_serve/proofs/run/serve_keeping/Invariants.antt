@@ -1,4 +1,4 @@
-use Rattle.site_serve.proofs.run.serve_run.Given as goal
+use Rattle.site_serve.proofs.run.serve_keeping.Given as goal
 
 -- the opening's list of publishes
 abbrev pub ghosts-run_opened : goal.ghosts-run_opened

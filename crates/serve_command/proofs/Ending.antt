@@ -1,0 +1,7 @@
+-- What follows where a call succeeded.
+use Rattle.std.proofs.Common.{Result, Ok, Err}
+use Rattle.std.specs.Prelude.{OnOk}
+
+pub on_ok : {A E : Type 0} (result : Result A E) (P Q : Type 0) → (P → Q) → OnOk result P → OnOk result Q
+on_ok (Ok value) P Q f p = f p
+on_ok (Err fault) P Q f p = tt

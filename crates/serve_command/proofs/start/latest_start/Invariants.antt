@@ -1,0 +1,7 @@
+use Rattle.std.proofs.Common.{take}
+use Rattle.serve_command.specs.Starts.{IsLatest}
+use Rattle.serve_command.proofs.start.latest_start.Given as goal
+
+-- none of the first operations has a later start
+abbrev pub invariant-loop-op : goal.invariant-loop-op
+invariant-loop-op l = IsLatest l.site l.latest (take l.op-index l.replica)

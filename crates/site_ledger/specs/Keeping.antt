@@ -1,0 +1,48 @@
+-- What is published was kept: the write-ahead rule, by which what a change is recorded in is on disk before the change is shown
+-- (Mohan et al., ACM Transactions on Database Systems 17, 1992, 1.1).
+use Rattle.std.specs.Prelude.{◌≡◌, ◌<◌, ◌≤◌, ℕ, Bool, true, false, List, [], ◌++◌, IfSome, drop, flat_map, length, take}
+use Rattle.review_ops.specs.Operation.{Operation}
+use Rattle.site_shared.specs.Accounts.{Account}
+use Rattle.site_journal.specs.Book.{Book}
+use Rattle.site_journal.specs.Tape.{IsLeftBy}
+use Rattle.site_journal.specs.Text.{Says}
+use Rattle.site_ledger.specs.declared.ledger.LedgerFault.{LedgerFault}
+use Rattle.site_ledger.specs.declared.ledger.LedgerFault.TheVariants.{NoMemory, NotKept}
+
+-- whatever a crash leaves of the journal says these operations, in this order, and perhaps more after them
+abbrev pub Survive : Book → List Operation → Type 0
+Survive book ops = IfSome book.image (λ i. (left : List ℕ) → IsLeftBy i left → (more : List Operation) × (rest : List ℕ) × Says left (ops ++ more) rest)
+
+-- what a ledger has: the account of its desk, what keeps its operations, how many of those that are held are kept, and whether no more can be kept
+pub record Entries (K : Type 0) : Type 0 where
+  pub account : Account
+  pub keeper : K
+  pub kept : ℕ
+  pub is_over : Bool
+
+-- all that was published since the opening, in its order
+abbrev pub published_ops : Account → List Operation
+published_ops account = flat_map (λ ops. ops) (drop 1 account.published)
+
+-- all that was published since the opening, and then those of what is held that are kept
+abbrev pub kept_ops : {K : Type 0} → Entries K → List Operation
+kept_ops entries = published_ops entries.account ++ take entries.kept entries.account.held
+
+-- after what the keeper had at first comes all that was published, and survives; as long as it goes on it has just that
+pub record IsKeeping {K : Type 0} (held_by survives_by : K → List Operation → Type 0) (entries : Entries K) : Type 0 where
+  pub first : List Operation
+  pub opened : 0 < length entries.account.published
+  pub within : entries.kept ≤ length entries.account.held
+  pub survives : survives_by entries.keeper (first ++ kept_ops entries)
+  pub holds : entries.is_over ≡ false → held_by entries.keeper (first ++ kept_ops entries)
+
+-- why nothing was published: nothing more is kept from now on just where it wasn't for want of memory
+abbrev pub is_over_after : LedgerFault → Bool
+is_over_after NoMemory = false
+is_over_after NotKept = true
+
+-- all but the account is as before
+pub record IsSameKeeping {K : Type 0} (old new : Entries K) : Type 0 where
+  pub keeper : new.keeper ≡ old.keeper
+  pub kept : new.kept ≡ old.kept
+  pub is_over : new.is_over ≡ old.is_over

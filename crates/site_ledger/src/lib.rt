@@ -1,0 +1,18 @@
+//! A ledger: the desk of a running site with what keeps its operations. What it has published was kept before, always.
+//!
+//! An example of its use, without a journal:
+//!
+//! ```
+//! let (desk, windows) = open_site(rt, 1, 1, 1, Replica::new(alloc))?;
+//! let mut ledger = Ledger::new(desk, NoJournal);
+//! let _stamp = ledger.hold(Draft::Merged { change: 101 })?;
+//! let receipt = ledger.publish(rt)?;
+//! ledger.end(rt);
+//! ```
+#![tactic(auto)]
+
+mod keeps;
+mod ledger;
+
+pub use keeps::{Keeps, NoJournal};
+pub use ledger::{Ledger, LedgerFault};
