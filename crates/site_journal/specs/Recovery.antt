@@ -1,7 +1,11 @@
 -- What is recovered of a journal's text.
-use Rattle.std.specs.Prelude.{◌≡◌, ◌⊎◌, ℕ, List, [], Option, IfSome, length}
+use Rattle.std.specs.Prelude.{◌≡◌, ◌⊎◌, ◌<◌, ℕ, List, [], Option, IfSome, length, take}
+use Rattle.std.specs.Io.KnownBytes.{Appends}
+use Rattle.replica_core.specs.InOrder.{IsInOrderOf}
+use Rattle.replica_core.specs.Journal.{all_arrived}
 use Rattle.review_ops.specs.Operation.{Operation}
-use Rattle.snapshot_text.specs.Snapshot.{CountsWriteFault}
+use Rattle.snapshot_text.specs.Snapshot.{CountsWriteFault, snapshot_text}
+use Rattle.snapshot_text.specs.declared.fault.WriteSnapFault.TheVariants.{NoMemory, WriteFault}
 use Rattle.site_journal.specs.Text.{Says, IsFresh}
 use Rattle.site_journal.specs.Fault.{IsRefusal}
 use Rattle.site_journal.specs.declared.recovery.RecoverFault.{RecoverFault}
@@ -11,10 +15,13 @@ use Rattle.site_journal.specs.declared.recovery.RecoverFault.TheVariants.{Journa
 abbrev pub IsRecovered : List ℕ → List Operation → ℕ → Type 0
 IsRecovered text ops torn = ((rest : List ℕ) × Says text ops rest × (torn ≡ length rest)) ⊎ (IsFresh text × (ops ≡ []) × (torn ≡ length text))
 
--- a journal that isn't read has nothing written of it
+-- a journal that isn't read has nothing written of it. Where the drain failed, a proper prefix of the snapshot is written
 abbrev pub IsRefusedRecovery : Option (List ℕ) → Option (List ℕ) → RecoverFault → Option (List ℕ) → Type 0
 IsRefusedRecovery left old (Journal fault) new = IfSome left (λ text. IsRefusal text fault) × (new ≡ old)
-IsRefusedRecovery left old (Snapshot fault) new = Unit {0}
+IsRefusedRecovery left old (Snapshot WriteFault) new = IfSome left (λ text. (ops : List Operation) × (torn : ℕ) × IsRecovered text ops torn
+    × (sorted : List Operation) × IsInOrderOf (all_arrived [] ops) sorted
+    × (count : ℕ) × (count < length (snapshot_text sorted)) × Appends old new (take count (snapshot_text sorted)))
+IsRefusedRecovery left old (Snapshot NoMemory) new = new ≡ old
 
 -- a drain that failed is told by a count of one more
 abbrev pub CountsRecovery : ℕ → ℕ → RecoverFault → Type 0
