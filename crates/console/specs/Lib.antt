@@ -2,3 +2,4 @@ pub mod Console
 pub mod Inputs
 pub mod Printing
 pub mod Refusals
+pub mod Showing

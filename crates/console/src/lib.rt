@@ -1,4 +1,5 @@
-//! The console of a command: its input, its output and the files that it names, the inputs that it reads from there, and how it is refused.
+//! The console of a command: its input, its output and the files that it names, the inputs that it reads from there, and how it is refused, as the error
+//! output says.
 //!
 //! The name `-` is that of the input, which is read once: a second `-` is empty. Each kind of input has its limit, and is judged once it is read.
 #![tactic(auto)]
@@ -6,6 +7,7 @@
 mod files;
 mod inputs;
 mod refusals;
+mod showing;
 mod streams;
 
 pub use files::{Named, SystemFiles};
@@ -13,4 +15,5 @@ pub use inputs::{
     GateFile, read_any_gate, read_gate, read_gate_file, read_message, read_script, read_snapshot,
 };
 pub use refusals::Refusal;
+pub use showing::{show, show_line, show_refusal};
 pub use streams::{Console, Streams};

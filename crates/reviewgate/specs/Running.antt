@@ -1,14 +1,12 @@
--- What the error output is written, and the status that the program ends with.
-use Rattle.std.specs.Prelude.{◌≡◌, ◌⊎◌, ◌<◌, ℕ, List, Option, Ok, Err, length, string_bytes, take}
-use Rattle.std.specs.Io.KnownBytes.{Appends}
-use Rattle.byte_ends.specs.Failures.{OneFailed}
+-- How a command runs, what the error output is written of it, and the status that the program ends with.
+use Rattle.std.specs.Prelude.{◌≡◌, ℕ, List, Option, Ok, Err, string_bytes}
 use Rattle.command_line.specs.declared.words.Command.{Command}
 use Rattle.command_line.specs.declared.words.Command.TheVariants.{Usage}
 use Rattle.console.specs.Printing.{Ended}
 use Rattle.console.specs.Console.{ConsoleState, Contents}
 use Rattle.reviewgate.specs.Ending.{Ends}
 use Rattle.console.specs.Refusals.{refusal_line}
-use Rattle.console.specs.declared.refusals.Refusal.TheVariants.{Memory}
+use Rattle.console.specs.Showing.{ErrorOutput, Shows, ShowsLine}
 
 -- what was printed, where that is known, and how many calls of the input, the files and the output failed
 pub data Counts : Type 0 where
@@ -28,16 +26,6 @@ pub record Runs (command : Command) (left : Option (List ℕ)) (files : Contents
   pub ends : Ends command before after ended
   pub leaves : counts_of after ≡ new
 
--- the error output: what it has taken, where that is known, and how many of its calls failed
-pub data ErrorOutput : Type 0 where
-  error_output : Option (List ℕ) → ℕ → ErrorOutput
-
--- all of the text was written; or a call failed, and a proper prefix of it was
-abbrev pub Shows : List ℕ → ErrorOutput → ErrorOutput → Type 0
-Shows text (error_output old failed) (error_output new now_failed) =
-    (Appends old new text × (now_failed ≡ failed))
-    ⊎ ((count : ℕ) × (count < length text) × Appends old new (take count text) × OneFailed failed now_failed)
-
 -- what is written, and the status: nothing and 0 of a command that was done; its line and 1 of one that was refused,
 -- or, where memory is refused for the line, the line of that; and what is wrong with the words and 2 where they ask for
 -- no command
@@ -45,4 +33,4 @@ abbrev pub Reports : ErrorOutput → ErrorOutput → Command → Ended → ℕ �
 Reports old new (Usage text) ended status = Shows (string_bytes text) old new × (status ≡ 2)
 Reports old new command (Ok done) status = (new ≡ old) × (status ≡ 0)
 Reports old new command (Err refusal) status =
-    (Shows (refusal_line refusal) old new ⊎ Shows (refusal_line Memory) old new) × (status ≡ 1)
+    ShowsLine (refusal_line refusal) old new × (status ≡ 1)

@@ -1,12 +1,12 @@
 //! The program, over any words, readers, writers and files.
 
-ghost use Rattle.std.specs.Prelude.{◌⊎◌, map};
+ghost use Rattle.std.specs.Prelude.{map};
 ghost use Rattle.command_line.specs.Asking.{Asks};
 ghost use Rattle.command_line.specs.declared.words.Command.{Command};
 ghost use Rattle.console.specs.Printing.{Ended};
 ghost use Rattle.reviewgate.specs.Ending.{Ends};
-ghost use Rattle.console.specs.Refusals.{refusal_line};
-ghost use Rattle.reviewgate.specs.Running.{Reports, Runs, Shows, counts, error_output};
+ghost use Rattle.console.specs.Showing.{error_output};
+ghost use Rattle.reviewgate.specs.Running.{Reports, Runs, counts};
 
 use super::footers::footers;
 use super::graph::graph;
@@ -14,9 +14,9 @@ use super::merge::merge;
 use super::ready::ready;
 use super::simulate::simulate;
 use super::why::why;
-use byte_ends::{Drain, Source, write_all};
+use byte_ends::{Drain, Source};
 use command_line::{Command, read_words};
-use console::{Console, Named, Refusal, Streams};
+use console::{Console, Named, Refusal, Streams, show, show_refusal};
 use std::alloc::Global;
 use std::convert::AsStr;
 
@@ -28,9 +28,6 @@ const REFUSED: u8 = 1;
 
 /// The status of a usage fault.
 const MISUSED: u8 = 2;
-
-/// The line of want of memory.
-const MEMORY_LINE: &str = "reviewgate: memory 1 NoMemory\n";
 
 /// Runs the command that `words`, the arguments after the program's name, ask for. The file name `-` reads `input`. The answer is the exit
 /// status: 0 for success and for help, 1 for a refusal, of which one line is written to `errors`, 2 for words that ask for no command, of
@@ -129,23 +126,4 @@ pub fn report<E: Drain>(
             REFUSED
         }
     }
-}
-
-/// Writes the line of a refusal to the error output, or that of want of memory, where memory is refused for it.
-fn show_refusal<E: Drain>(alloc: Global, refusal: &Refusal, errors: &mut E)
-    ensures { let old = error_output (E.taken errors.old) (E.failed errors.old) in
-        let new = error_output (E.taken errors.new) (E.failed errors.new) in
-        Shows (refusal_line refusal.now) old new ⊎ Shows (refusal_line Refusal.Memory) old new }
-{
-    match refusal.line(alloc) {
-        Ok(line) => show(line.as_bytes(), errors),
-        Err(_) => show(MEMORY_LINE.as_bytes(), errors),
-    }
-}
-
-/// Writes a text to the error output.
-fn show<E: Drain>(text: &[u8], errors: &mut E)
-    ensures { Shows text.now (error_output (E.taken errors.old) (E.failed errors.old)) (error_output (E.taken errors.new) (E.failed errors.new)) }
-{
-    let _ = write_all(errors, text);
 }

@@ -1,0 +1,40 @@
+//! Writes lines to the error output.
+
+ghost use Rattle.std.specs.Prelude.{MatchResult, string_bytes};
+ghost use Rattle.console.specs.Refusals.{refusal_line};
+ghost use Rattle.console.specs.Showing.{Shows, ShowsLine, error_output};
+
+use super::refusals::Refusal;
+use byte_ends::{Drain, write_all};
+use std::alloc::{AllocError, Global};
+
+/// The line of want of memory.
+const MEMORY_LINE: &str = "reviewgate: memory 1 NoMemory\n";
+
+/// Writes the line of a refusal to the error output, or that of want of memory, where memory is refused for it. What the error output can't take is
+/// lost.
+pub fn show_refusal<E: Drain>(alloc: Global, refusal: &Refusal, errors: &mut E)
+    ensures { ShowsLine (refusal_line refusal.now)
+        (error_output (E.taken errors.old) (E.failed errors.old)) (error_output (E.taken errors.new) (E.failed errors.new)) }
+{
+    show_line(&refusal.line(alloc), errors);
+}
+
+/// Writes a line to the error output, or that of want of memory, where memory was refused for it. What the error output can't take is lost.
+pub fn show_line<E: Drain>(line: &Result<String, AllocError>, errors: &mut E)
+    ensures { let old = error_output (E.taken errors.old) (E.failed errors.old) in
+        let new = error_output (E.taken errors.new) (E.failed errors.new) in
+        MatchResult line.now (λ made. Shows (string_bytes made) old new) (λ _. Shows (refusal_line Refusal.Memory) old new) }
+{
+    match line {
+        Ok(line) => show(line.as_bytes(), errors),
+        Err(_) => show(MEMORY_LINE.as_bytes(), errors),
+    }
+}
+
+/// Writes a text to the error output. What that can't take is lost.
+pub fn show<E: Drain>(text: &[u8], errors: &mut E)
+    ensures { Shows text.now (error_output (E.taken errors.old) (E.failed errors.old)) (error_output (E.taken errors.new) (E.failed errors.new)) }
+{
+    let _ = write_all(errors, text);
+}
