@@ -1,0 +1,23 @@
+//! `recover`: the snapshot of a journal as a command, and the lines of a journal on the error output.
+//!
+//! The journal is read block by block, and neither locked nor changed. A torn line at its end is left out, and its length is reported.
+//!
+//! An example of its use:
+//!
+//! ```
+//! let mut output = Ends::new(Vec::new(alloc));
+//! let mut errors = Ends::new(Vec::new(alloc));
+//! let journal = Ends::new(b"reviewgate 2\n{\"change".as_slice());
+//! assert_eq!(rt; recover_to(alloc, journal, &mut output, &mut errors), 0);
+//! assert_eq!(rt; output.get_ref().as_slice(), b"reviewgate 2\nend 0\n".as_slice());
+//! assert_eq!(rt; errors.get_ref().as_slice(), b"reviewgate: journal 6 Torn 8\n".as_slice());
+//! ```
+#![tactic(auto)]
+
+mod lines;
+mod named;
+mod recovering;
+
+pub use lines::{show_journal_fault, show_torn};
+pub use named::{journal_named, recover_named};
+pub use recovering::recover_to;

@@ -1,0 +1,49 @@
+//! The lines of a journal on the error output.
+
+ghost use Rattle.std.specs.Prelude.{◌≡◌, ◌<◌, IfOk, string_bytes};
+ghost use Rattle.console.specs.Showing.{ShowsLine, error_output};
+ghost use Rattle.recover_command.specs.Lines.{journal_line, torn_line};
+
+use byte_ends::Drain;
+use console::show_line;
+use site_journal::JournalFault;
+use std::alloc::{AllocError, Global};
+
+/// Writes the line of a journal's fault to the error output, or that of want of memory, where memory is refused for it. What the error output can't
+/// take is lost.
+pub fn show_journal_fault<E: Drain>(alloc: Global, fault: &JournalFault, errors: &mut E)
+    ensures { ShowsLine (journal_line fault.now)
+        (error_output (E.taken errors.old) (E.failed errors.old)) (error_output (E.taken errors.new) (E.failed errors.new)) }
+{
+    show_line(&journal_line(alloc, fault), errors);
+}
+
+/// Writes to the error output how many bytes of a torn line were left out, if any, or the line of want of memory, where memory is refused for that. What
+/// the error output can't take is lost.
+pub fn show_torn<E: Drain>(alloc: Global, torn: usize, errors: &mut E)
+    ensures whole { torn ≡ 0 → errors.new ≡ errors.old }
+    ensures torn { 0 < torn → ShowsLine (torn_line torn)
+        (error_output (E.taken errors.old) (E.failed errors.old)) (error_output (E.taken errors.new) (E.failed errors.new)) }
+{
+    if torn > 0 {
+        show_line(&torn_line(alloc, torn), errors);
+    }
+}
+
+/// The line of a journal's fault.
+fn journal_line(alloc: Global, fault: &JournalFault) -> Result<String, AllocError>
+    ensures { IfOk result (λ line. string_bytes line ≡ journal_line fault.now) }
+{
+    let number = fault.number();
+    let mut line = format!(in alloc; "reviewgate: journal {number} ")?;
+    fault.write_words(&mut line)?;
+    line.push_str("\n")?;
+    Ok(line)
+}
+
+/// The line of so many bytes that were left out.
+fn torn_line(alloc: Global, torn: usize) -> Result<String, AllocError>
+    ensures { IfOk result (λ line. string_bytes line ≡ torn_line torn) }
+{
+    format!(in alloc; "reviewgate: journal 6 Torn {torn}\n")
+}
