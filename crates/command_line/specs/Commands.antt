@@ -44,6 +44,10 @@ abbrev pub graph_app : App
 graph_app =
     with_rule (with_rule (with_rule (new_app (codes "graph")) (needed (codes "GATE"))) (needed (codes "SNAPSHOT"))) around_rule
 
+-- `recover JOURNAL`
+abbrev pub recover_app : App
+recover_app = with_rule (new_app (codes "recover")) (needed (codes "JOURNAL"))
+
 -- `events`, which takes no other word
 abbrev pub events_app : App
 events_app = new_app (codes "events")
@@ -60,7 +64,10 @@ reading_app = with_subcommand (with_subcommand (with_subcommand bare_app simulat
 -- the program
 abbrev pub program : App
 program =
-    with_subcommand (with_subcommand (with_subcommand (with_subcommand reading_app footers_app.top) why_app.top) graph_app.top)
+    with_subcommand
+    (with_subcommand
+    (with_subcommand (with_subcommand (with_subcommand reading_app footers_app.top) why_app.top) graph_app.top)
+    recover_app.top)
     events_app.top
 
 -- an argument that clap reads by this rule, at its own command alone

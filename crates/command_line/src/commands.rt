@@ -4,7 +4,7 @@ ghost use Rattle.std.specs.Prelude.{IfOk, codes};
 ghost use Rattle.clap.specs.Words.{new_rule};
 ghost use Rattle.command_line.specs.Commands.{IsApp, IsRule, around_rule, bare_app, change_rule, events_app, footers_app};
 ghost use Rattle.command_line.specs.Commands.{graph_app};
-ghost use Rattle.command_line.specs.Commands.{merge_app, needed, program, reading_app, ready_app, simulate_app, why_app};
+ghost use Rattle.command_line.specs.Commands.{merge_app, needed, program, reading_app, ready_app, recover_app, simulate_app, why_app};
 
 use clap::{Arg, Command};
 use std::alloc::{AllocError, Global};
@@ -24,7 +24,8 @@ pub fn commands<'a>(alloc: Global) -> Result<Command<'a>, AllocError>
     let depending = reading.subcommand(footers_command(alloc)?)?;
     let explaining = depending.subcommand(why_command(alloc)?)?;
     let drawing = explaining.subcommand(graph_command(alloc)?)?;
-    drawing.subcommand(events_command(alloc))
+    let recovering = drawing.subcommand(recover_command(alloc)?)?;
+    recovering.subcommand(events_command(alloc))
 }
 
 /// The program with the commands that read scripts and snapshots.
@@ -192,6 +193,20 @@ fn around_option<'a>(alloc: Global) -> Arg<'a>
         .long("around")
         .value_name("CHANGE")
         .help("The change around which items are drawn: what it leads to, and what leads to it")
+}
+
+/// `recover JOURNAL`
+fn recover_command<'a>(alloc: Global) -> Result<Command<'a>, AllocError>
+    ensures { IfOk result (IsApp recover_app) }
+{
+    let journal = file(
+        alloc,
+        "JOURNAL",
+        "The journal's file, or - for standard input",
+    );
+    Command::new(alloc, "recover")
+        .about("Prints the snapshot of a journal, without a line that a crash tore")
+        .arg(journal)
 }
 
 /// `events`, which takes no other word
