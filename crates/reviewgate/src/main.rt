@@ -31,9 +31,9 @@ use command_line::Command;
 use console::{Refusal, SystemFiles};
 use events::{event_words, events, events_to, report_misuse};
 use feed_client::EventWords;
+use recover_command::{journal_named, recover_named, show_journal_fault};
 use run::{report, run_words};
 use serve_command::{Ended, serve};
-use site_journal::JournalFault;
 use site_serve::ServeFault;
 use std::alloc::Global;
 use std::env::Env;
@@ -69,7 +69,7 @@ fn main(rt: HostRuntime) -> ExitCode {
     ExitCode::from(status)
 }
 
-/// Feeds Gerrit's lines to a session for `events`, or else runs the command that the words ask for. Answers the status.
+/// Recovers a journal for `recover`, feeds Gerrit's lines to a session for `events`, or else runs the command that the words ask for. Answers the status.
 fn do_words<R: Files + Input + Print + AllocGlobal + Clock + Net<Stream = TcpStream>, E: Drain>(
     rt: &R,
     alloc: Global,
@@ -78,6 +78,9 @@ fn do_words<R: Files + Input + Print + AllocGlobal + Clock + Net<Stream = TcpStr
 ) -> u8 {
     let mut input = Ends::new(rt.reader());
     let mut output = Ends::new(io::writer(rt));
+    if let Some(journal) = recovery_words(words) {
+        return recover_named(rt, alloc, journal, input, &mut output, errors);
+    }
     match event_words(words) {
         Some(EventWords::Output) => events(alloc, &mut input, &mut output, errors),
         Some(EventWords::To(port)) => events_to(rt, alloc, port, &mut input, errors),
@@ -93,6 +96,14 @@ fn do_words<R: Files + Input + Print + AllocGlobal + Clock + Net<Stream = TcpStr
     }
 }
 
+/// The name of the journal that the words ask to recover, where they do.
+fn recovery_words(words: &[String]) -> Option<&str> {
+    match words {
+        [first, rest @ ..] if first.as_str() == "recover" => journal_named(rest),
+        _ => None,
+    }
+}
+
 /// Reports how `serve` ended. Answers the status: 0 where it ended in order, 2 for words that ask for no site, else 1.
 fn report_site<E: Drain>(alloc: Global, ended: Ended, errors: &mut E) -> u8 {
     match ended {
@@ -100,24 +111,13 @@ fn report_site<E: Drain>(alloc: Global, ended: Ended, errors: &mut E) -> u8 {
         Ended::Usage(text) => report(alloc, &Command::Usage(text), &Ok(()), errors),
         Ended::Refused(refusal) => report(alloc, &Command::NoMemory, &Err(refusal), errors),
         Ended::Journal(fault) => {
-            write_journal_fault(alloc, &fault, errors);
+            show_journal_fault(alloc, &fault, errors);
             1
         }
         Ended::Site(fault) => {
             write_fault(alloc, fault, errors);
             1
         }
-    }
-}
-
-/// Writes the line of a fault of a site's journal.
-fn write_journal_fault<E: Drain>(alloc: Global, fault: &JournalFault, errors: &mut E) {
-    let number = fault.number();
-    let Ok(mut line) = format!(in alloc; "reviewgate: journal {number} ") else {
-        return;
-    };
-    if fault.write_words(&mut line).is_ok() && line.push_str("\n").is_ok() {
-        let _lost = write_all(errors, line.as_bytes());
     }
 }
 
