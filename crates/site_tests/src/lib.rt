@@ -1,4 +1,4 @@
-//! Tests of what a running site is made of (desks and windows, journals, ports, lines), and of the words of the command
+//! Tests of what a running site is made of (desks and windows, journals, ports, lines), of the recovery of journals, and of the words of the command
 //! line, through the public functions of their crates. A crate of tests alone, as `record_tests` is.
 #![tactic(auto)]
 
@@ -10,6 +10,8 @@ mod journals;
 mod lines;
 #[cfg(test)]
 mod ports;
+#[cfg(test)]
+mod recoveries;
 #[cfg(test)]
 mod running;
 #[cfg(test)]

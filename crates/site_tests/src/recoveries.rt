@@ -1,0 +1,201 @@
+//! Journals that are recovered as a command: what is printed, what is reported, and the status.
+
+use byte_ends::{Broken, Drain, Ends};
+use recover_command::{journal_named, recover_named, recover_to, show_journal_fault, show_torn};
+use site_journal::{JournalFault, LineCause, recover};
+use std::alloc::Global;
+use std::fs;
+use std::process::Abort;
+use std::rt::Files;
+use std::test::Fail;
+
+/// A journal of three lines, of which the last says what the first does, and the snapshot of it.
+const JOURNAL: &[u8] =
+    b"reviewgate 2\n{\"change\":6,\"op\":\"merged\",\"seq\":2,\"site\":1,\"start\":2,\"time\":2}\n{\"change\":5,\"op\":\"merged\",\"seq\":1,\"site\":1,\"start\":2,\"time\":1}\n{\"change\":6,\"op\":\"merged\",\"seq\":2,\"site\":1,\"start\":2,\"time\":2}\n";
+
+const SNAPSHOT: &[u8] =
+    b"reviewgate 2\n{\"change\":5,\"op\":\"merged\",\"seq\":1,\"site\":1,\"start\":2,\"time\":1}\n{\"change\":6,\"op\":\"merged\",\"seq\":2,\"site\":1,\"start\":2,\"time\":2}\nend 2\n";
+
+/// Recovering a journal with these bytes prints and reports this, and ends with this status.
+fn assert_recovers(
+    rt: &impl Abort,
+    alloc: Global,
+    journal: &[u8],
+    printed: &[u8],
+    reported: &[u8],
+    status: u8,
+) {
+    let mut output = Ends::new(Vec::new(alloc));
+    let mut errors = Ends::new(Vec::new(alloc));
+    let ended = recover_to(alloc, Ends::new(journal), &mut output, &mut errors);
+    assert_eq!(rt; output.get_ref().as_slice(), printed);
+    assert_eq!(rt; errors.get_ref().as_slice(), reported);
+    assert_eq!(rt; ended, status);
+}
+
+#[test]
+fn each_operation_is_printed_once_and_in_order(rt: HostRuntime) -> Result<(), Fail> {
+    assert_recovers(&rt, rt.alloc(), JOURNAL, SNAPSHOT, b"", 0);
+    Ok(())
+}
+
+/// How many bytes stand past the last line end.
+fn torn_of(bytes: &[u8]) -> usize {
+    bytes
+        .iter()
+        .rev()
+        .take_while(|byte| **byte != b'\n')
+        .count()
+}
+
+/// Cut at any byte a journal is recovered as `site_journal` does it, and a torn line is reported by its length.
+#[test]
+fn a_journal_is_recovered_wherever_it_is_cut(rt: HostRuntime) -> Result<(), Fail> {
+    let alloc = rt.alloc();
+    for length in 0..=JOURNAL.len() {
+        let left = JOURNAL.get(..length).unwrap_or(JOURNAL);
+        let mut snapshot = Ends::new(Vec::new(alloc));
+        assert!(rt; recover(alloc, Ends::new(left), &mut snapshot).is_ok());
+        let line = match torn_of(left) {
+            0 => String::new(alloc),
+            torn => format!(in alloc; "reviewgate: journal 6 Torn {torn}\n")?,
+        };
+        let printed = snapshot.get_ref().as_slice();
+        assert_recovers(&rt, alloc, left, printed, line.as_bytes(), 0);
+    }
+    Ok(())
+}
+
+#[test]
+fn a_torn_line_is_left_out(rt: HostRuntime) -> Result<(), Fail> {
+    let mut journal = JOURNAL.to_vec(rt.alloc())?;
+    journal.extend_from_slice(b"{\"chan")?;
+    let line = b"reviewgate: journal 6 Torn 6\n";
+    assert_recovers(&rt, rt.alloc(), journal.as_slice(), SNAPSHOT, line, 0);
+    Ok(())
+}
+
+#[test]
+fn what_is_no_journal_is_refused_and_nothing_is_printed(rt: HostRuntime) -> Result<(), Fail> {
+    let cases: [(&[u8], &[u8]); 3] = [
+        (b"reviewgate 1\n", b"reviewgate: journal 1 BadHeader\n"),
+        (
+            b"reviewgate 2\n{}\n",
+            b"reviewgate: journal 2 BadLine 2 BadShape op\n",
+        ),
+        (SNAPSHOT, b"reviewgate: journal 2 BadLine 4 NotJson\n"),
+    ];
+    for (journal, line) in cases {
+        assert_recovers(&rt, rt.alloc(), journal, b"", line, 1);
+    }
+    Ok(())
+}
+
+/// What is written to the errors where a journal is recovered to this output, and the status.
+fn reported_to<O: Drain>(alloc: Global, output: &mut O) -> (Vec<u8>, u8) {
+    let mut errors = Ends::new(Vec::new(alloc));
+    let status = recover_to(alloc, Ends::new(JOURNAL), output, &mut errors);
+    (errors.into_inner(), status)
+}
+
+#[test]
+fn an_output_that_fails_has_taken_a_front(rt: HostRuntime) -> Result<(), Fail> {
+    let mut output = Broken::before_byte(Ends::new(Vec::new(rt.alloc())), 40);
+    let (reported, status) = reported_to(rt.alloc(), &mut output);
+    assert_eq!(rt;
+        reported.as_slice(),
+        b"reviewgate: output 1 WriteFault\n".as_slice()
+    );
+    assert_eq!(rt; status, 1);
+    assert!(rt; SNAPSHOT.starts_with(output.get_ref().get_ref().as_slice()));
+    assert_eq!(rt; output.get_ref().get_ref().len(), 39);
+    Ok(())
+}
+
+#[test]
+fn a_source_that_fails_is_a_journal_that_is_not_read(rt: HostRuntime) -> Result<(), Fail> {
+    let alloc = rt.alloc();
+    let mut output = Ends::new(Vec::new(alloc));
+    let mut errors = Ends::new(Vec::new(alloc));
+    let source = Broken::before_byte(Ends::new(JOURNAL), 50);
+    assert_eq!(rt; recover_to(alloc, source, &mut output, &mut errors), 1);
+    assert!(rt; output.get_ref().is_empty());
+    assert_eq!(rt;
+        errors.get_ref().as_slice(),
+        b"reviewgate: journal 4 Failed\n".as_slice()
+    );
+    Ok(())
+}
+
+/// Recovering the journal of a name, beside an input that has a torn first line, prints and reports this, and ends with this status.
+fn assert_named<R: Files + Abort>(
+    rt: &R,
+    alloc: Global,
+    name: &str,
+    printed: &[u8],
+    reported: &[u8],
+    status: u8,
+) {
+    let mut output = Ends::new(Vec::new(alloc));
+    let mut errors = Ends::new(Vec::new(alloc));
+    let input = Ends::new(b"reviewgate".as_slice());
+    let ended = recover_named(rt, alloc, name, input, &mut output, &mut errors);
+    assert_eq!(rt; output.get_ref().as_slice(), printed, "{name}");
+    assert_eq!(rt; errors.get_ref().as_slice(), reported, "{name}");
+    assert_eq!(rt; ended, status, "{name}");
+}
+
+// A file that is there, the input, one that isn't there, and a folder.
+#[test]
+fn journals_are_recovered_by_name(rt: HostRuntime) -> Result<(), Fail> {
+    let alloc = rt.alloc();
+    let empty = b"reviewgate 2\nend 0\n";
+    let failed = b"reviewgate: journal 4 Failed\n";
+    fs::write(&rt, "recovered.tmp", JOURNAL)?;
+    assert_named(&rt, alloc, "recovered.tmp", SNAPSHOT, b"", 0);
+    assert_named(
+        &rt,
+        alloc,
+        "-",
+        empty,
+        b"reviewgate: journal 6 Torn 10\n",
+        0,
+    );
+    assert_named(&rt, alloc, "no/such/file", b"", failed, 1);
+    assert_named(&rt, alloc, ".", b"", failed, 1);
+    assert_eq!(rt; fs::read(&rt, "recovered.tmp")?.as_slice(), JOURNAL);
+    fs::remove_file(&rt, "recovered.tmp")?;
+    Ok(())
+}
+
+#[test]
+fn one_word_names_a_journal(rt: HostRuntime) -> Result<(), Fail> {
+    let none: [&str; 0] = [];
+    assert_eq!(rt;
+        journal_named(["site1.journal"].as_slice()),
+        Some("site1.journal")
+    );
+    assert_eq!(rt; journal_named(["-"].as_slice()), Some("-"));
+    assert_eq!(rt; journal_named(["--", "-x"].as_slice()), Some("-x"));
+    assert_eq!(rt; journal_named(["--help"].as_slice()), None);
+    assert_eq!(rt; journal_named(["--"].as_slice()), None);
+    assert_eq!(rt; journal_named(["a", "b"].as_slice()), None);
+    assert_eq!(rt; journal_named(none.as_slice()), None);
+    Ok(())
+}
+
+#[test]
+fn faults_and_torn_lines_have_a_line_each(rt: HostRuntime) -> Result<(), Fail> {
+    let alloc = rt.alloc();
+    let mut errors = Ends::new(Vec::new(alloc));
+    show_journal_fault(
+        alloc,
+        &JournalFault::BadLine(7, LineCause::TooLong),
+        &mut errors,
+    );
+    show_torn(alloc, 0, &mut errors);
+    show_torn(alloc, 3, &mut errors);
+    let lines = b"reviewgate: journal 2 BadLine 7 TooLong\nreviewgate: journal 6 Torn 3\n";
+    assert_eq!(rt; errors.get_ref().as_slice(), lines.as_slice());
+    Ok(())
+}
