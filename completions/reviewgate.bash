@@ -2,7 +2,7 @@
 _reviewgate() {
     local word=${COMP_WORDS[COMP_CWORD]} command=${COMP_WORDS[1]} words=""
     if [ "$COMP_CWORD" -eq 1 ]; then
-        words="ready why graph merge footers simulate serve events help --help --version"
+        words="ready why graph merge footers simulate serve recover events help --help --version"
     else
         case $command in
             events) words="--to --help" ;;
