@@ -6,7 +6,8 @@ ghost use Rattle.site_journal.specs.Book.{IsHolding};
 
 use super::command::Ended;
 use super::tape::{FileTape, TapeFault};
-use byte_ends::{Drain, write_all};
+use byte_ends::Drain;
+use recover_command::show_torn;
 use replica_core::Replica;
 use review_ops::Op;
 use site_journal::{Journal, JournalFault, Started, Tape};
@@ -35,9 +36,7 @@ pub fn open_journal<R: Files<File = File>, E: Drain>(
         replica,
         torn,
     } = Journal::open(alloc, tape).map_err(Ended::Journal)?;
-    if torn > 0 {
-        report_torn(alloc, torn, errors);
-    }
+    show_torn(alloc, torn, errors);
     let (mut journal, mut replica) = (journal, replica);
     add_lacking(alloc, &mut journal, &replica, &loaded).map_err(Ended::Site)?;
     match replica.absorb(loaded) {
@@ -51,13 +50,6 @@ fn tape_fault(fault: TapeFault) -> Ended {
     match fault {
         TapeFault::Locked => Ended::Site(ServeFault::Locked),
         TapeFault::Failed => Ended::Journal(JournalFault::Failed),
-    }
-}
-
-/// Writes how many bytes of a torn line were cut off.
-fn report_torn<E: Drain>(alloc: Global, torn: usize, errors: &mut E) {
-    if let Ok(line) = format!(in alloc; "reviewgate: journal 6 Torn {torn}\n") {
-        let _lost = write_all(errors, line.as_bytes());
     }
 }
 

@@ -1,9 +1,10 @@
 //! The start that a site runs under.
 
 ghost use Rattle.std.specs.Prelude.{IfSome};
-ghost use Rattle.serve_command.specs.Starts.{IsLatest, IsUnused};
+ghost use Rattle.site_ledger.specs.Starts.{IsUnused};
 
 use replica_core::Replica;
+use site_ledger::latest_start;
 use std::time::{Clock, SystemTime};
 
 /// Whether a record has a stamp of the site under this start or a later one.
@@ -18,20 +19,6 @@ pub fn next_start<R: Clock>(rt: &R, replica: &Replica, site: u16) -> Option<u32>
 {
     let above = latest_start(replica, site).checked_add(1)?;
     Some(seconds_of(rt)?.max(above))
-}
-
-/// The latest start of a site in a record; 0 where it has none.
-fn latest_start(replica: &Replica, site: u16) -> u32
-    ensures { IsLatest site result replica.now }
-{
-    let mut latest = 0;
-    for op in replica.as_slice() {
-        let stamp = op.stamp();
-        if stamp.site() == site && stamp.start() > latest {
-            latest = stamp.start();
-        }
-    }
-    latest
 }
 
 /// The seconds since 1970.

@@ -1,4 +1,5 @@
-//! A ledger: the desk of a running site with what keeps its operations. What it has published was kept before, always.
+//! A ledger: the desk of a running site with what keeps its operations. What it has published was kept before, always. And the latest start that a
+//! site's record has, above which it begins again.
 //!
 //! An example of its use, without a journal:
 //!
@@ -13,6 +14,8 @@
 
 mod keeps;
 mod ledger;
+mod starts;
 
 pub use keeps::{Keeps, NoJournal};
 pub use ledger::{Ledger, LedgerFault};
+pub use starts::latest_start;

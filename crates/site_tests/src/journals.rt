@@ -4,9 +4,10 @@ use byte_ends::{Broken, Ends};
 use op_text::read_op;
 use review_ops::Op;
 use site_journal::{
-    Journal, JournalFault, KeepFault, Keeps, LineCause, MemoryTape, NoJournal, RecoverFault,
-    Started, open_tape, recover,
+    Journal, JournalFault, KeepFault, LineCause, MemoryTape, RecoverFault, Started, open_tape,
+    recover,
 };
+use site_ledger::{Keeps, NoJournal};
 use snapshot_text::WriteSnapFault;
 use std::alloc::Global;
 use std::test::Fail;

@@ -1,4 +1,4 @@
-//! Tests of what a running site is made of (desks and windows, journals, ports, lines), of the recovery of journals, and of the words of the command
+//! Tests of what a running site is made of (desks and windows, ledgers, journals, ports, lines), of the recovery of journals, and of the words of the command
 //! line, through the public functions of their crates. A crate of tests alone, as `record_tests` is.
 #![tactic(auto)]
 
@@ -6,6 +6,8 @@
 mod commands;
 #[cfg(test)]
 mod journals;
+#[cfg(test)]
+mod ledgers;
 #[cfg(test)]
 mod lines;
 #[cfg(test)]

@@ -1,6 +1,6 @@
 use Rattle.std.proofs.Common.{take}
-use Rattle.serve_command.specs.Starts.{IsLatest}
-use Rattle.serve_command.proofs.start.latest_start.Given as goal
+use Rattle.site_ledger.specs.Starts.{IsLatest}
+use Rattle.site_ledger.proofs.starts.latest_start.Given as goal
 
 -- none of the first operations has a later start
 abbrev pub invariant-loop-op : goal.invariant-loop-op

@@ -1,4 +1,4 @@
--- The start that a site runs under: above each that it ever ran under, so that no stamp comes twice.
+-- The starts of a site. One that it begins under is above each that it ever began under, so that no stamp comes twice.
 use Rattle.std.specs.Prelude.{◌≡◌, ◌≤◌, ◌<◌, ℕ, List, All}
 use Rattle.review_ops.specs.Operation.{Operation}
 

@@ -1,0 +1,19 @@
+//! The starts that a site ran under.
+
+ghost use Rattle.site_ledger.specs.Starts.{IsLatest};
+
+use replica_core::Replica;
+
+/// The latest start of a site in a record, in whatever order its operations came; 0 where it has none. Costs O(n) for n operations.
+pub fn latest_start(replica: &Replica, site: u16) -> u32
+    ensures { IsLatest site result replica.now }
+{
+    let mut latest = 0;
+    for op in replica.as_slice() {
+        let stamp = op.stamp();
+        if stamp.site() == site && stamp.start() > latest {
+            latest = stamp.start();
+        }
+    }
+    latest
+}

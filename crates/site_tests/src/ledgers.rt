@@ -1,0 +1,84 @@
+//! Ledgers over keepers that fail.
+
+ghost use Rattle.review_ops.specs.Operation.{Operation};
+
+use super::running::patch_set;
+use replica_core::Replica;
+use review_ops::Op;
+use site_journal::KeepFault;
+use site_ledger::{Keeps, Ledger, LedgerFault};
+use site_shared::{Window, open_site};
+use std::alloc::Global;
+use std::sync::Wait;
+use std::test::Fail;
+
+/// Keeps operations but for the faults that are left, the last one first.
+#[derive(Drop)]
+struct Failing {
+    faults: Vec<KeepFault>,
+}
+
+impl Keeps for Failing {
+    ghost holds = { λ _ _. Unit {0} };
+
+    ghost survives = { λ _ _. Unit {0} };
+
+    fn what_it_has_survives(&self) {}
+
+    fn keep(&mut self, _ops: &[Op]) -> Result<(), KeepFault> {
+        match self.faults.pop() {
+            Some(fault) => Err(fault),
+            None => Ok(()),
+        }
+    }
+}
+
+/// What a publish of one held operation is answered, and that of the next try; and how many operations a window sees then.
+fn published<R: Wait>(
+    rt: &R,
+    alloc: Global,
+    fault: KeepFault,
+) -> Result<(Option<LedgerFault>, Option<LedgerFault>, usize), Fail> {
+    let mut faults = Vec::new(alloc);
+    faults.push(fault)?;
+    let (desk, windows) = open_site(rt, 1, 1, 1, Replica::new(alloc))?;
+    let mut ledger = Ledger::new(desk, Failing { faults });
+    let ended = publish_twice(rt, alloc, &mut ledger, windows);
+    ledger.published_survives();
+    ledger.end(rt);
+    ended
+}
+
+/// Holds an operation and tries to publish it twice.
+fn publish_twice<R: Wait>(
+    rt: &R,
+    alloc: Global,
+    ledger: &mut Ledger<Failing>,
+    windows: Vec<Window>,
+) -> Result<(Option<LedgerFault>, Option<LedgerFault>, usize), Fail> {
+    let mut windows = windows;
+    let _stamp = ledger.hold(patch_set(alloc, 101)?)?;
+    let first = ledger.publish(rt).err();
+    let second = ledger.publish(rt).err();
+    let mut window = windows.pop().ok_or("a window")?;
+    Ok((first, second, window.snapshot()?.len()))
+}
+
+#[test]
+fn what_is_not_kept_is_not_published(rt: HostRuntime) -> Result<(), Fail> {
+    let over = Some(LedgerFault::NotKept);
+    for fault in [KeepFault::Failed, KeepFault::Spoiled, KeepFault::TooLong] {
+        assert_eq!(rt; published(&rt, rt.alloc(), fault)?, (over, over, 0));
+    }
+    Ok(())
+}
+
+#[test]
+fn what_memory_was_refused_for_is_published_later(rt: HostRuntime) -> Result<(), Fail> {
+    let first = Some(LedgerFault::NoMemory);
+    assert_eq!(rt;
+        published(&rt, rt.alloc(), KeepFault::NoMemory)?,
+        (first, None, 1)
+    );
+    Ok(())
+}
