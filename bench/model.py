@@ -552,6 +552,36 @@ def snapshot(ops) -> bytes:
     return b"".join(line + b"\n" for line in [b"reviewgate 2"] + lines + [b"end %d" % len(lines)])
 
 
+# ---- journals
+
+HEADER = b"reviewgate 2\n"
+
+
+def recovered(text: bytes) -> bytes:
+    """The snapshot of the operations of a journal's whole lines."""
+    if HEADER.startswith(text) and text != HEADER:
+        return snapshot([])
+    if not text.startswith(HEADER):
+        raise Refused("journal 1 BadHeader")
+    record = Record()
+    for number, line in enumerate(text.split(b"\n")[1:-1], 2):
+        try:
+            record.take(read_op(line))
+        except Refused as cause:
+            raise Refused(f"journal 2 BadLine {number} {str(cause).partition(' ')[2]}") from None
+    return snapshot(record.ops)
+
+
+def recover(text: bytes):
+    """What `recover` prints of a journal, what the error output says, and the status."""
+    try:
+        printed = recovered(text)
+    except Refused as cause:
+        return b"", f"reviewgate: {cause}\n".encode(), 1
+    torn = len(text) - (text.rfind(b"\n") + 1)
+    return printed, b"reviewgate: journal 6 Torn %d\n" % torn if torn else b"", 0
+
+
 # ---- sites
 
 
