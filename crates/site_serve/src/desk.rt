@@ -36,8 +36,8 @@ struct Waiter {
 /// The receipt of a publish that threads share, or why there was none.
 pub type Published<J> = Result<Arc<Told<J>, Global>, DeskFault>;
 
-/// Does what the workers ask, until none of them is left, and brings each receipt to who prints. What is asked is held, and what is held is kept
-/// before it is published, and published before it is answered. Answers the last publish. Where it can't be kept, those who wait are answered
+/// Does what the workers ask, until none of them is left, and brings each receipt to who prints, once who waits is answered. What is asked is held, and
+/// what is held is kept before it is published, and published before it is answered. Answers the last publish. Where it can't be kept, those who wait are answered
 /// nothing: their channels end.
 pub fn keep_desk<R: Wait, J: Naming, K: Keeps>(
     rt: &R,
@@ -53,11 +53,11 @@ pub fn keep_desk<R: Wait, J: Naming, K: Keeps>(
     for first in asks.iter(rt) {
         hold_batch(rt, ledger, &asks, first, &mut waiters);
         let published = publish_held(rt, alloc, ledger)?;
-        if let Ok(receipt) = &published {
-            news.bring(rt, receipt);
-        }
         for waiter in waiters.drain(..) {
             reply(rt, answers.as_slice(), waiter, &published);
+        }
+        if let Ok(receipt) = &published {
+            news.bring(rt, receipt);
         }
     }
     publish_held(rt, alloc, ledger)

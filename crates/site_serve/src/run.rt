@@ -267,8 +267,10 @@ where
             requires { IsSync R.row × IsSend J.row × IsSync J.row × IsSend W.row × IsSend E.row × IsSync T.row }
         {
             let reports = scope.spawn(move || print_all(rt, alloc, common, news, reports, output));
-            let puller = scope.spawn(move || pull(rt, alloc, common, stop, peers, puller));
-            let mut is_refused = puller.is_err();
+            let pulling = scope.spawn(move || pull(rt, alloc, common, stop, peers, puller));
+            let mut is_refused = reports.is_err() || pulling.is_err();
+            // A thread that was refused leaves its place here, and the desk goes on until no place is left.
+            drop(pulling);
             for place in workers {
                 let worker = scope.spawn(move || answer(rt, common, stop, turn, place));
                 is_refused |= worker.is_err();
