@@ -43,7 +43,8 @@ impl Model for Verdicts {
 }
 
 impl Verdicts {
-    pub(crate) fn new(ready: Vec<Item>, out: Vec<Left>) -> Verdicts
+    /// The verdicts of these lists.
+    pub fn new(ready: Vec<Item>, out: Vec<Left>) -> Verdicts
         ensures { result ≡ record { ready = ready.items; out = out.items } }
     {
         Verdicts { ready, out }

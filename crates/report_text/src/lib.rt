@@ -15,10 +15,6 @@ mod fault;
 mod laws;
 mod page;
 mod report;
-#[cfg(test)]
-mod report_tests;
-#[cfg(test)]
-mod state_tests;
 mod state_text;
 
 pub use fault::{WriteReportFault, WriteStateFault};

@@ -1,5 +1,5 @@
-//! Tests of the texts that are read and printed: footers, operations, snapshots, scripts, what scripts print, and
-//! Gerrit's events, through the public functions of their crates. A crate of tests alone, as `record_tests` is.
+//! Tests of the texts that are read and printed: footers, operations, snapshots, scripts, what scripts print,
+//! reports, states, and Gerrit's events, through the public functions of their crates. A crate of tests alone, as `record_tests` is.
 #![tactic(auto)]
 
 #[cfg(test)]
@@ -15,6 +15,10 @@ mod operation_texts;
 #[cfg(test)]
 mod plays;
 #[cfg(test)]
+mod reports;
+#[cfg(test)]
 mod scripts;
 #[cfg(test)]
 mod snapshots;
+#[cfg(test)]
+mod states;

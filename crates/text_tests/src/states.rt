@@ -1,8 +1,8 @@
 //! State texts worked out by hand, and what is written where memory is refused or the writer fails.
 
-use super::{WriteStateFault, write_state};
 use byte_ends::{Broken, Ends};
 use linked_list_allocator::LocalHeap;
+use report_text::{WriteStateFault, write_state};
 use review_ops::{Body, Draft, Op, Stamp};
 use state_core::State;
 use std::alloc::{Allocator, Global};
