@@ -2,37 +2,14 @@
 #![tactic(auto)]
 
 mod events;
-#[cfg(test)]
-mod footer_tests;
-mod footers;
-mod graph;
-#[cfg(test)]
-mod graph_tests;
-mod merge;
-#[cfg(test)]
-mod merge_tests;
-#[cfg(test)]
-mod one_file;
-mod ready;
-#[cfg(test)]
-mod ready_tests;
-mod run;
-mod simulate;
-#[cfg(test)]
-mod system_tests;
-#[cfg(test)]
-mod tests;
-mod why;
-#[cfg(test)]
-mod why_tests;
 
 use byte_ends::{Drain, Ends, write_all};
 use command_line::Command;
+use commands::{report, run_words};
 use console::{Refusal, SystemFiles};
 use events::{event_words, events, events_to, report_misuse};
 use feed_client::EventWords;
 use recover_command::{journal_named, recover_named, show_journal_fault};
-use run::{report, run_words};
 use serve_command::{Ended, serve};
 use site_serve::ServeFault;
 use std::alloc::Global;

@@ -1,0 +1,194 @@
+//! Messages with footers, and what is printed of them, worked out by hand.
+
+use super::one_file::OneFile;
+use commands::run_words;
+use byte_ends::{Broken, Ends};
+use std::alloc::Global;
+use std::process::Abort;
+use std::test::Fail;
+
+/// A gate file with one base.
+const GATE: &str = "{\"bases\":[\"https://review.example.org/\"]}";
+
+/// A message with footers in many forms.
+const MESSAGE: &str =
+    "Fix it\n\nDEPENDS-ON:https://review.example.org/#/c/12/3/\r\nDepends-On: https://review.example.org/c/a/b/+/12\ndepends-on:   https://review.example.org/12  \n  Depends-On: https://review.example.org/13\nDepends-On: https://other.example.org/14\nDepends-On: https://review.example.org/4294967296\nDepends-On: https://review.example.org/9\n";
+
+/// What the command prints for a gate file on the input and a message file, and the status.
+fn assert_prints(
+    rt: &impl Abort,
+    alloc: Global,
+    words: &[&str],
+    gate: &[u8],
+    message: &[u8],
+    status: u8,
+    output: &str,
+    errors: &str,
+) {
+    let mut written = Ends::new(Vec::new(alloc));
+    let mut told = Ends::new(Vec::new(alloc));
+    let mut files = OneFile {
+        name: "message",
+        text: message,
+        alloc,
+        failures: 0,
+    };
+    let ended = run_words(
+        alloc,
+        words,
+        &mut Ends::new(gate),
+        &mut written,
+        &mut told,
+        &mut files,
+    );
+    assert_eq!(rt; written.get_ref().as_slice(), output.as_bytes());
+    assert_eq!(rt; told.get_ref().as_slice(), errors.as_bytes());
+    assert_eq!(rt; ended, status);
+}
+
+/// What `footers` prints of a gate file on the input and a message.
+fn assert_footers(
+    rt: &impl Abort,
+    alloc: Global,
+    gate: &[u8],
+    message: &[u8],
+    status: u8,
+    output: &str,
+    errors: &str,
+) {
+    let words = ["footers", "-", "message"];
+    assert_prints(
+        rt,
+        alloc,
+        words.as_slice(),
+        gate,
+        message,
+        status,
+        output,
+        errors,
+    );
+}
+
+#[test]
+fn footers_are_listed(rt: HostRuntime) {
+    let alloc = rt.alloc();
+    assert_prints(
+        &rt,
+        alloc,
+        ["footers", "-", "message", "--change", "9"].as_slice(),
+        GATE.as_bytes(),
+        MESSAGE.as_bytes(),
+        0,
+        "need 12\nignored https://other.example.org/14\nignored https://review.example.org/4294967296\nignored https://review.example.org/9\nend 1 3\n",
+        "",
+    );
+    assert_footers(
+        &rt,
+        alloc,
+        GATE.as_bytes(),
+        MESSAGE.as_bytes(),
+        0,
+        "need 9\nneed 12\nignored https://other.example.org/14\nignored https://review.example.org/4294967296\nend 2 2\n",
+        "",
+    );
+    assert_footers(&rt, alloc, GATE.as_bytes(), b"", 0, "end 0 0\n", "");
+}
+
+#[test]
+fn what_is_wrong_is_told(rt: HostRuntime) {
+    let alloc = rt.alloc();
+    let message = MESSAGE.as_bytes();
+    assert_footers(
+        &rt,
+        alloc,
+        b"[",
+        message,
+        1,
+        "",
+        "reviewgate: gate 1 NotJson\n",
+    );
+    assert_footers(
+        &rt,
+        alloc,
+        b"{}",
+        message,
+        1,
+        "",
+        "reviewgate: gate 3 BadValue bases\n",
+    );
+    assert_footers(
+        &rt,
+        alloc,
+        GATE.as_bytes(),
+        b"\xff",
+        1,
+        "",
+        "reviewgate: file 9 NotText\n",
+    );
+    assert_prints(
+        &rt,
+        alloc,
+        ["footers", "-", "another"].as_slice(),
+        GATE.as_bytes(),
+        message,
+        1,
+        "",
+        "reviewgate: file 7 ReadFault\n",
+    );
+    assert_prints(
+        &rt,
+        alloc,
+        ["footers", "another", "message"].as_slice(),
+        GATE.as_bytes(),
+        message,
+        1,
+        "",
+        "reviewgate: file 7 ReadFault\n",
+    );
+    assert_prints(
+        &rt,
+        alloc,
+        ["footers", "-", "-"].as_slice(),
+        GATE.as_bytes(),
+        message,
+        0,
+        "end 0 0\n",
+        "",
+    );
+    assert_prints(
+        &rt,
+        alloc,
+        ["footers", "-", "message", "--change", "4294967296"].as_slice(),
+        GATE.as_bytes(),
+        message,
+        2,
+        "",
+        "error: the change has to be a number from 0 to 4294967295\n",
+    );
+}
+
+#[test]
+fn a_broken_output_is_told(rt: HostRuntime) -> Result<(), Fail> {
+    let alloc = rt.alloc();
+    let mut told = Ends::new(Vec::new(alloc));
+    let mut files = OneFile {
+        name: "message",
+        text: MESSAGE.as_bytes(),
+        alloc,
+        failures: 0,
+    };
+    let ended = run_words(
+        alloc,
+        ["footers", "-", "message"].as_slice(),
+        &mut Ends::new(GATE.as_bytes()),
+        &mut Broken::at_call(Ends::new(Vec::new(alloc)), 1),
+        &mut told,
+        &mut files,
+    );
+    assert_eq!(rt; ended, 1);
+    assert_eq!(rt;
+        told.get_ref().as_slice(),
+        b"reviewgate: output 1 WriteFault\n".as_slice()
+    );
+    Ok(())
+}

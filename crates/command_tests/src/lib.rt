@@ -1,0 +1,19 @@
+//! Tests of the commands, over words, inputs and files. A crate of tests alone, as `record_tests` is.
+#![tactic(auto)]
+
+#[cfg(test)]
+mod footers;
+#[cfg(test)]
+mod merges;
+#[cfg(test)]
+mod one_file;
+#[cfg(test)]
+mod pictures;
+#[cfg(test)]
+mod reasons;
+#[cfg(test)]
+mod reports;
+#[cfg(test)]
+mod scripts;
+#[cfg(test)]
+mod system_files;

@@ -1,0 +1,59 @@
+use Rattle.std.proofs.Common.{◌∙◌, ap, inl, inr, subst, sym, [], ◌∷◌}
+use Rattle.std.proofs.lemmas.Result.{err_from_is_err_and}
+use Rattle.std.specs.Prelude.{string_bytes}
+use Rattle.gate_rules.specs.Spelling.{SpellsGate}
+use Rattle.graph_text.specs.Drawing.{IsGraphText}
+use Rattle.replica_core.specs.Journal.{all_arrived}
+use Rattle.state_core.specs.State.{state_of}
+use Rattle.commands.specs.Answers.{HasAround, IsOf, IsPicture, IsWhole, Lacks}
+use Rattle.commands.proofs.HowItEnds.{finishes, nothing_printed}
+use Rattle.commands.proofs.OfRecord.{not_there, record_had, snapshot_refused}
+use Rattle.commands.proofs.graph.graph.Goals as goal
+
+pub returns-in_err-replica : goal.returns-in_err-replica
+returns-in_err-replica g c =
+    let rules = c.in_ok-rules.rules in
+    let p = err_from_is_err_and c.from_residual-in_err-replica.result c.from_residual-in_err-replica.ensures.1 in
+    rw (p.1, p.2) (inl (snapshot_refused c.args.gate.now c.args.snapshot.now rules (λ text. SpellsGate text rules) (λ text spells. spells) _ _ _ _ c.in_ok-rules.ensures.had c.in_err-replica.ensures.refused))
+
+pub returns-in-Ok : goal.returns-in-Ok
+returns-in-Ok g c =
+    let rules = c.in_ok-rules.rules in
+    let first = c.in_ok-rules.ensures.had in
+    let second = c.in_ok-replica.ensures.had in
+    let state = c.state.ensures ∙ ap state_of (second.1 ∙ ap (λ j. all_arrived j second.0) c.new.ensures) in
+    inr (
+      first.0 ∷ second.2.0 ∷ [],
+      g.C.Console.state c.read_snapshot.new.console,
+      record_had c.args.gate.now c.args.snapshot.now rules (λ text. SpellsGate text rules) (λ text spells. spells) second.0 _ _ _ first second.2,
+      finishes (IsWhole (IsOf first.0 second.2.0 (IsPicture c.args.around)) (Lacks second.2.0 (HasAround c.args.around))) c.as_bytes.result.now _ _ c.print.result
+          (record {
+            rules = rules;
+            spelled = first.2;
+            ops = second.0;
+            says = second.2.2;
+            so = (
+              subst (HasAround c.args.around) state c.in-Ok.ensures.known,
+              subst (IsGraphText rules (state_of (all_arrived [] second.0)) c.args.around) (sym c.as_bytes.ensures.value)
+                  (subst (λ s. IsGraphText rules s c.args.around (string_bytes c.in-Ok.text)) state c.in-Ok.ensures.drawn),
+            );
+          })
+          c.print.ensures,
+    )
+
+pub returns : goal.returns
+returns g c =
+    let rules = c.in_ok-rules.rules in
+    let first = c.in_ok-rules.ensures.had in
+    let second = c.in_ok-replica.ensures.had in
+    let state = c.state.ensures ∙ ap state_of (second.1 ∙ ap (λ j. all_arrived j second.0) c.new.ensures) in
+    inr (
+      first.0 ∷ second.2.0 ∷ [],
+      g.C.Console.state c.read_snapshot.new.console,
+      record_had c.args.gate.now c.args.snapshot.now rules (λ text. SpellsGate text rules) (λ text spells. spells) second.0 _ _ _ first second.2,
+      inl (
+        [],
+        not_there (IsOf first.0 second.2.0 (IsPicture c.args.around)) second.2.0 (HasAround c.args.around) c.in-Err.refusal second.0 c.state.result.now second.2.2 state c.in-Err.ensures.refused,
+        nothing_printed (g.C.Console.state c.read_snapshot.new.console),
+      ),
+    )

@@ -1,0 +1,50 @@
+use Rattle.std.proofs.Common.{◌∙◌, ap, inl, inr, refl, subst, [], ◌∷◌}
+use Rattle.std.proofs.lemmas.Result.{err_from_is_err_and}
+use Rattle.gate_rules.specs.Spelling.{SpellsGate}
+use Rattle.ready_core.specs.Verdicts.{AreVerdicts}
+use Rattle.replica_core.specs.Journal.{all_arrived}
+use Rattle.state_core.specs.State.{state_of}
+use Rattle.report_text.specs.Report.{report_of}
+use Rattle.commands.specs.Answers.{IsOf, IsReport, IsWhole}
+use Rattle.commands.proofs.HowItEnds.{finishes, stops}
+use Rattle.commands.proofs.OfRecord.{record_had, snapshot_refused}
+use Rattle.commands.proofs.ready.ready.Goals as goal
+
+pub returns-in_err-replica : goal.returns-in_err-replica
+returns-in_err-replica g c =
+    let p = err_from_is_err_and c.from_residual-in_err-replica.result c.from_residual-in_err-replica.ensures.1 in
+    let rules = c.in_ok-rules.rules in
+    rw (p.1, p.2) (inl (snapshot_refused c.args.gate.now c.args.snapshot.now rules (λ text. SpellsGate text rules) (λ text spells. spells) _ _ _ _ c.in_ok-rules.ensures.had c.in_err-replica.ensures.refused))
+
+pub returns-in_default : goal.returns-in_default
+returns-in_default g c =
+    let rules = c.in_ok-rules.rules in
+    let first = c.in_ok-rules.ensures.had in
+    let second = c.in_ok-replica.ensures.had in
+    inr (
+      first.0 ∷ second.2.0 ∷ [],
+      g.C.Console.state c.read_snapshot.new.console,
+      record_had c.args.gate.now c.args.snapshot.now rules (λ text. SpellsGate text rules) (λ text spells. spells) second.0 _ _ _ first second.2,
+      stops (IsOf first.0 second.2.0 IsReport) _,
+    )
+
+pub returns : goal.returns
+returns g c =
+    let rules = c.in_ok-rules.rules in
+    let first = c.in_ok-rules.ensures.had in
+    let second = c.in_ok-replica.ensures.had in
+    let state = c.state.ensures ∙ ap state_of (second.1 ∙ ap (λ j. all_arrived j second.0) c.new.ensures) in
+    inr (
+      first.0 ∷ second.2.0 ∷ [],
+      g.C.Console.state c.read_snapshot.new.console,
+      record_had c.args.gate.now c.args.snapshot.now rules (λ text. SpellsGate text rules) (λ text spells. spells) second.0 _ _ _ first second.2,
+      finishes (IsWhole (IsOf first.0 second.2.0 IsReport) ⊥) (report_of c.in-Ok.verdicts) _ _ c.print_report-printed.result
+          (record {
+            rules = rules;
+            spelled = first.2;
+            ops = second.0;
+            says = second.2.2;
+            so = (c.in-Ok.verdicts, subst (λ s. AreVerdicts rules s c.in-Ok.verdicts) state c.in-Ok.ensures, refl);
+          })
+          c.print_report-printed.ensures,
+    )

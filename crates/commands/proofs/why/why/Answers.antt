@@ -1,0 +1,69 @@
+use Rattle.std.proofs.Common.{◌≡◌, ◌⊎◌, ◌∙◌, ℕ, Option, ap, inl, inr, subst, sym, [], ◌∷◌}
+use Rattle.std.proofs.lemmas.Result.{err_from_is_err_and}
+use Rattle.std.specs.Prelude.{string_bytes}
+use Rattle.gate_rules.specs.Spelling.{SpellsGate}
+use Rattle.replica_core.specs.Journal.{all_arrived}
+use Rattle.state_core.specs.State.{State, state_of}
+use Rattle.state_core.specs.declared.item.Item.{Item}
+use Rattle.why_text.specs.Asked.{IsAsked}
+use Rattle.console.specs.declared.refusals.Refusal.{Refusal}
+use Rattle.console.specs.declared.refusals.Refusal.TheVariants.{Memory, NoItem}
+use Rattle.commands.specs.Answers.{HasItem, IsOf, IsReason, IsWhole, Lacks}
+use Rattle.commands.proofs.HowItEnds.{finishes, nothing_printed}
+use Rattle.commands.proofs.OfRecord.{not_there, record_had, snapshot_refused}
+use Rattle.commands.proofs.why.why.Goals as goal
+
+pub returns-in_err-replica : goal.returns-in_err-replica
+returns-in_err-replica g c =
+    let file = c.in_ok-file.file in
+    let p = err_from_is_err_and c.from_residual-in_err-replica.result c.from_residual-in_err-replica.ensures.1 in
+    rw (p.1, p.2) (inl (snapshot_refused c.args.gate.now c.args.snapshot.now file.rules (λ text. SpellsGate text file.rules × (text ≡ file.text.items)) (λ text is. is.0) _ _ _ _
+    c.in_ok-file.ensures.had c.in_err-replica.ensures.refused))
+
+pub returns-in-Ok : goal.returns-in-Ok
+returns-in-Ok g c =
+    let file = c.in_ok-file.file in
+    let first = c.in_ok-file.ensures.had in
+    let second = c.in_ok-replica.ensures.had in
+    let state = c.state.ensures ∙ ap state_of (second.1 ∙ ap (λ j. all_arrived j second.0) c.new.ensures) in
+    inr (
+      first.0 ∷ second.2.0 ∷ [],
+      g.C.Console.state c.read_snapshot.new.console,
+      record_had c.args.gate.now c.args.snapshot.now file.rules (λ text. SpellsGate text file.rules × (text ≡ file.text.items)) (λ text is. is.0) second.0 _ _ _ first second.2,
+      finishes (IsWhole (IsOf first.0 second.2.0 (IsReason first.0 c.args.change c.args.set)) (Lacks second.2.0 (HasItem c.args.change c.args.set))) c.as_bytes.result.now _ _ c.print.result
+          (record {
+            rules = file.rules;
+            spelled = first.2.0;
+            ops = second.0;
+            says = second.2.2;
+            so =
+                subst (IsReason first.0 c.args.change c.args.set file.rules (state_of (all_arrived [] second.0))) (sym c.as_bytes.ensures.value)
+                (subst (λ s. IsReason first.0 c.args.change c.args.set file.rules s (string_bytes c.in-Ok.text)) state
+                (subst (λ t. IsReason t c.args.change c.args.set file.rules c.state.result.now (string_bytes c.in-Ok.text)) (sym first.2.1) c.in-Ok.ensures.reason));
+          })
+          c.print.ensures,
+    )
+
+-- there is no such item, or memory was refused
+no_item : (change : ℕ) (set : Option ℕ) (state : State) (refusal : Refusal) → ((refusal ≡ NoItem) × ((item : Item) → ¬ IsAsked state change set item)) ⊎ (refusal ≡ Memory)
+    → ((refusal ≡ NoItem) × ¬ HasItem change set state) ⊎ (refusal ≡ Memory)
+no_item change set state refusal (inl none) = inl (none.0, λ has. none.1 has.0 has.1)
+no_item change set state refusal (inr memory) = inr memory
+
+pub returns : goal.returns
+returns g c =
+    let file = c.in_ok-file.file in
+    let first = c.in_ok-file.ensures.had in
+    let second = c.in_ok-replica.ensures.had in
+    let state = c.state.ensures ∙ ap state_of (second.1 ∙ ap (λ j. all_arrived j second.0) c.new.ensures) in
+    inr (
+      first.0 ∷ second.2.0 ∷ [],
+      g.C.Console.state c.read_snapshot.new.console,
+      record_had c.args.gate.now c.args.snapshot.now file.rules (λ text. SpellsGate text file.rules × (text ≡ file.text.items)) (λ text is. is.0) second.0 _ _ _ first second.2,
+      inl (
+        [],
+        not_there (IsOf first.0 second.2.0 (IsReason first.0 c.args.change c.args.set)) second.2.0 (HasItem c.args.change c.args.set) c.in-Err.refusal second.0 c.state.result.now second.2.2 state
+            (no_item c.args.change c.args.set c.state.result.now c.in-Err.refusal c.in-Err.ensures.refused),
+        nothing_printed (g.C.Console.state c.read_snapshot.new.console),
+      ),
+    )

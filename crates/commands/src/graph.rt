@@ -1,0 +1,71 @@
+//! Prints the items of a snapshot and what they wait for under a gate, as a graph.
+
+ghost use Rattle.std.specs.Prelude.{◌≡◌, ◌⊎◌, ◌↔◌, IfErr, IfOk, IsTrue, string_bytes};
+ghost use Rattle.graph_text.specs.Drawing.{IsGraphText};
+ghost use Rattle.commands.specs.Answers.{HasAround};
+ghost use Rattle.commands.specs.Ending.{Ends};
+
+use command_line::Command;
+use console::{Console, Refusal, read_gate, read_snapshot};
+use gate_rules::Gate;
+use graph_text::graph_text;
+use replica_core::Replica;
+use state_core::State;
+use std::alloc::Global;
+use std::mem::ManuallyDrop;
+
+/// Prints the items of a snapshot and what they wait for under a gate, as a graph in the DOT language: all of them, or
+/// what leads to the items of the change `around` and what these lead to. Refusals: those of the gate file, then of
+/// the snapshot; `NoItem`, no patch set of that change is known; `Memory`, memory was refused once both were read;
+/// `Output`. It costs what reading both costs, and what `graph_text` does.
+pub fn graph<C: Console>(
+    alloc: Global,
+    gate: &str,
+    snapshot: &str,
+    around: Option<u32>,
+    console: &mut C,
+) -> Result<(), Refusal>
+    ensures { Ends (Command.Graph gate.entry snapshot.entry around)
+        (C.state console.old) (C.state console.new) result }
+{
+    let rules = read_gate(alloc, gate, console)?;
+    let replica = read_snapshot(Replica::new(alloc), snapshot, console)?;
+    let picture = picture_of(alloc, &rules, replica.state(), around);
+    // The program ends now, and the record's memory goes with it.
+    let _kept = ManuallyDrop::new(replica);
+    match picture {
+        Ok(text) => console.print(text.as_bytes()),
+        Err(refusal) => Err(refusal),
+    }
+}
+
+/// The text that is printed of a state under a gate.
+fn picture_of(
+    alloc: Global,
+    rules: &Gate,
+    state: &State,
+    around: Option<u32>,
+) -> Result<String, Refusal>
+    ensures known { IfOk result (λ text. HasAround around state.now) }
+    ensures drawn { IfOk result (λ text. IsGraphText rules.now state.now around (string_bytes text)) }
+    ensures refused { IfErr result (λ refusal. ((refusal ≡ Refusal.NoItem) × ¬ HasAround around state.now)
+        ⊎ (refusal ≡ Refusal.Memory)) }
+{
+    if !is_known_around(state, around) {
+        return Err(Refusal::NoItem);
+    }
+    match graph_text(alloc, rules, state, around) {
+        Ok(text) => Ok(text),
+        Err(_) => Err(Refusal::Memory),
+    }
+}
+
+/// Whether a patch set is known of the change to draw around, where there is one.
+fn is_known_around(state: &State, around: Option<u32>) -> bool
+    ensures { IsTrue result ↔ HasAround around state.now }
+{
+    match around {
+        Some(change) => state.is_known(change),
+        None => true,
+    }
+}

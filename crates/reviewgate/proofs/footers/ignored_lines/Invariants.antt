@@ -1,6 +1,0 @@
-use Rattle.std.proofs.Common.{◌≡◌, flat_map, take, map}
-use Rattle.reviewgate.specs.Answers.{ignored_line}
-use Rattle.reviewgate.proofs.footers.ignored_lines.Given as goal
-
-abbrev pub invariant-loop-value : goal.invariant-loop-value
-invariant-loop-value l = l.text.items ≡ flat_map ignored_line (map (λ value. value.now) (take l.value-index l.ignored))
