@@ -1,5 +1,5 @@
 -- Rank order over places is rank order over the items that stand there.
-use Rattle.std.proofs.Common.{◌≡◌, ◌↔◌, inl, inr, ◌<◌, ℕ, zero, suc, List, [], ◌∷◌, Bool, Contains, map, length, refl, sym, ◌∙◌, ap, subst, arith}
+use Rattle.std.proofs.Common.{◌≡◌, ◌↔◌, inl, inr, ◌<◌, ℕ, zero, suc, List, [], ◌∷◌, Bool, Contains, map, length, refl, ◌∙◌, ap, subst, arith}
 use Rattle.std.specs.List.{AllZip}
 use Rattle.std.specs.declared.cmp.Ordering.{Ordering}
 use Rattle.std.specs.declared.cmp.Ordering.TheVariants.{Less, Equal, Greater}
@@ -16,13 +16,13 @@ use Rattle.lattice_core.specs.MemberLaws.{Contains-cons_cases, Contains-first, C
 use Rattle.lattice_core.specs.PlaceLaws.{Contains-at, at_Contains, one_item, one_place, sorted_at, not_below_itself, earlier_or_same}
 use Rattle.lattice_core.specs.ZipLaws.{length-AllZip}
 use Rattle.walk_core.specs.Digraphs.{HasEdge, IsMarked}
-use Rattle.walk_core.specs.Ranks.{LeadsTo, AreTogether, HasCount, Rank, rank_cmp, IsRank, IsInRankOrder}
+use Rattle.walk_core.specs.Ranks.{LeadsTo, AreTogether, HasCount, Rank, rank_cmp, IsRank, AreRanksInOrder}
 use Rattle.walk_core.specs.RankLaws.{nat_cmp-less}
 use Rattle.state_core.specs.declared.item.Item.{Item}
 use Rattle.state_core.specs.Items.{item_cmp}
 use Rattle.state_core.specs.ItemLaws.{items_total}
 use Rattle.graph_core.specs.ItemGraph.{IsAt, AreEnds}
-use Rattle.ready_core.specs.Causes.{item_at}
+use Rattle.ready_core.specs.Causes.{item_at, rank_at}
 use Rattle.graph_core.specs.WalkLaws.{ends_within, Leads-items, Leads-places}
 
 -- ---- lists in order, made of others
@@ -111,7 +111,7 @@ module _ (E : Item → Item → Type 0) (items : List Item) (graph : List (List 
     kept_within place marked = let within = slice_get_within kept place _ marked in omega (arith, within, short)
 
     abbrev item_rank : Rank ℕ → Rank Item
-    item_rank rank = record { count = rank.count; first = item_of rank.first; node = item_of rank.node }
+    item_rank = rank_at items
 
     module _ (rank : Rank ℕ) (is : IsRank nat_cmp (HasEdge graph) (IsMarked kept) rank) (within : rank.node < length items) where
       first_in : rank.first < length items
@@ -163,36 +163,33 @@ module _ (E : Item → Item → Type 0) (items : List Item) (graph : List (List 
         first = record { here = together_items rank.first (item_of rank.first) (at_of rank.first first_in) is.first.here; least = not_earlier };
       }
 
-    module _ (nodes : List ℕ) (are : IsInRankOrder nat_cmp (HasEdge graph) (IsMarked kept) nodes) where
-      node_in : (rank : Rank ℕ) → Contains are.ranks rank → rank.node < length items
-      node_in rank here = kept_within rank.node ((are.just rank.node).0 (subst (λ ys. Contains ys rank.node) (sym are.of) (Contains-to_map (λ (r : Rank ℕ). r.node) are.ranks rank here)))
+    module _ (ranks : List (Rank ℕ)) (are : AreRanksInOrder nat_cmp (HasEdge graph) (IsMarked kept) ranks) where
+      node_in : (rank : Rank ℕ) → Contains ranks rank → rank.node < length items
+      node_in rank here = kept_within rank.node ((are.just rank.node).0 (Contains-to_map (λ (r : Rank ℕ). r.node) ranks rank here))
 
-      rises : (a b : Rank ℕ) → Contains are.ranks a → Contains are.ranks b → rank_cmp nat_cmp a b ≡ Less → rank_cmp item_cmp (item_rank a) (item_rank b) ≡ Less
+      rises : (a b : Rank ℕ) → Contains ranks a → Contains ranks b → rank_cmp nat_cmp a b ≡ Less → rank_cmp item_cmp (item_rank a) (item_rank b) ≡ Less
       rises a b p q less =
           let first_a = first_in a (are.each a p) (node_in a p) in
           let first_b = first_in b (are.each b q) (node_in b q) in
           carried (nat_cmp a.count b.count) (nat_cmp a.first b.first) (nat_cmp a.node b.node) _ _ less (items_rise a.first b.first first_a first_b) (items_same a.first b.first)
           (items_rise a.node b.node (node_in a p) (node_in b q))
 
-      nodes_of : (ranks : List (Rank ℕ)) → map item_of (map (λ (r : Rank ℕ). r.node) ranks) ≡ map (λ (r : Rank Item). r.node) (map item_rank ranks)
-      nodes_of [] = refl
-      nodes_of (rank ∷ ranks) = ap (λ ys. item_of rank.node ∷ ys) (nodes_of ranks)
-
-      pub in_gate_order : IsInRankOrder item_cmp E P (map item_of nodes)
+      pub in_gate_order : AreRanksInOrder item_cmp E P (map item_rank ranks)
       in_gate_order = record {
         just = λ item. (
           λ here.
-              let found = Contains-of_map item_of nodes item here in
-              let marked = (are.just found.0).0 found.1 in
-              subst P found.2 ((says found.0 (item_of found.0) (at_of found.0 (kept_within found.0 marked))).0 marked),
+              let found = Contains-of_map (λ (r : Rank Item). r.node) (map item_rank ranks) item here in
+              let rank = Contains-of_map item_rank ranks found.0 found.1 in
+              let marked = (are.just rank.0.node).0 (Contains-to_map (λ (r : Rank ℕ). r.node) ranks rank.0 rank.1) in
+              subst P (ap (λ (r : Rank Item). r.node) rank.2 ∙ found.2) ((says rank.0.node (item_of rank.0.node) (at_of rank.0.node (kept_within rank.0.node marked))).0 marked),
           λ has.
               let at = at_Contains items item (listed item has) in
-              subst (Contains (map item_of nodes)) (is_of at.0 item at.1) (Contains-to_map item_of nodes at.0 ((are.just at.0).1 ((says at.0 item at.1).1 has))),
+              let rank = Contains-of_map (λ (r : Rank ℕ). r.node) ranks at.0 ((are.just at.0).1 ((says at.0 item at.1).1 has)) in
+              subst (Contains (map (λ (r : Rank Item). r.node) (map item_rank ranks))) (ap item_of rank.2 ∙ is_of at.0 item at.1)
+              (Contains-to_map (λ (r : Rank Item). r.node) (map item_rank ranks) (item_rank rank.0) (Contains-to_map item_rank ranks rank.0 rank.1)),
         );
-        ranks = map item_rank are.ranks;
-        of = ap (map item_of) are.of ∙ nodes_of are.ranks;
         each = λ rank here.
-            let found = Contains-of_map item_rank are.ranks rank here in
+            let found = Contains-of_map item_rank ranks rank here in
             subst (IsRank item_cmp E P) found.2 (is_item_rank found.0 (are.each found.0 found.1) (node_in found.0 found.1));
-        rising = sorted_mapped (rank_cmp nat_cmp) (rank_cmp item_cmp) item_rank are.ranks are.rising rises;
+        rising = sorted_mapped (rank_cmp nat_cmp) (rank_cmp item_cmp) item_rank ranks are.rising rises;
       }

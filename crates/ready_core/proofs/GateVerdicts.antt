@@ -1,24 +1,29 @@
 -- The items that were judged place by place, with the ready ones in rank order, are the verdicts.
-use Rattle.std.proofs.Common.{◌≡◌, ◌↔◌, ◌<◌, ℕ, Bool, true, List, Contains, Option, Some, None, map, length, is_none, refl, sym, ◌∙◌, ap, subst, arith}
+use Rattle.std.proofs.Common.{◌≡◌, ◌↔◌, ◌<◌, ℕ, zero, suc, Bool, true, List, [], ◌∷◌, Contains, Option, Some, None, map, length, is_none, refl, sym, ◌∙◌, ap, subst, arith}
 use Rattle.std.specs.Prelude.{slice_get, option_map}
 use Rattle.std.proofs.lemmas.List.{length-map}
 use Rattle.std.proofs.lemmas.Option.{slice_get-map, slice_get_within}
+use Rattle.lattice_core.specs.MemberLaws.{Contains-to_map}
 use Rattle.lattice_core.specs.PlaceLaws.{at_below}
 use Rattle.gate_rules.specs.Rules.{GateRules}
 use Rattle.state_core.specs.declared.item.Item.{Item}
 use Rattle.state_core.specs.State.{State}
 use Rattle.state_core.specs.Items.{item_cmp}
-use Rattle.walk_core.specs.Digraphs.{HasEdge, IsMarked}
+use Rattle.walk_core.specs.Digraphs.{HasEdge, IsMarked, IsWithin}
 use Rattle.walk_core.specs.Edges.{AreDistances-before}
-use Rattle.walk_core.specs.Ranks.{IsInRankOrder}
+use Rattle.walk_core.specs.Ranks.{AreRanksInOrder, IsInRankOrder, Rank}
+use Rattle.walk_core.specs.Walks.{Walk}
 use Rattle.graph_core.specs.Dependencies.{IsDependency}
 use Rattle.graph_core.specs.ItemGraph.{ItemGraph, IsAt, IsGraphOf}
 use Rattle.ready_core.specs.declared.verdicts.Refusal.{Refusal}
 use Rattle.ready_core.specs.Refusals.{IsReady}
-use Rattle.ready_core.specs.Verdicts.{AreVerdictsOn, Judged}
-use Rattle.ready_core.specs.Causes.{AreCauses, AreJudged, AreSearched, IsJudgement, IsSafeItem, flags_of, item_at, safe_flags}
+use Rattle.ready_core.specs.Verdicts.{Judged}
+use Rattle.ready_core.specs.declared.ranked.ItemRank.{ItemRank}
+use Rattle.ready_core.specs.ItemRanks.{to_rank}
+use Rattle.ready_core.specs.RankedVerdicts.{AreReadyRanks, AreRankedVerdictsOn, RankedVerdicts}
+use Rattle.ready_core.specs.Causes.{AreCauses, AreJudged, AreSearched, IsJudgement, IsSafeItem, flags_of, safe_flags}
 use Rattle.ready_core.proofs.Ranking.{safe_at, unsafe_at}
-use Rattle.ready_core.proofs.Judging.{all_judged, decided_all, ready_is_safe}
+use Rattle.ready_core.proofs.Judging.{AreSplit, all_judged, decided_all, ready_is_safe}
 use Rattle.ready_core.proofs.GateOrder.{in_gate_order}
 
 none_of : (rank : Option ℕ) → is_none rank ≡ true → rank ≡ None
@@ -48,8 +53,22 @@ flags_closed graph causes ranks searched x y marked edge =
     let found = at_below ranks y (omega (arith, within, searched.distances.nodes)) in
     flag_on ranks x y found.0 (unranked_at ranks x marked) found.1 (λ m at. AreDistances-before graph.ends (flags_of causes) ranks searched.distances x y m edge at)
 
-module _ (gate : GateRules) (state : State) (graph : ItemGraph) (causes : List (Option Refusal)) (ranks : List (Option ℕ)) (verdicts : Judged)
-    (is : IsGraphOf gate state graph) (of : AreCauses gate state graph.items causes) (judgement : IsJudgement graph causes ranks verdicts.ready verdicts.out) where
+-- what leads on from a place is a place
+pub leads_within : (graph : List (List ℕ)) → IsWithin graph → (n x y : ℕ) → x < length graph → Walk (HasEdge graph) n x y → y < length graph
+leads_within graph within zero x y here same = subst (λ z. z < length graph) same here
+leads_within graph within (suc n) x y here walk = leads_within graph within n walk.0 y (within x walk.0 walk.1) walk.2
+
+-- the items of ranks are their nodes
+pub items_again : (ranks : List ItemRank) → map (λ (rank : ItemRank). rank.node) ranks ≡ map (λ (rank : Rank Item). rank.node) (map to_rank ranks)
+items_again [] = refl
+items_again (rank ∷ ranks) = ap (λ items. rank.node ∷ items) (items_again ranks)
+
+-- ranks in order are those of a list in rank order
+ranks_order : (E : Item → Item → Type 0) (P : Item → Type 0) (ranks : List (Rank Item)) → AreRanksInOrder item_cmp E P ranks → IsInRankOrder item_cmp E P (map (λ (rank : Rank Item). rank.node) ranks)
+ranks_order E P ranks are = record { just = are.just; ranks = ranks; of = refl; each = are.each; rising = are.rising }
+
+module _ (gate : GateRules) (state : State) (graph : ItemGraph) (causes : List (Option Refusal)) (ranks : List (Option ℕ)) (verdicts : RankedVerdicts)
+    (is : IsGraphOf gate state graph) (of : AreCauses gate state graph.items causes) (judgement : IsJudgement graph causes ranks verdicts.ranks verdicts.out) where
   split : Judged
   split = record { ready = judgement.safe; out = verdicts.out }
 
@@ -66,22 +85,62 @@ module _ (gate : GateRules) (state : State) (graph : ItemGraph) (causes : List (
   some_rank : (place : ℕ) → place < length ranks → (found : Option ℕ) × (slice_get ranks place ≡ Some found)
   some_rank place within = at_below ranks place within
 
-  pub all_ordered : AreVerdictsOn gate state graph.items verdicts
+  are : AreSplit gate state graph.items split
   unfolding split
-  all_ordered =
-      let are = all_judged gate state graph split is judged (decided_all gate state graph.items causes of) in
-      let says : (place : ℕ) (item : Item) → IsAt graph.items place item → IsMarked (safe_flags ranks) place ↔ (Contains graph.items item × IsReady gate state item) = λ place item here. (
-        λ marked.
-            let safe = safe_at gate state graph causes ranks is of judgement.searched place item here (unranked_at ranks place marked) in
-            (are.ready item).0 ((judged.ready item).1 (record { place = place; before = slice_get_within graph.items place item here; here = here }, safe)),
-        λ ready.
-            let within = slice_get_within graph.items place item here in
-            let found = some_rank place (omega (arith, within, judgement.searched.distances.nodes, judgement.searched.nodes)) in
-            at_unranked ranks place (unranked_place place item found.0 here (ready_is_safe gate state graph split is judged item ready.1) found.1),
-      ) in
-      let order : IsInRankOrder item_cmp (IsDependency gate state) (λ item. Contains graph.items item × IsReady gate state item) (map (item_at graph.items) judgement.places) =
-      in_gate_order (IsDependency gate state) graph.items graph.ends is.ends is.items.in_order is.items.held (λ item. Contains graph.items item × IsReady gate state item) (safe_flags ranks) sizes says (λ item ready. ready.0)
-      judgement.places judgement.in_order in
-      let in_order : IsInRankOrder item_cmp (IsDependency gate state) (λ item. Contains graph.items item × IsReady gate state item) verdicts.ready =
-      subst (IsInRankOrder item_cmp (IsDependency gate state) (λ item. Contains graph.items item × IsReady gate state item)) (sym judgement.ready_at) order in
-      record { ready = in_order.just; out = are.out; refused = are.refused; ready_in_order = in_order; out_in_order = are.out_in_order }
+  are = all_judged gate state graph split is judged (decided_all gate state graph.items causes of)
+
+  abbrev IsReadyHere : Item → Type 0
+  IsReadyHere item = Contains graph.items item × IsReady gate state item
+
+  says : (place : ℕ) (item : Item) → IsAt graph.items place item → IsMarked (safe_flags ranks) place ↔ IsReadyHere item
+  unfolding split
+  says place item here = (
+    λ marked.
+        let safe = safe_at gate state graph causes ranks is of judgement.searched place item here (unranked_at ranks place marked) in
+        (are.ready item).0 ((judged.ready item).1 (record { place = place; before = slice_get_within graph.items place item here; here = here }, safe)),
+    λ ready.
+        let within = slice_get_within graph.items place item here in
+        let found = some_rank place (omega (arith, within, judgement.searched.distances.nodes, judgement.searched.nodes)) in
+        at_unranked ranks place (unranked_place place item found.0 here (ready_is_safe gate state graph split is judged item ready.1) found.1),
+  )
+
+  pub ordered : AreRanksInOrder item_cmp (IsDependency gate state) IsReadyHere verdicts.ranks
+  ordered = subst (AreRanksInOrder item_cmp (IsDependency gate state) IsReadyHere) (sym judgement.ranks_at)
+      (in_gate_order (IsDependency gate state) graph.items graph.ends is.ends is.items.in_order is.items.held IsReadyHere (safe_flags ranks) sizes says (λ item ready. ready.0)
+      judgement.places judgement.in_order)
+
+  -- what leads on from an item of the graph stays in it
+  walk_held : (n : ℕ) (x y : Item) → Contains graph.items x → Walk (IsDependency gate state) n x y → Contains graph.items y
+  walk_held zero x y here same = subst (Contains graph.items) same here
+  walk_held (suc n) x y here walk = walk_held n walk.0 y (is.items.held x walk.0 here walk.1) walk.2
+
+  ready_ranks : AreReadyRanks gate state verdicts.ranks
+  ready_ranks rank has =
+      let its = ordered.each rank has in
+      let here = ((ordered.just rank.node).0 (Contains-to_map (λ (r : Rank Item). r.node) verdicts.ranks rank has)).0 in
+      record {
+        count = record {
+          members = its.count.members;
+          in_order = its.count.in_order;
+          just = λ y. (
+            λ member. let found = (its.count.just y).0 member in (found.0.1, found.1),
+            λ found. (its.count.just y).1 ((walk_held found.1.0 rank.node y here found.1.1, found.0), found.1),
+          );
+          size = its.count.size;
+        };
+        first = its.first;
+      }
+
+  pub all_ordered : AreRankedVerdictsOn gate state graph.items verdicts
+  unfolding split
+  all_ordered = record {
+    part = is.items;
+    verdicts = record {
+      ready = ordered.just;
+      out = are.out;
+      refused = are.refused;
+      ready_in_order = ranks_order (IsDependency gate state) IsReadyHere verdicts.ranks ordered;
+      out_in_order = are.out_in_order;
+    };
+    ranks = ready_ranks;
+  }

@@ -5,7 +5,8 @@ use Rattle.std.specs.List.Sorted.{IsStrictlySortedBy}
 use Rattle.std.specs.Ordering.{nat_cmp}
 use Rattle.walk_core.specs.Digraphs.{AreDistances, HasEdge, IsMarked, IsWithin}
 use Rattle.walk_core.specs.Levels.{HasDistance}
-use Rattle.walk_core.specs.Ranks.{IsInRankOrder}
+use Rattle.walk_core.specs.declared.ranks.NodeRank.{NodeRank}
+use Rattle.walk_core.specs.Ranks.{AreRanksInOrder, Rank}
 use Rattle.std.proofs.Common.{suc}
 use Rattle.gate_rules.specs.Rules.{GateRules}
 use Rattle.gate_rules.specs.Own.{IsOwn}
@@ -109,15 +110,24 @@ AreJudgedBy graph causes count ready out =
 abbrev pub item_at : List Item → ℕ → Item
 item_at items place = slice_index_or items place (record { change = 0; set = 0 })
 
+-- the rank of an item, by that of its place
+abbrev pub rank_at : List Item → Rank ℕ → Rank Item
+rank_at items rank = record { count = rank.count; first = item_at items rank.first; node = item_at items rank.node }
+
+-- the rank is of so many places
+pub record IsRankWithin (count : ℕ) (rank : NodeRank) : Type 0 where
+  pub first : rank.first < count
+  pub node : rank.node < count
+
 -- the places without a rank
 abbrev pub safe_flags : List (Option ℕ) → List Bool
 safe_flags ranks = map is_none ranks
 
--- the items were judged place by place, and those that are ready were put in rank order
-pub record IsJudgement (graph : ItemGraph) (causes : List (Option Refusal)) (ranks : List (Option ℕ)) (ready : List Item) (out : List Left) : Type 0 where
-  pub searched : AreSearched graph causes ranks
+-- the items were judged place by place, and the ranks of those that are ready are in order
+pub record IsJudgement (graph : ItemGraph) (causes : List (Option Refusal)) (distances : List (Option ℕ)) (ranks : List (Rank Item)) (out : List Left) : Type 0 where
+  pub searched : AreSearched graph causes distances
   pub safe : List Item
   pub judged : AreJudgedBy graph causes (length graph.items) safe out
-  pub places : List ℕ
-  pub in_order : IsInRankOrder nat_cmp (HasEdge graph.ends) (IsMarked (safe_flags ranks)) places
-  pub ready_at : ready ≡ map (item_at graph.items) places
+  pub places : List (Rank ℕ)
+  pub in_order : AreRanksInOrder nat_cmp (HasEdge graph.ends) (IsMarked (safe_flags distances)) places
+  pub ranks_at : ranks ≡ map (rank_at graph.items) places

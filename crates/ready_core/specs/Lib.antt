@@ -4,3 +4,5 @@ pub mod Verdicts
 pub mod Causes
 pub mod Rounds
 pub mod WholeLaws
+pub mod ItemRanks
+pub mod RankedVerdicts

@@ -5,17 +5,25 @@ ghost use Rattle.gate_rules.specs.Rules.{GateRules};
 ghost use Rattle.state_core.specs.declared.item.Item.{Item};
 ghost use Rattle.graph_core.specs.ItemGraph.{IsAt, IsGraphOf};
 ghost use Rattle.ready_core.specs.Refusals.{IsRefused};
+ghost use Rattle.ready_core.specs.ItemRanks.{to_rank};
+ghost use Rattle.ready_core.specs.RankedVerdicts.{AreRankedVerdictsOn};
 ghost use Rattle.ready_core.specs.Verdicts.{AreVerdicts, AreVerdictsOn};
+ghost use Rattle.std.specs.List.Sorted.{IsStrictlySortedBy};
+ghost use Rattle.state_core.specs.Items.{item_cmp};
+ghost use Rattle.walk_core.specs.NodeRanks.{to_rank as to_node_rank};
+ghost use Rattle.walk_core.specs.Ranks.{rank_cmp};
 ghost use Rattle.walk_core.specs.Levels.{HasDistance};
-ghost use Rattle.ready_core.specs.Causes.{AreCauses, AreJudgedBy, AreOwns, AreSearched, IsJudgement, IsNearest, item_at, safe_flags};
+ghost use Rattle.ready_core.specs.Causes.{AreCauses, AreJudgedBy, AreOwns, AreSearched, IsJudgement, IsNearest, IsRankWithin, rank_at, safe_flags};
 
 use super::causes::{all_causes, flags_of, own_conditions};
+use super::ranked::{ItemRank, Ranked};
 use super::verdicts::{Left, Refusal, Verdicts};
 use gate_rules::{Condition, Gate};
 use graph_core::Graph;
 use lattice_core::NoMemory;
 use state_core::{Item, State};
 use std::alloc::Global;
+use walk_core::NodeRank;
 
 /// Which items of a state are ready under a gate, and why each other one isn't. It costs the bytes of the messages, the
 /// votes on each change times the gate's patterns, O(n log n) time and O(n) memory for n items with what they wait for,
@@ -43,27 +51,45 @@ pub fn verdicts_on(
     requires owns { AreOwns gate.now state.now graph.now.items owns.now }
     ensures { IfOk result (AreVerdictsOn gate.now state.now graph.now.items) }
 {
+    let ranked = ranked_on(alloc, state, gate, graph, owns)?;
+    ranked.into_verdicts(alloc)
+}
+
+/// As `verdicts_on`, with what each ready item is ordered by: how many ready items of the whole state it waits for, over
+/// others, and the first of its cycle.
+pub fn ranked_on(
+    alloc: Global,
+    state: &State,
+    gate: &Gate,
+    graph: &Graph,
+    owns: &[Option<Condition>],
+) -> Result<Ranked, NoMemory>
+    requires graph { IsGraphOf gate.now state.now graph.now }
+    requires owns { AreOwns gate.now state.now graph.now.items owns.now }
+    ensures verdicts { IfOk result (AreRankedVerdictsOn gate.now state.now graph.now.items) }
+    ensures rising { IfOk result (λ ranked. IsStrictlySortedBy (rank_cmp item_cmp) ranked.ranks) }
+{
     let causes = all_causes(alloc, state, gate, graph, owns)?;
     let ineligible = flags_of(alloc, causes.as_slice())?;
     let ranks = graph.digraph().distances(ineligible.as_slice())?;
     judged(alloc, graph, causes.as_slice(), ranks.as_slice())
 }
 
-/// The verdicts, by why each item isn't eligible and how far it is from one that isn't.
+/// The ranked verdicts, by why each item isn't eligible and how far it is from one that isn't.
 pub fn judged(
     alloc: Global,
     graph: &Graph,
     causes: &[Option<Refusal>],
     ranks: &[Option<usize>],
-) -> Result<Verdicts, NoMemory>
+) -> Result<Ranked, NoMemory>
     requires { AreSearched graph.now causes.now ranks.now }
-    ensures { IfOk result (λ verdicts. IsJudgement graph.now causes.now ranks.now verdicts.ready verdicts.out) }
+    ensures { IfOk result (λ ranked. IsJudgement graph.now causes.now ranks.now ranked.ranks ranked.out) }
 {
     let verdicts = by_place(alloc, graph, causes, ranks)?;
     let safe = unranked(alloc, ranks)?;
-    let places = graph.digraph().in_rank_order(safe.as_slice())?;
-    let ready = items_at(alloc, graph.items(), places.as_slice())?;
-    Ok(verdicts.with_ready(ready))
+    let places = graph.digraph().ranks(safe.as_slice())?;
+    let ready = ranks_at(alloc, graph.items(), places.as_slice())?;
+    Ok(verdicts.with_ranks(ready))
 }
 
 /// Which places have no rank.
@@ -73,14 +99,18 @@ fn unranked(alloc: Global, ranks: &[Option<usize>]) -> Result<Vec<bool>, NoMemor
     Ok(ranks.iter().map(|rank| rank.is_none()).collect(alloc)?)
 }
 
-/// The items at some places.
-fn items_at(alloc: Global, items: &[Item], places: &[usize]) -> Result<Vec<Item>, NoMemory>
-    requires { All (λ place. place < length items.now) places.now }
-    ensures { IfOk result (λ found. found.items ≡ map (item_at items.now) places.now) }
+/// The ranks of items, by those of their places.
+fn ranks_at(alloc: Global, items: &[Item], places: &[NodeRank]) -> Result<Vec<ItemRank>, NoMemory>
+    requires { All (IsRankWithin (length items.now)) places.now }
+    ensures { IfOk result (λ found. map to_rank found.items ≡ map (rank_at items.now) (map to_node_rank places.now)) }
 {
     let mut found = Vec::with_capacity(alloc, places.len())?;
     for place in places {
-        found.push(items[*place])?;
+        found.push(ItemRank {
+            count: place.count,
+            first: items[place.first],
+            node: items[place.node],
+        })?;
     }
     Ok(found)
 }

@@ -33,6 +33,7 @@ mod judge;
 mod laws;
 #[cfg(test)]
 mod plain;
+mod ranked;
 #[cfg(test)]
 mod rounds;
 #[cfg(test)]
@@ -40,9 +41,10 @@ mod tests;
 mod verdicts;
 
 pub use causes::own_conditions;
-pub use judge::{evaluate, verdicts_on};
+pub use judge::{evaluate, ranked_on, verdicts_on};
 pub use laws::{
     closed_sets_are_safe, dependencies_lead_to_a_cause, ready_items_are_the_greatest_closed_set,
     ready_items_stand_in_gate_order, safe_nodes_are_closed, verdicts_are_unique,
 };
+pub use ranked::{ItemRank, Ranked};
 pub use verdicts::{Left, Refusal, Verdicts};

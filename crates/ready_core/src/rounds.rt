@@ -31,7 +31,8 @@ pub fn evaluate_by_rounds(
     let Some(ranks) = ranks_by_rounds(alloc, graph.digraph(), ineligible.as_slice())? else {
         return Ok(None);
     };
-    let verdicts = judged(alloc, &graph, causes.as_slice(), ranks.as_slice())?;
+    let ranked = judged(alloc, &graph, causes.as_slice(), ranks.as_slice())?;
+    let verdicts = ranked.into_verdicts(alloc)?;
     Ok(Some(verdicts))
 }
 

@@ -1,5 +1,7 @@
-ghost use Rattle.std.specs.Prelude.{◌≡◌};
+ghost use Rattle.std.specs.Prelude.{◌≡◌, map};
+ghost use Rattle.ready_core.specs.ItemRanks.{to_rank};
 
+use super::ranked::{ItemRank, Ranked};
 use gate_rules::Condition;
 use state_core::Item;
 use std::marker::Model;
@@ -50,14 +52,19 @@ impl Verdicts {
         Verdicts { ready, out }
     }
 
-    /// The verdicts with another list of ready items.
-    pub(crate) fn with_ready(self, ready: Vec<Item>) -> Verdicts
-        ensures { result ≡ record { ready = ready.items; out = self.out } }
+    /// The verdicts with these ranks in place of the ready items.
+    pub(crate) fn with_ranks(self, ranks: Vec<ItemRank>) -> Ranked
+        ensures { result ≡ record { ranks = map to_rank ranks.items; out = self.out } }
     {
-        Verdicts {
-            ready,
-            out: self.out,
-        }
+        Ranked::new(ranks, self.out)
+    }
+
+    /// The ready items and the others, as `ready` and `out` have them.
+    pub fn into_lists(self) -> (Vec<Item>, Vec<Left>)
+        ensures ready { result.0.items ≡ self.ready }
+        ensures out { result.1.items ≡ self.out }
+    {
+        (self.ready, self.out)
     }
 
     /// The items that are ready, in gate order: each after what it waits for, but for its cycle. Takes no memory, as `out`.

@@ -11,16 +11,13 @@ use Rattle.std.proofs.lemmas.List.Sorted.{IsPermutation-map, IsPermutation-sym, 
 use Rattle.std.proofs.lemmas.Map.Keys.{IsDistinct-from_sorted, IsDistinct-IsPermutation, apart_from_distinct, sorted_from_all_adjacent}
 use Rattle.lattice_core.specs.Keep.{numbers_exact}
 use Rattle.walk_core.specs.Digraphs.{HasEdge, IsMarked}
-use Rattle.walk_core.specs.Ranks.{LeadsTo, HasCount, Rank, rank_cmp, IsRank, IsInRankOrder}
+use Rattle.walk_core.specs.Ranks.{AreRanksInOrder, LeadsTo, HasCount, Rank, rank_cmp, IsRank, IsInRankOrder}
 use Rattle.walk_core.specs.RankLaws.{ranks_total}
 use Rattle.lattice_core.specs.MemberLaws.{Contains-of_map}
 use Rattle.walk_core.specs.Components.{AreFirsts}
 use Rattle.walk_core.specs.Marks.{LeadsToCount}
-use Rattle.walk_core.specs.NodeRanks.{node_rank}
+use Rattle.walk_core.specs.NodeRanks.{node_rank, to_rank}
 use Rattle.walk_core.specs.declared.ranks.NodeRank.{NodeRank}
-
-abbrev pub to_rank : NodeRank → Rank ℕ
-to_rank rank = record { count = rank.count; first = rank.first; node = rank.node }
 
 abbrev pub node_rank_cmp : NodeRank → NodeRank → Ordering
 node_rank_cmp a b = rank_cmp nat_cmp (to_rank a) (to_rank b)
@@ -69,10 +66,10 @@ rises a b Greater e sorted apart =
     let no : true ≡ false = sym (ap is_lt back) ∙ sorted in
     cc
 
-module _ (graph : List (List ℕ)) (kept : List Bool) (firsts counts targets : List ℕ) (sorted : List NodeRank) (nodes : List ℕ) (are : AreFirsts graph firsts)
+module _ (graph : List (List ℕ)) (kept : List Bool) (firsts counts targets : List ℕ) (sorted : List NodeRank) (are : AreFirsts graph firsts)
     (just : (x : ℕ) → Contains targets x ↔ IsMarked kept x) (in_order : IsStrictlySortedBy nat_cmp targets) (within : (x : ℕ) → Contains targets x → x < length graph)
     (counted : (x : ℕ) → Contains targets x → LeadsToCount graph targets x (get_or counts (get_or firsts x 0) 0))
-    (moved : IsPermutation (map (node_rank firsts counts) targets) sorted) (ascends : IsSorted node_rank_cmp sorted) (of : nodes ≡ map node_of sorted) where
+    (moved : IsPermutation (map (node_rank firsts counts) targets) sorted) (ascends : IsSorted node_rank_cmp sorted) where
   rank_of_target : (rank : NodeRank) → Contains sorted rank → (x : ℕ) × Contains targets x × (node_rank firsts counts x ≡ rank)
   rank_of_target rank here = Contains-of_map (node_rank firsts counts) targets rank
       (Contains-permutation sorted (map (node_rank firsts counts) targets) rank (IsPermutation-sym (map (node_rank firsts counts) targets) sorted moved) here)
@@ -109,17 +106,31 @@ module _ (graph : List (List ℕ)) (kept : List Bool) (firsts counts targets : L
       let next : get_or (map to_rank sorted) (k + 1) (to_rank none) ≡ to_rank (get_or sorted (k + 1) none) = get_or-map to_rank sorted (k + 1) none (to_rank none) short in
       subst (λ r. rank_cmp nat_cmp r (get_or (map to_rank sorted) (k + 1) (to_rank none)) ≡ Less) (sym first) (subst (λ r. rank_cmp nat_cmp (to_rank (get_or sorted k none)) r ≡ Less) (sym next) (next_rises k short)))
 
-  pub in_rank_order : IsInRankOrder nat_cmp (HasEdge graph) (IsMarked kept) nodes
-  in_rank_order = record {
+  pub ranks_in_order : AreRanksInOrder nat_cmp (HasEdge graph) (IsMarked kept) (map to_rank sorted)
+  ranks_in_order = record {
     just = λ x. (
-      λ here. (just x).0 (Contains-permutation (map node_of sorted) targets x (IsPermutation-sym targets (map node_of sorted) nodes_moved) (subst (λ ys. Contains ys x) of here)),
-      λ marked. subst (λ ys. Contains ys x) (sym of) (Contains-permutation targets (map node_of sorted) x nodes_moved ((just x).1 marked)),
+      λ here.
+          let there = subst (λ ys. Contains ys x) (sym (ranks_again sorted)) here in
+          (just x).0 (Contains-permutation (map node_of sorted) targets x (IsPermutation-sym targets (map node_of sorted) nodes_moved) there),
+      λ marked. subst (λ ys. Contains ys x) (ranks_again sorted) (Contains-permutation targets (map node_of sorted) x nodes_moved ((just x).1 marked)),
     );
-    ranks = map to_rank sorted;
-    of = of ∙ ranks_again sorted;
     each = λ rank here.
         let found = Contains-of_map to_rank sorted rank here in
         let target = rank_of_target found.0 found.1 in
         subst (IsRank nat_cmp (HasEdge graph) (IsMarked kept)) (ap to_rank target.2 ∙ found.2) (is_rank target.0 target.1);
     rising = rising;
   }
+
+-- the nodes of ranks in order are in rank order
+pub in_rank_order : (cmp : ℕ → ℕ → Ordering) (E : ℕ → ℕ → Type 0) (P : ℕ → Type 0) (ranks : List NodeRank) (nodes : List ℕ) → AreRanksInOrder cmp E P (map to_rank ranks)
+    → nodes ≡ map node_of ranks → IsInRankOrder cmp E P nodes
+in_rank_order cmp E P ranks nodes are of = record {
+  just = λ x. (
+    λ here. (are.just x).0 (subst (λ ys. Contains ys x) (of ∙ ranks_again ranks) here),
+    λ has. subst (λ ys. Contains ys x) (sym (of ∙ ranks_again ranks)) ((are.just x).1 has),
+  );
+  ranks = map to_rank ranks;
+  of = of ∙ ranks_again ranks;
+  each = are.each;
+  rising = are.rising;
+}

@@ -51,6 +51,12 @@ pub record IsInRankOrder {N : Type 0} (cmp : N → N → Ordering) (E : N → N 
   pub each : (rank : Rank N) → Contains ranks rank → IsRank cmp E P rank
   pub rising : IsStrictlySortedBy (rank_cmp cmp) ranks
 
+-- the ranks are just those of the nodes with P, and rise
+pub record AreRanksInOrder {N : Type 0} (cmp : N → N → Ordering) (E : N → N → Type 0) (P : N → Type 0) (ranks : List (Rank N)) : Type 0 where
+  pub just : (x : N) → Contains (map (λ rank. rank.node) ranks) x ↔ P x
+  pub each : (rank : Rank N) → Contains ranks rank → IsRank cmp E P rank
+  pub rising : IsStrictlySortedBy (rank_cmp cmp) ranks
+
 -- one node stands before the other in a list
 pub record StandsBefore {N : Type 0} (nodes : List N) (x y : N) : Type 0 where
   pub earlier : ℕ

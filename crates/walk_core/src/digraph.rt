@@ -2,11 +2,12 @@ ghost use Rattle.std.specs.Prelude.{◌≡◌, ◌↔◌, ◌<◌, ℕ, List, []
 ghost use Rattle.std.specs.Ordering.{nat_cmp};
 ghost use Rattle.walk_core.specs.Components.{AreFirsts};
 ghost use Rattle.walk_core.specs.Digraphs.{AddsEdges, AreDistances, AreOnCycles, HasEdge, IsMarked, IsReversed, IsWithin, ends_of};
-ghost use Rattle.walk_core.specs.Ranks.{IsInRankOrder};
+ghost use Rattle.walk_core.specs.NodeRanks.{to_rank};
+ghost use Rattle.walk_core.specs.Ranks.{AreRanksInOrder, IsInRankOrder};
 
 use super::cycles::{Components, cycle_flags};
 use super::distances::distances_to;
-use super::ranks::ranked_nodes;
+use super::ranks::{NodeRank, kept_ranks, nodes_of};
 use lattice_core::NoMemory;
 use std::alloc::{Allocator, Global};
 use std::marker::Model;
@@ -106,7 +107,19 @@ impl<A: Allocator + Copy> Digraph<A> {
         requires closed { (x y : ℕ) → IsMarked kept.now x → HasEdge self.now x y → IsMarked kept.now y }
         ensures { IfOk result (λ nodes. IsInRankOrder nat_cmp (HasEdge self.now) (IsMarked kept.now) nodes.items) }
     {
-        ranked_nodes(self.alloc, self, kept)
+        let ranks = self.ranks(kept)?;
+        nodes_of(self.alloc, ranks.as_slice())
+    }
+
+    /// The ranks of the kept nodes, which hold the ends of their edges, in order, as `in_rank_order` has the nodes, and
+    /// at its cost.
+    pub fn ranks(&self, kept: &[bool]) -> Result<Vec<NodeRank, A>, NoMemory>
+        requires sized { length kept.now ≡ length self.now }
+        requires closed { (x y : ℕ) → IsMarked kept.now x → HasEdge self.now x y → IsMarked kept.now y }
+        ensures { IfOk result (λ ranks. AreRanksInOrder nat_cmp (HasEdge self.now) (IsMarked kept.now)
+            (map to_rank ranks.items)) }
+    {
+        kept_ranks(self.alloc, self, kept)
     }
 }
 

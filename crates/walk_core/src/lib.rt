@@ -35,3 +35,4 @@ mod tests;
 
 pub use digraph::Digraph;
 pub use laws::{distances_along_edges, distances_go_down, rank_order_is_one, reaching_goes_on};
+pub use ranks::NodeRank;

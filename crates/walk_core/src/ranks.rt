@@ -4,8 +4,8 @@ ghost use Rattle.std.specs.Prelude.{◌≡◌, ◌↔◌, ◌<◌, ℕ, Contains
 ghost use Rattle.std.specs.Ordering.{nat_cmp};
 ghost use Rattle.std.specs.List.Sorted.{IsStrictlySortedBy};
 ghost use Rattle.walk_core.specs.Digraphs.{HasEdge, IsMarked};
-ghost use Rattle.walk_core.specs.Ranks.{IsInRankOrder};
-ghost use Rattle.walk_core.specs.NodeRanks.{node_rank};
+ghost use Rattle.walk_core.specs.Ranks.{AreRanksInOrder};
+ghost use Rattle.walk_core.specs.NodeRanks.{node_rank, to_rank};
 
 use super::cycles::Components;
 use super::digraph::Digraph;
@@ -14,22 +14,26 @@ use lattice_core::NoMemory;
 use std::alloc::Allocator;
 
 /// What nodes are ordered by, in this order.
-#[derive(Clone, Copy, PartialEq, Eq, PartialOrd, Ord)]
+#[derive(Clone, Copy, Debug, PartialEq, Eq, PartialOrd, Ord)]
 pub struct NodeRank {
-    count: usize,
-    first: usize,
-    node: usize,
+    /// How many nodes the node leads to, itself among them.
+    pub count: usize,
+    /// The first of its cycle, or the node itself where it is on none.
+    pub first: usize,
+    /// The node.
+    pub node: usize,
 }
 
-/// The kept nodes in the order of their ranks.
-pub fn ranked_nodes<A: Allocator + Copy>(
+/// The ranks of the kept nodes, in order.
+pub fn kept_ranks<A: Allocator + Copy>(
     alloc: A,
     graph: &Digraph<A>,
     kept: &[bool],
-) -> Result<Vec<usize, A>, NoMemory>
+) -> Result<Vec<NodeRank, A>, NoMemory>
     requires sized { length kept.now ≡ length graph.now }
     requires closed { (x y : ℕ) → IsMarked kept.now x → HasEdge graph.now x y → IsMarked kept.now y }
-    ensures { IfOk result (λ nodes. IsInRankOrder nat_cmp (HasEdge graph.now) (IsMarked kept.now) nodes.items) }
+    ensures { IfOk result (λ ranks. AreRanksInOrder nat_cmp (HasEdge graph.now) (IsMarked kept.now)
+        (map to_rank ranks.items)) }
 {
     let components = Components::find(alloc, graph)?;
     let firsts = components.firsts.as_slice();
@@ -45,7 +49,7 @@ pub fn ranked_nodes<A: Allocator + Copy>(
     )?;
     let mut ranks = ranks_of(alloc, firsts, counts.as_slice(), targets.as_slice())?;
     ranks.sort_unstable();
-    nodes_of(alloc, ranks.as_slice())
+    Ok(ranks)
 }
 
 /// The kept nodes, in order.
@@ -108,7 +112,10 @@ fn ranks_of<A: Allocator + Copy>(
 }
 
 /// The nodes of some ranks.
-fn nodes_of<A: Allocator + Copy>(alloc: A, ranks: &[NodeRank]) -> Result<Vec<usize, A>, NoMemory>
+pub fn nodes_of<A: Allocator + Copy>(
+    alloc: A,
+    ranks: &[NodeRank],
+) -> Result<Vec<usize, A>, NoMemory>
     ensures { IfOk result (λ nodes. nodes.items ≡ map (λ rank. rank.node) ranks.now) }
 {
     let nodes = ranks.iter().map(|rank| rank.node).collect(alloc)?;

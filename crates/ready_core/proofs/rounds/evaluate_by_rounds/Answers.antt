@@ -7,6 +7,7 @@ use Rattle.graph_core.specs.WalkLaws.{ends_within}
 use Rattle.lattice_core.specs.ZipLaws.{length-AllZip}
 use Rattle.graph_core.specs.ItemGraph.{ArePart}
 use Rattle.ready_core.specs.Causes.{IsCauseOf, AreCauses, AreOwns, flags_of}
+use Rattle.ready_core.specs.Verdicts.{AreVerdictsOn}
 use Rattle.ready_core.specs.WholeLaws.{on_all_items}
 use Rattle.ready_core.proofs.GateVerdicts.{all_ordered}
 use Rattle.ready_core.proofs.rounds.evaluate_by_rounds.Goals as goal
@@ -50,5 +51,6 @@ returns c =
     let gate = c.args.gate.now in
     let state = c.args.state.now in
     let of = subst (AreCauses gate state c.in_ok-graph.graph.items) (sym c.as_slice-4.ensures.value) c.in_ok-causes.ensures in
+    let are = all_ordered gate state c.in_ok-graph.graph c.as_slice-4.result.now c.as_slice-5.result.now c.in_ok-ranked.ranked c.in_ok-graph.ensures.graph of c.in_ok-ranked.ensures in
     on_all_items gate state c.in_ok-graph.graph.items c.in_ok-verdicts.verdicts c.in_ok-graph.ensures.whole
-    (all_ordered gate state c.in_ok-graph.graph c.as_slice-4.result.now c.as_slice-5.result.now c.in_ok-verdicts.verdicts c.in_ok-graph.ensures.graph of c.in_ok-verdicts.ensures)
+    (subst (AreVerdictsOn gate state c.in_ok-graph.graph.items) (sym c.in_ok-verdicts.ensures) are.verdicts)

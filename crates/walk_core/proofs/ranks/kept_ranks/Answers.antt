@@ -1,14 +1,10 @@
-use Rattle.std.proofs.Common.{◌≡◌, ◌↔◌, ◌<◌, ℕ, map, length, arith}
+use Rattle.std.proofs.Common.{◌≡◌, ◌↔◌, ◌<◌, ℕ, length, arith}
 use Rattle.std.specs.List.{Contains}
-use Rattle.std.specs.Ordering.{nat_cmp}
 use Rattle.std.proofs.lemmas.Option.{slice_get_within}
-use Rattle.std.proofs.lemmas.Result.{IfOk-weaker}
 use Rattle.walk_core.specs.Components.{AreFirsts}
-use Rattle.walk_core.specs.Digraphs.{HasEdge, IsMarked}
-use Rattle.walk_core.specs.Ranks.{IsInRankOrder}
 use Rattle.walk_core.proofs.Gathering.{first_within}
-use Rattle.walk_core.proofs.Ordered.{in_rank_order}
-use Rattle.walk_core.proofs.ranks.ranked_nodes.Goals as goal
+use Rattle.walk_core.proofs.Ordered.{ranks_in_order}
+use Rattle.walk_core.proofs.ranks.kept_ranks.Goals as goal
 
 pub kept_from_last-requires : goal.kept_from_last-requires
 kept_from_last-requires g c = λ x.
@@ -56,6 +52,5 @@ returns g c =
     let firsts : AreFirsts c.args.graph.now c.as_slice-firsts.result.now = rw c.as_slice-firsts.ensures.value c.in_ok-components.ensures.firsts in
     let counted = rw (c.as_slice-2.ensures.value, c.as_slice-3.ensures.value) at c.in_ok-counts.ensures.1 in
     let moved = rw (c.in_ok-ranks.ensures, c.as_slice-4.ensures.value, c.as_slice-5.ensures.value) at c.sort_unstable.ensures.permutation in
-    IfOk-weaker c.nodes_of.result (λ nodes. nodes.items ≡ map (λ rank. rank.node) c.as_slice-6.result.now) (λ nodes. IsInRankOrder nat_cmp (HasEdge c.args.graph.now) (IsMarked c.args.kept.now) nodes.items)
-    (λ nodes are. in_rank_order c.args.graph.now c.args.kept.now c.as_slice-firsts.result.now c.in_ok-counts.counts.items c.in_ok-targets.targets.items c.sort_unstable.new.self.items nodes.items firsts kept
-    c.in_ok-targets.ensures.in_order marked_within (λ x here. counted x ((c.in_ok-nodes.ensures x).1 ((kept x).0 here))) moved c.sort_unstable.ensures.sorted (rw c.as_slice-6.ensures.value at are)) c.nodes_of.ensures
+    ranks_in_order c.args.graph.now c.args.kept.now c.as_slice-firsts.result.now c.in_ok-counts.counts.items c.in_ok-targets.targets.items c.sort_unstable.new.self.items firsts kept
+    c.in_ok-targets.ensures.in_order marked_within (λ x here. counted x ((c.in_ok-nodes.ensures x).1 ((kept x).0 here))) moved c.sort_unstable.ensures.sorted
