@@ -32,12 +32,12 @@ use Rattle.watch_core.proofs.Local.{same_item, same_own}
 use Rattle.watch_core.proofs.Stays.{stays_same}
 
 -- ---- the test of what is touched
-touched_of : (later : List Operation) (number : ℕ) → touches later number ≡ true → IsTouched later number
+pub touched_of : (later : List Operation) (number : ℕ) → touches later number ≡ true → IsTouched later number
 touched_of later number h =
     let found : Any (λ (op : Operation). eqb (change_of op.deed) number ≡ true) later = Any-from_list_any (λ (op : Operation). eqb (change_of op.deed) number) later h in
     record { op = found.1; there = (found.0, found.2, found.3); on = eqb-true (change_of found.1.deed) number found.4 }
 
-touches_of : (later : List Operation) (number : ℕ) → IsTouched later number → touches later number ≡ true
+pub touches_of : (later : List Operation) (number : ℕ) → IsTouched later number → touches later number ≡ true
 touches_of later number is =
     list_any-from_Any (λ (op : Operation). eqb (change_of op.deed) number) later (is.there.0, is.op, is.there.1, is.there.2, eq-eqb (change_of is.op.deed) number is.on)
 

@@ -5,3 +5,4 @@ pub mod Bringing
 pub mod KeptLemmas
 pub mod Finding
 pub mod SameItems
+pub mod Spread

@@ -4,3 +4,4 @@ pub mod BroughtUp
 pub mod Asked
 pub mod Watching
 pub mod KeptOwns
+pub mod Namers

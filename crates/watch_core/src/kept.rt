@@ -24,7 +24,7 @@ use state_core::Item;
 use std::collections::BTreeSet;
 
 /// Whether an item stands before another.
-fn is_before(item: Item, other: Item) -> bool
+pub fn is_before(item: Item, other: Item) -> bool
     ensures { result ≡ is_lt (item_cmp item other) }
 {
     item.change < other.change || item.change == other.change && item.set < other.set

@@ -22,6 +22,8 @@ mod histories;
 mod judge;
 mod kept;
 mod laws;
+mod namers;
+mod reach;
 #[cfg(test)]
 mod tests;
 mod touched;
