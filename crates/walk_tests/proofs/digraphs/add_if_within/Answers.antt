@@ -1,7 +1,7 @@
 use Rattle.std.proofs.Common.{◌<◌, ℕ, Vec, map, length, arith}
 use Rattle.std.proofs.lemmas.List.{length-map}
 use Rattle.walk_core.proofs.EdgeLemmas.{AddsEdges-within}
-use Rattle.walk_core.proofs.tests.add_if_within.Goals as goal
+use Rattle.walk_tests.proofs.digraphs.add_if_within.Goals as goal
 
 pub returns : goal.returns
 returns g c =

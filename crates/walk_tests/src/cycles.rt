@@ -1,7 +1,6 @@
 //! Cycles that were found by hand, a slow plain program beside the search, and refused memory.
 
-use super::component::{Place, find_component};
-use super::tests::{graph_of, next_below, some_edges};
+use super::digraphs::{graph_of, next_below, some_edges};
 use lattice_core::NoMemory;
 use linked_list_allocator::LocalHeap;
 use std::alloc::{Allocator, Global};
@@ -66,35 +65,6 @@ fn a_chain_and_a_diamond_have_no_cycle(rt: HostRuntime) -> Result<(), Fail> {
 #[test]
 fn no_nodes_are_on_no_cycle(rt: HostRuntime) -> Result<(), Fail> {
     assert_flags(&rt, rt.alloc(), &[], &[])
-}
-
-/// What is known of the nodes of a graph when the component of one of them was found first.
-fn places_after(
-    alloc: Global,
-    nodes: usize,
-    edges: &[(usize, usize)],
-    first: usize,
-) -> Result<Vec<Place>, NoMemory> {
-    let graph = graph_of(alloc, nodes, edges)?;
-    let mut places = vec![in alloc; Place::Waiting; nodes]?;
-    if first < nodes {
-        find_component(alloc, &graph, &mut places, first)?;
-    }
-    Ok(places)
-}
-
-#[test]
-fn nodes_before_and_behind_a_component_wait(rt: HostRuntime) -> Result<(), Fail> {
-    let edges = [(0, 1), (1, 2), (2, 1), (2, 3), (0, 3)];
-    let places = places_after(rt.alloc(), 4, &edges, 1)?;
-    let wanted = [
-        Place::Waiting,
-        Place::OnCycle,
-        Place::OnCycle,
-        Place::Waiting,
-    ];
-    assert!(rt; places.as_slice() == wanted.as_slice());
-    Ok(())
 }
 
 /// Which nodes come back to themselves, each by a search of its own.

@@ -1,7 +1,7 @@
 //! Orders that were found by hand, a slow plain program beside the marks, and refused memory.
 
-use super::cycle_tests::{numbered_edges, relax};
-use super::tests::{graph_of, next_below, some_edges};
+use super::cycles::{numbered_edges, relax};
+use super::digraphs::{graph_of, next_below, some_edges};
 use lattice_core::NoMemory;
 use linked_list_allocator::LocalHeap;
 use std::alloc::{Allocator, Global};
