@@ -4,3 +4,4 @@ pub mod Waiting
 pub mod Placing
 pub mod Naming
 pub mod Building
+pub mod Closing

@@ -3,3 +3,4 @@ pub mod ItemGraph
 pub mod Listed
 pub mod Kept
 pub mod WalkLaws
+pub mod Closure

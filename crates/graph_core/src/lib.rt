@@ -20,6 +20,9 @@
 mod graph;
 mod items;
 mod namers;
+mod part;
 mod targets;
 
 pub use graph::Graph;
+pub use items::items_of;
+pub use part::part_with;

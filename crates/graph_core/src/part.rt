@@ -1,0 +1,117 @@
+//! Parts of a state's items that hold what they wait for.
+
+ghost use Rattle.std.specs.Prelude.{◌≡◌, ◌↔◌, ℕ, IfOk, IfSome, OnOk, All, Contains, Some, [], ◌∷◌};
+ghost use Rattle.std.specs.List.Sorted.{IsStrictlySortedBy};
+ghost use Rattle.state_core.specs.Items.{IsCurrentItem, IsItem, item_cmp};
+ghost use Rattle.state_core.specs.declared.item.Item.{Item};
+ghost use Rattle.graph_core.specs.Closure.{AddsCurrent, AddsEnds, Finds, IsFound};
+ghost use Rattle.graph_core.specs.ItemGraph.{ArePart};
+
+use super::items::items_of;
+use super::targets::targets_of;
+use gate_rules::Gate;
+use lattice_core::NoMemory;
+use state_core::{Item, State};
+use std::alloc::Global;
+use std::collections::BTreeSet;
+
+/// How many items a part is looked for in. Where there are more, the part is all items.
+const WIDEST: usize = 4096;
+
+/// A part of a state's items that has some of them, and holds the current item of each known change that one of them
+/// waits for: these and what they reach, or, where that is much, all items. It costs the bytes of their messages, and
+/// a logarithm of the state for each.
+pub fn part_with(
+    alloc: Global,
+    gate: &Gate,
+    state: &State,
+    items: Vec<Item>,
+) -> Result<Vec<Item>, NoMemory>
+    requires { All (IsItem state.now) items.items }
+    ensures part { IfOk result (λ part. ArePart gate.now state.now part.items) }
+    ensures items { IfOk result (λ part. (item : Item) → Contains items.items item → Contains part.items item) }
+{
+    let mut found = BTreeSet::new(alloc);
+    let mut ahead = items;
+    for _ in 0..WIDEST {
+        let Some(item) = ahead.pop() else {
+            return listed(alloc, &found);
+        };
+        find_item(alloc, gate, state, item, &mut found, &mut ahead)?;
+    }
+    items_of(alloc, state)
+}
+
+/// Finds an item, and puts what it waits for ahead where it wasn't found before.
+fn find_item(
+    alloc: Global,
+    gate: &Gate,
+    state: &State,
+    item: Item,
+    found: &mut BTreeSet<(u32, u32)>,
+    ahead: &mut Vec<Item>,
+) -> Result<(), NoMemory>
+    requires { IsItem state.now item }
+    ensures { OnOk result (Finds gate.now state.now item found.old ahead.old.items found.new ahead.new.items) }
+{
+    if !found.insert((item.change, item.set))? {
+        return Ok(());
+    }
+    add_ends(alloc, gate, state, item, ahead)
+}
+
+/// Puts ahead the current item of each known change that an item waits for.
+fn add_ends(
+    alloc: Global,
+    gate: &Gate,
+    state: &State,
+    item: Item,
+    ahead: &mut Vec<Item>,
+) -> Result<(), NoMemory>
+    requires { IsItem state.now item }
+    ensures { OnOk result (AddsEnds gate.now state.now item ahead.old.items ahead.new.items) }
+{
+    let targets = targets_of(alloc, gate, state, item)?;
+    for number in &targets {
+        add_current(state, *number, ahead)?;
+    }
+    Ok(())
+}
+
+/// Puts ahead the current item of a change, where one is known.
+fn add_current(state: &State, number: u32, ahead: &mut Vec<Item>) -> Result<(), NoMemory>
+    ensures { OnOk result (AddsCurrent state.now (number ∷ []) ahead.old.items ahead.new.items) }
+{
+    let Some(item) = current_item(state, number) else {
+        return Ok(());
+    };
+    ahead.push(item)?;
+    Ok(())
+}
+
+/// The current item of a change, where one is known.
+fn current_item(state: &State, number: u32) -> Option<Item>
+    ensures item { IfSome result (IsItem state.now) }
+    ensures current { (item : Item) → item.change ≡ number → IsCurrentItem state.now item → result ≡ Some item }
+{
+    let set = state.change(number)?.current()?;
+    Some(Item {
+        change: number,
+        set,
+    })
+}
+
+/// The items of a set, in order.
+fn listed(alloc: Global, found: &BTreeSet<(u32, u32)>) -> Result<Vec<Item>, NoMemory>
+    ensures in_order { IfOk result (λ items. IsStrictlySortedBy item_cmp items.items) }
+    ensures each { IfOk result (λ items. (item : Item) → Contains items.items item ↔ IsFound found.now item) }
+{
+    let mut items = Vec::with_capacity(alloc, found.len())?;
+    for (change, set) in found {
+        items.push(Item {
+            change: *change,
+            set: *set,
+        })?;
+    }
+    Ok(items)
+}
