@@ -19,10 +19,6 @@ pub plain_front : (front rest : List ℕ) → Plain (front ++ rest) → Plain fr
 plain_front [] rest h = tt
 plain_front (x ∷ front) rest h = (h.0, plain_front front rest h.1)
 
-pub plain_back : (front rest : List ℕ) → Plain (front ++ rest) → Plain rest
-plain_back [] rest h = h
-plain_back (x ∷ front) rest h = plain_back front rest h.1
-
 -- a plain piece has no line end in it
 pub no_line_end : (front rest : List ℕ) → Plain (as_line front ++ rest) → ⊥
 no_line_end [] rest h = h.0 refl
@@ -58,9 +54,6 @@ prefix-refl xs = ([], sym (append-nil xs))
 
 pub prefix-trans : (xs ys zs : List ℕ) → IsPrefix xs ys → IsPrefix ys zs → IsPrefix xs zs
 prefix-trans xs ys zs a b = (a.0 ++ b.0, b.1 ∙ ap (λ l. l ++ b.0) a.1 ∙ append_assoc xs a.0 b.0)
-
-pub prefix-append : (xs ys : List ℕ) → IsPrefix xs (xs ++ ys)
-prefix-append xs ys = (ys, refl)
 
 pub prefix-length : (xs ys : List ℕ) → IsPrefix xs ys → length xs ≤ length ys
 prefix-length xs ys a = omega (arith, ap length a.1, length-append xs a.0)

@@ -51,22 +51,6 @@ pub some_weaker : (a : Option Image) (H G : Image → Type 0) → ((i : Image) �
 some_weaker None H G f h = tt
 some_weaker (Some i) H G f h = f i h
 
--- ---- taking back
-
-pub cut_failed : (len : ℕ) (i j k : Image) → Shrinks len i j → Steadies j k → TakesBack len false i k
-cut_failed len i j k cut sync = record {
-  synced = prefix-trans (take len i.synced) j.synced k.synced cut.synced sync.least;
-  written = prefix-trans k.written j.written i.written sync.most cut.written;
-  settled = λ is. cc;
-}
-
-pub cut_done : (len : ℕ) (done : Bool) (i j k : Image) → Shrinks len i j → j.contents ≡ take len i.contents → Steadies j k → (done ≡ true → j.doubted ≡ false → IsSettled k) → TakesBack len done i k
-cut_done len done i j k cut short sync settles = record {
-  synced = prefix-trans (take len i.synced) j.synced k.synced cut.synced sync.least;
-  written = prefix-trans k.written j.written i.written sync.most cut.written;
-  settled = λ is trusted. (settles is (cut.doubted ∙ trusted), sync.contents ∙ short);
-}
-
 -- ---- writing
 
 module _ (len : ℕ) (lines : List ℕ) where
@@ -78,36 +62,11 @@ module _ (len : ℕ) (lines : List ℕ) where
       let settled = back.settled is (grows.doubted ∙ at.0.trusted) in
       (settled.0, settled.1 ∙ take_front i.contents grows.begins.0 j.contents len grows.begins.1 (sym at.1))
 
-  pub doubtful : (done : Bool) (i j k : Image) → At i → Grows lines i j → TakesBack len done j k → IsPrefix i.contents k.synced × IsPrefix k.written (i.contents ++ lines)
-  doubtful done i j k at grows back =
-      let same : take len j.synced ≡ i.contents = ap (take len) (grows.synced ∙ at.0.synced) ∙ take_front i.contents [] i.contents len (sym (append-nil i.contents)) (sym at.1) in
-      (subst (λ l. IsPrefix l k.synced) same back.synced, prefix-trans k.written j.written (i.contents ++ lines) back.written grows.most)
-
-  -- a sync that failed
-  pub unsynced : (done : Bool) (i j k m : Image) → At i → Grows lines i j → Steadies j k → TakesBack len done k m → IsPrefix i.contents m.synced × IsPrefix m.written (i.contents ++ lines)
-  unsynced done i j k m at grows sync back =
-      let held : j.synced ≡ i.contents = grows.synced ∙ at.0.synced in
-      let same : take len k.synced ≡ i.contents = take_front i.contents sync.least.0 k.synced len (sync.least.1 ∙ ap (λ l. l ++ sync.least.0) held) (sym at.1) in (
-        subst (λ l. IsPrefix l m.synced) same back.synced,
-        prefix-trans m.written k.written (i.contents ++ lines) back.written (prefix-trans k.written j.written (i.contents ++ lines) sync.most grows.most),
-      )
-
   pub kept : (i j k : Image) → At i → Grows lines i j → j.contents ≡ i.contents ++ lines → Steadies j k → (j.doubted ≡ false → IsSettled k) → IsSettled k × (k.contents ≡ i.contents ++ lines)
   kept i j k at grows whole sync settles = (settles (grows.doubted ∙ at.0.trusted), sync.contents ∙ whole)
 
   pub within : (i j : Image) → At i → Grows lines i j → len ≤ length j.contents
   within i j at grows = omega (arith, at.1, prefix-length i.contents j.contents grows.begins)
-
-pub failed_once : (old mid new : ℕ) → OneFailed old mid → (mid ≤ most_failures → mid ≤ new) → ¬ NoneFailed old new
-failed_once old mid new one rises none =
-    let same = none.same in
-    let below = none.below in
-    let is : mid ≡ old + 1 = omega (arith, one, below) in
-    let high : mid ≤ most_failures = omega (arith, is, below) in
-    let up = rises high in omega (arith, up, is, same)
-
-pub not_fewer : (old new : ℕ) (r : Result Unit Unit) → old ≤ most_failures → OneFailed old new → old ≤ new
-not_fewer old new r low one = omega (arith, one, low)
 
 -- ---- lines of operations
 

@@ -69,9 +69,6 @@ module _ (bytes : ℕ) (rest header : List ℕ) (is : header ≡ header_line) (e
   pub first_sync : (a b : Option Image) → IfSome a Begun → Changes a b SyncedOk → Changes a b Steady
   first_sync a b h s = changes_from a b Begun SyncedOk Steady h s (λ i j h s. (h, s.0.contents, (s.1 h.0).trusted))
 
-  pub sync_fails : (a b : Option Image) → IfSome a Begun → Changes a b SyncedErr → Changes a b BeginErr
-  sync_fails a b h s = changes_from a b Begun SyncedErr BeginErr h s (λ i j h s. (h.1, inl s.0.most))
-
   whole : (i j : Image) → Steady i j → j.contents ++ rest ≡ header_line
   whole i j st = ap (λ l. l ++ rest) st.1 ∙ fresh_rest i.contents rest header bytes st.0.1 st.0.2 is e
 
@@ -102,26 +99,11 @@ module _ (len torn : ℕ) where
   abbrev pub SettleErr : Image → Image → Type 0
   SettleErr i j = IsPrefix (take len i.synced) j.synced × IsPrefix j.written i.written
 
-  abbrev pub Short : Image → Image → Type 0
-  Short i j = Shrinks len i j × (j.contents ≡ take len i.contents) × (i.doubted ≡ false)
-
   pub none_torn : {E : Type 0} (r : Result Unit E) (a d : Option Image) → torn ≡ 0 → IfSome a Torn → Changes a d (IsSynced r) → OnOk r (Changes a d SettleOk) × OnErr r (Changes a d SettleErr)
   none_torn r a d none h s =
       sync_only r a d Torn SettleOk SettleErr h s
       (λ i m h s. (s.1 h.0, s.0.contents ∙ sym (take_all len i.contents (omega (arith, h.1, none)))))
       (λ i m h s. (prefix-trans (take len i.synced) i.synced m.synced (prefix-take len i.synced) s.0.least, s.0.most))
-
-  pub cut_fails : (a b : Option Image) → IfSome a Torn → Changes a b (λ i j. Shrinks len i j × ⊤) → Changes a b SettleErr
-  cut_fails a b h s = changes_from a b Torn (λ i j. Shrinks len i j × ⊤) SettleErr h s (λ i j h s. (s.0.synced, s.0.written))
-
-  pub cut_short : (a b : Option Image) → IfSome a Torn → Changes a b (λ i j. Shrinks len i j × (j.contents ≡ take len i.contents)) → Changes a b Short
-  cut_short a b h s = changes_from a b Torn (λ i j. Shrinks len i j × (j.contents ≡ take len i.contents)) Short h s (λ i j h s. (s.0, s.1, h.0))
-
-  pub then_sync : {E : Type 0} (r : Result Unit E) (a b d : Option Image) → Changes a b Short → Changes b d (IsSynced r) → OnOk r (Changes a d SettleOk) × OnErr r (Changes a d SettleErr)
-  then_sync r a b d w s =
-      sync_tail r a b d Short SettleOk SettleErr w s
-      (λ i k m w s. (s.1 (w.0.doubted ∙ w.2), s.0.contents ∙ w.1))
-      (λ i k m w s. (prefix-trans (take len i.synced) k.synced m.synced w.0.synced s.0.least, prefix-trans m.written k.written i.written s.0.most w.0.written))
 
 -- ---- what was found
 
@@ -164,28 +146,7 @@ always : (image : Option Image) (P : Image → Type 0) → ((i : Image) → P i)
 always None P f = tt
 always (Some i) P f = f i
 
--- a fault of which nothing is said
-pub says_nothing : (image : Option Image) (fault : JournalFault) → ((text : List ℕ) → IsRefusal text fault) → IfSome image (λ i. IsRefusal i.contents fault)
-says_nothing image fault f = always image (λ i. IsRefusal i.contents fault) (λ i. f i.contents)
-
-weaken : (image : Option Image) (P Q : Image → Type 0) → ((i : Image) → P i → Q i) → IfSome image P → IfSome image Q
-weaken None P Q f h = tt
-weaken (Some i) P Q f h = f i h
-
-pub refused_at_start : (image : Option Image) (left : Option (List ℕ)) (fault : JournalFault) → IsAtStart image left → IfSome left (λ text. IsRefusal text fault) → IfSome image (λ i. IsRefusal i.contents fault)
-refused_at_start image left fault start h =
-    weaken image (λ i. (i.doubted ≡ false) × IsRefusal i.contents fault) (λ i. IsRefusal i.contents fault) (λ i h. h.1) (at_start image left (λ text. IsRefusal text fault) start h)
-
-pub unharmed : (a b : Option Image) → b ≡ a → Changes a b IsUnharmed
-unharmed a b e = subst (λ b. Changes a b IsUnharmed) (sym e) (by_image a)
-  where
-    by_image : (a : Option Image) → Changes a a IsUnharmed
-    by_image None = tt
-    by_image (Some i) = inl refl
-
 module _ (image found after : Option Image) (left : Option (List ℕ)) (start : IsAtStart image left) (same : found ≡ image) where
-  pub found_at_start : (P : List ℕ → Type 0) → IfSome left P → IfSome found (λ i. (i.doubted ≡ false) × P i.contents)
-  found_at_start P h = subst (λ f. IfSome f (λ i. (i.doubted ≡ false) × P i.contents)) (sym same) (at_start image left P start h)
 
   moved : (Q : Image → Image → Type 0) → Changes found after Q → Changes image after Q
   moved Q c = subst (λ f. Changes f after Q) same c
@@ -198,11 +159,6 @@ module _ (image found after : Option Image) (left : Option (List ℕ)) (start : 
       (λ i j. IsSettled j × (length j.contents ≡ len) × IsOpened i.contents journal 0 j.contents)
       (at_start image left (λ text. IsFresh text × (bytes ≡ length text)) start h) (moved (λ i j. IsSettled j × (j.contents ≡ header_line)) c)
       (λ i j h c. (c.0, ap length c.1 ∙ header_length ∙ sym count, opened_fresh i.contents journal j.contents h.1.0 none c.1))
-
-  pub fresh_fails : Changes found after (λ i j. IsFresh i.contents × (IsPrefix j.written i.written ⊎ IsPrefix j.written header_line)) → Changes image after IsUnharmed
-  fresh_fails c =
-      changes_from image after (λ i. ⊤) (λ i j. IsFresh i.contents × (IsPrefix j.written i.written ⊎ IsPrefix j.written header_line)) IsUnharmed
-      (always image (λ i. ⊤) (λ i. tt)) (moved (λ i j. IsFresh i.contents × (IsPrefix j.written i.written ⊎ IsPrefix j.written header_line)) c) (λ i j h c. inr (inl c))
 
   pub lines_open : (journal : List Operation) (len torn : ℕ) → IfSome left (λ text. IsFound text (Lines journal len torn))
       → Changes found after (λ i j. IsSettled j × (j.contents ≡ take len i.contents))
