@@ -103,7 +103,7 @@ module _ {N : Type 0} {cmp : N → N → Ordering} (order : IsExactOrder cmp) (E
   counts_same : (a b : Rank N) → IsRank cmp E P a → IsRank cmp E P b → AreTogether E a.node b.node → a.count ≡ b.count
   counts_same a b is_a is_b together = omega (arith, count_falls a b is_a is_b together.forth, count_falls b a is_b is_a together.back)
 
-  rank_same : (a b : Rank N) → IsRank cmp E P a → IsRank cmp E P b → a.node ≡ b.node → a ≡ b
+  pub rank_same : (a b : Rank N) → IsRank cmp E P a → IsRank cmp E P b → a.node ≡ b.node → a ≡ b
   rank_same a b is_a is_b same =
       let together : AreTogether E a.node b.node = record { forth = (0, same); back = (0, sym same) } in
       let count = counts_same a b is_a is_b together in
