@@ -23,7 +23,7 @@ pub fn items_of(alloc: Global, state: &State) -> Result<Vec<Item>, NoMemory>
 }
 
 /// Adds the items of a change.
-fn add_items(items: &mut Vec<Item>, change: u32, state: &ChangeState) -> Result<(), NoMemory>
+pub fn add_items(items: &mut Vec<Item>, change: u32, state: &ChangeState) -> Result<(), NoMemory>
     ensures { OnOk result (items.new.items ≡ items.old.items ++ items_in (change, state.now)) }
 {
     for (set, _) in state.sets() {

@@ -24,5 +24,5 @@ mod part;
 mod targets;
 
 pub use graph::Graph;
-pub use items::items_of;
+pub use items::{add_items, items_of};
 pub use part::part_with;
