@@ -46,5 +46,5 @@ pub use laws::{
     closed_sets_are_safe, dependencies_lead_to_a_cause, ready_items_are_the_greatest_closed_set,
     ready_items_stand_in_gate_order, safe_nodes_are_closed, verdicts_are_unique,
 };
-pub use ranked::{ItemRank, Ranked};
+pub use ranked::{ItemRank, Ranked, items_of};
 pub use verdicts::{Left, Refusal, Verdicts};
