@@ -8,4 +8,3 @@ pub mod GateOrder
 pub mod GateVerdicts
 pub mod Following
 pub mod Unique
-mod Guessed

@@ -2,7 +2,6 @@ pub mod Closed
 pub mod Refusals
 pub mod Verdicts
 pub mod Causes
-pub mod Rounds
 pub mod WholeLaws
 pub mod ItemRanks
 pub mod RankedVerdicts

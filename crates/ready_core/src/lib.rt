@@ -31,13 +31,7 @@
 mod causes;
 mod judge;
 mod laws;
-#[cfg(test)]
-mod plain;
 mod ranked;
-#[cfg(test)]
-mod rounds;
-#[cfg(test)]
-mod tests;
 mod verdicts;
 
 pub use causes::own_conditions;

@@ -134,6 +134,30 @@ fn appends_that_fail_lose_nothing(rt: HostRuntime) -> Result<(), Fail> {
     Ok(())
 }
 
+/// Whether an opening of two whole lines and a torn one is refused where one of its calls fails, counted from 0, and how many operations a crash
+/// then leaves at least and at most.
+fn opening_failing(alloc: Global, call: u32) -> Result<(bool, usize, usize), Fail> {
+    let mut text = journal_of(alloc, &[FIRST, SECOND])?;
+    text.extend_from_slice(b"{\"chan")?;
+    let mut tape = MemoryTape::new(text);
+    tape.fail(1u64.wrapping_shl(call), 0);
+    let is_refused = matches!(open_tape(alloc, &mut tape), Err(JournalFault::Failed));
+    let synced = operations_in(alloc, tape.synced())?;
+    let written = operations_in(alloc, tape.written())?;
+    Ok((is_refused, synced, written))
+}
+
+/// An opening reads, here three times, then cuts and syncs. Whichever of these fails, the whole lines are still there; a sixth call there is none.
+#[test]
+fn openings_that_fail_lose_nothing(rt: HostRuntime) -> Result<(), Fail> {
+    let alloc = rt.alloc();
+    for call in 0..5u32 {
+        assert_eq!(rt; opening_failing(alloc, call)?, (true, 0, 2));
+    }
+    assert_eq!(rt; opening_failing(alloc, 5)?, (false, 2, 2));
+    Ok(())
+}
+
 #[test]
 fn other_texts_are_refused_and_stay(rt: HostRuntime) -> Result<(), Fail> {
     let alloc = rt.alloc();

@@ -1,6 +1,7 @@
-use super::rounds::evaluate_by_rounds;
-use super::{Left, Refusal, Verdicts, evaluate};
+//! Records with the verdicts on them, worked out by hand.
+
 use gate_rules::{Clause, Condition, Gate, Side};
+use ready_core::{Left, Refusal, Verdicts, evaluate};
 use review_ops::{Body, Draft, Op, Stamp};
 use state_core::{Item, State};
 use std::alloc::Global;
@@ -124,13 +125,6 @@ impl Review {
     pub(super) fn verdicts(&self, gate: &str) -> Result<Verdicts, Fail> {
         let gate = Gate::read(self.alloc, gate.as_bytes())?;
         Ok(evaluate(self.alloc, &self.state, &gate)?)
-    }
-
-    /// The verdicts under the gate, by the evaluator in rounds.
-    pub(super) fn verdicts_by_rounds(&self, gate: &str) -> Result<Verdicts, Fail> {
-        let gate = Gate::read(self.alloc, gate.as_bytes())?;
-        let verdicts = evaluate_by_rounds(self.alloc, &self.state, &gate)?;
-        Ok(verdicts.ok_or("rounds enough")?)
     }
 
     /// The verdicts under the gate as a text.

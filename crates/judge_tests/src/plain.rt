@@ -1,9 +1,9 @@
-//! Two slow plain programs beside the search, and the three compared: one in rounds, with the search's contract, and one that knows nothing of graphs and walks.
+//! A slow plain program beside the search, which knows nothing of graphs and walks, and the two compared.
 
-use super::tests::{CYCLES, GATE, Review};
-use super::{Left, Refusal, Verdicts};
+use super::reviews::{CYCLES, GATE, Review};
 use gate_rules::{Clause, Condition, Side};
 use lattice_core::NoMemory;
+use ready_core::{Left, Refusal, Verdicts};
 use review_ops::Draft;
 use state_core::Item;
 use std::alloc::Global;
@@ -238,12 +238,6 @@ impl Case {
         let review = self.review()?;
         review.verdicts(if self.cycles { CYCLES } else { GATE })
     }
-
-    /// What the evaluator in rounds says of it.
-    fn verdicts_by_rounds(&self) -> Result<Verdicts, Fail> {
-        let review = self.review()?;
-        review.verdicts_by_rounds(if self.cycles { CYCLES } else { GATE })
-    }
 }
 
 /// The items of the changes that have a refusal.
@@ -286,18 +280,9 @@ fn assert_out(
     Ok(())
 }
 
-/// The search says what the evaluator in rounds says.
-fn assert_rounds(rt: &impl Abort, case: &Case, verdicts: &Verdicts) -> Result<(), Fail> {
-    let slow = case.verdicts_by_rounds()?;
-    assert_eq!(rt; verdicts.ready(), slow.ready());
-    assert_eq!(rt; verdicts.out(), slow.out());
-    Ok(())
-}
-
-/// All programs say the same of a case.
+/// Both say the same of a case.
 fn assert_plain(rt: &impl Abort, case: &Case) -> Result<(), Fail> {
     let verdicts = case.verdicts()?;
-    assert_rounds(rt, case, &verdicts)?;
     let refusals = case.refusals()?;
     assert_ready(rt, case, verdicts.ready(), refusals.as_slice())?;
     assert_out(rt, case.alloc, verdicts.out(), refusals.as_slice())
