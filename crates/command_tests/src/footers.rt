@@ -1,8 +1,8 @@
 //! Messages with footers, and what is printed of them, worked out by hand.
 
 use super::one_file::OneFile;
-use commands::run_words;
 use byte_ends::{Broken, Ends};
+use commands::run_words;
 use std::alloc::Global;
 use std::process::Abort;
 use std::test::Fail;

@@ -147,7 +147,6 @@ always None P f = tt
 always (Some i) P f = f i
 
 module _ (image found after : Option Image) (left : Option (List ℕ)) (start : IsAtStart image left) (same : found ≡ image) where
-
   moved : (Q : Image → Image → Type 0) → Changes found after Q → Changes image after Q
   moved Q c = subst (λ f. Changes f after Q) same c
 
