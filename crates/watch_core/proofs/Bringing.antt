@@ -15,19 +15,19 @@ use Rattle.watch_core.specs.BroughtUp.{AreRankedVerdicts, AreRankedVerdictsOn, H
 use Rattle.watch_core.proofs.Local.{ready_along, rank_same, refused_along, same_item, turned}
 
 -- what is by a flag is by one of both
-by_flag : (flag : Bool) (P Q : Type 0) → IsBy flag P Q → ((flag ≡ true) × P) ⊎ ((not flag ≡ true) × Q)
+pub by_flag : (flag : Bool) (P Q : Type 0) → IsBy flag P Q → ((flag ≡ true) × P) ⊎ ((not flag ≡ true) × Q)
 by_flag true P Q is = inl (refl, is)
 by_flag false P Q is = inr (refl, is)
 
-by_true : (flag : Bool) (P Q : Type 0) → flag ≡ true → P → IsBy flag P Q
+pub by_true : (flag : Bool) (P Q : Type 0) → flag ≡ true → P → IsBy flag P Q
 by_true true P Q is p = p
 by_true false P Q is p = cc
 
-by_false : (flag : Bool) (P Q : Type 0) → not flag ≡ true → Q → IsBy flag P Q
+pub by_false : (flag : Bool) (P Q : Type 0) → not flag ≡ true → Q → IsBy flag P Q
 by_false true P Q is q = cc
 by_false false P Q is q = q
 
-either : (flag : Bool) → (flag ≡ true) ⊎ (not flag ≡ true)
+pub either : (flag : Bool) → (flag ≡ true) ⊎ (not flag ≡ true)
 either true = inl refl
 either false = inr refl
 

@@ -6,6 +6,7 @@ use Rattle.std.proofs.lemmas.Bool.{eq-eqb, eqb-true, false≢true}
 use Rattle.std.proofs.lemmas.List.{length-append, take-append-drop}
 use Rattle.std.proofs.lemmas.List.Elements.{filter-append}
 use Rattle.std.proofs.lemmas.List.Folds.{Any-from_list_any, list_any-from_Any}
+use Rattle.std.specs.List.Sorted.{IsStrictlySortedBy}
 use Rattle.std.proofs.lemmas.List.Kept.{IsStrictlySortedBy-filter}
 use Rattle.lattice_core.specs.MemberLaws.{Contains-first, Contains-none, Contains-of_filter, Contains-of_map, Contains-to_filter}
 use Rattle.walk_core.specs.SortedLists.{sorted_same}
@@ -18,7 +19,6 @@ use Rattle.state_core.specs.declared.item.Item.{Item}
 use Rattle.state_core.specs.State.{State, state_of}
 use Rattle.state_core.specs.Items.{IsItem, item_cmp}
 use Rattle.state_core.specs.ItemLaws.{items_total}
-use Rattle.graph_core.specs.ItemGraph.{AreItems}
 use Rattle.ready_core.specs.Refusals.{IsFree, IsReady, IsRefused}
 use Rattle.ready_core.specs.Verdicts.{AreVerdicts, Judged}
 use Rattle.ready_core.specs.declared.verdicts.Left.{Left}
@@ -83,17 +83,18 @@ own_stays gate journal seen kept item own are there untouched found =
     (kept_own_is gate (state_of (take seen journal)) kept are item (same_item (state_of journal) (state_of (take seen journal)) item (sym same) there) own found)
 
 -- ---- how many items are touched
-pub touched_count : (state : State) (items : List Item) (later : List Operation) (count : ℕ) → AreItems state items → AreTouchedItems state later count
-    → length (filter (is_of_touched later) items) ≡ count
-touched_count state items later count whole is =
+pub touched_count : (state : State) (items : List Item) (later : List Operation) (count : ℕ) → IsStrictlySortedBy item_cmp items → ((item : Item) → Contains items item → IsItem state item)
+    → ((item : Item) → IsItem state item → touches later item.change ≡ true → Contains items item) → AreTouchedItems state later count → length (filter (is_of_touched later) items) ≡ count
+touched_count state items later count in_order each has_touched is =
     let same : is.members ≡ filter (is_of_touched later) items =
-    sorted_same items_total is.members (filter (is_of_touched later) items) is.in_order (IsStrictlySortedBy-filter item_cmp (is_of_touched later) items whole.in_order) (λ item. (
+    sorted_same items_total is.members (filter (is_of_touched later) items) is.in_order (IsStrictlySortedBy-filter item_cmp (is_of_touched later) items in_order) (λ item. (
       λ has.
           let found = (is.just item).0 has in
-          Contains-to_filter (is_of_touched later) items item ((whole.each item).1 found.0) (touches_of later item.change found.1),
+          let touched = touches_of later item.change found.1 in
+          Contains-to_filter (is_of_touched later) items item (has_touched item found.0 touched) touched,
       λ has.
           let found = Contains-of_filter (is_of_touched later) items item has in
-          (is.just item).1 ((whole.each item).0 found.0, touched_of later item.change found.1),
+          (is.just item).1 (each item found.0, touched_of later item.change found.1),
     )) in
     ap length (sym same) ∙ is.size
 

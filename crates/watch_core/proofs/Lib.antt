@@ -3,6 +3,11 @@ pub mod Local
 pub mod Stays
 pub mod Bringing
 pub mod KeptLemmas
-pub mod Finding
 pub mod SameItems
 pub mod Spread
+pub mod Placing
+pub mod Exchange
+pub mod Putting
+pub mod Renewing
+pub mod Following
+pub mod Seeding

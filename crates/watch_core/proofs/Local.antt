@@ -43,7 +43,7 @@ module _ (gate : GateRules) (a b : State) (part : Item → Bool) (u : IsUntouche
   same_target : (item : Item) (number : ℕ) → IsOfKind part item → IsTarget gate a item number → IsSame a b number
   same_target item number here target = elim (u.named item number here target.0) [ inl same ↦ same | inr merged ↦ absurd (target.1 merged.0) ]
 
-  target_along : (item : Item) (number : ℕ) → IsOfKind part item → IsTarget gate a item number → IsTarget gate b item number
+  pub target_along : (item : Item) (number : ℕ) → IsOfKind part item → IsTarget gate a item number → IsTarget gate b item number
   target_along item number here target =
       let same : IsSame a b number = same_target item number here target in
       (same_names gate a b item number (u.own item here) target.0, λ merged. target.1 (same_merged b a number (sym same) merged))

@@ -51,7 +51,7 @@ joined_none None = refl
 joined_none (Some change) = refl
 
 -- what the state has after more operations
-after_is : (journal later : List Operation) (number : ℕ)
+pub after_is : (journal later : List Operation) (number : ℕ)
     → finite.get (state_of (journal ++ later)) number ≡ option_joined change_joined (finite.get (state_of journal) number) (finite.get (state_of later) number)
 after_is journal later number =
     ap (λ state. finite.get state number) (state_of-append journal later) ∙ get-map_joined numbers_exact change_joined (state_of journal) (state_of later) number
@@ -104,7 +104,7 @@ merged_or_by : (state : State) (number : ℕ) (test : Bool) → merged_in (finit
 merged_or_by state number true is = let means = merged_test state number in inl (means.0 is)
 merged_or_by state number false is = let means = merged_test state number in inr (λ merged. false≢true (sym is ∙ means.1 merged))
 
-not_both : (b : Bool) → b ≡ true → not b ≡ true → ⊥
+pub not_both : (b : Bool) → b ≡ true → not b ≡ true → ⊥
 not_both b is is_not = false≢true (sym (ap not is) ∙ is_not)
 
 not_either : (a b : Bool) → (b ≡ true → a ≡ true) → not a ≡ true → not b ≡ true

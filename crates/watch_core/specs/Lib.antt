@@ -5,3 +5,5 @@ pub mod Asked
 pub mod Watching
 pub mod KeptOwns
 pub mod Namers
+pub mod Placed
+pub mod Seeds

@@ -1,6 +1,7 @@
 -- Which items are kept as those that wait for a change.
-use Rattle.std.specs.Prelude.{◌≡◌, ◌||◌, ◌⊎◌, ℕ, Bool, true, List, Contains}
-use Rattle.std.specs.Ordering.{nat_cmp, ordering_then}
+use Rattle.std.specs.Prelude.{◌≡◌, ◌||◌, ◌⊎◌, ℕ, Bool, true, List, [], Option, None, Some, Contains, map}
+use Rattle.std.specs.Map.{lookup}
+use Rattle.std.specs.Ordering.{is_eq, nat_cmp, ordering_then}
 use Rattle.std.specs.declared.cmp.Ordering.{Ordering}
 use Rattle.std.specs.Global.{Vec}
 use Rattle.std.specs.BTreeMap.{BTreeMap, get}
@@ -30,6 +31,25 @@ KeepsNamers old new = (number : ℕ) (item : Item) → IsNamer old number item �
 abbrev pub HaveNamers : GateRules → State → Namers → Type 0
 HaveNamers gate state namers = (item : Item) (number : ℕ) → IsTarget gate state item number → IsNamer namers number item
 
+-- the same as lists: with each change the items that wait for it
+abbrev pub Rows : Type 0
+Rows = List (ℕ × List Item)
+
+abbrev pub rows_of : Namers → Rows
+rows_of namers = map (λ entry. (entry.0, entry.1.items)) namers.entries
+
+abbrev pub row_of : Option (List Item) → List Item
+row_of None = []
+row_of (Some row) = row
+
+-- the row of a change has the item
+abbrev pub IsInRow : Rows → ℕ → Item → Type 0
+IsInRow rows number item = Contains (row_of (lookup (λ key. is_eq (nat_cmp number key)) rows)) item
+
+-- all items that wait for a change in the state stand in its row
+abbrev pub HaveRows : GateRules → State → Rows → Type 0
+HaveRows gate state rows = (item : Item) (number : ℕ) → IsTarget gate state item number → IsInRow rows number item
+
 -- the items hold those that wait for a touched change, and those that wait for the change of one of them that is current
 pub record HoldNamers (state : State) (namers : Namers) (later : List Operation) (reached : Item → Bool) : Type 0 where
   pub waiting : (item : Item) (number : ℕ) → IsNamer namers number item → touches later number ≡ true → IsOfKind reached item
@@ -42,6 +62,10 @@ pair_cmp a b = ordering_then (nat_cmp a.0 b.0) (nat_cmp a.1 b.1)
 -- the set has the item
 abbrev pub has_item : BTreeSet (ℕ × ℕ) → Item → Bool
 has_item items item = contains pair_cmp items (item.change, item.set)
+
+-- whether the item is judged again: it is of a change of the first set or in the second, or all are
+abbrev pub is_again : BTreeSet ℕ → Bool → BTreeSet (ℕ × ℕ) → Item → Bool
+is_again touched all items item = contains nat_cmp touched item.change || (all || has_item items item)
 
 -- the items of touched changes and those of the set, or all
 abbrev pub is_reached : List Operation → Bool → BTreeSet (ℕ × ℕ) → Item → Bool

@@ -5,28 +5,39 @@ ghost use Rattle.std.specs.Option.{option_copied};
 ghost use Rattle.state_core.specs.State.{state_of};
 ghost use Rattle.ready_core.specs.Verdicts.{AreVerdicts};
 ghost use Rattle.watch_core.specs.Asked.{AreTouchedItems, counted};
-ghost use Rattle.watch_core.specs.Watching.{Follows, Precedes};
+ghost use Rattle.watch_core.specs.Watching.{AreKept, AreOfSeen, Follows, Precedes};
 
+use super::bring::put_in_place;
 use super::judge::{GateJudge, Judge};
 use super::kept::owns_of;
+use super::namers::{Namers, add_graph};
+use super::reach::reach_of;
+use super::seeds::graph_of;
 use super::touched::touched_changes;
 use gate_rules::Gate;
 use graph_core::Graph;
 use lattice_core::NoMemory;
-use ready_core::{Verdicts, evaluate, verdicts_on};
+use ready_core::{ItemRank, Verdicts, items_of, own_conditions, ranked_on};
 use replica_core::Replica;
+use std::collections::BTreeMap;
 use std::marker::Model;
 
 /// The verdicts on a replica under a gate, which are brought up to date as operations arrive. Contracts see the gate,
-/// how many arrivals were seen, and the verdicts.
+/// how many arrivals were seen, the verdicts, and what is kept beside them: what each ready item is ordered by, and which
+/// items wait for each change.
 #[derive(Drop)]
 pub struct Evaluator {
     gate: Gate,
     seen: usize,
     verdicts: Option<Verdicts>,
+    ranks: Vec<ItemRank>,
+    namers: Namers,
 }
 
 impl Model for Evaluator {
+    ghost use Rattle.std.specs.Prelude.{map};
+    ghost use Rattle.ready_core.specs.ItemRanks.{to_rank};
+    ghost use Rattle.watch_core.specs.Namers.{rows_of};
     ghost use Rattle.watch_core.specs.Watching.{Watching};
 
     ghost Value = { Watching };
@@ -35,6 +46,8 @@ impl Model for Evaluator {
       gate = evaluator.gate;
       seen = evaluator.seen;
       verdicts = evaluator.verdicts;
+      ranks = map to_rank evaluator.ranks.items;
+      namers = rows_of evaluator.namers;
     } };
 }
 
@@ -44,12 +57,16 @@ impl Evaluator {
         ensures gate { IfOk result (λ evaluator. evaluator.gate ≡ gate) }
         ensures follows { IfOk result (λ evaluator. Follows evaluator replica.now) }
     {
-        let verdicts = evaluate(replica.allocator(), replica.state(), &gate)?;
-        Ok(Evaluator {
+        let alloc = replica.allocator();
+        let mut evaluator = Evaluator {
             gate,
-            seen: replica.arrivals(),
-            verdicts: Some(verdicts),
-        })
+            seen: 0,
+            verdicts: None,
+            ranks: Vec::new(alloc),
+            namers: BTreeMap::new(alloc),
+        };
+        evaluator.start(replica)?;
+        Ok(evaluator)
     }
 
     /// The verdicts on the replica that was seen last, or none where memory was refused to the last update. Takes no
@@ -60,10 +77,11 @@ impl Evaluator {
         self.verdicts.as_ref()
     }
 
-    /// Brings the verdicts up to those on a replica whose arrivals begin with those that were seen. Own conditions are
-    /// judged again only of items of changes with a new operation; all else costs what `evaluate` does. Where memory is
-    /// refused there are no verdicts, and the next update works from scratch. Where there are verdicts and nothing
-    /// arrived, it takes no memory.
+    /// Brings the verdicts up to those on a replica whose arrivals begin with those that were seen. Only the items are
+    /// judged again that reach a change with a new operation, over changes that aren't merged: it costs what `evaluate`
+    /// does on these and all that they reach, and to put them into the lists of all items. Where they are many, it costs
+    /// what `evaluate` does. Where memory is refused there are no verdicts, and the next update works from scratch. Where
+    /// there are verdicts and nothing arrived, it takes no memory.
     pub fn update(&mut self, replica: &Replica) -> Result<(), NoMemory>
         requires { Precedes self.old replica.now }
         ensures gate { self.new.gate ≡ self.old.gate }
@@ -102,7 +120,7 @@ impl Evaluator {
             self.verdicts = Some(kept);
             return Ok(());
         }
-        let verdicts = brought_up(&self.gate, self.seen, replica, &kept, judge)?;
+        let verdicts = self.brought_up(replica, kept, judge)?;
         self.seen = replica.arrivals();
         self.verdicts = Some(verdicts);
         Ok(())
@@ -115,33 +133,57 @@ impl Evaluator {
         ensures follows { OnOk result (Follows self.new replica.now) }
         ensures refused { OnErr result (self.new.verdicts ≡ None) }
     {
-        let verdicts = evaluate(replica.allocator(), replica.state(), &self.gate)?;
+        let alloc = replica.allocator();
+        let state = replica.state();
+        let graph = Graph::build(alloc, state, &self.gate)?;
+        let owns = own_conditions(alloc, state, &self.gate, graph.items())?;
+        let found = ranked_on(alloc, state, &self.gate, &graph, owns.as_slice())?;
+        let mut namers = BTreeMap::new(alloc);
+        add_graph(&mut namers, alloc, &graph)?;
+        let (ranks, out) = found.into_lists();
+        let ready = items_of(alloc, ranks.as_slice())?;
+        self.ranks = ranks;
+        self.namers = namers;
         self.seen = replica.arrivals();
-        self.verdicts = Some(verdicts);
+        self.verdicts = Some(Verdicts::new(ready, out));
         Ok(())
     }
-}
 
-/// The verdicts on a replica, by those on its first arrivals.
-fn brought_up<J: Judge>(
-    gate: &Gate,
-    seen: usize,
-    replica: &Replica,
-    kept: &Verdicts,
-    judge: &mut J,
-) -> Result<Verdicts, NoMemory>
-    requires seen { seen ≤ length replica.now }
-    requires kept { AreVerdicts gate.now (state_of (take seen replica.now)) kept.now }
-    ensures verdicts { IfOk result (AreVerdicts gate.now (state_of replica.now)) }
-    ensures asked { OnOk result ((count : ℕ) → AreTouchedItems (state_of replica.now) (drop seen replica.now) count
-        → J.asked judge.new ≡ counted (J.asked judge.old) count) }
-    ensures at_most { (count : ℕ) → AreTouchedItems (state_of replica.now) (drop seen replica.now) count
-        → J.asked judge.new ≤ counted (J.asked judge.old) count }
-{
-    let alloc = replica.allocator();
-    let touched = touched_changes(alloc, &replica.as_slice()[seen..])?;
-    let graph = Graph::build(alloc, replica.state(), gate)?;
-    let owns = owns_of(gate, seen, replica, graph.items(), &touched, kept, judge)?;
-    let verdicts = verdicts_on(alloc, replica.state(), gate, &graph, owns.as_slice())?;
-    Ok(verdicts)
+    /// The verdicts on a replica, by those on its first arrivals.
+    fn brought_up<J: Judge>(
+        &mut self,
+        replica: &Replica,
+        kept: Verdicts,
+        judge: &mut J,
+    ) -> Result<Verdicts, NoMemory>
+        requires none { self.old.verdicts ≡ None }
+        requires kept { AreOfSeen self.old replica.now kept }
+        ensures gate { self.new.gate ≡ self.old.gate }
+        ensures none { self.new.verdicts ≡ None }
+        ensures verdicts { IfOk result (AreVerdicts self.new.gate (state_of replica.now)) }
+        ensures kept { IfOk result (AreKept self.new.gate (state_of replica.now) self.new.ranks self.new.namers) }
+        ensures asked { OnOk result ((count : ℕ) → AreTouchedItems (state_of replica.now) (drop self.old.seen replica.now) count
+            → J.asked judge.new ≡ counted (J.asked judge.old) count) }
+        ensures at_most { (count : ℕ) → AreTouchedItems (state_of replica.now) (drop self.old.seen replica.now) count
+            → J.asked judge.new ≤ counted (J.asked judge.old) count }
+    {
+        let alloc = replica.allocator();
+        let state = replica.state();
+        let later = &replica.as_slice()[self.seen..];
+        let touched = touched_changes(alloc, later)?;
+        let reach = reach_of(alloc, state, &self.namers, later)?;
+        let graph = graph_of(alloc, &self.gate, state, &reach, &touched)?;
+        let owns = owns_of(
+            &self.gate,
+            self.seen,
+            replica,
+            graph.items(),
+            &touched,
+            &kept,
+            judge,
+        )?;
+        let found = ranked_on(alloc, state, &self.gate, &graph, owns.as_slice())?;
+        add_graph(&mut self.namers, alloc, &graph)?;
+        put_in_place(&reach, &touched, kept, &mut self.ranks, found)
+    }
 }

@@ -1,7 +1,7 @@
 //! Own conditions, of which those of untouched changes are read from kept verdicts.
 
 ghost use Rattle.std.specs.Prelude.{◌≡◌, ◌≤◌, ℕ, IfOk, MatchOption, OnOk, drop, filter, length, take, if◌then◌else◌};
-ghost use Rattle.std.specs.Ordering.{is_lt, nat_cmp};
+ghost use Rattle.std.specs.Ordering.{nat_cmp};
 ghost use Rattle.std.specs.BTreeSet.{contains};
 ghost use Rattle.std.specs.List.Sorted.{IsStrictlySortedBy};
 ghost use Rattle.state_core.specs.State.{state_of};
@@ -16,6 +16,7 @@ ghost use Rattle.watch_core.specs.KeptOwns.{IsOutWith, is_of_touched};
 ghost use Rattle.watch_core.specs.Touched.{touches};
 
 use super::judge::Judge;
+use super::places::place_out;
 use gate_rules::{Condition, Gate};
 use lattice_core::NoMemory;
 use ready_core::{Left, Refusal, Verdicts};
@@ -23,24 +24,13 @@ use replica_core::Replica;
 use state_core::Item;
 use std::collections::BTreeSet;
 
-/// Whether an item stands before another.
-pub fn is_before(item: Item, other: Item) -> bool
-    ensures { result ≡ is_lt (item_cmp item other) }
-{
-    item.change < other.change || item.change == other.change && item.set < other.set
-}
-
 /// The condition for which an item is left out, if it is for one.
 fn kept_own(out: &[Left], item: Item) -> Option<Condition>
     requires { IsStrictlySortedBy item_cmp (items_out out.now) }
     ensures { MatchOption result ((condition : Condition) → ¬ IsOutWith out.now item condition) (IsOutWith out.now item) }
 {
-    let place = out.partition_point(|left| is_before(left.item, item));
-    let left = out.get(place)?;
-    if left.item != item {
-        return None;
-    }
-    match left.refusal {
+    let place = place_out(out, item)?;
+    match out[place].refusal {
         Refusal::Own(condition) => Some(condition),
         _ => None,
     }

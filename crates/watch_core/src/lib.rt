@@ -16,6 +16,7 @@
 //! ```
 #![tactic(auto)]
 
+mod bring;
 mod evaluator;
 #[cfg(test)]
 mod histories;
@@ -23,7 +24,10 @@ mod judge;
 mod kept;
 mod laws;
 mod namers;
+mod places;
+mod puts;
 mod reach;
+mod seeds;
 #[cfg(test)]
 mod tests;
 mod touched;

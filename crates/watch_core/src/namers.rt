@@ -6,7 +6,7 @@ ghost use Rattle.graph_core.specs.ItemGraph.{StandsAt};
 ghost use Rattle.graph_core.specs.Listed.{items_at};
 ghost use Rattle.watch_core.specs.Namers.{KeepsNamers, IsNamer};
 
-use super::kept::is_before;
+use super::places::is_before;
 use graph_core::Graph;
 use lattice_core::NoMemory;
 use state_core::Item;

@@ -1,13 +1,12 @@
 //! Which items are judged again: those of changes with a new operation, and all that reach one of them.
 
-ghost use Rattle.std.specs.Prelude.{◌≡◌, ◌||◌, IfOk, IsTrue, OnOk, Contains, map};
+ghost use Rattle.std.specs.Prelude.{◌≡◌, IfOk, IsTrue, OnOk, Contains, map};
 ghost use Rattle.std.specs.Ordering.{nat_cmp};
 ghost use Rattle.std.specs.BTreeMap.{get};
-ghost use Rattle.std.specs.BTreeSet.{contains};
 ghost use Rattle.review_ops.specs.Deed.{change_of};
 ghost use Rattle.state_core.specs.Items.{IsCurrentItem};
 ghost use Rattle.graph_core.specs.Listed.{items_at};
-ghost use Rattle.watch_core.specs.Namers.{Adds, HoldNamers, has_item, is_reached};
+ghost use Rattle.watch_core.specs.Namers.{Adds, HoldNamers, is_again, is_reached};
 
 use super::namers::Namers;
 use lattice_core::NoMemory;
@@ -29,7 +28,7 @@ pub struct Reach {
 impl Reach {
     /// Whether an item is of a touched change or among the others.
     pub fn has(&self, touched: &BTreeSet<u32>, item: Item) -> bool
-        ensures { result ≡ (contains nat_cmp touched.now item.change || (self.now.all || has_item self.now.items item)) }
+        ensures { result ≡ is_again touched.now self.now.all self.now.items item }
     {
         touched.contains(&item.change) || self.all || self.items.contains(&(item.change, item.set))
     }

@@ -1,0 +1,14 @@
+use Rattle.std.proofs.Common.{rules, arith}
+use Rattle.std.proofs.lemmas.List.Sorted.{IsPartitionPoint-from_clause}
+use Rattle.state_core.specs.Items.{item_cmp}
+use Rattle.watch_core.specs.Placed.{item_of}
+use Rattle.watch_core.proofs.Placing.{comes_before, partitioned, place_for}
+use Rattle.watch_core.proofs.Exchange.{items_order}
+use Rattle.watch_core.proofs.places.place_for_left.Goals as goal
+
+pub returns : goal.returns
+returns c =
+    let out = c.args.out.now in
+    let item = c.args.item in
+    let point = IsPartitionPoint-from_clause (comes_before item_of item_cmp item) out _ c.partition_point.ensures.partitioned (partitioned item_of items_order out c.requires.in_order item) (λ a r f' called. search rules) in
+    place_for item_of items_order out c.requires.in_order item c.partition_point.result point (search rules) c.requires.none

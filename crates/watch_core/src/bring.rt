@@ -1,0 +1,105 @@
+//! Verdicts of which those of some items are found anew.
+
+ghost use Rattle.std.specs.Prelude.{◌≡◌, IfOk, OnOk, [], map};
+ghost use Rattle.ready_core.specs.ItemRanks.{to_rank};
+ghost use Rattle.watch_core.specs.BroughtUp.{IsBroughtUp};
+ghost use Rattle.watch_core.specs.Namers.{is_again};
+ghost use Rattle.watch_core.specs.Placed.{AreLists, FindsAgain, HasNew, IsFoundAgain, IsOneEach, StandOnce, item_of, node_of};
+
+use super::puts::{put_left, put_ready};
+use super::reach::Reach;
+use lattice_core::NoMemory;
+use ready_core::{ItemRank, Left, Ranked, Verdicts};
+use state_core::Item;
+use std::collections::BTreeSet;
+
+/// Puts what is found of the items that are judged again in the place of what was kept of them. For each it costs a
+/// search and what an insertion and a removal move, and, where it was ready, to look through the ready items.
+pub fn put_in_place(
+    reach: &Reach,
+    touched: &BTreeSet<u32>,
+    kept: Verdicts,
+    ranks: &mut Vec<ItemRank>,
+    found: Ranked,
+) -> Result<Verdicts, NoMemory>
+    requires lists { AreLists kept.ready ranks.old.items kept.out }
+    requires once { StandOnce found }
+    requires finds { FindsAgain (is_again touched.now reach.now.all reach.now.items)
+        (record { ranks = map to_rank ranks.old.items; out = kept.out }) found }
+    ensures lists { IfOk result (λ verdicts. AreLists verdicts.ready ranks.new.items verdicts.out) }
+    ensures up { IfOk result (λ verdicts. IsBroughtUp (is_again touched.now reach.now.all reach.now.items)
+        (record { ranks = map to_rank ranks.old.items; out = kept.out }) found
+        (record { ranks = map to_rank ranks.new.items; out = verdicts.out })) }
+{
+    let (mut ready, mut out) = kept.into_lists();
+    let (new_ranks, new_out) = found.into_lists();
+    put_all_ready(
+        reach,
+        touched,
+        &mut ready,
+        ranks,
+        &mut out,
+        new_ranks.as_slice(),
+    )?;
+    put_all_left(
+        reach,
+        touched,
+        &mut ready,
+        ranks,
+        &mut out,
+        new_out.as_slice(),
+    )?;
+    Ok(Verdicts::new(ready, out))
+}
+
+/// Puts the items that are judged again and found ready to their places.
+fn put_all_ready(
+    reach: &Reach,
+    touched: &BTreeSet<u32>,
+    ready: &mut Vec<Item>,
+    ranks: &mut Vec<ItemRank>,
+    out: &mut Vec<Left>,
+    found: &[ItemRank],
+) -> Result<(), NoMemory>
+    requires lists { AreLists ready.old.items ranks.old.items out.old.items }
+    requires one_each { IsOneEach node_of found.now }
+    ensures lists { OnOk result (AreLists ready.new.items ranks.new.items out.new.items) }
+    ensures ranks { OnOk result (HasNew node_of (IsFoundAgain node_of (is_again touched.now reach.now.all reach.now.items) found.now)
+        found.now ranks.old.items ranks.new.items) }
+    ensures out { OnOk result (HasNew item_of (IsFoundAgain node_of (is_again touched.now reach.now.all reach.now.items) found.now)
+        [] out.old.items out.new.items) }
+{
+    for rank in found {
+        if !reach.has(touched, rank.node) {
+            continue;
+        }
+        put_ready(ready, ranks, out, *rank)?;
+    }
+    Ok(())
+}
+
+/// Puts the items that are judged again and left out to their places.
+fn put_all_left(
+    reach: &Reach,
+    touched: &BTreeSet<u32>,
+    ready: &mut Vec<Item>,
+    ranks: &mut Vec<ItemRank>,
+    out: &mut Vec<Left>,
+    found: &[Left],
+) -> Result<(), NoMemory>
+    requires lists { AreLists ready.old.items ranks.old.items out.old.items }
+    requires one_each { IsOneEach item_of found.now }
+    ensures lists { OnOk result (AreLists ready.new.items ranks.new.items out.new.items) }
+    ensures ranks { OnOk result (HasNew node_of (IsFoundAgain item_of (is_again touched.now reach.now.all reach.now.items) found.now)
+        [] ranks.old.items ranks.new.items) }
+    ensures out { OnOk result (HasNew item_of (IsFoundAgain item_of (is_again touched.now reach.now.all reach.now.items) found.now)
+        found.now out.old.items out.new.items) }
+{
+    for left in found {
+        if !reach.has(touched, left.item) {
+            continue;
+        }
+        put_left(ready, ranks, out, *left)?;
+    }
+    Ok(())
+}
