@@ -8,7 +8,7 @@ use Rattle.replica_core.specs.Missing.{IsMissing}
 use Rattle.review_ops.specs.Operation.{Operation}
 use Rattle.site_port.specs.Ports.{Call, Reply, IsLookingFault, takes_in, lacks, reports, looks, stamped, lacked, judged, looked, refused}
 use Rattle.site_port.specs.Sinks.{Offer, Uptake, fronts, hands, reached, took, declined}
-use Rattle.site_shared.specs.Accounts.{GoesOn, Watch}
+use Rattle.site_shared.specs.Accounts.{GoesOn, Outlook}
 use Rattle.site_shared.specs.Publishes.{arrive}
 use Rattle.state_core.specs.State.{state_of}
 
@@ -24,10 +24,10 @@ Says gate seen call (refused fault) = IsLookingFault fault
 Says gate seen call reply = ⊥
 
 -- a reply, and what the window has seen once it is given
-abbrev pub SiteGives : GateRules → Watch → Call → Reply → Watch → Type 0
+abbrev pub SiteGives : GateRules → Outlook → Call → Reply → Outlook → Type 0
 SiteGives gate old call reply new = GoesOn old new × Says gate new.seen call reply
 
 -- how a pull's offers are taken up: the front is that of a moment; what is handed over is published, or only held, by the desk
-abbrev pub SiteSinks : Watch → Offer → Uptake → Watch → Type 0
+abbrev pub SiteSinks : Outlook → Offer → Uptake → Outlook → Type 0
 SiteSinks old fronts (reached front) new = GoesOn old new × IsFront (arrive new.seen) front
 SiteSinks old offer uptake new = GoesOn old new

@@ -4,3 +4,4 @@ pub mod Shows
 pub mod Spared
 pub mod Turning
 pub mod PublishLaws
+pub mod Watching

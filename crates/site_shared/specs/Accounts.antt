@@ -31,7 +31,7 @@ pub record Extent : Type 0 where
   pub stamp : Option Timestamp
 
 -- what a window has seen and learnt of the publishes of an opening
-pub record Watch : Type 0 where
+pub record Outlook : Type 0 where
   pub book : Book
   pub seen : List (List Operation)
   pub site : ℕ
@@ -72,19 +72,19 @@ abbrev pub receipt_of : Account → Option Timestamp → Extent
 receipt_of account stamp = record { book = account.book; published = account.published; site = account.site; start = account.start; stamp = stamp }
 
 -- a window that has seen all that the account has published
-abbrev pub watching : Account → Watch
+abbrev pub watching : Account → Outlook
 watching account = record { book = account.book; seen = account.published; site = account.site; start = account.start }
 
 -- the window has seen and learnt no less than before, of the same opening
-pub record GoesOn (old new : Watch) : Type 0 where
+pub record GoesOn (old new : Outlook) : Type 0 where
   pub book : new.book ≡ old.book
   pub site : new.site ≡ old.site
   pub start : new.start ≡ old.start
   pub seen : IsPrefix old.seen new.seen
 
 -- the receipt bears the window's own site and start
-abbrev pub IsOwn : Watch → Extent → Type 0
-IsOwn watch extent = (extent.site ≡ watch.site) × (extent.start ≡ watch.start)
+abbrev pub IsOwn : Outlook → Extent → Type 0
+IsOwn window extent = (extent.site ≡ window.site) × (extent.start ≡ window.start)
 
 -- the first so many of these are held, and no more
 pub record IsPartly (old : Account) (ops : List Operation) (count : ℕ) (new : Account) : Type 0 where

@@ -4,6 +4,8 @@ use Rattle.site_shared.specs.declared.fault.DeskFault.{DeskFault}
 use Rattle.site_shared.specs.declared.fault.DeskFault.TheVariants as desk
 use Rattle.site_shared.specs.declared.fault.OpenFault.{OpenFault}
 use Rattle.site_shared.specs.declared.fault.OpenFault.TheVariants as opening
+use Rattle.site_shared.specs.declared.fault.RefreshFault.{RefreshFault}
+use Rattle.site_shared.specs.declared.fault.RefreshFault.TheVariants as refresh
 use Rattle.site_shared.specs.declared.fault.WindowFault.{WindowFault}
 use Rattle.site_shared.specs.declared.fault.WindowFault.TheVariants as window
 
@@ -34,3 +36,13 @@ window_number_of window.Closed = 3
 abbrev pub window_name_of : WindowFault → List ℕ
 window_name_of window.NoMemory = codes "NoMemory"
 window_name_of window.Closed = codes "Closed"
+
+abbrev pub refresh_number_of : RefreshFault → ℕ
+refresh_number_of refresh.Stranger = 1
+refresh_number_of refresh.NoMemory = 2
+refresh_number_of refresh.Closed = 3
+
+abbrev pub refresh_name_of : RefreshFault → List ℕ
+refresh_name_of refresh.Stranger = codes "Stranger"
+refresh_name_of refresh.NoMemory = codes "NoMemory"
+refresh_name_of refresh.Closed = codes "Closed"

@@ -6,3 +6,4 @@ pub mod Fault
 pub mod Pauses
 pub mod Spares
 pub mod Desks
+pub mod Watches

@@ -1,7 +1,7 @@
 //! Why a running site doesn't do what it is asked for.
 
 ghost use Rattle.std.specs.Prelude.{◌≡◌, codes};
-ghost use Rattle.site_shared.specs.Fault.{desk_name_of, desk_number_of, open_name_of, open_number_of, window_name_of, window_number_of};
+ghost use Rattle.site_shared.specs.Fault.{desk_name_of, desk_number_of, open_name_of, open_number_of, refresh_name_of, refresh_number_of, window_name_of, window_number_of};
 
 use review_ops::BodyFault;
 use thiserror::Error;
@@ -41,6 +41,20 @@ pub enum WindowFault {
     #[error("no memory")]
     NoMemory,
     /// 3: the desk has ended.
+    #[error("the site has ended")]
+    Closed,
+}
+
+/// Why a watch isn't brought up to date.
+#[derive(Clone, Copy, Debug, PartialEq, Eq, Error)]
+pub enum RefreshFault {
+    /// 1: the watch is one of another site, or of another start. Nothing changes.
+    #[error("a watch of another site or start")]
+    Stranger,
+    /// 2: memory was refused. The watch has no verdicts, and the window may have seen more than before.
+    #[error("no memory")]
+    NoMemory,
+    /// 3: the desk has ended. Nothing changes.
     #[error("the site has ended")]
     Closed,
 }
@@ -116,6 +130,30 @@ impl WindowFault {
         match self {
             WindowFault::NoMemory => "NoMemory",
             WindowFault::Closed => "Closed",
+        }
+    }
+}
+
+impl RefreshFault {
+    /// The fault's number.
+    pub fn number(&self) -> u8
+        ensures { result ≡ refresh_number_of self.now }
+    {
+        match self {
+            RefreshFault::Stranger => 1,
+            RefreshFault::NoMemory => 2,
+            RefreshFault::Closed => 3,
+        }
+    }
+
+    /// The fault's name.
+    pub fn name(&self) -> &'static str
+        ensures { result.now ≡ refresh_name_of self.now }
+    {
+        match self {
+            RefreshFault::Stranger => "Stranger",
+            RefreshFault::NoMemory => "NoMemory",
+            RefreshFault::Closed => "Closed",
         }
     }
 }

@@ -2,7 +2,8 @@
 //! receipts tell a window what it must have seen.
 //!
 //! What was published is one list, which begins with the journal that the site was opened with and only grows. The desk's account is that list and
-//! what is held; each look of a window is at one prefix of the list, which goes on from all that the window has seen and learnt.
+//! what is held; each look of a window is at one prefix of the list, which goes on from all that the window has seen and learnt. A watch keeps the
+//! verdicts on what a window saw, and a window brings it up to date.
 //!
 //! | Fault | Where |
 //! |---|---|
@@ -11,6 +12,8 @@
 //! | `DeskFault` 3 `NoMemory` | of a call of the desk: the first so many of its operations are held |
 //! | `Stranger` 1 | of `Window::learn`: a receipt of another site or start |
 //! | `WindowFault` 2 `NoMemory`, 3 `Closed` | of a look |
+//! | `RefreshFault` 1 `Stranger`, 3 `Closed` | of `Window::refresh`: nothing changes |
+//! | `RefreshFault` 2 `NoMemory` | of `Window::refresh`: the watch has no verdicts until a refresh succeeds |
 #![tactic(auto)]
 
 mod desk;
@@ -26,13 +29,15 @@ mod sight;
 mod spares;
 mod stage;
 mod told;
+mod watch;
 mod window;
 
 pub use desk::Desk;
-pub use fault::{DeskFault, OpenFault, Stranger, WindowFault};
+pub use fault::{DeskFault, OpenFault, RefreshFault, Stranger, WindowFault};
 pub use laws::{later_journals_go_on, publishes_are_steps, stamps_are_above_all};
 pub use open::open_site;
 pub use pause::Pause;
 pub use receipt::Receipt;
 pub use told::{Naming, Told};
+pub use watch::Watch;
 pub use window::Window;

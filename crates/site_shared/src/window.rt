@@ -1,6 +1,6 @@
 //! How threads look at a running site.
 
-ghost use Rattle.std.specs.Prelude.{◌≡◌, ◌⊎◌, ◌<◌, ◌↔◌, List, Err, IfErr, IfNone, IfOk, IfSome, IsOk, MatchBool, OnErr, OnOk, Some, length, nat_lt, take};
+ghost use Rattle.std.specs.Prelude.{◌≡◌, ◌⊎◌, ◌<◌, ◌↔◌, List, Err, IfErr, IfNone, IfOk, IfSome, IsOk, MatchBool, MatchResult, OnErr, OnOk, Some, length, nat_lt, take};
 ghost use Rattle.std.specs.Arc.{arc_value};
 ghost use Rattle.std.specs.List.{list_any};
 ghost use mathlib.Core.List.{IsPrefix};
@@ -15,17 +15,19 @@ ghost use Rattle.site_shared.specs.Pauses.{Pauses};
 ghost use Rattle.site_shared.specs.Publishes.{arrive};
 ghost use Rattle.state_core.specs.State.{state_of};
 
-use crate::fault::{Stranger, WindowFault};
+use crate::fault::{RefreshFault, Stranger, WindowFault};
 use crate::pause::{AtOnce, Pause, hold};
 use crate::receipt::Receipt;
 use crate::showing::{Glass, Look, Sees, Show, TakesIn, Tells};
 use crate::sight::Sight;
+use crate::watch::Watch;
 use gate_rules::Gate;
 use ready_core::{Verdicts, evaluate};
 use replica_core::{Front, Missing, Replica};
 use review_ops::{Op, Stamp};
 use std::alloc::AllocError;
 use std::marker::Model;
+use watch_core::Evaluator;
 
 /// A place from which one thread looks at a running site, beside the desk and the other windows. It never waits for them. Each look is at one moment: at
 /// a prefix of the publishes, which goes on from all that the window has seen and learnt before. Contracts see that prefix.
@@ -40,10 +42,10 @@ pub struct Window {
 impl Model for Window {
     ghost use Rattle.std.specs.Prelude.{IfSome};
     ghost use Rattle.left_right.specs.Sides.{view as known_at};
-    ghost use Rattle.site_shared.specs.Accounts.{Watch};
+    ghost use Rattle.site_shared.specs.Accounts.{Outlook};
     ghost use Rattle.site_shared.specs.Showing.{Knows};
 
-    ghost Value = { Watch };
+    ghost Value = { Outlook };
 
     ghost view = { λ w. record { book = w.sight.seen.book; seen = w.sight.seen.log; site = w.site; start = w.start } };
 
@@ -51,8 +53,9 @@ impl Model for Window {
 }
 
 impl Window {
-    ghost use Rattle.site_shared.specs.Accounts.{GoesOn, IsOwn, Watch};
+    ghost use Rattle.site_shared.specs.Accounts.{GoesOn, IsOwn, Outlook};
     ghost use Rattle.site_shared.specs.Showing.{Knows};
+    ghost use Rattle.site_shared.specs.Watches.{IsOwnWatch, IsSameWatch, IsWatchOf, Refreshes, RefusesRefresh};
     ghost use Rattle.site_shared.specs.declared.fault.WindowFault.TheVariants.{Closed};
 
     /// A window that has seen what the desk has seen.
@@ -130,6 +133,48 @@ impl Window {
         let verdicts = evaluate(replica.allocator(), replica.state(), gate);
         self.leave(look);
         verdicts.map_err(|_| WindowFault::NoMemory)
+    }
+
+    /// The verdicts under a gate on what the window sees, which `refresh` brings up to date. Costs what `evaluate` does.
+    pub fn watch(&mut self, gate: Gate) -> Result<Watch, WindowFault>
+        ensures later { GoesOn self.old self.new }
+        ensures ok { IfOk result (IsWatchOf gate self.new) }
+        ensures closed { result ≡ Err Closed → self.new ≡ self.old }
+    {
+        let Some(look) = self.enter() else {
+            return Err(WindowFault::Closed);
+        };
+        let evaluator = Evaluator::fresh(gate, &look.get().replica);
+        self.leave(look);
+        let Ok(evaluator) = evaluator else {
+            return Err(WindowFault::NoMemory);
+        };
+        let sight = self.sight.again();
+        Ok(Watch::new(evaluator, sight, self.site, self.start))
+    }
+
+    /// Brings a watch up to date with what the window sees, which is then no less than what the watch saw. A watch that bears the window's own site and
+    /// start comes from the window's opening; any other one is refused. Memory is refused only where something new came, or the watch has no verdicts.
+    /// Costs what `Evaluator::update` does, over one look, without a copy of the replica.
+    pub fn refresh(&mut self, watch: &mut Watch) -> Result<(), RefreshFault>
+        requires { IsOwnWatch self.old watch.old → watch.old.book ≡ self.old.book }
+        ensures later { GoesOn self.old self.new }
+        ensures same { IsSameWatch watch.old watch.new }
+        ensures refreshed { MatchResult result (λ _. Refreshes self.old watch.old self.new watch.new)
+            (λ fault. RefusesRefresh self.old watch.old fault self.new watch.new) }
+    {
+        if watch.origin() != (self.site, self.start) {
+            return Err(RefreshFault::Stranger);
+        }
+        let Some(look) = self.enter_from(watch.sight()) else {
+            return Err(RefreshFault::Closed);
+        };
+        let followed = watch.follow(&look.get().replica, &self.sight);
+        self.leave(look);
+        match followed {
+            Ok(()) => Ok(()),
+            Err(_) => Err(RefreshFault::NoMemory),
+        }
     }
 
     /// Whether the journal has an operation with this stamp. Takes no memory, and time logarithmic in the rows and in the operations of its row.
@@ -227,6 +272,23 @@ impl Window {
                 None
             }
         }
+    }
+
+    /// Takes what is shown, which goes on from what a sight of the opening has seen, too.
+    fn enter_from(&mut self, sight: &Sight) -> Option<Look>
+        requires { sight.now.seen.book ≡ self.old.book }
+        ensures some { IfSome result (λ look. (look.part.value.sight.seen.log ≡ self.new.seen) × Knows self.new.book (view look.place)) }
+        ensures no_less { IfSome result (λ _. IsPrefix sight.now.seen.log self.new.seen) }
+        ensures later { GoesOn self.old self.new }
+        ensures none { IfNone result (self.new ≡ self.old) }
+    {
+        let before = self.sight.again();
+        self.sight = before.longer(sight);
+        let Some(look) = self.enter() else {
+            self.sight = before;
+            return None;
+        };
+        Some(look)
     }
 
     /// Ends a look.
