@@ -1,1 +1,2 @@
 pub mod SitePorts
+pub mod Reports

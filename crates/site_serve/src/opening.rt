@@ -1,14 +1,16 @@
 //! What belongs to one opening of a site. That a receipt which a window is handed comes from the window's own opening is
 //! said by their types.
 
-ghost use Rattle.std.specs.Prelude.{◌≡◌, IfOk, List, length, nat_lt, take};
+ghost use Rattle.std.specs.Prelude.{◌≡◌, IfOk, IfSome, List, MatchResult, length, nat_lt, take};
 ghost use Rattle.std.specs.List.{list_any};
+ghost use Rattle.std.specs.Option.{option_copied};
 ghost use Rattle.ready_core.specs.Verdicts.{AreVerdicts};
 ghost use Rattle.replica_core.specs.Front.{IsFront};
 ghost use Rattle.replica_core.specs.Missing.{IsMissing};
 ghost use Rattle.review_ops.specs.Operation.{Operation};
 ghost use Rattle.site_shared.specs.Accounts.{GoesOn, is_foreign};
 ghost use Rattle.site_shared.specs.Publishes.{arrive};
+ghost use Rattle.site_shared.specs.Watches.{IsSameWatch, IsWatchOf, Refreshes, RefusesRefresh};
 ghost use Rattle.state_core.specs.State.{state_of};
 
 use gate_rules::Gate;
@@ -17,7 +19,7 @@ use ready_core::Verdicts;
 use replica_core::{Front, Missing, Replica};
 use review_ops::{Draft, Op, Stamp};
 use site_ledger::{Keeps, Ledger, LedgerFault};
-use site_shared::{DeskFault, Naming, Told, Window, WindowFault};
+use site_shared::{DeskFault, Naming, RefreshFault, Told, Watch, Window, WindowFault};
 use std::marker::PhantomData;
 use std::sync::Wait;
 
@@ -55,6 +57,28 @@ impl<J: Naming> OwnWindow<J> {
         self.window.report(gate)
     }
 
+    /// The verdicts under a gate on what the window sees, which `refresh` brings up to date.
+    pub fn watch(&mut self, gate: Gate) -> Result<OwnWatch<J>, WindowFault>
+        ensures later { GoesOn self.old.window self.new.window }
+        ensures ok { IfOk result (λ watch. IsWatchOf gate self.new.window watch.watch) }
+    {
+        let watch = self.window.watch(gate)?;
+        Ok(OwnWatch {
+            watch,
+            of: PhantomData,
+        })
+    }
+
+    /// Brings a watch up to date with what the window sees.
+    pub fn refresh(&mut self, watch: &mut OwnWatch<J>) -> Result<(), RefreshFault>
+        ensures later { GoesOn self.old.window self.new.window }
+        ensures same { IsSameWatch watch.old.watch watch.new.watch }
+        ensures refreshed { MatchResult result (λ _. Refreshes self.old.window watch.old.watch self.new.window watch.new.watch)
+            (λ fault. RefusesRefresh self.old.window watch.old.watch fault self.new.window watch.new.watch) }
+    {
+        self.window.refresh(&mut watch.watch)
+    }
+
     /// How far the record goes without a gap.
     pub fn front(&mut self) -> Result<Front, WindowFault>
         ensures later { GoesOn self.old.window self.new.window }
@@ -87,6 +111,25 @@ impl<J: Naming> OwnWindow<J> {
         ensures ok { IfOk result (λ copied. copied ≡ arrive self.new.window.seen) }
     {
         self.window.snapshot()
+    }
+}
+
+/// Verdicts that a window of the opening brings up to date.
+#[derive(Drop)]
+pub struct OwnWatch<J: Naming> {
+    watch: Watch,
+    of: PhantomData<J>,
+    ghost ours: { watch.book ≡ J.book },
+}
+
+impl<J: Naming> OwnWatch<J> {
+    /// The verdicts on what was seen; none where memory was refused to the last refresh.
+    pub fn verdicts(&self) -> Option<&Verdicts>
+        ensures shown { option_copied result ≡ self.now.watch.verdicts }
+        ensures are { IfSome self.now.watch.verdicts
+            (AreVerdicts self.now.watch.gate (state_of (arrive self.now.watch.seen))) }
+    {
+        self.watch.verdicts()
     }
 }
 

@@ -1,0 +1,14 @@
+-- What a running site prints.
+use Rattle.std.specs.Prelude.{◌≡◌, ℕ, List}
+use Rattle.gate_rules.specs.Rules.{GateRules}
+use Rattle.ready_core.specs.Verdicts.{AreVerdicts, Judged}
+use Rattle.report_text.specs.Report.{report_of}
+use Rattle.review_ops.specs.Operation.{Operation}
+use Rattle.site_shared.specs.Publishes.{arrive}
+use Rattle.state_core.specs.State.{state_of}
+
+-- the text is the report under the gate of the journal of just these publishes
+pub record IsReportOf (gate : GateRules) (seen : List (List Operation)) (text : List ℕ) : Type 0 where
+  pub judged : Judged
+  pub verdicts : AreVerdicts gate (state_of (arrive seen)) judged
+  pub text_is : text ≡ report_of judged
