@@ -18,8 +18,6 @@
 
 mod bring;
 mod evaluator;
-#[cfg(test)]
-mod histories;
 mod judge;
 mod kept;
 mod laws;
@@ -28,8 +26,6 @@ mod places;
 mod puts;
 mod reach;
 mod seeds;
-#[cfg(test)]
-mod tests;
 mod touched;
 
 pub use evaluator::Evaluator;

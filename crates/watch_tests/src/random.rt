@@ -3,8 +3,7 @@
 ghost use Rattle.std.specs.Prelude.{◌<◌, ◌^◌, OnOk};
 ghost use Rattle.watch_core.specs.Watching.{Extends, Precedes};
 
-use super::Evaluator;
-use super::tests::{CYCLES, GATE, footers, take};
+use super::histories::{CYCLES, GATE, footers, take};
 use gate_rules::Gate;
 use ready_core::evaluate;
 use replica_core::Replica;
@@ -12,9 +11,10 @@ use review_ops::Draft;
 use std::alloc::Global;
 use std::process::Abort;
 use std::test::Fail;
+use watch_core::Evaluator;
 
 /// How many histories are played.
-const HISTORIES: u64 = 100;
+const HISTORIES: u64 = 5_000;
 
 /// How often each of them is brought up to date.
 const UPDATES: u32 = 8;

@@ -3,10 +3,6 @@
 ghost use Rattle.std.specs.Prelude.{OnOk};
 ghost use Rattle.watch_core.specs.Watching.{Extends, Precedes};
 
-use super::{
-    Evaluator, GateJudge, Judge, untouched_changes_stay, verdicts_are_brought_up,
-    verdicts_are_local, what_is_not_reached_stays,
-};
 use gate_rules::{Clause, Condition, Gate, Side};
 use ready_core::{Left, Refusal, Verdicts, evaluate};
 use replica_core::Replica;
@@ -15,6 +11,10 @@ use state_core::Item;
 use std::alloc::Global;
 use std::process::Abort;
 use std::test::Fail;
+use watch_core::{
+    Evaluator, GateJudge, Judge, untouched_changes_stay, verdicts_are_brought_up,
+    verdicts_are_local, what_is_not_reached_stays,
+};
 
 // A gate that wants two approvals on the current patch set of an open change, and one that also lets items on a cycle in.
 pub(super) const GATE: &str =

@@ -1,0 +1,8 @@
+//! Tests of `watch_core` through its public functions: histories with the verdicts after each part, and random ones beside
+//! evaluations of the whole record. A crate of tests alone, as `record_tests` is.
+#![tactic(auto)]
+
+#[cfg(test)]
+mod histories;
+#[cfg(test)]
+mod random;
