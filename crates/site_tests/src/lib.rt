@@ -22,3 +22,5 @@ mod site_words;
 mod talks;
 #[cfg(test)]
 mod threads;
+#[cfg(test)]
+mod watches;

@@ -314,8 +314,13 @@ fn foreign<R: Wait>(rt: &R, alloc: Global, site: u16, start: u32) -> Result<Rece
 }
 
 /// A site of this number and start, with one window.
-fn open_one<R: Wait>(rt: &R, alloc: Global, site: u16, start: u32) -> Result<(Desk, Window), Fail>
-    ensures { IfOk result (λ opened. (opened.1.site ≡ site) × (opened.1.start ≡ start)) }
+pub fn open_one<R: Wait>(
+    rt: &R,
+    alloc: Global,
+    site: u16,
+    start: u32,
+) -> Result<(Desk, Window), Fail>
+    ensures { IfOk result (λ opened. (opened.1.site ≡ site) × (opened.1.start ≡ start) × (opened.1 ≡ watching opened.0)) }
 {
     let (desk, mut windows) = open_site(rt, site, start, 1, Replica::new(alloc))?;
     let Some(window) = windows.pop() else {
