@@ -1,5 +1,5 @@
 -- What an evaluator keeps is brought up from what begins a journal to all of it.
-use Rattle.std.proofs.Common.{◌≡◌, ◌||◌, ℕ, Bool, true, false, cond, List, [], ◌∷◌, ◌++◌, Contains, Err, None, Ok, Option, Result, Some, filter, length, map, take, drop, refl, sym, ap, ◌∙◌, subst, inl, inr}
+use Rattle.std.proofs.Common.{◌≡◌, ◌⊎◌, ◌||◌, ℕ, Bool, true, false, cond, List, [], ◌∷◌, ◌++◌, Contains, Err, None, Ok, Option, Result, Some, filter, length, map, take, drop, refl, sym, ap, ◌∙◌, subst, inl, inr}
 use Rattle.std.specs.Prelude.{IfOk, IsSome, OnOk, option_and_then, option_map}
 use Rattle.std.specs.Global.{Vec}
 use Rattle.std.specs.Map.{lookup}
@@ -47,7 +47,7 @@ use Rattle.watch_core.proofs.Bringing.{brought_up, either}
 use Rattle.watch_core.proofs.KeptLemmas.{touched_count}
 use Rattle.watch_core.proofs.Exchange.{has_or_not, items_order, one_each_sorted}
 use Rattle.watch_core.proofs.Local.{target_along, turned}
-use Rattle.watch_core.proofs.Spread.{holds_what_waits}
+use Rattle.watch_core.proofs.Spread.{all_held, holds_what_waits}
 use Rattle.watch_core.proofs.Stays.{after_is, rest_untouched}
 
 -- ---- what waits for a change, as lists
@@ -230,14 +230,12 @@ module _ (gate : GateRules) (journal : List Operation) (seen : ℕ) (kept : Judg
       ranked_follow new up = brought_up gate (state_of (take seen journal)) (state_of journal) reached untouched old found new (were gate (state_of (take seen journal)) kept verdicts (rows_of namers) ranks keeps)
           graph.items are has up
 
--- ---- of an outcome two facts give a third
-pub both_if : {T E : Type 0} (r : Result T E) (P Q R : T → Type 0) → ((x : T) → P x → Q x → R x) → IfOk r P → IfOk r Q → IfOk r R
-both_if (Ok value) P Q R gives p q = gives value p q
-both_if (Err error) P Q R gives p q = p
-
-pub ok_done : {T E : Type 0} (r : Result T E) → OnOk r (Unit {0})
-ok_done (Ok value) = tt
-ok_done (Err error) = tt
+-- ---- what holds what waits does so where more is judged again
+pub held_wide : (state : State) (namers : Namers) (later : List Operation) (all wide : Bool) (items wide_items : BTreeSet (ℕ × ℕ)) → wide_items ≡ items → (wide ≡ all) ⊎ (wide ≡ true)
+    → HoldNamers state namers later (is_reached later all items) → HoldNamers state namers later (is_reached later wide wide_items)
+held_wide state namers later all wide items wide_items same (inl as_it_was) holds =
+    subst (λ a. HoldNamers state namers later (is_reached later a wide_items)) (sym as_it_was) (subst (λ l. HoldNamers state namers later (is_reached later all l)) (sym same) holds)
+held_wide state namers later all wide items wide_items same (inr whole) holds = subst (λ a. HoldNamers state namers later (is_reached later a wide_items)) (sym whole) (all_held state namers later wide_items)
 
 -- ---- a graph that holds what is reached has as many touched items as the state
 pub count_again : (gate : GateRules) (state : State) (graph : ItemGraph) (later : List Operation) (all : Bool) (more : BTreeSet (ℕ × ℕ)) → IsGraphOf gate state graph

@@ -7,6 +7,7 @@ pub mod SameItems
 pub mod Spread
 pub mod Placing
 pub mod Exchange
+pub mod Outcomes
 pub mod Putting
 pub mod Renewing
 pub mod Following

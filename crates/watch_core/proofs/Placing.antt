@@ -1,11 +1,10 @@
 -- Lists in order into which an element is put, or from which one is taken, and the place that a binary search finds.
-use Rattle.std.proofs.Common.{◌≡◌, ◌≤◌, ◌<◌, ◌⊎◌, ◌+◌, ℕ, suc, Bool, true, false, List, [], ◌∷◌, ◌++◌, Contains, None, Some, length, map, take, drop, get_or, refl, sym, ap, ◌∙◌, subst, arith, inl, inr}
+use Rattle.std.proofs.Common.{◌≡◌, ◌≤◌, ◌<◌, ◌+◌, ℕ, suc, Bool, true, false, List, [], ◌∷◌, ◌++◌, Contains, Some, length, map, take, drop, get_or, refl, sym, ap, ◌∙◌, subst, arith, inl, inr}
 use Rattle.std.specs.Prelude.{slice_get, option_map}
 use Rattle.std.specs.List.{AllByRecursion, insert, remove}
 use Rattle.std.specs.declared.cmp.Ordering.{Ordering}
 use Rattle.std.specs.declared.cmp.Ordering.TheVariants.{Less, Equal, Greater}
 use Rattle.std.specs.Ordering.{is_lt, ordering_reverse}
-use Rattle.std.specs.Cmp.{IsTotalOrder}
 use Rattle.std.specs.List.Sorted.{IsStrictlySortedBy, IsPartitionedBy, IsPartitionPoint}
 use Rattle.std.proofs.lemmas.Bool.{false≢true}
 use Rattle.std.proofs.lemmas.List.{drop-map, map-append, take-append-drop, take-map, length-take, get_or-take, get_or-drop, length-drop}
@@ -15,8 +14,8 @@ use Rattle.std.proofs.lemmas.Map.Keys.{sorted_tail}
 use Rattle.std.proofs.lemmas.Option.{slice_get-map, slice_get_within, get_or_from_slice_get, slice_get-get_or}
 use Rattle.watch_core.specs.Placed.{IsPlaceFor}
 use Rattle.lattice_core.specs.Keep.{IsExactOrder}
-use Rattle.lattice_core.specs.MemberLaws.{Contains-cons_cases, Contains-first, Contains-later, Contains-none, Contains-to_map, sorted_append}
-use Rattle.lattice_core.specs.PlaceLaws.{Contains-at, at_Contains, at_below, earlier_or_same, not_below_itself, one_item, sorted_at}
+use Rattle.lattice_core.specs.MemberLaws.{Contains-cons_cases, Contains-later, Contains-none, sorted_append}
+use Rattle.lattice_core.specs.PlaceLaws.{at_Contains, at_below, earlier_or_same, not_below_itself, one_item, sorted_at}
 
 -- ---- lists in order, in two parts
 module _ {X : Type 0} (cmp : X → X → Ordering) where

@@ -1,20 +1,20 @@
 -- What becomes of the lists of verdicts where an item is put or taken out.
-use Rattle.std.proofs.Common.{◌≡◌, ◌<◌, ℕ, List, [], ◌∷◌, Contains, Err, Ok, Result, Some, get_or, length, map, set, refl, sym, ap, ◌∙◌, subst, arith, inl, inr}
+use Rattle.std.proofs.Common.{◌≡◌, ◌<◌, ℕ, List, [], ◌∷◌, Contains, Err, Ok, Result, Some, length, map, set, sym, ap, ◌∙◌, subst, arith, inl, inr}
 use Rattle.std.specs.Prelude.{OnOk, option_map, slice_get}
 use Rattle.std.specs.List.{remove}
 use Rattle.std.specs.List.Sorted.{IsStrictlySortedBy}
 use Rattle.std.proofs.lemmas.List.{length-map, map-set, set-get_or}
 use Rattle.std.proofs.lemmas.Option.{get_or_from_slice_get, slice_get-map, slice_get_within}
-use Rattle.lattice_core.specs.MemberLaws.{Contains-none, Contains-to_map}
+use Rattle.lattice_core.specs.MemberLaws.{Contains-none}
 use Rattle.lattice_core.specs.PlaceLaws.{Contains-at, at_below, one_item}
-use Rattle.walk_core.specs.Ranks.{Rank, rank_cmp}
+use Rattle.walk_core.specs.Ranks.{rank_cmp}
 use Rattle.state_core.specs.declared.item.Item.{Item}
 use Rattle.state_core.specs.Items.{item_cmp}
 use Rattle.ready_core.specs.declared.ranked.ItemRank.{ItemRank}
 use Rattle.ready_core.specs.declared.verdicts.Left.{Left}
 use Rattle.ready_core.specs.ItemRanks.{to_rank}
 use Rattle.ready_core.specs.Verdicts.{items_out}
-use Rattle.watch_core.specs.Placed.{AreApart, AreLists, AreReady, HasNew, IsLeftAt, IsOneEach, item_of, node_of}
+use Rattle.watch_core.specs.Placed.{AreApart, AreLists, AreReady, HasNew, IsLeftAt, item_of, node_of}
 use Rattle.watch_core.proofs.Exchange.{HasNew-none, apart_on, by_item_total, by_rank_total, exchanged_remove, exchanged_set, one_each_none, one_each_on, one_each_sorted}
 use Rattle.watch_core.proofs.Placing.{map-remove, sorted_of_map, sorted_taken}
 

@@ -1,5 +1,12 @@
 -- Verdicts into whose lists all that was found of the items that are judged again was put are brought up.
-use Rattle.std.proofs.Common.{◌≡◌, ◌↔◌, ◌⊎◌, Bool, true, false, List, [], Contains, map, refl, sym, ap, ◌∙◌, subst, inl, inr}
+use Rattle.std.proofs.Common.{◌≡◌, ◌↔◌, ◌⊎◌, ◌||◌, ℕ, Bool, true, false, List, [], Contains, map, refl, sym, ap, subst, inl, inr}
+use Rattle.std.specs.Ordering.{nat_cmp}
+use Rattle.std.specs.BTreeSet.{BTreeSet, contains}
+use Rattle.std.specs.List.Sorted.{IsStrictlySortedBy}
+use Rattle.walk_core.specs.Ranks.{rank_cmp}
+use Rattle.state_core.specs.Items.{item_cmp}
+use Rattle.ready_core.specs.Verdicts.{items_out}
+use Rattle.watch_core.specs.Namers.{has_item, is_again}
 use Rattle.lattice_core.specs.MemberLaws.{Contains-of_map, Contains-to_map}
 use Rattle.walk_core.specs.Ranks.{Rank}
 use Rattle.state_core.specs.declared.item.Item.{Item}
@@ -105,3 +112,42 @@ module _ (judged : Item → Bool) (kept_ranks found_ranks mid_ranks new_ranks : 
         rising = are.ranked.rising;
         out_in_order = are.out_in_order;
       }
+
+-- ---- where all items are judged again
+pub again_all : (touched : BTreeSet ℕ) (all : Bool) (items : BTreeSet (ℕ × ℕ)) → all ≡ true → (item : Item) → is_again touched all items item ≡ true
+again_all touched all items is item = subst (λ a. (contains nat_cmp touched item.change || (a || has_item items item)) ≡ true) (sym is) (or_true (contains nat_cmp touched item.change)) where
+  or_true : (b : Bool) → (b || true) ≡ true
+  or_true true = refl
+  or_true false = refl
+
+pub renewed_whole : (judged : Item → Bool) (kept found : RankedVerdicts) (ranks : List (Rank Item)) (out : List Left) → ((item : Item) → judged item ≡ true) → ranks ≡ found.ranks → out ≡ found.out
+    → IsStrictlySortedBy (rank_cmp item_cmp) found.ranks → IsStrictlySortedBy item_cmp (items_out found.out) → IsBroughtUp judged kept found (record { ranks = ranks; out = out })
+renewed_whole judged kept found ranks out all same_ranks same_out rising in_order =
+    let same : found ≡ record { ranks = ranks; out = out } = λ i. record { ranks = sym same_ranks i; out = sym same_out i } in
+    subst (IsBroughtUp judged kept found) same (record {
+      ranks = λ rank. (
+        λ has. by_true (judged rank.node) (Contains found.ranks rank) (Contains kept.ranks rank) (all rank.node) has,
+        λ by. elim (by_flag (judged rank.node) (Contains found.ranks rank) (Contains kept.ranks rank) by) [ inl is ↦ is.1 | inr rest ↦ absurd (not_both (judged rank.node) (all rank.node) rest.0) ],
+      );
+      out = λ left. (
+        λ has. by_true (judged left.item) (Contains found.out left) (Contains kept.out left) (all left.item) has,
+        λ by. elim (by_flag (judged left.item) (Contains found.out left) (Contains kept.out left) by) [ inl is ↦ is.1 | inr rest ↦ absurd (not_both (judged left.item) (all left.item) rest.0) ],
+      );
+      rising = rising;
+      out_in_order = in_order;
+    })
+
+pub lists_whole : (ready : List Item) (ranks : List ItemRank) (out : List Left) (found : RankedVerdicts) → ready ≡ map node_of ranks → map to_rank ranks ≡ found.ranks → out ≡ found.out → StandOnce found
+    → IsStrictlySortedBy (rank_cmp item_cmp) found.ranks → IsStrictlySortedBy item_cmp (items_out found.out) → AreLists ready ranks out
+lists_whole ready ranks out found nodes same_ranks same_out once rising in_order = record {
+  ranked = record {
+    nodes = nodes;
+    rising = subst (IsStrictlySortedBy (rank_cmp item_cmp)) (sym same_ranks) rising;
+    one_each = one_each_rank ranks (subst (IsOneEach (λ (rank : Rank Item). rank.node)) (sym same_ranks) once.ranks);
+  };
+  out_in_order = subst (λ (l : List Left). IsStrictlySortedBy item_cmp (items_out l)) (sym same_out) in_order;
+  apart = record {
+    none = λ rank left has also same.
+        once.apart.none (to_rank rank) left (subst (λ l. Contains l (to_rank rank)) same_ranks (Contains-to_map to_rank ranks rank has)) (subst (λ l. Contains l left) same_out also) same;
+  };
+}

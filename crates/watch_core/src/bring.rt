@@ -1,6 +1,10 @@
 //! Verdicts of which those of some items are found anew.
 
 ghost use Rattle.std.specs.Prelude.{◌≡◌, IfOk, OnOk, [], map};
+ghost use Rattle.std.specs.List.Sorted.{IsStrictlySortedBy};
+ghost use Rattle.walk_core.specs.Ranks.{rank_cmp};
+ghost use Rattle.state_core.specs.Items.{item_cmp};
+ghost use Rattle.ready_core.specs.Verdicts.{items_out};
 ghost use Rattle.ready_core.specs.ItemRanks.{to_rank};
 ghost use Rattle.watch_core.specs.BroughtUp.{IsBroughtUp};
 ghost use Rattle.watch_core.specs.Namers.{is_again};
@@ -9,13 +13,16 @@ ghost use Rattle.watch_core.specs.Placed.{AreLists, FindsAgain, HasNew, IsFoundA
 use super::puts::{put_left, put_ready};
 use super::reach::Reach;
 use lattice_core::NoMemory;
-use ready_core::{ItemRank, Left, Ranked, Verdicts};
+use ready_core::{ItemRank, Left, Ranked, Verdicts, items_of};
 use state_core::Item;
+use std::alloc::Global;
 use std::collections::BTreeSet;
 
 /// Puts what is found of the items that are judged again in the place of what was kept of them. For each it costs a
-/// search and what an insertion and a removal move, and, where it was ready, to look through the ready items.
+/// search and what an insertion and a removal move, and, where it was ready, to look through the ready items. Where all
+/// items are judged again, what was found is taken whole.
 pub fn put_in_place(
+    alloc: Global,
     reach: &Reach,
     touched: &BTreeSet<u32>,
     kept: Verdicts,
@@ -24,6 +31,8 @@ pub fn put_in_place(
 ) -> Result<Verdicts, NoMemory>
     requires lists { AreLists kept.ready ranks.old.items kept.out }
     requires once { StandOnce found }
+    requires rising { IsStrictlySortedBy (rank_cmp item_cmp) found.ranks }
+    requires out_in_order { IsStrictlySortedBy item_cmp (items_out found.out) }
     requires finds { FindsAgain (is_again touched.now reach.now.all reach.now.items)
         (record { ranks = map to_rank ranks.old.items; out = kept.out }) found }
     ensures lists { IfOk result (λ verdicts. AreLists verdicts.ready ranks.new.items verdicts.out) }
@@ -31,6 +40,9 @@ pub fn put_in_place(
         (record { ranks = map to_rank ranks.old.items; out = kept.out }) found
         (record { ranks = map to_rank ranks.new.items; out = verdicts.out })) }
 {
+    if reach.all {
+        return taken_whole(alloc, ranks, found);
+    }
     let (mut ready, mut out) = kept.into_lists();
     let (new_ranks, new_out) = found.into_lists();
     put_all_ready(
@@ -49,6 +61,25 @@ pub fn put_in_place(
         &mut out,
         new_out.as_slice(),
     )?;
+    Ok(Verdicts::new(ready, out))
+}
+
+/// What was found of all items.
+fn taken_whole(
+    alloc: Global,
+    ranks: &mut Vec<ItemRank>,
+    found: Ranked,
+) -> Result<Verdicts, NoMemory>
+    requires once { StandOnce found }
+    requires rising { IsStrictlySortedBy (rank_cmp item_cmp) found.ranks }
+    requires out_in_order { IsStrictlySortedBy item_cmp (items_out found.out) }
+    ensures lists { IfOk result (λ verdicts. AreLists verdicts.ready ranks.new.items verdicts.out) }
+    ensures ranks { OnOk result (map to_rank ranks.new.items ≡ found.ranks) }
+    ensures out { IfOk result (λ verdicts. verdicts.out ≡ found.out) }
+{
+    let (new_ranks, out) = found.into_lists();
+    let ready = items_of(alloc, new_ranks.as_slice())?;
+    *ranks = new_ranks;
     Ok(Verdicts::new(ready, out))
 }
 

@@ -12,7 +12,7 @@ use super::judge::{GateJudge, Judge};
 use super::kept::owns_of;
 use super::namers::{Namers, add_graph};
 use super::reach::reach_of;
-use super::seeds::graph_of;
+use super::seeds::{graph_of, widened};
 use super::touched::touched_changes;
 use gate_rules::Gate;
 use graph_core::Graph;
@@ -171,7 +171,8 @@ impl Evaluator {
         let state = replica.state();
         let later = &replica.as_slice()[self.seen..];
         let touched = touched_changes(alloc, later)?;
-        let reach = reach_of(alloc, state, &self.namers, later)?;
+        let near = reach_of(alloc, state, &self.namers, later)?;
+        let reach = widened(alloc, state, near, &touched)?;
         let graph = graph_of(alloc, &self.gate, state, &reach, &touched)?;
         let owns = owns_of(
             &self.gate,
@@ -184,6 +185,6 @@ impl Evaluator {
         )?;
         let found = ranked_on(alloc, state, &self.gate, &graph, owns.as_slice())?;
         add_graph(&mut self.namers, alloc, &graph)?;
-        put_in_place(&reach, &touched, kept, &mut self.ranks, found)
+        put_in_place(alloc, &reach, &touched, kept, &mut self.ranks, found)
     }
 }

@@ -1,6 +1,6 @@
 //! The items of a state that are judged again, and the part of the state that holds them and what they wait for.
 
-ghost use Rattle.std.specs.Prelude.{◌≡◌, ◌↔◌, IfOk, IsTrue, OnOk, All, true};
+ghost use Rattle.std.specs.Prelude.{◌≡◌, ◌↔◌, ◌⊎◌, IfOk, IsTrue, OnOk, All, true};
 ghost use Rattle.std.specs.Ordering.{nat_cmp};
 ghost use Rattle.std.specs.BTreeSet.{contains};
 ghost use Rattle.state_core.specs.Items.{IsItem};
@@ -16,6 +16,29 @@ use lattice_core::NoMemory;
 use state_core::{Item, State};
 use std::alloc::Global;
 use std::collections::BTreeSet;
+
+/// How many items are put to their places one by one.
+const MOST: usize = 512;
+
+/// A reach, or that of all items where too many would be put to their places one by one.
+pub fn widened(
+    alloc: Global,
+    state: &State,
+    reach: Reach,
+    touched: &BTreeSet<u32>,
+) -> Result<Reach, NoMemory>
+    ensures items { IfOk result (λ wide. wide.items ≡ reach.items) }
+    ensures all { IfOk result (λ wide. wide.all ≡ reach.all ⊎ wide.all ≡ true) }
+{
+    let seeds = seeds_of(alloc, state, &reach, touched)?;
+    if seeds.len() > MOST {
+        return Ok(Reach {
+            all: true,
+            items: reach.items,
+        });
+    }
+    Ok(reach)
+}
 
 /// The graph of a part of a state's items that holds those that are judged again.
 pub fn graph_of(

@@ -1,4 +1,4 @@
-use Rattle.std.proofs.Common.{◌≡◌, ◌∙◌, ◌+◌, ◌<◌, [], arith, length, sym, take}
+use Rattle.std.proofs.Common.{◌∙◌, ◌+◌, ◌<◌, [], arith, length, sym, take}
 use Rattle.watch_core.specs.Namers.{is_again}
 use Rattle.watch_core.specs.Placed.{IsFoundAgain, item_of, node_of}
 use Rattle.watch_core.proofs.Exchange.{HasNew-same, found_more, none_more, passed}

@@ -1,4 +1,4 @@
-use Rattle.std.proofs.Common.{◌≡◌, ◌∙◌, [], List, ap, map, subst, sym}
+use Rattle.std.proofs.Common.{◌≡◌, ◌∙◌, List, ap, map, subst, sym}
 use Rattle.ready_core.specs.declared.verdicts.Left.{Left}
 use Rattle.ready_core.specs.ItemRanks.{to_rank}
 use Rattle.ready_core.specs.RankedVerdicts.{RankedVerdicts}
@@ -6,13 +6,24 @@ use Rattle.ready_core.specs.Verdicts.{Judged}
 use Rattle.watch_core.specs.BroughtUp.{IsBroughtUp}
 use Rattle.watch_core.specs.Namers.{is_again}
 use Rattle.watch_core.specs.Placed.{FindsAgain, IsOneEach, node_of}
-use Rattle.watch_core.proofs.Renewing.{one_each_rank, renewed}
+use Rattle.watch_core.proofs.Outcomes.{both_if}
+use Rattle.watch_core.proofs.Renewing.{again_all, one_each_rank, renewed, renewed_whole}
 use Rattle.watch_core.proofs.bring.put_in_place.Goals as goal
 
 pub put_all_ready-requires-clause-one_each : goal.put_all_ready-requires-clause-one_each
 put_all_ready-requires-clause-one_each c =
     subst (IsOneEach node_of) (sym c.as_slice.ensures.value)
     (one_each_rank _ (subst (IsOneEach (λ rank. rank.node)) (sym c.into_lists-new_ranks.ensures.ranks) c.requires.once.ranks))
+
+pub returns-then-reach-clause-up : goal.returns-then-reach-clause-up
+returns-then-reach-clause-up c =
+    let again = is_again c.args.touched.now c.args.reach.now.all c.args.reach.now.items in
+    let kept : RankedVerdicts = record { ranks = map to_rank c.args.ranks.now.items; out = c.args.kept.out } in
+    let new_ranks = map to_rank c.taken_whole.new.ranks.items in
+    both_if c.taken_whole.result (λ verdicts. new_ranks ≡ c.args.found.ranks) (λ verdicts. verdicts.out ≡ c.args.found.out) (λ verdicts. IsBroughtUp again kept c.args.found (record { ranks = new_ranks; out = verdicts.out }))
+    (λ verdicts same_ranks same_out.
+    renewed_whole again kept c.args.found new_ranks verdicts.out (again_all c.args.touched.now c.args.reach.now.all c.args.reach.now.items c.if-reach.true) same_ranks same_out c.requires.rising c.requires.out_in_order)
+    c.taken_whole.ensures.ranks c.taken_whole.ensures.out
 
 pub returns-clause-up : goal.returns-clause-up
 returns-clause-up c =

@@ -1,10 +1,7 @@
-use Rattle.std.proofs.Common.{◌≡◌, ◌∙◌, ap, subst, sym}
+use Rattle.std.proofs.Common.{◌∙◌, ap, sym}
 use Rattle.std.proofs.lemmas.Option.{get_or_from_slice_get}
-use Rattle.gate_rules.specs.declared.condition.Condition.{Condition}
 use Rattle.ready_core.specs.declared.verdicts.Left.{Left}
-use Rattle.ready_core.specs.declared.verdicts.Refusal.TheVariants.{Own}
 use Rattle.watch_core.specs.Placed.{item_of}
-use Rattle.watch_core.specs.KeptOwns.{IsOutWith}
 use Rattle.lattice_core.specs.PlaceLaws.{Contains-at}
 use Rattle.watch_core.proofs.Exchange.{one_each_sorted}
 use Rattle.watch_core.proofs.kept.kept_own.Goals as goal

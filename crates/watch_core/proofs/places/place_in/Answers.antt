@@ -1,4 +1,4 @@
-use Rattle.std.proofs.Common.{Contains, take, get_or, not, ap, subst, sym, arith, inl, inr, ◌∙◌, ◌≡◌}
+use Rattle.std.proofs.Common.{Contains, take, get_or, not, ap, subst, sym, arith, inl, inr, ◌∙◌}
 use Rattle.std.proofs.lemmas.List.{take_all, take_more}
 use Rattle.std.proofs.lemmas.List.Elements.{Contains-push_cases}
 use Rattle.state_core.specs.declared.item.Item.{Item}

@@ -1,10 +1,8 @@
-use Rattle.std.proofs.Common.{◌≡◌, Contains, Some, ap, ◌∙◌, sym, rules, length, refl}
+use Rattle.std.proofs.Common.{ap, ◌∙◌, rules, length, refl}
 use Rattle.std.proofs.lemmas.List.Sorted.{IsPartitionPoint-from_clause}
 use Rattle.std.proofs.lemmas.Option.{slice_get_past, slice_get_read}
-use Rattle.lattice_core.specs.Keep.{IsExactOrder}
 use Rattle.lattice_core.specs.PlaceLaws.{one_item}
 use Rattle.state_core.specs.Items.{item_cmp}
-use Rattle.state_core.specs.ItemLaws.{items_exact, items_total}
 use Rattle.ready_core.specs.declared.verdicts.Left.{Left}
 use Rattle.watch_core.specs.Placed.{item_of}
 use Rattle.watch_core.proofs.Placing.{at_point, comes_before, partitioned}

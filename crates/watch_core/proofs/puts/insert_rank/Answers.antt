@@ -5,7 +5,7 @@ use Rattle.state_core.specs.declared.item.Item.{Item}
 use Rattle.state_core.specs.Items.{item_cmp}
 use Rattle.ready_core.specs.declared.ranked.ItemRank.{ItemRank}
 use Rattle.ready_core.specs.ItemRanks.{to_rank}
-use Rattle.watch_core.specs.Placed.{HasNew, IsPlaceFor, node_of}
+use Rattle.watch_core.specs.Placed.{IsPlaceFor, node_of}
 use Rattle.watch_core.proofs.Placing.{map-insert, sorted_put}
 use Rattle.watch_core.proofs.Exchange.{exchanged_insert, one_each_alone, one_each_on}
 use Rattle.watch_core.proofs.puts.insert_rank.Goals as goal

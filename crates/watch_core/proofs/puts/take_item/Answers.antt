@@ -1,4 +1,4 @@
-use Rattle.std.proofs.Common.{◌≡◌, [], Contains, List, arith, subst, sym}
+use Rattle.std.proofs.Common.{[], Contains, List, arith, subst, sym}
 use Rattle.ready_core.specs.declared.verdicts.Left.{Left}
 use Rattle.watch_core.specs.Placed.{IsLeftAt, item_of, node_of}
 use Rattle.watch_core.proofs.Putting.{HasNew-absent, apart_first, left_taken, left_within, lists_ranked, lists_taken, rank_absent}

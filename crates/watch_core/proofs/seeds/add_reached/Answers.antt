@@ -1,10 +1,10 @@
-use Rattle.std.proofs.Common.{◌≡◌, ℕ, true, Contains, ap, inl, inr, rules, subst, sym}
+use Rattle.std.proofs.Common.{◌≡◌, true, Contains, ap, inl, inr, rules, subst, sym}
 use Rattle.std.proofs.lemmas.Map.Lookups.{exact_pairs, exact_unsigned}
 use Rattle.std.proofs.lemmas.Map.Views.{btree_set_contains_iff}
 use Rattle.std.specs.Ordering.{nat_cmp}
 use Rattle.lattice_core.specs.MemberLaws.{Contains-cons_cases}
 use Rattle.state_core.specs.declared.item.Item.{Item}
-use Rattle.watch_core.specs.Namers.{has_item, pair_cmp}
+use Rattle.watch_core.specs.Namers.{has_item}
 use Rattle.watch_core.proofs.Seeding.{adds_next, adds_none, item_at, pairs_total}
 use Rattle.watch_core.proofs.seeds.add_reached.Goals as goal
 

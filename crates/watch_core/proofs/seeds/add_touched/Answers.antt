@@ -1,4 +1,4 @@
-use Rattle.std.proofs.Common.{◌≡◌, ◌∷◌, true, Contains, inl, inr, rules, subst, sym}
+use Rattle.std.proofs.Common.{◌≡◌, true, Contains, inl, inr, rules, subst, sym}
 use Rattle.std.specs.Ordering.{nat_cmp}
 use Rattle.std.specs.BTreeSet.{contains}
 use Rattle.std.proofs.lemmas.Map.Views.{btree_set_contains_iff}

@@ -1,7 +1,5 @@
-use Rattle.std.proofs.Common.{◌≡◌, Some, ◌∙◌, ap, subst, sym}
+use Rattle.std.proofs.Common.{◌∙◌, ap, sym}
 use Rattle.std.specs.Option.{option_copied}
-use Rattle.change_core.specs.Change.{Change}
-use Rattle.change_core.specs.Views.{IsKnownSet}
 use Rattle.watch_core.proofs.Seeding.{is_there}
 use Rattle.watch_core.proofs.seeds.is_item.Goals as goal
 

@@ -16,7 +16,8 @@ use Rattle.watch_core.specs.Namers.{HoldNamers, is_again, is_reached, rows_of}
 use Rattle.watch_core.specs.Placed.{AreLists, FindsAgain}
 use Rattle.watch_core.specs.Touched.{touches}
 use Rattle.watch_core.specs.Watching.{AreKept, AreOfSeen, Watching}
-use Rattle.watch_core.proofs.Following.{again_reached, both_if, ok_done, count_again, finds, found_once, kept_on, lists_kept, namers_follow, ranked_follow}
+use Rattle.watch_core.proofs.Following.{again_reached, count_again, finds, found_once, held_wide, kept_on, lists_kept, namers_follow, ranked_follow}
+use Rattle.watch_core.proofs.Outcomes.{both_if, ok_done}
 use Rattle.watch_core.proofs.evaluator.Evaluator.brought_up.Goals as goal
 
 pub returns-in_err-owns-clause-at_most : goal.returns-in_err-owns-clause-at_most
@@ -111,6 +112,12 @@ returns-clause-at_most g c = λ count counts.
     ap (λ l. length (filter (is_of_touched later) l)) c.items.ensures ∙ count_again gate state graph later all more is has count touched_too in
     subst (λ n. g.J.Judge.asked c.owns_of.new.judge ≤ counted (g.J.Judge.asked c.args.judge.now) n) size c.owns_of.ensures.at_most
 
+pub owns_of-requires-clause-touched : goal.owns_of-requires-clause-touched
+owns_of-requires-clause-touched g c =
+    let seen = c.self.inside.seen in
+    let rest = take_rest c.as_slice.result.now seen ∙ ap (drop seen) c.as_slice.ensures.arrivals in
+    subst (λ (l : List Operation). (number : ℕ) → contains nat_cmp c.in_ok-touched.touched number ≡ touches l number) rest c.in_ok-touched.ensures
+
 pub put_in_place-requires-clause-lists : goal.put_in_place-requires-clause-lists
 put_in_place-requires-clause-lists g c =
     let journal = c.args.replica.now in
@@ -144,8 +151,10 @@ put_in_place-requires-clause-finds g c =
     let ranks = map to_rank c.self.inside.ranks.items in
     let namers = c.self.inside.namers in
     let were = subst (λ (w : Watching). AreOfSeen w journal kept) (sym c.self.view_is) c.requires.kept in
-    let holds = subst (λ s. HoldNamers s namers later (is_reached later all more)) c.state-state.ensures
-    (subst (λ (l : List Operation). HoldNamers c.state-state.result.now namers l (is_reached l all more)) rest c.in_ok-reach.ensures) in
+    let near = c.in_ok-near.near in
+    let nearly = subst (λ s. HoldNamers s namers later (is_reached later near.all near.items)) c.state-state.ensures
+    (subst (λ (l : List Operation). HoldNamers c.state-state.result.now namers l (is_reached l near.all near.items)) rest c.in_ok-near.ensures) in
+    let holds = held_wide state namers later near.all all near.items more c.in_ok-reach.ensures.items c.in_ok-reach.ensures.all nearly in
     let found = c.in_ok-found.found in
     let are = subst (λ s. AreRankedVerdictsOn gate s graph.items found) c.state-state.ensures c.in_ok-found.ensures.verdicts in
     subst (λ f. FindsAgain f (record { ranks = ranks; out = kept.out }) found) (sym again) (finds gate journal seen kept ranks namers were.verdicts were.kept all more holds graph is has found are)
@@ -171,8 +180,10 @@ returns-clause-verdicts g c =
     let ranks = map to_rank c.self.inside.ranks.items in
     let namers = c.self.inside.namers in
     let were = subst (λ (w : Watching). AreOfSeen w journal kept) (sym c.self.view_is) c.requires.kept in
-    let holds = subst (λ s. HoldNamers s namers later (is_reached later all more)) c.state-state.ensures
-    (subst (λ (l : List Operation). HoldNamers c.state-state.result.now namers l (is_reached l all more)) rest c.in_ok-reach.ensures) in
+    let near = c.in_ok-near.near in
+    let nearly = subst (λ s. HoldNamers s namers later (is_reached later near.all near.items)) c.state-state.ensures
+    (subst (λ (l : List Operation). HoldNamers c.state-state.result.now namers l (is_reached l near.all near.items)) rest c.in_ok-near.ensures) in
+    let holds = held_wide state namers later near.all all near.items more c.in_ok-reach.ensures.items c.in_ok-reach.ensures.all nearly in
     let found = c.in_ok-found.found in
     let are = subst (λ s. AreRankedVerdictsOn gate s graph.items found) c.state-state.ensures c.in_ok-found.ensures.verdicts in
     let new_ranks = c.put_in_place.new.ranks.items in
@@ -207,8 +218,10 @@ returns-clause-kept g c =
     let ranks = map to_rank c.self.inside.ranks.items in
     let namers = c.self.inside.namers in
     let were = subst (λ (w : Watching). AreOfSeen w journal kept) (sym c.self.view_is) c.requires.kept in
-    let holds = subst (λ s. HoldNamers s namers later (is_reached later all more)) c.state-state.ensures
-    (subst (λ (l : List Operation). HoldNamers c.state-state.result.now namers l (is_reached l all more)) rest c.in_ok-reach.ensures) in
+    let near = c.in_ok-near.near in
+    let nearly = subst (λ s. HoldNamers s namers later (is_reached later near.all near.items)) c.state-state.ensures
+    (subst (λ (l : List Operation). HoldNamers c.state-state.result.now namers l (is_reached l near.all near.items)) rest c.in_ok-near.ensures) in
+    let holds = held_wide state namers later near.all all near.items more c.in_ok-reach.ensures.items c.in_ok-reach.ensures.all nearly in
     let found = c.in_ok-found.found in
     let are = subst (λ s. AreRankedVerdictsOn gate s graph.items found) c.state-state.ensures c.in_ok-found.ensures.verdicts in
     let new_ranks = c.put_in_place.new.ranks.items in

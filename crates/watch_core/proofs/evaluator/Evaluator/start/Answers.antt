@@ -1,10 +1,9 @@
-use Rattle.std.proofs.Common.{◌≡◌, ◌∙◌, ap, length, map, refl, subst, sym, arith}
+use Rattle.std.proofs.Common.{◌≡◌, ◌∙◌, ap, map, refl, subst, sym}
 use Rattle.std.specs.List.Sorted.{IsStrictlySortedBy}
 use Rattle.walk_core.specs.Ranks.{rank_cmp}
 use Rattle.state_core.specs.State.{state_of}
 use Rattle.state_core.specs.Items.{item_cmp}
 use Rattle.graph_core.specs.ItemGraph.{AreItems, IsGraphOf}
-use Rattle.ready_core.specs.ItemRanks.{to_rank}
 use Rattle.ready_core.specs.RankedVerdicts.{AreRankedVerdictsOn}
 use Rattle.ready_core.specs.Verdicts.{Judged}
 use Rattle.watch_core.specs.Placed.{node_of}
