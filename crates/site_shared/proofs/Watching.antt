@@ -1,5 +1,5 @@
 -- What a watch knows of the journal as publishes come.
-use Rattle.std.proofs.Common.{◌≡◌, List, Option, None, Some, IfSome, ◌++◌, refl, sym, subst}
+use Rattle.std.proofs.Common.{◌≡◌, List, Option, None, Some, IfSome, refl, sym, subst}
 use mathlib.Core.List.{IsPrefix}
 use Rattle.review_ops.specs.Operation.{Operation}
 use Rattle.ready_core.specs.Verdicts.{Judged}

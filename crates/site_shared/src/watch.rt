@@ -1,6 +1,6 @@
 //! Verdicts that follow what a window sees.
 
-ghost use Rattle.std.specs.Prelude.{◌≡◌, IfSome, IsOk, IsSome, OnErr, OnOk};
+ghost use Rattle.std.specs.Prelude.{◌≡◌, IfSome, OnErr, OnOk};
 ghost use Rattle.std.specs.Option.{option_copied};
 ghost use mathlib.Core.List.{IsPrefix};
 ghost use Rattle.ready_core.specs.Verdicts.{AreVerdicts};
