@@ -1,13 +1,13 @@
 -- What a running site replies to a session: each look is at one moment, at a prefix of the site's publishes that goes on from all that the session has
 -- seen and learnt before.
-use Rattle.std.specs.Prelude.{◌≡◌, ℕ, List, length, nat_lt, take}
+use Rattle.std.specs.Prelude.{◌≡◌, List, length, nat_lt, take}
 use Rattle.gate_rules.specs.Rules.{GateRules}
 use Rattle.ready_core.specs.Verdicts.{AreVerdicts}
 use Rattle.replica_core.specs.Front.{IsFront}
 use Rattle.replica_core.specs.Missing.{IsMissing}
 use Rattle.review_ops.specs.Operation.{Operation}
 use Rattle.site_port.specs.Ports.{Call, Reply, IsLookingFault, takes_in, lacks, reports, looks, stamped, lacked, judged, looked, refused}
-use Rattle.site_port.specs.Sinks.{Offer, Uptake, fronts, hands, reached, took, declined}
+use Rattle.site_port.specs.Sinks.{Offer, Uptake, fronts, reached}
 use Rattle.site_shared.specs.Accounts.{GoesOn, Outlook}
 use Rattle.site_shared.specs.Publishes.{arrive}
 use Rattle.state_core.specs.State.{state_of}
