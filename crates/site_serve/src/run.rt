@@ -267,10 +267,10 @@ where
             requires { IsSync R.row × IsSend J.row × IsSync J.row × IsSend W.row × IsSend E.row × IsSync T.row }
         {
             let reports = scope.spawn(move || print_all(rt, alloc, common, news, reports, output));
-            let pulling = scope.spawn(move || pull(rt, alloc, common, stop, peers, puller));
-            let mut is_refused = reports.is_err() || pulling.is_err();
-            // A thread that was refused leaves its place here, and the desk goes on until no place is left.
-            drop(pulling);
+            // What a refused thread was to have goes at once: the desk works on until no place is left.
+            let mut is_refused = scope
+                .spawn(move || pull(rt, alloc, common, stop, peers, puller))
+                .is_err();
             for place in workers {
                 let worker = scope.spawn(move || answer(rt, common, stop, turn, place));
                 is_refused |= worker.is_err();
