@@ -1,4 +1,5 @@
 pub mod Numbers
+pub mod Trees
 pub mod Lists
 pub mod Remembered
 pub mod Agreeing

@@ -1,5 +1,6 @@
 -- The whole numbers that texts write, as std's `parse` reads them.
-use Rattle.std.proofs.Common.{◌≡◌, ℕ, ℤ, Bool, true, false, ◌&&◌, List, length, Some, None, Result, Ok, Err, is_some, refl, sym, ap, rules}
+use Rattle.std.proofs.Common.{◌≡◌, ℕ, ℤ, Bool, true, false, ◌&&◌, List, length, Some, None, Result, Ok, Err, is_some}
+use Rattle.std.proofs.Common.{refl, sym, ap, rules}
 use Rattle.std.proofs.lemmas.Bool.{and_from, and_parts, false≢true, ltb-true, lt-ltb}
 use Rattle.std.proofs.lemmas.Float.{T_from_true}
 use Rattle.std.proofs.lemmas.Str.Parse.{IsNumeralModel, numerals_by_value, tells_all_ascii_digits}

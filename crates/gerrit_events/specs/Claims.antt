@@ -1,6 +1,7 @@
 -- What a line claims: the bodies that it spells, in order, and what is lost of it. Events: Gerrit's "stream-events";
 -- approvals, accounts and dependencies: "JSON Data"; lines of a query: "query". The order is the project's own.
-use Rattle.std.specs.Prelude.{ℕ, ◌-◌, ◌==◌, ℤ, pos, negsuc, Bool, false, List, [], ◌∷◌, ◌++◌, length, map, flat_map, take, slice_get, replicate, if◌then◌else◌, Option, Some, None, codes}
+use Rattle.std.specs.Prelude.{ℕ, ◌-◌, ◌==◌, ℤ, pos, negsuc, Bool, false, List, [], ◌∷◌, ◌++◌, length, map, flat_map}
+use Rattle.std.specs.Prelude.{take, slice_get, replicate, if◌then◌else◌, Option, Some, None, codes}
 use Rattle.std.specs.Str.{bytes_eq}
 use Rattle.serde_json.specs.Data.{Data}
 use Rattle.serde_json.specs.Find.{get}
@@ -8,9 +9,12 @@ use Rattle.review_ops.specs.Deed.{Deed, patch_set, vote, withdraw, abandon, rest
 use Rattle.gerrit_events.specs.declared.fault.EventFault.{EventFault}
 use Rattle.gerrit_events.specs.declared.fault.EventFault.TheVariants.{BadEvent, Dropped}
 use Rattle.gerrit_events.specs.declared.fault.EventKey.{EventKey}
-use Rattle.gerrit_events.specs.declared.fault.EventKey.TheVariants.{TypeName, CommitMessage, Parents, Value, PatchSets, DependsOn, Status}
+use Rattle.gerrit_events.specs.declared.fault.EventKey.TheVariants.{TypeName, CommitMessage, Parents, Value, PatchSets}
+use Rattle.gerrit_events.specs.declared.fault.EventKey.TheVariants.{DependsOn, Status}
 use Rattle.gerrit_events.specs.declared.kind.Kind.{Kind}
-use Rattle.gerrit_events.specs.declared.kind.Kind.TheVariants.{PatchSetCreated, ChangeAbandoned, ChangeRestored, ChangeMerged, ChangeDeleted, DroppedOutput, QueryLine, QueryStats, OtherEvent}
+use Rattle.gerrit_events.specs.declared.kind.Kind.TheVariants.{PatchSetCreated, ChangeAbandoned, ChangeRestored}
+use Rattle.gerrit_events.specs.declared.kind.Kind.TheVariants.{ChangeMerged, ChangeDeleted, DroppedOutput, QueryLine}
+use Rattle.gerrit_events.specs.declared.kind.Kind.TheVariants.{QueryStats, OtherEvent}
 use Rattle.gerrit_events.specs.Kinds.{account_part, account_key, approvals_part, change_key, set_key}
 use Rattle.gerrit_events.specs.Patches.{Patch, change_in, set_in, brought_by, parents_part, parents_in}
 use Rattle.gerrit_events.specs.Revisions.{Revision}

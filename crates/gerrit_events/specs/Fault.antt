@@ -6,7 +6,10 @@ use Rattle.review_ops.specs.declared.fault.BodyFault.TheVariants as body
 use Rattle.gerrit_events.specs.declared.fault.EventFault.{EventFault}
 use Rattle.gerrit_events.specs.declared.fault.EventFault.TheVariants.{BadEvent, Dropped}
 use Rattle.gerrit_events.specs.declared.fault.EventKey.{EventKey}
-use Rattle.gerrit_events.specs.declared.fault.EventKey.TheVariants.{Line, TypeName, Change, PatchSet, CommitMessage, Parents, Author, Reviewer, By, Username, Value, Number, CurrentPatchSet, PatchSets, DependsOn, Status}
+use Rattle.gerrit_events.specs.declared.fault.EventKey.TheVariants.{Line, TypeName, Change, PatchSet, CommitMessage}
+use Rattle.gerrit_events.specs.declared.fault.EventKey.TheVariants.{Parents, Author, Reviewer, By, Username, Value}
+use Rattle.gerrit_events.specs.declared.fault.EventKey.TheVariants.{Number, CurrentPatchSet, PatchSets, DependsOn}
+use Rattle.gerrit_events.specs.declared.fault.EventKey.TheVariants.{Status}
 
 abbrev pub number_of : EventFault → ℕ
 number_of (BadEvent key) = 1

@@ -4,9 +4,13 @@ use Rattle.std.specs.Str.{bytes_eq}
 use Rattle.serde_json.specs.Data.{Data}
 use Rattle.serde_json.specs.Find.{get, as_str}
 use Rattle.gerrit_events.specs.declared.fault.EventKey.{EventKey}
-use Rattle.gerrit_events.specs.declared.fault.EventKey.TheVariants.{Change, PatchSet, Author, Reviewer, By, Number, CurrentPatchSet}
+use Rattle.gerrit_events.specs.declared.fault.EventKey.TheVariants.{Change, PatchSet, Author, Reviewer, By, Number}
+use Rattle.gerrit_events.specs.declared.fault.EventKey.TheVariants.{CurrentPatchSet}
 use Rattle.gerrit_events.specs.declared.kind.Kind.{Kind}
-use Rattle.gerrit_events.specs.declared.kind.Kind.TheVariants.{PatchSetCreated, CommentAdded, VoteDeleted, ReviewerDeleted, ChangeAbandoned, ChangeRestored, ChangeMerged, ChangeDeleted, DroppedOutput, QueryLine, QueryStats, OtherEvent}
+use Rattle.gerrit_events.specs.declared.kind.Kind.TheVariants.{PatchSetCreated, CommentAdded, VoteDeleted}
+use Rattle.gerrit_events.specs.declared.kind.Kind.TheVariants.{ReviewerDeleted, ChangeAbandoned, ChangeRestored}
+use Rattle.gerrit_events.specs.declared.kind.Kind.TheVariants.{ChangeMerged, ChangeDeleted, DroppedOutput, QueryLine}
+use Rattle.gerrit_events.specs.declared.kind.Kind.TheVariants.{QueryStats, OtherEvent}
 
 -- the kind that the `type` of a line names
 abbrev pub kind_named : List ℕ → Kind
@@ -30,7 +34,7 @@ kind_by (Some d) = option_map kind_named (as_str d)
 abbrev pub kind_of : Data → Option Kind
 kind_of line = kind_by (get (codes "type") line)
 
--- ---- where the attributes stand: a line of a query is itself a change attribute
+-- ---- where the attributes are: a line of a query is itself a change attribute
 
 -- the change attribute
 abbrev pub change_part : Kind → Data → Option Data

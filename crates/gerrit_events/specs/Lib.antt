@@ -1,4 +1,5 @@
 pub mod Fault
+pub mod Trees
 pub mod Values
 pub mod Kinds
 pub mod Revisions

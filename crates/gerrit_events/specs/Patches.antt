@@ -1,5 +1,6 @@
 -- Which patch set a line brings, and its Git parent.
-use Rattle.std.specs.Prelude.{ℕ, ◌==◌, ◌&&◌, List, filter_map, Bool, false, if◌then◌else◌, Option, Some, None, option_and_then, option_map, codes}
+use Rattle.std.specs.Prelude.{ℕ, ◌==◌, ◌&&◌, List, filter_map, Bool, false, if◌then◌else◌, Option, Some, None}
+use Rattle.std.specs.Prelude.{option_and_then, option_map, codes}
 use Rattle.serde_json.specs.Data.{Data}
 use Rattle.serde_json.specs.Find.{get, as_str}
 use Rattle.gerrit_events.specs.declared.kind.Kind.{Kind}

@@ -1,39 +1,68 @@
 //! What a line of a known kind claims.
 
-ghost use Rattle.std.specs.Prelude.{◌≡◌, ◌++◌, ◌∷◌, [], IfOk, OnOk, map, option_map, replicate, string_bytes};
-ghost use Rattle.serde_json.specs.View.{view};
+ghost use Rattle.std.specs.Prelude.{◌≡◌, ◌++◌, ◌∷◌, [], IfOk, OnOk, option_map, replicate, string_bytes};
 ghost use Rattle.review_ops.specs.Deed.{withdraw};
-ghost use Rattle.gerrit_events.specs.Claims.{drafts, bad, change_claims, claims_by, first_claims, lost_parents, older_claims, patch_claims, parents_key, query_claims, set_claims, status_claims, vote_claim, vote_claims, vote_of, value_under, with_set};
-ghost use Rattle.gerrit_events.specs.Kinds.{account_part, approvals_part, change_part, set_part};
-ghost use Rattle.gerrit_events.specs.Patches.{brought_by, change_in, message_in, parent_in, parents_in, parents_part, patch_in, revision_in, set_in, unless_brought, was_brought};
+ghost use Rattle.gerrit_events.specs.Claims.{drafts, bad, change_claims, claims_by, first_claims, lost_parents};
+ghost use Rattle.gerrit_events.specs.Claims.{older_claims, patch_claims, query_claims, set_claims, status_claims};
+ghost use Rattle.gerrit_events.specs.Claims.{vote_claim, vote_claims, vote_of, value_under, with_set};
+ghost use Rattle.gerrit_events.specs.Patches.{brought_by, change_in, parent_in, parents_in, set_in};
 ghost use Rattle.gerrit_events.specs.PatchShown.{patch_shown};
+ghost use Rattle.gerrit_events.specs.Trees.{data_in};
 
 use super::claim::Claim;
 use super::fault::{EventFault, EventKey};
 use super::kind::Kind;
-use super::known::Known;
+use super::known::Revisions;
+use super::line::Line;
 use super::patch::Patch;
+use super::tree::{member, text};
 use super::value::{listed, number_in, text_in, under, user_in, value_in};
+use json::Value;
 use lattice_core::NoMemory;
 use review_ops::Draft;
-use serde_json::Value;
 use std::alloc::Global;
 
-/// A line of a known kind, beside what is known.
+/// A line of a known kind, beside what is known, with its two numbers and the patch set that it brings.
 #[derive(Clone, Copy)]
-pub struct Event<'k, 'a> {
-    pub alloc: Global,
-    pub known: &'k Known,
-    pub kind: Kind,
-    pub line: &'a Value,
+pub struct Event<'k, 'v, 'a> {
+    alloc: Global,
+    known: &'k Revisions,
+    line: Line<'v, 'a>,
+    change: Option<u32>,
+    set: Option<u32>,
+    brought: Option<Patch<'a>>,
+    ghost change_is: { change ≡ change_in line.kind (data_in line.value.now) },
+    ghost set_is: { set ≡ set_in line.kind (data_in line.value.now) },
+    ghost brought_is: { option_map patch_shown brought ≡ brought_by known.now line.kind (data_in line.value.now) },
 }
 
-impl<'k, 'a> Event<'k, 'a> {
+impl<'k, 'v, 'a> Event<'k, 'v, 'a> {
+    /// Each attribute is looked up once.
+    pub fn new(alloc: Global, known: &'k Revisions, line: Line<'v, 'a>) -> Event<'k, 'v, 'a>
+        ensures known { result.known.now ≡ known.entry.now }
+        ensures line { result.line ≡ line.entry }
+    {
+        let change_found = line.change_part();
+        let set_found = line.set_part();
+        let change = number_in(under("number", change_found));
+        let set = number_in(under("number", set_found));
+        let patch = line.patch(change, set, change_found, set_found);
+        let brought = line.brought(known, patch);
+        Event {
+            alloc,
+            known,
+            line,
+            change,
+            set,
+            brought,
+        }
+    }
+
     /// What the line claims, in order. It costs the length of the line, and for each parent the logarithm of what is
     /// known.
     pub fn claims(&self) -> Result<Vec<Claim>, NoMemory>
         ensures { IfOk result (λ claims. claims.items
-            ≡ claims_by self.now.known.now self.now.kind (view self.now.line.now)) }
+            ≡ claims_by self.now.known.now self.now.line.kind (data_in self.now.line.value.now)) }
     {
         let mut claims = Vec::new(self.alloc);
         self.add_claims(&mut claims)?;
@@ -42,141 +71,20 @@ impl<'k, 'a> Event<'k, 'a> {
 
     /// The patch set that the line brings.
     pub fn brought(&self) -> Option<Patch<'a>>
-        ensures { option_map patch_shown result ≡ brought_by self.now.known.now self.now.kind (view self.now.line.now) }
+        ensures { option_map patch_shown result
+            ≡ brought_by self.now.known.now self.now.line.kind (data_in self.now.line.value.now) }
     {
-        match self.kind {
-            Kind::PatchSetCreated | Kind::QueryLine => self.patch(),
-            Kind::DroppedOutput | Kind::QueryStats => None,
-            _ => self.unless_brought(self.patch()?),
-        }
-    }
-
-    /// The patch set, unless this run has brought it.
-    fn unless_brought(&self, patch: Patch<'a>) -> Option<Patch<'a>>
-        ensures { option_map patch_shown result ≡ unless_brought self.now.known.now (patch_shown patch.entry) }
-    {
-        if self.was_brought(&patch) {
-            None
-        } else {
-            Some(patch)
-        }
-    }
-
-    /// Whether this run has brought the patch set.
-    fn was_brought(&self, patch: &Patch<'a>) -> bool
-        ensures { result ≡ was_brought self.now.known.now (patch_shown patch.now) }
-    {
-        let Some(revision) = patch.revision else {
-            return false;
-        };
-        match self.known.place_of(revision) {
-            None => false,
-            Some((change, set)) => change == patch.change && set == patch.set,
-        }
-    }
-}
-
-impl<'k, 'a> Event<'k, 'a> {
-    /// The change attribute.
-    fn change_part(&self) -> Option<&'a Value>
-        ensures { option_map (λ value. view value.now) result ≡ change_part self.now.kind (view self.now.line.now) }
-    {
-        match self.kind {
-            Kind::QueryLine => Some(self.line),
-            _ => self.line.get("change"),
-        }
-    }
-
-    /// The patch set attribute.
-    fn set_part(&self) -> Option<&'a Value>
-        ensures { option_map (λ value. view value.now) result ≡ set_part self.now.kind (view self.now.line.now) }
-    {
-        match self.kind {
-            Kind::QueryLine => self.line.get("currentPatchSet"),
-            _ => self.line.get("patchSet"),
-        }
-    }
-
-    /// The account attribute of one who voted.
-    fn account_part(&self, approval: &'a Value) -> Option<&'a Value>
-        ensures { option_map (λ value. view value.now) result
-            ≡ account_part self.now.kind (view self.now.line.now) (view approval.entry.now) }
-    {
-        match self.kind {
-            Kind::QueryLine => approval.get("by"),
-            Kind::CommentAdded => self.line.get("author"),
-            _ => self.line.get("reviewer"),
-        }
-    }
-
-    /// The attribute with the approvals of the patch set.
-    fn approvals_part(&self) -> Option<&'a Value>
-        ensures { option_map (λ value. view value.now) result ≡ approvals_part self.now.kind (view self.now.line.now) }
-    {
-        match self.kind {
-            Kind::QueryLine => self.line.get("currentPatchSet")?.get("approvals"),
-            _ => self.line.get("approvals"),
-        }
-    }
-
-    /// The attributes that name parents.
-    fn parents_part(&self) -> &'a [Value]
-        ensures { map view result.now ≡ parents_part self.now.kind (view self.now.line.now) }
-    {
-        match self.kind {
-            Kind::QueryLine => listed(self.line.get("dependsOn")),
-            _ => listed(under("parents", self.set_part())),
-        }
-    }
-
-    fn change(&self) -> Option<u32>
-        ensures { result ≡ change_in self.now.kind (view self.now.line.now) }
-    {
-        number_in(under("number", self.change_part()))
-    }
-
-    fn set(&self) -> Option<u32>
-        ensures { result ≡ set_in self.now.kind (view self.now.line.now) }
-    {
-        number_in(under("number", self.set_part()))
-    }
-
-    fn message(&self) -> Option<&'a str>
-        ensures { option_map (λ text. text.now) result ≡ message_in self.now.kind (view self.now.line.now) }
-    {
-        text_in(under("commitMessage", self.change_part()))
-    }
-
-    fn revision(&self) -> Option<&'a str>
-        ensures { option_map (λ text. text.now) result ≡ revision_in self.now.kind (view self.now.line.now) }
-    {
-        text_in(under("revision", self.set_part()))
-    }
-
-    /// The patch set of the line, where it has all that is needed.
-    fn patch(&self) -> Option<Patch<'a>>
-        ensures { option_map patch_shown result ≡ patch_in self.now.kind (view self.now.line.now) }
-    {
-        let change = self.change()?;
-        let set = self.set()?;
-        let message = self.message()?;
-        let revision = self.revision();
-        Some(Patch {
-            change,
-            set,
-            message,
-            revision,
-        })
+        self.brought
     }
 
     /// The change of a parent, where it is known.
-    fn parent(&self, parent: &Value) -> Option<u32>
-        ensures { result ≡ parent_in self.now.known.now self.now.kind (view parent.now) }
+    fn parent(&self, parent: &Value<'_>) -> Option<u32>
+        ensures { result ≡ parent_in self.now.known.now self.now.line.kind (data_in parent.now) }
     {
-        match self.kind {
-            Kind::QueryLine => number_in(parent.get("number")),
+        match self.line.kind {
+            Kind::QueryLine => number_in(member(parent, "number")),
             _ => {
-                let (change, _set) = self.known.place_of(parent.as_str()?)?;
+                let (change, _set) = self.known.place_of(text(parent)?)?;
                 Some(change)
             }
         }
@@ -185,10 +93,10 @@ impl<'k, 'a> Event<'k, 'a> {
     /// The changes of the parents that are known.
     fn parents(&self) -> Result<Vec<u32>, NoMemory>
         ensures { IfOk result (λ parents. parents.items
-            ≡ parents_in self.now.known.now self.now.kind (view self.now.line.now)) }
+            ≡ parents_in self.now.known.now self.now.line.kind (data_in self.now.line.value.now)) }
     {
         let mut parents = Vec::new(self.alloc);
-        let values = self.parents_part();
+        let values = self.line.parents_part();
         for value in values {
             let Some(change) = self.parent(value) else {
                 continue;
@@ -200,40 +108,31 @@ impl<'k, 'a> Event<'k, 'a> {
 
     /// How many parents are lost, where these are known.
     fn lost_parents(&self, parents: &[u32]) -> usize
-        requires { parents.now ≡ parents_in self.now.known.now self.now.kind (view self.now.line.now) }
-        ensures { result ≡ lost_parents self.now.known.now self.now.kind (view self.now.line.now) }
+        requires { parents.now ≡ parents_in self.now.known.now self.now.line.kind (data_in self.now.line.value.now) }
+        ensures { result ≡ lost_parents self.now.known.now self.now.line.kind (data_in self.now.line.value.now) }
     {
-        match self.kind {
+        match self.line.kind {
             Kind::QueryLine => self
+                .line
                 .parents_part()
                 .len()
                 .saturating_sub(parents.len().min(1)),
             _ => parents.len().saturating_sub(1),
         }
     }
-
-    /// The key that names parents.
-    fn parents_key(&self) -> EventKey
-        ensures { result ≡ parents_key self.now.kind }
-    {
-        match self.kind {
-            Kind::QueryLine => EventKey::DependsOn,
-            _ => EventKey::Parents,
-        }
-    }
 }
 
-impl<'k, 'a> Event<'k, 'a> {
+impl<'k, 'v, 'a> Event<'k, 'v, 'a> {
     fn add_claims(&self, claims: &mut Vec<Claim>) -> Result<(), NoMemory>
         ensures { OnOk result (claims.new.items ≡ claims.old.items
-            ++ claims_by self.now.known.now self.now.kind (view self.now.line.now)) }
+            ++ claims_by self.now.known.now self.now.line.kind (data_in self.now.line.value.now)) }
     {
-        match self.kind {
+        match self.line.kind {
             Kind::DroppedOutput => add(claims, Claim::refuses(EventFault::Dropped)),
             Kind::QueryStats => Ok(()),
             Kind::OtherEvent => self.add_first(claims),
-            _ => match self.change() {
-                None => add(claims, Claim::bad(self.kind.change_key())),
+            _ => match self.change {
+                None => add(claims, Claim::bad(self.line.kind.change_key())),
                 Some(change) => self.add_change(claims, change),
             },
         }
@@ -242,9 +141,9 @@ impl<'k, 'a> Event<'k, 'a> {
     /// What the line claims of its change.
     fn add_change(&self, claims: &mut Vec<Claim>, change: u32) -> Result<(), NoMemory>
         ensures { OnOk result (claims.new.items ≡ claims.old.items
-            ++ change_claims self.now.known.now self.now.kind (view self.now.line.now) change) }
+            ++ change_claims self.now.known.now self.now.line.kind (data_in self.now.line.value.now) change) }
     {
-        let draft = match self.kind {
+        let draft = match self.line.kind {
             Kind::ChangeAbandoned | Kind::ChangeDeleted => Draft::Abandon { change },
             Kind::ChangeRestored => Draft::Restore { change },
             Kind::ChangeMerged => Draft::Merged { change },
@@ -257,11 +156,11 @@ impl<'k, 'a> Event<'k, 'a> {
     /// What the line claims of its patch set.
     fn add_set(&self, claims: &mut Vec<Claim>, change: u32) -> Result<(), NoMemory>
         ensures { OnOk result (claims.new.items ≡ claims.old.items
-            ++ with_set self.now.known.now self.now.kind (view self.now.line.now) change
-            (set_in self.now.kind (view self.now.line.now))) }
+            ++ with_set self.now.known.now self.now.line.kind (data_in self.now.line.value.now) change
+            (set_in self.now.line.kind (data_in self.now.line.value.now))) }
     {
-        let Some(set) = self.set() else {
-            return add(claims, Claim::bad(self.kind.set_key()));
+        let Some(set) = self.set else {
+            return add(claims, Claim::bad(self.line.kind.set_key()));
         };
         self.add_first(claims)?;
         self.add_votes_of_set(claims, change, set)
@@ -270,10 +169,10 @@ impl<'k, 'a> Event<'k, 'a> {
     /// The patch set that the line brings.
     fn add_first(&self, claims: &mut Vec<Claim>) -> Result<(), NoMemory>
         ensures { OnOk result (claims.new.items ≡ claims.old.items
-            ++ first_claims self.now.known.now self.now.kind (view self.now.line.now)) }
+            ++ first_claims self.now.known.now self.now.line.kind (data_in self.now.line.value.now)) }
     {
-        let Some(patch) = self.brought() else {
-            return match self.kind {
+        let Some(patch) = self.brought else {
+            return match self.line.kind {
                 Kind::PatchSetCreated | Kind::QueryLine => {
                     add(claims, Claim::bad(EventKey::CommitMessage))
                 }
@@ -286,7 +185,7 @@ impl<'k, 'a> Event<'k, 'a> {
     /// A patch set with its parent.
     fn add_patch(&self, claims: &mut Vec<Claim>, patch: &Patch<'a>) -> Result<(), NoMemory>
         ensures { OnOk result (claims.new.items ≡ claims.old.items
-            ++ patch_claims self.now.known.now self.now.kind (view self.now.line.now) (patch_shown patch.now)) }
+            ++ patch_claims self.now.known.now self.now.line.kind (data_in self.now.line.value.now) (patch_shown patch.now)) }
     {
         let parents = self.parents()?;
         let message = String::from_str(self.alloc, patch.message)?;
@@ -301,7 +200,7 @@ impl<'k, 'a> Event<'k, 'a> {
         )?;
         add_bad(
             claims,
-            self.parents_key(),
+            self.line.parents_key(),
             self.lost_parents(parents.as_slice()),
         )
     }
@@ -314,15 +213,15 @@ impl<'k, 'a> Event<'k, 'a> {
         set: u32,
     ) -> Result<(), NoMemory>
         ensures { OnOk result (claims.new.items ≡ claims.old.items
-            ++ set_claims self.now.kind (view self.now.line.now) change set) }
+            ++ set_claims self.now.line.kind (data_in self.now.line.value.now) change set) }
     {
-        match self.kind {
+        match self.line.kind {
             Kind::PatchSetCreated => Ok(()),
             Kind::QueryLine => {
-                self.add_votes(claims, change, set, self.approvals_part())?;
+                self.add_votes(claims, change, set, self.line.approvals_part())?;
                 self.add_query(claims, change, set)
             }
-            _ => self.add_votes(claims, change, set, self.approvals_part()),
+            _ => self.add_votes(claims, change, set, self.line.approvals_part()),
         }
     }
 
@@ -332,11 +231,11 @@ impl<'k, 'a> Event<'k, 'a> {
         claims: &mut Vec<Claim>,
         change: u32,
         set: u32,
-        approvals: Option<&'a Value>,
+        approvals: Option<&'v Value<'a>>,
     ) -> Result<(), NoMemory>
         ensures { OnOk result (claims.new.items ≡ claims.old.items
-            ++ vote_claims self.now.kind (view self.now.line.now) change set
-            (option_map (λ value. view value.now) approvals.entry)) }
+            ++ vote_claims self.now.line.kind (data_in self.now.line.value.now) change set
+            (option_map (λ value. data_in value.now) approvals.entry)) }
     {
         let values = listed(approvals);
         for approval in values {
@@ -346,30 +245,31 @@ impl<'k, 'a> Event<'k, 'a> {
     }
 
     /// The vote of an approval.
-    fn vote(&self, change: u32, set: u32, approval: &'a Value) -> Result<Claim, NoMemory>
+    fn vote(&self, change: u32, set: u32, approval: &'v Value<'a>) -> Result<Claim, NoMemory>
         ensures { IfOk result (λ claim. claim
-            ≡ vote_claim self.now.kind (view self.now.line.now) change set (view approval.now)) }
+            ≡ vote_claim self.now.line.kind (data_in self.now.line.value.now) change set (data_in approval.now)) }
     {
-        let Some(label) = text_in(approval.get("type")) else {
+        let Some(label) = text_in(member(approval, "type")) else {
             return Ok(Claim::bad(EventKey::TypeName));
         };
-        let Some(voter) = user_in(self.account_part(approval)) else {
-            return Ok(Claim::bad(self.kind.account_key()));
+        let Some(voter) = user_in(self.line.account_part(approval)) else {
+            return Ok(Claim::bad(self.line.kind.account_key()));
         };
-        vote_of(self.alloc, change, set, label, voter, approval.get("value"))
+        let value = member(approval, "value");
+        vote_of(self.alloc, change, set, label, voter, value)
     }
 
     /// What a line of a query claims of other patch sets and of the change's status.
     fn add_query(&self, claims: &mut Vec<Claim>, change: u32, set: u32) -> Result<(), NoMemory>
-        requires { self.now.kind ≡ Kind.QueryLine }
+        requires { self.now.line.kind ≡ Kind.QueryLine }
         ensures { OnOk result (claims.new.items ≡ claims.old.items
-            ++ query_claims (view self.now.line.now) change set) }
+            ++ query_claims (data_in self.now.line.value.now) change set) }
     {
-        let values = listed(self.line.get("patchSets"));
+        let values = listed(member(self.line.value, "patchSets"));
         for older in values {
             self.add_older(claims, change, set, older)?;
         }
-        add_status(claims, change, text_in(self.line.get("status")))
+        add_status(claims, change, text_in(member(self.line.value, "status")))
     }
 
     /// The votes of a patch set that isn't the current one.
@@ -378,19 +278,19 @@ impl<'k, 'a> Event<'k, 'a> {
         claims: &mut Vec<Claim>,
         change: u32,
         current: u32,
-        older: &'a Value,
+        older: &'v Value<'a>,
     ) -> Result<(), NoMemory>
-        requires { self.now.kind ≡ Kind.QueryLine }
+        requires { self.now.line.kind ≡ Kind.QueryLine }
         ensures { OnOk result (claims.new.items ≡ claims.old.items
-            ++ older_claims (view self.now.line.now) change current (view older.now)) }
+            ++ older_claims (data_in self.now.line.value.now) change current (data_in older.now)) }
     {
-        let Some(set) = number_in(older.get("number")) else {
+        let Some(set) = number_in(member(older, "number")) else {
             return add(claims, Claim::bad(EventKey::PatchSets));
         };
         if set == current {
             return Ok(());
         }
-        self.add_votes(claims, change, set, older.get("approvals"))
+        self.add_votes(claims, change, set, member(older, "approvals"))
     }
 }
 
@@ -419,10 +319,10 @@ fn vote_of(
     set: u32,
     label: &str,
     voter: &str,
-    value: Option<&Value>,
+    value: Option<&Value<'_>>,
 ) -> Result<Claim, NoMemory>
     ensures { IfOk result (λ claim. claim
-        ≡ vote_of change set label.now voter.now (value_under (option_map (λ value. view value.now) value.entry))) }
+        ≡ vote_of change set label.now voter.now (value_under (option_map (λ value. data_in value.now) value.entry))) }
 {
     let label = String::from_str(alloc, label)?;
     let voter = String::from_str(alloc, voter)?;

@@ -1,11 +1,12 @@
 //! The kinds of lines.
 
 ghost use Rattle.std.specs.Prelude.{◌≡◌};
-ghost use Rattle.serde_json.specs.View.{view};
 ghost use Rattle.gerrit_events.specs.Kinds.{kind_named, kind_of, change_key, set_key, account_key};
+ghost use Rattle.gerrit_events.specs.Trees.{data_in};
 
 use super::fault::EventKey;
-use serde_json::Value;
+use super::tree::{member, text};
+use json::Value;
 
 /// What a line is: one of Gerrit's events, or a line of its query.
 #[derive(Clone, Copy, Debug, PartialEq, Eq)]
@@ -26,12 +27,12 @@ pub enum Kind {
 
 impl Kind {
     /// The kind of a line; none where its `type` is no text.
-    pub fn of(line: &Value) -> Option<Kind>
-        ensures { result ≡ kind_of (view line.now) }
+    pub fn of(line: &Value<'_>) -> Option<Kind>
+        ensures { result ≡ kind_of (data_in line.now) }
     {
-        match line.get("type") {
+        match member(line, "type") {
             None => Some(Kind::QueryLine),
-            Some(name) => Some(Kind::named(name.as_str()?)),
+            Some(name) => Some(Kind::named(text(name)?)),
         }
     }
 

@@ -4,6 +4,7 @@ ghost use Rattle.std.specs.Prelude.{◌≡◌, [], ◌∷◌, ◌++◌, None, On
 ghost use Rattle.gerrit_events.specs.Revisions.{place_of, with_revision};
 ghost use Rattle.gerrit_events.specs.RevisionsKept.{seen_shown, Agree};
 
+use json::Scratch;
 use lattice_core::NoMemory;
 use std::alloc::Global;
 use std::collections::{BTreeMap, VecDeque};
@@ -20,16 +21,61 @@ pub struct Seen {
     pub set: u32,
 }
 
-/// What a run keeps between lines: of at most 100,000 revisions the change and the patch set. The oldest one is
-/// forgotten first. Contracts see the list of them, the oldest first.
+/// What a run keeps between lines: the revisions that it has seen, and room for reading lines. Contracts see the list
+/// of the revisions, the oldest first.
 #[derive(Drop)]
 pub struct Known {
+    pub(crate) revisions: Revisions,
+    pub(crate) room: Scratch,
+}
+
+impl Model for Known {
+    ghost use Rattle.std.specs.Prelude.{List};
+    ghost use Rattle.gerrit_events.specs.Revisions.{Revision};
+
+    ghost Value = { List Revision };
+
+    ghost view = { λ known. known.revisions };
+}
+
+impl Known {
+    /// Nothing is known yet.
+    pub fn new(alloc: Global) -> Known
+        ensures { result ≡ [] }
+    {
+        Known {
+            revisions: Revisions::new(alloc),
+            room: Scratch::new(alloc),
+        }
+    }
+
+    /// The change and the patch set of a revision, where it is known. It costs the logarithm of what is known.
+    pub fn place_of(&self, revision: &str) -> Option<(u32, u32)>
+        ensures { result ≡ place_of self.now revision.now }
+    {
+        self.revisions.place_of(revision)
+    }
+
+    /// Learns of a revision. One that is known stays as it is; where they are too many the oldest is forgotten. Where
+    /// memory is refused nothing changes. It costs the logarithm of what is known.
+    pub fn learn(&mut self, revision: &str, change: u32, set: u32) -> Result<(), NoMemory>
+        ensures ok { OnOk result (self.new ≡ with_revision self.old (revision.now, (change, set))) }
+        ensures err { OnErr result (self.new ≡ self.old) }
+    {
+        self.revisions.learn(revision, change, set)
+    }
+}
+
+/// Of at most 100,000 revisions the change and the patch set. The oldest one is forgotten first. Contracts see the list
+/// of them, the oldest first.
+#[derive(Drop)]
+pub struct Revisions {
     alloc: Global,
     ages: VecDeque<Seen>,
     places: BTreeMap<String, (u32, u32)>,
 }
 
-impl Model for Known {
+impl Model for Revisions {
     ghost use Rattle.std.specs.Prelude.{List, map};
     ghost use Rattle.gerrit_events.specs.Revisions.{Revision};
     ghost use Rattle.gerrit_events.specs.RevisionsKept.{seen_shown, AreKept};
@@ -41,27 +87,26 @@ impl Model for Known {
     ghost invariant = { λ known. AreKept known.places (map seen_shown known.ages.items) };
 }
 
-impl Known {
+impl Revisions {
     /// Nothing is known yet.
-    pub fn new(alloc: Global) -> Known
+    pub fn new(alloc: Global) -> Revisions
         ensures { result ≡ [] }
     {
-        Known {
+        Revisions {
             alloc,
             ages: VecDeque::new(alloc),
             places: BTreeMap::new(alloc),
         }
     }
 
-    /// The change and the patch set of a revision, where it is known. It costs the logarithm of what is known.
+    /// The change and the patch set of a revision, where it is known.
     pub fn place_of(&self, revision: &str) -> Option<(u32, u32)>
         ensures { result ≡ place_of self.now revision.now }
     {
         self.places.get(revision).copied()
     }
 
-    /// Learns of a revision. One that is known stays as it is; where they are too many the oldest is forgotten. Where
-    /// memory is refused nothing changes. It costs the logarithm of what is known.
+    /// Learns of a revision, where it isn't known.
     pub fn learn(&mut self, revision: &str, change: u32, set: u32) -> Result<(), NoMemory>
         ensures ok { OnOk result (self.new ≡ with_revision self.old (revision.now, (change, set))) }
         ensures err { OnErr result (self.new ≡ self.old) }

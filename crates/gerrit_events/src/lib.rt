@@ -32,8 +32,11 @@ mod fault;
 mod finding;
 mod kind;
 mod known;
+mod line;
+mod number;
 mod patch;
 mod read;
+mod tree;
 mod value;
 
 pub use fault::{EventFault, EventKey};

@@ -1,0 +1,156 @@
+//! A line of a known kind, and where its attributes are.
+
+ghost use Rattle.std.specs.Prelude.{◌≡◌, map, option_map};
+ghost use Rattle.gerrit_events.specs.Claims.{parents_key};
+ghost use Rattle.gerrit_events.specs.Kinds.{account_part, approvals_part, change_part, set_part};
+ghost use Rattle.gerrit_events.specs.Patches.{brought_by, change_in, parents_part, patch_in, set_in, unless_brought};
+ghost use Rattle.gerrit_events.specs.Patches.{was_brought};
+ghost use Rattle.gerrit_events.specs.PatchShown.{patch_shown};
+ghost use Rattle.gerrit_events.specs.Trees.{data_in};
+
+use super::fault::EventKey;
+use super::kind::Kind;
+use super::known::Revisions;
+use super::patch::Patch;
+use super::tree::member;
+use super::value::{listed, text_in, under};
+use json::Value;
+
+/// A line of a known kind.
+#[derive(Clone, Copy)]
+pub struct Line<'v, 'a> {
+    pub kind: Kind,
+    pub value: &'v Value<'a>,
+}
+
+impl<'v, 'a> Line<'v, 'a> {
+    /// The change attribute.
+    pub fn change_part(&self) -> Option<&'v Value<'a>>
+        ensures { option_map (λ value. data_in value.now) result
+            ≡ change_part self.now.kind (data_in self.now.value.now) }
+    {
+        match self.kind {
+            Kind::QueryLine => Some(self.value),
+            _ => member(self.value, "change"),
+        }
+    }
+
+    /// The patch set attribute.
+    pub fn set_part(&self) -> Option<&'v Value<'a>>
+        ensures { option_map (λ value. data_in value.now) result ≡ set_part self.now.kind (data_in self.now.value.now) }
+    {
+        match self.kind {
+            Kind::QueryLine => member(self.value, "currentPatchSet"),
+            _ => member(self.value, "patchSet"),
+        }
+    }
+
+    /// The account attribute of one who voted.
+    pub fn account_part(&self, approval: &'v Value<'a>) -> Option<&'v Value<'a>>
+        ensures { option_map (λ value. data_in value.now) result
+            ≡ account_part self.now.kind (data_in self.now.value.now) (data_in approval.entry.now) }
+    {
+        match self.kind {
+            Kind::QueryLine => member(approval, "by"),
+            Kind::CommentAdded => member(self.value, "author"),
+            _ => member(self.value, "reviewer"),
+        }
+    }
+
+    /// The attribute with the approvals of the patch set.
+    pub fn approvals_part(&self) -> Option<&'v Value<'a>>
+        ensures { option_map (λ value. data_in value.now) result
+            ≡ approvals_part self.now.kind (data_in self.now.value.now) }
+    {
+        match self.kind {
+            Kind::QueryLine => member(member(self.value, "currentPatchSet")?, "approvals"),
+            _ => member(self.value, "approvals"),
+        }
+    }
+
+    /// The attributes that name parents.
+    pub fn parents_part(&self) -> &'v [Value<'a>]
+        ensures { map data_in result.now ≡ parents_part self.now.kind (data_in self.now.value.now) }
+    {
+        match self.kind {
+            Kind::QueryLine => listed(member(self.value, "dependsOn")),
+            _ => listed(under("parents", self.set_part())),
+        }
+    }
+
+    /// The key that names parents.
+    pub fn parents_key(&self) -> EventKey
+        ensures { result ≡ parents_key self.now.kind }
+    {
+        match self.kind {
+            Kind::QueryLine => EventKey::DependsOn,
+            _ => EventKey::Parents,
+        }
+    }
+}
+
+impl<'v, 'a> Line<'v, 'a> {
+    /// The patch set of the line, where it has all that is needed, by its two numbers and attributes.
+    pub fn patch(
+        &self,
+        change: Option<u32>,
+        set: Option<u32>,
+        change_found: Option<&'v Value<'a>>,
+        set_found: Option<&'v Value<'a>>,
+    ) -> Option<Patch<'a>>
+        requires change { change ≡ change_in self.now.kind (data_in self.now.value.now) }
+        requires set { set ≡ set_in self.now.kind (data_in self.now.value.now) }
+        requires change_part { option_map (λ value. data_in value.now) change_found
+            ≡ change_part self.now.kind (data_in self.now.value.now) }
+        requires set_part { option_map (λ value. data_in value.now) set_found
+            ≡ set_part self.now.kind (data_in self.now.value.now) }
+        ensures { option_map patch_shown result ≡ patch_in self.now.kind (data_in self.now.value.now) }
+    {
+        let change = change?;
+        let set = set?;
+        let message = text_in(under("commitMessage", change_found))?;
+        let revision = text_in(under("revision", set_found));
+        Some(Patch {
+            change,
+            set,
+            message,
+            revision,
+        })
+    }
+
+    /// The patch set that the line brings, by that which it has.
+    pub fn brought(&self, known: &Revisions, patch: Option<Patch<'a>>) -> Option<Patch<'a>>
+        requires { option_map patch_shown patch ≡ patch_in self.now.kind (data_in self.now.value.now) }
+        ensures { option_map patch_shown result ≡ brought_by known.now self.now.kind (data_in self.now.value.now) }
+    {
+        match self.kind {
+            Kind::PatchSetCreated | Kind::QueryLine => patch,
+            Kind::DroppedOutput | Kind::QueryStats => None,
+            _ => unless_brought(known, patch?),
+        }
+    }
+}
+
+/// The patch set, unless this run has brought it.
+fn unless_brought<'a>(known: &Revisions, patch: Patch<'a>) -> Option<Patch<'a>>
+    ensures { option_map patch_shown result ≡ unless_brought known.now (patch_shown patch.entry) }
+{
+    if was_brought(known, &patch) {
+        None
+    } else {
+        Some(patch)
+    }
+}
+
+/// Whether this run has brought the patch set.
+fn was_brought(known: &Revisions, patch: &Patch<'_>) -> bool
+    ensures { result ≡ was_brought known.now (patch_shown patch.now) }
+{
+    let Some(revision) = patch.revision else {
+        return false;
+    };
+    match known.place_of(revision) {
+        None => false,
+        Some((change, set)) => change == patch.change && set == patch.set,
+    }
+}
