@@ -52,9 +52,9 @@ impl Turn for NoTurn {
     fn left(&self, _session: u64) {}
 }
 
-/// Runs the site that the words after `serve` ask for. It reads and judges the gate file and then the snapshot, if one is
-/// named, opens the journal, asks whether the start was used, binds, prints `listening P`, runs the site and saves what it has. What is wrong
-/// while it runs is written to `errors`.
+/// Runs the site that the words after `serve` ask for. It reads and judges the gate file and then the snapshot, if one
+/// is named, opens the journal, asks whether the start was used, binds, prints `listening P`, runs the site and saves
+/// what it has. What is wrong while it runs is written to `errors`.
 pub fn serve<R, I, E>(rt: R, alloc: Global, words: &[String], input: I, errors: E) -> Ended
 where
     R: Net<Listener = TcpListener, Stream = TcpStream>,
@@ -174,7 +174,8 @@ where
     }
 }
 
-/// The start that a site runs under: the one that is named, unless it was used, or the next one. None where there is none.
+/// The start that a site runs under: the one that is named, unless it was used, or the next one. None where there is
+/// none.
 fn start_of<R: Clock>(rt: &R, serving: &Serving<'_>, replica: &Replica) -> Option<u32> {
     match serving.start {
         Some(start) if is_start_used(replica, serving.site, start) => None,
@@ -291,7 +292,7 @@ fn say_port<R: Print>(rt: &R, alloc: Global, listener: &TcpListener) -> Result<(
     }
 }
 
-/// Saves what a site has left, where a name is given, also where a report couldn't be written, or where the site ended
+/// Saves what a site has left, where a file is named, also where a report couldn't be written, or where the site ended
 /// because its start is taken.
 fn keep<R: Files>(rt: &R, alloc: Global, name: Option<&str>, served: &Served) -> Result<(), Ended> {
     if let Some(name) = name

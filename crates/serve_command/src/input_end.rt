@@ -11,8 +11,8 @@ use std::thread::Threads;
 /// The most bytes of a line that is looked at.
 const LINE_LIMIT: usize = 1024;
 
-/// Has a thread of its own ask the site to stop once the input ends, or has a line `stop`. Nobody waits for that thread.
-/// Whether the system gave it.
+/// Has a thread of its own ask the site to stop once the input ends, or has a line `stop`. Nobody waits for that
+/// thread. Whether the system gave it.
 pub fn stop_with_input<R, I>(rt: R, alloc: Global, input: I, stop: Arc<Stop, Global>) -> bool
 where
     R: Threads + Wait + Copy + Send + 'static,

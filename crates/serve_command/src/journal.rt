@@ -19,8 +19,8 @@ use std::rt::Files;
 /// How many operations of a snapshot are added to a journal at once.
 const BATCH: usize = 4096;
 
-/// Opens the journal of this name, and adds to it what the snapshot has and it lacks: all of the record that is answered was synced. How many bytes of
-/// a torn line were cut off is written to `errors`.
+/// Opens the journal of this name, and adds to it what the snapshot has and it lacks: all of the record that is
+/// answered was synced. How many bytes of a torn line were cut off is written to `errors`.
 pub fn open_journal<R: Files<File = File>, E: Drain>(
     rt: &R,
     alloc: Global,
@@ -60,7 +60,8 @@ fn add_lacking<T: Tape>(
     replica: &Replica,
     loaded: &Replica,
 ) -> Result<(), ServeFault>
-    ensures { OnOk result ((before : List Operation) → IsHolding journal.old before → (after : List Operation) × IsHolding journal.new after) }
+    ensures { OnOk result ((before : List Operation) → IsHolding journal.old before
+        → (after : List Operation) × IsHolding journal.new after) }
 {
     let mut lacking = Vec::new(alloc);
     for op in loaded.as_slice() {
@@ -82,7 +83,8 @@ fn add_lacking<T: Tape>(
 
 /// Adds operations to a journal, if there are any.
 fn add_all<T: Tape>(journal: &mut Journal<T>, lacking: &mut Vec<Op>) -> Result<(), ServeFault>
-    ensures { OnOk result ((before : List Operation) → IsHolding journal.old before → (after : List Operation) × IsHolding journal.new after) }
+    ensures { OnOk result ((before : List Operation) → IsHolding journal.old before
+        → (after : List Operation) × IsHolding journal.new after) }
 {
     if lacking.is_empty() {
         return Ok(());

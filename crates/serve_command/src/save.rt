@@ -11,7 +11,8 @@ use std::os::unix::fs::OpenOptionsExt;
 use std::rt::Files;
 use std::{fs, io};
 
-/// Writes the snapshot beside the file, readable by its owner alone, has the system keep it, and puts it in the file's place.
+/// Writes the snapshot beside the file, readable by its owner alone, has the system keep it, and puts it in the file's
+/// place.
 pub fn save<R: Files>(rt: &R, alloc: Global, name: &str, replica: &Replica) -> io::Result<()> {
     let beside = format!(in alloc; "{name}.new")?;
     let file = OpenOptions::new()

@@ -12,8 +12,8 @@ pub fn is_start_used(replica: &Replica, site: u16, start: u32) -> bool {
     replica.as_slice().iter().any(|op| op.stamp().site() == site && op.stamp().start() >= start)
 }
 
-/// The start of a site for which none is named: one above each start of its own in the record, and no less than the seconds since 1970. None where none
-/// is left, or the clock can't be read.
+/// The start of a site for which none is named: one above each start of its own in the record, and no less than the
+/// seconds since 1970. None where none is left, or the clock can't be read.
 pub fn next_start<R: Clock>(rt: &R, replica: &Replica, site: u16) -> Option<u32>
     ensures { IfSome result (λ start. IsUnused site start replica.now) }
 {

@@ -19,7 +19,7 @@ pub enum TapeFault {
     Failed,
 }
 
-/// A file as a tape. What the system does with it isn't told: that what was synced stays is trusted.
+/// A file as a tape. What the system does with it isn't modelled: that what was synced stays is trusted.
 #[derive(Drop)]
 pub struct FileTape {
     file: File,
@@ -27,8 +27,8 @@ pub struct FileTape {
 }
 
 impl FileTape {
-    /// Opens the file of this name, which is made for its owner alone where there is none, locks it until it is closed, and has the system keep that its
-    /// folder has it.
+    /// Opens the file of this name, which is made for its owner alone where there is none, locks it until it is closed,
+    /// and has the system keep that its folder has it.
     pub fn open<R: Files<File = File>>(rt: &R, name: &str) -> Result<FileTape, TapeFault> {
         let file = opened(rt, name)?;
         match file.try_lock() {

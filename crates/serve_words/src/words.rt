@@ -59,7 +59,8 @@ pub enum ServeWords<'a> {
     NoMemory,
 }
 
-/// Reads the words that follow `serve`. Numbers out of their ranges are `Usage`, and so is a site with neither a start nor a journal. It costs O(bytes of the words).
+/// Reads the words that follow `serve`. Numbers out of their ranges are `Usage`, and so is a site with neither a start
+/// nor a journal. It costs O(bytes of the words).
 pub fn read_serve_words<'a, S: AsStr>(alloc: Global, words: &'a [S]) -> ServeWords<'a>
     ensures { AsksWithin result }
 {

@@ -1,5 +1,6 @@
 -- What a crash leaves of a journal says what it has.
-use Rattle.std.proofs.Common.{◌≡◌, ◌∙◌, ℕ, ◌+◌, List, [], ◌∷◌, ◌++◌, Option, Some, None, Result, Ok, Err, ap, arith, length, length-append, append-nil, subst, sym, take}
+use Rattle.std.proofs.Common.{◌≡◌, ◌∙◌, ℕ, ◌+◌, List, [], ◌∷◌, ◌++◌, Option, Some, None, Result, Ok, Err, ap, arith}
+use Rattle.std.proofs.Common.{length, length-append, append-nil, subst, sym, take}
 use Rattle.std.specs.Prelude.{IfSome, OnErr}
 use Rattle.review_ops.specs.Operation.{Operation}
 use Rattle.site_journal.specs.Book.{Book, IsHolding, Recovers}
@@ -13,16 +14,19 @@ same_ends xs ys a b = by_rest a.0 a.1
   where
     by_rest : (rest : List ℕ) → ys ≡ xs ++ rest → ys ≡ xs
     by_rest [] e = e ∙ append-nil xs
-    by_rest (x ∷ rest) e = absurd (omega (arith, ap length e, length-append xs (x ∷ rest), ap length b.1, length-append ys b.0))
+    by_rest (x ∷ rest) e =
+        absurd (omega (arith, ap length e, length-append xs (x ∷ rest), ap length b.1, length-append ys b.0))
 
 abbrev Left : List Operation → Image → Type 0
-Left ops i = (left : List ℕ) → IsLeftBy i left → (more : List Operation) × (rest : List ℕ) × Says left (ops ++ more) rest
+Left ops i =
+    (left : List ℕ) → IsLeftBy i left → (more : List Operation) × (rest : List ℕ) × Says left (ops ++ more) rest
 
 -- what a settled journal says is what a crash leaves
 pub held_survives : (book : Book) (ops : List Operation) → IsHolding book ops → Survive book ops
 held_survives book ops holding = by_image book.image holding.holds
   where
-    by_image : (image : Option Image) → IfSome image (λ i. IsSettled i × Says i.contents ops []) → IfSome image (Left ops)
+    by_image : (image : Option Image) → IfSome image (λ i. IsSettled i × Says i.contents ops [])
+        → IfSome image (Left ops)
     by_image None h = tt
     by_image (Some i) h = λ left is.
         let same : left ≡ i.contents =

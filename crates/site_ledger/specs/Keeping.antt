@@ -1,5 +1,5 @@
--- What is published was kept: the write-ahead rule, by which what a change is recorded in is on disk before the change is shown
--- (Mohan et al., ACM Transactions on Database Systems 17, 1992, 1.1).
+-- What is published was kept: the write-ahead rule, by which what a change is recorded in is on disk before the change
+-- is shown (Mohan et al., ACM Transactions on Database Systems 17, 1992, 1.1).
 use Rattle.std.specs.Prelude.{◌≡◌, ◌<◌, ◌≤◌, ℕ, Bool, true, false, List, [], ◌++◌, IfSome, drop, flat_map, length, take}
 use Rattle.review_ops.specs.Operation.{Operation}
 use Rattle.site_shared.specs.Accounts.{Account}
@@ -11,9 +11,11 @@ use Rattle.site_ledger.specs.declared.ledger.LedgerFault.TheVariants.{NoMemory, 
 
 -- whatever a crash leaves of the journal says these operations, in this order, and perhaps more after them
 abbrev pub Survive : Book → List Operation → Type 0
-Survive book ops = IfSome book.image (λ i. (left : List ℕ) → IsLeftBy i left → (more : List Operation) × (rest : List ℕ) × Says left (ops ++ more) rest)
+Survive book ops = IfSome book.image
+    (λ i. (left : List ℕ) → IsLeftBy i left → (more : List Operation) × (rest : List ℕ) × Says left (ops ++ more) rest)
 
--- what a ledger has: the account of its desk, what keeps its operations, how many of those that are held are kept, and whether no more can be kept
+-- what a ledger has: the account of its desk, what keeps its operations, how many of those that are held are kept, and
+-- whether no more can be kept
 pub record Entries (K : Type 0) : Type 0 where
   pub account : Account
   pub keeper : K

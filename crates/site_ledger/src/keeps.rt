@@ -19,12 +19,14 @@ pub trait Keeps {
     fn what_it_has_survives(&self)
         ensures { (ops : List Operation) → holds self.now ops → survives self.now ops };
 
-    /// Keeps the operations, after those that it has, which stay whatever comes of the call. At `Ok` these stay too. After any fault but want of memory
-    /// nothing is promised of a later call.
+    /// Keeps the operations, after those that it has, which stay whatever comes of the call. At `Ok` these stay too.
+    /// After any fault but want of memory nothing is promised of a later call.
     fn keep(&mut self, ops: &[Op]) -> Result<(), KeepFault>
-        ensures ok { OnOk result ((before : List Operation) → holds self.old before → holds self.new (before ++ ops.now)) }
+        ensures ok { OnOk result
+            ((before : List Operation) → holds self.old before → holds self.new (before ++ ops.now)) }
         ensures err { OnErr result ((before : List Operation) → holds self.old before → survives self.new before) }
-        ensures memory { result ≡ Err NoMemory → (before : List Operation) → holds self.old before → holds self.new before };
+        ensures memory { result ≡ Err NoMemory → (before : List Operation) → holds self.old before
+            → holds self.new before };
 }
 
 /// A site without a journal: nothing outlives it.

@@ -1,11 +1,13 @@
 //! The desk of a site with what keeps its operations.
 
-ghost use Rattle.std.specs.Prelude.{◌≡◌, ◌∷◌, ◌<◌, ◌++◌, [], ℕ, List, None, IfErr, IfOk, OnErr, OnOk, false, true, if◌then◌else◌, drop, length};
+ghost use Rattle.std.specs.Prelude.{◌≡◌, ◌∷◌, ◌<◌, ◌++◌, [], ℕ, List, None, IfErr, IfOk, OnErr, OnOk, false, true};
+ghost use Rattle.std.specs.Prelude.{if◌then◌else◌, drop, length};
 ghost use Rattle.replica_core.specs.Journal.{has};
 ghost use Rattle.review_ops.specs.Draft.{deed_of};
 ghost use Rattle.review_ops.specs.Good.{IsFaultless};
 ghost use Rattle.review_ops.specs.Operation.{Operation};
-ghost use Rattle.site_shared.specs.Accounts.{HasStamp, IsSameOpening, RefusesIntake, flushing, holding, next_operation, receipt_of, record_of};
+ghost use Rattle.site_shared.specs.Accounts.{HasStamp, IsSameOpening, RefusesIntake, flushing, holding, next_operation};
+ghost use Rattle.site_shared.specs.Accounts.{receipt_of, record_of};
 
 use crate::keeps::Keeps;
 use lattice_core::NoMemory;
@@ -24,9 +26,9 @@ pub enum LedgerFault {
     NotKept,
 }
 
-/// The desk of a site with what keeps its operations. It holds operations until they are published, all at once, and has them kept first. Contracts see
-/// its desk's account, what keeps the operations, how many of those that are held are kept already, and whether nothing more is kept. It is used up by
-/// `end`.
+/// The desk of a site with what keeps its operations. It holds operations until they are published, all at once, and
+/// has them kept first. Contracts see its desk's account, what keeps the operations, how many of those that are held
+/// are kept already, and whether nothing more is kept. It is used up by `end`.
 pub struct Ledger<K: Keeps> {
     desk: Desk,
     keeper: K,
@@ -64,9 +66,12 @@ impl<K: Keeps> Ledger<K> {
 
     /// Stamps a body and holds it, without a publish, as `Desk::hold` does.
     pub fn hold(&mut self, draft: Draft) -> Result<Stamp, DeskFault>
-        ensures ok { IfOk result (λ stamp. let op = next_operation self.old.account (deed_of draft) in HasStamp self.old.account × IsFaultless (deed_of draft)
+        ensures ok { IfOk result
+            (λ stamp. let op = next_operation self.old.account (deed_of draft) in HasStamp self.old.account
+            × IsFaultless (deed_of draft)
             × (self.new.account ≡ holding self.old.account (op ∷ [])) × (stamp ≡ op.stamp)) }
-        ensures err { IfErr result (λ fault. (self.new ≡ self.old) × RefusesIntake self.old.account (deed_of draft) fault self.old.account) }
+        ensures err { IfErr result
+            (λ fault. (self.new ≡ self.old) × RefusesIntake self.old.account (deed_of draft) fault self.old.account) }
         ensures same { IsSameKeeping self.old self.new }
     {
         self.desk.hold(draft)
@@ -74,19 +79,22 @@ impl<K: Keeps> Ledger<K> {
 
     /// Holds an operation, unless it was published or is held, without a publish, as `Desk::hold_new` does.
     pub fn hold_new(&mut self, op: Op) -> Result<(), NoMemory>
-        ensures ok { OnOk result (self.new.account ≡ (if has (record_of self.old.account) op then self.old.account else holding self.old.account (op ∷ []))) }
+        ensures ok { OnOk result (self.new.account
+            ≡ (if has (record_of self.old.account) op then self.old.account else holding self.old.account (op ∷ []))) }
         ensures err { OnErr result (self.new ≡ self.old) }
         ensures same { IsSameKeeping self.old self.new }
     {
         self.desk.hold_new(op)
     }
 
-    /// Has all that is held kept, whoever asked for it, and then publishes it. Where it isn't kept nothing is published, now and later. Waits and costs as
-    /// `Desk::flush`, and as the keeper.
+    /// Has all that is held kept, whoever asked for it, and then publishes it. Where it isn't kept nothing is
+    /// published, now and later. Waits and costs as `Desk::flush`, and as the keeper.
     pub fn publish<R: Wait>(&mut self, rt: &R) -> Result<Receipt, LedgerFault>
-        ensures ok { IfOk result (λ receipt. (self.old.is_over ≡ false) × (self.new.is_over ≡ false) × (self.new.account ≡ flushing self.old.account)
+        ensures ok { IfOk result (λ receipt. (self.old.is_over ≡ false) × (self.new.is_over ≡ false)
+            × (self.new.account ≡ flushing self.old.account)
             × (receipt ≡ receipt_of self.new.account None)) }
-        ensures err { IfErr result (λ fault. (self.new.account ≡ self.old.account) × (self.new.is_over ≡ is_over_after fault)) }
+        ensures err { IfErr result
+            (λ fault. (self.new.account ≡ self.old.account) × (self.new.is_over ≡ is_over_after fault)) }
         ensures over { self.old.is_over ≡ true → self.new ≡ self.old }
         ensures opening { IsSameOpening self.old.account self.new.account }
     {
@@ -100,8 +108,8 @@ impl<K: Keeps> Ledger<K> {
         }
     }
 
-    /// What was published since the opening, and what of that which is held is kept, survives: whatever a crash leaves says it, after what was there at
-    /// first.
+    /// What was published since the opening, and what of that which is held is kept, survives: whatever a crash leaves
+    /// says it, after what was there at first.
     pub fn published_survives(&self)
         ensures { (first : List Operation) × K.survives self.now.keeper (first ++ kept_ops self.now) }
     {
@@ -125,7 +133,8 @@ impl<K: Keeps> Ledger<K> {
     /// Has all that is held kept, as far as it isn't.
     fn keep_held(&mut self) -> Result<(), LedgerFault>
         ensures same { self.new.account ≡ self.old.account }
-        ensures ok { OnOk result ((self.old.is_over ≡ false) × (self.new.is_over ≡ false) × (self.new.kept ≡ length self.new.account.held)) }
+        ensures ok { OnOk result
+            ((self.old.is_over ≡ false) × (self.new.is_over ≡ false) × (self.new.kept ≡ length self.new.account.held)) }
         ensures err { IfErr result (λ fault. self.new.is_over ≡ is_over_after fault) }
         ensures over { self.old.is_over ≡ true → self.new ≡ self.old }
     {

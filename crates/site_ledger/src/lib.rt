@@ -1,5 +1,5 @@
-//! A ledger: the desk of a running site with what keeps its operations. What it has published was kept before, always. And the latest start that a
-//! site's record has, above which it begins again.
+//! A ledger: the desk of a running site with what keeps its operations. What it has published was kept before, always.
+//! And the latest start that a site's record has, above which it begins again.
 //!
 //! An example of its use, without a journal:
 //!

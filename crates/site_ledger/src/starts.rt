@@ -4,7 +4,8 @@ ghost use Rattle.site_ledger.specs.Starts.{IsLatest};
 
 use replica_core::Replica;
 
-/// The latest start of a site in a record, in whatever order its operations came; 0 where it has none. Costs O(n) for n operations.
+/// The latest start of a site in a record, in whatever order its operations came; 0 where it has none. Costs O(n) for n
+/// operations.
 pub fn latest_start(replica: &Replica, site: u16) -> u32
     ensures { IsLatest site result replica.now }
 {

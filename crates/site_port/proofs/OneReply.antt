@@ -9,10 +9,13 @@ use Rattle.replica_core.specs.Missing.{IsMissing}
 use Rattle.review_ops.specs.Operation.{Operation}
 use Rattle.state_core.specs.State.{State, state_of}
 use Rattle.site_port.specs.OwnSite.{OwnGives, OwnState}
-use Rattle.site_port.specs.Ports.{Call, Reply, takes_in, lacks, reports, looks, stamped, lacked, judged, looked, refused, IsGiven, IsLook}
+use Rattle.site_port.specs.Ports.{Call, Reply, takes_in, lacks, reports, looks, stamped, lacked, judged, looked}
+use Rattle.site_port.specs.Ports.{refused, IsGiven, IsLook}
 
-gives_lacked : (old new : OwnState) (front : Reaches) (reply : Reply) → IsGiven reply → OwnGives old (lacks front) reply new
-    → (all : List Operation) × IsMissing old.journal front all × (reply ≡ lacked (take 256 all) (nat_lt 256 (length all))) × (new ≡ old)
+gives_lacked : (old new : OwnState) (front : Reaches) (reply : Reply) → IsGiven reply
+    → OwnGives old (lacks front) reply new
+    → (all : List Operation) × IsMissing old.journal front all
+    × (reply ≡ lacked (take 256 all) (nat_lt 256 (length all))) × (new ≡ old)
 gives_lacked old new front (lacked ops more) given h = (h.0.0, h.0.1, (λ i. lacked (h.0.2 i) (h.0.3 i)), h.1)
 gives_lacked old new front (stamped stamp) given h = absurd h
 gives_lacked old new front (judged verdicts) given h = absurd h
@@ -20,14 +23,16 @@ gives_lacked old new front (looked journal) given h = absurd h
 gives_lacked old new front (refused fault) given h = absurd given
 
 gives_judged : (old new : OwnState) (reply : Reply) → IsGiven reply → OwnGives old reports reply new
-    → (verdicts : Judged) × AreVerdicts old.gate (state_of old.journal) verdicts × (reply ≡ judged verdicts) × (new ≡ old)
+    → (verdicts : Judged) × AreVerdicts old.gate (state_of old.journal) verdicts × (reply ≡ judged verdicts)
+    × (new ≡ old)
 gives_judged old new (judged verdicts) given h = (verdicts, h.0, refl, h.1)
 gives_judged old new (lacked ops more) given h = absurd h
 gives_judged old new (stamped stamp) given h = absurd h
 gives_judged old new (looked journal) given h = absurd h
 gives_judged old new (refused fault) given h = absurd given
 
-gives_looked : (old new : OwnState) (reply : Reply) → IsGiven reply → OwnGives old looks reply new → (reply ≡ looked old.journal) × (new ≡ old)
+gives_looked : (old new : OwnState) (reply : Reply) → IsGiven reply → OwnGives old looks reply new
+    → (reply ≡ looked old.journal) × (new ≡ old)
 gives_looked old new (looked journal) given h = (ap looked h.0, h.1)
 gives_looked old new (judged verdicts) given h = absurd h
 gives_looked old new (lacked ops more) given h = absurd h

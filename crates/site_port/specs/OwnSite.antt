@@ -11,7 +11,8 @@ use Rattle.review_ops.specs.Fault.{IsFirstFault}
 use Rattle.review_ops.specs.Good.{IsFaultless}
 use Rattle.review_ops.specs.Operation.{Operation}
 use Rattle.state_core.specs.State.{state_of}
-use Rattle.site_port.specs.Ports.{Call, Reply, takes_in, lacks, reports, looks, stamped, lacked, judged, looked, refused}
+use Rattle.site_port.specs.Ports.{Call, Reply, takes_in, lacks, reports, looks, stamped, lacked, judged, looked}
+use Rattle.site_port.specs.Ports.{refused}
 use Rattle.site_port.specs.Sinks.{Offer, Uptake, fronts, hands, reached, took, declined}
 use Rattle.site_port.specs.declared.fault.PortFault.TheVariants as port
 use Rattle.site_port.specs.declared.fault.SinkFault.TheVariants as sink
@@ -31,16 +32,19 @@ HasStamp own = ¬ IsSpent own.journal own.site own.start
 abbrev pub next_operation : OwnState → Deed → Operation
 next_operation own deed = record { stamp = next_of own.journal own.site own.start; deed = kept_deed deed }
 
--- nothing is given for want of memory, and nothing changes; else: an intake is refused where no stamp is left, then where the body is bad, and
--- adds one operation under the next stamp; what a front lacks are the first 256 of the missing operations
+-- nothing is given for want of memory, and nothing changes; else: an intake is refused where no stamp is left, then
+-- where the body is bad, and adds one operation under the next stamp; what a front lacks are the first 256 of the
+-- missing operations
 abbrev pub OwnGives : OwnState → Call → Reply → OwnState → Type 0
 OwnGives old (takes_in deed) (stamped stamp) new =
-    HasStamp old × IsFaultless deed × (stamp ≡ next_of old.journal old.site old.start) × (new ≡ record old { journal = arrived old.journal (next_operation old deed) })
+    HasStamp old × IsFaultless deed × (stamp ≡ next_of old.journal old.site old.start)
+    × (new ≡ record old { journal = arrived old.journal (next_operation old deed) })
 OwnGives old (takes_in deed) (refused port.ClockSpent) new = IsSpent old.journal old.site old.start × (new ≡ old)
 OwnGives old (takes_in deed) (refused (port.BadBody cause)) new = HasStamp old × IsFirstFault cause deed × (new ≡ old)
 OwnGives old (takes_in deed) (refused port.NoMemory) new = HasStamp old × IsFaultless deed × (new ≡ old)
 OwnGives old (lacks front) (lacked ops more) new =
-    ((all : List Operation) × IsMissing old.journal front all × (ops ≡ take 256 all) × (more ≡ nat_lt 256 (length all))) × (new ≡ old)
+    ((all : List Operation) × IsMissing old.journal front all × (ops ≡ take 256 all) × (more ≡ nat_lt 256 (length all)))
+    × (new ≡ old)
 OwnGives old (lacks front) (refused port.NoMemory) new = new ≡ old
 OwnGives old reports (judged verdicts) new = AreVerdicts old.gate (state_of old.journal) verdicts × (new ≡ old)
 OwnGives old reports (refused port.NoMemory) new = new ≡ old
@@ -48,7 +52,8 @@ OwnGives old looks (looked journal) new = (journal ≡ old.journal) × (new ≡ 
 OwnGives old looks (refused port.NoMemory) new = new ≡ old
 OwnGives old call reply new = ⊥
 
--- it says its front, and takes what it is handed as a delivery is taken: where memory is refused, the first so many of the operations
+-- it says its front, and takes what it is handed as a delivery is taken: where memory is refused, the first so many of
+-- the operations
 abbrev pub OwnSinks : OwnState → Offer → Uptake → OwnState → Type 0
 OwnSinks old fronts (reached front) new = IsFront old.journal front × (new ≡ old)
 OwnSinks old fronts (declined sink.NoMemory) new = new ≡ old

@@ -2,7 +2,8 @@
 
 ghost use Rattle.std.specs.Prelude.{◌≤◌, IfErr, IfOk, vec_len};
 ghost use Rattle.review_ops.specs.Draft.{deed_of};
-ghost use Rattle.site_port.specs.Ports.{Call, Reply, takes_in, lacks, reports, looks, stamped, lacked, judged, looked, reply_by, IsLookingFault};
+ghost use Rattle.site_port.specs.Ports.{Call, Reply, takes_in, lacks, reports, looks, stamped, lacked, judged, looked};
+ghost use Rattle.site_port.specs.Ports.{reply_by, IsLookingFault};
 ghost use Rattle.site_port.specs.Sinks.{Offer, Uptake, fronts, hands, reached, took, uptake_by, taken_by};
 
 use super::fault::{PortFault, SinkFault};
@@ -10,8 +11,8 @@ use ready_core::Verdicts;
 use replica_core::{Front, Missing, Replica};
 use review_ops::{Draft, Op, Stamp};
 
-/// What a session asks of a site. A port has a relation of its own between what it is, what it is asked, what it replies and what it is then.
-/// Only an intake may answer `ClockSpent` and `BadBody`.
+/// What a session asks of a site. A port has a relation of its own between what it is, what it is asked, what it
+/// replies and what it is then. Only an intake may answer `ClockSpent` and `BadBody`.
 pub trait Port {
     /// From the old state a call may be replied to so, and leave the new state.
     ghost gives: { Self → Call → Reply → Self → Type 0 };

@@ -1,33 +1,36 @@
--- What a running site replies to a session: each look is at one moment, at a prefix of the site's publishes that goes on from all that the session has
--- seen and learnt before.
-use Rattle.std.specs.Prelude.{◌≡◌, List, length, nat_lt, take}
+-- What a running site replies to a session: each look is at one moment, at a prefix of the site's publishes that goes
+-- on from all that the session has seen and learnt before. A stamp is answered once the window sees an operation of it.
+use Rattle.std.specs.Prelude.{◌≡◌, true, List, length, nat_lt, take}
 use Rattle.gate_rules.specs.Rules.{GateRules}
 use Rattle.ready_core.specs.Verdicts.{AreVerdicts}
 use Rattle.replica_core.specs.Front.{IsFront}
+use Rattle.replica_core.specs.Journal.{has_stamp}
 use Rattle.replica_core.specs.Missing.{IsMissing}
 use Rattle.review_ops.specs.Operation.{Operation}
-use Rattle.site_port.specs.Ports.{Call, Reply, IsLookingFault, takes_in, lacks, reports, looks, stamped, lacked, judged, looked, refused}
+use Rattle.site_port.specs.Ports.{Call, Reply, IsLookingFault, takes_in, lacks, reports, looks, stamped, lacked, judged}
+use Rattle.site_port.specs.Ports.{looked, refused}
 use Rattle.site_port.specs.Sinks.{Offer, Uptake, fronts, reached}
 use Rattle.site_shared.specs.Accounts.{GoesOn, Outlook}
 use Rattle.site_shared.specs.Publishes.{arrive}
 use Rattle.state_core.specs.State.{state_of}
 
--- what is said at a moment at which the window has seen so much
+-- what is answered at a moment at which the window has seen so much
 abbrev pub Says : GateRules → List (List Operation) → Call → Reply → Type 0
 Says gate seen (lacks front) (lacked ops more) =
     (all : List Operation) × IsMissing (arrive seen) front all × (ops ≡ take 256 all) × (more ≡ nat_lt 256 (length all))
 Says gate seen reports (judged verdicts) = AreVerdicts gate (state_of (arrive seen)) verdicts
 Says gate seen looks (looked journal) = journal ≡ arrive seen
-Says gate seen (takes_in deed) (stamped stamp) = Unit {0}
+Says gate seen (takes_in deed) (stamped stamp) = has_stamp (arrive seen) stamp ≡ true
 Says gate seen (takes_in deed) (refused fault) = Unit {0}
 Says gate seen call (refused fault) = IsLookingFault fault
 Says gate seen call reply = ⊥
 
--- a reply, and what the window has seen once it is given
+-- a reply, and what the window has seen once it is made
 abbrev pub SiteGives : GateRules → Outlook → Call → Reply → Outlook → Type 0
 SiteGives gate old call reply new = GoesOn old new × Says gate new.seen call reply
 
--- how a pull's offers are taken up: the front is that of a moment; what is handed over is published, or only held, by the desk
+-- how a pull's offers are taken up: the front is that of a moment; what is handed over is published, or only held, by
+-- the desk
 abbrev pub SiteSinks : Outlook → Offer → Uptake → Outlook → Type 0
 SiteSinks old fronts (reached front) new = GoesOn old new × IsFront (arrive new.seen) front
 SiteSinks old offer uptake new = GoesOn old new

@@ -1,9 +1,14 @@
 //! What the threads of a site ask its desk, and what it answers.
 
+ghost use Rattle.std.specs.Prelude.{◌≡◌, true};
+ghost use Rattle.std.specs.Arc.{arc_value};
+ghost use Rattle.site_serve.specs.Acknowledged.{has_stamped};
+ghost use Rattle.site_shared.specs.Publishes.{arrive};
+
 use super::opening::OwnWindow;
 use crossbeam_channel::{Receiver, Sender};
 use review_ops::{Draft, Op, Stamp};
-use site_shared::{DeskFault, Naming, Told};
+use site_shared::{BrandedReceipt, DeskFault, Naming};
 use std::alloc::Global;
 use std::sync::Arc;
 
@@ -16,11 +21,13 @@ pub enum Ask {
     TakeAll { worker: usize, ops: Vec<Op> },
 }
 
-/// What was published: the receipt that threads share, and the stamp of a body that was taken in.
+/// What was published: the receipt that threads share, and the stamp of a body that was taken in. It can't be made
+/// before the publish: what was stamped is among what the receipt has seen published.
 #[derive(Drop)]
 pub struct Done<J: Naming> {
-    pub receipt: Arc<Told<J>, Global>,
+    pub receipt: Arc<BrandedReceipt<J>, Global>,
     pub stamp: Option<Stamp>,
+    pub ghost shown: { has_stamped (arrive (arc_value receipt).published) stamp ≡ true },
 }
 
 /// What was published, or why nothing was.

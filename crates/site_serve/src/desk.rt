@@ -1,14 +1,20 @@
 //! Keeps the ledger of a site: what its workers ask is held, then kept, then published, and only then answered.
 
-ghost use Rattle.std.specs.Prelude.{◌≤◌, IfOk, length};
+ghost use Rattle.std.specs.Prelude.{◌≡◌, ◌+◌, ◌<◌, ◌≤◌, [], All, Err, IfErr, IfOk, IsOk, None, Ok, OnErr, OnOk, true};
+ghost use Rattle.std.specs.Prelude.{vec_capacity, vec_len};
+ghost use Rattle.std.specs.Arc.{arc_value};
+ghost use Rattle.replica_core.specs.JournalLaws.{IsPartOf};
+ghost use Rattle.site_serve.specs.Acknowledged.{IsHeldBy, IsTakenInto, has_stamped};
+ghost use Rattle.site_shared.specs.Accounts.{receipt_of, record_of};
+ghost use Rattle.site_shared.specs.Publishes.{arrive};
 
 use super::ask::{Answer, Ask, Done};
 use super::news::News;
 use super::opening::OwnLedger;
 use crossbeam_channel::{Receiver, Sender};
-use review_ops::{Op, Stamp};
+use review_ops::{Draft, Op, Stamp};
 use site_ledger::{Keeps, LedgerFault};
-use site_shared::{DeskFault, Naming, Told};
+use site_shared::{BrandedReceipt, DeskFault, Naming};
 use std::alloc::Global;
 use std::sync::{Arc, Wait};
 
@@ -26,36 +32,45 @@ pub struct Lines<J: Naming> {
 #[derive(Clone, Copy, Debug)]
 pub struct NotKept;
 
-/// Who waits for an answer, and for which.
-#[derive(Drop)]
+/// Who waits for an answer, and what was held for that, or why nothing was.
+#[derive(Clone, Copy)]
 struct Waiter {
     worker: usize,
     held: Result<Option<Stamp>, DeskFault>,
 }
 
 /// The receipt of a publish that threads share, or why there was none.
-pub type Published<J> = Result<Arc<Told<J>, Global>, DeskFault>;
+pub type Published<J> = Result<Arc<BrandedReceipt<J>, Global>, DeskFault>;
 
-/// Does what the workers ask, until none of them is left, and brings each receipt to who prints, once who waits is answered. What is asked is held, and
-/// what is held is kept before it is published, and published before it is answered. Answers the last publish. Where it can't be kept, those who wait are answered
-/// nothing: their channels end.
+/// Does what the workers ask, until none of them is left, and brings each receipt to who prints, once who waits is
+/// answered. What is asked is held, and what is held is kept before it is published, and published before it is
+/// answered. Answers the last publish, which has shown all that was taken. Where it can't be kept, those who wait are
+/// answered nothing: their channels end.
 pub fn keep_desk<R: Wait, J: Naming, K: Keeps>(
     rt: &R,
     alloc: Global,
     ledger: &mut OwnLedger<J, K>,
     news: &News<J>,
     lines: Lines<J>,
-) -> Result<Published<J>, NotKept> {
+) -> Result<Published<J>, NotKept>
+    ensures last { IfOk result
+        (λ last. IfOk last (λ receipt. arc_value receipt ≡ receipt_of ledger.new.ledger.account None)) }
+    ensures over { OnErr result (ledger.new.ledger.is_over ≡ true) }
+{
     let Lines { asks, answers } = lines;
     let Ok(mut waiters) = Vec::with_capacity(alloc, BATCH) else {
         return Ok(Err(DeskFault::NoMemory(0)));
     };
     for first in asks.iter(rt) {
         hold_batch(rt, ledger, &asks, first, &mut waiters);
-        let published = publish_held(rt, alloc, ledger)?;
-        for waiter in waiters.drain(..) {
-            reply(rt, answers.as_slice(), waiter, &published);
-        }
+        let published = publish_and_answer(
+            rt,
+            alloc,
+            ledger,
+            answers.as_slice(),
+            waiters.as_slice(),
+        )?;
+        waiters.clear();
         if let Ok(receipt) = &published {
             news.bring(rt, receipt);
         }
@@ -63,29 +78,51 @@ pub fn keep_desk<R: Wait, J: Naming, K: Keeps>(
     publish_held(rt, alloc, ledger)
 }
 
-/// Holds what is asked, with what else is asked by now.
+/// Holds what is asked, with what else is asked by now. Each ask has a waiter, for whom there is room.
+#[tactic(auto, using(crate::proofs::Held::none_waits))]
 fn hold_batch<R: Wait, J: Naming, K: Keeps>(
     rt: &R,
     ledger: &mut OwnLedger<J, K>,
     asks: &Receiver<Ask, Global>,
     first: Ask,
     waiters: &mut Vec<Waiter>,
-) {
-    let _first_waits = waiters.push(hold_ask(ledger, first));
-    for _ in 1..BATCH {
+)
+    requires none { (waiters.old.items ≡ []) × (vec_len waiters.old ≡ 0) }
+    requires room { BATCH ≤ vec_capacity waiters.old }
+    ensures held { All (λ waiter. IsHeldBy ledger.new.ledger.account waiter.held) waiters.new.items }
+    ensures most { vec_len waiters.new ≤ BATCH }
+    ensures room { vec_capacity waiters.new ≡ vec_capacity waiters.old }
+{
+    hold_more(ledger, first, waiters);
+    for _waiting in 1..BATCH {
         let Ok(ask) = asks.try_recv(rt) else {
             return;
         };
-        let _waits = waiters.push(hold_ask(ledger, ask));
+        hold_more(ledger, ask, waiters);
     }
 }
 
+/// Holds what a worker asks, who waits from now on.
+fn hold_more<J: Naming, K: Keeps>(ledger: &mut OwnLedger<J, K>, ask: Ask, waiters: &mut Vec<Waiter>)
+    requires held { All (λ waiter. IsHeldBy ledger.old.ledger.account waiter.held) waiters.old.items }
+    requires room { vec_len waiters.old < vec_capacity waiters.old }
+    ensures held { All (λ waiter. IsHeldBy ledger.new.ledger.account waiter.held) waiters.new.items }
+    ensures one { vec_len waiters.new ≡ vec_len waiters.old + 1 }
+    ensures room { vec_capacity waiters.new ≡ vec_capacity waiters.old }
+{
+    let waiter = hold_ask(ledger, ask);
+    waiters.push_reserved(waiter);
+}
+
 /// Holds what a worker asks.
-fn hold_ask<J: Naming, K: Keeps>(ledger: &mut OwnLedger<J, K>, ask: Ask) -> Waiter {
+fn hold_ask<J: Naming, K: Keeps>(ledger: &mut OwnLedger<J, K>, ask: Ask) -> Waiter
+    ensures held { IsHeldBy ledger.new.ledger.account result.held }
+    ensures grows { IsPartOf (record_of ledger.old.ledger.account) (record_of ledger.new.ledger.account) }
+{
     match ask {
         Ask::Intake { worker, draft } => Waiter {
             worker,
-            held: ledger.hold(draft).map(Some),
+            held: hold_draft(ledger, draft),
         },
         Ask::TakeAll { worker, ops } => Waiter {
             worker,
@@ -94,11 +131,28 @@ fn hold_ask<J: Naming, K: Keeps>(ledger: &mut OwnLedger<J, K>, ask: Ask) -> Wait
     }
 }
 
+/// Stamps a body and holds it.
+fn hold_draft<J: Naming, K: Keeps>(
+    ledger: &mut OwnLedger<J, K>,
+    draft: Draft,
+) -> Result<Option<Stamp>, DeskFault>
+    ensures held { IsHeldBy ledger.new.ledger.account result }
+    ensures grows { IsPartOf (record_of ledger.old.ledger.account) (record_of ledger.new.ledger.account) }
+{
+    match ledger.hold(draft) {
+        Ok(stamp) => Ok(Some(stamp)),
+        Err(fault) => Err(fault),
+    }
+}
+
 /// Holds those operations that were neither published nor are held.
 fn hold_all_new<J: Naming, K: Keeps>(
     ledger: &mut OwnLedger<J, K>,
     ops: Vec<Op>,
-) -> Result<Option<Stamp>, DeskFault> {
+) -> Result<Option<Stamp>, DeskFault>
+    ensures held { IsHeldBy ledger.new.ledger.account result }
+    ensures grows { IsPartOf (record_of ledger.old.ledger.account) (record_of ledger.new.ledger.account) }
+{
     for op in ops {
         if ledger.hold_new(op).is_err() {
             return Err(DeskFault::NoMemory(0));
@@ -112,7 +166,13 @@ fn publish_held<R: Wait, J: Naming, K: Keeps>(
     rt: &R,
     alloc: Global,
     ledger: &mut OwnLedger<J, K>,
-) -> Result<Published<J>, NotKept> {
+) -> Result<Published<J>, NotKept>
+    ensures last { IfOk result
+        (λ published. IfOk published (λ receipt. arc_value receipt ≡ receipt_of ledger.new.ledger.account None)) }
+    ensures shown { IfOk result (λ published. IfOk published
+        (λ receipt. IsPartOf (record_of ledger.old.ledger.account) (arrive (arc_value receipt).published))) }
+    ensures over { OnErr result (ledger.new.ledger.is_over ≡ true) }
+{
     match ledger.publish(rt) {
         Ok(receipt) => Ok(shared(alloc, receipt)),
         Err(LedgerFault::NoMemory) => Ok(Err(DeskFault::NoMemory(0))),
@@ -120,25 +180,69 @@ fn publish_held<R: Wait, J: Naming, K: Keeps>(
     }
 }
 
-/// Answers who waits, once what was held is published or isn't.
-fn reply<R: Wait, J: Naming>(
+/// Has what is held kept, publishes it, and then answers all who wait. Where it can't be kept nobody is answered.
+fn publish_and_answer<R: Wait, J: Naming, K: Keeps>(
     rt: &R,
+    alloc: Global,
+    ledger: &mut OwnLedger<J, K>,
     answers: &[Sender<Answer<J>, Global>],
-    waiter: Waiter,
-    published: &Published<J>,
-) {
-    let Waiter { worker, held } = waiter;
-    let answer = match held {
-        Ok(stamp) => done(published, stamp),
+    waiters: &[Waiter],
+) -> Result<Published<J>, NotKept>
+    requires { All (λ waiter. IsHeldBy ledger.old.ledger.account waiter.held) waiters.now }
+    ensures over { OnErr result (ledger.new.ledger.is_over ≡ true) }
+{
+    match publish_held(rt, alloc, ledger) {
+        Ok(published) => {
+            reply_all(rt, answers, waiters, &published);
+            Ok(published)
+        }
         Err(fault) => Err(fault),
-    };
-    if let Some(answers) = answers.get(worker) {
-        let _sent = answers.send(rt, answer);
     }
 }
 
-/// What is answered for what was held, once it is published.
-fn done<J: Naming>(published: &Published<J>, stamp: Option<Stamp>) -> Answer<J> {
+/// Answers all who wait, once what was held for them is published or isn't.
+fn reply_all<R: Wait, J: Naming>(
+    rt: &R,
+    answers: &[Sender<Answer<J>, Global>],
+    waiters: &[Waiter],
+    published: &Published<J>,
+)
+    requires { IfOk published.now
+        (λ receipt. All (λ waiter. IsTakenInto (arrive (arc_value receipt).published) waiter.held) waiters.now) }
+{
+    for waiter in waiters {
+        let answer = answer_to(waiter.held, published);
+        if let Some(answers) = answers.get(waiter.worker) {
+            let _sent = answers.send(rt, answer);
+        }
+    }
+}
+
+/// What is answered for what was held, once it is published or isn't: that it was refused; or what was stamped, with
+/// the receipt of its publish; or, where there was no publish, that memory was refused.
+fn answer_to<J: Naming>(
+    held: Result<Option<Stamp>, DeskFault>,
+    published: &Published<J>,
+) -> Answer<J>
+    requires { IfOk published.now (λ receipt. IsTakenInto (arrive (arc_value receipt).published) held) }
+    ensures refused { IfErr held (λ fault. result ≡ Err fault) }
+    ensures stamp { IfOk result (λ done. held ≡ Ok done.stamp) }
+    ensures published { OnOk result (IsOk published.now) }
+    ensures receipt { IfOk result (λ done. IfOk published.now (λ receipt. arc_value done.receipt ≡ arc_value receipt)) }
+{
+    match held {
+        Ok(stamp) => done(published, stamp),
+        Err(fault) => Err(fault),
+    }
+}
+
+/// What is answered for what was stamped, once it is published or isn't.
+fn done<J: Naming>(published: &Published<J>, stamp: Option<Stamp>) -> Answer<J>
+    requires { IfOk published.now (λ receipt. has_stamped (arrive (arc_value receipt).published) stamp ≡ true) }
+    ensures stamp { IfOk result (λ done. done.stamp ≡ stamp) }
+    ensures published { OnOk result (IsOk published.now) }
+    ensures receipt { IfOk result (λ done. IfOk published.now (λ receipt. arc_value done.receipt ≡ arc_value receipt)) }
+{
     match published {
         Ok(receipt) => match Arc::try_clone(receipt) {
             Ok(receipt) => Ok(Done { receipt, stamp }),
@@ -148,8 +252,11 @@ fn done<J: Naming>(published: &Published<J>, stamp: Option<Stamp>) -> Answer<J> 
     }
 }
 
-/// A receipt that threads share. Where memory is refused for that, a publish that was made is answered as one that wasn't.
-fn shared<J: Naming>(alloc: Global, receipt: Told<J>) -> Published<J> {
+/// A receipt that threads share. Where memory is refused for that, a publish that was made is answered as one that
+/// wasn't.
+fn shared<J: Naming>(alloc: Global, receipt: BrandedReceipt<J>) -> Published<J>
+    ensures { IfOk result (λ shared. arc_value shared ≡ receipt) }
+{
     match Arc::new(alloc, receipt) {
         Ok(receipt) => Ok(receipt),
         Err(_) => Err(DeskFault::NoMemory(0)),

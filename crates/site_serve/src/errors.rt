@@ -5,7 +5,8 @@ use gossip_line::LineFault;
 use std::alloc::{AllocError, Global};
 use std::sync::{Mutex, Wait};
 
-/// The error output of a site, which its threads share. A line that it doesn't take is lost, and so is one for which memory is refused.
+/// The error output of a site, which its threads share. A line that it doesn't take is lost, and so is one for which
+/// memory is refused.
 #[derive(Drop)]
 pub struct Errors<E: Drain> {
     drain: Mutex<E>,

@@ -17,8 +17,8 @@ use std::io;
 use std::sync::Wait;
 use std::time::{Clock, Duration, Instant};
 
-/// How many times as long as a report took to make its thread rests before the next one: the desk may have to wait for a window that is looked
-/// through, so that reports hold it up for a fifth of the time.
+/// How many times as long as a report took to make its thread rests before the next one: the desk may have to wait for
+/// a window that is looked through, so that reports hold it up for a fifth of the time.
 const REST: u32 = 4;
 
 /// The longest rest in seconds.
@@ -33,8 +33,9 @@ pub struct Printed<J: Naming> {
     pub fault: Option<ServeFault>,
 }
 
-/// Prints the report of what the window shows, and each one that differs from the last, until nothing new comes any more. After each it rests. The
-/// verdicts are kept from one report to the next, and brought up to date with what the window shows.
+/// Prints the report of what the window shows, and each one that differs from the last, until nothing new comes any
+/// more. After each it rests. The verdicts are kept from one report to the next, and brought up to date with what the
+/// window shows.
 pub fn print_reports<R: Wait + Clock, W: Drain + Drop, J: Naming>(
     rt: &R,
     alloc: Global,
@@ -70,7 +71,9 @@ pub fn print_reports<R: Wait + Clock, W: Drain + Drop, J: Naming>(
         }
         news.rest(rt, rest);
         match news.newest(rt) {
-            Some(receipt) => printed.window.learn(&receipt),
+            Some(receipt) => {
+                let _own = printed.window.learn(&receipt);
+            }
             None => is_over = true,
         }
     }

@@ -37,8 +37,8 @@ pub struct Pulling<'a> {
     pub stop: &'a Stop,
 }
 
-/// Pulls from each peer in turn, with a rest after each round, until the site stops. It asks for that where another process
-/// takes in as this site.
+/// Pulls from each peer in turn, with a rest after each round, until the site stops. It asks for that where another
+/// process takes in as this site.
 pub fn pull_from_peers<R: Wait + Clock + Net<Stream = TcpStream>, E: Drain, J: Naming>(
     rt: &R,
     pulling: Pulling<'_>,

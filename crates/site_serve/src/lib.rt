@@ -1,4 +1,5 @@
-//! A site that runs: it answers sessions over sockets, pulls from its peers, and prints its report whenever that changes.
+//! A site that runs: it answers sessions over sockets, pulls from its peers, and prints its report whenever that
+//! changes.
 #![tactic(auto)]
 
 mod ask;

@@ -1,11 +1,12 @@
 //! The newest receipt of a site, for the thread that prints its reports.
 
-use site_shared::{Naming, Told};
+use site_shared::{BrandedReceipt, Naming};
 use std::alloc::Global;
 use std::sync::{Arc, Condvar, Mutex, Wait};
 use std::time::{Clock, Duration};
 
-/// What is new at a site. A newer receipt takes the place of one that nobody has looked at yet, so that whoever brings it never waits.
+/// What is new at a site. A newer receipt takes the place of one that nobody has looked at yet, so that whoever brings
+/// it never waits.
 #[derive(Drop)]
 pub struct News<J: Naming> {
     slot: Mutex<Slot<J>>,
@@ -16,7 +17,7 @@ pub struct News<J: Naming> {
 /// The newest receipt, and whether others may come.
 #[derive(Drop)]
 struct Slot<J: Naming> {
-    newest: Option<Arc<Told<J>, Global>>,
+    newest: Option<Arc<BrandedReceipt<J>, Global>>,
     is_closed: bool,
 }
 
@@ -34,7 +35,7 @@ impl<J: Naming> News<J> {
     }
 
     /// Brings a receipt. Where memory is refused for that, the next one has what it has.
-    pub fn bring(&self, rt: &impl Wait, receipt: &Arc<Told<J>, Global>) {
+    pub fn bring(&self, rt: &impl Wait, receipt: &Arc<BrandedReceipt<J>, Global>) {
         let Ok(newest) = Arc::try_clone(receipt) else {
             return;
         };
@@ -60,7 +61,7 @@ impl<J: Naming> News<J> {
     }
 
     /// Waits for the newest receipt that nobody has looked at; none once nothing new comes any more.
-    pub fn newest(&self, rt: &impl Wait) -> Option<Arc<Told<J>, Global>> {
+    pub fn newest(&self, rt: &impl Wait) -> Option<Arc<BrandedReceipt<J>, Global>> {
         let slot = self.slot.lock(rt);
         let mut slot = self
             .changed

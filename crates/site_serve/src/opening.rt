@@ -1,14 +1,18 @@
-//! What belongs to one opening of a site. That a receipt which a window is handed comes from the window's own opening is
-//! said by their types.
+//! What belongs to one opening of a site. That a receipt which a window is handed comes from the window's own opening
+//! is part of their types.
 
-ghost use Rattle.std.specs.Prelude.{◌≡◌, IfOk, IfSome, List, MatchResult, length, nat_lt, take};
+ghost use Rattle.std.specs.Prelude.{◌≡◌, ◌<◌, IfErr, IfOk, IfSome, List, MatchResult, None, OnOk, length, nat_lt, take};
+ghost use Rattle.std.specs.Prelude.{true};
 ghost use Rattle.std.specs.List.{list_any};
 ghost use Rattle.std.specs.Option.{option_copied};
 ghost use Rattle.ready_core.specs.Verdicts.{AreVerdicts};
 ghost use Rattle.replica_core.specs.Front.{IsFront};
+ghost use Rattle.replica_core.specs.Journal.{has_stamp};
+ghost use Rattle.replica_core.specs.JournalLaws.{IsPartOf};
 ghost use Rattle.replica_core.specs.Missing.{IsMissing};
 ghost use Rattle.review_ops.specs.Operation.{Operation};
-ghost use Rattle.site_shared.specs.Accounts.{GoesOn, is_foreign};
+ghost use Rattle.site_ledger.specs.Keeping.{is_over_after};
+ghost use Rattle.site_shared.specs.Accounts.{GoesOn, is_foreign, receipt_of, record_of};
 ghost use Rattle.site_shared.specs.Publishes.{arrive};
 ghost use Rattle.site_shared.specs.Watches.{IsSameWatch, IsWatchOf, Refreshes, RefusesRefresh};
 ghost use Rattle.state_core.specs.State.{state_of};
@@ -19,7 +23,10 @@ use ready_core::Verdicts;
 use replica_core::{Front, Missing, Replica};
 use review_ops::{Draft, Op, Stamp};
 use site_ledger::{Keeps, Ledger, LedgerFault};
-use site_shared::{DeskFault, Naming, RefreshFault, Told, Watch, Window, WindowFault};
+use site_shared::{
+    BrandedReceipt, DeskFault, Naming, RefreshFault, Stranger, Watch, Window, WindowFault,
+    later_journals_go_on,
+};
 use std::marker::PhantomData;
 use std::sync::Wait;
 
@@ -42,11 +49,14 @@ impl<J: Naming> OwnWindow<J> {
         }
     }
 
-    /// Sees no less than the publish that the receipt was answered for, from now on.
-    pub fn learn(&mut self, told: &Told<J>)
-        ensures { GoesOn self.old.window self.new.window }
+    /// Sees no less than the publish that the receipt was answered for, from now on. One of another site or start isn't
+    /// of this opening.
+    pub fn learn(&mut self, receipt: &BrandedReceipt<J>) -> Result<(), Stranger>
+        ensures later { GoesOn self.old.window self.new.window }
+        ensures ok { OnOk result (IsPartOf (arrive receipt.now.published) (arrive self.new.window.seen)) }
     {
-        let _own = self.window.learn(told.receipt());
+        later_journals_go_on();
+        self.window.learn(receipt.receipt())
     }
 
     /// Which items are ready, and why each other one isn't.
@@ -73,7 +83,8 @@ impl<J: Naming> OwnWindow<J> {
     pub fn refresh(&mut self, watch: &mut OwnWatch<J>) -> Result<(), RefreshFault>
         ensures later { GoesOn self.old.window self.new.window }
         ensures same { IsSameWatch watch.old.watch watch.new.watch }
-        ensures refreshed { MatchResult result (λ _. Refreshes self.old.window watch.old.watch self.new.window watch.new.watch)
+        ensures refreshed { MatchResult result
+            (λ _. Refreshes self.old.window watch.old.watch self.new.window watch.new.watch)
             (λ fault. RefusesRefresh self.old.window watch.old.watch fault self.new.window watch.new.watch) }
     {
         self.window.refresh(&mut watch.watch)
@@ -90,7 +101,8 @@ impl<J: Naming> OwnWindow<J> {
     /// The first operations that a front lacks.
     pub fn missing(&mut self, front: &Front, limit: usize) -> Result<Missing, WindowFault>
         ensures later { GoesOn self.old.window self.new.window }
-        ensures ok { IfOk result (λ missing. (all : List Operation) × IsMissing (arrive self.new.window.seen) front.now all
+        ensures ok { IfOk result
+            (λ missing. (all : List Operation) × IsMissing (arrive self.new.window.seen) front.now all
             × (missing.ops.items ≡ take limit all) × (missing.more ≡ nat_lt limit (length all))) }
     {
         self.window.missing(front, limit)
@@ -138,12 +150,14 @@ pub struct OwnLedger<J: Naming, K: Keeps> {
     ledger: Ledger<K>,
     of: PhantomData<J>,
     ghost ours: { ledger.account.book ≡ J.book },
+    ghost opened: { 0 < length ledger.account.published },
 }
 
 impl<J: Naming, K: Keeps> OwnLedger<J, K> {
     /// The ledger, of this opening.
     pub fn new(ledger: Ledger<K>) -> OwnLedger<J, K>
-        requires { ledger.account.book ≡ J.book }
+        requires ours { ledger.account.book ≡ J.book }
+        requires opened { 0 < length ledger.account.published }
     {
         OwnLedger {
             ledger,
@@ -152,18 +166,35 @@ impl<J: Naming, K: Keeps> OwnLedger<J, K> {
     }
 
     /// Stamps a body and holds it, without a publish.
-    pub fn hold(&mut self, draft: Draft) -> Result<Stamp, DeskFault> {
-        self.ledger.hold(draft)
+    pub fn hold(&mut self, draft: Draft) -> Result<Stamp, DeskFault>
+        ensures ok { IfOk result (λ stamp. has_stamp (record_of self.new.ledger.account) stamp ≡ true) }
+        ensures grows { IsPartOf (record_of self.old.ledger.account) (record_of self.new.ledger.account) }
+    {
+        match self.ledger.hold(draft) {
+            Ok(stamp) => Ok(stamp),
+            Err(fault) => Err(fault),
+        }
     }
 
     /// Holds an operation, unless it was published or is held.
-    pub fn hold_new(&mut self, op: Op) -> Result<(), NoMemory> {
+    pub fn hold_new(&mut self, op: Op) -> Result<(), NoMemory>
+        ensures grows { IsPartOf (record_of self.old.ledger.account) (record_of self.new.ledger.account) }
+    {
         self.ledger.hold_new(op)
     }
 
-    /// Has what is held kept, and then publishes it.
-    pub fn publish<R: Wait>(&mut self, rt: &R) -> Result<Told<J>, LedgerFault> {
-        Ok(Told::new(self.ledger.publish(rt)?))
+    /// Has what is held kept, and then publishes it: all of it is in what the receipt has seen published.
+    pub fn publish<R: Wait>(&mut self, rt: &R) -> Result<BrandedReceipt<J>, LedgerFault>
+        ensures ok { IfOk result (λ receipt. receipt ≡ receipt_of self.new.ledger.account None) }
+        ensures shown { IfOk result
+            (λ receipt. IsPartOf (record_of self.old.ledger.account) (arrive receipt.published)) }
+        ensures err { IfErr result (λ fault. (self.new.ledger.account ≡ self.old.ledger.account)
+            × (self.new.ledger.is_over ≡ is_over_after fault)) }
+    {
+        match self.ledger.publish(rt) {
+            Ok(receipt) => Ok(BrandedReceipt::new(receipt)),
+            Err(fault) => Err(fault),
+        }
     }
 
     /// Ends the ledger.

@@ -16,7 +16,8 @@ use std::sync::Wait;
 /// How many operations are answered at once.
 const ANSWER_LIMIT: usize = 256;
 
-/// A worker's view of the site: a window to look through, and a wire to the desk. What the desk answered, the window has learnt.
+/// A worker's view of the site: a window to look through, and a wire to the desk. What the desk answered, the window
+/// has learnt.
 #[derive(Drop)]
 pub struct SitePort<'a, 'g, R: Wait, J: Naming> {
     rt: &'a R,
@@ -70,10 +71,10 @@ impl<'a, 'g, R: Wait, J: Naming> Port for SitePort<'a, 'g, R, J> {
             Ok(done) => done,
             Err(fault) => return Err(desk_fault(fault)),
         };
-        self.window.learn(&receipt);
-        match stamp {
-            Some(stamp) => Ok(stamp),
-            None => Err(PortFault::Closed),
+        let learnt = self.window.learn(&receipt);
+        match (learnt, stamp) {
+            (Ok(()), Some(stamp)) => Ok(stamp),
+            _ => Err(PortFault::Closed),
         }
     }
 
@@ -123,7 +124,7 @@ impl<'a, 'g, R: Wait, J: Naming> Sink for SitePort<'a, 'g, R, J> {
         let worker = self.wire.worker;
         match self.ask(Ask::TakeAll { worker, ops }) {
             Some(Ok(done)) => {
-                self.window.learn(&done.receipt);
+                let _own = self.window.learn(&done.receipt);
                 Ok(())
             }
             Some(Err(_)) => Err(SinkFault::NoMemory),

@@ -68,12 +68,13 @@ where
     )
 }
 
-/// Runs a site until it is asked to stop, or until all its sessions have ended: its sessions, its pulls and its reports in threads of their own, and its
-/// desk in this one. The report of what it has is printed first, then each one that differs from the last. What ended with a fault, and which peer can't
-/// be reached, is written to `errors`. Refusals: 2 `StartUsed`, the replica has a stamp of the site under this start or a later one; 3 `NoMemory`; 4
-/// `NoPlace`, the system refused a thread or a place for one; 6 `NoJournal`, what was taken in couldn't be kept, and was neither shown nor acknowledged.
-/// Whatever the site takes in is kept first, then shown, then acknowledged. The keeper has to be one that has some operations, all of which stay: a
-/// journal that was just opened is, and `NoJournal`.
+/// Runs a site until it is asked to stop, or until all its sessions have ended: its sessions, its pulls and its reports
+/// in threads of their own, and its desk in this one. The report of what it has is printed first, then each one that
+/// differs from the last. What ended with a fault, and which peer can't be reached, is written to `errors`. Refusals: 2
+/// `StartUsed`, the replica has a stamp of the site under this start or a later one; 3 `NoMemory`; 4 `NoPlace`, the
+/// system refused a thread or a place for one; 6 `NoJournal`, what was taken in couldn't be kept, and was neither shown
+/// nor acknowledged. Whatever the site takes in is kept first, then shown, then acknowledged. The keeper has to be one
+/// that has some operations, all of which stay: a journal that was just opened is, and `NoJournal`.
 pub fn serve_keeping<R, W, E, T, K>(
     rt: &R,
     alloc: Global,
@@ -308,7 +309,8 @@ fn print_all<R: Wait + Clock, W: Drain + Drop, E: Drain, J: Naming>(
     print_reports(rt, alloc, &common.gate, news, window, output)
 }
 
-/// Pulls from the peers, and shuts the door once the site stops. It notes whether another process takes in as this site.
+/// Pulls from the peers, and shuts the door once the site stops. It notes whether another process takes in as this
+/// site.
 fn pull<R, E, J>(
     rt: &R,
     alloc: Global,
@@ -390,7 +392,7 @@ fn left_of<J: Naming>(ended: Ended<J>, is_start_taken: bool) -> Result<Served, S
         return Err(ServeFault::NoMemory);
     };
     let mut window = window;
-    window.learn(&receipt);
+    let _own = window.learn(&receipt);
     match window.snapshot() {
         Ok(replica) => Ok(Served {
             replica,

@@ -58,7 +58,8 @@ impl Sessions {
     }
 }
 
-/// Answers sessions until the site stops, or until all that there are to be are claimed. After the last one the site is asked to stop.
+/// Answers sessions until the site stops, or until all that there are to be are claimed. After the last one the site is
+/// asked to stop.
 pub fn serve_sessions<R: Wait + Clock, E: Drain, T: Turn, J: Naming>(
     rt: &R,
     sessions: &Sessions,

@@ -38,7 +38,8 @@ pub struct Served {
     pub is_start_taken: bool,
 }
 
-/// Why a site doesn't run, or doesn't run to its end: `serve_keeping` answers 2 to 4 and 6, and who calls it the others.
+/// Why a site doesn't run, or doesn't run to its end: `serve_keeping` answers 2 to 4 and 6, and who calls it the
+/// others.
 #[derive(Clone, Copy, Debug, PartialEq, Eq, Error)]
 pub enum ServeFault {
     /// 1: the port can't be listened at.
@@ -97,7 +98,8 @@ impl ServeFault {
     }
 }
 
-/// What is called before and after each session, by the worker that answers it. Sessions are numbered from 1, as they are accepted.
+/// What is called before and after each session, by the worker that answers it. Sessions are numbered from 1, as they
+/// are accepted.
 pub trait Turn {
     /// The session is answered from now on.
     fn enter(&self, session: u64);

@@ -5,4 +5,5 @@ use Rattle.serve_command.proofs.journal.add_lacking.Given as goal
 
 -- a journal that had some operations, all of which stay, is still one
 abbrev pub invariant-loop-op : goal.invariant-loop-op
-invariant-loop-op g l = (before : List Operation) → IsHolding l.fn.journal before → (after : List Operation) × IsHolding l.journal after
+invariant-loop-op g l =
+    (before : List Operation) → IsHolding l.fn.journal before → (after : List Operation) × IsHolding l.journal after

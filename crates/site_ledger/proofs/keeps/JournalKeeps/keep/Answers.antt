@@ -7,5 +7,6 @@ use Rattle.site_ledger.proofs.Crashes.{on_err, recovered_survives}
 use Rattle.site_ledger.proofs.keeps.JournalKeeps.keep.Goals as goal
 
 pub returns-clause-err : goal.returns-clause-err
-returns-clause-err g c = on_err c.append.result ((before : List Operation) → IsHolding c.args.self.now before → Survive c.append.new.self before)
+returns-clause-err g c = on_err c.append.result
+    ((before : List Operation) → IsHolding c.args.self.now before → Survive c.append.new.self before)
     (λ before holding. recovered_survives c.append.new.self.image before c.args.ops.now (IsOk c.append.result) (c.append.ensures.any_crash before holding))

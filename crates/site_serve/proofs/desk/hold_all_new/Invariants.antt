@@ -1,0 +1,9 @@
+use Rattle.replica_core.specs.JournalLaws.{IsPartOf}
+use Rattle.site_shared.specs.Accounts.{record_of}
+use Rattle.site_serve.proofs.desk.hold_all_new.Given as goal
+
+-- the record has what it had at first
+abbrev pub invariant-loop-op : goal.invariant-loop-op
+invariant-loop-op g l =
+    (goal.iterator-loop-op g).can_next l.op-iterator × (goal.iterator-loop-op g).is_finite l.op-iterator
+    × IsPartOf (record_of l.initial.ledger.ledger.account) (record_of l.ledger.ledger.account)

@@ -1,0 +1,21 @@
+-- What a running site acknowledges: an answer comes with the receipt of a publish, and what was stamped is among what
+-- the publishes brought.
+use Rattle.std.specs.Prelude.{◌≡◌, Bool, true, IfOk, List, Option, None, Some, Result}
+use Rattle.replica_core.specs.Journal.{has_stamp}
+use Rattle.review_ops.specs.Operation.{Operation}
+use Rattle.review_ops.specs.Timestamp.{Timestamp}
+use Rattle.site_shared.specs.Accounts.{Account, record_of}
+use Rattle.site_shared.specs.declared.fault.DeskFault.{DeskFault}
+
+-- whether the journal has an operation of the stamp; where nothing was stamped nothing is asked
+abbrev pub has_stamped : List Operation → Option Timestamp → Bool
+has_stamped journal None = true
+has_stamped journal (Some stamp) = has_stamp journal stamp
+
+-- what was stamped is in the journal, unless it was refused
+abbrev pub IsTakenInto : List Operation → Result (Option Timestamp) DeskFault → Type 0
+IsTakenInto journal held = IfOk held (λ stamp. has_stamped journal stamp ≡ true)
+
+-- what was stamped is among all that was published or is held
+abbrev pub IsHeldBy : Account → Result (Option Timestamp) DeskFault → Type 0
+IsHeldBy account = IsTakenInto (record_of account)
