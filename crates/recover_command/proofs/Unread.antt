@@ -12,7 +12,8 @@ may_fail (Some text) = tt
 
 -- whatever it has, nothing is printed of it
 pub not_opened : (left taken : Option (List ℕ)) (failed : ℕ) (errors now_errors : ErrorOutput) (status : ℕ)
-    → Reports (Err (Journal Failed)) errors now_errors status → Recovers left taken taken failed failed errors now_errors status
+    → Reports (Err (Journal Failed)) errors now_errors status
+    → Recovers left taken taken failed failed errors now_errors status
 not_opened left taken failed errors now_errors status reported = record {
   ended = Err (Journal Failed);
   printed = (may_fail left, refl);

@@ -36,14 +36,17 @@ abbrev pub fault_line : RecoverFault → List ℕ
 fault_line (Journal fault) = journal_line fault
 fault_line (Snapshot fault) = refusal_line (refusal_of fault)
 
--- what the error output is written, and the status: nothing of a whole journal, the line of a torn one, and that of a fault
+-- what the error output is written, and the status: nothing of a whole journal, the line of a torn one, and that of a
+-- fault
 abbrev pub Reports : Ended → ErrorOutput → ErrorOutput → ℕ → Type 0
-Reports (Ok torn) old new status = (torn ≡ 0 → new ≡ old) × (0 < torn → ShowsLine (torn_line torn) old new) × (status ≡ 0)
+Reports (Ok torn) old new status =
+    (torn ≡ 0 → new ≡ old) × (0 < torn → ShowsLine (torn_line torn) old new) × (status ≡ 0)
 Reports (Err fault) old new status = ShowsLine (fault_line fault) old new × (status ≡ 1)
 
--- how a journal of which this is left to read is recovered: what the output has taken before and after, how many of its calls
--- failed, and the same of the error output
-pub record Recovers (left old new : Option (List ℕ)) (failed now_failed : ℕ) (errors now_errors : ErrorOutput) (status : ℕ)
+-- how a journal of which this is left to read is recovered: what the output has taken before and after, how many of its
+-- calls failed, and the same of the error output
+pub record Recovers (left old new : Option (List ℕ)) (failed now_failed : ℕ) (errors now_errors : ErrorOutput)
+    (status : ℕ)
     : Type 0 where
   pub ended : Ended
   pub printed : Prints left old new ended

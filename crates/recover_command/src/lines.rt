@@ -9,21 +9,23 @@ use console::show_line;
 use site_journal::JournalFault;
 use std::alloc::{AllocError, Global};
 
-/// Writes the line of a journal's fault to the error output, or that of want of memory, where memory is refused for it. What the error output can't
-/// take is lost.
+/// Writes the line of a journal's fault to the error output, or that of want of memory, where memory is refused for it.
+/// What the error output can't take is lost.
 pub fn show_journal_fault<E: Drain>(alloc: Global, fault: &JournalFault, errors: &mut E)
     ensures { ShowsLine (journal_line fault.now)
-        (error_output (E.taken errors.old) (E.failed errors.old)) (error_output (E.taken errors.new) (E.failed errors.new)) }
+        (error_output (E.taken errors.old) (E.failed errors.old))
+        (error_output (E.taken errors.new) (E.failed errors.new)) }
 {
     show_line(&journal_line(alloc, fault), errors);
 }
 
-/// Writes to the error output how many bytes of a torn line were left out, if any, or the line of want of memory, where memory is refused for that. What
-/// the error output can't take is lost.
+/// Writes to the error output how many bytes of a torn line were left out, if any, or the line of want of memory, where
+/// memory is refused for that. What the error output can't take is lost.
 pub fn show_torn<E: Drain>(alloc: Global, torn: usize, errors: &mut E)
     ensures whole { torn ≡ 0 → errors.new ≡ errors.old }
     ensures torn { 0 < torn → ShowsLine (torn_line torn)
-        (error_output (E.taken errors.old) (E.failed errors.old)) (error_output (E.taken errors.new) (E.failed errors.new)) }
+        (error_output (E.taken errors.old) (E.failed errors.old))
+        (error_output (E.taken errors.new) (E.failed errors.new)) }
 {
     if torn > 0 {
         show_line(&torn_line(alloc, torn), errors);

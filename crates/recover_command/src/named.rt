@@ -1,9 +1,10 @@
 //! A journal by its name, and the words that name one.
 
-ghost use Rattle.std.specs.Prelude.{◌≡◌, ◌⊎◌, ◌∷◌, [], List, ℕ, Option, true, IfSome, codes, map};
+ghost use Rattle.std.specs.Prelude.{◌≡◌, List, ℕ, None, Option, Some, true, if◌then◌else◌, map, option_map};
 ghost use Rattle.console.specs.Console.{is_input};
 ghost use Rattle.console.specs.Showing.{error_output};
 ghost use Rattle.recover_command.specs.Recovering.{Recovers};
+ghost use Rattle.recover_command.specs.Words.{is_option, named_journal};
 
 use super::recovering::{recover_to, report};
 use byte_ends::{Drain, Ends, Source};
@@ -16,35 +17,30 @@ use std::rt::Files;
 /// The name of the input.
 const INPUT: &str = "-";
 
-/// The name of the journal that the words after `recover` ask for, where there is that name alone: `-`, or one that begins otherwise, or any name after
-/// `--`. Whatever else they ask for is `clap`'s to say.
+/// The name of the journal that the words after `recover` ask for, where there is that name alone: `-`, or one that
+/// begins otherwise, or any name after `--`. Whatever else they ask for is `clap`'s to say.
 pub fn journal_named<S: AsStr>(words: &[S]) -> Option<&str>
-    ensures { IfSome result (λ name. (map S.text words.now ≡ name.now ∷ []) ⊎ (map S.text words.now ≡ codes "--" ∷ name.now ∷ [])) }
-{
-    if let Some((dashes, rest)) = words.split_first()
-        && dashes.as_str() == "--"
-    {
-        return only_word(rest);
-    }
-    let name = only_word(words)?;
-    if name.starts_with('-') && name != INPUT {
-        return None;
-    }
-    Some(name)
-}
-
-/// The word that stands alone.
-fn only_word<S: AsStr>(words: &[S]) -> Option<&str>
-    ensures { IfSome result (λ word. map S.text words.now ≡ word.now ∷ []) }
+    ensures { option_map (λ name. name.now) result ≡ named_journal (map S.text words.now) }
 {
     match words {
-        [word] => Some(word.as_str()),
+        [word] => unless_option(word.as_str()),
+        [dashes, name] if dashes.as_str() == "--" => Some(name.as_str()),
         _ => None,
     }
 }
 
-/// Recovers the journal of a name, or for `-` what the input has, as `recover_to` does. A file that can't be opened is a journal that can't be read:
-/// 4 `Failed`. It is neither locked nor changed.
+/// The word, unless it begins with a dash and has more than that.
+fn unless_option(word: &str) -> Option<&str>
+    ensures { option_map (λ name. name.now) result ≡ (if is_option word.now then None else Some word.now) }
+{
+    match word.as_bytes() {
+        [b'-', _, ..] => None,
+        _ => Some(word),
+    }
+}
+
+/// Recovers the journal of a name, or for `-` what the input has, as `recover_to` does. A file that can't be opened is
+/// a journal that can't be read: 4 `Failed`. It is neither locked nor changed.
 pub fn recover_named<R: Files, I: Source + Drop, O: Drain, E: Drain>(
     rt: &R,
     alloc: Global,
@@ -55,7 +51,8 @@ pub fn recover_named<R: Files, I: Source + Drop, O: Drain, E: Drain>(
 ) -> u8
     ensures { (left : Option (List ℕ)) × (is_input name.now ≡ true → left ≡ I.left input)
         × Recovers left (O.taken output.old) (O.taken output.new) (O.failed output.old) (O.failed output.new)
-        (error_output (E.taken errors.old) (E.failed errors.old)) (error_output (E.taken errors.new) (E.failed errors.new)) result }
+        (error_output (E.taken errors.old) (E.failed errors.old))
+        (error_output (E.taken errors.new) (E.failed errors.new)) result }
 {
     if name == INPUT {
         return recover_to(alloc, input, output, errors);

@@ -17,17 +17,20 @@ const DONE: u8 = 0;
 /// The status of one that wasn't.
 const REFUSED: u8 = 1;
 
-/// Prints the snapshot of a journal's whole lines, and writes to `errors` how many bytes of a torn line were left out, if any, or why the journal isn't
-/// recovered. The answer is the exit status: 0, or 1 where it isn't. Nothing is printed of a journal that isn't read; where the output failed, a proper
-/// prefix of the snapshot is printed. It costs what reading the journal costs, and what writing the snapshot costs.
+/// Prints the snapshot of a journal's whole lines, and writes to `errors` how many bytes of a torn line were left out,
+/// if any, or why the journal isn't recovered. The answer is the exit status: 0, or 1 where it isn't. Nothing is
+/// printed of a journal that isn't read; where the output failed, a proper prefix of the snapshot is printed. It costs
+/// what reading the journal costs, and what writing the snapshot costs.
 pub fn recover_to<S: Source + Drop, O: Drain, E: Drain>(
     alloc: Global,
     source: S,
     output: &mut O,
     errors: &mut E,
 ) -> u8
-    ensures { Recovers (S.left source) (O.taken output.old) (O.taken output.new) (O.failed output.old) (O.failed output.new)
-        (error_output (E.taken errors.old) (E.failed errors.old)) (error_output (E.taken errors.new) (E.failed errors.new)) result }
+    ensures { Recovers (S.left source) (O.taken output.old) (O.taken output.new) (O.failed output.old)
+        (O.failed output.new)
+        (error_output (E.taken errors.old) (E.failed errors.old))
+        (error_output (E.taken errors.new) (E.failed errors.new)) result }
 {
     let ended = recover(alloc, source, output);
     report(alloc, &ended, errors)
@@ -36,7 +39,8 @@ pub fn recover_to<S: Source + Drop, O: Drain, E: Drain>(
 /// Writes to the error output how a recovery ended, and answers the status. What the error output can't take is lost.
 pub fn report<E: Drain>(alloc: Global, ended: &Result<usize, RecoverFault>, errors: &mut E) -> u8
     ensures { Reports ended.now
-        (error_output (E.taken errors.old) (E.failed errors.old)) (error_output (E.taken errors.new) (E.failed errors.new)) result }
+        (error_output (E.taken errors.old) (E.failed errors.old))
+        (error_output (E.taken errors.new) (E.failed errors.new)) result }
 {
     match ended {
         Ok(torn) => {
@@ -53,7 +57,8 @@ pub fn report<E: Drain>(alloc: Global, ended: &Result<usize, RecoverFault>, erro
 /// Writes to the error output why a journal isn't recovered.
 fn show_fault<E: Drain>(alloc: Global, fault: &RecoverFault, errors: &mut E)
     ensures { ShowsLine (fault_line fault.now)
-        (error_output (E.taken errors.old) (E.failed errors.old)) (error_output (E.taken errors.new) (E.failed errors.new)) }
+        (error_output (E.taken errors.old) (E.failed errors.old))
+        (error_output (E.taken errors.new) (E.failed errors.new)) }
 {
     match fault {
         RecoverFault::Journal(fault) => show_journal_fault(alloc, fault, errors),

@@ -65,8 +65,8 @@ fn comes_to_answer<R: Net<Listener = TcpListener, Stream = TcpStream> + Wait + C
     false
 }
 
-/// Whether a patch set that the first of two sites takes in comes to the second, and a vote on it that the second takes in to the first, and both answer
-/// alike in the end.
+/// Whether a patch set that the first of two sites takes in comes to the second, and a vote on it that the second takes
+/// in to the first, and both answer alike in the end.
 fn come_to_agree<R: Net<Listener = TcpListener, Stream = TcpStream> + Wait + Clock>(
     rt: &R,
     alloc: Global,

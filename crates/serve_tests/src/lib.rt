@@ -1,5 +1,5 @@
-//! Tests over sockets of this machine: connections, sites that run, feeds of sites, and `serve` by its words, through the
-//! public functions of their crates. A crate of tests alone, as `record_tests` is.
+//! Tests over sockets of this machine: connections, sites that run, feeds of sites, and `serve` by its words, through
+//! the public functions of their crates. A crate of tests alone, as `record_tests` is.
 #![tactic(auto)]
 
 #[cfg(test)]

@@ -68,8 +68,8 @@ fn without_a_journal_nothing_is_refused(rt: HostRuntime) -> Result<(), Fail> {
     Ok(())
 }
 
-/// How many operations are found in the first so many bytes of a journal, and in what it has once it was opened and took another one; and whether
-/// all that it had once it was opened was synced, with the torn bytes as many as before.
+/// How many operations are found in the first so many bytes of a journal, and in what it has once it was opened and
+/// took another one; and whether all that it had once it was opened was synced, with the torn bytes as many as before.
 fn cut_at(alloc: Global, whole: &[u8], length: usize) -> Result<(usize, usize, bool), Fail> {
     let left = whole.get(..length).unwrap_or(whole);
     let more = ops_of(alloc, &[THIRD])?;
@@ -105,8 +105,9 @@ fn a_journal_is_opened_wherever_it_is_cut(rt: HostRuntime) -> Result<(), Fail> {
     Ok(())
 }
 
-/// What an append over a tape whose calls fail by the bits of a number answers, how many operations are then synced and how many written, and
-/// whether the next append finds the journal spoiled. An operation was kept before; the append is of two more.
+/// What an append over a tape whose calls fail by the bits of a number answers, how many operations are then synced and
+/// how many written, and whether the next append finds the journal spoiled. An operation was kept before; the append is
+/// of two more.
 fn append_failing(alloc: Global, failing: u64) -> Result<(bool, usize, usize, bool), Fail> {
     let ops = ops_of(alloc, &[SECOND, THIRD])?;
     let mut tape = MemoryTape::new(journal_of(alloc, &[FIRST])?);
@@ -119,8 +120,9 @@ fn append_failing(alloc: Global, failing: u64) -> Result<(bool, usize, usize, bo
     Ok((is_kept, synced, written, is_spoiled))
 }
 
-/// Whichever calls of an append fail, what was acknowledged before is synced, and what is left opens. After the opening's calls an append has two:
-/// it writes and syncs. Where the first fails it cuts and syncs, where the second fails too.
+/// Whichever calls of an append fail, what was acknowledged before is synced, and what is left opens. After the
+/// opening's calls an append has two: it writes and syncs. Where the first fails it cuts and syncs, where the second
+/// fails too.
 #[test]
 fn appends_that_fail_lose_nothing(rt: HostRuntime) -> Result<(), Fail> {
     let alloc = rt.alloc();
@@ -134,8 +136,8 @@ fn appends_that_fail_lose_nothing(rt: HostRuntime) -> Result<(), Fail> {
     Ok(())
 }
 
-/// Whether an opening of two whole lines and a torn one is refused where one of its calls fails, counted from 0, and how many operations a crash
-/// then leaves at least and at most.
+/// Whether an opening of two whole lines and a torn one is refused where one of its calls fails, counted from 0, and
+/// how many operations a crash then leaves at least and at most.
 fn opening_failing(alloc: Global, call: u32) -> Result<(bool, usize, usize), Fail> {
     let mut text = journal_of(alloc, &[FIRST, SECOND])?;
     text.extend_from_slice(b"{\"chan")?;
@@ -147,7 +149,8 @@ fn opening_failing(alloc: Global, call: u32) -> Result<(bool, usize, usize), Fai
     Ok((is_refused, synced, written))
 }
 
-/// An opening reads, here three times, then cuts and syncs. Whichever of these fails, the whole lines are still there; a sixth call there is none.
+/// An opening reads, here three times, then cuts and syncs. Whichever of these fails, the whole lines are still there;
+/// a sixth call there is none.
 #[test]
 fn openings_that_fail_lose_nothing(rt: HostRuntime) -> Result<(), Fail> {
     let alloc = rt.alloc();

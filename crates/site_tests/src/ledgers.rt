@@ -33,7 +33,8 @@ impl Keeps for Failing {
     }
 }
 
-/// What a publish of one held operation is answered, and that of the next try; and how many operations a window sees then.
+/// What a publish of one held operation is answered, and that of the next try; and how many operations a window sees
+/// then.
 fn published<R: Wait>(
     rt: &R,
     alloc: Global,

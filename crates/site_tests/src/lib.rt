@@ -1,5 +1,6 @@
-//! Tests of what a running site is made of (desks and windows, ledgers, journals, ports, lines), of the recovery of journals, and of the words of the command
-//! line, through the public functions of their crates. A crate of tests alone, as `record_tests` is.
+//! Tests of what a running site is made of (desks and windows, ledgers, journals, ports, lines), of the recovery of
+//! journals, and of the words of the command line, through the public functions of their crates. A crate of tests
+//! alone, as `record_tests` is.
 #![tactic(auto)]
 
 #[cfg(test)]
@@ -14,6 +15,8 @@ mod lines;
 mod ports;
 #[cfg(test)]
 mod recoveries;
+#[cfg(test)]
+mod refused;
 #[cfg(test)]
 mod running;
 #[cfg(test)]

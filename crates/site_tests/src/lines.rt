@@ -64,7 +64,7 @@ fn a_source_that_fails_may_be_asked_again(rt: HostRuntime) -> Result<(), Fail> {
 }
 
 #[test]
-fn refused_memory_is_told(rt: HostRuntime) -> Result<(), Fail> {
+fn refused_memory_is_reported(rt: HostRuntime) -> Result<(), Fail> {
     let small = LocalHeap::new(rt.alloc(), 1024)?;
     assert!(rt; LineReader::new(&small, 3).is_err());
     let heap = LocalHeap::new(rt.alloc(), 70000)?;

@@ -39,7 +39,7 @@ fn each_operation_is_printed_once_and_in_order(rt: HostRuntime) -> Result<(), Fa
     Ok(())
 }
 
-/// How many bytes stand past the last line end.
+/// How many bytes are past the last line end.
 fn torn_of(bytes: &[u8]) -> usize {
     bytes
         .iter()
@@ -127,7 +127,8 @@ fn a_source_that_fails_is_a_journal_that_is_not_read(rt: HostRuntime) -> Result<
     Ok(())
 }
 
-/// Recovering the journal of a name, beside an input that has a torn first line, prints and reports this, and ends with this status.
+/// Recovering the journal of a name, beside an input that has a torn first line, prints and reports this, and ends with
+/// this status.
 fn assert_named<R: Files + Abort>(
     rt: &R,
     alloc: Global,

@@ -35,7 +35,7 @@ pub fn patch_set(alloc: Global, change: u32) -> Result<Draft, AllocError> {
 }
 
 /// A merge that another site stamped, with a time that is its sequence number, too.
-fn merge(site: u16, start: u32, seq: u64) -> Result<Op, Fail> {
+pub fn merge(site: u16, start: u32, seq: u64) -> Result<Op, Fail> {
     let stamp = Stamp::new(seq, site, start, seq).ok_or("a stamp")?;
     Ok(Op::new(stamp, Body::checked(Draft::Merged { change: 7 })?))
 }
@@ -124,7 +124,8 @@ pub fn open_two<R: Wait>(
     Ok((desk, first, second))
 }
 
-/// What a window sees of an operation: whether it has the stamp, how far the row goes, how many an empty front lacks, and how long a copy is.
+/// What a window sees of an operation: whether it has the stamp, how far the row goes, how many an empty front lacks,
+/// and how long a copy is.
 fn seen(
     alloc: Global,
     window: &mut Window,
@@ -137,7 +138,8 @@ fn seen(
     Ok((found, row, missing.ops.len(), copied.len()))
 }
 
-/// Takes in a patch set, of which the first window learns and the second doesn't, publishes nothing twice, and looks at the report.
+/// Takes in a patch set, of which the first window learns and the second doesn't, publishes nothing twice, and looks at
+/// the report.
 fn take_in<R: Wait>(
     rt: &R,
     alloc: Global,
@@ -180,6 +182,33 @@ fn an_item_is_seen_by_two_windows(rt: HostRuntime) -> Result<(), Fail> {
     desk.end(&rt);
     assert_eq!(rt; done?, (101, true));
     Ok(())
+}
+
+/// Two windows see an intake of which none learns, though one has learnt no other and the other only the one before.
+fn take_in_unlearnt<R: Abort + Wait>(
+    rt: &R,
+    alloc: Global,
+    desk: &mut Desk,
+    first: &mut Window,
+    second: &mut Window,
+) -> Result<(), Fail>
+    requires { first.old ≡ watching desk.old }
+{
+    let receipt = desk.intake(rt, patch_set(alloc, 101)?)?;
+    first.learn(&receipt)?;
+    let later = desk.intake(rt, patch_set(alloc, 102)?)?;
+    let stamp = later.stamp().ok_or("a stamp")?;
+    assert_eq!(rt; seen(alloc, first, stamp)?, (true, 2, 2, 2));
+    assert_eq!(rt; seen(alloc, second, stamp)?, (true, 2, 2, 2));
+    Ok(())
+}
+
+#[test]
+fn windows_see_what_they_have_not_learnt(rt: HostRuntime) -> Result<(), Fail> {
+    let (mut desk, mut first, mut second) = open_two(&rt, 1, 1, Replica::new(rt.alloc()))?;
+    let done = take_in_unlearnt(&rt, rt.alloc(), &mut desk, &mut first, &mut second);
+    desk.end(&rt);
+    done
 }
 
 /// A pause that always goes on, and counts.
@@ -238,7 +267,8 @@ fn bad_bodies_and_a_spent_clock_change_nothing(rt: HostRuntime) -> Result<(), Fa
     Ok(())
 }
 
-/// Holds what is stamped and what came, and publishes it: what a window sees of it before and after, and the times of the stamps.
+/// Holds what is stamped and what came, and publishes it: what a window sees of it before and after, and the times of
+/// the stamps.
 fn hold_and_flush<R: Wait>(
     rt: &R,
     alloc: Global,
@@ -271,38 +301,6 @@ fn what_is_held_is_published_at_once(rt: HostRuntime) -> Result<(), Fail> {
     Ok(())
 }
 
-/// How many of two operations a desk took, and how many a window then sees once the desk has published what it held.
-fn take_two<R: Wait>(
-    rt: &R,
-    alloc: Global,
-    desk: &mut Desk,
-    window: &mut Window,
-) -> Result<(usize, usize), Fail>
-    requires { window.old ≡ watching desk.old }
-{
-    let mut ops = Vec::new(alloc);
-    ops.push(merge(1, 1, 1)?)?;
-    ops.push(merge(1, 1, 2)?)?;
-    let (taken, receipt) = match desk.take_all(rt, ops) {
-        Ok(receipt) => (2, receipt),
-        Err(DeskFault::NoMemory(held)) => (held, desk.flush(rt)?),
-        Err(fault) => return Err(Fail::from(fault)),
-    };
-    window.learn(&receipt)?;
-    Ok((taken, window.missing(&Front::new(alloc), 256)?.ops.len()))
-}
-
-#[test]
-fn as_many_are_published_as_were_held(rt: HostRuntime) -> Result<(), Fail> {
-    let (mut desk, mut first, _second) = open_two(&rt, 2, 1, Replica::new(rt.alloc()))?;
-    let done = take_two(&rt, rt.alloc(), &mut desk, &mut first);
-    desk.end(&rt);
-    let (taken, seen) = done?;
-    assert_eq!(rt; taken, seen);
-    assert_eq!(rt; seen, 2);
-    Ok(())
-}
-
 /// A receipt of a site of this number and start, whose publish is its first.
 fn foreign<R: Wait>(rt: &R, alloc: Global, site: u16, start: u32) -> Result<Receipt, Fail>
     ensures { IfOk result (λ receipt. (receipt.site ≡ site) × (receipt.start ≡ start)) }
@@ -320,7 +318,8 @@ pub fn open_one<R: Wait>(
     site: u16,
     start: u32,
 ) -> Result<(Desk, Window), Fail>
-    ensures { IfOk result (λ opened. (opened.1.site ≡ site) × (opened.1.start ≡ start) × (opened.1 ≡ watching opened.0)) }
+    ensures { IfOk result
+        (λ opened. (opened.1.site ≡ site) × (opened.1.start ≡ start) × (opened.1 ≡ watching opened.0)) }
 {
     let (desk, mut windows) = open_site(rt, site, start, 1, Replica::new(alloc))?;
     let Some(window) = windows.pop() else {

@@ -21,12 +21,12 @@ const LAST: &[u8] =
     br#"{"change":101,"message":"m","op":"patchset","seq":1,"set":1,"site":2,"start":1,"time":18446744073709551615}"#;
 
 /// Two merges.
-const MERGE_5: &[u8] = br#"{"change":5,"op":"merged","seq":1,"site":1,"start":1,"time":1}"#;
+pub const MERGE_5: &[u8] = br#"{"change":5,"op":"merged","seq":1,"site":1,"start":1,"time":1}"#;
 
-const MERGE_6: &[u8] = br#"{"change":6,"op":"merged","seq":2,"site":1,"start":1,"time":2}"#;
+pub const MERGE_6: &[u8] = br#"{"change":6,"op":"merged","seq":2,"site":1,"start":1,"time":2}"#;
 
 /// A port of site 1 under start 1 that holds these operations.
-fn port_of(alloc: Global, ops: &[&[u8]]) -> Result<OwnPort, Fail> {
+pub fn port_of(alloc: Global, ops: &[&[u8]]) -> Result<OwnPort, Fail> {
     let mut replica = Replica::new(alloc);
     for op in ops {
         let _taken = replica.take(read_op(alloc, op)?)?;
@@ -157,7 +157,7 @@ fn a_failing_source_ends_the_session(rt: HostRuntime) -> Result<(), Fail> {
     Ok(())
 }
 
-/// Where the writing of an answer fails, what it tells was done.
+/// Where the writing of an answer fails, what it reports was done.
 #[test]
 fn a_failing_drain_ends_the_session(rt: HostRuntime) -> Result<(), Fail> {
     for (call, count) in [(1, 0), (2, 1)] {
@@ -172,7 +172,8 @@ fn a_failing_drain_ends_the_session(rt: HostRuntime) -> Result<(), Fail> {
     Ok(())
 }
 
-/// A writer that fails at each of its calls in turn: the session ends there, and a site that was only asked stays as it was.
+/// A writer that fails at each of its calls in turn: the session ends there, and a site that was only asked stays as it
+/// was.
 #[test]
 fn each_write_may_fail(rt: HostRuntime) -> Result<(), Fail> {
     let mut last = 0;

@@ -8,7 +8,7 @@ use crossbeam_channel::{Receiver, Sender, unbounded};
 use gate_rules::Gate;
 use replica_core::Replica;
 use review_ops::Stamp;
-use site_shared::{Desk, Naming, Pause, Told, Window};
+use site_shared::{BrandedReceipt, Desk, Naming, Pause, Window};
 use std::alloc::Global;
 use std::marker::{Brand, PhantomData};
 use std::process::Abort;
@@ -93,9 +93,9 @@ impl<J: Naming> Seat<J> {
     }
 
     /// How far the row goes once a receipt was learnt. None where its stamp isn't seen, or a call is refused.
-    fn learnt(&mut self, told: &Told<J>) -> Option<u64> {
-        self.window.learn(told.receipt()).ok()?;
-        let stamp = told.receipt().stamp()?;
+    fn learnt(&mut self, receipt: &BrandedReceipt<J>) -> Option<u64> {
+        self.window.learn(receipt.receipt()).ok()?;
+        let stamp = receipt.receipt().stamp()?;
         if !self.window.has(stamp).ok()? {
             return None;
         }
@@ -107,15 +107,15 @@ impl<J: Naming> Seat<J> {
 fn watch<J: Naming, R: Wait>(
     rt: &R,
     seat: Seat<J>,
-    receipts: Receiver<Arc<Told<J>>>,
+    receipts: Receiver<Arc<BrandedReceipt<J>>>,
 ) -> Option<u64> {
     let mut seat = seat;
     let mut last = 0;
     for _ in rt.forever() {
-        let Ok(told) = receipts.recv(rt) else {
+        let Ok(receipt) = receipts.recv(rt) else {
             break;
         };
-        let row = seat.learnt(&told)?;
+        let row = seat.learnt(&receipt)?;
         if row < last {
             return None;
         }
@@ -142,9 +142,9 @@ impl<J: Naming> Station<J> {
     }
 
     /// Takes in the first patch set of a change.
-    fn intake<R: Wait>(&mut self, rt: &R, alloc: Global, change: u32) -> Option<Told<J>> {
+    fn intake<R: Wait>(&mut self, rt: &R, alloc: Global, change: u32) -> Option<BrandedReceipt<J>> {
         let receipt = self.desk.intake(rt, patch_set(alloc, change).ok()?).ok()?;
-        Some(Told::new(receipt))
+        Some(BrandedReceipt::new(receipt))
     }
 
     fn end<R: Wait>(self, rt: &R) {
@@ -158,13 +158,13 @@ fn tell_all<J: Naming, R: Wait>(
     rt: &R,
     alloc: Global,
     station: &mut Station<J>,
-    to_one: Sender<Arc<Told<J>>>,
-    to_two: Sender<Arc<Told<J>>>,
+    to_one: Sender<Arc<BrandedReceipt<J>>>,
+    to_two: Sender<Arc<BrandedReceipt<J>>>,
 ) -> Option<()> {
     for change in 1..=100 {
-        let told = Arc::new(alloc, station.intake(rt, alloc, change)?).ok()?;
-        to_one.send(rt, Arc::try_clone(&told).ok()?).ok()?;
-        to_two.send(rt, told).ok()?;
+        let receipt = Arc::new(alloc, station.intake(rt, alloc, change)?).ok()?;
+        to_one.send(rt, Arc::try_clone(&receipt).ok()?).ok()?;
+        to_two.send(rt, receipt).ok()?;
     }
     Some(())
 }
@@ -185,9 +185,9 @@ fn tell_two<J: Naming + Send + Sync, R: Threads + Wait + Sync>(
         move |scope| -> Option<(u64, u64)> {
             let first = scope.spawn(move || watch(rt, one, from_one)).ok()?;
             let second = scope.spawn(move || watch(rt, two, from_two)).ok()?;
-            let told = tell_all(rt, alloc, station, to_one, to_two);
+            let receipt = tell_all(rt, alloc, station, to_one, to_two);
             let rows = (first.join(rt)?, second.join(rt)?);
-            told.map(|()| rows)
+            receipt.map(|()| rows)
         },
     )
 }

@@ -15,7 +15,8 @@ use std::test::Fail;
 fn watched(alloc: Global, window: &mut Window) -> Result<Watch, Fail>
     ensures own { IfOk result (λ watch. (watch.site ≡ window.old.site) × (watch.start ≡ window.old.start)) }
     ensures book { IfOk result (λ watch. (watch.book ≡ window.new.book)) }
-    ensures later { (window.new.book ≡ window.old.book) × (window.new.site ≡ window.old.site) × (window.new.start ≡ window.old.start) }
+    ensures later { (window.new.book ≡ window.old.book) × (window.new.site ≡ window.old.site)
+        × (window.new.start ≡ window.old.start) }
 {
     let gate = Gate::read(alloc, GATE)?;
     Ok(window.watch(gate.copy()?)?)

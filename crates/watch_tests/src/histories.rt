@@ -1,4 +1,5 @@
-//! Histories of a record: after each part of one the verdicts that are kept up to date are those that are wanted, and those of the whole record.
+//! Histories of a record: after each part of one the verdicts that are kept up to date are those that are wanted, and
+//! those of the whole record.
 
 ghost use Rattle.std.specs.Prelude.{OnOk};
 ghost use Rattle.watch_core.specs.Watching.{Extends, Precedes};
@@ -16,7 +17,8 @@ use watch_core::{
     verdicts_are_local, what_is_not_reached_stays,
 };
 
-// A gate that wants two approvals on the current patch set of an open change, and one that also lets items on a cycle in.
+// A gate that wants two approvals on the current patch set of an open change, and one that also lets items on a cycle
+// in.
 pub(super) const GATE: &str =
     r#"{"bases":["https://review.example.org/"],"require":{"gerrit":{"open":true,"current-patchset":true,"approval":[{"Workflow":1},{"Verified":[1,2],"username":"zuul"}]}}}"#;
 
@@ -25,8 +27,9 @@ pub(super) const CYCLES: &str =
 
 /// What comes to a record.
 #[derive(Clone, Copy)]
-enum Step {
-    /// A patch set of this change with this number, whose message has a footer for each of these changes, on this parent.
+pub(super) enum Step {
+    /// A patch set of this change with this number, whose message has a footer for each of these changes, on this
+    /// parent.
     PatchSet(u32, u32, &'static [u32], Option<u32>),
     /// A vote on the first patch set of this change.
     Vote(u32, &'static str, &'static str, i8),
@@ -39,8 +42,8 @@ use Step::{Abandon, Merged, PatchSet, Restore, Vote};
 
 /// A part of a history: what comes, the verdicts after it, and how often the judge is asked for them.
 #[derive(Clone, Copy)]
-struct Part {
-    steps: &'static [Step],
+pub(super) struct Part {
+    pub(super) steps: &'static [Step],
     wanted: &'static str,
     asked: u64,
 }
@@ -86,7 +89,7 @@ pub(super) fn take(replica: &mut Replica, draft: Draft) -> Result<(), Fail>
 }
 
 /// Takes in what comes.
-fn take_all(alloc: Global, replica: &mut Replica, steps: &[Step]) -> Result<(), Fail>
+pub(super) fn take_all(alloc: Global, replica: &mut Replica, steps: &[Step]) -> Result<(), Fail>
     ensures { OnOk result (Extends replica.old replica.new) }
 {
     for step in steps {
@@ -96,7 +99,7 @@ fn take_all(alloc: Global, replica: &mut Replica, steps: &[Step]) -> Result<(), 
 }
 
 /// The verdicts as a text: a line for each item, a refusal with its rank.
-fn shown(alloc: Global, verdicts: &Verdicts) -> Result<String, Fail> {
+pub(super) fn shown(alloc: Global, verdicts: &Verdicts) -> Result<String, Fail> {
     let mut text = String::new(alloc);
     for item in verdicts.ready() {
         let Item { change, set } = *item;
@@ -206,8 +209,9 @@ fn play(rt: &impl Abort, alloc: Global, gate: &str, parts: &[Part]) -> Result<()
     Ok(())
 }
 
-// A dependency that was unknown comes, is merged, and what waited for it loses a vote. Where nothing comes nobody is asked.
-const A_DEPENDENCY_COMES_AND_GOES: &[Part] = &[
+// A dependency that was unknown comes, is merged, and what waited for it loses a vote. Where nothing comes nobody is
+// asked.
+pub(super) const A_DEPENDENCY_COMES_AND_GOES: &[Part] = &[
     Part {
         steps: &[
             Vote(7, "Workflow", "ann", 1),

@@ -1,8 +1,10 @@
-//! Tests of `watch_core` through its public functions: histories with the verdicts after each part, and random ones beside
-//! evaluations of the whole record. A crate of tests alone, as `record_tests` is.
+//! Tests of `watch_core` through its public functions: histories with the verdicts after each part, and random ones
+//! beside evaluations of the whole record. A crate of tests alone, as `record_tests` is.
 #![tactic(auto)]
 
 #[cfg(test)]
 mod histories;
 #[cfg(test)]
 mod random;
+#[cfg(test)]
+mod refused;

@@ -10,4 +10,5 @@ pub returns-in-Snapshot : goal.returns-in-Snapshot
 returns-in-Snapshot g c =
     let old = error_output (g.E.Drain.taken c.args.errors.now) (g.E.Drain.failed c.args.errors.now) in
     let new = error_output (g.E.Drain.taken c.show_refusal.new.errors) (g.E.Drain.failed c.show_refusal.new.errors) in
-    rw c.in-Snapshot.is (subst (λ refusal. ShowsLine (refusal_line refusal) old new) c.refusal_of.ensures c.show_refusal.ensures)
+    rw c.in-Snapshot.is
+    (subst (λ refusal. ShowsLine (refusal_line refusal) old new) c.refusal_of.ensures c.show_refusal.ensures)

@@ -1,0 +1,190 @@
+//! Operations to which memory is refused: the desk holds the first so many of them, no window sees these, and the next
+//! publish has just them. A desk takes its memory from the system, which refuses none in the gate: there what a refusal
+//! leaves held is held by hand. `bench/refuse desks` refuses each request of these tests in turn: an error ends a test
+//! then, and what has to be so after a refusal is asserted.
+
+ghost use Rattle.std.specs.Prelude.{◌≡◌, IfOk};
+
+use super::running::{ROW, merge, open_one, patch_set};
+use super::talks::{MERGE_5, MERGE_6, port_of};
+use byte_ends::Ends;
+use gossip_line::{LineFault, session_run};
+use replica_core::Front;
+use review_ops::{Op, Stamp};
+use site_shared::{Desk, DeskFault, Receipt, Window};
+use std::alloc::Global;
+use std::process::Abort;
+use std::sync::Wait;
+use std::test::Fail;
+
+/// The first so many merges of site 1 under start 1.
+fn merges(alloc: Global, count: usize) -> Result<Vec<Op>, Fail> {
+    let mut ops = Vec::new(alloc);
+    for seq in 1..=count as u64 {
+        ops.push(merge(1, 1, seq)?)?;
+    }
+    Ok(ops)
+}
+
+/// A window sees the first so many merges, and no other operation.
+fn assert_seen(
+    rt: &impl Abort,
+    alloc: Global,
+    window: &mut Window,
+    count: usize,
+) -> Result<(), Fail>
+    ensures { window.new.book ≡ window.old.book }
+{
+    let seen = window.missing(&Front::new(alloc), 256)?;
+    let wanted = merges(alloc, count)?;
+    assert!(rt; seen.ops.as_slice() == wanted.as_slice());
+    Ok(())
+}
+
+/// Of two merges the desk holds so many, which the window doesn't see: a flush publishes just them, and once both are
+/// taken again the window sees both.
+fn publish_rest<R: Abort + Wait>(
+    rt: &R,
+    alloc: Global,
+    desk: &mut Desk,
+    window: &mut Window,
+    held: usize,
+) -> Result<(), Fail>
+    requires { desk.old.book ≡ window.old.book }
+{
+    assert!(rt; desk.held() == merges(alloc, held)?.as_slice());
+    assert_seen(rt, alloc, window, 0)?;
+    let receipt = desk.flush(rt).expect(rt, "a flush");
+    window.learn(&receipt)?;
+    assert_seen(rt, alloc, window, held)?;
+    let both = merges(alloc, 2)?;
+    let receipt = desk.take_all(rt, both).expect(rt, "both once more");
+    window.learn(&receipt)?;
+    assert_seen(rt, alloc, window, 2)
+}
+
+/// Takes two merges, and what is left of them where memory is refused.
+fn take_two<R: Abort + Wait>(
+    rt: &R,
+    alloc: Global,
+    desk: &mut Desk,
+    window: &mut Window,
+) -> Result<(), Fail>
+    requires { desk.old.book ≡ window.old.book }
+{
+    let both = merges(alloc, 2)?;
+    match desk.take_all(rt, both) {
+        Ok(receipt) => {
+            window.learn(&receipt)?;
+            assert_seen(rt, alloc, window, 2)
+        }
+        Err(DeskFault::NoMemory(held)) => publish_rest(rt, alloc, desk, window, held),
+        Err(fault) => Err(Fail::from(fault)),
+    }
+}
+
+#[test]
+fn two_operations_may_be_refused_memory(rt: HostRuntime) -> Result<(), Fail> {
+    let (mut desk, mut window) = open_one(&rt, rt.alloc(), 2, 1)?;
+    let done = take_two(&rt, rt.alloc(), &mut desk, &mut window);
+    desk.end(&rt);
+    done
+}
+
+/// Holds the first so many of two merges, as a refusal does.
+fn hold_some<R: Abort + Wait>(
+    rt: &R,
+    alloc: Global,
+    desk: &mut Desk,
+    window: &mut Window,
+    held: usize,
+) -> Result<(), Fail>
+    requires { desk.old.book ≡ window.old.book }
+{
+    desk.hold_all(merges(alloc, held)?)?;
+    publish_rest(rt, alloc, desk, window, held)
+}
+
+#[test]
+fn what_a_refusal_leaves_held_is_published_first(rt: HostRuntime) -> Result<(), Fail> {
+    for held in 0..=2 {
+        let (mut desk, mut window) = open_one(&rt, rt.alloc(), 2, 1)?;
+        let done = hold_some(&rt, rt.alloc(), &mut desk, &mut window, held);
+        desk.end(&rt);
+        done?;
+    }
+    Ok(())
+}
+
+/// The receipt of an intake. Where memory is refused nothing is held and the intake is made again, or its operation is
+/// and is flushed, without a stamp.
+fn intake<R: Abort + Wait>(rt: &R, alloc: Global, desk: &mut Desk) -> Result<Receipt, Fail>
+    ensures { IfOk result (λ receipt. receipt.book ≡ desk.old.book) }
+{
+    let (draft, again) = (patch_set(alloc, 101)?, patch_set(alloc, 101)?);
+    match desk.intake(rt, draft) {
+        Ok(receipt) => Ok(receipt),
+        Err(DeskFault::NoMemory(0)) => {
+            assert!(rt; desk.held().is_empty());
+            Ok(desk.intake(rt, again).expect(rt, "an intake"))
+        }
+        Err(DeskFault::NoMemory(_)) => {
+            assert_eq!(rt; desk.held().len(), 1);
+            let receipt = desk.flush(rt).expect(rt, "a flush");
+            assert!(rt; receipt.stamp().is_none());
+            Ok(receipt)
+        }
+        Err(fault) => Err(Fail::from(fault)),
+    }
+}
+
+/// A window sees the operation of an intake once it has learnt its receipt.
+fn learn_intake<R: Abort + Wait>(
+    rt: &R,
+    alloc: Global,
+    desk: &mut Desk,
+    window: &mut Window,
+) -> Result<(), Fail>
+    requires { desk.old.book ≡ window.old.book }
+{
+    let receipt = intake(rt, alloc, desk)?;
+    window.learn(&receipt)?;
+    let stamp = Stamp::new(1, 1, 1, 1).ok_or("a stamp")?;
+    assert_eq!(rt; window.has(stamp), Ok(true));
+    assert_eq!(rt; window.front()?.reach(ROW), 1);
+    Ok(())
+}
+
+#[test]
+fn an_intake_may_be_refused_memory(rt: HostRuntime) -> Result<(), Fail> {
+    let (mut desk, mut window) = open_one(&rt, rt.alloc(), 1, 1)?;
+    let done = learn_intake(&rt, rt.alloc(), &mut desk, &mut window);
+    desk.end(&rt);
+    done
+}
+
+/// What a front is answered that lacks one of two merges.
+const ANSWERED: &[u8] =
+    b"hello 2\nop {\"change\":6,\"op\":\"merged\",\"seq\":2,\"site\":1,\"start\":1,\"time\":2}\ndone\nbye\n";
+
+/// What it is answered where memory is refused.
+const REFUSED: &[u8] = b"hello 2\nno 5 NoMemory\nbye\n";
+
+#[test]
+fn a_session_may_be_refused_memory(rt: HostRuntime) -> Result<(), Fail> {
+    let mut port = port_of(rt.alloc(), &[MERGE_5, MERGE_6])?;
+    let mut source = Ends::new(b"hello 2\nfront [[1,1,1]]\nquit\n".as_slice());
+    let mut drain = Ends::new(Vec::with_capacity(rt.alloc(), 256)?);
+    let ended = session_run(rt.alloc(), &mut source, &mut drain, &mut port);
+    assert_eq!(rt; port.replica().len(), 2);
+    let written = drain.into_inner();
+    let text = written.as_slice();
+    match ended {
+        Ok(()) => assert!(rt; text == ANSWERED || text == REFUSED),
+        Err(fault) => {
+            assert_eq!(rt; fault, LineFault::NoMemory);
+            assert!(rt; ANSWERED.starts_with(text) || REFUSED.starts_with(text));
+        }
+    }
+    Ok(())
+}
