@@ -26,7 +26,7 @@ fn assert_prints(
     errors: &str,
 ) {
     let mut written = Ends::new(Vec::new(alloc));
-    let mut told = Ends::new(Vec::new(alloc));
+    let mut error_output = Ends::new(Vec::new(alloc));
     let mut files = OneFile {
         name: "message",
         text: message,
@@ -38,11 +38,11 @@ fn assert_prints(
         words,
         &mut Ends::new(gate),
         &mut written,
-        &mut told,
+        &mut error_output,
         &mut files,
     );
     assert_eq!(rt; written.get_ref().as_slice(), output.as_bytes());
-    assert_eq!(rt; told.get_ref().as_slice(), errors.as_bytes());
+    assert_eq!(rt; error_output.get_ref().as_slice(), errors.as_bytes());
     assert_eq!(rt; ended, status);
 }
 
@@ -95,7 +95,7 @@ fn footers_are_listed(rt: HostRuntime) {
 }
 
 #[test]
-fn what_is_wrong_is_told(rt: HostRuntime) {
+fn what_is_wrong_is_printed(rt: HostRuntime) {
     let alloc = rt.alloc();
     let message = MESSAGE.as_bytes();
     assert_footers(
@@ -168,9 +168,9 @@ fn what_is_wrong_is_told(rt: HostRuntime) {
 }
 
 #[test]
-fn a_broken_output_is_told(rt: HostRuntime) -> Result<(), Fail> {
+fn a_broken_output_is_reported(rt: HostRuntime) -> Result<(), Fail> {
     let alloc = rt.alloc();
-    let mut told = Ends::new(Vec::new(alloc));
+    let mut error_output = Ends::new(Vec::new(alloc));
     let mut files = OneFile {
         name: "message",
         text: MESSAGE.as_bytes(),
@@ -182,12 +182,12 @@ fn a_broken_output_is_told(rt: HostRuntime) -> Result<(), Fail> {
         ["footers", "-", "message"].as_slice(),
         &mut Ends::new(GATE.as_bytes()),
         &mut Broken::at_call(Ends::new(Vec::new(alloc)), 1),
-        &mut told,
+        &mut error_output,
         &mut files,
     );
     assert_eq!(rt; ended, 1);
     assert_eq!(rt;
-        told.get_ref().as_slice(),
+        error_output.get_ref().as_slice(),
         b"reviewgate: output 1 WriteFault\n".as_slice()
     );
     Ok(())

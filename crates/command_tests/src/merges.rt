@@ -23,8 +23,8 @@ const OTHER: &str =
 const ALL: &str =
     "reviewgate 2\n{\"change\":5,\"op\":\"merged\",\"seq\":1,\"site\":1,\"start\":1,\"time\":1}\n{\"change\":7,\"op\":\"abandon\",\"seq\":1,\"site\":2,\"start\":1,\"time\":1}\n{\"change\":6,\"op\":\"merged\",\"seq\":2,\"site\":1,\"start\":1,\"time\":2}\nend 3\n";
 
-/// What merging two names prints on the output and on the error output, and the status. The file `kept` has one text, and the
-/// input another.
+/// What merging two names prints on the output and on the error output, and the status. The file `kept` has one text,
+/// and the input another.
 fn assert_merges(
     rt: &impl Abort,
     alloc: Global,
@@ -36,7 +36,7 @@ fn assert_merges(
     errors: &str,
 ) {
     let mut written = Ends::new(Vec::new(alloc));
-    let mut told = Ends::new(Vec::new(alloc));
+    let mut error_output = Ends::new(Vec::new(alloc));
     let [first, second] = names;
     let words = ["merge", first, second];
     let ended = run_words(
@@ -44,7 +44,7 @@ fn assert_merges(
         words.as_slice(),
         &mut Ends::new(input.as_bytes()),
         &mut written,
-        &mut told,
+        &mut error_output,
         &mut OneFile {
             name: "kept",
             text: kept.as_bytes(),
@@ -58,7 +58,7 @@ fn assert_merges(
         "{kept}{input}"
     );
     assert_eq!(rt;
-        told.get_ref().as_slice(),
+        error_output.get_ref().as_slice(),
         errors.as_bytes(),
         "{kept}{input}"
     );
@@ -85,14 +85,14 @@ fn snapshots_are_merged(rt: HostRuntime) {
     );
 }
 
-/// How the fault of a first snapshot is told. Nothing is printed.
+/// How the fault of a first snapshot is printed. Nothing is printed.
 fn assert_refused(rt: &impl Abort, alloc: Global, text: &str, errors: &str) {
     assert_merges(rt, alloc, ["-", "kept"], BOTH, text, 1, "", errors);
     assert_merges(rt, alloc, ["kept", "-"], BOTH, text, 1, "", errors);
 }
 
 #[test]
-fn faults_of_snapshots_are_told(rt: HostRuntime) {
+fn faults_of_snapshots_are_printed(rt: HostRuntime) {
     let cases = [
         ("", "reviewgate: snapshot 1 BadHeader\n"),
         (
@@ -135,7 +135,7 @@ fn faults_of_snapshots_are_told(rt: HostRuntime) {
     }
 }
 
-// The first refusal in the order of the words is told.
+// The first refusal in the order of the words is printed.
 #[test]
 fn the_first_snapshot_is_judged_first(rt: HostRuntime) {
     let alloc = rt.alloc();
@@ -185,16 +185,16 @@ fn the_first_snapshot_is_judged_first(rt: HostRuntime) {
     assert_merges(&rt, alloc, ["-", "-"], "", BOTH, 1, "", bad_header);
 }
 
-/// What merging the input and itself under another name is told as, where the ends break.
+/// What merging the input and itself under another name prints, where the ends break.
 fn broken_merge(alloc: Global, reads: u64, writes: u64) -> Result<(u8, Vec<u8>), Fail> {
-    let mut told = Ends::new(Vec::new(alloc));
+    let mut error_output = Ends::new(Vec::new(alloc));
     let words = ["merge", "-", "kept"];
     let ended = run_words(
         alloc,
         words.as_slice(),
         &mut Broken::before_byte(Ends::new(BOTH.as_bytes()), reads),
         &mut Broken::before_byte(Ends::new(Vec::new(alloc)), writes),
-        &mut told,
+        &mut error_output,
         &mut OneFile {
             name: "kept",
             text: BOTH.as_bytes(),
@@ -202,11 +202,11 @@ fn broken_merge(alloc: Global, reads: u64, writes: u64) -> Result<(u8, Vec<u8>),
             failures: 0,
         },
     );
-    Ok((ended, told.into_inner()))
+    Ok((ended, error_output.into_inner()))
 }
 
 #[test]
-fn broken_ends_are_told(rt: HostRuntime) -> Result<(), Fail> {
+fn broken_ends_are_reported(rt: HostRuntime) -> Result<(), Fail> {
     let length = BOTH.len() as u64;
     for byte in 1..=length {
         let (status, errors) = broken_merge(rt.alloc(), byte, length + 1)?;

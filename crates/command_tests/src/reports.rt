@@ -27,7 +27,7 @@ pub(super) fn assert_prints(
     errors: &str,
 ) {
     let mut written = Ends::new(Vec::new(alloc));
-    let mut told = Ends::new(Vec::new(alloc));
+    let mut error_output = Ends::new(Vec::new(alloc));
     let mut files = OneFile {
         name: "gate",
         text: gate.as_bytes(),
@@ -39,11 +39,15 @@ pub(super) fn assert_prints(
         words,
         &mut Ends::new(input.as_bytes()),
         &mut written,
-        &mut told,
+        &mut error_output,
         &mut files,
     );
     assert_eq!(rt; written.get_ref().as_slice(), output.as_bytes(), "{input}");
-    assert_eq!(rt; told.get_ref().as_slice(), errors.as_bytes(), "{input}");
+    assert_eq!(rt;
+        error_output.get_ref().as_slice(),
+        errors.as_bytes(),
+        "{input}"
+    );
     assert_eq!(rt; ended, status, "{input}");
 }
 
@@ -143,8 +147,8 @@ fn a_report_needs_a_gate_and_a_site(rt: HostRuntime) {
     let alloc = rt.alloc();
     let words = ["simulate", "-"];
     let script = "sites 1\nready 1\n";
-    let told = "reviewgate: script 2 BadLine 2\n";
-    assert_prints(&rt, alloc, words.as_slice(), GATE, script, 1, "", told);
+    let line = "reviewgate: script 2 BadLine 2\n";
+    assert_prints(&rt, alloc, words.as_slice(), GATE, script, 1, "", line);
     assert_plays(
         &rt,
         alloc,
@@ -153,13 +157,13 @@ fn a_report_needs_a_gate_and_a_site(rt: HostRuntime) {
         "no 1 NoSite\nend 0 0\n",
     );
     let words = ["simulate", "-", "gate"];
-    let told = "reviewgate: gate 1 NotJson\n";
-    assert_prints(&rt, alloc, words.as_slice(), "[", "sites 0\n", 1, "", told);
-    let told = "reviewgate: script 1 BadSites\n";
-    assert_prints(&rt, alloc, words.as_slice(), GATE, "sites 0\n", 1, "", told);
+    let line = "reviewgate: gate 1 NotJson\n";
+    assert_prints(&rt, alloc, words.as_slice(), "[", "sites 0\n", 1, "", line);
+    let line = "reviewgate: script 1 BadSites\n";
+    assert_prints(&rt, alloc, words.as_slice(), GATE, "sites 0\n", 1, "", line);
     let words = ["simulate", "-", "lost"];
-    let told = "reviewgate: file 7 ReadFault\n";
-    assert_prints(&rt, alloc, words.as_slice(), GATE, script, 1, "", told);
+    let line = "reviewgate: file 7 ReadFault\n";
+    assert_prints(&rt, alloc, words.as_slice(), GATE, script, 1, "", line);
 }
 
 /// What `ready` prints of a snapshot on the input.
@@ -212,25 +216,25 @@ fn snapshots_are_reported(rt: HostRuntime) {
 }
 
 #[test]
-fn faults_of_reports_are_told(rt: HostRuntime) {
+fn faults_of_reports_are_printed(rt: HostRuntime) {
     let alloc = rt.alloc();
-    let told = "reviewgate: snapshot 3 NoEnd\n";
-    assert_reports(&rt, alloc, GATE, "reviewgate 2\n", 1, "", told);
-    let told = "reviewgate: gate 3 BadValue bases\n";
-    assert_reports(&rt, alloc, "{}", "", 1, "", told);
+    let line = "reviewgate: snapshot 3 NoEnd\n";
+    assert_reports(&rt, alloc, GATE, "reviewgate 2\n", 1, "", line);
+    let line = "reviewgate: gate 3 BadValue bases\n";
+    assert_reports(&rt, alloc, "{}", "", 1, "", line);
     let words = ["ready", "-", "-"];
-    let told = "reviewgate: snapshot 1 BadHeader\n";
-    assert_prints(&rt, alloc, words.as_slice(), "", GATE, 1, "", told);
+    let line = "reviewgate: snapshot 1 BadHeader\n";
+    assert_prints(&rt, alloc, words.as_slice(), "", GATE, 1, "", line);
     let words = ["ready", "lost", "-"];
-    let told = "reviewgate: file 7 ReadFault\n";
-    assert_prints(&rt, alloc, words.as_slice(), GATE, "", 1, "", told);
+    let line = "reviewgate: file 7 ReadFault\n";
+    assert_prints(&rt, alloc, words.as_slice(), GATE, "", 1, "", line);
     let words = ["ready", "gate", "lost"];
-    let told = "reviewgate: snapshot 7 ReadFault\n";
-    assert_prints(&rt, alloc, words.as_slice(), GATE, "", 1, "", told);
+    let line = "reviewgate: snapshot 7 ReadFault\n";
+    assert_prints(&rt, alloc, words.as_slice(), GATE, "", 1, "", line);
 }
 
 #[test]
-fn a_failing_output_is_told(rt: HostRuntime) -> Result<(), Fail> {
+fn a_failing_output_is_reported(rt: HostRuntime) -> Result<(), Fail> {
     let alloc = rt.alloc();
     let mut files = OneFile {
         name: "gate",
@@ -239,19 +243,19 @@ fn a_failing_output_is_told(rt: HostRuntime) -> Result<(), Fail> {
         failures: 0,
     };
     let mut broken = Broken::at_call(Ends::new(Vec::new(alloc)), 1);
-    let mut told = Ends::new(Vec::new(alloc));
+    let mut error_output = Ends::new(Vec::new(alloc));
     let words = ["ready", "gate", "-"];
     let ended = run_words(
         alloc,
         words.as_slice(),
         &mut Ends::new("reviewgate 2\nend 0\n".as_bytes()),
         &mut broken,
-        &mut told,
+        &mut error_output,
         &mut files,
     );
     assert_eq!(rt; ended, 1);
     assert_eq!(rt;
-        told.get_ref().as_slice(),
+        error_output.get_ref().as_slice(),
         b"reviewgate: output 1 WriteFault\n".as_slice()
     );
     Ok(())

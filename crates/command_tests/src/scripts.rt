@@ -40,18 +40,22 @@ fn assert_plays(
     errors: &str,
 ) {
     let mut written = Ends::new(Vec::new(alloc));
-    let mut told = Ends::new(Vec::new(alloc));
+    let mut error_output = Ends::new(Vec::new(alloc));
     let words = ["simulate", "-"];
     let ended = run_words(
         alloc,
         words.as_slice(),
         &mut Ends::new(script.as_bytes()),
         &mut written,
-        &mut told,
+        &mut error_output,
         &mut NoFiles { failures: 0 },
     );
     assert_eq!(rt; written.get_ref().as_slice(), output.as_bytes(), "{script}");
-    assert_eq!(rt; told.get_ref().as_slice(), errors.as_bytes(), "{script}");
+    assert_eq!(rt;
+        error_output.get_ref().as_slice(),
+        errors.as_bytes(),
+        "{script}"
+    );
     assert_eq!(rt; ended, status, "{script}");
 }
 
@@ -202,87 +206,87 @@ fn faults_come_after_the_answers_before_them(rt: HostRuntime) {
 }
 
 #[test]
-fn words_that_ask_for_nothing_are_told(rt: HostRuntime) {
+fn words_that_ask_for_nothing_are_printed(rt: HostRuntime) {
     let words: [&str; 1] = ["serve"];
     let mut written = Ends::new(Vec::new(rt.alloc()));
-    let mut told = Ends::new(Vec::new(rt.alloc()));
+    let mut error_output = Ends::new(Vec::new(rt.alloc()));
     let ended = run_words(
         rt.alloc(),
         words.as_slice(),
         &mut Ends::new(b"".as_slice()),
         &mut written,
-        &mut told,
+        &mut error_output,
         &mut NoFiles { failures: 0 },
     );
     assert_eq!(rt; ended, 2);
     assert!(rt; written.get_ref().is_empty());
-    assert!(rt; told.get_ref().len() > 0);
+    assert!(rt; error_output.get_ref().len() > 0);
 }
 
 #[test]
 fn help_is_printed_on_the_output(rt: HostRuntime) {
     let words: [&str; 1] = ["--help"];
     let mut written = Ends::new(Vec::new(rt.alloc()));
-    let mut told = Ends::new(Vec::new(rt.alloc()));
+    let mut error_output = Ends::new(Vec::new(rt.alloc()));
     let ended = run_words(
         rt.alloc(),
         words.as_slice(),
         &mut Ends::new(b"".as_slice()),
         &mut written,
-        &mut told,
+        &mut error_output,
         &mut NoFiles { failures: 0 },
     );
     assert_eq!(rt; ended, 0);
     assert!(rt; written.get_ref().len() > 0);
-    assert!(rt; told.get_ref().is_empty());
+    assert!(rt; error_output.get_ref().is_empty());
 }
 
 #[test]
 fn a_missing_file_and_broken_ends_are_refusals(rt: HostRuntime) -> Result<(), Fail> {
     let missing: [&str; 2] = ["simulate", "no.script"];
     let given: [&str; 2] = ["simulate", "-"];
-    let mut told = Ends::new(Vec::new(rt.alloc()));
+    let mut error_output = Ends::new(Vec::new(rt.alloc()));
     let ended = run_words(
         rt.alloc(),
         missing.as_slice(),
         &mut Ends::new(b"".as_slice()),
         &mut Ends::new(Vec::new(rt.alloc())),
-        &mut told,
+        &mut error_output,
         &mut NoFiles { failures: 0 },
     );
     assert_eq!(rt; ended, 1);
     assert_eq!(rt;
-        told.get_ref().as_slice(),
+        error_output.get_ref().as_slice(),
         b"reviewgate: file 7 ReadFault\n".as_slice()
     );
 
-    let mut told = Ends::new(Vec::new(rt.alloc()));
+    let mut error_output = Ends::new(Vec::new(rt.alloc()));
     let ended = run_words(
         rt.alloc(),
         given.as_slice(),
         &mut Broken::before_byte(Ends::new(b"sites 1\nstate 1\n".as_slice()), 3),
         &mut Ends::new(Vec::new(rt.alloc())),
-        &mut told,
+        &mut error_output,
         &mut NoFiles { failures: 0 },
     );
     assert_eq!(rt; ended, 1);
     assert_eq!(rt;
-        told.get_ref().as_slice(),
+        error_output.get_ref().as_slice(),
         b"reviewgate: file 7 ReadFault\n".as_slice()
     );
 
-    let mut told = Ends::new(Vec::new(rt.alloc()));
+    let mut error_output = Ends::new(Vec::new(rt.alloc()));
     let ended = run_words(
         rt.alloc(),
         given.as_slice(),
         &mut Ends::new(b"sites 1\nstate 1\n".as_slice()),
         &mut Broken::at_call(Ends::new(Vec::new(rt.alloc())), 1),
-        &mut told,
+        &mut error_output,
         &mut NoFiles { failures: 0 },
     );
     assert_eq!(rt; ended, 1);
     assert_eq!(rt;
-        told.get_ref().as_slice(),
+        error_output.get_ref().as_slice(),
         b"reviewgate: output 1 WriteFault\n".as_slice()
     );
     Ok(())

@@ -130,8 +130,8 @@ fn an_older_patch_set_is_not_current(rt: HostRuntime) -> Result<(), Fail> {
     assert_why(&rt, rt.alloc(), CHAIN.as_slice(), (97, Some(1)), lines)
 }
 
-/// Change 1 is ready, 2 is abandoned, 3 is rejected by a vote, 4 waits for an unknown change, 5 for itself over 7 and 6,
-/// and 8 for that cycle.
+/// Change 1 is ready, 2 is abandoned, 3 is rejected by a vote, 4 waits for an unknown change, 5 for itself over 7 and
+/// 6, and 8 for that cycle.
 const RECORD: [Step; 18] = [
     PatchSet(1, 1, &[]),
     Both(1, 1),

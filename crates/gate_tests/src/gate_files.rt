@@ -480,7 +480,8 @@ fn play(rt: &impl Abort, alloc: Global, steps: &[Step]) -> Result<(), Fail> {
     Ok(())
 }
 
-// Two approvals make an item ready; one of them by another voter doesn't, nor do they once another patch set is current.
+// Two approvals make an item ready; one of them by another voter doesn't, nor do they once another patch set is
+// current.
 const BOTH_APPROVALS: &[Step] = &[
     PatchSet(1, 1),
     Vote(2, "Workflow", "ann", 1),

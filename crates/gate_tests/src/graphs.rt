@@ -14,7 +14,8 @@ const GATE: &str = r#"{"bases":["https://r/"]}"#;
 /// An operation of a record, whose place in the record is its time.
 #[derive(Clone, Copy)]
 enum Step {
-    /// A patch set of this change with this number, whose message has a footer for each of these changes, on this parent.
+    /// A patch set of this change with this number, whose message has a footer for each of these changes, on this
+    /// parent.
     PatchSet(u32, u32, &'static [u32], Option<u32>),
     Merged(u32),
     Abandon(u32),
@@ -126,7 +127,8 @@ fn by_item(rt: HostRuntime) -> Result<(), Fail> {
     Ok(())
 }
 
-// A dependency stands for its current patch set, an older patch set is an item of its own, and what isn't known has no place.
+// A dependency stands for its current patch set, an older patch set is an item of its own, and what isn't known has no
+// place.
 const PATCH_SETS_OF_ONE_CHANGE: &[Step] = &[
     PatchSet(1, 1, &[9], None),
     PatchSet(1, 7, &[], None),

@@ -110,8 +110,8 @@ impl Case {
         Ok(refusals)
     }
 
-    /// Each change that has no refusal yet and waits for one that was refused in the round before is refused, round by round, until there is no
-    /// such change.
+    /// Each change that has no refusal yet and waits for one that was refused in the round before is refused, round by
+    /// round, until there is no such change.
     fn refusals(&self) -> Result<Vec<Option<(Refusal, usize)>>, NoMemory> {
         let mut refusals = self.first_refusals()?;
         for rank in 0..self.approved.len() {
@@ -142,8 +142,8 @@ impl Case {
         let mut next = Vec::new(self.alloc);
         for (change, refusal) in (1u32..).zip(refusals) {
             let waits = self.least(change, newest.as_slice(), true);
-            let told = waits.map(|number| (Refusal::Dependency(number), rank.saturating_add(1)));
-            next.push(refusal.or(told))?;
+            let waiting = waits.map(|number| (Refusal::Dependency(number), rank.saturating_add(1)));
+            next.push(refusal.or(waiting))?;
         }
         Ok(next)
     }
@@ -310,7 +310,8 @@ fn list_numbered(case: &mut Case, digits: &mut u32, change: u32) -> Result<(), N
     Ok(())
 }
 
-/// The case whose edges, approvals and gate are the binary digits of a number. The changes may need each other and one that isn't known.
+/// The case whose edges, approvals and gate are the binary digits of a number. The changes may need each other and one
+/// that isn't known.
 fn numbered(alloc: Global, changes: u32, number: u32) -> Result<Case, NoMemory> {
     let mut digits = number;
     let mut case = Case::new(alloc, changes, digit(&mut digits));

@@ -8,7 +8,8 @@ use std::alloc::Global;
 use std::process::Abort;
 use std::test::Fail;
 
-// A gate that wants two approvals on the current patch set of an open change, and one that also lets items on a cycle in.
+// A gate that wants two approvals on the current patch set of an open change, and one that also lets items on a cycle
+// in.
 pub(super) const GATE: &str =
     r#"{"bases":["https://review.example.org/"],"reject":{"gerrit":{"approval":[{"Code-Review":-2}]}},"require":{"gerrit":{"open":true,"current-patchset":true,"approval":[{"Workflow":1},{"Verified":[1,2],"username":"zuul"}]}}}"#;
 
@@ -18,7 +19,8 @@ pub(super) const CYCLES: &str =
 /// What comes to a review: an operation, or a look at its report.
 #[derive(Clone, Copy)]
 enum Step {
-    /// A patch set of this change with this number, whose message has a footer for each of these changes, on this parent.
+    /// A patch set of this change with this number, whose message has a footer for each of these changes, on this
+    /// parent.
     PatchSet(u32, u32, &'static [u32], Option<u32>),
     /// A vote on the first patch set of this change.
     Vote(u32, &'static str, &'static str, i8),
@@ -325,11 +327,11 @@ const TWO_CYCLES_STAND_APART: &[Step] = &[
 ];
 
 #[test]
-fn two_cycles_stand_apart(rt: HostRuntime) -> Result<(), Fail> {
+fn two_cycles_are_apart(rt: HostRuntime) -> Result<(), Fail> {
     play(&rt, rt.alloc(), TWO_CYCLES_STAND_APART)
 }
 
-// A cycle is told before an unknown change, and an own condition before both.
+// A cycle is named before an unknown change, and an own condition before both.
 const THE_FIRST_CAUSE: &[Step] = &[
     Approved(1, &[2, 9]),
     PatchSet(2, 1, &[1, 9], None),

@@ -1,23 +1,15 @@
-//! Tests of joins, operations, changes, states and worlds, through the public functions of their crates.
+//! Tests of states, replicas, what a record holds already, and worlds, through the public functions of their crates.
 //!
 //! A crate of tests alone: the gate proves its tests over the libraries that it has proved already, where tests in a
-//! crate make it prove that crate twice. What only a crate itself can name is tested there.
+//! crate make it prove that crate twice.
 #![tactic(auto)]
 
 #[cfg(test)]
-mod changes;
-#[cfg(test)]
-mod chunks;
-#[cfg(test)]
-mod lattices;
-#[cfg(test)]
-mod operations;
-#[cfg(test)]
 mod plain_replica;
 #[cfg(test)]
-mod replicas;
+mod recorded;
 #[cfg(test)]
-mod said;
+mod replicas;
 #[cfg(test)]
 mod states;
 #[cfg(test)]

@@ -1,4 +1,4 @@
-//! Records worked out by hand, and what stands after refused memory.
+//! Records worked out by hand, and what holds after refused memory.
 
 use super::plain_replica::{Plain, row_of};
 use linked_list_allocator::LocalHeap;
@@ -136,7 +136,8 @@ fn back(rt: &impl Abort, alloc: Global, steps: &[Step]) -> Result<Replica, Fail>
     Ok(replica)
 }
 
-/// The replicas that took the operations, the first in their order and the second in the other, have as many and one state.
+/// The replicas that took the operations, the first in their order and the second in the other, have as many and one
+/// state.
 fn assert_state(rt: &impl Abort, alloc: Global, steps: &[Step]) -> Result<(), Fail> {
     let (forth, back) = (forth(rt, alloc, steps)?, back(rt, alloc, steps)?);
     assert_eq!(rt; forth.len(), steps.len());
@@ -522,8 +523,8 @@ fn is_copied<'a>(rt: &impl Abort, replica: &Replica<&'a LocalHeap>) -> bool {
     true
 }
 
-/// Whether a heap of this size suffices for a replica to absorb one with three votes, and for a copy of both. What was refused left the
-/// first votes in.
+/// Whether a heap of this size suffices for a replica to absorb one with three votes, and for a copy of both. What was
+/// refused left the first votes in.
 fn absorbed_in(rt: &impl Abort, alloc: Global, size: usize) -> Result<bool, Fail> {
     let heap = LocalHeap::new(alloc, size)?;
     let Some(other) = voted_in(&heap, &[3, 2, 1]) else {

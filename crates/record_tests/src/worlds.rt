@@ -1,4 +1,4 @@
-//! Scripts worked out by hand, and what stands after refused memory.
+//! Scripts worked out by hand, and what holds after refused memory.
 
 use linked_list_allocator::LocalHeap;
 use replica_core::{Front, Row};
@@ -226,8 +226,8 @@ fn happens<A: Allocator + Copy>(rt: &impl Abort, world: &mut World<A>, event: Ev
     }
 }
 
-/// Whether a heap of this size suffices for three votes at site 1, a packet of them, its delivery to site 2, and a save and a restart of
-/// that. A refused delivery says how many operations it took.
+/// Whether a heap of this size suffices for three votes at site 1, a packet of them, its delivery to site 2, and a save
+/// and a restart of that. A refused delivery says how many operations it took.
 fn sufficed(rt: &impl Abort, alloc: Global, size: usize) -> Result<bool, Fail> {
     let heap = LocalHeap::new(alloc, size)?;
     let Ok(mut world) = World::new(&heap, 2) else {
@@ -290,7 +290,8 @@ fn a_save_takes_no_memory(rt: HostRuntime) -> Result<(), Fail> {
     Ok(())
 }
 
-/// Whether a heap of this size suffices for the answers to a save and a restart of site 1. Where it doesn't, neither has happened.
+/// Whether a heap of this size suffices for the answers to a save and a restart of site 1. Where it doesn't, neither
+/// has happened.
 fn answered(rt: &impl Abort, alloc: Global, size: usize) -> Result<bool, Fail> {
     let heap = LocalHeap::new(alloc, size)?;
     let Ok(mut world) = World::new(&heap, 1) else {

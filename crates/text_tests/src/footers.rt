@@ -114,7 +114,7 @@ fn lines(rt: HostRuntime) {
     }
 }
 
-// The first base that reads a value counts, in the order in which the bases stand.
+// The first base that reads a value counts, in the order in which the bases come.
 #[test]
 fn first_base(rt: HostRuntime) -> Result<(), Fail> {
     let message = "Depends-On: https://r/c/5/+/12";

@@ -133,7 +133,7 @@ fn a_failing_reader_is_refused(rt: HostRuntime) -> Result<(), Fail> {
 
 // The writer fails before each byte in turn, and has taken those before it.
 #[test]
-fn a_failing_writer_is_told(rt: HostRuntime) -> Result<(), Fail> {
+fn a_failing_writer_is_reported(rt: HostRuntime) -> Result<(), Fail> {
     let replica = read_snapshot(
         rt.alloc(),
         &mut Ends::new(b"reviewgate 2\nend 0\n".as_slice()),

@@ -80,7 +80,8 @@ fn plain_flags(
     Ok(flags)
 }
 
-/// Whether a node reaches itself, by repeated relaxing: in each of as many rounds as nodes, each edge from what is reached reaches its end.
+/// Whether a node reaches itself, by repeated relaxing: in each of as many rounds as nodes, each edge from what is
+/// reached reaches its end.
 fn comes_back(
     alloc: Global,
     nodes: usize,
@@ -221,8 +222,8 @@ fn a_hundred_thousand_nodes_turned_round_are_searched(rt: HostRuntime) -> Result
     assert_long(&rt, rt.alloc(), true)
 }
 
-/// Whether a heap of this size suffices for a graph and the nodes on its cycles, which are right then. What was refused keeps no memory: the
-/// second time ends as the first.
+/// Whether a heap of this size suffices for a graph and the nodes on its cycles, which are right then. What was refused
+/// keeps no memory: the second time ends as the first.
 fn suffices(rt: &impl Abort, alloc: Global, size: usize) -> Result<bool, Fail> {
     let heap = LocalHeap::new(alloc, size)?;
     let edges = [(0, 1), (1, 2), (2, 0), (2, 3)];
@@ -237,7 +238,7 @@ fn suffices(rt: &impl Abort, alloc: Global, size: usize) -> Result<bool, Fail> {
 }
 
 #[test]
-fn refused_memory_is_told_and_given_back(rt: HostRuntime) -> Result<(), Fail> {
+fn refused_memory_is_reported_and_given_back(rt: HostRuntime) -> Result<(), Fail> {
     let mut refused = 0;
     for step in 0..256 {
         if suffices(&rt, rt.alloc(), 16 * step)? {

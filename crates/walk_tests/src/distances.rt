@@ -130,7 +130,8 @@ fn no_nodes_have_no_distances(rt: HostRuntime) -> Result<(), Fail> {
     assert_distances(&rt, rt.alloc(), &[], &[], &[])
 }
 
-/// Distances by repeated relaxing: in each of as many rounds as nodes, each edge says that its start is at most one edge further than its end.
+/// Distances by repeated relaxing: in each of as many rounds as nodes, each edge says that its start is at most one
+/// edge further than its end.
 fn plain_distances(
     alloc: Global,
     edges: &[(usize, usize)],
@@ -206,8 +207,8 @@ fn a_chain_of_a_hundred_thousand_nodes_is_searched(rt: HostRuntime) -> Result<()
     Ok(())
 }
 
-/// Whether a heap of this size suffices for a graph and its distances, which are right then. What was refused keeps no memory: the second time
-/// ends as the first.
+/// Whether a heap of this size suffices for a graph and its distances, which are right then. What was refused keeps no
+/// memory: the second time ends as the first.
 fn suffices(rt: &impl Abort, alloc: Global, size: usize) -> Result<bool, Fail> {
     let heap = LocalHeap::new(alloc, size)?;
     let edges = [(0, 1), (1, 2), (2, 0), (2, 3)];
@@ -226,7 +227,7 @@ fn suffices(rt: &impl Abort, alloc: Global, size: usize) -> Result<bool, Fail> {
 }
 
 #[test]
-fn refused_memory_is_told_and_given_back(rt: HostRuntime) -> Result<(), Fail> {
+fn refused_memory_is_reported_and_given_back(rt: HostRuntime) -> Result<(), Fail> {
     let mut refused = 0;
     for words in 0..256 {
         if suffices(&rt, rt.alloc(), 8 * words)? {

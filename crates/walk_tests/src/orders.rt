@@ -19,7 +19,7 @@ fn order_of<A: Allocator + Copy>(
     graph.in_rank_order(kept.as_slice())
 }
 
-/// The nodes of these edges stand in this order.
+/// The nodes of these edges come in this order.
 fn assert_order(
     rt: &impl Abort,
     alloc: Global,
@@ -32,17 +32,17 @@ fn assert_order(
 }
 
 #[test]
-fn a_chain_stands_from_its_end(rt: HostRuntime) -> Result<(), Fail> {
+fn a_chain_begins_at_its_end(rt: HostRuntime) -> Result<(), Fail> {
     assert_order(&rt, rt.alloc(), &[(2, 0), (0, 1)], &[1, 0, 2])
 }
 
 #[test]
-fn a_cycle_stands_after_what_leads_nowhere(rt: HostRuntime) -> Result<(), Fail> {
+fn a_cycle_comes_after_what_leads_nowhere(rt: HostRuntime) -> Result<(), Fail> {
     assert_order(&rt, rt.alloc(), &[(0, 2), (2, 0)], &[1, 3, 0, 2])
 }
 
 #[test]
-fn two_cycles_stand_apart(rt: HostRuntime) -> Result<(), Fail> {
+fn two_cycles_are_apart(rt: HostRuntime) -> Result<(), Fail> {
     let edges = [(0, 3), (3, 0), (1, 2), (2, 1)];
     assert_order(&rt, rt.alloc(), &edges, &[0, 3, 1, 2])
 }
@@ -209,8 +209,8 @@ fn two_regions_are_counted_apart(rt: HostRuntime) -> Result<(), Fail> {
     Ok(())
 }
 
-/// Whether a heap of this size suffices for a graph and its order, which is right then. What was refused keeps no memory: the second time ends as
-/// the first.
+/// Whether a heap of this size suffices for a graph and its order, which is right then. What was refused keeps no
+/// memory: the second time ends as the first.
 fn suffices(rt: &impl Abort, alloc: Global, size: usize) -> Result<bool, Fail> {
     let heap = LocalHeap::new(alloc, size)?;
     let edges = [(0, 1), (1, 2), (2, 0), (2, 3), (1, 4)];
@@ -225,7 +225,7 @@ fn suffices(rt: &impl Abort, alloc: Global, size: usize) -> Result<bool, Fail> {
 }
 
 #[test]
-fn refused_memory_is_told_and_given_back(rt: HostRuntime) -> Result<(), Fail> {
+fn refused_memory_is_reported_and_given_back(rt: HostRuntime) -> Result<(), Fail> {
     let mut refused = 0;
     for step in 0..512 {
         if suffices(&rt, rt.alloc(), 8 * step)? {

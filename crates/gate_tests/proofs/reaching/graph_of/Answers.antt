@@ -18,4 +18,5 @@ returns-clause-within c =
     let rows = c.loop-node.rows.items in
     let all : c.loop-node.node ≡ c.args.nodes = omega arith in
     let within = rows_within c.args.nodes (shown rows) (subst (λ n. AreRows n c.args.nodes (shown rows)) all c.loop-node.invariant) in
-    IfOk-weaker c.new.result (λ graph. graph ≡ shown rows) IsWithin (λ graph is. subst IsWithin (sym is) within) c.new.ensures
+    IfOk-weaker c.new.result (λ graph. graph ≡ shown rows) IsWithin
+    (λ graph is. subst IsWithin (sym is) within) c.new.ensures

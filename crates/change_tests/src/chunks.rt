@@ -1,4 +1,5 @@
-//! Lists that grow and shrink past the size of a chunk, at both ends and in between, and each request for memory refused.
+//! Lists that grow and shrink past the size of a chunk, at both ends and in between, and each request for memory
+//! refused.
 ghost use Rattle.std.specs.Prelude.{false, true};
 
 use chunk_list::{ChunkList, Probe};

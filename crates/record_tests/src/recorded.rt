@@ -1,6 +1,6 @@
 //! What a record says, worked out by hand.
 
-use event_filter::{is_said, what_is_said_changes_no_view, what_is_taken_in_is_said};
+use event_filter::{is_recorded, what_is_recorded_changes_no_view, what_is_taken_in_is_recorded};
 use linked_list_allocator::LocalHeap;
 use review_ops::{Body, Draft, Op, Stamp};
 use state_core::State;
@@ -70,7 +70,7 @@ fn state_of<A: Allocator + Copy>(alloc: A, deeds: &[Deed]) -> Option<State<A>> {
 fn says(alloc: Global, record: &[Deed], deed: Deed) -> Result<bool, Fail> {
     let state = state_of(alloc, record).ok_or("memory")?;
     let body = body_of(alloc, deed).ok_or("memory")?;
-    Ok(is_said(&state, &body)?)
+    Ok(is_recorded(&state, &body)?)
 }
 
 const FIRST: Deed = Deed::PatchSet(1, "m", Some(5));
@@ -78,7 +78,7 @@ const FIRST: Deed = Deed::PatchSet(1, "m", Some(5));
 const APPROVED: Deed = Deed::Vote(1, "zuul", 1);
 
 #[test]
-fn a_patch_set_is_said_with_its_message_and_parent(rt: HostRuntime) -> Result<(), Fail> {
+fn a_patch_set_is_recorded_with_its_message_and_parent(rt: HostRuntime) -> Result<(), Fail> {
     let alloc = rt.alloc();
     assert!(rt; !says(alloc, &[], FIRST)?);
     assert!(rt; says(alloc, &[FIRST], FIRST)?);
@@ -91,7 +91,7 @@ fn a_patch_set_is_said_with_its_message_and_parent(rt: HostRuntime) -> Result<()
 }
 
 #[test]
-fn a_vote_is_said_with_its_value(rt: HostRuntime) -> Result<(), Fail> {
+fn a_vote_is_recorded_with_its_value(rt: HostRuntime) -> Result<(), Fail> {
     let alloc = rt.alloc();
     assert!(rt; !says(alloc, &[], APPROVED)?);
     assert!(rt; says(alloc, &[APPROVED], APPROVED)?);
@@ -119,7 +119,7 @@ fn a_withdrawn_vote_is_none(rt: HostRuntime) -> Result<(), Fail> {
 }
 
 #[test]
-fn a_status_is_said(rt: HostRuntime) -> Result<(), Fail> {
+fn a_status_is_recorded(rt: HostRuntime) -> Result<(), Fail> {
     let alloc = rt.alloc();
     assert!(rt; says(alloc, &[], Deed::Restore)?);
     assert!(rt; !says(alloc, &[], Deed::Abandon)?);
@@ -140,7 +140,7 @@ fn is_asked_in(rt: &(impl Abort + AllocGlobal), size: usize) -> Result<bool, Fai
     let (Some(state), Some(body)) = (state_of(&heap, &[APPROVED]), body_of(&heap, APPROVED)) else {
         return Ok(false);
     };
-    match is_said(&state, &body) {
+    match is_recorded(&state, &body) {
         Ok(said) => {
             assert!(rt; said);
             Ok(true)
@@ -156,7 +156,7 @@ fn refused_memory_is_answered(rt: HostRuntime) -> Result<(), Fail> {
         sufficed = is_asked_in(&rt, steps * 8)?;
     }
     assert!(rt; sufficed);
-    what_is_said_changes_no_view();
-    what_is_taken_in_is_said();
+    what_is_recorded_changes_no_view();
+    what_is_taken_in_is_recorded();
     Ok(())
 }

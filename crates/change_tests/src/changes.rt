@@ -1,4 +1,4 @@
-//! Changes worked out by hand, each public function once, and what stands after refused memory.
+//! Changes worked out by hand, each public function once, and what holds after refused memory.
 
 use change_core::{ChangeState, Life, Status, operations_add_up};
 use lattice_core::Join;
@@ -72,7 +72,8 @@ fn withdrawal<A: Allocator + Copy>(alloc: A, time: u64, set: u32) -> Option<Op<A
     )
 }
 
-/// What is stamped on change 101 with a time, which is its sequence number too, by site 1 under start 1. The second number is the patch set.
+/// What is stamped on change 101 with a time, which is its sequence number too, by site 1 under start 1. The second
+/// number is the patch set.
 #[derive(Clone, Copy)]
 enum Step {
     PatchSet(u64, u32, Option<u32>),
@@ -276,7 +277,7 @@ fn votes_stay_with_their_patch_set(rt: HostRuntime) -> Result<(), Fail> {
     )
 }
 
-/// Votes on two patch sets that stand beside each other, and on the last that there could be.
+/// Votes on two patch sets side by side, and on the last that there could be.
 const NEIGHBOURS: [Step; 3] = [
     Step::Vote(3, 1, "Workflow", "zuul", 1),
     Step::Vote(4, 2, "-", "!", 2),
@@ -312,7 +313,7 @@ const VOTED: [Step; 3] = [
 ];
 
 #[test]
-fn voted_patch_sets_stand_once_in_order(rt: HostRuntime) -> Result<(), Fail> {
+fn voted_patch_sets_come_once_in_order(rt: HostRuntime) -> Result<(), Fail> {
     let state = state_of(&rt, rt.alloc(), &VOTED)?;
     let voted: Vec<u32> = state.voted().collect(rt.alloc())?;
     assert_eq!(rt; voted.as_slice(), [2, 12].as_slice());
@@ -417,7 +418,8 @@ fn assert_taken<'a>(
     Some(())
 }
 
-/// Takes a vote into a state of a heap that may be too small for it. Answers whether memory was refused: then nothing changed.
+/// Takes a vote into a state of a heap that may be too small for it. Answers whether memory was refused: then nothing
+/// changed.
 fn refuses_take<'a>(rt: &impl Abort, ample: &'a LocalHeap, tight: &'a LocalHeap) -> Option<bool> {
     let mut state = known(tight, 1, 3)?;
     let refused = take_vote(tight, &mut state)?;
@@ -461,8 +463,8 @@ fn assert_joined<'a>(
     Some(())
 }
 
-/// Joins other patch sets into those of a heap that may be too small for them. Answers whether memory was refused: then the
-/// state lies between the old one and the join.
+/// Joins other patch sets into those of a heap that may be too small for them. Answers whether memory was refused: then
+/// the state lies between the old one and the join.
 fn refuses_join<'a>(rt: &impl Abort, ample: &'a LocalHeap, tight: &'a LocalHeap) -> Option<bool> {
     let mut state = known(tight, 1, 4)?;
     let refused = state.join(known(ample, 3, 22)?).is_err();
@@ -537,8 +539,8 @@ fn refused_calls_leave_the_stated_state(rt: HostRuntime) -> Result<(), Fail> {
     Ok(())
 }
 
-/// Takes a commit in a heap that may be too small for it. Where it suffices, it suffices for an earlier one too, which loses. Answers whether
-/// memory was refused.
+/// Takes a commit in a heap that may be too small for it. Where it suffices, it suffices for an earlier one too, which
+/// loses. Answers whether memory was refused.
 fn assert_loser_is_taken<'a>(
     rt: &impl Abort,
     ample: &'a LocalHeap,

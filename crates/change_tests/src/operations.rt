@@ -1,4 +1,4 @@
-//! Operations, their bodies and stamps: what is good, in which order they stand, and copies, worked out by hand.
+//! Operations, their bodies and stamps: what is good, in which order they come, and copies, worked out by hand.
 
 use lattice_core::{Keep, NoMemory};
 use linked_list_allocator::LocalHeap;
@@ -359,7 +359,8 @@ fn assert_whole<A: Allocator + Copy>(rt: &impl Abort, op: Op<A>) {
     assert!(rt; body.draft().label() == Some("code-review"));
 }
 
-// Whether a copy of a vote was refused memory, where a heap of this size suffices for the vote. A refusal leaves the operation as it was.
+// Whether a copy of a vote was refused memory, where a heap of this size suffices for the vote. A refusal leaves the
+// operation as it was.
 fn refuses_copy_in(rt: &impl Abort, alloc: Global, size: usize) -> Result<Option<bool>, Fail> {
     let heap = LocalHeap::new(alloc, size)?;
     let Some(op) = vote_in(&heap)? else {

@@ -1,0 +1,14 @@
+//! Tests of joins, lists in chunks, operations and changes, through the public functions of their crates.
+//!
+//! A crate of tests alone: the gate proves its tests over the libraries that it has proved already, where tests in a
+//! crate make it prove that crate twice.
+#![tactic(auto)]
+
+#[cfg(test)]
+mod changes;
+#[cfg(test)]
+mod chunks;
+#[cfg(test)]
+mod lattices;
+#[cfg(test)]
+mod operations;
