@@ -1,5 +1,6 @@
 -- The last entry of a map is that of the greatest key.
-use Rattle.std.proofs.Common.{◌≡◌, ℕ, ◌≤◌, ◌<◌, true, T, List, [], ◌∷◌, ◌++◌, map, ◌∙◌, Some, is_some, refl, sym, ap, subst, arith}
+use Rattle.std.proofs.Common.{◌≡◌, ℕ, ◌≤◌, ◌<◌, true, T, List, [], ◌∷◌, ◌++◌, map, ◌∙◌, Some, is_some, refl, sym, ap}
+use Rattle.std.proofs.Common.{subst, arith}
 use Rattle.std.specs.declared.cmp.Ordering.{Ordering}
 use Rattle.std.specs.declared.cmp.Ordering.TheVariants.{Less, Equal, Greater}
 use Rattle.std.specs.Ordering.{nat_cmp, is_lt, MatchOrdering}
@@ -27,20 +28,25 @@ at_last P [] x all = all.0
 at_last P (y ∷ xs) x all = at_last P xs x all.1
 
 module _ {X : Type 0} where
-  below_last : (key : ℕ) (es : List (ℕ × X)) (e : ℕ × X) → T (below_all nat_cmp key (es ++ e ∷ [])) → T (is_lt (nat_cmp key e.0))
+  below_last : (key : ℕ) (es : List (ℕ × X)) (e : ℕ × X) → T (below_all nat_cmp key (es ++ e ∷ []))
+      → T (is_lt (nat_cmp key e.0))
   below_last key [] e h = first_of_both (is_lt (nat_cmp key e.0)) true h
-  below_last key (x ∷ es) e h = below_last key es e (second_of_both (is_lt (nat_cmp key x.0)) (below_all nat_cmp key (es ++ e ∷ [])) h)
+  below_last key (x ∷ es) e h =
+      below_last key es e (second_of_both (is_lt (nat_cmp key x.0)) (below_all nat_cmp key (es ++ e ∷ [])) h)
 
-  all_up_to_last : (es : List (ℕ × X)) (e : ℕ × X) → T (is_sorted nat_cmp (es ++ e ∷ [])) → AllByRecursion (λ x. x.0 ≤ e.0) (es ++ e ∷ [])
+  all_up_to_last : (es : List (ℕ × X)) (e : ℕ × X) → T (is_sorted nat_cmp (es ++ e ∷ []))
+      → AllByRecursion (λ x. x.0 ≤ e.0) (es ++ e ∷ [])
   all_up_to_last [] e h = (omega arith, tt)
   all_up_to_last (x ∷ es) e h =
       let first = below_last x.0 es e (first_of_both (below_all nat_cmp x.0 (es ++ e ∷ [])) (is_sorted nat_cmp (es ++ e ∷ [])) h) in
       (below_from_less x.0 e.0 (nat_cmp x.0 e.0) (ranked x.0 e.0 (nat_cmp x.0 e.0) refl) first, all_up_to_last es e (second_of_both (below_all nat_cmp x.0 (es ++ e ∷ [])) (is_sorted nat_cmp (es ++ e ∷ [])) h))
 
 -- what a walk over the entries of a change shows of each, from the back
-module _ {K : Type 0} (shown : ℕ × K → ℕ × (Timestamp × Patch)) (change view : Change) (same : view ≡ change) (es : List (ℕ × K)) (are : map shown es ≡ finite.entries view.sets) where
+module _ {K : Type 0} (shown : ℕ × K → ℕ × (Timestamp × Patch)) (change view : Change) (same : view ≡ change)
+    (es : List (ℕ × K)) (are : map shown es ≡ finite.entries view.sets) where
   -- the last entry's key is known, and greatest
-  pub greatest_from_last : (others : List (ℕ × K)) (last : ℕ × K) → es ≡ others ++ last ∷ [] → IsGreatestKnown change (shown last).0
+  pub greatest_from_last : (others : List (ℕ × K)) (last : ℕ × K) → es ≡ others ++ last ∷ []
+      → IsGreatestKnown change (shown last).0
   greatest_from_last others last split =
       let is : finite.entries view.sets ≡ map shown others ++ shown last ∷ [] = sym are ∙ ap (map shown) split ∙ map-append shown others (last ∷ []) in
       let found = (AllByRecursion-entries numbers_exact (λ set register. finite.get view.sets set ≡ Some register) view.sets).0 (λ set register at. at) in
@@ -57,4 +63,5 @@ module _ {K : Type 0} (shown : ℕ × K → ℕ × (Timestamp × Patch)) (change
   pub none_known : es ≡ [] → (set : ℕ) → ¬ (IsKnownSet change set)
   none_known none set known =
       let register = some_of (finite.get view.sets set) (subst (λ c. IsKnownSet c set) (sym same) known) in
-      (AllByRecursion-entries numbers_exact (λ key value. ⊥) view.sets).1 (subst (AllByRecursion (λ x. ⊥)) (ap (map shown) (sym none) ∙ are) tt) set register.0 register.1
+      (AllByRecursion-entries numbers_exact (λ key value. ⊥) view.sets).1
+      (subst (AllByRecursion (λ x. ⊥)) (ap (map shown) (sym none) ∙ are) tt) set register.0 register.1

@@ -52,11 +52,28 @@ no_change = record { merged = false; life = None; sets = map.empty; votes = map.
 
 -- what one operation adds: it writes to one register, or merges
 abbrev pub effect_by : Timestamp → Deed → Change
-effect_by stamp (patch_set change number message parent) = record { merged = false; life = None; sets = map.insert map.empty number (stamp, record { message = message; parent = parent }); votes = map.empty }
-effect_by stamp (vote change number label voter value) = record { merged = false; life = None; sets = map.empty; votes = map.insert map.empty (record { set = number; label = label; voter = voter }) (stamp, value) }
-effect_by stamp (withdraw change number label voter) = record { merged = false; life = None; sets = map.empty; votes = map.insert map.empty (record { set = number; label = label; voter = voter }) (stamp, pos 0) }
-effect_by stamp (abandon change) = record { merged = false; life = Some (stamp, Abandoned); sets = map.empty; votes = map.empty }
-effect_by stamp (restore change) = record { merged = false; life = Some (stamp, Restored); sets = map.empty; votes = map.empty }
+effect_by stamp (patch_set change number message parent) = record {
+  merged = false;
+  life = None;
+  sets = map.insert map.empty number (stamp, record { message = message; parent = parent });
+  votes = map.empty;
+}
+effect_by stamp (vote change number label voter value) = record {
+  merged = false;
+  life = None;
+  sets = map.empty;
+  votes = map.insert map.empty (record { set = number; label = label; voter = voter }) (stamp, value);
+}
+effect_by stamp (withdraw change number label voter) = record {
+  merged = false;
+  life = None;
+  sets = map.empty;
+  votes = map.insert map.empty (record { set = number; label = label; voter = voter }) (stamp, pos 0);
+}
+effect_by stamp (abandon change) =
+    record { merged = false; life = Some (stamp, Abandoned); sets = map.empty; votes = map.empty }
+effect_by stamp (restore change) =
+    record { merged = false; life = Some (stamp, Restored); sets = map.empty; votes = map.empty }
 effect_by stamp (merged change) = record { merged = true; life = None; sets = map.empty; votes = map.empty }
 
 abbrev pub effect_of : Operation → Change
@@ -82,7 +99,22 @@ lives_join = options_join (greater_join life_order_exact)
 
 pub changes_join : IsJoin change_joined
 changes_join = record {
-  commutes = λ a b i. record { merged = raised_join.commutes a.merged b.merged i; life = lives_join.commutes a.life b.life i; sets = sets_join.commutes a.sets b.sets i; votes = votes_join.commutes a.votes b.votes i };
-  associates = λ a b c i. record { merged = raised_join.associates a.merged b.merged c.merged i; life = lives_join.associates a.life b.life c.life i; sets = sets_join.associates a.sets b.sets c.sets i; votes = votes_join.associates a.votes b.votes c.votes i };
-  idempotent = λ a i. record { merged = raised_join.idempotent a.merged i; life = lives_join.idempotent a.life i; sets = sets_join.idempotent a.sets i; votes = votes_join.idempotent a.votes i };
+  commutes = λ a b i. record {
+    merged = raised_join.commutes a.merged b.merged i;
+    life = lives_join.commutes a.life b.life i;
+    sets = sets_join.commutes a.sets b.sets i;
+    votes = votes_join.commutes a.votes b.votes i;
+  };
+  associates = λ a b c i. record {
+    merged = raised_join.associates a.merged b.merged c.merged i;
+    life = lives_join.associates a.life b.life c.life i;
+    sets = sets_join.associates a.sets b.sets c.sets i;
+    votes = votes_join.associates a.votes b.votes c.votes i;
+  };
+  idempotent = λ a i. record {
+    merged = raised_join.idempotent a.merged i;
+    life = lives_join.idempotent a.life i;
+    sets = sets_join.idempotent a.sets i;
+    votes = votes_join.idempotent a.votes i;
+  };
 }

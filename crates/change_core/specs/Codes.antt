@@ -10,23 +10,29 @@ use Rattle.change_core.specs.Change.{Change}
 use Rattle.change_core.specs.declared.life.Life.{Life}
 
 abbrev pub timestamp_code : Coded Timestamp
-timestamp_code = code_by (ℕ × (ℕ × (ℕ × ℕ))) (coded× coded_ℕ (coded× coded_ℕ (coded× coded_ℕ coded_ℕ))) (λ t. (t.time, (t.site, (t.start, t.seq)))) (λ p. record { time = p.0; site = p.1.0; start = p.1.1.0; seq = p.1.1.1 }) (λ _. refl)
+timestamp_code = code_by (ℕ × (ℕ × (ℕ × ℕ))) (coded× coded_ℕ (coded× coded_ℕ (coded× coded_ℕ coded_ℕ)))
+    (λ t. (t.time, (t.site, (t.start, t.seq))))
+    (λ p. record { time = p.0; site = p.1.0; start = p.1.1.0; seq = p.1.1.1 }) (λ _. refl)
 
 abbrev pub life_code : Coded Life
 life_code = code_by ℕ coded_ℕ life_rank life_at life_at-rank
 
 abbrev pub patch_code : Coded Patch
-patch_code = code_by (List ℕ × Option ℕ) (coded× (coded_list coded_ℕ) (coded_option coded_ℕ)) (λ p. (p.message, p.parent)) (λ p. record { message = p.0; parent = p.1 }) (λ _. refl)
+patch_code = code_by (List ℕ × Option ℕ) (coded× (coded_list coded_ℕ) (coded_option coded_ℕ))
+    (λ p. (p.message, p.parent)) (λ p. record { message = p.0; parent = p.1 }) (λ _. refl)
 
 abbrev pub slot_code : Coded Slot
-slot_code = code_by (ℕ × (List ℕ × List ℕ)) (coded× coded_ℕ (coded× (coded_list coded_ℕ) (coded_list coded_ℕ))) (λ s. (s.set, (s.label, s.voter))) (λ p. record { set = p.0; label = p.1.0; voter = p.1.1 }) (λ _. refl)
+slot_code = code_by (ℕ × (List ℕ × List ℕ)) (coded× coded_ℕ (coded× (coded_list coded_ℕ) (coded_list coded_ℕ)))
+    (λ s. (s.set, (s.label, s.voter))) (λ p. record { set = p.0; label = p.1.0; voter = p.1.1 }) (λ _. refl)
 
 abbrev pub Parts : Type 0
-Parts = Bool × (Option (Timestamp × Life) × (map.FinMap nat_cmp (Timestamp × Patch) × map.FinMap slot_cmp (Timestamp × ℤ)))
+Parts =
+    Bool × (Option (Timestamp × Life) × (map.FinMap nat_cmp (Timestamp × Patch) × map.FinMap slot_cmp (Timestamp × ℤ)))
 
 abbrev pub change_code : Coded Change
 change_code =
     code_by Parts
     (coded× coded_bool (coded× (coded_option (coded× timestamp_code life_code))
     (coded× (map.code coded_ℕ (coded× timestamp_code patch_code)) (map.code slot_code (coded× timestamp_code coded_ℤ)))))
-    (λ c. (c.merged, (c.life, (c.sets, c.votes)))) (λ p. record { merged = p.0; life = p.1.0; sets = p.1.1.0; votes = p.1.1.1 }) (λ _. refl)
+    (λ c. (c.merged, (c.life, (c.sets, c.votes))))
+    (λ p. record { merged = p.0; life = p.1.0; sets = p.1.1.0; votes = p.1.1.1 }) (λ _. refl)

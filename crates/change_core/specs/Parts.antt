@@ -27,5 +27,7 @@ votes_shown = map_of slot_cmp slot_of (λ r. r)
 abbrev pub registers_shown : {A : Type 0} → List (VoteSlot A × (Timestamp × ℤ)) → List (Slot × (Timestamp × ℤ))
 registers_shown = map (λ register. (slot_of register.0, register.1))
 
-abbrev pub change_of_parts : {A : Type 0} → Bool → Option (Timestamp × Life) → List (ℕ × (Timestamp × Commit A)) → List (VoteSlot A × (Timestamp × ℤ)) → Change
-change_of_parts merged life sets votes = record { merged = merged; life = life; sets = sets_shown sets; votes = votes_shown votes }
+abbrev pub change_of_parts : {A : Type 0} → Bool → Option (Timestamp × Life) → List (ℕ × (Timestamp × Commit A))
+    → List (VoteSlot A × (Timestamp × ℤ)) → Change
+change_of_parts merged life sets votes =
+    record { merged = merged; life = life; sets = sets_shown sets; votes = votes_shown votes }

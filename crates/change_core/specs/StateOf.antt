@@ -14,4 +14,5 @@ pub record IsStateOf (ops : List Operation) (change : Change) : Type 0 where
   pub merged : change.merged ≡ list_any (λ op. merges op.deed) ops
   pub life : IsRegister life_order (filter_map (stamped life_in) ops) change.life
   pub sets : (set : ℕ) → IsRegister patch_order (filter_map (stamped (commit_in set)) ops) (map.get change.sets set)
-  pub votes : (slot : Slot) → IsRegister vote_order (filter_map (stamped (score_in slot)) ops) (map.get change.votes slot)
+  pub votes : (slot : Slot)
+      → IsRegister vote_order (filter_map (stamped (score_in slot)) ops) (map.get change.votes slot)

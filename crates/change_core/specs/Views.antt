@@ -1,5 +1,6 @@
 -- What Gerrit and Zuul see of a change (Gerrit, "Review Labels" and "Changes"; Zuul, "Gerrit driver").
-use Rattle.std.specs.Prelude.{ℕ, ◌≤◌, List, Option, None, Some, IsSome, MatchOption, option_map, option_and_then, if◌then◌else◌}
+use Rattle.std.specs.Prelude.{ℕ, ◌≤◌, List, Option, None, Some, IsSome, MatchOption, option_map, option_and_then}
+use Rattle.std.specs.Prelude.{if◌then◌else◌}
 use Rattle.std.specs.FinMap as map
 use Rattle.review_ops.specs.Timestamp.{Timestamp}
 use Rattle.change_core.specs.Change.{Change}

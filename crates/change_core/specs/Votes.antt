@@ -1,6 +1,7 @@
--- The votes on a patch set (Gerrit, "Review Labels"): one score for each label and voter, and a withdrawn one is a score
--- of 0. Its approvals are the scores that aren't 0.
-use Rattle.std.specs.Prelude.{◌≡◌, ◌==◌, ◌↔◌, ℕ, ℤ, pos, not, List, [], ◌∷◌, map, Option, None, Some, IsSome, Contains, if◌then◌else◌}
+-- The votes on a patch set (Gerrit, "Review Labels"): one score for each label and voter, and a withdrawn one is a
+-- score of 0. Its approvals are the scores that aren't 0.
+use Rattle.std.specs.Prelude.{◌≡◌, ◌==◌, ◌↔◌, ℕ, ℤ, pos, not, List, [], ◌∷◌, map, Option, None, Some, IsSome, Contains}
+use Rattle.std.specs.Prelude.{if◌then◌else◌}
 use Rattle.std.specs.List.{filter}
 use Rattle.std.specs.List.Sorted.{IsStrictlyIncreasing}
 use Rattle.std.specs.Ordering.{int_eq}
@@ -22,7 +23,8 @@ pub record GivenApproval : Type 0 where
 
 -- what a register of a vote slot says
 abbrev pub vote_at : Slot × (Timestamp × ℤ) → GivenVote
-vote_at register = record { label = register.0.label; voter = register.0.voter; value = register.1.1; stamp = register.1.0 }
+vote_at register =
+    record { label = register.0.label; voter = register.0.voter; value = register.1.1; stamp = register.1.0 }
 
 -- the votes that these registers have for the patch set
 abbrev pub votes_among : ℕ → List (Slot × (Timestamp × ℤ)) → List GivenVote

@@ -9,7 +9,8 @@ use Rattle.change_core.specs.declared.life.Life.TheVariants.{Abandoned, Restored
 
 -- the commit that a deed uploads as this patch set
 abbrev pub commit_in : ℕ → Deed → Option Patch
-commit_in set (patch_set change number message parent) = if same_set set number then Some (record { message = message; parent = parent }) else None
+commit_in set (patch_set change number message parent) =
+    if same_set set number then Some (record { message = message; parent = parent }) else None
 commit_in set (vote change number label voter value) = None
 commit_in set (withdraw change number label voter) = None
 commit_in set (abandon change) = None
@@ -19,8 +20,10 @@ commit_in set (merged change) = None
 -- the score that a deed gives in this slot; to withdraw is to vote 0
 abbrev pub score_in : Slot → Deed → Option ℤ
 score_in slot (patch_set change number message parent) = None
-score_in slot (vote change number label voter value) = if same_slot slot (record { set = number; label = label; voter = voter }) then Some value else None
-score_in slot (withdraw change number label voter) = if same_slot slot (record { set = number; label = label; voter = voter }) then Some (pos 0) else None
+score_in slot (vote change number label voter value) =
+    if same_slot slot (record { set = number; label = label; voter = voter }) then Some value else None
+score_in slot (withdraw change number label voter) =
+    if same_slot slot (record { set = number; label = label; voter = voter }) then Some (pos 0) else None
 score_in slot (abandon change) = None
 score_in slot (restore change) = None
 score_in slot (merged change) = None

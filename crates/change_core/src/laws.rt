@@ -5,8 +5,8 @@ ghost use Rattle.review_ops.specs.Operation.{Operation};
 ghost use Rattle.change_core.specs.Change.{Change, change_joined, effect_of, no_change};
 ghost use Rattle.change_core.specs.StateOf.{IsStateOf};
 
-/// A law: no operation adds up to the state of nothing, one operation to its effect, and the operations of two lists to the join of what
-/// each adds up to; the same operations, in whatever order and however often, add up to one state.
+/// A law: no operation adds up to the state of nothing, one operation to its effect, and the operations of two lists to
+/// the join of what each adds up to; the same operations, in whatever order and however often, add up to one state.
 pub fn operations_add_up()
     ensures none { IsStateOf [] no_change }
     ensures one { (op : Operation) → IsStateOf (op ∷ []) (effect_of op) }

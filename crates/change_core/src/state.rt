@@ -20,8 +20,8 @@ use std::alloc::{Allocator, Global};
 use std::cmp::Ordering;
 use std::marker::Model;
 
-/// The state of one change: what the operations on it add up to, in whatever order they came. Contracts see a `Change`: whether it is
-/// merged, the newest abandon or restore, and the registers of its patch sets and of its votes.
+/// The state of one change: what the operations on it add up to, in whatever order they came. Contracts see a `Change`:
+/// whether it is merged, the newest abandon or restore, and the registers of its patch sets and of its votes.
 #[derive(Drop)]
 pub struct ChangeState<A: Allocator + Copy = Global> {
     merged: Flag,
@@ -56,7 +56,8 @@ impl<A: Allocator + Copy> ChangeState<A> {
         }
     }
 
-    /// Joins the effect of an operation into the state. The operation's change isn't looked at. Where memory is refused nothing changes.
+    /// Joins the effect of an operation into the state. The operation's change isn't looked at. Where memory is refused
+    /// nothing changes.
     pub fn take(&mut self, op: &Op<A>) -> Result<(), NoMemory>
         ensures ok { OnOk result (self.new ≡ change_joined self.old (effect_of op.now)) }
         ensures err { OnErr result (self.new ≡ self.old) }
@@ -169,24 +170,24 @@ impl<A: Allocator + Copy> ChangeState<A> {
         &self.votes
     }
 
-    /// The votes on a patch set, by label, then voter; a withdrawn vote is one of 0. It costs time logarithmic in all votes of the change, and
-    /// to walk them time linear in those on the patch set.
+    /// The votes on a patch set, by label, then voter; a withdrawn vote is one of 0. It costs time logarithmic in all
+    /// votes of the change, and to walk them time linear in those on the patch set.
     pub fn votes(&self, set: u32) -> Votes<'_, A>
         ensures { result ≡ votes_of self.now set }
     {
         Votes::on(set, &self.votes)
     }
 
-    /// The votes on a patch set that aren't 0, by label, then voter. It costs time logarithmic in all votes of the change, and to walk them time
-    /// linear in those on the patch set.
+    /// The votes on a patch set that aren't 0, by label, then voter. It costs time logarithmic in all votes of the
+    /// change, and to walk them time linear in those on the patch set.
     pub fn approvals(&self, set: u32) -> Approvals<'_, A>
         ensures { result ≡ approvals_of self.now set }
     {
         Approvals::among(self.votes(set))
     }
 
-    /// The patch sets with a vote or a withdrawn vote, known or not, in order, each once. To walk them takes time linear in
-    /// all votes of the change.
+    /// The patch sets with a vote or a withdrawn vote, known or not, in order, each once. To walk them takes time
+    /// linear in all votes of the change.
     pub fn voted(&self) -> VotedSets<'_, A>
         ensures { AreVotedSets self.now result }
     {
@@ -303,7 +304,8 @@ fn held_order<A: Allocator + Copy>(
     message: &str,
     parent: Option<u32>,
 ) -> Ordering
-    ensures { result ≡ patch_order (held.now.0, patch_of held.now.1) (stamp, record { message = message.now; parent = parent }) }
+    ensures { result
+        ≡ patch_order (held.now.0, patch_of held.now.1) (stamp, record { message = message.now; parent = parent }) }
 {
     match held.key().cmp(&stamp) {
         Ordering::Equal => commit_order(held.value(), message, parent),

@@ -1,6 +1,7 @@
 ghost use Rattle.std.specs.Prelude.{◌≡◌, None};
 ghost use Rattle.std.specs.FinMap as finite;
-ghost use Rattle.change_core.specs.Votes.{votes_among, approvals_among, sets_among, first_of_each, first_slot as least_slot};
+ghost use Rattle.change_core.specs.Votes.{votes_among, approvals_among, sets_among, first_of_each};
+ghost use Rattle.change_core.specs.Votes.{first_slot as least_slot};
 ghost use Rattle.change_core.specs.Parts.{registers_shown, slot_of, votes_shown};
 
 use super::vote_slot::VoteSlot;
@@ -19,7 +20,7 @@ pub struct Vote<'a> {
     pub voter: &'a str,
     /// The score; a withdrawn vote is one of 0.
     pub value: i8,
-    /// When it was given, or withdrawn.
+    /// When it was cast, or withdrawn.
     pub stamp: Stamp,
 }
 
@@ -80,7 +81,8 @@ fn registers_of<A: Allocator + Copy>(
     }
 }
 
-/// The first slot that a vote on a patch set could have: that of the empty label and the empty voter. It takes no memory.
+/// The first slot that a vote on a patch set could have: that of the empty label and the empty voter. It takes no
+/// memory.
 fn first_slot<A: Allocator + Copy>(alloc: A, set: u32) -> VoteSlot<A>
     ensures { slot_of result ≡ least_slot set }
 {

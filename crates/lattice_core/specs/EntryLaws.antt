@@ -16,7 +16,8 @@ is_some_of None x e = cc
 is_some_of (Some y) x e = refl
 
 -- the entries are just what the map has at its keys
-module _ {S X : Type 0} {order : S → S → Ordering} (exact_order : IsExactOrder order) (m : FinMap order X) (key : S) (value : X) where
+module _ {S X : Type 0} {order : S → S → Ordering} (exact_order : IsExactOrder order) (m : FinMap order X) (key : S)
+    (value : X) where
   pub get-entry : Contains (entries m) (key, value) → get m key ≡ Some value
   get-entry c =
       All-contains (λ e. get m e.0 ≡ Some e.1) (entries m) (key, value)

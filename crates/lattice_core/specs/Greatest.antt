@@ -6,7 +6,8 @@ use Rattle.std.specs.declared.cmp.Ordering.TheVariants.{Less, Equal, Greater}
 use Rattle.std.specs.Ordering.{is_lt, is_gt, ord_max, ordering_reverse}
 use Rattle.std.specs.Cmp.{upto, tied_itself}
 use Rattle.std.proofs.Common.{refl, sym, ap, ◌∙◌}
-use Rattle.std.proofs.lemmas.List.Elements.{All-cons, All-contains, All-contains_itself, All-weaker, Contains-append_right}
+use Rattle.std.proofs.lemmas.List.Elements.{All-cons, All-contains, All-contains_itself, All-weaker}
+use Rattle.std.proofs.lemmas.List.Elements.{Contains-append_right}
 use Rattle.lattice_core.specs.MemberLaws.{Contains-first}
 use Rattle.lattice_core.specs.Keep.{IsExactOrder}
 use Rattle.lattice_core.specs.Join.{IsJoin, Covers, joined_all, joined_all-IsLeastCover}
@@ -46,7 +47,8 @@ module _ {T : Type 0} {order : T → T → Ordering} (exact_order : IsExactOrder
   greater_commutes a b =
       elim (order b a) as (λ r. order b a ≡ r → cond (is_lt r) a b ≡ ord_max order b a) [
         | Less ↦ λ e. sym (ap (λ r. cond (is_lt r) b a) (exact_order.total.antisymm a b ∙ ap ordering_reverse e))
-        | Equal ↦ λ e. exact_order.exact b a e ∙ sym (ap (λ r. cond (is_lt r) b a) (exact_order.total.antisymm a b ∙ ap ordering_reverse e))
+        | Equal ↦ λ e. exact_order.exact b a e
+            ∙ sym (ap (λ r. cond (is_lt r) b a) (exact_order.total.antisymm a b ∙ ap ordering_reverse e))
         | Greater ↦ λ e. sym (ap (λ r. cond (is_lt r) b a) (exact_order.total.antisymm a b ∙ ap ordering_reverse e))
       ] refl
 
@@ -54,7 +56,8 @@ module _ {T : Type 0} {order : T → T → Ordering} (exact_order : IsExactOrder
   greater_idempotent a = one_of_two (is_lt (order a a)) a
 
   greater_below : (a b c : T) → is_lt (order b a) ≡ true → is_lt (order c b) ≡ true → ord_max order a c ≡ a
-  greater_below a b c ba cb = ap (λ t. cond t a c) (ap is_lt (exact_order.total.trans c b a (Less-from_is_lt (order c b) cb) (Less-from_is_lt (order b a) ba)))
+  greater_below a b c ba cb = ap (λ t. cond t a c)
+      (ap is_lt (exact_order.total.trans c b a (Less-from_is_lt (order c b) cb) (Less-from_is_lt (order b a) ba)))
 
   greater_associates : (a b c : T) → ord_max order (ord_max order a b) c ≡ ord_max order a (ord_max order b c)
   greater_associates a b c =
@@ -70,7 +73,8 @@ module _ {T : Type 0} {order : T → T → Ordering} (exact_order : IsExactOrder
       ] refl
 
   pub greater_join : IsJoin (ord_max order)
-  greater_join = record { commutes = greater_commutes; associates = greater_associates; idempotent = greater_idempotent }
+  greater_join =
+      record { commutes = greater_commutes; associates = greater_associates; idempotent = greater_idempotent }
 
   pub not_below-Covers : (a b : T) → Covers (ord_max order) a b → is_lt (order a b) ≡ false
   not_below-Covers a b h =
@@ -90,16 +94,19 @@ module _ {T : Type 0} {order : T → T → Ordering} (exact_order : IsExactOrder
   Contains-joined_all : (first : T) (rest : List T) → Contains (first ∷ rest) (joined_all (ord_max order) first rest)
   Contains-joined_all first [] = Contains-first first []
   Contains-joined_all first (x ∷ rest) =
-      All-contains (Contains (first ∷ x ∷ rest)) (ord_max order first x ∷ rest) (joined_all (ord_max order) (ord_max order first x) rest)
+      All-contains (Contains (first ∷ x ∷ rest)) (ord_max order first x ∷ rest)
+      (joined_all (ord_max order) (ord_max order first x) rest)
       (All-cons (Contains (first ∷ x ∷ rest)) (ord_max order first x) rest (Contains-greater first x rest)
       (All-weaker (Contains rest) (Contains (first ∷ x ∷ rest)) (λ s h. Contains-append_right (first ∷ x ∷ []) rest s h) rest (All-contains_itself rest)))
       (Contains-joined_all (ord_max order first x) rest)
 
   -- the join of registers' pairs is the greatest of them
-  pub joined_all-IsGreatest : (first : T) (rest : List T) → IsGreatest order (first ∷ rest) (joined_all (ord_max order) first rest)
+  pub joined_all-IsGreatest : (first : T) (rest : List T)
+      → IsGreatest order (first ∷ rest) (joined_all (ord_max order) first rest)
   joined_all-IsGreatest first rest = record {
     among = Contains-joined_all first rest;
-    above = All-weaker (Covers (ord_max order) (joined_all (ord_max order) first rest)) (λ value. is_gt (order value (joined_all (ord_max order) first rest)) ≡ false)
+    above = All-weaker (Covers (ord_max order) (joined_all (ord_max order) first rest))
+        (λ value. is_gt (order value (joined_all (ord_max order) first rest)) ≡ false)
         (λ value covers. sym (turned value (joined_all (ord_max order) first rest)) ∙ not_below-Covers (joined_all (ord_max order) first rest) value covers)
         (first ∷ rest) (joined_all-IsLeastCover greater_join first rest).covers_all;
   }

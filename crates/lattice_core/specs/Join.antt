@@ -3,7 +3,8 @@
 use Rattle.std.specs.Prelude.{◌≡◌, ◌↔◌, List, [], ◌∷◌, Option, None, Some, All, Contains, fold}
 use Rattle.std.specs.List.{reduce}
 use Rattle.std.proofs.Common.{refl, sym, ap, ◌∙◌, subst}
-use Rattle.std.proofs.lemmas.List.Elements.{All-nil, All-head, All-tail, All-cons, All-contains, All-contains_itself, All-weaker}
+use Rattle.std.proofs.lemmas.List.Elements.{All-nil, All-head, All-tail, All-cons, All-contains, All-contains_itself}
+use Rattle.std.proofs.lemmas.List.Elements.{All-weaker}
 
 -- commutative, associative and idempotent
 pub record IsJoin {S : Type 0} (joined : S → S → S) : Type 0 where
@@ -46,7 +47,8 @@ module _ {S : Type 0} {joined : S → S → S} where
   option_commutes laws (Some a) None = refl
   option_commutes laws (Some a) (Some b) = ap Some (laws.commutes a b)
 
-  option_associates : IsJoin joined → (a b c : Option S) → option_joined joined (option_joined joined a b) c ≡ option_joined joined a (option_joined joined b c)
+  option_associates : IsJoin joined → (a b c : Option S)
+      → option_joined joined (option_joined joined a b) c ≡ option_joined joined a (option_joined joined b c)
   option_associates laws None b c = refl
   option_associates laws (Some a) None c = refl
   option_associates laws (Some a) (Some b) None = refl
@@ -57,16 +59,23 @@ module _ {S : Type 0} {joined : S → S → S} where
   option_idempotent laws (Some a) = ap Some (laws.idempotent a)
 
   pub options_join : IsJoin joined → IsJoin (option_joined joined)
-  options_join laws = record { commutes = option_commutes laws; associates = option_associates laws; idempotent = option_idempotent laws }
+  options_join laws = record {
+    commutes = option_commutes laws;
+    associates = option_associates laws;
+    idempotent = option_idempotent laws;
+  }
 
-  pub pairs_join : {T : Type 0} {joined' : T → T → T} → IsJoin joined → IsJoin joined' → IsJoin (pair_joined joined joined')
+  pub pairs_join : {T : Type 0} {joined' : T → T → T} → IsJoin joined → IsJoin joined'
+      → IsJoin (pair_joined joined joined')
   pairs_join laws laws' = record {
     commutes = λ a b i. (laws.commutes a.0 b.0 i, laws'.commutes a.1 b.1 i);
     associates = λ a b c i. (laws.associates a.0 b.0 c.0 i, laws'.associates a.1 b.1 c.1 i);
     idempotent = λ a i. (laws.idempotent a.0 i, laws'.idempotent a.1 i);
   }
 
-  pub pairs_between : {T : Type 0} {joined' : T → T → T} {low state high : S} {low' state' high' : T} → IsBetween joined low state high → IsBetween joined' low' state' high' → IsBetween (pair_joined joined joined') (low, low') (state, state') (high, high')
+  pub pairs_between : {T : Type 0} {joined' : T → T → T} {low state high : S} {low' state' high' : T}
+      → IsBetween joined low state high → IsBetween joined' low' state' high'
+      → IsBetween (pair_joined joined joined') (low, low') (state, state') (high, high')
   pairs_between first second = record {
     covers_low = λ i. (first.covers_low i, second.covers_low i);
     is_covered = λ i. (first.is_covered i, second.is_covered i);
@@ -85,7 +94,8 @@ module _ {S : Type 0} {joined : S → S → S} (laws : IsJoin joined) where
   Covers-antisymm a b ab ba = sym ab ∙ laws.commutes a b ∙ ba
 
   pub Covers-left : (a b : S) → Covers joined (joined a b) a
-  Covers-left a b = laws.commutes (joined a b) a ∙ sym (laws.associates a a b) ∙ ap (λ s. joined s b) (laws.idempotent a)
+  Covers-left a b =
+      laws.commutes (joined a b) a ∙ sym (laws.associates a a b) ∙ ap (λ s. joined s b) (laws.idempotent a)
 
   pub Covers-right : (a b : S) → Covers joined (joined a b) b
   Covers-right a b = laws.associates a b b ∙ ap (joined a) (laws.idempotent b)
@@ -106,7 +116,8 @@ module _ {S : Type 0} {joined : S → S → S} (laws : IsJoin joined) where
   -- ---- the join of a list
   Covers-joined_all_first : (first : S) (rest : List S) → Covers joined (joined_all joined first rest) first
   Covers-joined_all_first first [] = Covers-itself first
-  Covers-joined_all_first first (x ∷ rest) = Covers-trans (joined_all joined (joined first x) rest) (joined first x) first (Covers-joined_all_first (joined first x) rest) (Covers-left first x)
+  Covers-joined_all_first first (x ∷ rest) = Covers-trans (joined_all joined (joined first x) rest)
+      (joined first x) first (Covers-joined_all_first (joined first x) rest) (Covers-left first x)
 
   Covers-joined_all_rest : (first : S) (rest : List S) → All (Covers joined (joined_all joined first rest)) rest
   Covers-joined_all_rest first [] = All-nil (Covers joined (joined_all joined first []))
@@ -114,25 +125,33 @@ module _ {S : Type 0} {joined : S → S → S} (laws : IsJoin joined) where
       (Covers-trans (joined_all joined (joined first x) rest) (joined first x) x (Covers-joined_all_first (joined first x) rest) (Covers-right first x))
       (Covers-joined_all_rest (joined first x) rest)
 
-  least_cover : (c first : S) (rest : List S) → Covers joined c first → All (Covers joined c) rest → Covers joined c (joined_all joined first rest)
+  least_cover : (c first : S) (rest : List S) → Covers joined c first → All (Covers joined c) rest
+      → Covers joined c (joined_all joined first rest)
   least_cover c first [] h all = h
-  least_cover c first (x ∷ rest) h all = least_cover c (joined first x) rest (Covers-joined c first x h (All-head (Covers joined c) x rest all)) (All-tail (Covers joined c) x rest all)
+  least_cover c first (x ∷ rest) h all = least_cover c (joined first x) rest
+      (Covers-joined c first x h (All-head (Covers joined c) x rest all)) (All-tail (Covers joined c) x rest all)
 
   -- the join of a list is its least upper bound
-  pub joined_all-IsLeastCover : (first : S) (rest : List S) → IsLeastCover joined (first ∷ rest) (joined_all joined first rest)
+  pub joined_all-IsLeastCover : (first : S) (rest : List S)
+      → IsLeastCover joined (first ∷ rest) (joined_all joined first rest)
   joined_all-IsLeastCover first rest = record {
-    covers_all = All-cons (Covers joined (joined_all joined first rest)) first rest (Covers-joined_all_first first rest) (Covers-joined_all_rest first rest);
-    least = λ c all. least_cover c first rest (All-head (Covers joined c) first rest all) (All-tail (Covers joined c) first rest all);
+    covers_all = All-cons (Covers joined (joined_all joined first rest)) first rest (Covers-joined_all_first first rest)
+        (Covers-joined_all_rest first rest);
+    least = λ c all. least_cover c first rest (All-head (Covers joined c) first rest all)
+        (All-tail (Covers joined c) first rest all);
   }
 
-  pub reduce-IsLeastCover : (states : List S) (whole : S) → reduce joined states ≡ Some whole → IsLeastCover joined states whole
+  pub reduce-IsLeastCover : (states : List S) (whole : S) → reduce joined states ≡ Some whole
+      → IsLeastCover joined states whole
   reduce-IsLeastCover [] whole e = cc
   reduce-IsLeastCover (first ∷ rest) whole e =
       let is : joined_all joined first rest ≡ whole = cc in
       subst (IsLeastCover joined (first ∷ rest)) is (joined_all-IsLeastCover first rest)
 
   -- neither the order nor repeats matter: lists with the same members join alike
-  pub joined_all-same_members : (first : S) (rest : List S) (first' : S) (rest' : List S) → ((s : S) → Contains (first ∷ rest) s ↔ Contains (first' ∷ rest') s) → joined_all joined first rest ≡ joined_all joined first' rest'
+  pub joined_all-same_members : (first : S) (rest : List S) (first' : S) (rest' : List S)
+      → ((s : S) → Contains (first ∷ rest) s ↔ Contains (first' ∷ rest') s)
+      → joined_all joined first rest ≡ joined_all joined first' rest'
   joined_all-same_members first rest first' rest' same =
       let mine = joined_all-IsLeastCover first rest in
       let theirs = joined_all-IsLeastCover first' rest' in

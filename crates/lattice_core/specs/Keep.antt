@@ -42,13 +42,15 @@ texts_exact = lists_exact numbers_exact
 abbrev pub pair_order : {A B : Type 0} → (A → A → Ordering) → (B → B → Ordering) → A × B → A × B → Ordering
 pair_order by_first by_second x y = ordering_then (by_first x.0 y.0) (by_second x.1 y.1)
 
-pub pairs_exact : {A B : Type 0} {by_first : A → A → Ordering} {by_second : B → B → Ordering} → IsExactOrder by_first → IsExactOrder by_second → IsExactOrder (pair_order by_first by_second)
+pub pairs_exact : {A B : Type 0} {by_first : A → A → Ordering} {by_second : B → B → Ordering} → IsExactOrder by_first
+    → IsExactOrder by_second → IsExactOrder (pair_order by_first by_second)
 pairs_exact {by_first = P} {by_second = Q} o p = record {
   total = then_total (on_total (λ x. x.0) o.total) (on_total (λ x. x.1) p.total);
   exact = exact_pairs P Q o.exact p.exact;
 }
 
-same_options : {T : Type 0} {order : T → T → Ordering} → IsExactOrder order → (x y : Option T) → option_cmp order x y ≡ Equal → x ≡ y
+same_options : {T : Type 0} {order : T → T → Ordering} → IsExactOrder order → (x y : Option T)
+    → option_cmp order x y ≡ Equal → x ≡ y
 same_options o None None e = refl
 same_options o None (Some y) e = cc
 same_options o (Some x) None e = cc
@@ -59,14 +61,17 @@ pub options_exact : {T : Type 0} {order : T → T → Ordering} → IsExactOrder
 options_exact o = record { total = options_total o.total; exact = same_options o }
 
 -- values by what `read` reads of them, where `back` gives each value again
-pub on_exact : {T S : Type 0} {order : S → S → Ordering} (read : T → S) (back : S → T) → ((x : T) → back (read x) ≡ x) → IsExactOrder order → IsExactOrder (on read order)
+pub on_exact : {T S : Type 0} {order : S → S → Ordering} (read : T → S) (back : S → T) → ((x : T) → back (read x) ≡ x)
+    → IsExactOrder order → IsExactOrder (on read order)
 on_exact read back undone o = record {
   total = on_total read o.total;
   exact = λ x y e. sym (undone x) ∙ ap back (o.exact (read x) (read y) e) ∙ undone y;
 }
 
 -- an option's order is the order of what is read of it
-pub option_cmp-map : {T S : Type 0} (cmp : T → T → Ordering) (order : S → S → Ordering) (read : T → S) → ((a b : T) → cmp a b ≡ order (read a) (read b)) → (a b : Option T) → option_cmp cmp a b ≡ option_cmp order (option_map read a) (option_map read b)
+pub option_cmp-map : {T S : Type 0} (cmp : T → T → Ordering) (order : S → S → Ordering) (read : T → S)
+    → ((a b : T) → cmp a b ≡ order (read a) (read b)) → (a b : Option T)
+    → option_cmp cmp a b ≡ option_cmp order (option_map read a) (option_map read b)
 option_cmp-map cmp order read same None None = refl
 option_cmp-map cmp order read same None (Some b) = refl
 option_cmp-map cmp order read same (Some a) None = refl

@@ -49,8 +49,8 @@ pub trait Join: Drop {
     ghost laws: { IsJoin joined };
 }
 
-/// The join of all these states, or none where there is none. It takes the memory that the joins take, and a refusal drops
-/// the states.
+/// The join of all these states, or none where there is none. It takes the memory that the joins take, and a refusal
+/// drops the states.
 pub fn join_all<J: Join, A: Allocator>(states: Vec<J, A>) -> Result<Option<J>, NoMemory>
     ensures none { IfOk result (λ whole. IsNone whole ↔ (states.items ≡ [])) }
     ensures joined { IfOk result (λ whole. option_map J.shape whole ≡ reduce J.joined (map J.shape states.items)) }

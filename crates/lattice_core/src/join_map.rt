@@ -20,8 +20,8 @@ use std::collections::btree_map::{Iter, Range};
 use std::marker::Model;
 use std::ops::RangeBounds;
 
-/// A finite map from keys to states, in the order of the keys. The join of two maps has at each key the join of what the
-/// two have there.
+/// A finite map from keys to states, in the order of the keys. The join of two maps has at each key the join of what
+/// the two have there.
 #[derive(Drop)]
 #[derive_where(Debug; K, V)]
 pub struct JoinMap<K: Ord, V, A: Allocator = Global> {
@@ -91,8 +91,8 @@ impl<K: Keep, V: Join, A: Allocator + Copy> JoinMap<K, V, A> {
         self.entries.get_mut(key)
     }
 
-    /// Adds the state at the key, or replaces the one there. A refused call changes nothing, and only a new key can be refused.
-    /// In logarithmic time.
+    /// Adds the state at the key, or replaces the one there. A refused call changes nothing, and only a new key can be
+    /// refused. In logarithmic time.
     pub fn put(&mut self, key: K, value: V) -> Result<(), NoMemory>
         ensures ok { let shape = map_of K.order K.shape V.shape in
             OnOk result (shape self.new ≡ finite.insert (shape self.old) (K.shape key) (V.shape value)) }
@@ -103,9 +103,9 @@ impl<K: Keep, V: Join, A: Allocator + Copy> JoinMap<K, V, A> {
         Ok(())
     }
 
-    /// Joins the state into the one at the key, in place, or adds it there. After a refusal the map lies between the old one
-    /// and the join; where the join of states takes no memory nothing has changed, and only a new key can be refused. In
-    /// logarithmic time, beside the join of the states.
+    /// Joins the state into the one at the key, in place, or adds it there. After a refusal the map lies between the
+    /// old one and the join; where the join of states takes no memory nothing has changed, and only a new key can be
+    /// refused. In logarithmic time, beside the join of the states.
     pub fn join_at(&mut self, key: K, value: V) -> Result<(), NoMemory>
         ensures ok { let shape = map_of K.order K.shape V.shape in
             OnOk result (shape self.new ≡ put_joined V.joined (shape self.old) (K.shape key) (V.shape value)) }
@@ -146,11 +146,12 @@ impl<K: Keep, V: Join, A: Allocator + Copy> JoinMap<K, V, A> {
         self.entries.iter()
     }
 
-    /// The pairs whose keys lie within a range, in the order of the keys, from either end. It costs logarithmic time, and to walk them time
-    /// linear in them alone.
+    /// The pairs whose keys lie within a range, in the order of the keys, from either end. It costs logarithmic time,
+    /// and to walk them time linear in them alone.
     pub fn range<R: RangeBounds<K> + Drop>(&self, range: R) -> Range<'_, K, V>
         requires { R.is_forward range (IsLeBy K.cmp) (IsLtBy K.cmp) }
-        ensures rest { R.has_bounds range → result ≡ entries_between K.cmp (R.start_bound range) (R.end_bound range) self.now }
+        ensures rest { R.has_bounds range
+            → result ≡ entries_between K.cmp (R.start_bound range) (R.end_bound range) self.now }
         ensures entries { R.has_bounds range → map (λ pair. (K.shape pair.0, V.shape pair.1)) result
             ≡ entries_between K.order (bound_map K.shape (R.start_bound range)) (bound_map K.shape (R.end_bound range))
             (finite.entries (map_of K.order K.shape V.shape self.now)) }
@@ -193,8 +194,8 @@ impl<'a, K: Keep, V: Join, A: Allocator + Copy> IntoIterator for &'a JoinMap<K, 
     }
 }
 
-/// A join walks the other map and moves its keys and states, each in logarithmic time. So do `covers` and `same`, but that
-/// they only read.
+/// A join walks the other map and moves its keys and states, each in logarithmic time. So do `covers` and `same`, but
+/// that they only read.
 impl<K: Keep, V: Join, A: Allocator + Copy> Join for JoinMap<K, V, A> {
     ghost Shape = { finite.FinMap K.order V.Shape };
 

@@ -3,7 +3,8 @@ ghost use Rattle.std.specs.Ordering.{nat_cmp, int_cmp, bool_cmp};
 ghost use Rattle.std.specs.Option.{option_cmp, option_map};
 ghost use Rattle.std.specs.Cmp.Lexicographic.{slice_cmp};
 ghost use Rattle.std.specs.declared.cmp.Ordering.{Ordering};
-ghost use Rattle.lattice_core.specs.Keep.{IsExactOrder, numbers_exact, integers_exact, flags_exact, texts_exact, options_exact, option_cmp-map};
+ghost use Rattle.lattice_core.specs.Keep.{IsExactOrder, numbers_exact, integers_exact, flags_exact, texts_exact};
+ghost use Rattle.lattice_core.specs.Keep.{options_exact, option_cmp-map};
 
 use super::memory::NoMemory;
 use std::alloc::Allocator;

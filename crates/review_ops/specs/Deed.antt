@@ -1,4 +1,5 @@
--- What an operation does to a change, in the terms of Gerrit's review: https://gerrit-review.googlesource.com/Documentation/config-labels.html
+-- What an operation does to a change, in the terms of Gerrit's review:
+-- https://gerrit-review.googlesource.com/Documentation/config-labels.html
 use Rattle.std.specs.Prelude.{ℕ, ℤ, List, Option, Some, None, map}
 use Rattle.std.specs.Char.{to_ascii_lowercase}
 use Rattle.std.specs.declared.cmp.Ordering.{Ordering}
@@ -75,7 +76,8 @@ value_of (abandon change) = None
 value_of (restore change) = None
 value_of (merged change) = None
 
--- the deed as it is kept: with its label in lower case, so that labels which differ in case alone are one (the project's own)
+-- the deed as it is kept: with its label in lower case, so that labels which differ in case alone are one (the
+-- project's own)
 abbrev pub kept_deed : Deed → Deed
 kept_deed (patch_set change set message parent) = patch_set change set message parent
 kept_deed (vote change set label voter value) = vote change set (map to_ascii_lowercase label) voter value
@@ -97,9 +99,11 @@ kind_of (merged change) = 5
 
 -- by kind, then field by field; texts compare by bytes, and no parent is least
 abbrev pub deed_cmp : Deed → Deed → Ordering
-deed_cmp (patch_set c s m p) (patch_set d t n q) = ordering_then (nat_cmp c d) (ordering_then (nat_cmp s t) (ordering_then (slice_cmp nat_cmp m n) (option_cmp nat_cmp p q)))
+deed_cmp (patch_set c s m p) (patch_set d t n q) = ordering_then (nat_cmp c d)
+    (ordering_then (nat_cmp s t) (ordering_then (slice_cmp nat_cmp m n) (option_cmp nat_cmp p q)))
 deed_cmp (vote c s l v x) (vote d t k w y) = ordering_then (nat_cmp c d) (ordering_then (nat_cmp s t) (ordering_then (slice_cmp nat_cmp l k) (ordering_then (slice_cmp nat_cmp v w) (int_cmp x y))))
-deed_cmp (withdraw c s l v) (withdraw d t k w) = ordering_then (nat_cmp c d) (ordering_then (nat_cmp s t) (ordering_then (slice_cmp nat_cmp l k) (slice_cmp nat_cmp v w)))
+deed_cmp (withdraw c s l v) (withdraw d t k w) = ordering_then (nat_cmp c d)
+    (ordering_then (nat_cmp s t) (ordering_then (slice_cmp nat_cmp l k) (slice_cmp nat_cmp v w)))
 deed_cmp (abandon c) (abandon d) = nat_cmp c d
 deed_cmp (restore c) (restore d) = nat_cmp c d
 deed_cmp (merged c) (merged d) = nat_cmp c d

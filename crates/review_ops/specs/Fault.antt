@@ -2,7 +2,8 @@
 use Rattle.std.specs.Prelude.{◌≡◌, ℕ, ◌<◌, ◌≤◌, List, length, Option, Some, None, codes, IfSome, IsSomeAnd}
 use Rattle.std.proofs.Common.{arith, subst}
 use Rattle.review_ops.specs.declared.fault.BodyFault.{BodyFault}
-use Rattle.review_ops.specs.declared.fault.BodyFault.TheVariants.{BadChange, BadSet, BadLabel, BadVoter, LongMessage, BadParent}
+use Rattle.review_ops.specs.declared.fault.BodyFault.TheVariants.{BadChange, BadSet, BadLabel, BadVoter, LongMessage}
+use Rattle.review_ops.specs.declared.fault.BodyFault.TheVariants.{BadParent}
 use Rattle.review_ops.specs.Deed.{Deed, change_of, set_of, message_of, parent_of, label_of, voter_of}
 use Rattle.review_ops.specs.Good.{IsLabel, IsVoter, IsFaultless}
 
@@ -41,7 +42,8 @@ pub record IsFirstFault (fault : BodyFault) (deed : Deed) : Type 0 where
 not_zero : (n : Option ℕ) → IfSome n (λ k. 1 ≤ k) → n ≡ Some 0 → ⊥
 not_zero n counted zero = let one : 1 ≤ 0 = subst (λ o. IfSome o (λ k. 1 ≤ k)) zero counted in omega arith
 
-not_both : {T : Type 0} (Good Bad : T → Type 0) → ((x : T) → Good x → Bad x → ⊥) → (o : Option T) → IfSome o Good → IsSomeAnd o Bad → ⊥
+not_both : {T : Type 0} (Good Bad : T → Type 0) → ((x : T) → Good x → Bad x → ⊥) → (o : Option T) → IfSome o Good
+    → IsSomeAnd o Bad → ⊥
 not_both Good Bad apart None good bad = bad
 not_both Good Bad apart (Some x) good bad = apart x good bad
 
@@ -49,7 +51,10 @@ not_both Good Bad apart (Some x) good bad = apart x good bad
 pub IsFaultless-HasFault : (fault : BodyFault) (deed : Deed) → IsFaultless deed → ¬ HasFault fault deed
 IsFaultless-HasFault BadChange deed h f = omega (arith, h.change, f)
 IsFaultless-HasFault BadSet deed h f = not_zero (set_of deed) h.set f
-IsFaultless-HasFault BadLabel deed h f = not_both IsLabel (λ text. ¬ IsLabel text) (λ text good bad. bad good) (label_of deed) h.label f
-IsFaultless-HasFault BadVoter deed h f = not_both IsVoter (λ text. ¬ IsVoter text) (λ text good bad. bad good) (voter_of deed) h.voter f
-IsFaultless-HasFault LongMessage deed h f = not_both (λ text. length text ≤ 65536) (λ text. 65536 < length text) (λ text good bad. omega arith) (message_of deed) h.message f
+IsFaultless-HasFault BadLabel deed h f =
+    not_both IsLabel (λ text. ¬ IsLabel text) (λ text good bad. bad good) (label_of deed) h.label f
+IsFaultless-HasFault BadVoter deed h f =
+    not_both IsVoter (λ text. ¬ IsVoter text) (λ text good bad. bad good) (voter_of deed) h.voter f
+IsFaultless-HasFault LongMessage deed h f = not_both (λ text. length text ≤ 65536) (λ text. 65536 < length text)
+    (λ text good bad. omega arith) (message_of deed) h.message f
 IsFaultless-HasFault BadParent deed h f = not_zero (parent_of deed) h.parent f

@@ -1,5 +1,6 @@
--- Which deeds stand in the record. The bounds are the project's own; a label's letters are those of Gerrit's label names.
-use Rattle.std.specs.Prelude.{◌≡◌, ℕ, ◌^◌, ◌<◌, ◌≤◌, ◌||◌, ◌==◌, Bool, List, [], ◌∷◌, Option, Some, None, refl, length, map, All, IsTrue, IfSome, FitsSigned, IsUtf8}
+-- Which deeds a record may hold. The bounds are the project's own; a label's letters are those of Gerrit's label names.
+use Rattle.std.specs.Prelude.{◌≡◌, ℕ, ◌^◌, ◌<◌, ◌≤◌, ◌||◌, ◌==◌, Bool, List, [], ◌∷◌, Option, Some, None, refl, length}
+use Rattle.std.specs.Prelude.{map, All, IsTrue, IfSome, FitsSigned, IsUtf8}
 use Rattle.std.specs.Int.{w8}
 use Rattle.std.specs.Char.{is_ascii_alphanumeric, is_ascii_graphic, to_ascii_lowercase}
 use Rattle.std.proofs.Common.{ap, arith}
@@ -7,7 +8,8 @@ use Rattle.std.proofs.Math.ListN.{length-map}
 use Rattle.std.proofs.lemmas.Bool.Decides.{nat_tests}
 use Rattle.std.proofs.lemmas.List.Elements.{All-map, All-weaker}
 use Rattle.std.proofs.lemmas.Str.Ascii.{lowercase-lowercase}
-use Rattle.review_ops.specs.Deed.{Deed, patch_set, vote, withdraw, abandon, restore, merged, kept_deed, change_of, set_of, message_of, parent_of, label_of, voter_of, value_of}
+use Rattle.review_ops.specs.Deed.{Deed, patch_set, vote, withdraw, abandon, restore, merged, kept_deed, change_of}
+use Rattle.review_ops.specs.Deed.{set_of, message_of, parent_of, label_of, voter_of, value_of}
 
 -- changes and patch sets are numbered from 1, within 32 bits
 pub record IsNumber (n : ℕ) : Type 0 where
@@ -80,7 +82,8 @@ IsKeptLabel-lower text h = record {
   label = record {
     some = rw length-map h.some;
     short = rw length-map h.short;
-    letters = All-map (λ byte. IsTrue (is_label_byte byte)) to_ascii_lowercase text (All-weaker _ (λ byte. IsTrue (is_label_byte (to_ascii_lowercase byte))) lower_label_byte text h.letters);
+    letters = All-map (λ byte. IsTrue (is_label_byte byte)) to_ascii_lowercase text
+        (All-weaker _ (λ byte. IsTrue (is_label_byte (to_ascii_lowercase byte))) lower_label_byte text h.letters);
   };
   lower = lower_again text;
 }
@@ -117,9 +120,36 @@ IsGood-kept_deed (withdraw change set label voter) fits h = record {
   voter = h.voter;
   value = tt;
 }
-IsGood-kept_deed (abandon change) fits h = record { change = record { from_one = h.change; fits = fits.change }; set = tt; message = tt; parent = tt; label = tt; voter = tt; value = tt }
-IsGood-kept_deed (restore change) fits h = record { change = record { from_one = h.change; fits = fits.change }; set = tt; message = tt; parent = tt; label = tt; voter = tt; value = tt }
-IsGood-kept_deed (merged change) fits h = record { change = record { from_one = h.change; fits = fits.change }; set = tt; message = tt; parent = tt; label = tt; voter = tt; value = tt }
+IsGood-kept_deed (abandon change) fits h =
+    record {
+      change = record { from_one = h.change; fits = fits.change };
+      set = tt;
+      message = tt;
+      parent = tt;
+      label = tt;
+      voter = tt;
+      value = tt;
+    }
+IsGood-kept_deed (restore change) fits h =
+    record {
+      change = record { from_one = h.change; fits = fits.change };
+      set = tt;
+      message = tt;
+      parent = tt;
+      label = tt;
+      voter = tt;
+      value = tt;
+    }
+IsGood-kept_deed (merged change) fits h =
+    record {
+      change = record { from_one = h.change; fits = fits.change };
+      set = tt;
+      message = tt;
+      parent = tt;
+      label = tt;
+      voter = tt;
+      value = tt;
+    }
 
 -- ---- a good deed has no fault, and is kept as it is
 
@@ -147,7 +177,8 @@ IsFaultless-IsGood deed good = record {
 
 pub kept_deed-IsGood : (deed : Deed) → IsGood deed → kept_deed deed ≡ deed
 kept_deed-IsGood (patch_set change set message parent) good = refl
-kept_deed-IsGood (vote change set label voter value) good = ap (λ kept. vote change set kept voter value) good.label.lower
+kept_deed-IsGood (vote change set label voter value) good =
+    ap (λ kept. vote change set kept voter value) good.label.lower
 kept_deed-IsGood (withdraw change set label voter) good = ap (λ kept. withdraw change set kept voter) good.label.lower
 kept_deed-IsGood (abandon change) good = refl
 kept_deed-IsGood (restore change) good = refl

@@ -52,7 +52,8 @@ deed_cmp-key (restore c) (restore d) = simp ordering_then-Equal
 deed_cmp-key (merged c) (merged d) = simp ordering_then-Equal
 deed_cmp-key a b = refl
 
-pairs_total : {A B : Type 0} {P : A → A → Ordering} {Q : B → B → Ordering} → IsTotalOrder P → IsTotalOrder Q → IsTotalOrder (pairs P Q)
+pairs_total : {A B : Type 0} {P : A → A → Ordering} {Q : B → B → Ordering} → IsTotalOrder P → IsTotalOrder Q
+    → IsTotalOrder (pairs P Q)
 pairs_total p q = then_total (on_total (λ x. x.0) p) (on_total (λ x. x.1) q)
 
 key_cmp_total : IsTotalOrder key_cmp
@@ -63,8 +64,10 @@ key_cmp_exact = exact_pairs nat_cmp _ exact_unsigned (exact_pairs nat_cmp _ exac
 
 -- deeds of one key are one
 same_key : (a b : Deed) → key_of a ≡ key_of b → a ≡ b
-same_key (patch_set c s m p) (patch_set d t n q) h = ap (λ (k : Key). patch_set k.1.0 k.1.1.0 k.1.1.1.1.1.1.0 k.1.1.1.1.1.1.1) h
-same_key (vote c s l v x) (vote d t k w y) h = ap (λ (k : Key). vote k.1.0 k.1.1.0 k.1.1.1.0 k.1.1.1.1.0 k.1.1.1.1.1.0) h
+same_key (patch_set c s m p) (patch_set d t n q) h =
+    ap (λ (k : Key). patch_set k.1.0 k.1.1.0 k.1.1.1.1.1.1.0 k.1.1.1.1.1.1.1) h
+same_key (vote c s l v x) (vote d t k w y) h =
+    ap (λ (k : Key). vote k.1.0 k.1.1.0 k.1.1.1.0 k.1.1.1.1.0 k.1.1.1.1.1.0) h
 same_key (withdraw c s l v) (withdraw d t k w) h = ap (λ (k : Key). withdraw k.1.0 k.1.1.0 k.1.1.1.0 k.1.1.1.1.0) h
 same_key (abandon c) (abandon d) h = ap (λ (k : Key). abandon k.1.0) h
 same_key (restore c) (restore d) h = ap (λ (k : Key). restore k.1.0) h

@@ -18,7 +18,8 @@ pub record Timestamp : Type 0 where
 
 -- in the order of the fields
 abbrev pub timestamp_cmp : Timestamp → Timestamp → Ordering
-timestamp_cmp = then_cmp (on (λ t. t.time) nat_cmp) (then_cmp (on (λ t. t.site) nat_cmp) (then_cmp (on (λ t. t.start) nat_cmp) (on (λ t. t.seq) nat_cmp)))
+timestamp_cmp = then_cmp (on (λ t. t.time) nat_cmp)
+    (then_cmp (on (λ t. t.site) nat_cmp) (then_cmp (on (λ t. t.start) nat_cmp) (on (λ t. t.seq) nat_cmp)))
 
 -- places are counted from 1, and each number fits its field
 pub record IsNumbered (t : Timestamp) : Type 0 where

@@ -11,4 +11,5 @@ pub returns-clause-both : goal.returns-clause-both
 returns-clause-both c = state_of_both
 
 pub returns-clause-unique : goal.returns-clause-unique
-returns-clause-unique c = λ xs ys a b there back is_a is_b. state_of_unique ys a b (state_of_same xs ys a there back is_a) is_b
+returns-clause-unique c =
+    λ xs ys a b there back is_a is_b. state_of_unique ys a b (state_of_same xs ys a there back is_a) is_b

@@ -16,3 +16,6 @@ pub returns-clause-ok : goal.returns-clause-ok
 returns-clause-ok g c =
     let shown = ap (λ r. (r.0, patch_of r.1)) c.new-register.ensures ∙ ap (λ m. (c.args.stamp, record { message = m; parent = c.args.parent })) c.in_ok-message.ensures in
     on_ok_weaker c.join_at.result (λ e. e ∙ ap (put_joined (ord_max patch_order) (sets_shown c.args.sets.now) c.args.set) shown) c.join_at.ensures.ok
+
+pub returns-clause-err : goal.returns-clause-err
+returns-clause-err g c = c.join_at.ensures.unchanged tt

@@ -6,4 +6,5 @@ use Rattle.lattice_core.proofs.join.join_all.Given as goal
 -- the states so far, joined with those that are left, are all of them
 abbrev pub invariant-loop-state : goal.invariant-loop-state
 invariant-loop-state g l =
-    reduce g.J.Join.joined (map g.J.Join.shape l.fn.states.items) ≡ Some (fold g.J.Join.joined (g.J.Join.shape l.whole) (map g.J.Join.shape (into_iter_items l.state-iterator)))
+    reduce g.J.Join.joined (map g.J.Join.shape l.fn.states.items)
+    ≡ Some (fold g.J.Join.joined (g.J.Join.shape l.whole) (map g.J.Join.shape (into_iter_items l.state-iterator)))

@@ -8,7 +8,8 @@ use Rattle.review_ops.specs.Good.{IsGood}
 use Rattle.change_core.specs.Slots.{Slot}
 use Rattle.change_core.specs.Change.{vote_order}
 use Rattle.change_core.specs.Parts.{change_of_parts}
-use Rattle.change_core.proofs.Taking.{lives_joined, joined_alike, joined_set, joined_vote, joined_withdrawal, joined_abandon, joined_restore, joined_merge}
+use Rattle.change_core.proofs.Taking.{lives_joined, joined_alike, joined_set, joined_vote, joined_withdrawal}
+use Rattle.change_core.proofs.Taking.{joined_abandon, joined_restore, joined_merge}
 use Rattle.change_core.proofs.state.ChangeState.take.Goals as goal
 
 pub returns-in-PatchSet-clause-ok : goal.returns-in-PatchSet-clause-ok
@@ -23,7 +24,8 @@ pub returns-in-PatchSet-clause-err : goal.returns-in-PatchSet-clause-err
 returns-in-PatchSet-clause-err g c =
     let inside = c.self.inside in
     let view = change_of_parts inside.merged inside.life inside.sets inside.votes in
-    on_err_weaker c.write_set.result (λ e. ap (λ sets. record view { sets = sets }) e ∙ c.self.view_is) c.write_set.ensures.err
+    on_err_weaker c.write_set.result
+    (λ e. ap (λ sets. record view { sets = sets }) e ∙ c.self.view_is) c.write_set.ensures.err
 
 pub returns-in-Vote-clause-ok : goal.returns-in-Vote-clause-ok
 returns-in-Vote-clause-ok g c =
@@ -32,7 +34,11 @@ returns-in-Vote-clause-ok g c =
     let shown_is = sym (ap deed_of c.in-Vote.is) ∙ c.draft.ensures.value in
     let deed_is = shown_is ∙ c.body.ensures.value in
     let fits = (subst IsGood (sym shown_is) c.draft.ensures.good).value in
-    let slot : Slot = record { set = c.in-Vote.set; label = string_bytes c.in-Vote.label; voter = string_bytes c.in-Vote.voter } in
+    let slot : Slot = record {
+      set = c.in-Vote.set;
+      label = string_bytes c.in-Vote.label;
+      voter = string_bytes c.in-Vote.voter;
+    } in
     on_ok_weaker c.write_vote.result
     (λ e. joined_alike _ view c.args.self.now _ _ c.args.op.now (joined_vote view c.stamp-stamp.result c.in-Vote.change slot c.in-Vote.value _ (e ∙ ap (λ v. put_joined (ord_max vote_order) view.votes slot (c.stamp-stamp.result, v)) (to_z-of_z w8 c.in-Vote.value fits))) c.self.view_is c.stamp-stamp.ensures.value deed_is)
     c.write_vote.ensures.ok
@@ -41,7 +47,8 @@ pub returns-in-Vote-clause-err : goal.returns-in-Vote-clause-err
 returns-in-Vote-clause-err g c =
     let inside = c.self.inside in
     let view = change_of_parts inside.merged inside.life inside.sets inside.votes in
-    on_err_weaker c.write_vote.result (λ e. ap (λ votes. record view { votes = votes }) e ∙ c.self.view_is) c.write_vote.ensures.err
+    on_err_weaker c.write_vote.result
+    (λ e. ap (λ votes. record view { votes = votes }) e ∙ c.self.view_is) c.write_vote.ensures.err
 
 pub returns-in-Withdraw-clause-ok : goal.returns-in-Withdraw-clause-ok
 returns-in-Withdraw-clause-ok g c =
@@ -56,7 +63,8 @@ pub returns-in-Withdraw-clause-err : goal.returns-in-Withdraw-clause-err
 returns-in-Withdraw-clause-err g c =
     let inside = c.self.inside in
     let view = change_of_parts inside.merged inside.life inside.sets inside.votes in
-    on_err_weaker c.write_vote-in-Withdraw.result (λ e. ap (λ votes. record view { votes = votes }) e ∙ c.self.view_is) c.write_vote-in-Withdraw.ensures.err
+    on_err_weaker c.write_vote-in-Withdraw.result
+    (λ e. ap (λ votes. record view { votes = votes }) e ∙ c.self.view_is) c.write_vote-in-Withdraw.ensures.err
 
 pub returns-in-Abandon-clause-ok : goal.returns-in-Abandon-clause-ok
 returns-in-Abandon-clause-ok g c =

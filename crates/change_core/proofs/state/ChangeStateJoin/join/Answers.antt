@@ -2,7 +2,8 @@ use Rattle.std.proofs.lemmas.Result.{on_ok_weaker, on_err_weaker}
 use Rattle.lattice_core.specs.Flag.{raised_join}
 use Rattle.change_core.specs.Change.{Change, sets_join, votes_join, lives_join}
 use Rattle.change_core.specs.Parts.{change_of_parts}
-use Rattle.change_core.proofs.Joining.{err_always, lives_are, parts_joined, parts_between, joined_between, untouched_between}
+use Rattle.change_core.proofs.Joining.{err_always, lives_are, parts_joined, parts_between, joined_between}
+use Rattle.change_core.proofs.Joining.{untouched_between}
 use Rattle.change_core.proofs.state.ChangeStateJoin.join.Goals as goal
 
 pub returns-clause-ok : goal.returns-clause-ok
