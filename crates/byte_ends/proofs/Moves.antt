@@ -1,15 +1,19 @@
 -- What a loop of writes or reads has moved so far.
-use Rattle.std.proofs.Common.{◌≡◌, ℕ, ◌+◌, ◌<◌, ◌≤◌, List, ◌++◌, length, take, drop, refl, sym, ap, ◌∙◌, subst, arith, append_assoc, length-append, take-append-drop, Option}
+use Rattle.std.proofs.Common.{◌≡◌, ℕ, ◌+◌, ◌<◌, ◌≤◌, List, ◌++◌, length, take, drop, refl, sym, ap, ◌∙◌, subst, arith}
+use Rattle.std.proofs.Common.{append_assoc, length-append, take-append-drop, Option}
 use Rattle.std.proofs.lemmas.List.{take_at}
 use Rattle.std.specs.Io.KnownBytes.{Appends, Consumes, Keeps}
 use Rattle.std.proofs.KnownBytes.{Appends-trans, Appends-kept, Consumes-trans}
 
-module _ (a b c : Option (List ℕ)) (bytes front rest : List ℕ) (whole : bytes ≡ front ++ rest) (took : Appends a b front) where
+module _ (a b c : Option (List ℕ)) (bytes front rest : List ℕ) (whole : bytes ≡ front ++ rest)
+    (took : Appends a b front) where
   -- the drain takes a front of the rest too
-  pub took_more : (n : ℕ) (after : List ℕ) → after ≡ drop n rest → Appends b c (take n rest) → (x : List ℕ) × (bytes ≡ x ++ after) × Appends a c x
+  pub took_more : (n : ℕ) (after : List ℕ) → after ≡ drop n rest → Appends b c (take n rest)
+      → (x : List ℕ) × (bytes ≡ x ++ after) × Appends a c x
   took_more n after is more = (
     front ++ take n rest,
-    whole ∙ ap (λ l. front ++ l) (sym (take-append-drop n rest)) ∙ sym (append_assoc front (take n rest) (drop n rest)) ∙ ap (λ l. (front ++ take n rest) ++ l) (sym is),
+    whole ∙ ap (λ l. front ++ l) (sym (take-append-drop n rest)) ∙ sym (append_assoc front (take n rest) (drop n rest))
+        ∙ ap (λ l. (front ++ take n rest) ++ l) (sym is),
     Appends-trans a b c front (take n rest) took more,
   )
 

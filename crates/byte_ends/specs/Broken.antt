@@ -1,4 +1,4 @@
--- When an end that fails once does so. The rule is this project's own, for tests of what stands above.
+-- When an end that fails once does so. The rule is this project's own, for tests of the crates above.
 use Rattle.std.specs.Prelude.{ℕ, ◌+◌, ◌-◌, min, ◌&&◌, ◌==◌, nat_lt, Bool, false, if◌then◌else◌, Result, Ok, Err}
 use Rattle.byte_ends.specs.Failures.{most_failures}
 use Rattle.byte_ends.specs.declared.breaking.Due.{Due}

@@ -1,4 +1,5 @@
--- The lines of a text. Like POSIX lines, but the last one may lack its LF, and a carriage return before the LF is dropped.
+-- The lines of a text. Like POSIX lines, but the last one may lack its LF, and a carriage return before the LF is
+-- dropped.
 use Rattle.std.specs.Prelude.{ℕ, ◌-◌, List, [], ◌∷◌, ◌++◌, map, take, length, slice_index, ◌==◌, if◌then◌else◌}
 
 -- the byte before the first of these pieces, where there is one

@@ -6,8 +6,8 @@ use super::faults::Failed;
 use super::traits::{Drain, Source};
 use std::io::{Read, Write};
 
-/// A source over any reader of std's, and a drain over any writer. It tells the bytes that the
-/// reader or writer tells. Each error of it is `Failed`, `Interrupted` too, and so is a write that
+/// A source over any reader of std's, and a drain over any writer. Its bytes are known where
+/// those of the reader or writer are. Each error of it is `Failed`, `Interrupted` too, and so is a write that
 /// takes nothing of a slice that isn't empty. Reads and writes that failed share one count.
 #[derive(Debug, Drop)]
 pub struct Ends<T> {

@@ -8,13 +8,13 @@ use super::faults::Failed;
 
 /// What bytes are read from.
 pub trait Source {
-    /// The bytes that reads will give from here on, where they are told.
+    /// The bytes that reads will give from here on, where they are known.
     ghost left: { Self → Option (List ℕ) };
 
     /// How many reads have failed. The count stays at `u64::MAX`.
     ghost failed: { Self → ℕ };
 
-    /// Reads some bytes into the front of the slice, and says how many. 0 on a slice that isn't
+    /// Reads some bytes into the front of the slice, and answers how many. 0 on a slice that isn't
     /// empty is the end. A read that fails has taken nothing, and the next one may succeed.
     fn read(&mut self, into: &mut [u8]) -> Result<usize, Failed>
         ensures bound { ReadsAtMost result into.new }
@@ -28,13 +28,13 @@ pub trait Source {
 
 /// What bytes are written to.
 pub trait Drain {
-    /// The bytes that were taken so far, where they are told.
+    /// The bytes that were taken so far, where they are known.
     ghost taken: { Self → Option (List ℕ) };
 
     /// How many writes have failed. The count stays at `u64::MAX`.
     ghost failed: { Self → ℕ };
 
-    /// Takes bytes from the front of the slice, at least one where there is one, and says how many.
+    /// Takes bytes from the front of the slice, at least one where there is one, and answers how many.
     /// A write that fails has taken nothing, and the next one may succeed.
     fn write(&mut self, bytes: &[u8]) -> Result<usize, Failed>
         ensures bound { WritesAtMost result bytes.now }

@@ -1,4 +1,5 @@
-ghost use Rattle.std.specs.Prelude.{◌≡◌, ℕ, ◌+◌, ◌<◌, ◌≤◌, ◌++◌, List, length, take, vec_len, IfOk, IfSome, OnOk, OnErr, IsErrOf};
+ghost use Rattle.std.specs.Prelude.{◌≡◌, ℕ, ◌+◌, ◌<◌, ◌≤◌, ◌++◌, List, length, take, vec_len, IfOk, IfSome, OnOk};
+ghost use Rattle.std.specs.Prelude.{OnErr, IsErrOf};
 ghost use Rattle.std.specs.Io.KnownBytes.{Appends, Consumes, IsAtEnd};
 ghost use Rattle.byte_ends.specs.Failures.{CountsFailure};
 ghost use Rattle.byte_ends.specs.ReadAll.{CountsRead};
@@ -11,7 +12,7 @@ use std::alloc::Allocator;
 /// has taken what the writes before it took, and nothing is tried again. Takes no memory.
 pub fn write_all<D: Drain>(drain: &mut D, bytes: &[u8]) -> Result<(), Failed>
     ensures ok { OnOk result (Appends (D.taken drain.old) (D.taken drain.new) bytes.now) }
-    // Some front of the bytes was taken, not all.
+    // Some prefix of the bytes was taken, not all.
     ensures err { OnErr result ((count : ℕ) × (count < length bytes.now)
         × Appends (D.taken drain.old) (D.taken drain.new) (take count bytes.now)) }
     ensures counted { CountsFailure (D.failed drain.old) (D.failed drain.new) result }

@@ -1,5 +1,6 @@
 -- A list in chunks: what is where in it.
-use Rattle.std.specs.Prelude.{◌≡◌, ◌<◌, ◌+◌, ◌-◌, ◌⊎◌, ℕ, Bool, false, List, length, take, slice_get, slice_index_or, Option, None, Some}
+use Rattle.std.specs.Prelude.{◌≡◌, ◌<◌, ◌+◌, ◌-◌, ◌⊎◌, ℕ, Bool, false, List, length, take, slice_get, slice_index_or}
+use Rattle.std.specs.Prelude.{Option, None, Some}
 use Rattle.std.specs.List.{flat_map}
 
 -- whether there is an item, and it passes the test
@@ -18,4 +19,6 @@ module _ {C T : Type 0} (items : C → List T) where
 
   -- the index is one of the chunk's, or both lie just past all of them
   abbrev pub IsInside : List C → ℕ → ℕ → Type 0
-  IsInside chunks chunk index = ((chunk < length chunks) × ((d : C) → index < length (items (slice_index_or chunks chunk d)))) ⊎ ((chunk ≡ length chunks) × (index ≡ 0))
+  IsInside chunks chunk index =
+      ((chunk < length chunks) × ((d : C) → index < length (items (slice_index_or chunks chunk d))))
+      ⊎ ((chunk ≡ length chunks) × (index ≡ 0))

@@ -1,6 +1,7 @@
 //! How a list in chunks changes.
 
-ghost use Rattle.std.specs.Prelude.{◌≡◌, ◌<◌, ◌≤◌, ◌++◌, ◌∷◌, [], length, slice_get, slice_index_or, slice_set, OnOk, OnErr, true};
+ghost use Rattle.std.specs.Prelude.{◌≡◌, ◌<◌, ◌≤◌, ◌++◌, ◌∷◌, [], length, slice_get, slice_index_or, slice_set, OnOk};
+ghost use Rattle.std.specs.Prelude.{OnErr, true};
 ghost use Rattle.std.specs.List.{All, flat_map, insert, remove};
 ghost use Rattle.std.specs.List.Sorted.{IsPartitionedBy};
 ghost use Rattle.chunk_list.specs.Ranks.{rank};
@@ -23,8 +24,10 @@ pub(super) fn add_last<T: Drop, A: Allocator + Copy>(
 ) -> Result<(), NoMemory>
     requires { All (λ chunk. 0 < length chunk.items) chunks.old.items }
     ensures filled { All (λ chunk. 0 < length chunk.items) chunks.new.items }
-    ensures ok { OnOk result (flat_map (λ chunk. chunk.items) chunks.new.items ≡ flat_map (λ chunk. chunk.items) chunks.old.items ++ item ∷ []) }
-    ensures err { OnErr result (flat_map (λ chunk. chunk.items) chunks.new.items ≡ flat_map (λ chunk. chunk.items) chunks.old.items) }
+    ensures ok { OnOk result (flat_map (λ chunk. chunk.items) chunks.new.items
+        ≡ flat_map (λ chunk. chunk.items) chunks.old.items ++ item ∷ []) }
+    ensures err { OnErr result
+        (flat_map (λ chunk. chunk.items) chunks.new.items ≡ flat_map (λ chunk. chunk.items) chunks.old.items) }
 {
     let last = chunks.len().saturating_sub(1);
     if has_room(chunks.as_slice(), last) {
@@ -91,8 +94,10 @@ pub(super) fn add_before<T: Drop, A: Allocator + Copy, P: Probe<T>>(
     requires parted { IsPartitionedBy (P.passes probe.now) (flat_map (λ chunk. chunk.items) chunks.old.items) }
     ensures filled { All (λ chunk. 0 < length chunk.items) chunks.new.items }
     ensures ok { let whole = flat_map (λ chunk. chunk.items) chunks.old.items in
-        OnOk result (flat_map (λ chunk. chunk.items) chunks.new.items ≡ insert whole (rank (P.passes probe.now) whole) item) }
-    ensures err { OnErr result (flat_map (λ chunk. chunk.items) chunks.new.items ≡ flat_map (λ chunk. chunk.items) chunks.old.items) }
+        OnOk result
+        (flat_map (λ chunk. chunk.items) chunks.new.items ≡ insert whole (rank (P.passes probe.now) whole) item) }
+    ensures err { OnErr result
+        (flat_map (λ chunk. chunk.items) chunks.new.items ≡ flat_map (λ chunk. chunk.items) chunks.old.items) }
 {
     let spot = first_failing(chunks.as_slice(), probe);
     if !is_full(chunks.as_slice(), spot.chunk) {
@@ -114,8 +119,10 @@ fn add_at_spot<T: Drop, A: Allocator + Copy>(
     requires inside { IsInside (λ chunk. chunk.items) chunks.old.items spot.chunk spot.index }
     ensures filled { All (λ chunk. 0 < length chunk.items) chunks.new.items }
     ensures ok { OnOk result (flat_map (λ chunk. chunk.items) chunks.new.items
-        ≡ insert (flat_map (λ chunk. chunk.items) chunks.old.items) (place_of (λ chunk. chunk.items) chunks.old.items spot.chunk spot.index) item) }
-    ensures err { OnErr result (flat_map (λ chunk. chunk.items) chunks.new.items ≡ flat_map (λ chunk. chunk.items) chunks.old.items) }
+        ≡ insert (flat_map (λ chunk. chunk.items) chunks.old.items)
+        (place_of (λ chunk. chunk.items) chunks.old.items spot.chunk spot.index) item) }
+    ensures err { OnErr result
+        (flat_map (λ chunk. chunk.items) chunks.new.items ≡ flat_map (λ chunk. chunk.items) chunks.old.items) }
 {
     if spot.chunk >= chunks.len() {
         return add_last(chunks, alloc, item);

@@ -40,7 +40,8 @@ impl<'a, T, A: Allocator + Copy> Iter<'a, T, A> {
     pub(super) fn from(chunks: &'a [Vec<T, A>], spot: Spot) -> Iter<'a, T, A>
         requires filled { All (λ chunk. 0 < length chunk.items) chunks.now }
         requires inside { IsInside (λ chunk. chunk.items) chunks.now spot.chunk spot.index }
-        ensures { result ≡ drop (place_of (λ chunk. chunk.items) chunks.now spot.chunk spot.index) (flat_map (λ chunk. chunk.items) chunks.now) }
+        ensures { result ≡ drop (place_of (λ chunk. chunk.items) chunks.now spot.chunk spot.index)
+            (flat_map (λ chunk. chunk.items) chunks.now) }
     {
         match chunks.get(spot.chunk) {
             Some(chunk) => Iter {

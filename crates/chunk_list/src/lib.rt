@@ -1,4 +1,5 @@
-//! Lists in an order of the caller's, kept in chunks, so that an item comes in or goes anywhere in about logarithmic time.
+//! Lists in an order of the caller's, kept in chunks, so that an item comes in or goes anywhere in about logarithmic
+//! time.
 //!
 //! An example of its use:
 //!

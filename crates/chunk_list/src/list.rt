@@ -12,8 +12,9 @@ use lattice_core::NoMemory;
 use std::alloc::{Allocator, Global};
 use std::marker::Model;
 
-/// A list in an order that its owner keeps, in chunks of at most 512 items. Contracts see the list. A search takes logarithmic time; an item
-/// that comes last is a push, and one that comes or goes elsewhere moves those of its chunk, and once in some hundred times the chunks.
+/// A list in an order that its owner keeps, in chunks of at most 512 items. Contracts see the list. A search takes
+/// logarithmic time; an item that comes last is a push, and one that comes or goes elsewhere moves those of its chunk,
+/// and once in some hundred times the chunks.
 #[derive(Drop)]
 pub struct ChunkList<T, A: Allocator + Copy = Global> {
     chunks: Vec<Vec<T, A>, A>,
@@ -58,7 +59,8 @@ impl<T: Drop, A: Allocator + Copy> ChunkList<T, A> {
         item_at(chunks, first_failing(chunks, probe))
     }
 
-    /// The items from the first on that doesn't pass. It is found in logarithmic time, and each further one in constant time.
+    /// The items from the first on that doesn't pass. It is found in logarithmic time, and each further one in constant
+    /// time.
     pub fn failing<P: Probe<T>>(&self, probe: &P) -> Iter<'_, T, A>
         requires { IsPartitionedBy (P.passes probe.now) self.now }
         ensures { result ≡ drop (rank (P.passes probe.now) self.now) self.now }

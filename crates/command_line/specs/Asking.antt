@@ -1,6 +1,7 @@
--- What the words of a command line ask for. Which command words name, what they give its arguments, and what is wrong with them is clap's
--- (docs.rs/clap), over the program's commands.
-use Rattle.std.specs.Prelude.{◌≡◌, ◌≢◌, ◌⊎◌, ◌<◌, ◌==◌, ◌^◌, ℕ, Bool, List, [], MatchOption, Option, None, Some, codes, length}
+-- What the words of a command line ask for. Which command words name, what they give its arguments, and what is wrong
+-- with them is clap's (docs.rs/clap), over the program's commands.
+use Rattle.std.specs.Prelude.{◌≡◌, ◌≢◌, ◌⊎◌, ◌<◌, ◌==◌, ◌^◌, ℕ, Bool, List, [], MatchOption, Option, None, Some, codes}
+use Rattle.std.specs.Prelude.{length}
 use Rattle.std.specs.Prelude.{option_map}
 use Rattle.std.specs.List.{position_or_len, before_first, after_first}
 use Rattle.std.specs.Str.Parse.{IsNumeral, digits_value, without_leading_plus}
@@ -8,7 +9,8 @@ use Rattle.clap.specs.Words.{Row, Text, first_of, subcommand_of, fault_of, IsAmo
 use Rattle.clap.specs.declared.error.kind.ErrorKind.{ErrorKind}
 use Rattle.clap.specs.declared.error.kind.ErrorKind.TheVariants.{DisplayHelp, DisplayVersion, OutOfMemory}
 use Rattle.command_line.specs.declared.words.Command.{Command}
-use Rattle.command_line.specs.declared.words.Command.TheVariants.{Simulate, Ready, Merge, Footers, Why, Graph, Help, Usage, NoMemory}
+use Rattle.command_line.specs.declared.words.Command.TheVariants.{Simulate, Ready, Merge, Footers, Why, Graph, Help}
+use Rattle.command_line.specs.declared.words.Command.TheVariants.{Usage, NoMemory}
 use Rattle.command_line.specs.Commands.{program}
 
 -- what clap matched: the command that the words name, if they name one, and the values of its arguments
@@ -51,13 +53,17 @@ GivesAround rows (Some number) = (text : List ℕ) × Gives rows (codes "around"
 -- what was matched is a command, with all that it needs
 abbrev pub IsCommand : Matched → Command → Type 0
 IsCommand matched (Simulate script gate) =
-    (rows : List Row) × (matched ≡ Some (codes "simulate", rows)) × Gives rows (codes "SCRIPT") script.now × (first_of (codes "GATE") rows ≡ option_map (λ name. name.now) gate)
+    (rows : List Row) × (matched ≡ Some (codes "simulate", rows)) × Gives rows (codes "SCRIPT") script.now
+    × (first_of (codes "GATE") rows ≡ option_map (λ name. name.now) gate)
 IsCommand matched (Ready gate snapshot) =
-    (rows : List Row) × (matched ≡ Some (codes "ready", rows)) × Gives rows (codes "GATE") gate.now × Gives rows (codes "SNAPSHOT") snapshot.now
+    (rows : List Row) × (matched ≡ Some (codes "ready", rows)) × Gives rows (codes "GATE") gate.now
+    × Gives rows (codes "SNAPSHOT") snapshot.now
 IsCommand matched (Merge first second) =
-    (rows : List Row) × (matched ≡ Some (codes "merge", rows)) × Gives rows (codes "FIRST") first.now × Gives rows (codes "SECOND") second.now
+    (rows : List Row) × (matched ≡ Some (codes "merge", rows)) × Gives rows (codes "FIRST") first.now
+    × Gives rows (codes "SECOND") second.now
 IsCommand matched (Footers gate message change) =
-    (rows : List Row) × (matched ≡ Some (codes "footers", rows)) × Gives rows (codes "GATE") gate.now × Gives rows (codes "FILE") message.now × GivesChange rows change
+    (rows : List Row) × (matched ≡ Some (codes "footers", rows)) × Gives rows (codes "GATE") gate.now
+    × Gives rows (codes "FILE") message.now × GivesChange rows change
 IsCommand matched (Why gate snapshot change set) =
     (rows : List Row) × (matched ≡ Some (codes "why", rows)) × Gives rows (codes "GATE") gate.now
     × Gives rows (codes "SNAPSHOT") snapshot.now × GivesItem rows change set
@@ -70,11 +76,13 @@ IsCommand matched NoMemory = ⊥
 
 -- the words ask for help, or for the version
 abbrev pub AsksForHelp : List Text → Type 0
-AsksForHelp words = (kind : ErrorKind) × IsAmong kind (fault_of program words) × ((kind ≡ DisplayHelp) ⊎ (kind ≡ DisplayVersion))
+AsksForHelp words =
+    (kind : ErrorKind) × IsAmong kind (fault_of program words) × ((kind ≡ DisplayHelp) ⊎ (kind ≡ DisplayVersion))
 
 -- something else is wrong with the words
 abbrev pub IsFaulty : List Text → Type 0
-IsFaulty words = (kind : ErrorKind) × IsAmong kind (fault_of program words) × (kind ≢ DisplayHelp) × (kind ≢ DisplayVersion)
+IsFaulty words =
+    (kind : ErrorKind) × IsAmong kind (fault_of program words) × (kind ≢ DisplayHelp) × (kind ≢ DisplayVersion)
 
 -- it is no command, or lacks something
 abbrev pub IsNoCommand : Matched → Type 0
@@ -89,7 +97,8 @@ abbrev pub Asks : List Text → Command → Type 0
 Asks words (Simulate script gate) = IsFaultless words × IsCommand (subcommand_of program words) (Simulate script gate)
 Asks words (Ready gate snapshot) = IsFaultless words × IsCommand (subcommand_of program words) (Ready gate snapshot)
 Asks words (Merge first second) = IsFaultless words × IsCommand (subcommand_of program words) (Merge first second)
-Asks words (Footers gate message change) = IsFaultless words × IsCommand (subcommand_of program words) (Footers gate message change)
+Asks words (Footers gate message change) =
+    IsFaultless words × IsCommand (subcommand_of program words) (Footers gate message change)
 Asks words (Why gate snapshot change set) =
     IsFaultless words × IsCommand (subcommand_of program words) (Why gate snapshot change set)
 Asks words (Graph gate snapshot around) =

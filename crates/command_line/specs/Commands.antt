@@ -1,11 +1,12 @@
--- The program's commands and their arguments, as clap's builders make them (docs.rs/clap). The commands are the project's own.
+-- The program's commands and their arguments, as clap's builders make them (docs.rs/clap). The commands are the
+-- project's own.
 use Rattle.std.specs.Prelude.{◌≡◌, ℕ, true, false, List, Some, codes}
 use Rattle.clap.specs.Words.{App, Rule, app_of, new_app, new_rule, rule_of, with_rule, with_subcommand}
 use Rattle.clap.specs.declared.builder.arg.Arg.{Arg}
 use Rattle.clap.specs.declared.builder.command.Command.{Command}
 use Rattle.clap.specs.declared.builder.command.Command.TheViews.{out-Command}
 
--- an argument that stands alone and has to be given
+-- a positional argument that is required
 abbrev pub needed : List ℕ → Rule
 needed id = record (new_rule id) { required = true }
 
@@ -27,7 +28,8 @@ change_rule = record (new_rule (codes "change")) { long = Some (codes "change");
 
 -- `footers GATE FILE [--change N]`
 abbrev pub footers_app : App
-footers_app = with_rule (with_rule (with_rule (new_app (codes "footers")) (needed (codes "GATE"))) (needed (codes "FILE"))) change_rule
+footers_app = with_rule
+    (with_rule (with_rule (new_app (codes "footers")) (needed (codes "GATE"))) (needed (codes "FILE"))) change_rule
 
 -- `why GATE SNAPSHOT CHANGE[,SET]`
 abbrev pub why_app : App

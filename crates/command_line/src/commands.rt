@@ -2,9 +2,11 @@
 
 ghost use Rattle.std.specs.Prelude.{IfOk, codes};
 ghost use Rattle.clap.specs.Words.{new_rule};
-ghost use Rattle.command_line.specs.Commands.{IsApp, IsRule, around_rule, bare_app, change_rule, events_app, footers_app};
+ghost use Rattle.command_line.specs.Commands.{IsApp, IsRule, around_rule, bare_app, change_rule, events_app};
+ghost use Rattle.command_line.specs.Commands.{footers_app};
 ghost use Rattle.command_line.specs.Commands.{graph_app};
-ghost use Rattle.command_line.specs.Commands.{merge_app, needed, program, reading_app, ready_app, recover_app, simulate_app, why_app};
+ghost use Rattle.command_line.specs.Commands.{merge_app, needed, program, reading_app, ready_app, recover_app};
+ghost use Rattle.command_line.specs.Commands.{simulate_app, why_app};
 
 use clap::{Arg, Command};
 use std::alloc::{AllocError, Global};
@@ -52,7 +54,7 @@ fn bare_program<'a>(alloc: Global) -> Result<Command<'a>, AllocError>
     Ok(program)
 }
 
-/// An argument that has to be given.
+/// An argument that is required.
 fn file<'a>(alloc: Global, name: &'a str, help: &'a str) -> Arg<'a>
     ensures { IsRule (needed name.entry.now) result }
 {

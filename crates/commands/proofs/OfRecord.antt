@@ -17,20 +17,29 @@ use Rattle.commands.proofs.HowItEnds.{both_had, second_refused}
 abbrev pub both_inputs : List ℕ → List ℕ → List Input
 both_inputs gate snapshot = input gate_file gate ∷ input snapshot_file snapshot ∷ []
 
-module _ (gate snapshot : List ℕ) (rules : GateRules) (IsThis : List ℕ → Type 0) (spells : (text : List ℕ) → IsThis text → SpellsGate text rules) where
-  pub snapshot_refused : (old mid new : ConsoleState) (refusal : Refusal) → IsHad (input gate_file gate) IsThis old mid → IsRefused (input snapshot_file snapshot) mid new refusal
+module _ (gate snapshot : List ℕ) (rules : GateRules) (IsThis : List ℕ → Type 0)
+    (spells : (text : List ℕ) → IsThis text → SpellsGate text rules) where
+  pub snapshot_refused : (old mid new : ConsoleState) (refusal : Refusal) → IsHad (input gate_file gate) IsThis old mid
+      → IsRefused (input snapshot_file snapshot) mid new refusal
       → IsFirstRefused (both_inputs gate snapshot) old new refusal
-  snapshot_refused = second_refused (input gate_file gate) (input snapshot_file snapshot) IsThis (λ text is. (rules, spells text is))
+  snapshot_refused =
+      second_refused (input gate_file gate) (input snapshot_file snapshot) IsThis (λ text is. (rules, spells text is))
 
-  pub record_had : (ops : List Operation) (old mid new : ConsoleState) → (first : IsHad (input gate_file gate) IsThis old mid)
-      → (second : IsHad (input snapshot_file snapshot) (λ text. SaysOperations (lines_of text) ops) mid new) → AreHad (both_inputs gate snapshot) old (first.0 ∷ second.0 ∷ []) new
+  pub record_had : (ops : List Operation) (old mid new : ConsoleState)
+      → (first : IsHad (input gate_file gate) IsThis old mid)
+      → (second : IsHad (input snapshot_file snapshot) (λ text. SaysOperations (lines_of text) ops) mid new)
+      → AreHad (both_inputs gate snapshot) old (first.0 ∷ second.0 ∷ []) new
   record_had ops =
-      both_had (input gate_file gate) (input snapshot_file snapshot) IsThis (λ text is. (rules, spells text is)) (λ text. SaysOperations (lines_of text) ops) (λ text says. (ops, says))
+      both_had (input gate_file gate) (input snapshot_file snapshot) IsThis (λ text is. (rules, spells text is))
+      (λ text. SaysOperations (lines_of text) ops) (λ text says. (ops, says))
 
 -- what is refused once both were read
-pub not_there : (IsSo : List ℕ → Type 0) (snapshot : List ℕ) (HasIt : State → Type 0) (refusal : Refusal) (ops : List Operation) (state : State) → SaysOperations (lines_of snapshot) ops
-    → state ≡ state_of (all_arrived [] ops) → ((refusal ≡ NoItem) × ¬ HasIt state) ⊎ (refusal ≡ Memory) → IsWhole IsSo (Lacks snapshot HasIt) [] (Err refusal)
+pub not_there : (IsSo : List ℕ → Type 0) (snapshot : List ℕ) (HasIt : State → Type 0) (refusal : Refusal)
+    (ops : List Operation) (state : State) → SaysOperations (lines_of snapshot) ops
+    → state ≡ state_of (all_arrived [] ops) → ((refusal ≡ NoItem) × ¬ HasIt state) ⊎ (refusal ≡ Memory)
+    → IsWhole IsSo (Lacks snapshot HasIt) [] (Err refusal)
 not_there IsSo snapshot HasIt refusal ops state says is (inl none) =
-    subst (λ r. IsWhole IsSo (Lacks snapshot HasIt) [] (Err r)) (sym none.0) (record { ops = ops; says = says; none = subst (λ s. ¬ HasIt s) is none.1 }, refl)
+    subst (λ r. IsWhole IsSo (Lacks snapshot HasIt) [] (Err r)) (sym none.0)
+    (record { ops = ops; says = says; none = subst (λ s. ¬ HasIt s) is none.1 }, refl)
 not_there IsSo snapshot HasIt refusal ops state says is (inr memory) =
     subst (λ r. IsWhole IsSo (Lacks snapshot HasIt) [] (Err r)) (sym memory) (refl, refl)

@@ -18,36 +18,46 @@ kept-failed : (name : List ℕ) (console : ConsoleState) → (once_failed name c
 kept-failed name console =
     elim (is_input name) as (λ b. (if b
     then record console { left = Some []; input_failed = one_more console.input_failed }
-    else record console { files_failed = one_more console.files_failed }).ends ≡ console.ends) [ true ↦ refl | false ↦ refl ]
+    else record console
+    { files_failed = one_more console.files_failed }).ends ≡ console.ends) [ true ↦ refl | false ↦ refl ]
 
 kept : (old new mid : ConsoleState) → mid.ends ≡ old.ends → new ≡ mid → new.ends ≡ old.ends
 kept old new mid same is = ap (λ (console : ConsoleState). console.ends) is ∙ same
 
-kept-unread : (name : List ℕ) (limit : ℕ) (old new : ConsoleState) (fault : BytesFault) → IsUnread name limit old new fault → new.ends ≡ old.ends
+kept-unread : (name : List ℕ) (limit : ℕ) (old new : ConsoleState) (fault : BytesFault)
+    → IsUnread name limit old new fault → new.ends ≡ old.ends
 kept-unread name limit old new TooLong unread = kept old new (once_read name old) (kept-read name old) unread.1
 kept-unread name limit old new ReadFault unread = kept old new (once_failed name old) (kept-failed name old) unread
 kept-unread name limit old new NoMemory unread = kept old new (once_read name old) (kept-read name old) unread
 
-kept-refused : (inputs : List Input) (old new : ConsoleState) (refusal : Refusal) → IsFirstRefused inputs old new refusal → new.ends ≡ old.ends
+kept-refused : (inputs : List Input) (old new : ConsoleState) (refusal : Refusal)
+    → IsFirstRefused inputs old new refusal → new.ends ≡ old.ends
 kept-refused [] old new refusal refused = absurd refused
-kept-refused (one ∷ inputs) old new refusal (inl (inl unread)) = kept-unread one.name (limit_of one.kind) old new unread.0 unread.2
-kept-refused (one ∷ inputs) old new refusal (inl (inr flawed)) = kept old new (once_read one.name old) (kept-read one.name old) flawed.1.after
+kept-refused (one ∷ inputs) old new refusal (inl (inl unread)) =
+    kept-unread one.name (limit_of one.kind) old new unread.0 unread.2
+kept-refused (one ∷ inputs) old new refusal (inl (inr flawed)) =
+    kept old new (once_read one.name old) (kept-read one.name old) flawed.1.after
 kept-refused (one ∷ inputs) old new refusal (inr later) =
-    kept-refused inputs later.0 new refusal later.2 ∙ kept old later.0 (once_read one.name old) (kept-read one.name old) later.1.1.after
+    kept-refused inputs later.0 new refusal later.2
+    ∙ kept old later.0 (once_read one.name old) (kept-read one.name old) later.1.1.after
 
-kept-had : (inputs : List Input) (old new : ConsoleState) (texts : List (List ℕ)) → AreHad inputs old texts new → new.ends ≡ old.ends
+kept-had : (inputs : List Input) (old new : ConsoleState) (texts : List (List ℕ)) → AreHad inputs old texts new
+    → new.ends ≡ old.ends
 kept-had [] old new [] had = ap (λ (console : ConsoleState). console.ends) had
 kept-had [] old new (text ∷ texts) had = absurd had
 kept-had (one ∷ inputs) old new [] had = absurd had
 kept-had (one ∷ inputs) old new (text ∷ texts) had =
     kept-had inputs had.0 new texts had.3 ∙ kept old had.0 (once_read one.name old) (kept-read one.name old) had.1.after
 
-kept-finished : (IsTheAnswer : List ℕ → Ended → Type 0) (old new : ConsoleState) (ended : Ended) → Finishes IsTheAnswer old new ended → new.ends ≡ old.ends
+kept-finished : (IsTheAnswer : List ℕ → Ended → Type 0) (old new : ConsoleState) (ended : Ended)
+    → Finishes IsTheAnswer old new ended → new.ends ≡ old.ends
 kept-finished IsTheAnswer old new ended (inl all) = ap (λ (console : ConsoleState). console.ends) all.2.after
 kept-finished IsTheAnswer old new ended (inr cut) = ap (λ (console : ConsoleState). console.ends) cut.3.after
 
-pub ends-kept : (command : Command) (old new : ConsoleState) (ended : Ended) → Ends command old new ended → new.ends ≡ old.ends
+pub ends-kept : (command : Command) (old new : ConsoleState) (ended : Ended) → Ends command old new ended
+    → new.ends ≡ old.ends
 ends-kept command old new (Ok done) (inl refused) = absurd refused
 ends-kept command old new (Err refusal) (inl refused) = kept-refused (inputs_of command) old new refusal refused
 ends-kept command old new ended (inr finished) =
-    kept-finished (IsAnswer command finished.0) finished.1 new ended finished.3 ∙ kept-had (inputs_of command) old finished.1 finished.0 finished.2
+    kept-finished (IsAnswer command finished.0) finished.1 new ended finished.3
+    ∙ kept-had (inputs_of command) old finished.1 finished.0 finished.2

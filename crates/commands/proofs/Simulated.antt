@@ -15,23 +15,29 @@ use Rattle.console.specs.declared.refusals.Refusal.TheVariants.{Script}
 use Rattle.commands.proofs.HowItEnds.{nothing_printed}
 
 -- what answers in one way answers in another
-pub finishes_so : (IsOne IsOther : List ℕ → Ended → Type 0) → ((answer : List ℕ) (ended : Ended) → IsOne answer ended → IsOther answer ended)
+pub finishes_so : (IsOne IsOther : List ℕ → Ended → Type 0)
+    → ((answer : List ℕ) (ended : Ended) → IsOne answer ended → IsOther answer ended)
     → (old new : ConsoleState) (ended : Ended) → Finishes IsOne old new ended → Finishes IsOther old new ended
 finishes_so IsOne IsOther so old new ended (inl all) = inl (all.0, so all.0 ended all.1, all.2)
 finishes_so IsOne IsOther so old new ended (inr cut) = inr (cut.0, cut.1, so cut.0 cut.1 cut.2, cut.3, cut.4)
 
-pub unread : (under : Option GateRules) (script : List ℕ) (old : ConsoleState) (fault : ScriptFault) → IsUnreadScript script fault
+pub unread : (under : Option GateRules) (script : List ℕ) (old : ConsoleState) (fault : ScriptFault)
+    → IsUnreadScript script fault
     → Finishes (IsPlayedText under script) old old (Err (Script fault))
 unread under script old fault is = inl ([], inl (fault, is, refl, refl), nothing_printed old)
 
-pub gate_refused : (script : Bor (List ℕ)) (gate : Option (Bor (List ℕ))) (IsSo : List ℕ → Type 0) (old mid new : ConsoleState) (refusal : Refusal)
-    → IsHad (input script_file script.now) IsSo old mid → IsSomeAnd gate (λ name. IsRefused (input gate_file name.now) mid new refusal)
+pub gate_refused : (script : Bor (List ℕ)) (gate : Option (Bor (List ℕ))) (IsSo : List ℕ → Type 0)
+    (old mid new : ConsoleState) (refusal : Refusal)
+    → IsHad (input script_file script.now) IsSo old mid
+    → IsSomeAnd gate (λ name. IsRefused (input gate_file name.now) mid new refusal)
     → IsFirstRefused (inputs_of (Simulate script gate)) old new refusal
 gate_refused script None IsSo old mid new refusal had refused = absurd refused
 gate_refused script (Some gate) IsSo old mid new refusal had refused = inr (mid, (had.0, had.1, tt), inl refused)
 
-pub simulated : (script : Bor (List ℕ)) (gate : Option (Bor (List ℕ))) (old mid now new : ConsoleState) (bytes : List ℕ) (rules : Option GateRules) (ended : Ended)
-    → IsHad (input script_file script.now) (λ text. text ≡ bytes) old mid → IsGateHad (option_map (λ (name : Bor (List ℕ)). name.now) gate) rules mid now
+pub simulated : (script : Bor (List ℕ)) (gate : Option (Bor (List ℕ))) (old mid now new : ConsoleState) (bytes : List ℕ)
+    (rules : Option GateRules) (ended : Ended)
+    → IsHad (input script_file script.now) (λ text. text ≡ bytes) old mid
+    → IsGateHad (option_map (λ (name : Bor (List ℕ)). name.now) gate) rules mid now
     → Finishes (IsPlayedText rules bytes) now new ended → Ends (Simulate script gate) old new ended
 simulated script None old mid now new bytes None ended had same finished =
     inr (

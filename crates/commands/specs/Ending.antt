@@ -2,7 +2,8 @@
 -- and judged, and the answer that it prints where all are had.
 use Rattle.std.specs.Prelude.{◌≡◌, ◌⊎◌, ℕ, List, [], ◌∷◌, IsErrAnd, IsErrOf, IsOk, None, Some, string_bytes}
 use Rattle.command_line.specs.declared.words.Command.{Command}
-use Rattle.command_line.specs.declared.words.Command.TheVariants.{Footers, Graph, Help, Merge, NoMemory, Ready, Simulate}
+use Rattle.command_line.specs.declared.words.Command.TheVariants.{Footers, Graph, Help, Merge, NoMemory, Ready}
+use Rattle.command_line.specs.declared.words.Command.TheVariants.{Simulate}
 use Rattle.command_line.specs.declared.words.Command.TheVariants.{Usage, Why}
 use Rattle.console.specs.Printing.{Ended}
 use Rattle.commands.specs.Answers.{AreFooterLines, HasAround, HasItem, IsMerged, IsOf, IsPicture, IsReason, IsReport}

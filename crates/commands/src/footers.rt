@@ -12,9 +12,9 @@ use gate_rules::Gate;
 use lattice_core::NoMemory;
 use std::alloc::Global;
 
-/// Prints what the footers of a message of the change say, 0 where it has no number: `need N` for each other change that they
-/// name, `ignored VALUE` for each other value, and `end` with the counts of both. Refusals: those of the gate file, then of the message;
-/// `Memory`, memory was refused once both were read; `Output`. It costs O(bytes of both).
+/// Prints what the footers of a message of the change say, 0 where it has no number: `need N` for each other change
+/// that they name, `ignored VALUE` for each other value, and `end` with the counts of both. Refusals: those of the gate
+/// file, then of the message; `Memory`, memory was refused once both were read; `Output`. It costs O(bytes of both).
 pub fn footers<C: Console>(
     alloc: Global,
     gate: &str,
@@ -22,7 +22,8 @@ pub fn footers<C: Console>(
     change: u32,
     console: &mut C,
 ) -> Result<(), Refusal>
-    ensures { Ends (Command.Footers gate.entry message.entry change) (C.state console.old) (C.state console.new) result }
+    ensures { Ends (Command.Footers gate.entry message.entry change) (C.state console.old)
+        (C.state console.new) result }
 {
     let rules = read_gate(alloc, gate, console)?;
     let message = read_message(alloc, message, console)?;

@@ -8,9 +8,10 @@ use replica_core::{Replica, operations_arrive_as_a_set};
 use std::alloc::Global;
 use std::mem::ManuallyDrop;
 
-/// Prints the snapshot of two together: of the operations of either, each once. The second is read into the replica of the first, so that one
-/// journal and one state are held. Refusals: those of the first snapshot, then of the second; `Memory`, memory was refused once both were read;
-/// `Output`. It costs what reading both costs, and what writing costs.
+/// Prints the snapshot of two together: of the operations of either, each once. The second is read into the replica of
+/// the first, so that one journal and one state are held. Refusals: those of the first snapshot, then of the second;
+/// `Memory`, memory was refused once both were read; `Output`. It costs what reading both costs, and what writing
+/// costs.
 pub fn merge<C: Console>(
     alloc: Global,
     first: &str,

@@ -9,9 +9,9 @@ use replica_core::Replica;
 use std::alloc::Global;
 use std::mem::ManuallyDrop;
 
-/// Prints which items of a snapshot may be enqueued under a gate, and why each other one waits. Refusals: those of the gate file, then of the
-/// snapshot; `Memory`, memory was refused once both were read; `Output`. It costs what reading both costs, and what `evaluate` and
-/// `write_report` do.
+/// Prints which items of a snapshot may be enqueued under a gate, and why each other one waits. Refusals: those of the
+/// gate file, then of the snapshot; `Memory`, memory was refused once both were read; `Output`. It costs what reading
+/// both costs, and what `evaluate` and `write_report` do.
 pub fn ready<C: Console>(
     alloc: Global,
     gate: &str,
@@ -26,7 +26,8 @@ pub fn ready<C: Console>(
         return Err(Refusal::Memory);
     };
     let printed = console.print_report(&verdicts);
-    // The program ends now, and the record's memory goes with it: giving back each operation takes a seventh of the whole time.
+    // The program ends now, and the record's memory goes with it: giving back each operation takes a seventh of the
+    // whole time.
     let _kept = ManuallyDrop::new(replica);
     printed
 }

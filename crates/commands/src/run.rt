@@ -29,9 +29,10 @@ const REFUSED: u8 = 1;
 /// The status of a usage fault.
 const MISUSED: u8 = 2;
 
-/// Runs the command that `words`, the arguments after the program's name, ask for. The file name `-` reads `input`. The answer is the exit
-/// status: 0 for success and for help, 1 for a refusal, of which one line is written to `errors`, 2 for words that ask for no command, of
-/// which what `clap` says is written there. What the error output can't take is lost.
+/// Runs the command that `words`, the arguments after the program's name, ask for. The file name `-` reads `input`. The
+/// answer is the exit status: 0 for success and for help, 1 for a refusal, of which one line is written to `errors`, 2
+/// for words that ask for no command, of which what `clap` says is written there. What the error output can't take is
+/// lost.
 pub fn run_words<S: AsStr, I: Source, O: Drain, E: Drain, N: Named>(
     alloc: Global,
     words: &[S],
@@ -44,7 +45,8 @@ pub fn run_words<S: AsStr, I: Source, O: Drain, E: Drain, N: Named>(
         × Runs command (I.left input.old) (N.files files.old)
         (counts (O.taken output.old) (I.failed input.old) (N.failed files.old) (O.failed output.old))
         (counts (O.taken output.new) (I.failed input.new) (N.failed files.new) (O.failed output.new)) ended
-        × Reports (error_output (E.taken errors.old) (E.failed errors.old)) (error_output (E.taken errors.new) (E.failed errors.new)) command ended result }
+        × Reports (error_output (E.taken errors.old) (E.failed errors.old))
+        (error_output (E.taken errors.new) (E.failed errors.new)) command ended result }
 {
     let command = read_words(alloc, words);
     let ended = run_command(alloc, &command, input, output, files);
@@ -106,14 +108,16 @@ fn do_command<C: Console>(
     }
 }
 
-/// Writes to the error output why a command wasn't done, and answers the status. What the error output can't take is lost.
+/// Writes to the error output why a command wasn't done, and answers the status. What the error output can't take is
+/// lost.
 pub fn report<E: Drain>(
     alloc: Global,
     command: &Command<'_>,
     ended: &Result<(), Refusal>,
     errors: &mut E,
 ) -> u8
-    ensures { Reports (error_output (E.taken errors.old) (E.failed errors.old)) (error_output (E.taken errors.new) (E.failed errors.new)) command.now ended.now result }
+    ensures { Reports (error_output (E.taken errors.old) (E.failed errors.old))
+        (error_output (E.taken errors.new) (E.failed errors.new)) command.now ended.now result }
 {
     if let Command::Usage(text) = command {
         show(text.as_bytes(), errors);

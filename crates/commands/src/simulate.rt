@@ -13,11 +13,12 @@ use script_text::{Script, ScriptFault};
 use std::alloc::Global;
 use world_core::{World, worlds_converge};
 
-/// Plays the script of a name, with reports under the gate of another, where that is named: its events happen in a new world one after the
-/// other, by `World::step`, and what a line answers is printed once it is known. Every such run converges, as `worlds_converge` says.
-/// Refusals: those of the script's bytes, then of the gate file; `Script` 1 `BadSites`; `Script` 2 `BadLine`, the script ends at a line that
-/// says nothing, once the lines before it are answered; `Script` 3 `NoMemory`, the script, the sites or an answer couldn't be held; `Output`. It
-/// costs what reading and the events cost.
+/// Plays the script of a name, with reports under the gate of another, where that is named: its events happen in a new
+/// world one after the other, by `World::step`, and what a line answers is printed once it is known. Every such run
+/// converges, as `worlds_converge` says. Refusals: those of the script's bytes, then of the gate file; `Script` 1
+/// `BadSites`; `Script` 2 `BadLine`, the script ends at a line that says nothing, once the lines before it are
+/// answered; `Script` 3 `NoMemory`, the script, the sites or an answer couldn't be held; `Output`. It costs what
+/// reading and the events cost.
 pub fn simulate<C: Console>(
     alloc: Global,
     script: &str,
@@ -39,7 +40,8 @@ fn play_text<C: Console>(
     gate: Option<&Gate>,
     console: &mut C,
 ) -> Result<(), Refusal>
-    ensures { Finishes (IsPlayedText (option_copied gate.entry) text.now) (C.state console.old) (C.state console.new) result }
+    ensures { Finishes (IsPlayedText (option_copied gate.entry) text.now) (C.state console.old)
+        (C.state console.new) result }
 {
     let script = script_text::read_script(alloc, text, gate)?;
     play(alloc, script, console)
@@ -47,7 +49,8 @@ fn play_text<C: Console>(
 
 /// Plays a script.
 fn play<C: Console>(alloc: Global, script: Script<'_>, console: &mut C) -> Result<(), Refusal>
-    ensures { Finishes (IsPlayed script.entry.sites script.entry.steps.items script.entry.bad_line) (C.state console.old) (C.state console.new) result }
+    ensures { Finishes (IsPlayed script.entry.sites script.entry.steps.items script.entry.bad_line)
+        (C.state console.old) (C.state console.new) result }
 {
     let Script {
         sites,

@@ -5,7 +5,8 @@ use Rattle.gate_rules.specs.Fault as gate
 use Rattle.snapshot_text.specs.Fault as snapshot
 use Rattle.script_text.specs.Fault as script
 use Rattle.console.specs.declared.refusals.Refusal.{Refusal}
-use Rattle.console.specs.declared.refusals.Refusal.TheVariants.{Script, Snapshot, Gate, File, NotText, NoItem, Output, Memory}
+use Rattle.console.specs.declared.refusals.Refusal.TheVariants.{Script, Snapshot, Gate, File, NotText, NoItem, Output}
+use Rattle.console.specs.declared.refusals.Refusal.TheVariants.{Memory}
 
 -- the part, the number and the words, with blanks between them
 abbrev pub fault_text : List ℕ → ℕ → List ℕ → List ℕ

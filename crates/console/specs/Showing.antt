@@ -23,6 +23,7 @@ ShowsLine line old new = Shows line old new ⊎ Shows (refusal_line Memory) old 
 -- a line that is written as it was made, or that of want of memory in its place, is written so
 pub shows_line : {T E : Type 0} (bytes : T → List ℕ) (line : Result T E) (text : List ℕ) (old new : ErrorOutput)
     → IfOk line (λ made. bytes made ≡ text)
-    → MatchResult line (λ made. Shows (bytes made) old new) (λ _. Shows (refusal_line Memory) old new) → ShowsLine text old new
+    → MatchResult line (λ made. Shows (bytes made) old new) (λ _. Shows (refusal_line Memory) old new)
+    → ShowsLine text old new
 shows_line bytes (Ok made) text old new is shown = inl (subst (λ one. Shows one old new) is shown)
 shows_line bytes (Err refused) text old new is shown = inr shown

@@ -17,10 +17,11 @@ pub trait Named {
     /// How many calls answered `ReadFault`. The count stays at `u64::MAX`.
     ghost failed: { Self → ℕ };
 
-    /// All bytes of the file of a name, which are at most `limit`. Refusals: 6 `TooLong`, there are more; 7 `ReadFault`, it can't
-    /// be opened or read; 8 `NoMemory`.
+    /// All bytes of the file of a name, which are at most `limit`. Refusals: 6 `TooLong`, there are more; 7
+    /// `ReadFault`, it can't be opened or read; 8 `NoMemory`.
     fn read(&mut self, name: &str, limit: usize) -> Result<Vec<u8>, BytesFault>
-        ensures ok { IfOk result (λ bytes. IfSome (file_of (files self.old) name.now) (λ contents. bytes.items ≡ contents)) }
+        ensures ok { IfOk result
+            (λ bytes. IfSome (file_of (files self.old) name.now) (λ contents. bytes.items ≡ contents)) }
         ensures within { IfOk result (λ bytes. vec_len bytes ≤ limit) }
         ensures too_long { IsErrOf result BytesFault.TooLong
             → IfSome (file_of (files self.old) name.now) (λ contents. limit < length contents) }

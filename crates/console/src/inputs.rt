@@ -6,7 +6,8 @@ ghost use Rattle.byte_ends.specs.Lines.{lines_of};
 ghost use Rattle.replica_core.specs.Journal.{all_arrived};
 ghost use Rattle.snapshot_text.specs.Snapshot.{SaysOperations};
 ghost use Rattle.review_ops.specs.Operation.{Operation};
-ghost use Rattle.console.specs.Inputs.{IsGateHad, IsHad, IsRefused, gate_file, input, message_file, script_file, snapshot_file};
+ghost use Rattle.console.specs.Inputs.{IsGateHad, IsHad, IsRefused, gate_file, input, message_file, script_file};
+ghost use Rattle.console.specs.Inputs.{snapshot_file};
 
 use super::refusals::Refusal;
 use super::streams::Console;
@@ -51,7 +52,7 @@ pub fn read_gate_file<C: Console>(
     Ok(GateFile { rules, text })
 }
 
-/// The gate of a name, where one is given. The refusals are those of `read_gate`.
+/// The gate of a name, where one is named. The refusals are those of `read_gate`.
 pub fn read_any_gate<C: Console>(
     alloc: Global,
     name: Option<&str>,
@@ -75,7 +76,8 @@ pub fn read_message<C: Console>(
     console: &mut C,
 ) -> Result<String, Refusal>
     ensures had { IfOk result (λ message. IsHad (input message_file name.now) (λ text. text ≡ string_bytes message) (C.state console.old) (C.state console.new)) }
-    ensures refused { IfErr result (IsRefused (input message_file name.now) (C.state console.old) (C.state console.new)) }
+    ensures refused { IfErr result
+        (IsRefused (input message_file name.now) (C.state console.old) (C.state console.new)) }
 {
     let text = console.read(alloc, name, TEXT_LIMIT)?;
     match String::from_utf8(text) {
@@ -91,22 +93,25 @@ pub fn read_script<C: Console>(
     console: &mut C,
 ) -> Result<Vec<u8>, Refusal>
     ensures had { IfOk result (λ script. IsHad (input script_file name.now) (λ text. text ≡ script.items) (C.state console.old) (C.state console.new)) }
-    ensures refused { IfErr result (IsRefused (input script_file name.now) (C.state console.old) (C.state console.new)) }
+    ensures refused { IfErr result
+        (IsRefused (input script_file name.now) (C.state console.old) (C.state console.new)) }
 {
     let text = console.read(alloc, name, TEXT_LIMIT)?;
     Ok(text)
 }
 
-/// The replica to which the operations of the snapshot of a name came, after those that it has. Refusal: `Snapshot`, it isn't read, or says no
-/// operations.
+/// The replica to which the operations of the snapshot of a name came, after those that it has. Refusal: `Snapshot`, it
+/// isn't read, or says no operations.
 pub fn read_snapshot<C: Console>(
     replica: Replica,
     name: &str,
     console: &mut C,
 ) -> Result<Replica, Refusal>
     ensures had { IfOk result (λ both. (ops : List Operation) × (both ≡ all_arrived replica ops)
-        × IsHad (input snapshot_file name.now) (λ text. SaysOperations (lines_of text) ops) (C.state console.old) (C.state console.new)) }
-    ensures refused { IfErr result (IsRefused (input snapshot_file name.now) (C.state console.old) (C.state console.new)) }
+        × IsHad (input snapshot_file name.now) (λ text. SaysOperations (lines_of text) ops) (C.state console.old)
+        (C.state console.new)) }
+    ensures refused { IfErr result
+        (IsRefused (input snapshot_file name.now) (C.state console.old) (C.state console.new)) }
 {
     let text = match console.read(replica.allocator(), name, SNAPSHOT_LIMIT) {
         Ok(text) => text,

@@ -1,7 +1,8 @@
-//! The console of a command: its input, its output and the files that it names, the inputs that it reads from there, and how it is refused, as the error
-//! output says.
+//! The console of a command: its input, its output and the files that it names, the inputs that it reads from there,
+//! and how it is refused, as the error output says.
 //!
-//! The name `-` is that of the input, which is read once: a second `-` is empty. Each kind of input has its limit, and is judged once it is read.
+//! The name `-` is that of the input, which is read once: a second `-` is empty. Each kind of input has its limit, and
+//! is judged once it is read.
 #![tactic(auto)]
 
 mod files;

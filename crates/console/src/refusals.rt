@@ -1,7 +1,8 @@
 //! Why a command ended with status 1.
 
 ghost use Rattle.std.specs.Prelude.{◌≡◌, ◌++◌, [], IfOk, OnOk, string_bytes};
-ghost use Rattle.console.specs.declared.refusals.Refusal.TheVariants.{Script as BadScript, Gate as BadGate, File as BadFile};
+ghost use Rattle.console.specs.declared.refusals.Refusal.TheVariants.{Script as BadScript, Gate as BadGate};
+ghost use Rattle.console.specs.declared.refusals.Refusal.TheVariants.{File as BadFile};
 ghost use Rattle.console.specs.Refusals.{fault_text, refusal_line, refusal_text};
 
 use byte_ends::BytesFault;

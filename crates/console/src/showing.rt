@@ -11,16 +11,18 @@ use std::alloc::{AllocError, Global};
 /// The line of want of memory.
 const MEMORY_LINE: &str = "reviewgate: memory 1 NoMemory\n";
 
-/// Writes the line of a refusal to the error output, or that of want of memory, where memory is refused for it. What the error output can't take is
-/// lost.
+/// Writes the line of a refusal to the error output, or that of want of memory, where memory is refused for it. What
+/// the error output can't take is lost.
 pub fn show_refusal<E: Drain>(alloc: Global, refusal: &Refusal, errors: &mut E)
     ensures { ShowsLine (refusal_line refusal.now)
-        (error_output (E.taken errors.old) (E.failed errors.old)) (error_output (E.taken errors.new) (E.failed errors.new)) }
+        (error_output (E.taken errors.old) (E.failed errors.old))
+        (error_output (E.taken errors.new) (E.failed errors.new)) }
 {
     show_line(&refusal.line(alloc), errors);
 }
 
-/// Writes a line to the error output, or that of want of memory, where memory was refused for it. What the error output can't take is lost.
+/// Writes a line to the error output, or that of want of memory, where memory was refused for it. What the error output
+/// can't take is lost.
 pub fn show_line<E: Drain>(line: &Result<String, AllocError>, errors: &mut E)
     ensures { let old = error_output (E.taken errors.old) (E.failed errors.old) in
         let new = error_output (E.taken errors.new) (E.failed errors.new) in
@@ -34,7 +36,8 @@ pub fn show_line<E: Drain>(line: &Result<String, AllocError>, errors: &mut E)
 
 /// Writes a text to the error output. What that can't take is lost.
 pub fn show<E: Drain>(text: &[u8], errors: &mut E)
-    ensures { Shows text.now (error_output (E.taken errors.old) (E.failed errors.old)) (error_output (E.taken errors.new) (E.failed errors.new)) }
+    ensures { Shows text.now (error_output (E.taken errors.old) (E.failed errors.old))
+        (error_output (E.taken errors.new) (E.failed errors.new)) }
 {
     let _ = write_all(errors, text);
 }

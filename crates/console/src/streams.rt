@@ -23,8 +23,9 @@ pub trait Console {
     /// What is known of its ends.
     ghost state: { Self → ConsoleState };
 
-    /// All bytes of the file of a name, or for `-` those that the input has left, which are at most `limit`. A second `-` has none. Refusals: 6
-    /// `TooLong`, there are more; 7 `ReadFault`, the input failed, or the file can't be opened or read; 8 `NoMemory`. It costs O(bytes).
+    /// All bytes of the file of a name, or for `-` those that the input has left, which are at most `limit`. A second
+    /// `-` has none. Refusals: 6 `TooLong`, there are more; 7 `ReadFault`, the input failed, or the file can't be
+    /// opened or read; 8 `NoMemory`. It costs O(bytes).
     fn read(&mut self, alloc: Global, name: &str, limit: usize) -> Result<Vec<u8>, BytesFault>
         ensures read { IfOk result (λ bytes. IsRead name.now limit (state self.old) (state self.new) bytes.items) }
         ensures unread { IfErr result (IsUnread name.now limit (state self.old) (state self.new)) };
@@ -37,7 +38,8 @@ pub trait Console {
     fn print_report(&mut self, verdicts: &Verdicts) -> Result<(), Refusal>
         ensures { Prints (report_of verdicts.now) (state self.old) (state self.new) result };
 
-    /// Prints the snapshot of a replica, as `write_snapshot` writes it. Refusals: `Output`, the output failed; `Memory`, nothing was printed.
+    /// Prints the snapshot of a replica, as `write_snapshot` writes it. Refusals: `Output`, the output failed;
+    /// `Memory`, nothing was printed.
     fn print_snapshot(&mut self, alloc: Global, replica: &Replica) -> Result<(), Refusal>
         ensures { PrintsSnapshot replica.now (state self.old) (state self.new) result };
 }

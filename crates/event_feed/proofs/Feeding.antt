@@ -1,5 +1,6 @@
 -- A feed goes on by one line more.
-use Rattle.std.proofs.Common.{◌≡◌, ◌+◌, ℕ, Bool, true, false, List, [], ◌∷◌, ◌++◌, Ok, Err, length, refl, sym, subst, arith}
+use Rattle.std.proofs.Common.{◌≡◌, ◌+◌, ℕ, Bool, true, false, List, [], ◌∷◌, ◌++◌, Ok, Err, length, refl, sym, subst}
+use Rattle.std.proofs.Common.{arith}
 use Rattle.event_feed.specs.Feed.{Begin, Fails, IsStep, Outputs, Turn, Turns, IsTurn}
 use Rattle.event_feed.specs.declared.fault.FeedFault.{FeedFault}
 use Rattle.event_feed.specs.Texts.{drops}

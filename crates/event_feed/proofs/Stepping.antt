@@ -1,5 +1,7 @@
 -- A step is what its parts make of it.
-use Rattle.std.proofs.Common.{◌≡◌, ◌+◌, ◌<◌, ◌≤◌, ℕ, Bool, true, false, List, [], ◌∷◌, ◌++◌, Result, Ok, Err, length, take, get_or, ltb, refl, sym, ap, ◌∙◌, subst, inl, inr, arith, append_assoc, append-nil, length-append}
+use Rattle.std.proofs.Common.{◌≡◌, ◌+◌, ◌<◌, ◌≤◌, ℕ, Bool, true, false, List, [], ◌∷◌, ◌++◌, Result, Ok, Err, length}
+use Rattle.std.proofs.Common.{take, get_or, ltb, refl, sym, ap, ◌∙◌, subst, inl, inr, arith, append_assoc, append-nil}
+use Rattle.std.proofs.Common.{length-append}
 use Rattle.std.specs.Prelude.{◌⊎◌}
 use Rattle.std.specs.Io.KnownBytes.{Consumes}
 use Rattle.std.proofs.KnownBytes.{Appends-nil, Consumes-trans}
@@ -15,7 +17,8 @@ use Rattle.line_reader.specs.Lines.{BeginsWithLine, Hands, HasNoLf, IsTooLong, R
 use Rattle.byte_ends.specs.ReadAll.{CountsFault}
 use Rattle.byte_ends.specs.declared.faults.BytesFault.{BytesFault}
 use Rattle.byte_ends.specs.declared.faults.BytesFault.TheVariants.{TooLong}
-use Rattle.event_feed.specs.Feed.{Begin, Outputs, Turn, HasCome, IsEndless, IsRead, IsStep, IsWritten, no_line, rest_text}
+use Rattle.event_feed.specs.Feed.{Begin, Outputs, Turn, HasCome, IsEndless, IsRead, IsStep, IsWritten, no_line}
+use Rattle.event_feed.specs.Feed.{rest_text}
 use Rattle.event_feed.specs.Steps.{IsFindingsStep, IsLineStep, IsLongStep}
 use Rattle.event_feed.specs.Texts.{no_event}
 use Rattle.event_feed.specs.declared.fault.FeedFault.{FeedFault}
@@ -133,7 +136,8 @@ module _ (limit number : ℕ) (source mid later : Begin) (old new : Outputs) (ca
     plain = subst HasNoLf (whole more) plain;
   }
 
-  reported_line : IsWritten (no_line number) old.errors new.errors → IsWritten (no_line number ++ []) old.errors new.errors
+  reported_line : IsWritten (no_line number) old.errors new.errors
+      → IsWritten (no_line number ++ []) old.errors new.errors
   reported_line h = subst (λ t. IsWritten t old.errors new.errors) (sym (append-nil (no_line number))) h
 
   nothing : IsWritten [] old.output new.output

@@ -8,7 +8,8 @@ use Rattle.event_feed.specs.declared.fault.FeedFault.{FeedFault}
 use Rattle.event_feed.specs.declared.fault.FeedFault.TheVariants.{Dropped, ReadFault, WriteFault, NoMemory}
 use Rattle.line_reader.specs.Lines.{HasNoLf}
 use Rattle.byte_ends.specs.Failures.{OneFailed}
-use Rattle.event_feed.specs.Feed.{Begin, End, Outputs, HasCome, IsRead, IsWritten, IsCutShort, IsQuiet, no_line, rest_text}
+use Rattle.event_feed.specs.Feed.{Begin, End, Outputs, HasCome, IsRead, IsWritten, IsCutShort, IsQuiet, no_line}
+use Rattle.event_feed.specs.Feed.{rest_text}
 use Rattle.event_feed.specs.Texts.{take_lines, refusal_lines, drops}
 
 -- all of the text is written, or writing it failed
@@ -18,26 +19,26 @@ Sends text old new (Err WriteFault) = IsCutShort text old new
 Sends text old new (Err fault) = ⊥
 
 -- all was written
-pub record IsSaid (number : ℕ) (findings : List Finding) (output errors output' errors' : End) : Type 0 where
+pub record AreWritten (number : ℕ) (findings : List Finding) (output errors output' errors' : End) : Type 0 where
   pub brought : IsWritten (take_lines findings) output output'
   pub refused : IsWritten (refusal_lines number findings) errors errors'
 
 -- one of the two texts was cut short
-abbrev pub IsUnsaid : ℕ → List Finding → End → End → End → End → Type 0
-IsUnsaid number findings output errors output' errors' =
+abbrev pub AreCutShort : ℕ → List Finding → End → End → End → End → Type 0
+AreCutShort number findings output errors output' errors' =
     (IsCutShort (take_lines findings) output output' × (errors' ≡ errors))
     ⊎ (IsWritten (take_lines findings) output output' × IsCutShort (refusal_lines number findings) errors errors')
 
 -- what was found is written
 abbrev pub IsFindingsStep : ℕ → List Finding → End → End → End → End → Result Bool FeedFault → Type 0
 IsFindingsStep number findings output errors output' errors' (Ok true) =
-    IsSaid number findings output errors output' errors' × (drops findings ≡ false)
+    AreWritten number findings output errors output' errors' × (drops findings ≡ false)
 IsFindingsStep number findings output errors output' errors' (Ok false) = ⊥
 IsFindingsStep number findings output errors output' errors' (Err Dropped) =
-    IsSaid number findings output errors output' errors' × (drops findings ≡ true)
+    AreWritten number findings output errors output' errors' × (drops findings ≡ true)
 IsFindingsStep number findings output errors output' errors' (Err ReadFault) = ⊥
 IsFindingsStep number findings output errors output' errors' (Err WriteFault) =
-    IsUnsaid number findings output errors output' errors'
+    AreCutShort number findings output errors output' errors'
 IsFindingsStep number findings output errors output' errors' (Err NoMemory) = (output' ≡ output) × (errors' ≡ errors)
 
 -- a line is read, and what was found is written; or memory was refused for reading it

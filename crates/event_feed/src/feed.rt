@@ -17,15 +17,15 @@ use std::alloc::Global;
 /// How many bytes a line may have.
 const LINE_LIMIT: usize = 1048576;
 
-/// Reads the lines of a source, one after the other, and writes what each brings, as a session takes it, to the
-/// output: `hello 2` first, then a line `take BODY` for each body. What is refused of the line of number n, counted
-/// from 1, is reported on the errors: `reviewgate: events 1 BadEvent n KEY` or `reviewgate: events 2 Dropped n`. Both are
-/// written before the next line is read. A line of more than 1,048,576 bytes is reported and passed over without being
-/// held, and what comes last without an LF is reported, too. Ends well at the end of the source. Refusals: 2 `Dropped`,
+/// Reads the lines of a source, one after the other, and writes what each brings, as a session takes it, to the output:
+/// `hello 2` first, then a line `take BODY` for each body. What is refused of the line of number n, counted from 1, is
+/// reported on the errors: `reviewgate: events 1 BadEvent n KEY` or `reviewgate: events 2 Dropped n`. Both are written
+/// before the next line is read. A line of more than 1,048,576 bytes is reported and passed over without being held,
+/// and what comes last without an LF is reported, too. Ends well at the end of the source. Refusals: 2 `Dropped`,
 /// Gerrit dropped events, which was reported; 3 `ReadFault`, the source failed, or gave 2^64 - 1 lines or blocks of one
 /// line; 4 `WriteFault`, one of the outputs failed; 5 `NoMemory`, memory was refused for a line, of which nothing was
-/// written. It costs O(n) for n bytes that are read and written, and for each parent that a line names the logarithm
-/// of the revisions that are known.
+/// written. It costs O(n) for n bytes that are read and written, and for each parent that a line names the logarithm of
+/// the revisions that are known.
 pub fn events_run<S: Source, D: Drain, E: Drain>(
     alloc: Global,
     source: &mut S,
@@ -50,7 +50,8 @@ pub fn events_run<S: Source, D: Drain, E: Drain>(
     feed_lines(alloc, LINE_LIMIT, u64::MAX, source, output, errors)
 }
 
-/// Feeds as `events_run` does, from lines of at most `limit` bytes, and of at most `most` lines. Refusals: as there, with these in place of its limits.
+/// Feeds as `events_run` does, from lines of at most `limit` bytes, and of at most `most` lines. Refusals: as there,
+/// with these in place of its limits.
 pub fn feed_lines<S: Source, D: Drain, E: Drain>(
     alloc: Global,
     limit: usize,

@@ -1,12 +1,16 @@
 //! The lines that are written for what was found in a line.
 
 ghost use Rattle.std.specs.Prelude.{◌≡◌, ◌++◌, IfOk, OnOk, string_bytes};
-ghost use Rattle.event_feed.specs.Texts.{bad_event_line, dropped_line, drops, fault_line, key_text, is_drop, refusal_line, refusal_lines, take_line, take_lines};
+ghost use Rattle.event_feed.specs.Texts.{bad_event_line, dropped_line, drops, fault_line, key_text, is_drop};
+ghost use Rattle.event_feed.specs.Texts.{refusal_line, refusal_lines, take_line, take_lines};
 
 use gerrit_events::{EventFault, Finding};
 use lattice_core::NoMemory;
 use op_text::write_body;
 use std::alloc::{AllocError, Global};
+
+/// What a line takes beside its body.
+const TAKE_ROOM: usize = 6;
 
 /// The lines of the bodies, as a session takes them.
 pub fn take_lines(alloc: Global, findings: &[Finding]) -> Result<String, NoMemory>
@@ -26,6 +30,7 @@ fn add_take_line(text: &mut String, alloc: Global, finding: &Finding) -> Result<
         return Ok(());
     };
     let written = write_body(alloc, body)?;
+    text.reserve(written.len().saturating_add(TAKE_ROOM))?;
     text.push_str("take ")?;
     text.push_str(written.as_str())?;
     text.push_str("\n")?;

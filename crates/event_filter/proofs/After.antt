@@ -1,4 +1,4 @@
--- What is taken in above all that was written there is said then.
+-- What is taken in above all that was written there is recorded then.
 use Rattle.std.specs.Prelude.{◌≡◌, ◌≢◌, ◌||◌, pos, Bool, true, false, cond, Option, None, Some}
 use Rattle.std.specs.declared.cmp.Ordering.{Ordering}
 use Rattle.std.specs.declared.cmp.Ordering.TheVariants.{Greater}
@@ -18,7 +18,7 @@ use Rattle.change_core.specs.declared.life.Life.{Life}
 use Rattle.change_core.specs.declared.life.Life.TheVariants as life
 use Rattle.change_core.specs.declared.life.Status.TheVariants.{Merged}
 use Rattle.state_core.specs.State.{State, with_effect}
-use Rattle.event_filter.specs.Said.{change_at, score_by, IsSaid, Says}
+use Rattle.event_filter.specs.Recorded.{change_at, score_by, IsRecorded, Records}
 use Rattle.event_filter.specs.Newest.{CountsFor, IsAbove, IsNewest, IsOpenTo, IsWrittenLast}
 use Rattle.event_filter.proofs.Alike.{change_after, patch_in, status_in}
 use Rattle.event_filter.proofs.Registers.{at_key}
@@ -42,23 +42,28 @@ merges_it : (b : Bool) (held : Option (Timestamp × Life)) → status_in (b || t
 merges_it true held = refl
 merges_it false held = refl
 
-says_after : (c : Change) (stamp : Timestamp) (deed : Deed) → IsWrittenLast c stamp deed → CountsFor c deed → Says (change_joined c (effect_by stamp deed)) deed
-says_after c stamp (patch_set change set message parent) above counts =
-    ap patch_in (at_key numbers_exact (ord_max patch_order) c.sets set (stamp, record { message = message; parent = parent })
+records_after : (c : Change) (stamp : Timestamp) (deed : Deed) → IsWrittenLast c stamp deed → CountsFor c deed
+    → Records (change_joined c (effect_by stamp deed)) deed
+records_after c stamp (patch_set change set message parent) above counts =
+    ap patch_in
+    (at_key numbers_exact (ord_max patch_order) c.sets set (stamp, record { message = message; parent = parent })
     ∙ last_wins _ (get c.sets set) stamp (record { message = message; parent = parent }) above)
-says_after c stamp (vote change set label voter value) above counts =
+records_after c stamp (vote change set label voter value) above counts =
     ap score_by (at_key slots_exact (ord_max vote_order) c.votes (record { set = set; label = label; voter = voter }) (stamp, value)
     ∙ last_wins _ (get c.votes (record { set = set; label = label; voter = voter })) stamp value above)
-says_after c stamp (withdraw change set label voter) above counts =
+records_after c stamp (withdraw change set label voter) above counts =
     ap score_by (at_key slots_exact (ord_max vote_order) c.votes (record { set = set; label = label; voter = voter }) (stamp, pos 0)
     ∙ last_wins _ (get c.votes (record { set = set; label = label; voter = voter })) stamp (pos 0) above)
-says_after c stamp (abandon change) above counts = lives c.merged c.life stamp life.Abandoned counts (last_wins _ c.life stamp life.Abandoned above)
-says_after c stamp (restore change) above counts = lives c.merged c.life stamp life.Restored counts (last_wins _ c.life stamp life.Restored above)
-says_after c stamp (merged change) above counts = merges_it c.merged (option_joined (ord_max life_order) c.life None)
+records_after c stamp (abandon change) above counts =
+    lives c.merged c.life stamp life.Abandoned counts (last_wins _ c.life stamp life.Abandoned above)
+records_after c stamp (restore change) above counts =
+    lives c.merged c.life stamp life.Restored counts (last_wins _ c.life stamp life.Restored above)
+records_after c stamp (merged change) above counts = merges_it c.merged (option_joined (ord_max life_order) c.life None)
 
-pub said_after : (state : State) (op : Operation) → IsNewest state op → IsOpenTo state op.deed → IsSaid (with_effect state op) op.deed
+pub said_after : (state : State) (op : Operation) → IsNewest state op → IsOpenTo state op.deed
+    → IsRecorded (with_effect state op) op.deed
 said_after state op newest counts =
-    subst (λ c. Says c op.deed)
+    subst (λ c. Records c op.deed)
     (sym (change_after state op (change_of op.deed)
     ∙ ap (λ t. cond t (change_joined (change_at state (change_of op.deed)) (effect_of op)) (change_at state (change_of op.deed))) (test_of_same numbers_exact (change_of op.deed))))
-    (says_after (change_at state (change_of op.deed)) op.stamp op.deed newest counts)
+    (records_after (change_at state (change_of op.deed)) op.stamp op.deed newest counts)

@@ -13,18 +13,22 @@ pub none_joined : {T : Type 0} (joined : T → T → T) (o : Option T) → optio
 none_joined joined None = refl
 none_joined joined (Some x) = refl
 
-module _ {S T : Type 0} {key : S → S → Ordering} (exact_order : IsExactOrder key) (joined : T → T → T) (m : FinMap key T) (k : S) (v : T) where
-  joined_entry : (q : S) → get (map_joined joined m (insert empty k v)) q ≡ option_joined joined (get m q) (cond (eq_by_cmp key q k) (Some v) None)
+module _ {S T : Type 0} {key : S → S → Ordering} (exact_order : IsExactOrder key) (joined : T → T → T)
+    (m : FinMap key T) (k : S) (v : T) where
+  joined_entry : (q : S) → get (map_joined joined m (insert empty k v)) q ≡ option_joined joined (get m q)
+      (cond (eq_by_cmp key q k) (Some v) None)
   joined_entry q =
       get-map_joined exact_order joined m (insert empty k v) q
-      ∙ ap (option_joined joined (get m q)) (get-insert exact_order.total empty k v q ∙ ap (cond (eq_by_cmp key q k) (Some v)) (get-empty key q))
+      ∙ ap (option_joined joined (get m q))
+      (get-insert exact_order.total empty k v q ∙ ap (cond (eq_by_cmp key q k) (Some v)) (get-empty key q))
 
   -- at the key itself the register is joined in
   pub at_key : get (map_joined joined m (insert empty k v)) k ≡ option_joined joined (get m k) (Some v)
   at_key = joined_entry k ∙ ap (λ t. option_joined joined (get m k) (cond t (Some v) None)) (test_of_same exact_order k)
 
   -- what is shown at each key stays, where it stays at the key itself
-  pub shown_as_before : {Y : Type 0} (show : Option T → Y) → show (option_joined joined (get m k) (Some v)) ≡ show (get m k)
+  pub shown_as_before : {Y : Type 0} (show : Option T → Y)
+      → show (option_joined joined (get m k) (Some v)) ≡ show (get m k)
       → (q : S) → show (get m q) ≡ show (get (map_joined joined m (insert empty k v)) q)
   shown_as_before show same q =
       sym (ap show (joined_entry q)

@@ -1,2 +1,2 @@
-pub mod Said
+pub mod Recorded
 pub mod Newest

@@ -9,7 +9,7 @@ use Rattle.change_core.specs.Change.{Change}
 use Rattle.change_core.specs.Views.{status_of}
 use Rattle.change_core.specs.declared.life.Status.TheVariants.{Merged}
 use Rattle.state_core.specs.State.{State}
-use Rattle.event_filter.specs.Said.{change_at}
+use Rattle.event_filter.specs.Recorded.{change_at}
 
 -- the stamp is above that of the register
 abbrev pub IsAbove : {T : Type 0} → Timestamp → Option (Timestamp × T) → Type 0
@@ -19,8 +19,10 @@ IsAbove stamp (Some register) = timestamp_cmp register.0 stamp ≡ Less
 -- the stamp is above that of the register that the deed is written to
 abbrev pub IsWrittenLast : Change → Timestamp → Deed → Type 0
 IsWrittenLast c stamp (patch_set change set message parent) = IsAbove stamp (get c.sets set)
-IsWrittenLast c stamp (vote change set label voter value) = IsAbove stamp (get c.votes (record { set = set; label = label; voter = voter }))
-IsWrittenLast c stamp (withdraw change set label voter) = IsAbove stamp (get c.votes (record { set = set; label = label; voter = voter }))
+IsWrittenLast c stamp (vote change set label voter value) =
+    IsAbove stamp (get c.votes (record { set = set; label = label; voter = voter }))
+IsWrittenLast c stamp (withdraw change set label voter) =
+    IsAbove stamp (get c.votes (record { set = set; label = label; voter = voter }))
 IsWrittenLast c stamp (abandon change) = IsAbove stamp c.life
 IsWrittenLast c stamp (restore change) = IsAbove stamp c.life
 IsWrittenLast c stamp (merged change) = Unit {0}

@@ -1,5 +1,7 @@
 -- A step is what its parts make of it.
-use Rattle.std.proofs.Common.{◌≡◌, ◌+◌, ◌<◌, ◌≤◌, ℕ, Bool, true, false, List, [], ◌∷◌, ◌++◌, Result, Ok, Err, length, take, get_or, ltb, refl, sym, ap, ◌∙◌, subst, inl, inr, arith, append_assoc, length-append}
+use Rattle.std.proofs.Common.{◌≡◌, ◌+◌, ◌<◌, ◌≤◌, ℕ, Bool, true, false, List, [], ◌∷◌, ◌++◌, Result, Ok, Err, length}
+use Rattle.std.proofs.Common.{take, get_or, ltb, refl, sym, ap, ◌∙◌, subst, inl, inr, arith, append_assoc}
+use Rattle.std.proofs.Common.{length-append}
 use Rattle.std.specs.Io.KnownBytes.{Consumes}
 use Rattle.std.proofs.KnownBytes.{Consumes-trans}
 use Rattle.std.proofs.Math.ListN.{get_or-append}
@@ -30,7 +32,8 @@ pub handed : (old new : Reading) (came : List ℕ) (whole : Bool) → whole ≡ 
 handed old new came true is h = h
 handed old new came false is h = cc
 
-pub too_long : (old new : Reading) (came : List ℕ) (fault : BytesFault) → fault ≡ TooLong → Hands old came (Err fault) new
+pub too_long : (old new : Reading) (came : List ℕ) (fault : BytesFault) → fault ≡ TooLong
+    → Hands old came (Err fault) new
     → IsTooLong old.limit (old.held ++ came) × (new.held ≡ old.held ++ came)
 too_long old new came fault is h = subst (λ f. Hands old came (Err f) new) is h
 
@@ -68,8 +71,10 @@ rest_is number (byte ∷ bytes) old new (Err fault) some h is = cc
 module _ {Site : Type 0} (replies : Site → Deed → Result Timestamp IntakeFault → Site → Type 0) where
   -- ---- a line that was handed out
 
-  module _ (limit number : ℕ) (old new : Standing Site) (came piece line : List ℕ) (consumed : Consumes old.source.left new.source.left came)
-      (none_failed : new.source.failed ≡ old.source.failed) (begins : BeginsWithLine limit (old.source.held ++ came) piece new.source.held)
+  module _ (limit number : ℕ) (old new : Standing Site) (came piece line : List ℕ)
+      (consumed : Consumes old.source.left new.source.left came)
+      (none_failed : new.source.failed ≡ old.source.failed)
+      (begins : BeginsWithLine limit (old.source.held ++ came) piece new.source.held)
       (is : line ≡ without_cr piece) where
     found_turn : (findings : _) → Reads old.known line findings new.known → (result : Result (Unit {0}) ClientFault)
         → MeetsAll replies number findings old.place new.place old.errors new.errors result
@@ -81,11 +86,14 @@ module _ {Site : Type 0} (replies : Site → Deed → Result Timestamp IntakeFau
       met = met;
     }
 
-    pub line_step : (result : Result (Unit {0}) ClientFault) (stepped : Result Bool ClientFault) → stepped ≡ with_more true result
+    pub line_step : (result : Result (Unit {0}) ClientFault) (stepped : Result Bool ClientFault)
+        → stepped ≡ with_more true result
         → LineMet replies number line old.known new.known old.place new.place old.errors new.errors result
         → Steps replies limit number old new stepped
-    line_step (Ok done) stepped same (inl h) = subst (Steps replies limit number old new) (sym same) (_, found_turn h.0 h.1 (Ok done) h.2)
-    line_step (Err fault) stepped same (inl h) = subst (Steps replies limit number old new) (sym same) (inl (_, found_turn h.0 h.1 (Err fault) h.2))
+    line_step (Ok done) stepped same (inl h) =
+        subst (Steps replies limit number old new) (sym same) (_, found_turn h.0 h.1 (Ok done) h.2)
+    line_step (Err fault) stepped same (inl h) =
+        subst (Steps replies limit number old new) (sym same) (inl (_, found_turn h.0 h.1 (Err fault) h.2))
     line_step (Ok done) stepped same (inr h) = cc
     line_step (Err fault) stepped same (inr h) =
         subst (Steps replies limit number old new) (sym (same ∙ ap (with_more true) h.0))
@@ -93,8 +101,10 @@ module _ {Site : Type 0} (replies : Site → Deed → Result Timestamp IntakeFau
 
   -- ---- a line that is too long
 
-  module _ (limit number : ℕ) (old new : Standing Site) (mid : Begin) (came : List ℕ) (consumed : Consumes old.source.left mid.left came)
-      (none_failed : mid.failed ≡ old.source.failed) (long : IsTooLong limit (old.source.held ++ came)) (held : mid.held ≡ old.source.held ++ came)
+  module _ (limit number : ℕ) (old new : Standing Site) (mid : Begin) (came : List ℕ)
+      (consumed : Consumes old.source.left mid.left came)
+      (none_failed : mid.failed ≡ old.source.failed) (long : IsTooLong limit (old.source.held ++ came))
+      (held : mid.held ≡ old.source.held ++ came)
       (same : new.place ≡ old.place) (kept : new.known ≡ old.known) where
     come_both : (more : List ℕ) → HasCome more mid new.source → HasCome (came ++ more) old.source new.source
     come_both more h = record {
@@ -117,7 +127,8 @@ module _ {Site : Type 0} (replies : Site → Deed → Result Timestamp IntakeFau
       plain = subst HasNoLf (whole more) plain;
     }
 
-    pub long_step : (result : Result Bool ClientFault) → PassesOver number mid new.source old.errors new.errors result → Steps replies limit number old new result
+    pub long_step : (result : Result Bool ClientFault) → PassesOver number mid new.source old.errors new.errors result
+        → Steps replies limit number old new result
     long_step (Ok true) h =
         let turn : Turn = record { piece = h.0; findings = no_event ∷ [] } in
         let all : old.source.held ++ (came ++ h.1.came) ≡ as_line h.0 ++ new.source.held = sym (whole h.1.came) ∙ h.1.whole in
@@ -141,7 +152,8 @@ module _ {Site : Type 0} (replies : Site → Deed → Result Timestamp IntakeFau
       plain = subst HasNoLf (whole h.0) h.2;
       end = h.3;
       same = (same, kept);
-      reported = rest_is number (old.source.held ++ (came ++ h.0)) old.errors new.errors (Ok tt) (let e = endless h.0 h.2 in omega (arith, e.more)) h.4 refl;
+      reported = rest_is number (old.source.held ++ (came ++ h.0)) old.errors new.errors (Ok tt)
+          (let e = endless h.0 h.2 in omega (arith, e.more)) h.4 refl;
     }
     long_step (Err (Feed feed.ReadFault)) h = inr (inr (record {
       came = came ++ h.0;

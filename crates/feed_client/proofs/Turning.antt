@@ -1,5 +1,6 @@
 -- A feed goes on by one line more.
-use Rattle.std.proofs.Common.{◌≡◌, ◌+◌, ℕ, Bool, true, false, List, [], ◌∷◌, ◌++◌, Result, Ok, Err, length, refl, sym, subst, arith}
+use Rattle.std.proofs.Common.{◌≡◌, ◌+◌, ℕ, Bool, true, false, List, [], ◌∷◌, ◌++◌, Result, Ok, Err, length, refl, sym}
+use Rattle.std.proofs.Common.{subst, arith}
 use Rattle.event_feed.specs.Feed.{Turn}
 use Rattle.review_ops.specs.Deed.{Deed}
 use Rattle.review_ops.specs.Timestamp.{Timestamp}
@@ -8,7 +9,8 @@ use Rattle.feed_client.specs.declared.fault.ClientFault.{ClientFault}
 use Rattle.feed_client.specs.declared.intake.IntakeFault.{IntakeFault}
 
 module _ {Site : Type 0} (replies : Site → Deed → Result Timestamp IntakeFault → Site → Type 0) where
-  pub turns_push : (limit first number : ℕ) (turns : List Turn) (old mid new : Standing Site) (turn : Turn) → number ≡ first + length turns
+  pub turns_push : (limit first number : ℕ) (turns : List Turn) (old mid new : Standing Site) (turn : Turn)
+      → number ≡ first + length turns
       → Turns replies limit first old turns mid → IsTurn replies limit number mid new turn (Ok tt)
       → Turns replies limit first old (turns ++ turn ∷ []) new
   turns_push limit first number [] old mid new turn is before one =
@@ -24,7 +26,8 @@ module _ {Site : Type 0} (replies : Site → Deed → Result Timestamp IntakeFau
   step_on bound limit number old new false same is h = cc
 
   -- the feed ends early
-  pub step_off : (bound limit number at : ℕ) (old new : Standing Site) (fault : ClientFault) → bound ≡ limit → at ≡ number
+  pub step_off : (bound limit number at : ℕ) (old new : Standing Site) (fault : ClientFault) → bound ≡ limit
+      → at ≡ number
       → Steps replies bound number old new (Err fault) → Fails replies limit at old new fault
   step_off bound limit number at old new fault same is h =
       subst (λ l. Fails replies l at old new fault) same (subst (λ n. Fails replies bound n old new fault) (sym is) h)

@@ -1,4 +1,5 @@
--- A feed of a site: the lines of a source are read one after the other, and what is found in each is met before the next one is read.
+-- A feed of a site: the lines of a source are read one after the other, and what is found in each is met before the
+-- next one is read.
 use Rattle.std.specs.Prelude.{◌≡◌, ◌⊎◌, ◌≤◌, ◌+◌, ℕ, Bool, true, false, List, [], ◌∷◌, ◌++◌, Result, Ok, Err, length}
 use Rattle.std.specs.Io.KnownBytes.{Consumes, IsAtEnd}
 use Rattle.byte_ends.specs.Failures.{OneFailed}
@@ -16,7 +17,7 @@ use Rattle.feed_client.specs.declared.fault.ClientFault.{ClientFault}
 use Rattle.feed_client.specs.declared.fault.ClientFault.TheVariants.{Feed}
 use Rattle.feed_client.specs.declared.intake.IntakeFault.{IntakeFault}
 
--- how a feed stands between two lines
+-- the state of a feed between two lines
 pub record Standing (Site : Type 0) : Type 0 where
   pub source : Begin
   pub known : List Revision
@@ -34,7 +35,8 @@ BreaksOff limit number bytes source later old new (Feed feed.ReadFault) =
     (OneFailed source.failed later.failed × ((new ≡ old) ⊎ IsWritten (no_line number) old new))
     ⊎ (IsEndless limit bytes × IsWritten (no_line number) old new)
 BreaksOff limit number bytes source later old new (Feed feed.WriteFault) = IsCutShort (no_line number) old new
-BreaksOff limit number bytes source later old new (Feed feed.NoMemory) = (new ≡ old) ⊎ IsWritten (no_line number) old new
+BreaksOff limit number bytes source later old new (Feed feed.NoMemory) =
+    (new ≡ old) ⊎ IsWritten (no_line number) old new
 BreaksOff limit number bytes source later old new fault = ⊥
 
 -- a line that is too long is reported, and passed over
@@ -42,11 +44,14 @@ abbrev pub PassesOver : ℕ → Begin → Begin → End → End → Result Bool 
 PassesOver number source later old new (Ok true) =
     (piece : List ℕ) × IsRead (as_line piece) source later × HasNoLf piece × IsWritten (no_line number) old new
 PassesOver number source later old new (Ok false) =
-    (came : List ℕ) × HasCome came source later × HasNoLf (source.held ++ came) × IsAtEnd later.left × IsWritten (no_line number) old new
+    (came : List ℕ) × HasCome came source later × HasNoLf (source.held ++ came) × IsAtEnd later.left
+    × IsWritten (no_line number) old new
 PassesOver number source later old new (Err (Feed feed.ReadFault)) =
-    (came : List ℕ) × Consumes source.left later.left came × HasNoLf (source.held ++ came) × IsWritten (no_line number) old new
+    (came : List ℕ) × Consumes source.left later.left came × HasNoLf (source.held ++ came)
+    × IsWritten (no_line number) old new
     × (OneFailed source.failed later.failed ⊎ (later.failed ≡ source.failed))
-PassesOver number source later old new (Err (Feed feed.WriteFault)) = (later ≡ source) × IsCutShort (no_line number) old new
+PassesOver number source later old new (Err (Feed feed.WriteFault)) =
+    (later ≡ source) × IsCutShort (no_line number) old new
 PassesOver number source later old new (Err (Feed feed.NoMemory)) =
     ((later ≡ source) × (new ≡ old))
     ⊎ ((came : List ℕ) × HasCome came source later × HasNoLf (source.held ++ came) × IsWritten (no_line number) old new)
@@ -59,7 +64,8 @@ with_more more (Err fault) = Err fault
 
 module _ {Site : Type 0} (replies : Site → Deed → Result Timestamp IntakeFault → Site → Type 0) where
   -- what is read of a line is met, or memory was refused for reading it
-  abbrev pub LineMet : ℕ → List ℕ → List Revision → List Revision → Place Site → Place Site → End → End → Result (Unit {0}) ClientFault → Type 0
+  abbrev pub LineMet : ℕ → List ℕ → List Revision → List Revision → Place Site → Place Site → End → End
+      → Result (Unit {0}) ClientFault → Type 0
   LineMet number line known learned old new errors after result =
       ((findings : List Finding) × Reads known line findings learned × MeetsAll replies number findings old new errors after result)
       ⊎ ((result ≡ Err (Feed feed.NoMemory)) × (learned ≡ known) × (new ≡ old) × (after ≡ errors))
@@ -90,7 +96,8 @@ module _ {Site : Type 0} (replies : Site → Deed → Result Timestamp IntakeFau
   -- how a feed ends early, at the line of this number
   abbrev pub Fails : ℕ → ℕ → Standing Site → Standing Site → ClientFault → Type 0
   Fails limit number old new fault =
-      ((turn : Turn) × IsTurn limit number old new turn (Err fault)) ⊎ IsEnd number old new (Err fault) ⊎ IsBroken limit number old new fault
+      ((turn : Turn) × IsTurn limit number old new turn (Err fault)) ⊎ IsEnd number old new (Err fault)
+      ⊎ IsBroken limit number old new fault
 
   -- what a call that takes the next line answers: whether there was one
   abbrev pub Steps : ℕ → ℕ → Standing Site → Standing Site → Result Bool ClientFault → Type 0
@@ -101,7 +108,8 @@ module _ {Site : Type 0} (replies : Site → Deed → Result Timestamp IntakeFau
   -- lines from this number on, one after the other
   abbrev pub Turns : ℕ → ℕ → Standing Site → List Turn → Standing Site → Type 0
   Turns limit number old [] new = new ≡ old
-  Turns limit number old (turn ∷ turns) new = (mid : Standing Site) × IsTurn limit number old mid turn (Ok tt) × Turns limit (number + 1) mid turns new
+  Turns limit number old (turn ∷ turns) new =
+      (mid : Standing Site) × IsTurn limit number old mid turn (Ok tt) × Turns limit (number + 1) mid turns new
 
   abbrev pub Stops : ℕ → ℕ → Standing Site → Standing Site → Result (Unit {0}) ClientFault → Type 0
   Stops limit number old new (Ok done) = IsEnd number old new (Ok tt)

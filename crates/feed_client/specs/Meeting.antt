@@ -1,9 +1,10 @@
--- What a feed does with what is found in a line: in order, each body that the record doesn't say is offered to the site, once, and each loss is reported.
+-- What a feed does with what is found in a line: in order, each body that the record doesn't say is offered to the
+-- site, once, and each loss is reported.
 use Rattle.std.specs.Prelude.{◌≡◌, ◌⊎◌, ℕ, List, [], ◌∷◌, ◌++◌, Result, Ok, Err, codes, decimal}
 use Rattle.event_feed.specs.Feed.{End, IsCutShort, IsWritten}
 use Rattle.event_feed.specs.Texts.{fault_line}
 use Rattle.event_feed.specs.declared.fault.FeedFault.TheVariants as feed
-use Rattle.event_filter.specs.Said.{IsSaid}
+use Rattle.event_filter.specs.Recorded.{IsRecorded}
 use Rattle.gerrit_events.specs.declared.fault.EventFault.{EventFault}
 use Rattle.gerrit_events.specs.declared.fault.EventFault.TheVariants.{BadEvent, Dropped}
 use Rattle.gerrit_events.specs.declared.finding.Finding.{Finding}
@@ -58,23 +59,29 @@ Keeps op old new (Ok done) = new ≡ with_effect old op
 Keeps op old new (Err (Feed feed.NoMemory)) = new ≡ old
 Keeps op old new (Err fault) = ⊥
 
--- how a feed goes on from a reply: what was taken in is taken into the state, a refusal is reported, and without an answer the feed ends
-abbrev pub TakesUp : ℕ → Deed → Result Timestamp IntakeFault → State → State → End → End → Result (Unit {0}) ClientFault → Type 0
-TakesUp number deed (Ok stamp) old new errors after result = Keeps (record { stamp = stamp; deed = deed }) old new result × (after ≡ errors)
-TakesUp number deed (Err (Refused refusal)) old new errors after result = (new ≡ old) × Reports (refused_line number refusal) errors after result
-TakesUp number deed (Err intake.Ended) old new errors after result = (result ≡ Err Ended) × (new ≡ old) × (after ≡ errors)
-TakesUp number deed (Err intake.NoMemory) old new errors after result = (result ≡ Err (Feed feed.NoMemory)) × (new ≡ old) × (after ≡ errors)
+-- how a feed goes on from a reply: what was taken in is taken into the state, a refusal is reported, and without an
+-- answer the feed ends
+abbrev pub TakesUp : ℕ → Deed → Result Timestamp IntakeFault → State → State → End → End → Result (Unit {0}) ClientFault
+    → Type 0
+TakesUp number deed (Ok stamp) old new errors after result =
+    Keeps (record { stamp = stamp; deed = deed }) old new result × (after ≡ errors)
+TakesUp number deed (Err (Refused refusal)) old new errors after result =
+    (new ≡ old) × Reports (refused_line number refusal) errors after result
+TakesUp number deed (Err intake.Ended) old new errors after result =
+    (result ≡ Err Ended) × (new ≡ old) × (after ≡ errors)
+TakesUp number deed (Err intake.NoMemory) old new errors after result =
+    (result ≡ Err (Feed feed.NoMemory)) × (new ≡ old) × (after ≡ errors)
 
 module _ {Site : Type 0} (replies : Site → Deed → Result Timestamp IntakeFault → Site → Type 0) where
   -- the record says the deed already, and nothing is done
   pub record IsPassedOver (deed : Deed) (old new : Place Site) (errors after : End) (result : Result (Unit {0}) ClientFault) : Type 0 where
-    pub said : IsSaid old.state deed
+    pub said : IsRecorded old.state deed
     pub same : (new ≡ old) × (after ≡ errors)
     pub goes_on : result ≡ Ok tt
 
   -- the record doesn't say it, and it is offered once
   pub record IsOffered (number : ℕ) (deed : Deed) (old new : Place Site) (errors after : End) (result : Result (Unit {0}) ClientFault) : Type 0 where
-    pub unsaid : ¬ IsSaid old.state deed
+    pub unsaid : ¬ IsRecorded old.state deed
     pub reply : Result Timestamp IntakeFault
     pub replied : replies old.site deed reply new.site
     pub taken_up : TakesUp number deed reply old.state new.state errors after result
@@ -86,7 +93,8 @@ module _ {Site : Type 0} (replies : Site → Deed → Result Timestamp IntakeFau
 
   abbrev pub MeetsBody : ℕ → Deed → Place Site → Place Site → End → End → Result (Unit {0}) ClientFault → Type 0
   MeetsBody number deed old new errors after result =
-      IsPassedOver deed old new errors after result ⊎ IsOffered number deed old new errors after result ⊎ IsUnasked old new errors after result
+      IsPassedOver deed old new errors after result ⊎ IsOffered number deed old new errors after result
+      ⊎ IsUnasked old new errors after result
 
   abbrev pub Meets : ℕ → Finding → Place Site → Place Site → End → End → Result (Unit {0}) ClientFault → Type 0
   Meets number (Brings body) old new errors after result = MeetsBody number body old new errors after result

@@ -18,8 +18,8 @@ const REFUSALS: [Refusal; 5] = [
     Refusal::Closed,
 ];
 
-/// What a line answers: `ok STAMP`, or the refusal of `no NUMBER NAME`. Refusals: `Refused`, with what the site refused it for; `Ended`, the line is no
-/// answer; `NoMemory`, memory was refused for reading the stamp.
+/// What a line answers: `ok STAMP`, or the refusal of `no NUMBER NAME`. Refusals: `Refused`, with what the site refused
+/// it for; `Ended`, the line is no answer; `NoMemory`, memory was refused for reading the stamp.
 pub fn read_answer(alloc: Global, line: &[u8]) -> Result<Stamp, IntakeFault>
     ensures { IsAnswer line.now result }
 {
@@ -59,7 +59,8 @@ fn read_refusal(text: &[u8]) -> IntakeFault
     IntakeFault::Ended
 }
 
-/// The stamp that a text is, where it is one: four numbers in decimal, with commas between them, as a session writes them.
+/// The stamp that a text is, where it is one: four numbers in decimal, with commas between them, as a session writes
+/// them.
 fn read_stamp(alloc: Global, text: &[u8]) -> Result<Option<Stamp>, NoMemory>
     ensures { IfOk result (λ read. IfSome read (λ stamp. text.now ≡ timestamp_text stamp)) }
 {

@@ -44,7 +44,8 @@ impl Refusal {
     }
 }
 
-/// A site that takes bodies in. It has a relation of its own between what it is, the body that it is offered, what it replies and what it is then.
+/// A site that takes bodies in. It has a relation of its own between what it is, the body that it is offered, what it
+/// replies and what it is then.
 pub trait Intake {
     /// From the old state a body may be replied to so, and leave the new state.
     ghost replies: { Self → Deed → Result Timestamp Fault → Self → Type 0 };

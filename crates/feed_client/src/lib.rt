@@ -1,5 +1,6 @@
-//! Feeds what Gerrit writes to the site that answers at a port of this machine: what `event_feed` reads of each line goes to a session of the site,
-//! but for what the site's record says already. The client first pulls the record, and then keeps its state in step with what it sends.
+//! Feeds what Gerrit writes to the site that answers at a port of this machine: what `event_feed` reads of each line
+//! goes to a session of the site, but for what the site's record says already. The client first pulls the record, and
+//! then keeps its state in step with what it sends.
 //!
 //! | Line of the errors | Where |
 //! |---|---|

@@ -1,13 +1,14 @@
 //! Meets what is found in a line: what the record doesn't say is offered to the site, and what is refused is reported.
 
 ghost use Rattle.std.specs.Prelude.{◌≡◌, ◌++◌, IfOk, OnOk, string_bytes};
-ghost use Rattle.feed_client.specs.Meeting.{Meets, MeetsAll, MeetsBody, Keeps, Reports, ReportsLoss, TakesUp, line_end, refused_line};
+ghost use Rattle.feed_client.specs.Meeting.{Meets, MeetsAll, MeetsBody, Keeps, Reports, ReportsLoss, TakesUp, line_end};
+ghost use Rattle.feed_client.specs.Meeting.{refused_line};
 
 use super::fault::ClientFault;
 use super::intake::{Intake, IntakeFault, Refusal};
 use byte_ends::{Drain, write_all};
 use event_feed::{FeedFault, fault_line};
-use event_filter::is_said;
+use event_filter::is_recorded;
 use gerrit_events::{EventFault, Finding};
 use lattice_core::NoMemory;
 use review_ops::{Body, Op, Stamp};
@@ -23,7 +24,8 @@ pub fn meet_all<T: Intake, E: Drain>(
     state: &mut State,
     errors: &mut E,
 ) -> Result<(), ClientFault>
-    ensures { MeetsAll T.replies number findings.items (record { site = site.old; state = state.old }) (record { site = site.new; state = state.new })
+    ensures { MeetsAll T.replies number findings.items (record { site = site.old; state = state.old })
+        (record { site = site.new; state = state.new })
         (record { taken = E.taken errors.old; failed = E.failed errors.old })
         (record { taken = E.taken errors.new; failed = E.failed errors.new }) result }
 {
@@ -42,7 +44,8 @@ fn meet<T: Intake, E: Drain>(
     state: &mut State,
     errors: &mut E,
 ) -> Result<(), ClientFault>
-    ensures { Meets T.replies number finding (record { site = site.old; state = state.old }) (record { site = site.new; state = state.new })
+    ensures { Meets T.replies number finding (record { site = site.old; state = state.old })
+        (record { site = site.new; state = state.new })
         (record { taken = E.taken errors.old; failed = E.failed errors.old })
         (record { taken = E.taken errors.new; failed = E.failed errors.new }) result }
 {
@@ -61,11 +64,12 @@ fn offer<T: Intake, E: Drain>(
     state: &mut State,
     errors: &mut E,
 ) -> Result<(), ClientFault>
-    ensures { MeetsBody T.replies number body (record { site = site.old; state = state.old }) (record { site = site.new; state = state.new })
+    ensures { MeetsBody T.replies number body (record { site = site.old; state = state.old })
+        (record { site = site.new; state = state.new })
         (record { taken = E.taken errors.old; failed = E.failed errors.old })
         (record { taken = E.taken errors.new; failed = E.failed errors.new }) result }
 {
-    match is_said(state, &body) {
+    match is_recorded(state, &body) {
         Err(_) => Err(ClientFault::Feed(FeedFault::NoMemory)),
         Ok(true) => Ok(()),
         Ok(false) => {
@@ -113,7 +117,8 @@ fn report<E: Drain>(
     refusal: Refusal,
     errors: &mut E,
 ) -> Result<(), ClientFault>
-    ensures { Reports (refused_line number refusal) (record { taken = E.taken errors.old; failed = E.failed errors.old })
+    ensures { Reports (refused_line number refusal)
+        (record { taken = E.taken errors.old; failed = E.failed errors.old })
         (record { taken = E.taken errors.new; failed = E.failed errors.new }) result }
 {
     match refused_line(alloc, number, refusal) {

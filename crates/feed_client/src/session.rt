@@ -32,9 +32,10 @@ struct Session<'a, R: Clock> {
     reader: LineReader,
 }
 
-/// Feeds the lines of a source to the site that answers at a port of this machine, as `feed_site` does: its record is pulled first, and then a session is
-/// held as long as the source lasts, which ends with `quit` and `bye`. What others bring to the site meanwhile isn't seen; at worst a body is sent again.
-/// Refusals, beside those of `feed_site`: 7 `NoSite`, no site answers at the port.
+/// Feeds the lines of a source to the site that answers at a port of this machine, as `feed_site` does: its record is
+/// pulled first, and then a session is held as long as the source lasts, which ends with `quit` and `bye`. What others
+/// bring to the site meanwhile isn't seen; at worst a body is sent again. Refusals, beside those of `feed_site`: 7
+/// `NoSite`, no site answers at the port.
 pub fn feed_to<R: Clock + Net<Stream = TcpStream>, S: Source, E: Drain>(
     rt: &R,
     alloc: Global,

@@ -9,7 +9,8 @@ use review_ops::Op;
 use site_port::{Sink, SinkFault};
 use std::marker::Model;
 
-/// A copy of a site's record, as far as it was pulled. Where memory is refused, the first so many of the operations may have been taken.
+/// A copy of a site's record, as far as it was pulled. Where memory is refused, the first so many of the operations may
+/// have been taken.
 #[derive(Drop)]
 pub struct Copied {
     pub replica: Replica,

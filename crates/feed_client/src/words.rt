@@ -15,7 +15,8 @@ pub enum EventWords {
     Usage,
 }
 
-/// What the words after `events` ask for: none, `--to PORT` or `--to=PORT`, with a port from 1 to 65535, `--help` or `-h`.
+/// What the words after `events` ask for: none, `--to PORT` or `--to=PORT`, with a port from 1 to 65535, `--help` or
+/// `-h`.
 pub fn read_event_words<S: AsStr>(words: &[S]) -> EventWords {
     match words {
         [] => EventWords::Output,

@@ -1,5 +1,6 @@
 -- The texts of which bases are made, up to a place.
-use Rattle.std.proofs.Common.{◌≡◌, ℕ, ◌<◌, ◌≤◌, ◌+◌, List, [], ◌∷◌, ◌++◌, length, map, take, get_or, sym, ap, ◌∙◌, subst, inl, inr, arith}
+use Rattle.std.proofs.Common.{◌≡◌, ℕ, ◌<◌, ◌≤◌, ◌+◌, List, [], ◌∷◌, ◌++◌, length, map, take, get_or, sym, ap, ◌∙◌}
+use Rattle.std.proofs.Common.{subst, inl, inr, arith}
 use Rattle.std.specs.Borrow.{Bor}
 use Rattle.std.specs.List.{All}
 use Rattle.std.proofs.lemmas.List.{get_or-map, length-map, map-append, take_all, take_more}
@@ -20,7 +21,11 @@ module _ (texts : List (Bor (List ℕ))) (place : ℕ) (before : All IsBase (tak
     here = get_or-map (λ text. text.now) texts place d [] inside
 
     pub ninth_is_bad : place ≡ 8 → IsFirstBad (bytes texts) place
-    ninth_is_bad most = record { before = before; most = omega arith; here = inr (get_or (bytes texts) place [], slice_get-get_or (bytes texts) place [] within, inl most) }
+    ninth_is_bad most = record {
+      before = before;
+      most = omega arith;
+      here = inr (get_or (bytes texts) place [], slice_get-get_or (bytes texts) place [] within, inl most);
+    }
 
     pub other_is_bad : place ≤ 8 → ¬ (IsBase (get_or texts place d).now) → IsFirstBad (bytes texts) place
     other_is_bad most bad = record { before = before; most = most; here = inr (get_or (bytes texts) place [], slice_get-get_or (bytes texts) place [] within, inr (λ good. bad (subst IsBase here good))) }
@@ -34,9 +39,12 @@ module _ (texts : List (Bor (List ℕ))) (place : ℕ) (before : All IsBase (tak
       record { some = rw length-map some; few = rw length-map (omega arith); each = rw whole at before }
 
 -- one text more is kept, seen by f
-pub kept_more : {S : Type 0} (f : S → List ℕ) (items new : List S) (x : S) (texts : List (Bor (List ℕ))) (i : ℕ) (d : Bor (List ℕ)) → i < length texts
-    → map f items ≡ take i (bytes texts) → f x ≡ (get_or texts i d).now → new ≡ items ++ x ∷ [] → map f new ≡ take (i + 1) (bytes texts)
+pub kept_more : {S : Type 0} (f : S → List ℕ) (items new : List S) (x : S) (texts : List (Bor (List ℕ))) (i : ℕ)
+    (d : Bor (List ℕ)) → i < length texts
+    → map f items ≡ take i (bytes texts) → f x ≡ (get_or texts i d).now → new ≡ items ++ x ∷ []
+    → map f new ≡ take (i + 1) (bytes texts)
 kept_more f items new x texts i d inside seen same e =
     let all : i < length (bytes texts) = rw length-map inside in
     let here = get_or-map (λ text. text.now) texts i d [] inside in
-    ap (map f) e ∙ map-append f items (x ∷ []) ∙ ap (λ l. l ++ f x ∷ []) seen ∙ ap (λ y. take i (bytes texts) ++ y ∷ []) (same ∙ sym here) ∙ sym (take_more (bytes texts) i [] all)
+    ap (map f) e ∙ map-append f items (x ∷ []) ∙ ap (λ l. l ++ f x ∷ []) seen
+    ∙ ap (λ y. take i (bytes texts) ++ y ∷ []) (same ∙ sym here) ∙ sym (take_more (bytes texts) i [] all)

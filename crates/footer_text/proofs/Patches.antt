@@ -1,5 +1,6 @@
 -- What may follow a change's number.
-use Rattle.std.proofs.Common.{◌≡◌, ℕ, Option, Some, None, List, [], ◌∷◌, ◌++◌, true, MatchOption, refl, sym, ◌∙◌, subst, inl, inr, lit<}
+use Rattle.std.proofs.Common.{◌≡◌, ℕ, Option, Some, None, List, [], ◌∷◌, ◌++◌, true, MatchOption, refl, sym, ◌∙◌, subst}
+use Rattle.std.proofs.Common.{inl, inr, lit<}
 use Rattle.std.specs.Option.{is_some}
 use Rattle.std.specs.Str.Parse.{digits_value}
 use Rattle.footer_text.specs.Readings.{IsNumeral, IsPatch}
@@ -21,7 +22,8 @@ module _ (patch digits : List ℕ) (slash : patch ≡ digits ++ 47 ∷ []) where
         ]
       ]
 
-  pub patch_before_slash : (r : Option ℕ) → MatchOption r (¬ (IsNumeral digits)) (λ n. IsNumeral digits × (digits_value 10 digits ≡ n))
+  pub patch_before_slash : (r : Option ℕ)
+      → MatchOption r (¬ (IsNumeral digits)) (λ n. IsNumeral digits × (digits_value 10 digits ≡ n))
       → (is_some r ≡ true → IsPatch patch) × (IsPatch patch → is_some r ≡ true)
   patch_before_slash (Some n) k = (λ _. inr (inr (digits, k.0, slash)), λ _. refl)
   patch_before_slash None k = (λ e. cc, λ p. absurd (k (only_digits p)))

@@ -1,5 +1,6 @@
 -- What the methods of `str` give, by bytes.
-use Rattle.std.proofs.Common.{◌≡◌, ℕ, ◌<◌, ◌≤◌, ◌+◌, ◌≢◌, Option, Some, None, List, ◌∷◌, ◌++◌, length, take, drop, MatchOption, sym, ap, ◌∙◌, take-append-drop}
+use Rattle.std.proofs.Common.{◌≡◌, ℕ, ◌<◌, ◌≤◌, ◌+◌, ◌≢◌, Option, Some, None, List, ◌∷◌, ◌++◌, length, take, drop}
+use Rattle.std.proofs.Common.{MatchOption, sym, ap, ◌∙◌, take-append-drop}
 use Rattle.std.specs.Str.Pattern.{RFindsChar, FindsTextPrefix, StripsPrefix}
 use Rattle.std.specs.Borrow.{Bor}
 use Rattle.std.proofs.lemmas.Str.Pattern.{drop_at_char, NoCharPasses-char}

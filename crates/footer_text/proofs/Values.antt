@@ -1,5 +1,6 @@
 -- A value that begins with a base.
-use Rattle.std.proofs.Common.{◌≡◌, ℕ, Option, Some, None, List, ◌++◌, IfSome, IsSomeAnd, MatchOption, sym, ap, ◌∙◌, subst}
+use Rattle.std.proofs.Common.{◌≡◌, ℕ, Option, Some, None, List, ◌++◌, IfSome, IsSomeAnd, MatchOption, sym, ap, ◌∙◌}
+use Rattle.std.proofs.Common.{subst}
 use Rattle.std.specs.Borrow.{Bor}
 use Rattle.std.proofs.lemmas.List.{append_cancel_left}
 use Rattle.footer_text.specs.Readings.{IsNumberAndTail, IsForm, ReadsAs}
@@ -8,7 +9,8 @@ use Rattle.footer_text.proofs.Numbers.{answers_same}
 -- what the form's reader says of a text
 pub record KnowsForm (text : List ℕ) (r : Option (Bor (List ℕ))) : Type 0 where
   pub form : IfSome r (λ number. (form : List ℕ) × IsForm form × (text ≡ form ++ number.now))
-  pub only : (form number : List ℕ) (change : ℕ) → IsForm form → IsNumberAndTail number change → text ≡ form ++ number → IsSomeAnd r (λ found. found.now ≡ number)
+  pub only : (form number : List ℕ) (change : ℕ) → IsForm form → IsNumberAndTail number change → text ≡ form ++ number
+      → IsSomeAnd r (λ found. found.now ≡ number)
 
 module _ (base value text : List ℕ) (begins : value ≡ base ++ text) where
   after_base : (change : ℕ) (n : ReadsAs base value change) → text ≡ n.form ++ n.number

@@ -1,5 +1,6 @@
--- What may stand before a change's number in a footer's value. The limits are this project's own.
-use Rattle.std.specs.Prelude.{◌≡◌, ℕ, ◌≤◌, ◌⊎◌, List, [], ◌∷◌, ◌++◌, length, take, Result, Ok, Err, slice_get, Some, codes}
+-- What may precede a change's number in a footer's value. The limits are this project's own.
+use Rattle.std.specs.Prelude.{◌≡◌, ℕ, ◌≤◌, ◌⊎◌, List, [], ◌∷◌, ◌++◌, length, take, Result, Ok, Err, slice_get, Some}
+use Rattle.std.specs.Prelude.{codes}
 use Rattle.std.specs.List.{All}
 use Rattle.footer_text.specs.declared.bases.BasesFault.{BasesFault}
 use Rattle.footer_text.specs.declared.bases.BasesFault.TheVariants.{BadBase, NoMemory}
@@ -20,11 +21,12 @@ pub record AreBases (bases : List (List ℕ)) : Type 0 where
   pub few : length bases ≤ 8
   pub each : All IsBase bases
 
--- the texts before this place are bases, and at it stands none, or one too many; of no texts it is the first place
+-- the texts before this place are bases, and at it is none, or one too many; of no texts it is the first place
 pub record IsFirstBad (texts : List (List ℕ)) (place : ℕ) : Type 0 where
   pub before : All IsBase (take place texts)
   pub most : place ≤ 8
-  pub here : ((texts ≡ []) × (place ≡ 0)) ⊎ ((text : List ℕ) × (slice_get texts place ≡ Some text) × ((place ≡ 8) ⊎ ¬ (IsBase text)))
+  pub here : ((texts ≡ []) × (place ≡ 0))
+      ⊎ ((text : List ℕ) × (slice_get texts place ≡ Some text) × ((place ≡ 8) ⊎ ¬ (IsBase text)))
 
 -- what each answer of making bases of these texts says
 abbrev pub IsBasesAnswer : List (List ℕ) → Result (List (List ℕ)) BasesFault → Type 0

@@ -7,8 +7,9 @@ use Rattle.footer_text.specs.Lines.{lines_of}
 use Rattle.footer_text.specs.LineLaws.{IsFooter-same}
 use Rattle.footer_text.specs.Footers.{LineIgnores, Gives, AreFooters}
 
--- where R gives one y at most, the ys are told by the xs
-Gives-same : {X Y : Type 0} (R : X → Y → Type 0) → ((x : X) (y z : Y) → R x y → R x z → y ≡ z) → (xs : List X) (ys zs : List Y) → Gives R xs ys → Gives R xs zs → ys ≡ zs
+-- where R gives one y at most, the xs determine the ys
+Gives-same : {X Y : Type 0} (R : X → Y → Type 0) → ((x : X) (y z : Y) → R x y → R x z → y ≡ z)
+    → (xs : List X) (ys zs : List Y) → Gives R xs ys → Gives R xs zs → ys ≡ zs
 Gives-same R one [] ys zs p q = p ∙ sym q
 Gives-same {X} {Y} R one (x ∷ xs) ys zs p q =
     elim p [
@@ -25,7 +26,8 @@ Gives-same {X} {Y} R one (x ∷ xs) ys zs p q =
       ]
     ]
 
-pub ignored_same : (bases : List (List ℕ)) (own : ℕ) (lines : List (List ℕ)) (ys zs : List (List ℕ)) → Gives (LineIgnores bases own) lines ys → Gives (LineIgnores bases own) lines zs → ys ≡ zs
+pub ignored_same : (bases : List (List ℕ)) (own : ℕ) (lines : List (List ℕ)) (ys zs : List (List ℕ))
+    → Gives (LineIgnores bases own) lines ys → Gives (LineIgnores bases own) lines zs → ys ≡ zs
 ignored_same bases own = Gives-same (LineIgnores bases own) (λ line v w p q. IsFooter-same line v w p.0 q.0)
 
 -- ---- the needs
@@ -52,24 +54,28 @@ ordered_rest : (x : ℕ) (xs : List ℕ) → Ordered (x ∷ xs) → Ordered xs
 ordered_rest x xs h i j d below inside = h (suc i) (suc j) d (omega arith) (omega arith)
 
 -- both begin with the least
-same_first : (x : ℕ) (xs : List ℕ) (y : ℕ) (ys : List ℕ) → Ordered (x ∷ xs) → Ordered (y ∷ ys) → Contains (y ∷ ys) x → Contains (x ∷ xs) y → x ≡ y
+same_first : (x : ℕ) (xs : List ℕ) (y : ℕ) (ys : List ℕ) → Ordered (x ∷ xs) → Ordered (y ∷ ys) → Contains (y ∷ ys) x
+    → Contains (x ∷ xs) y → x ≡ y
 same_first x xs y ys p q to from =
     elim (contains_cases y ys x to) [
       | inl same ↦ sym same
       | inr later ↦ elim (contains_cases x xs y from) [
         | inl same ↦ same
-        | inr later' ↦ let above = first_is_least y ys x q later in let below = first_is_least x xs y p later' in absurd (omega arith)
+        | inr later' ↦ let above = first_is_least y ys x q later in let below = first_is_least x xs y p later' in absurd
+            (omega arith)
       ]
     ]
 
-rest_contains : (x : ℕ) (xs : List ℕ) (y : ℕ) (ys : List ℕ) → x ≡ y → Ordered (x ∷ xs) → ((n : ℕ) → Contains (x ∷ xs) n → Contains (y ∷ ys) n) → (n : ℕ) → Contains xs n → Contains ys n
+rest_contains : (x : ℕ) (xs : List ℕ) (y : ℕ) (ys : List ℕ) → x ≡ y → Ordered (x ∷ xs)
+    → ((n : ℕ) → Contains (x ∷ xs) n → Contains (y ∷ ys) n) → (n : ℕ) → Contains xs n → Contains ys n
 rest_contains x xs y ys same p to n c =
     elim (contains_cases y ys n (to n (contains_rest x xs n c))) [
       | inl first ↦ let above = first_is_least x xs n p c in absurd (omega arith)
       | inr later ↦ later
     ]
 
-ordered_same : (xs ys : List ℕ) → Ordered xs → Ordered ys → ((n : ℕ) → Contains xs n → Contains ys n) → ((n : ℕ) → Contains ys n → Contains xs n) → xs ≡ ys
+ordered_same : (xs ys : List ℕ) → Ordered xs → Ordered ys → ((n : ℕ) → Contains xs n → Contains ys n)
+    → ((n : ℕ) → Contains ys n → Contains xs n) → xs ≡ ys
 ordered_same [] [] p q to from = refl
 ordered_same [] (y ∷ ys) p q to from = let c = from y (contains_first y ys) in let l = c.1 in absurd (omega arith)
 ordered_same (x ∷ xs) [] p q to from = let c = to x (contains_first x xs) in let l = c.1 in absurd (omega arith)
@@ -78,14 +84,19 @@ ordered_same (x ∷ xs) (y ∷ ys) p q to from =
     let rest = ordered_same xs ys (ordered_rest x xs p) (ordered_rest y ys q) (rest_contains x xs y ys first p to) (rest_contains y ys x xs (sym first) q from) in
     ap (λ z. z ∷ xs) first ∙ ap (λ l. y ∷ l) rest
 
--- numbers in order, each once, are told by which they are
-pub increasing_same : (xs ys : List ℕ) → IsStrictlyIncreasing xs → IsStrictlyIncreasing ys → ((n : ℕ) → Contains xs n ↔ Contains ys n) → xs ≡ ys
-increasing_same xs ys p q same = ordered_same xs ys (AllPairs-from_increasing xs p) (AllPairs-from_increasing ys q) (λ n c. (same n).0 c) (λ n c. (same n).1 c)
+-- numbers in order, each once, are determined by which they are
+pub increasing_same : (xs ys : List ℕ) → IsStrictlyIncreasing xs → IsStrictlyIncreasing ys
+    → ((n : ℕ) → Contains xs n ↔ Contains ys n) → xs ≡ ys
+increasing_same xs ys p q same = ordered_same xs ys (AllPairs-from_increasing xs p) (AllPairs-from_increasing ys q)
+    (λ n c. (same n).0 c) (λ n c. (same n).1 c)
 
 -- a message has one list of needs and one of ignored values
-pub AreFooters-same : (bases : List (List ℕ)) (own : ℕ) (message needs needs' : List ℕ) (ignored ignored' : List (List ℕ))
-    → AreFooters bases own message needs ignored → AreFooters bases own message needs' ignored' → (needs ≡ needs') × (ignored ≡ ignored')
+pub AreFooters-same : (bases : List (List ℕ)) (own : ℕ) (message needs needs' : List ℕ)
+    (ignored ignored' : List (List ℕ))
+    → AreFooters bases own message needs ignored → AreFooters bases own message needs' ignored'
+    → (needs ≡ needs') × (ignored ≡ ignored')
 AreFooters-same bases own message needs needs' ignored ignored' a b = (
-  increasing_same needs needs' a.increasing b.increasing (λ n. (λ c. (b.needed n).1 ((a.needed n).0 c), λ c. (a.needed n).1 ((b.needed n).0 c))),
+  increasing_same needs needs' a.increasing b.increasing
+      (λ n. (λ c. (b.needed n).1 ((a.needed n).0 c), λ c. (a.needed n).1 ((b.needed n).0 c))),
   ignored_same bases own (lines_of message) ignored ignored' a.others b.others,
 )

@@ -8,7 +8,8 @@ use Rattle.footer_text.specs.Readings.{NamesChange}
 
 -- the line is a footer whose value names this change, which isn't the message's own
 abbrev pub LineNeeds : List (List ℕ) → ℕ → List ℕ → ℕ → Type 0
-LineNeeds bases own line change = (value : List ℕ) × IsFooter line value × NamesChange bases value change × (change ≢ own)
+LineNeeds bases own line change =
+    (value : List ℕ) × IsFooter line value × NamesChange bases value change × (change ≢ own)
 
 abbrev pub LinesNeed : List (List ℕ) → ℕ → List (List ℕ) → ℕ → Type 0
 LinesNeed bases own lines change = (line : List ℕ) × Contains lines line × LineNeeds bases own line change

@@ -1,4 +1,4 @@
--- The lines of a message, and what stands in a footer. Zuul's documentation, "Cross-Project Dependencies", has the
+-- The lines of a message, and what a footer has. Zuul's documentation, "Cross-Project Dependencies", has the
 -- footer `Depends-On: URL`. That its word may be in any case, that blanks may lack after the colon and are dropped
 -- round the value, and that an indented line is no footer, are this project's own rules.
 use Rattle.std.specs.Prelude.{◌≡◌, ℕ, ◌⊎◌, ◌==◌, List, [], ◌∷◌, ◌++◌, map, codes}

@@ -16,12 +16,15 @@ use Rattle.footer_text.specs.Readings.{SpellsChange, IsPatch, IsTail, IsNumberAn
 pub number_alone : (text : List ℕ) (change : ℕ) → Lacks 47 text → IsNumberAndTail text change → SpellsChange text change
 number_alone text change lacks n =
     elim n.is_tail [
-      | inl none ↦ subst (λ ds. SpellsChange ds change) (sym (n.whole ∙ ap (λ t. n.digits ++ t) none ∙ append-nil n.digits)) n.spells
-      | inr patch ↦ absurd (Lacks-middle 47 n.digits patch.0 (subst (Lacks 47) (n.whole ∙ ap (λ t. n.digits ++ t) patch.2) lacks))
+      | inl none ↦ subst (λ ds. SpellsChange ds change)
+          (sym (n.whole ∙ ap (λ t. n.digits ++ t) none ∙ append-nil n.digits)) n.spells
+      | inr patch ↦ absurd
+          (Lacks-middle 47 n.digits patch.0 (subst (Lacks 47) (n.whole ∙ ap (λ t. n.digits ++ t) patch.2) lacks))
     ]
 
 -- the first `/` ends the number
-pub number_before_patch : (text digits patch : List ℕ) → text ≡ digits ++ 47 ∷ patch → (change : ℕ) → Lacks 47 digits → IsNumberAndTail text change
+pub number_before_patch : (text digits patch : List ℕ) → text ≡ digits ++ 47 ∷ patch → (change : ℕ) → Lacks 47 digits
+    → IsNumberAndTail text change
     → SpellsChange digits change × IsPatch patch
 number_before_patch text digits patch whole change lacks n =
     elim n.is_tail [
@@ -53,7 +56,8 @@ patch_lacks_plus patch p =
       | inl none ↦ subst (Lacks 43) (sym none) tt
       | inr more ↦ elim more [
         | inl numeral ↦ digits_lack 43 patch (lit< tt) numeral.all
-        | inr found ↦ subst (Lacks 43) (sym found.2) (Lacks-append 43 found.0 (47 ∷ []) (digits_lack 43 found.0 (lit< tt) found.1.all) ((λ e. cc), tt))
+        | inr found ↦ subst (Lacks 43) (sym found.2)
+            (Lacks-append 43 found.0 (47 ∷ []) (digits_lack 43 found.0 (lit< tt) found.1.all) ((λ e. cc), tt))
       ]
     ]
 
@@ -64,12 +68,13 @@ tail_lacks_plus tail t =
       | inr found ↦ subst (Lacks 43) (sym found.2) ((λ e. cc), patch_lacks_plus found.0 found.1)
     ]
 
--- no `+` stands in a number and its tail
+-- no `+` is in a number and its tail
 pub number_lacks_plus : (number : List ℕ) (change : ℕ) → IsNumberAndTail number change → Lacks 43 number
 number_lacks_plus number change n =
     subst (Lacks 43) (sym n.whole) (Lacks-append 43 n.digits n.tail (digits_lack 43 n.digits (lit< tt) n.spells.is_numeral.all) (tail_lacks_plus n.tail n.is_tail))
 
-first_is_digit : (digits tail : List ℕ) (d : ℕ) (rest : List ℕ) → all_ascii_digits digits ≡ true → 1 ≤ length digits → d ∷ rest ≡ digits ++ tail → (48 ≤ d) × (d ≤ 57)
+first_is_digit : (digits tail : List ℕ) (d : ℕ) (rest : List ℕ) → all_ascii_digits digits ≡ true → 1 ≤ length digits
+    → d ∷ rest ≡ digits ++ tail → (48 ≤ d) × (d ≤ 57)
 first_is_digit [] tail d rest p some e = absurd (omega arith)
 first_is_digit (x ∷ digits) tail d rest p some e =
     let range = (tells_all_ascii_digits.parts x digits p).0 in
@@ -77,10 +82,12 @@ first_is_digit (x ∷ digits) tail d rest p some e =
     rw same range
 
 -- a number begins with a digit
-pub number_begins : (number : List ℕ) (change d : ℕ) (rest : List ℕ) → number ≡ d ∷ rest → IsNumberAndTail number change → (48 ≤ d) × (d ≤ 57)
-number_begins number change d rest e n = first_is_digit n.digits n.tail d rest n.spells.is_numeral.all n.spells.is_numeral.some (sym e ∙ n.whole)
+pub number_begins : (number : List ℕ) (change d : ℕ) (rest : List ℕ) → number ≡ d ∷ rest → IsNumberAndTail number change
+    → (48 ≤ d) × (d ≤ 57)
+number_begins number change d rest e n =
+    first_is_digit n.digits n.tail d rest n.spells.is_numeral.all n.spells.is_numeral.some (sym e ∙ n.whole)
 
--- ---- what stands before the number
+-- ---- what precedes the number
 
 -- a text with the `+` of `/+/` apart
 pub parted : (project number : List ℕ) → project ++ 47 ∷ 43 ∷ 47 ∷ number ≡ (project ++ 47 ∷ []) ++ 43 ∷ 47 ∷ number
@@ -89,20 +96,24 @@ parted project number = sym (append_assoc project (47 ∷ []) (43 ∷ 47 ∷ num
 tail_same : (c : ℕ) (xs ys : List ℕ) → c ∷ xs ≡ c ∷ ys → xs ≡ ys
 tail_same c xs ys e = cc
 
--- no `/+/` stands in a number and its tail
-pub IsNumberAndTail-no_slash : (number : List ℕ) (change : ℕ) (before after : List ℕ) → IsNumberAndTail number change → number ≢ before ++ 47 ∷ 43 ∷ 47 ∷ after
+-- no `/+/` is in a number and its tail
+pub IsNumberAndTail-no_slash : (number : List ℕ) (change : ℕ) (before after : List ℕ) → IsNumberAndTail number change
+    → number ≢ before ++ 47 ∷ 43 ∷ 47 ∷ after
 IsNumberAndTail-no_slash number change before after n e =
-    Lacks-middle 43 (before ++ 47 ∷ []) (47 ∷ after) (subst (Lacks 43) (e ∙ parted before after) (number_lacks_plus number change n))
+    Lacks-middle 43 (before ++ 47 ∷ []) (47 ∷ after)
+    (subst (Lacks 43) (e ∙ parted before after) (number_lacks_plus number change n))
 
 -- so the last `/+/` ends a project
-project_same : (p q m n : List ℕ) → (p ++ 47 ∷ 43 ∷ 47 ∷ []) ++ m ≡ (q ++ 47 ∷ 43 ∷ 47 ∷ []) ++ n → Lacks 43 m → Lacks 43 n → m ≡ n
+project_same : (p q m n : List ℕ) → (p ++ 47 ∷ 43 ∷ 47 ∷ []) ++ m ≡ (q ++ 47 ∷ 43 ∷ 47 ∷ []) ++ n → Lacks 43 m
+    → Lacks 43 n → m ≡ n
 project_same p q m n e lacks lacks' =
     let apart = λ (r t : List ℕ). append_assoc r (47 ∷ 43 ∷ 47 ∷ []) t ∙ parted r t in
     let same = cut_last 43 (p ++ 47 ∷ []) (47 ∷ m) (q ++ 47 ∷ []) (47 ∷ n) (sym (apart p m) ∙ e ∙ apart q n) ((λ k. cc), lacks) ((λ k. cc), lacks') in
     tail_same 47 m n same.1
 
--- what stands before a number is told by the text
-module _ (f m g n text : List ℕ) (j k : ℕ) (is_number : IsNumberAndTail m j) (is_number' : IsNumberAndTail n k) (left : text ≡ f ++ m) (right : text ≡ g ++ n) where
+-- the text determines what precedes a number
+module _ (f m g n text : List ℕ) (j k : ℕ) (is_number : IsNumberAndTail m j) (is_number' : IsNumberAndTail n k)
+    (left : text ≡ f ++ m) (right : text ≡ g ++ n) where
   from_nothing : f ≡ [] → IsForm g → m ≡ n
   from_nothing none form =
       let alone = left ∙ ap (λ l. l ++ m) none in
@@ -152,18 +163,24 @@ ReadsAs-same base value j k m n =
 
 -- ---- the first base
 
-first_same : {X : Type 0} (P : X → Type 0) (xs : List X) (x : X) (ps ys : List X) (y : X) (qs : List X) → xs ++ x ∷ ps ≡ ys ++ y ∷ qs → P x → P y
+first_same : {X : Type 0} (P : X → Type 0) (xs : List X) (x : X) (ps ys : List X) (y : X) (qs : List X)
+    → xs ++ x ∷ ps ≡ ys ++ y ∷ qs → P x → P y
     → ((z : X) → Contains xs z → ¬ (P z)) → ((z : X) → Contains ys z → ¬ (P z)) → x ≡ y
 first_same P [] x ps [] y qs e p q none none' = cc
-first_same P [] x ps (z ∷ ys) y qs e p q none none' = let same : x ≡ z = cc in absurd (none' z (Contains-first z ys) (subst P same p))
-first_same P (z ∷ xs) x ps [] y qs e p q none none' = let same : y ≡ z = cc in absurd (none z (Contains-first z xs) (subst P same q))
+first_same P [] x ps (z ∷ ys) y qs e p q none none' = let same : x ≡ z = cc in absurd
+    (none' z (Contains-first z ys) (subst P same p))
+first_same P (z ∷ xs) x ps [] y qs e p q none none' = let same : y ≡ z = cc in absurd
+    (none z (Contains-first z xs) (subst P same q))
 first_same P (z ∷ xs) x ps (w ∷ ys) y qs e p q none none' =
     let tail : xs ++ x ∷ ps ≡ ys ++ y ∷ qs = cc in
-    first_same P xs x ps ys y qs tail p q (λ v c. none v (Contains-append_right (z ∷ []) xs v c)) (λ v c. none' v (Contains-append_right (w ∷ []) ys v c))
+    first_same P xs x ps ys y qs tail p q (λ v c. none v (Contains-append_right (z ∷ []) xs v c))
+    (λ v c. none' v (Contains-append_right (w ∷ []) ys v c))
 
 -- a value names one change at most
-pub NamesChange-same : (bases : List (List ℕ)) (value : List ℕ) (j k : ℕ) → NamesChange bases value j → NamesChange bases value k → j ≡ k
+pub NamesChange-same : (bases : List (List ℕ)) (value : List ℕ) (j k : ℕ) → NamesChange bases value j
+    → NamesChange bases value k → j ≡ k
 NamesChange-same bases value j k m n =
-    let same = first_same (λ b. (i : ℕ) × ReadsAs b value i) m.before m.base m.after n.before n.base n.after (sym m.whole ∙ n.whole) (j, m.reads) (k, n.reads)
+    let same = first_same (λ b. (i : ℕ) × ReadsAs b value i) m.before m.base m.after n.before n.base n.after
+    (sym m.whole ∙ n.whole) (j, m.reads) (k, n.reads)
     (λ b c r. m.first b r.0 c r.1) (λ b c r. n.first b r.0 c r.1) in
     ReadsAs-same m.base value j k m.reads (subst (λ b. ReadsAs b value k) (sym same) n.reads)

@@ -21,7 +21,8 @@ pub record SpellsChange (digits : List ℕ) (change : ℕ) : Type 0 where
 
 -- what may follow the `/` after a change's number: nothing, a patch set's number, or such a number and a `/`
 abbrev pub IsPatch : List ℕ → Type 0
-IsPatch patch = (patch ≡ []) ⊎ (IsNumeral patch ⊎ ((digits : List ℕ) × IsNumeral digits × (patch ≡ digits ++ codes "/")))
+IsPatch patch =
+    (patch ≡ []) ⊎ (IsNumeral patch ⊎ ((digits : List ℕ) × IsNumeral digits × (patch ≡ digits ++ codes "/")))
 
 -- what may follow a change's number: nothing, or a `/` and what may follow that
 abbrev pub IsTail : List ℕ → Type 0
@@ -35,7 +36,7 @@ pub record IsNumberAndTail (text : List ℕ) (change : ℕ) : Type 0 where
   pub spells : SpellsChange digits change
   pub is_tail : IsTail tail
 
--- what may stand between a base and a change's number: nothing, `#/c/`, or `c/`, a project and `/+/`. No `+` follows
+-- what may be between a base and a change's number: nothing, `#/c/`, or `c/`, a project and `/+/`. No `+` follows
 -- in a number and its tail, so it is the last `/+/` that ends the project.
 abbrev pub IsForm : List ℕ → Type 0
 IsForm form = (form ≡ []) ⊎ ((form ≡ codes "#/c/")

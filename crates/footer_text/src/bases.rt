@@ -1,8 +1,10 @@
-ghost use Rattle.std.specs.Prelude.{◌≡◌, ℕ, ◌↔◌, List, length, map, string_bytes, slice_get, IsTrue, IfOk, MatchOption, option_map};
+ghost use Rattle.std.specs.Prelude.{◌≡◌, ℕ, ◌↔◌, List, length, map, string_bytes, slice_get, IsTrue, IfOk, MatchOption};
+ghost use Rattle.std.specs.Prelude.{option_map};
 ghost use Rattle.std.specs.List.{All};
 ghost use Rattle.std.specs.Slice.Iter.{iter_rest};
 ghost use Rattle.footer_text.specs.Readings.{NamesChange};
-ghost use Rattle.footer_text.specs.Bases.{IsGraphic, IsBase, AreBases, IsFirstBad, IsBasesAnswer, bases_fault_number, bases_fault_name};
+ghost use Rattle.footer_text.specs.Bases.{IsGraphic, IsBase, AreBases, IsFirstBad, IsBasesAnswer, bases_fault_number};
+ghost use Rattle.footer_text.specs.Bases.{bases_fault_name};
 
 use super::reading::read_value;
 use lattice_core::NoMemory;
@@ -48,7 +50,7 @@ const MOST_BASES: usize = 8;
 
 const LONGEST_BASE: usize = 256;
 
-/// What may stand before a change's number in a footer's value: one to eight texts, each of 1 to
+/// What may precede a change's number in a footer's value: one to eight texts, each of 1 to
 /// 256 bytes from 0x21 to 0x7E, the last of which is `/`. They are tried in their order.
 #[derive(Debug, Drop)]
 pub struct Bases<A: Allocator = Global> {

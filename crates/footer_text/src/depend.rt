@@ -13,7 +13,7 @@ use std::alloc::{Allocator, Global};
 pub struct Footers<'m, A: Allocator = Global> {
     /// The other changes that they name, increasing, each once.
     pub needs: Vec<u32, A>,
-    /// The values that name no change, or the message's own, as they stand in the message, in the
+    /// The values that name no change, or the message's own, as they are in the message, in the
     /// order of its lines.
     pub ignored: Vec<&'m str, A>,
 }
@@ -42,7 +42,7 @@ pub fn depends<'m, A: Allocator + Copy>(
     Ok(found)
 }
 
-// Adds what a line says to what the lines before it said, with the needs in their order.
+// Adds what a line names to what the lines before it named, with the needs in their order.
 fn add_line<'m, A: Allocator + Copy>(
     bases: &Bases<A>,
     own: u32,

@@ -11,7 +11,7 @@ pub(crate) fn read_value(base: &str, value: &str) -> Option<u32>
     read_number(after_form(value.strip_prefix(base)?)?)
 }
 
-// What follows what may stand between a base and a number.
+// What follows what may be between a base and a number.
 fn after_form(text: &str) -> Option<&str>
     ensures form { IfSome result
         (λ number. (form : List ℕ) × IsForm form × (text.now ≡ form ++ number.now)) }
@@ -28,7 +28,7 @@ fn after_form(text: &str) -> Option<&str>
     }
 }
 
-// What follows a project, which isn't empty, and `/+/`. The last `/+/` ends it: no `+` stands in
+// What follows a project, which isn't empty, and `/+/`. The last `/+/` ends it: no `+` is in
 // what follows.
 fn after_project(text: &str) -> Option<&str>
     ensures project { IfSome result (λ number. (project : List ℕ) × (project ≢ [])

@@ -1,5 +1,6 @@
--- Whether good bases stand under their key.
-use Rattle.std.proofs.Common.{◌≡◌, ◌⊎◌, inl, inr, ℕ, ◌≤◌, List, [], length, map, true, false, Option, Some, None, is_some, unwrap_or, codes, refl, sym, ap, ◌∙◌, subst, arith}
+-- Whether good bases are under their key.
+use Rattle.std.proofs.Common.{◌≡◌, ◌⊎◌, inl, inr, ℕ, ◌≤◌, List, [], length, map, true, false, Option, Some, None}
+use Rattle.std.proofs.Common.{is_some, unwrap_or, codes, refl, sym, ap, ◌∙◌, subst, arith}
 use Rattle.std.proofs.lemmas.Bool.{false≢true}
 use Rattle.std.proofs.lemmas.Option.{slice_get_within, unwrap_or-slice_get}
 use Rattle.std.specs.List.{All, slice_get}
@@ -14,12 +15,15 @@ use Rattle.gate_rules.proofs.Lists.{list_of-items_of}
 
 -- a bad text isn't among bases
 all_get : {X : Type 0} (P : X → Type 0) (xs : List X) (i : ℕ) (x : X) → All P xs → slice_get xs i ≡ Some x → P x
-all_get P xs i x all h = subst P (sym (unwrap_or-slice_get xs i x) ∙ ap (λ o. unwrap_or o x) h) (all i x (slice_get_within xs i x h))
+all_get P xs i x all h =
+    subst P (sym (unwrap_or-slice_get xs i x) ∙ ap (λ o. unwrap_or o x) h) (all i x (slice_get_within xs i x h))
 
 none_here : (texts : List (List ℕ)) (place : ℕ) → AreBases texts → ¬ ((texts ≡ []) × (place ≡ 0))
-none_here texts place are h = let some : 1 ≤ length {A = List ℕ} [] = subst (λ xs. 1 ≤ length xs) h.0 are.some in omega (arith, some)
+none_here texts place are h = let some : 1 ≤ length {A = List ℕ} [] = subst (λ xs. 1 ≤ length xs) h.0 are.some in omega
+    (arith, some)
 
-one_here : (texts : List (List ℕ)) (place : ℕ) (text : List ℕ) → AreBases texts → slice_get texts place ≡ Some text → ¬ ((place ≡ 8) ⊎ ¬ (IsBase text))
+one_here : (texts : List (List ℕ)) (place : ℕ) (text : List ℕ) → AreBases texts → slice_get texts place ≡ Some text
+    → ¬ ((place ≡ 8) ⊎ ¬ (IsBase text))
 one_here texts place text are is (inl h) = omega (arith, h, are.few, slice_get_within texts place text is)
 one_here texts place text are is (inr h) = h (all_get IsBase texts place text are.each is)
 
@@ -30,7 +34,7 @@ either_here texts place are (inr h) = one_here texts place h.0 are h.1 h.2
 pub not_bases : (texts : List (List ℕ)) (place : ℕ) → IsFirstBad texts place → ¬ AreBases texts
 not_bases texts place bad are = either_here texts place are bad.here
 
--- ---- what stands under the key
+-- ---- what is under the key
 
 array_is : (d : Data) (items : Items) → as_array d ≡ Some items → d ≡ array items
 array_is (array ds) items is = let same : ds ≡ items = cc in ap array same
@@ -51,10 +55,13 @@ module _ (ms : Members) (d : Data) (found : Some d ≡ get_member (codes "bases"
     pub no_texts : each is_text (map view values) ≡ false → (bases : List (List ℕ)) → ¬ HasBases ms bases
     no_texts bad bases has = false≢true (sym bad ∙ ap (each is_text) (sym (listed_items bases has)) ∙ has.texts)
 
-    pub no_bases : (place : ℕ) → IsFirstBad (texts_of (map view values)) place → (bases : List (List ℕ)) → ¬ HasBases ms bases
-    no_bases place bad bases has = not_bases (texts_of (map view values)) place bad (subst AreBases (has.same ∙ ap texts_of (listed_items bases has)) has.good)
+    pub no_bases : (place : ℕ) → IsFirstBad (texts_of (map view values)) place → (bases : List (List ℕ))
+        → ¬ HasBases ms bases
+    no_bases place bad bases has = not_bases (texts_of (map view values)) place bad
+        (subst AreBases (has.same ∙ ap texts_of (listed_items bases has)) has.good)
 
-    pub has_bases : each is_text (map view values) ≡ true → (bases : List (List ℕ)) → bases ≡ texts_of (map view values) → AreBases bases → HasBases ms bases
+    pub has_bases : each is_text (map view values) ≡ true → (bases : List (List ℕ)) → bases ≡ texts_of (map view values)
+        → AreBases bases → HasBases ms bases
     has_bases texts bases same good = record {
       items = items_view values;
       list = sym found ∙ ap Some (array_is d (items_view values) (sym is));
@@ -64,6 +71,8 @@ module _ (ms : Members) (d : Data) (found : Some d ≡ get_member (codes "bases"
     }
 
 -- whether they were found
-pub bases_told : (ms : Members) (found : Option (List (List ℕ))) → MatchOption found ((bases : List (List ℕ)) → ¬ HasBases ms bases) (HasBases ms) → IsTrue (is_some found) ↔ ((bases : List (List ℕ)) × HasBases ms bases)
+pub bases_told : (ms : Members) (found : Option (List (List ℕ)))
+    → MatchOption found ((bases : List (List ℕ)) → ¬ HasBases ms bases) (HasBases ms)
+    → IsTrue (is_some found) ↔ ((bases : List (List ℕ)) × HasBases ms bases)
 bases_told ms None h = ((λ t. absurd (false≢true t)), (λ has. absurd (h has.0 has.1)))
 bases_told ms (Some bases) h = ((λ t. (bases, h)), (λ has. refl))

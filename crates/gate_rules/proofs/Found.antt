@@ -17,7 +17,8 @@ module _ {A : Type 0} (judge : A → Option Fault) (x : A) (xs : List A) where
     none_before = All-cons (λ y. judge y ≡ None) x found.before none found.none_before;
   }
 
-  found_at : (here : Option Fault) (later : Option Fault) → judge x ≡ here → FindsFirst judge xs later → FindsFirst judge (x ∷ xs) (or_later here later)
+  found_at : (here : Option Fault) (later : Option Fault) → judge x ≡ here → FindsFirst judge xs later
+      → FindsFirst judge (x ∷ xs) (or_later here later)
   found_at None later is found = later_fault later is found
   found_at (Some fault) later is found = record {
     before = [];
@@ -30,8 +31,10 @@ module _ {A : Type 0} (judge : A → Option Fault) (x : A) (xs : List A) where
 
 pub finds_first_member : FindsFirstMember
 finds_first_member judge no_members = All-nil (λ m. judge m.0 m.1 ≡ None)
-finds_first_member judge (member key d ms) = found_at (λ m. judge m.0 m.1) (key, d) (members_of ms) (judge key d) (first_fault judge ms) refl (finds_first_member judge ms)
+finds_first_member judge (member key d ms) = found_at (λ m. judge m.0 m.1) (key, d) (members_of ms) (judge key d)
+    (first_fault judge ms) refl (finds_first_member judge ms)
 
 pub finds_first_item : FindsFirstItem
 finds_first_item judge [] = All-nil (λ d. judge d ≡ None)
-finds_first_item judge (d ∷ ds) = found_at judge d ds (judge d) (first_in_list judge ds) refl (finds_first_item judge ds)
+finds_first_item judge (d ∷ ds) =
+    found_at judge d ds (judge d) (first_in_list judge ds) refl (finds_first_item judge ds)

@@ -1,5 +1,6 @@
 -- A number that is read fits 8 bits.
-use Rattle.std.proofs.Common.{◌≡◌, ℤ, Bool, true, false, ◌&&◌, Option, Some, None, is_some, refl, ap, subst, rules, pos, negsuc}
+use Rattle.std.proofs.Common.{◌≡◌, ℤ, Bool, true, false, ◌&&◌, Option, Some, None, is_some, refl, ap, subst, rules, pos}
+use Rattle.std.proofs.Common.{negsuc}
 use Rattle.std.proofs.lemmas.Bool.{false≢true}
 use Rattle.std.proofs.lemmas.Float.{T_from_true}
 use Rattle.std.specs.Prelude.{option_and_then, FitsSigned, int_le, if◌then◌else◌}
@@ -13,7 +14,8 @@ both : (a b : Bool) → (a && b) ≡ true → (a ≡ true) × (b ≡ true)
 both true b h = (refl, h)
 both false b h = absurd (false≢true h)
 
-kept_fits : (b : Bool) (z v : ℤ) → (b ≡ true → FitsSigned w8 z) → (if b then Some z else None) ≡ Some v → FitsSigned w8 v
+kept_fits : (b : Bool) (z v : ℤ) → (b ≡ true → FitsSigned w8 z) → (if b then Some z else None) ≡ Some v
+    → FitsSigned w8 v
 kept_fits false z v fits is = absurd (false≢true (ap is_some is))
 kept_fits true z v fits is = let same : z ≡ v = cc in subst (FitsSigned w8) same (fits refl)
 

@@ -23,7 +23,8 @@ FindsFirst judge xs found = MatchOption found (All (λ x. judge x ≡ None) xs) 
 
 -- an object's fault is at a member, and no member before it has one
 abbrev pub FindsFirstMember : Type 0
-FindsFirstMember = (judge : List ℕ → Data → Option Fault) (ms : Members) → FindsFirst (λ m. judge m.0 m.1) (members_of ms) (first_fault judge ms)
+FindsFirstMember = (judge : List ℕ → Data → Option Fault) (ms : Members)
+    → FindsFirst (λ m. judge m.0 m.1) (members_of ms) (first_fault judge ms)
 
 -- a list's fault is at an item, and no item before it has one
 abbrev pub FindsFirstItem : Type 0

@@ -1,7 +1,8 @@
--- An item's own condition: the first condition of a gate that it breaks. The conditions and what they compare are those of
--- Zuul's Gerrit driver (zuul-ci.org/docs, "Gerrit"); their order, and what an empty approval and one with two labels match,
--- are this project's own.
-use Rattle.std.specs.Prelude.{◌≡◌, ◌≢◌, ◌<◌, ℕ, zero, suc, ◌==◌, List, [], ◌∷◌, Bool, true, false, not, ◌&&◌, nat_lt, Option, Some, None, MatchOption, option_map, slice_get, if◌then◌else◌}
+-- An item's own condition: the first condition of a gate that it breaks. The conditions and what they compare are those
+-- of Zuul's Gerrit driver (zuul-ci.org/docs, "Gerrit"); their order, and what an empty approval and one with two labels
+-- match, are this project's own.
+use Rattle.std.specs.Prelude.{◌≡◌, ◌≢◌, ◌<◌, ℕ, zero, suc, ◌==◌, List, [], ◌∷◌, Bool, true, false, not, ◌&&◌, nat_lt}
+use Rattle.std.specs.Prelude.{Option, Some, None, MatchOption, option_map, slice_get, if◌then◌else◌}
 use Rattle.std.specs.Ordering.{int_eq}
 use Rattle.std.specs.Str.{bytes_eq}
 use Rattle.std.specs.FinMap as finite
@@ -33,7 +34,7 @@ is_new New = true
 is_new Abandoned = false
 is_new Merged = false
 
--- how a patch set of a change with this current patch set stands
+-- the standing of a patch set of a change with this current patch set
 abbrev pub standing_of : Change → ℕ → ℕ → ItemStanding
 standing_of change current set = record {
   status = status_name (status_of change);
@@ -80,7 +81,8 @@ abbrev pub compared : SideRules → ItemStanding → Clause → Option Bool
 compared rules standing OpenState = option_map (same_flag standing.is_open) rules.is_open
 compared rules standing CurrentSet = option_map (same_flag standing.is_current) rules.is_current
 compared rules standing StatusIn = option_map (some (bytes_eq standing.status)) rules.status
-compared rules standing (Approval k) = option_map (λ pattern. some (matches pattern) standing.approvals) (approval_at rules.approvals k)
+compared rules standing (Approval k) =
+    option_map (λ pattern. some (matches pattern) standing.approvals) (approval_at rules.approvals k)
 
 abbrev pub side_rules : GateRules → Side → SideRules
 side_rules gate Require = gate.require
@@ -92,7 +94,8 @@ breaking Require = false
 breaking Reject = true
 
 abbrev pub IsBroken : GateRules → ItemStanding → Condition → Type 0
-IsBroken gate standing condition = compared (side_rules gate condition.side) standing condition.clause ≡ Some (breaking condition.side)
+IsBroken gate standing condition =
+    compared (side_rules gate condition.side) standing condition.clause ≡ Some (breaking condition.side)
 
 -- ---- their order
 
@@ -134,7 +137,7 @@ pub record IsFirstBroken (gate : GateRules) (standing : ItemStanding) (condition
   pub here : IsBroken gate standing condition
   pub first : (other : Condition) → before other condition ≡ true → ¬ IsBroken gate standing other
 
--- an item's own condition, over the state that its change stands in: the first that it breaks, or none where it breaks none
+-- an item's own condition, over the state of its change: the first that it breaks, or none where it breaks none
 abbrev pub IsOwn : GateRules → State → Item → Option Condition → Type 0
 IsOwn gate state item own =
     (change : Change) (current : ℕ) → finite.get state item.change ≡ Some change → IsGreatestKnown change current

@@ -1,9 +1,12 @@
--- What an object of a gate file sets, by what stands under each key.
-use Rattle.std.specs.Prelude.{◌≡◌, ℕ, ℤ, negsuc, pos, int_le, List, [], ◌∷◌, map, Bool, true, false, ◌&&◌, if◌then◌else◌, Option, Some, None, option_map, option_and_then, is_some, unwrap_or, codes, filter_map}
+-- What an object of a gate file sets, by the value under each key.
+use Rattle.std.specs.Prelude.{◌≡◌, ℕ, ℤ, negsuc, pos, int_le, List, [], ◌∷◌, map, Bool, true, false, ◌&&◌}
+use Rattle.std.specs.Prelude.{if◌then◌else◌, Option, Some, None, option_map, option_and_then, is_some, unwrap_or, codes}
+use Rattle.std.specs.Prelude.{filter_map}
 use Rattle.std.specs.Char.{to_ascii_lowercase}
 use Rattle.std.specs.Str.{bytes_eq}
 use Rattle.footer_text.specs.Bases.{AreBases}
-use Rattle.serde_json.specs.Data.{Data, null, boolean, number, string, array, object, Items, no_items, item, Members, no_members, member}
+use Rattle.serde_json.specs.Data.{Data, null, boolean, number, string, array, object, Items, no_items, item, Members}
+use Rattle.serde_json.specs.Data.{no_members, member}
 use Rattle.serde_json.specs.Find.{get_member, as_bool, as_number, as_str, as_object, as_i64}
 use Rattle.gate_rules.specs.Rules.{LabelRule, PatternRule, SideRules, GateRules}
 
@@ -49,7 +52,7 @@ texts_of ds = filter_map as_str ds
 abbrev pub votes_of : List Data → List ℤ
 votes_of ds = filter_map vote_in ds
 
--- ---- what stands under a key
+-- ---- the value under a key
 
 abbrev pub text_under : List ℕ → Members → Option (List ℕ)
 text_under key ms = option_and_then as_str (get_member key ms)
@@ -70,7 +73,11 @@ listed_or_none (Some d) = listed d
 -- each key of an approval but `username` is a label, which is compared in lower case
 abbrev pub labels_of : Members → List LabelRule
 labels_of no_members = []
-labels_of (member key d ms) = if bytes_eq key (codes "username") then labels_of ms else record { label = map to_ascii_lowercase key; values = votes_of (listed d) } ∷ labels_of ms
+labels_of (member key d ms) =
+    if bytes_eq key (codes "username") then labels_of ms else record {
+      label = map to_ascii_lowercase key;
+      values = votes_of (listed d);
+    } ∷ labels_of ms
 
 abbrev pub pattern_of : Members → PatternRule
 pattern_of ms = record { username = text_under (codes "username") ms; labels = labels_of ms }
@@ -90,9 +97,10 @@ conditions_of ms = record {
 abbrev pub connection_of : Members → List ℕ
 connection_of ms = unwrap_or (text_under (codes "connection") ms) (codes "gerrit")
 
--- a side's conditions stand under the connection's name
+-- a side's conditions are under the connection's name
 abbrev pub side_of : List ℕ → Members → SideRules
-side_of key ms = conditions_of (unwrap_or (option_and_then (object_under (connection_of ms)) (object_under key ms)) no_members)
+side_of key ms =
+    conditions_of (unwrap_or (option_and_then (object_under (connection_of ms)) (object_under key ms)) no_members)
 
 -- the bases are the texts of a list, which `Bases::new` accepts
 pub record HasBases (ms : Members) (bases : List (List ℕ)) : Type 0 where

@@ -38,7 +38,7 @@ IsRefusalOf text (fault.BadValue key) = IsFirstFault text (flaw.Bad, string_byte
 IsRefusalOf text (fault.Unsupported key) = IsFirstFault text (flaw.Unsupported, string_bytes key)
 IsRefusalOf text fault.NoMemory = Unit {0}
 
--- the refusal tells the fault, unless memory was refused
+-- the refusal names the fault, unless memory was refused
 abbrev pub NamesFault : GateFault → Fault → Type 0
 NamesFault fault.NotJson found = ⊥
 NamesFault (fault.UnknownKey key) found = (flaw.Unknown, string_bytes key) ≡ found

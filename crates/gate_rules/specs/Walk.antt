@@ -1,6 +1,7 @@
--- The first fault of a gate file: its members are visited depth first, those of an object in byte order of their keys, those
--- of a list in order, and at each the key is judged before its value. The order is this project's own.
-use Rattle.std.specs.Prelude.{ℕ, List, [], ◌∷◌, length, Bool, true, false, ◌&&◌, ◌||◌, nat_le, nat_eq, if◌then◌else◌, Option, Some, None, codes}
+-- The first fault of a gate file: its members are visited depth first, those of an object in byte order of their keys,
+-- those of a list in order, and at each the key is judged before its value. The order is this project's own.
+use Rattle.std.specs.Prelude.{ℕ, List, [], ◌∷◌, length, Bool, true, false, ◌&&◌, ◌||◌, nat_le, nat_eq, if◌then◌else◌}
+use Rattle.std.specs.Prelude.{Option, Some, None, codes}
 use Rattle.std.specs.Char.{is_ascii_alphanumeric}
 use Rattle.std.specs.Str.{bytes_eq}
 use Rattle.serde_json.specs.Data.{Data, null, boolean, number, string, array, object, Members, no_members, member}
@@ -95,7 +96,8 @@ condition_fault key d = condition_value (condition_key key) key d
 -- ---- a side: its one member is named by the connection
 
 abbrev pub side_fault : List ℕ → List ℕ → Data → Option Fault
-side_fault connection key d = if bytes_eq key connection then object_fault condition_fault key d else Some (Unsupported, key)
+side_fault connection key d =
+    if bytes_eq key connection then object_fault condition_fault key d else Some (Unsupported, key)
 
 -- ---- the gate
 
@@ -114,6 +116,8 @@ gate_value connection has_bases gate.Connection key d = good_or_bad (is_text d) 
 gate_value connection has_bases gate.Side key d = object_fault (side_fault connection) key d
 gate_value connection has_bases gate.Unknown key d = Some (Unknown, key)
 
--- `has_bases` says whether good bases stand under their key. Where they are missing, that is named last.
+-- `has_bases` says whether good bases are under their key. Where they are missing, that is named last.
 abbrev pub gate_fault : Bool → Members → Option Fault
-gate_fault has_bases ms = or_later (first_fault (λ key d. gate_value (connection_of ms) has_bases (gate_key key) key d) ms) (good_or_bad has_bases (codes "bases"))
+gate_fault has_bases ms = or_later
+    (first_fault (λ key d. gate_value (connection_of ms) has_bases (gate_key key) key d) ms)
+    (good_or_bad has_bases (codes "bases"))

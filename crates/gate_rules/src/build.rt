@@ -1,10 +1,12 @@
-ghost use Rattle.std.specs.Prelude.{◌≡◌, ◌↔◌, ◌⊎◌, ℕ, List, Some, IfOk, IfErr, IsSome, IsNone, MatchOption, map, option_map, string_bytes};
+ghost use Rattle.std.specs.Prelude.{◌≡◌, ◌↔◌, ◌⊎◌, ℕ, List, Some, IfOk, IfErr, IsSome, IsNone, MatchOption, map};
+ghost use Rattle.std.specs.Prelude.{option_map, string_bytes};
 ghost use Rattle.std.specs.Char.{to_ascii_lowercase};
 ghost use Rattle.serde_json.specs.Data.{Members, no_members};
 ghost use Rattle.serde_json.specs.Errors.{IsMemory};
 ghost use Rattle.serde_json.specs.Find.{get_member};
 ghost use Rattle.serde_json.specs.View.{view, members_view};
-ghost use Rattle.gate_rules.specs.Reading.{HasBases, listed, texts_of, votes_of, labels_of, pattern_of, patterns_of, conditions_of, listed_or_none, side_of, gate_of};
+ghost use Rattle.gate_rules.specs.Reading.{HasBases, listed, texts_of, votes_of, labels_of, pattern_of, patterns_of};
+ghost use Rattle.gate_rules.specs.Reading.{conditions_of, listed_or_none, side_of, gate_of};
 ghost use Rattle.gate_rules.specs.Spelling.{IsObject, SpellsGate, IsRefusalOf, NamesFault};
 
 use super::fault::GateFault;

@@ -1,7 +1,9 @@
-ghost use Rattle.std.specs.Prelude.{◌≡◌, ◌≢◌, ℕ, List, Some, IfOk, IfErr, MatchOption, MatchResult, map, option_map, string_bytes};
+ghost use Rattle.std.specs.Prelude.{◌≡◌, ◌≢◌, ℕ, List, Some, IfOk, IfErr, MatchOption, MatchResult, map, option_map};
+ghost use Rattle.std.specs.Prelude.{string_bytes};
 ghost use Rattle.gate_rules.specs.Rules.{LabelRule, PatternRule, SideRules, GateRules};
 ghost use Rattle.change_core.specs.VoteShown.{approval_shown};
-ghost use Rattle.gate_rules.specs.Own.{takes, names, labels_take, matches, compared, IsFirstApproval, IsFirstWith, IsBroken, IsFirstBroken, IsOwn};
+ghost use Rattle.gate_rules.specs.Own.{takes, names, labels_take, matches, compared, IsFirstApproval, IsFirstWith};
+ghost use Rattle.gate_rules.specs.Own.{IsBroken, IsFirstBroken, IsOwn};
 ghost use Rattle.state_core.specs.Items.{IsItem};
 ghost use Rattle.gate_rules.specs.Spelling.{SpellsGate, IsRefusalOf};
 
@@ -263,9 +265,9 @@ impl Clauses {
 }
 
 impl Gate {
-    /// An item's own condition: the first condition that it breaks. What is required must hold, and what is rejected must
-    /// not. The order is `open`, `current-patchset`, `status` and each approval of what is required, then the same of what
-    /// is rejected. It takes no memory, and costs the votes on the change times the patterns.
+    /// An item's own condition: the first condition that it breaks. What is required must hold, and what is rejected
+    /// must not. The order is `open`, `current-patchset`, `status` and each approval of what is required, then the same
+    /// of what is rejected. It takes no memory, and costs the votes on the change times the patterns.
     pub fn own(&self, state: &State, item: Item) -> Option<Condition>
         requires { IsItem state.now item }
         ensures { IsOwn self.now state.now item result }
@@ -318,11 +320,12 @@ impl Gate {
         }
     }
 
-    /// Reads the text of a gate file. What the text spells is read, unless memory runs out. Refusals: 1 `NotJson`, the bytes
-    /// aren't UTF-8 or aren't the text of one JSON object; otherwise the first fault, where members are visited depth
-    /// first, those of an object in byte order of their keys, those of a list in order, and at each the key is judged
-    /// before its value: 2 `UnknownKey`, 3 `BadValue`, 4 `Unsupported`, each with the key (for a member of a list that of the
-    /// list; missing `bases` are a bad value, named last); 5 `NoMemory`. It costs the length of the text.
+    /// Reads the text of a gate file. What the text spells is read, unless memory runs out. Refusals: 1 `NotJson`, the
+    /// bytes aren't UTF-8 or aren't the text of one JSON object; otherwise the first fault, where members are visited
+    /// depth first, those of an object in byte order of their keys, those of a list in order, and at each the key is
+    /// judged before its value: 2 `UnknownKey`, 3 `BadValue`, 4 `Unsupported`, each with the key (for a member of a
+    /// list that of the list; missing `bases` are a bad value, named last); 5 `NoMemory`. It costs the length of the
+    /// text.
     pub fn read(alloc: Global, bytes: &[u8]) -> Result<Gate, GateFault>
         ensures spelled { IfOk result (SpellsGate bytes.now) }
         ensures refused { IfErr result (IsRefusalOf bytes.now) }
@@ -334,7 +337,7 @@ impl Gate {
         read_gate(alloc, bytes)
     }
 
-    /// What may stand before a change's number in a footer.
+    /// What may precede a change's number in a footer.
     pub fn bases(&self) -> &Bases
         ensures { result.now ≡ self.now.bases }
     {

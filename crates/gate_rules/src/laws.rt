@@ -1,8 +1,8 @@
 //! Laws about what the contracts of this crate cite. A call does nothing.
 ghost use Rattle.gate_rules.specs.FirstFaults.{FindsFirstMember, FindsFirstItem};
 
-/// The fault that the walk finds at an object is at one of its members, and no member before that has one; where it finds
-/// none, no member has one. The same holds of the items of a list.
+/// The fault that the walk finds at an object is at one of its members, and no member before that has one; where it
+/// finds none, no member has one. The same holds of the items of a list.
 pub fn the_first_fault_is_found()
     ensures members { FindsFirstMember }
     ensures items { FindsFirstItem }

@@ -9,8 +9,8 @@
 //! | `allow-circular-dependencies` | a boolean; false where it is absent |
 //! | `require`, `reject` | an object whose one possible member, named by the connection, is an object of conditions |
 //!
-//! The conditions are those of Zuul's Gerrit driver: `open` and `current-patchset` (booleans), `status` (a text or a list
-//! of texts), and `approval` (an object or a list of objects). An absent condition demands nothing. In an approval
+//! The conditions are those of Zuul's Gerrit driver: `open` and `current-patchset` (booleans), `status` (a text or a
+//! list of texts), and `approval` (an object or a list of objects). An absent condition demands nothing. In an approval
 //! `username` is a text, and any other key of 1 to 64 ASCII letters, digits and `-` is a label, whose value is a whole
 //! number from -128 to 127 or a list of such numbers. `wip`, `hashtags`, `email`, `older-than` and `newer-than`, which
 //! Zuul has, are refused as not supported.

@@ -27,7 +27,7 @@ impl<'a> Model for Standing<'a> {
 }
 
 impl<'a> Standing<'a> {
-    /// The standing of a patch set of the change, whose current patch set is given.
+    /// The standing of a patch set of the change, by its current patch set.
     pub fn new(change: &'a ChangeState, current: u32, set: u32) -> Standing<'a>
         ensures { result ≡ standing_of change.now current set }
     {

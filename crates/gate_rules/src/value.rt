@@ -1,7 +1,8 @@
 ghost use Rattle.std.specs.Prelude.{◌≡◌, map, option_map};
 ghost use Rattle.serde_json.specs.Find.{get_member};
 ghost use Rattle.serde_json.specs.View.{view, members_view};
-ghost use Rattle.gate_rules.specs.Reading.{listed, each, is_text, is_flag, is_vote, vote_in, text_under, flag_under, object_under};
+ghost use Rattle.gate_rules.specs.Reading.{listed, each, is_text, is_flag, is_vote, vote_in, text_under, flag_under};
+ghost use Rattle.gate_rules.specs.Reading.{object_under};
 
 use serde_json::{Map, Value};
 use std::slice;
@@ -51,7 +52,7 @@ pub fn are_votes(values: &[Value]) -> bool
     true
 }
 
-/// What stands under a key.
+/// The value under a key.
 pub fn found<'a>(members: &'a Map<String, Value>, key: &str) -> Option<&'a Value>
     ensures { option_map (λ value. view value.now) result
         ≡ get_member key.now (members_view members.now.entries) }

@@ -2,7 +2,8 @@ ghost use Rattle.std.specs.Prelude.{◌≡◌, ℕ, List, Option, map, option_ma
 ghost use Rattle.serde_json.specs.Data.{Data};
 ghost use Rattle.serde_json.specs.View.{view, members_view};
 ghost use Rattle.gate_rules.specs.Reading.{connection_of};
-ghost use Rattle.gate_rules.specs.Walk.{Fault, first_fault, first_in_list, good_or_bad, object_fault, approval_fault, condition_fault, side_fault, gate_value, gate_key, gate_fault};
+ghost use Rattle.gate_rules.specs.Walk.{Fault, first_fault, first_in_list, good_or_bad, object_fault, approval_fault};
+ghost use Rattle.gate_rules.specs.Walk.{condition_fault, side_fault, gate_value, gate_key, gate_fault};
 
 use super::keys::{ApprovalKey, ConditionKey, GateKey};
 use super::value::{are_texts, are_votes, listed, text_at};

@@ -1,4 +1,4 @@
--- A pull that ended well leaves its site with all that the last answer said.
+-- A pull that ended well leaves its site with all that the last answer held.
 use Rattle.std.proofs.Common.{◌≡◌, ◌≤◌, ℕ, Bool, true, false, List, [], ◌∷◌, ◌++◌, sym, ap, ◌∙◌, subst}
 use Rattle.gossip_line.specs.Pull.{EndWith, PullsWell, Round, Takes, TakesAll, ops_in}
 use Rattle.gossip_line.specs.Session.{Moment}
@@ -13,11 +13,12 @@ use Rattle.site_port.specs.Ports.{lacked, lacks}
 use Rattle.site_port.specs.Sinks.{hands, took}
 
 -- the last of the rounds was taken after the others
-last_taken : (old new : OwnState) (earlier : List Round) (last : Round) → TakesAll OwnSinks old (earlier ++ last ∷ []) new → (mid : OwnState) × Takes OwnSinks mid last new
+last_taken : (old new : OwnState) (earlier : List Round) (last : Round)
+    → TakesAll OwnSinks old (earlier ++ last ∷ []) new → (mid : OwnState) × Takes OwnSinks mid last new
 last_taken old new [] last all = (old, subst (λ now. Takes OwnSinks old last now) (sym all.2) all.1)
 last_taken old new (round ∷ rounds) last all = last_taken all.0 new rounds last all.2
 
--- what the last round said is what the rounds end with
+-- what the last round reported is what the rounds end with
 last_says : (earlier : List Round) (last : Round) (more : Bool) → EndWith (earlier ++ last ∷ []) more → last.more ≡ more
 last_says [] last more ends = ends
 last_says (round ∷ []) last more ends = ends.1
@@ -25,11 +26,13 @@ last_says (round ∷ next ∷ rounds) last more ends = last_says (next ∷ round
 
 -- the law of one answer
 abbrev pub PassesOn : Type 0
-PassesOn = (port later sink after : OwnState) (front : Reaches) (ops : List Operation) → IsFront sink.journal front → OwnGives port (lacks front) (lacked ops false) later
+PassesOn = (port later sink after : OwnState) (front : Reaches) (ops : List Operation) → IsFront sink.journal front
+    → OwnGives port (lacks front) (lacked ops false) later
     → OwnSinks sink (hands ops) took after → ((op : Operation) → has port.journal op ≡ true → 1 ≤ op.stamp.seq)
     → ((op twin : Operation) → has port.journal op ≡ true → has sink.journal twin ≡ true → AreTwins op.stamp twin.stamp → op ≡ twin) → IsPartOf port.journal after.journal
 
-pub all_passed_on : PassesOn → (limit most : ℕ) (before after : Moment OwnState) (pulled : Pulled) (pull : PullsWell OwnSinks limit most before after pulled)
+pub all_passed_on : PassesOn → (limit most : ℕ) (before after : Moment OwnState) (pulled : Pulled)
+    (pull : PullsWell OwnSinks limit most before after pulled)
     → pulled.more ≡ false → (earlier : List Round) (last : Round) → pull.rounds ≡ earlier ++ last ∷ []
     → (peer later : OwnState) → OwnGives peer (lacks last.front) (lacked (ops_in last.lines) last.more) later
     → ((op : Operation) → has peer.journal op ≡ true → 1 ≤ op.stamp.seq)

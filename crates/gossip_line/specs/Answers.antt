@@ -3,7 +3,8 @@ use Rattle.std.specs.Prelude.{◌≡◌, ◌≢◌, ◌⊎◌, ◌<◌, ℕ, Boo
 use Rattle.std.specs.Io.KnownBytes.{Appends}
 use Rattle.byte_ends.specs.Failures.{OneFailed}
 use Rattle.gossip_line.specs.Commands.{Begins, Follows, IsOther, front_word, take_word, version_word}
-use Rattle.gossip_line.specs.Texts.{Answer, greeting, bad_version, replied, no_memory, bad_command, bad_text, farewell, hello, answer_text, next_of}
+use Rattle.gossip_line.specs.Texts.{Answer, greeting, bad_version, replied, no_memory, bad_command, bad_text, farewell}
+use Rattle.gossip_line.specs.Texts.{hello, answer_text, next_of}
 use Rattle.gossip_line.specs.declared.fault.LineFault.{LineFault}
 use Rattle.gossip_line.specs.declared.fault.LineFault.TheVariants.{WriteFault}
 use Rattle.op_text.specs.Front.{SpellsFront}
@@ -73,12 +74,15 @@ pub record IsCutShort (text : List ℕ) (taken later : Option (List ℕ)) (faile
   pub one_failed : OneFailed failed failures
 
 -- the text is written, and then the result is this one; or writing it failed
-abbrev pub Sends : {T : Type 0} → List ℕ → Result T LineFault → Option (List ℕ) → Option (List ℕ) → ℕ → ℕ → Result T LineFault → Type 0
+abbrev pub Sends : {T : Type 0} → List ℕ → Result T LineFault → Option (List ℕ) → Option (List ℕ) → ℕ → ℕ
+    → Result T LineFault → Type 0
 Sends text wanted taken later failed failures (Err WriteFault) = IsCutShort text taken later failed failures
 Sends text wanted taken later failed failures result = (result ≡ wanted) × IsWritten text taken later failed failures
 
 -- a line is answered, and that is written
 module _ {P : Type 0} (gives : P → Call → Reply → P → Type 0) where
-  abbrev pub IsAnswered : Bool → P → List ℕ → P → Option (List ℕ) → Option (List ℕ) → ℕ → ℕ → Result Bool LineFault → Type 0
+  abbrev pub IsAnswered : Bool → P → List ℕ → P → Option (List ℕ) → Option (List ℕ) → ℕ → ℕ → Result Bool LineFault
+      → Type 0
   IsAnswered first old line new taken later failed failures result =
-      (answer : Answer) × Answers gives first old line answer new × Sends (answer_text answer) (next_of answer) taken later failed failures result
+      (answer : Answer) × Answers gives first old line answer new
+      × Sends (answer_text answer) (next_of answer) taken later failed failures result

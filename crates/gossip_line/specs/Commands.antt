@@ -2,7 +2,8 @@
 use Rattle.std.specs.Prelude.{◌≡◌, ◌≢◌, ◌++◌, ℕ, List, codes}
 use Rattle.gossip_line.specs.Texts.{hello}
 use Rattle.gossip_line.specs.declared.command.Command.{Command}
-use Rattle.gossip_line.specs.declared.command.Command.TheVariants.{Hello, OtherVersion, Take, Front, Ready, State, Quit, Other}
+use Rattle.gossip_line.specs.declared.command.Command.TheVariants.{Hello, OtherVersion, Take, Front, Ready, State, Quit}
+use Rattle.gossip_line.specs.declared.command.Command.TheVariants.{Other}
 
 -- what follows a word in a line
 abbrev pub Follows : List ℕ → List ℕ → List ℕ → Type 0

@@ -1,7 +1,8 @@
 -- The numbers and names of faults. They are the project's own.
 use Rattle.std.specs.Prelude.{ℕ, List, codes}
 use Rattle.gossip_line.specs.declared.fault.LineFault.{LineFault}
-use Rattle.gossip_line.specs.declared.fault.LineFault.TheVariants.{LongLine, BadVersion, ReadFault, WriteFault, NoMemory, BadAnswer, Closed}
+use Rattle.gossip_line.specs.declared.fault.LineFault.TheVariants.{LongLine, BadVersion, ReadFault, WriteFault}
+use Rattle.gossip_line.specs.declared.fault.LineFault.TheVariants.{NoMemory, BadAnswer, Closed}
 
 abbrev pub number_of : LineFault → ℕ
 number_of LongLine = 1

@@ -1,5 +1,6 @@
 -- A pull: in each round the sink's front is written, a whole answer is read, and its operations are handed to the sink.
-use Rattle.std.specs.Prelude.{◌≡◌, ◌≢◌, ◌⊎◌, ◌≤◌, ◌<◌, ℕ, Bool, true, false, List, [], ◌∷◌, ◌++◌, Option, Result, Ok, Err, codes, flat_map, length, map, sum_by, take, if◌then◌else◌}
+use Rattle.std.specs.Prelude.{◌≡◌, ◌≢◌, ◌⊎◌, ◌≤◌, ◌<◌, ℕ, Bool, true, false, List, [], ◌∷◌, ◌++◌, Option, Result, Ok}
+use Rattle.std.specs.Prelude.{Err, codes, flat_map, length, map, sum_by, take, if◌then◌else◌}
 use Rattle.std.specs.List.{AllByRecursion}
 use Rattle.std.specs.Io.KnownBytes.{Appends, Consumes, IsAtEnd}
 use Rattle.byte_ends.specs.Failures.{OneFailed}
@@ -9,7 +10,8 @@ use Rattle.gossip_line.specs.Commands.{Begins, Follows, front_word, version_word
 use Rattle.gossip_line.specs.Session.{IsPiece, Moment}
 use Rattle.gossip_line.specs.Texts.{hello}
 use Rattle.gossip_line.specs.declared.fault.LineFault.{LineFault}
-use Rattle.gossip_line.specs.declared.fault.LineFault.TheVariants.{LongLine, BadVersion, ReadFault, WriteFault, NoMemory, BadAnswer, Closed}
+use Rattle.gossip_line.specs.declared.fault.LineFault.TheVariants.{LongLine, BadVersion, ReadFault, WriteFault}
+use Rattle.gossip_line.specs.declared.fault.LineFault.TheVariants.{NoMemory, BadAnswer, Closed}
 use Rattle.gossip_line.specs.declared.pull.Handed.{Handed}
 use Rattle.gossip_line.specs.declared.pull.Pulled.{Pulled}
 use Rattle.line_reader.specs.Lines.{BeginsWithLine, IsTooLong, IsUnfinished, Reading}
@@ -59,7 +61,8 @@ abbrev pub front_line : Reaches → List ℕ
 front_line front = as_line (front_word ++ front_text front)
 
 abbrev pub AreOperations : ℕ → List OperationLine → Type 0
-AreOperations limit lines = AllByRecursion (λ line. IsPiece limit line.piece × SaysOperation (without_cr line.piece) line.op) lines
+AreOperations limit lines =
+    AllByRecursion (λ line. IsPiece limit line.piece × SaysOperation (without_cr line.piece) line.op) lines
 
 -- an answer is whole: at most 256 lines of operations, and then one that says whether others are left
 pub record IsWhole (limit : ℕ) (lines : List OperationLine) (last : List ℕ) (more : Bool) : Type 0 where
@@ -71,7 +74,7 @@ pub record IsWhole (limit : ℕ) (lines : List OperationLine) (last : List ℕ) 
 abbrev pub IsWholeRound : ℕ → Round → Type 0
 IsWholeRound limit round = IsWhole limit round.lines round.last round.more
 
--- the rounds, of which each but the last said that others are left, and the last one says this
+-- the rounds, of which each but the last reports that others are left, and the last one reports this
 abbrev pub EndWith : List Round → Bool → Type 0
 EndWith [] more = ⊥
 EndWith (round ∷ []) more = round.more ≡ more
@@ -102,14 +105,15 @@ abbrev pub CountsReading : {T : Type 0} → ℕ → ℕ → Result T LineFault �
 CountsReading unread reads (Err ReadFault) = OneFailed unread reads
 CountsReading unread reads result = reads ≡ unread
 
--- a line has to come; where the bytes end before its LF, or it is too long, that is told
+-- a line has to come; where the bytes end before its LF, or it is too long, that is answered
 abbrev pub Awaits : Reading → List ℕ → Result (Unit {0}) LineFault → Reading → Type 0
-Awaits old came (Ok done) new = (piece : List ℕ) × BeginsWithLine old.limit (old.held ++ came) piece new.held × (new.line ≡ without_cr piece)
+Awaits old came (Ok done) new =
+    (piece : List ℕ) × BeginsWithLine old.limit (old.held ++ came) piece new.held × (new.line ≡ without_cr piece)
 Awaits old came (Err LongLine) new = IsTooLong old.limit (old.held ++ came)
 Awaits old came (Err BadAnswer) new = IsUnfinished old.limit (old.held ++ came)
 Awaits old came (Err fault) new = IsReadingFault fault
 
--- a line that can't stand in an answer, after so many operations
+-- a line that can't be part of an answer, after so many operations
 pub record IsNoLine (count : ℕ) (line : List ℕ) : Type 0 where
   pub rest : (more : Bool) → line ≢ rest_word more
   pub operation : (count ≡ 256) ⊎ ((op : Operation) → ¬ SaysOperation line op)
@@ -141,22 +145,25 @@ IsUnspelled spelling NoMemory = Unit {0}
 IsUnspelled spelling fault = ⊥
 
 -- why the line of an operation isn't taken
-abbrev pub IsUnsaid : List ℕ → LineFault → Type 0
-IsUnsaid line BadAnswer = (op : Operation) → ¬ SaysOperation line op
-IsUnsaid line NoMemory = Unit {0}
-IsUnsaid line fault = ⊥
+abbrev pub IsNoAnswer : List ℕ → LineFault → Type 0
+IsNoAnswer line BadAnswer = (op : Operation) → ¬ SaysOperation line op
+IsNoAnswer line NoMemory = Unit {0}
+IsNoAnswer line fault = ⊥
 
 -- an answer is read whole, or not at all
-abbrev pub ReadsAnswer : {A : Type 0} → Reading → List ℕ → Option (List ℕ) → Result (Missing A) LineFault → Reading → Type 0
+abbrev pub ReadsAnswer : {A : Type 0} → Reading → List ℕ → Option (List ℕ) → Result (Missing A) LineFault → Reading
+    → Type 0
 ReadsAnswer old came left (Ok missing) new =
-    (lines : List OperationLine) × (last : List ℕ) × IsWhole old.limit lines last missing.more × (missing.ops.items ≡ ops_in lines)
+    (lines : List OperationLine) × (last : List ℕ) × IsWhole old.limit lines last missing.more
+    × (missing.ops.items ≡ ops_in lines)
     × (old.held ++ came ≡ (bytes_in lines ++ as_line last) ++ new.held)
 ReadsAnswer old came left (Err fault) new = IsBroken old.limit (old.held ++ came) left fault
 
 -- the front's line is written, or memory is refused for it before its first byte
 abbrev pub SendsFront : Reaches → Option (List ℕ) → Option (List ℕ) → ℕ → ℕ → Result (Unit {0}) LineFault → Type 0
 SendsFront front taken later failed failures (Ok done) = IsWritten (front_line front) taken later failed failures
-SendsFront front taken later failed failures (Err WriteFault) = IsCutShort (front_line front) taken later failed failures
+SendsFront front taken later failed failures (Err WriteFault) =
+    IsCutShort (front_line front) taken later failed failures
 SendsFront front taken later failed failures (Err NoMemory) = (later ≡ taken) × (failures ≡ failed)
 SendsFront front taken later failed failures (Err fault) = ⊥
 
@@ -164,32 +171,37 @@ SendsFront front taken later failed failures (Err fault) = ⊥
 abbrev pub IsUngreeted : ℕ → List ℕ → Option (List ℕ) → LineFault → Type 0
 IsUngreeted limit bytes left LongLine = IsTooLong limit bytes
 IsUngreeted limit bytes left BadVersion =
-    (piece : List ℕ) × (later : List ℕ) × BeginsWithLine limit bytes piece later × Begins version_word (without_cr piece) × (without_cr piece ≢ hello)
+    (piece : List ℕ) × (later : List ℕ) × BeginsWithLine limit bytes piece later
+    × Begins version_word (without_cr piece) × (without_cr piece ≢ hello)
 IsUngreeted limit bytes left BadAnswer =
     (IsUnfinished limit bytes × IsAtEnd left) ⊎ ((piece : List ℕ) × (later : List ℕ) × BeginsWithLine limit bytes piece later × (¬ Begins version_word (without_cr piece)))
 IsUngreeted limit bytes left Closed = ⊥
 IsUngreeted limit bytes left fault = Unit {0}
 
--- what was written of the version where it isn't named back: all of its line; where writing failed, a proper prefix; where memory was refused,
--- all or nothing
+-- what was written of the version where it isn't named back: all of its line; where writing failed, a proper prefix;
+-- where memory was refused, all or nothing
 abbrev pub Hails : Option (List ℕ) → Option (List ℕ) → LineFault → Type 0
-Hails taken later WriteFault = (count : ℕ) × (count < length (as_line hello)) × Appends taken later (take count (as_line hello))
+Hails taken later WriteFault =
+    (count : ℕ) × (count < length (as_line hello)) × Appends taken later (take count (as_line hello))
 Hails taken later NoMemory = (later ≡ taken) ⊎ Appends taken later (as_line hello)
 Hails taken later fault = Appends taken later (as_line hello)
 
 -- the version is written, and the line that comes first has to name it
-abbrev pub Greets : Reading → List ℕ → Option (List ℕ) → Option (List ℕ) → Option (List ℕ) → (unread reads unwritten writes : ℕ) → Result (Unit {0}) LineFault → Reading → Type 0
+abbrev pub Greets : Reading → List ℕ → Option (List ℕ) → Option (List ℕ) → Option (List ℕ)
+    → (unread reads unwritten writes : ℕ) → Result (Unit {0}) LineFault → Reading → Type 0
 Greets old came left taken later unread reads unwritten writes (Ok done) new =
     (greeting : List ℕ) × BeginsWithLine old.limit (old.held ++ came) greeting new.held × (without_cr greeting ≡ hello)
     × IsWritten (as_line hello) taken later unwritten writes × (reads ≡ unread)
 Greets old came left taken later unread reads unwritten writes (Err fault) new =
-    CountsEnds unread reads unwritten writes fault × IsUngreeted old.limit (old.held ++ came) left fault × Hails taken later fault
+    CountsEnds unread reads unwritten writes fault × IsUngreeted old.limit (old.held ++ came) left fault
+    × Hails taken later fault
 
--- ---- all rounds, over any sink, which stands in the place of the port
+-- ---- all rounds, over any sink, which takes the place of the port
 module _ {K : Type 0} (sinks : K → Offer → Uptake → K → Type 0) where
   -- the sink says its front, and takes the operations of the whole answer to it
   abbrev pub Takes : K → Round → K → Type 0
-  Takes old round new = (mid : K) × sinks old fronts (reached round.front) mid × sinks mid (hands (ops_in round.lines)) took new
+  Takes old round new =
+      (mid : K) × sinks old fronts (reached round.front) mid × sinks mid (hands (ops_in round.lines)) took new
 
   abbrev pub TakesAll : K → List Round → K → Type 0
   TakesAll old [] new = new ≡ old
@@ -204,30 +216,36 @@ module _ {K : Type 0} (sinks : K → Offer → Uptake → K → Type 0) where
     pub written : IsWritten (as_line hello ++ flat_map (λ round. front_line round.front) rounds) before.taken now.taken before.unwritten now.unwritten
     pub none_unread : now.unread ≡ before.unread
 
-  -- the sink declined to say its front, and nothing was written; or it declined to take the operations of a whole answer that was read
+  -- the sink declined to say its front, and nothing was written; or it declined to take the operations of a whole
+  -- answer that was read
   abbrev pub IsDeclined : ℕ → Moment K → List ℕ → SinkFault → Moment K → Type 0
   IsDeclined limit mid held why after =
       (sinks mid.port fronts (declined why) after.port × (after.taken ≡ mid.taken))
       ⊎ ((round : Round) × (came : List ℕ) × (rest : List ℕ) × (late : K) × IsWholeRound limit round × Consumes mid.left after.left came × (held ++ came ≡ answer_in round ++ rest)
-      × sinks mid.port fronts (reached round.front) late × sinks late (hands (ops_in round.lines)) (declined why) after.port × Appends mid.taken after.taken (front_line round.front))
+      × sinks mid.port fronts (reached round.front) late
+      × sinks late (hands (ops_in round.lines)) (declined why) after.port
+      × Appends mid.taken after.taken (front_line round.front))
 
-  -- the sink said its front, which was written, and the answer isn't whole
+  -- the sink answered its front, which was written, and the answer isn't whole
   abbrev pub IsCutOff : ℕ → Moment K → List ℕ → LineFault → Moment K → Type 0
   IsCutOff limit mid held fault after =
-      (front : Reaches) × (came : List ℕ) × sinks mid.port fronts (reached front) after.port × Consumes mid.left after.left came × IsBroken limit (held ++ came) after.left fault
+      (front : Reaches) × (came : List ℕ) × sinks mid.port fronts (reached front) after.port
+      × Consumes mid.left after.left came × IsBroken limit (held ++ came) after.left fault
       × Appends mid.taken after.taken (front_line front)
 
-  -- the sink said its front, of which nothing was written, or of which it isn't known how much was
+  -- the sink answered its front, of which nothing was written, or of which it isn't known how much was
   abbrev pub IsUnasked : Moment K → Moment K → Type 0
   IsUnasked mid after = (front : Reaches) × sinks mid.port fronts (reached front) after.port × (after.taken ≡ mid.taken)
 
   abbrev pub IsUnwritten : Moment K → Moment K → Type 0
-  IsUnwritten mid after = (after.port ≡ mid.port) ⊎ ((front : Reaches) × sinks mid.port fronts (reached front) after.port)
+  IsUnwritten mid after =
+      (after.port ≡ mid.port) ⊎ ((front : Reaches) × sinks mid.port fronts (reached front) after.port)
 
   -- what is left of the sink, and what was written, where a round isn't whole
   abbrev pub Leaves : ℕ → Moment K → List ℕ → LineFault → Moment K → Type 0
   Leaves limit mid held Closed after = IsDeclined limit mid held sink.Closed after
-  Leaves limit mid held NoMemory after = IsUnasked mid after ⊎ (IsCutOff limit mid held NoMemory after ⊎ IsDeclined limit mid held sink.NoMemory after)
+  Leaves limit mid held NoMemory after =
+      IsUnasked mid after ⊎ (IsCutOff limit mid held NoMemory after ⊎ IsDeclined limit mid held sink.NoMemory after)
   Leaves limit mid held WriteFault after = IsUnwritten mid after
   Leaves limit mid held ReadFault after = IsCutOff limit mid held ReadFault after
   Leaves limit mid held LongLine after = IsCutOff limit mid held LongLine after
@@ -237,12 +255,16 @@ module _ {K : Type 0} (sinks : K → Offer → Uptake → K → Type 0) where
   -- one round
   abbrev pub PullsRound : ℕ → Moment K → List ℕ → Result Handed LineFault → Moment K → List ℕ → Type 0
   PullsRound limit mid held (Ok handed) after later =
-      (round : Round) × (came : List ℕ) × IsWholeRound limit round × Consumes mid.left after.left came × (held ++ came ≡ answer_in round ++ later) × Takes mid.port round after.port
-      × IsWritten (front_line round.front) mid.taken after.taken mid.unwritten after.unwritten × (after.unread ≡ mid.unread)
+      (round : Round) × (came : List ℕ) × IsWholeRound limit round × Consumes mid.left after.left came
+      × (held ++ came ≡ answer_in round ++ later) × Takes mid.port round after.port
+      × IsWritten (front_line round.front) mid.taken after.taken mid.unwritten after.unwritten
+      × (after.unread ≡ mid.unread)
       × (handed.count ≡ length round.lines) × (handed.more ≡ round.more)
-  PullsRound limit mid held (Err fault) after later = Leaves limit mid held fault after × CountsEnds mid.unread after.unread mid.unwritten after.unwritten fault
+  PullsRound limit mid held (Err fault) after later =
+      Leaves limit mid held fault after × CountsEnds mid.unread after.unread mid.unwritten after.unwritten fault
 
-  -- a pull that ends well has written `quit` after the last round, which said that nothing is left, or was the last that may be
+  -- a pull that ends well has written `quit` after the last round, which reported that nothing is left, or was the last
+  -- that may be
   pub record PullsWell (limit most : ℕ) (before after : Moment K) (pulled : Pulled) : Type 0 where
     pub mid : Moment K
     pub greeting : List ℕ

@@ -1,5 +1,6 @@
 -- A session: its lines are answered one after the other, until one ends it, or the source or the drain does.
-use Rattle.std.specs.Prelude.{◌≡◌, ◌⊎◌, ◌≤◌, ℕ, Bool, true, false, List, [], ◌∷◌, ◌++◌, Option, Result, Ok, Err, flat_map, length}
+use Rattle.std.specs.Prelude.{◌≡◌, ◌⊎◌, ◌≤◌, ℕ, Bool, true, false, List, [], ◌∷◌, ◌++◌, Option, Result, Ok, Err}
+use Rattle.std.specs.Prelude.{flat_map, length}
 use Rattle.std.specs.List.{AllByRecursion}
 use Rattle.std.specs.Io.KnownBytes.{Consumes, IsAtEnd}
 use Rattle.byte_ends.specs.Failures.{OneFailed}
@@ -10,7 +11,8 @@ use Rattle.line_reader.specs.Lines.{HasNoLf, IsTooLong, IsUnfinished}
 use Rattle.gossip_line.specs.Answers.{Answers, IsCutShort, IsWritten, Sends}
 use Rattle.gossip_line.specs.Texts.{Answer, bad_version, farewell, answer_text, long_line, next_of}
 use Rattle.gossip_line.specs.declared.fault.LineFault.{LineFault}
-use Rattle.gossip_line.specs.declared.fault.LineFault.TheVariants.{LongLine, BadVersion, ReadFault, WriteFault, NoMemory, BadAnswer, Closed}
+use Rattle.gossip_line.specs.declared.fault.LineFault.TheVariants.{LongLine, BadVersion, ReadFault, WriteFault}
+use Rattle.gossip_line.specs.declared.fault.LineFault.TheVariants.{NoMemory, BadAnswer, Closed}
 use Rattle.site_port.specs.Ports.{Call, Reply}
 
 -- a line as it came, without its LF, and its answer
@@ -56,7 +58,8 @@ module _ {P : Type 0} (gives : P → Call → Reply → P → Type 0) where
   -- the lines are answered one after the other, the first one as the first of a session where it is that
   abbrev pub Answered : Bool → P → List Turn → P → Type 0
   Answered first old [] new = new ≡ old
-  Answered first old (turn ∷ turns) new = (mid : P) × Answers gives first old (line_of turn) turn.answer mid × Answered false mid turns new
+  Answered first old (turn ∷ turns) new =
+      (mid : P) × Answers gives first old (line_of turn) turn.answer mid × Answered false mid turns new
 
   -- up to now these turns were taken, and these bytes are held that were read past them
   pub record IsTalk (limit : ℕ) (before now : Moment P) (turns : List Turn) (held : List ℕ) : Type 0 where
@@ -77,8 +80,8 @@ module _ {P : Type 0} (gives : P → Call → Reply → P → Type 0) where
   abbrev pub IsQuiet : Moment P → Moment P → Type 0
   IsQuiet mid after = (after.port ≡ mid.port) × (after.taken ≡ mid.taken) × (after.unwritten ≡ mid.unwritten)
 
-  abbrev pub IsSaid : List ℕ → Moment P → Moment P → Type 0
-  IsSaid text mid after = IsWritten text mid.taken after.taken mid.unwritten after.unwritten
+  abbrev pub IsSent : List ℕ → Moment P → Moment P → Type 0
+  IsSent text mid after = IsWritten text mid.taken after.taken mid.unwritten after.unwritten
 
   abbrev pub IsCut : List ℕ → Moment P → Moment P → Type 0
   IsCut text mid after = IsCutShort text mid.taken after.taken mid.unwritten after.unwritten
@@ -87,10 +90,11 @@ module _ {P : Type 0} (gives : P → Call → Reply → P → Type 0) where
   abbrev pub Ends : ℕ → ℕ → List Turn → Moment P → List ℕ → Moment P → Result (Unit {0}) LineFault → Type 0
   Ends limit most turns mid rest after (Ok done) =
       (IsUnfinished limit rest × IsAtEnd after.left × IsQuiet mid after)
-      ⊎ (IsLast limit (is_none_yet turns) mid.port rest farewell after.port × IsSaid (answer_text farewell) mid after)
-  Ends limit most turns mid rest after (Err LongLine) = IsTooLong limit rest × (after.port ≡ mid.port) × IsSaid long_line mid after
+      ⊎ (IsLast limit (is_none_yet turns) mid.port rest farewell after.port × IsSent (answer_text farewell) mid after)
+  Ends limit most turns mid rest after (Err LongLine) =
+      IsTooLong limit rest × (after.port ≡ mid.port) × IsSent long_line mid after
   Ends limit most turns mid rest after (Err BadVersion) =
-      IsLast limit (is_none_yet turns) mid.port rest bad_version after.port × IsSaid (answer_text bad_version) mid after
+      IsLast limit (is_none_yet turns) mid.port rest bad_version after.port × IsSent (answer_text bad_version) mid after
   Ends limit most turns mid rest after (Err ReadFault) =
       IsQuiet mid after × (OneFailed mid.unread after.unread ⊎ ((length turns ≡ most) × (after.unread ≡ mid.unread)))
   Ends limit most turns mid rest after (Err WriteFault) =
@@ -119,6 +123,9 @@ module _ {P : Type 0} (gives : P → Call → Reply → P → Type 0) where
 
 -- how a session ends where no line is read
 abbrev pub EndsUnread : BytesFault → Option (List ℕ) → Option (List ℕ) → ℕ → ℕ → Result (Unit {0}) LineFault → Type 0
-EndsUnread bytes.TooLong taken later failed failures result = Sends long_line (Err LongLine) taken later failed failures result
-EndsUnread bytes.ReadFault taken later failed failures result = (result ≡ Err ReadFault) × (later ≡ taken) × (failures ≡ failed)
-EndsUnread bytes.NoMemory taken later failed failures result = (result ≡ Err NoMemory) × (later ≡ taken) × (failures ≡ failed)
+EndsUnread bytes.TooLong taken later failed failures result =
+    Sends long_line (Err LongLine) taken later failed failures result
+EndsUnread bytes.ReadFault taken later failed failures result =
+    (result ≡ Err ReadFault) × (later ≡ taken) × (failures ≡ failed)
+EndsUnread bytes.NoMemory taken later failed failures result =
+    (result ≡ Err NoMemory) × (later ≡ taken) × (failures ≡ failed)

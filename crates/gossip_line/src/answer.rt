@@ -2,7 +2,8 @@
 
 ghost use Rattle.std.specs.Prelude.{◌≡◌, ◌++◌, codes, false};
 ghost use Rattle.gossip_line.specs.Answers.{IsAnswered, IsFirstAnswer, Sends};
-ghost use Rattle.gossip_line.specs.Texts.{Answer, answer_text, bad_version, farewell, next_of, refusal_line, unread_line};
+ghost use Rattle.gossip_line.specs.Texts.{Answer, answer_text, bad_version, farewell, next_of, refusal_line};
+ghost use Rattle.gossip_line.specs.Texts.{unread_line};
 ghost use Rattle.gossip_line.specs.Commands.{take_word, front_word};
 
 use super::command::{Command, HELLO, command_of};

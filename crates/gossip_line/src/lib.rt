@@ -1,5 +1,5 @@
-//! Sessions, in which a site answers line by line, and pulls, by which one site takes what another has. Lines end in LF, and one carriage return
-//! before it is dropped.
+//! Sessions, in which a site answers line by line, and pulls, by which one site takes what another has. Lines end in
+//! LF, and one carriage return before it is dropped.
 //!
 //! | Line | Answer |
 //! |---|---|

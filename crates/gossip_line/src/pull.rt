@@ -1,11 +1,14 @@
 //! Runs a pull.
 
-ghost use Rattle.std.specs.Prelude.{Bool, ◌≡◌, ◌++◌, ◌<◌, ◌≤◌, ℕ, List, IfErr, IfNone, IfOk, IfSome, MatchOption, MatchResult, Ok, OnOk, length, ◌∷◌, [], ◌≢◌, Err};
+ghost use Rattle.std.specs.Prelude.{Bool, ◌≡◌, ◌++◌, ◌<◌, ◌≤◌, ℕ, List, IfErr, IfNone, IfOk, IfSome, MatchOption};
+ghost use Rattle.std.specs.Prelude.{MatchResult, Ok, OnOk, length, ◌∷◌, [], ◌≢◌, Err};
 ghost use Rattle.op_text.specs.Spelling.{SpellsOperation};
 ghost use Rattle.review_ops.specs.Operation.{Operation};
 ghost use Rattle.std.specs.Io.KnownBytes.{Consumes, IsAtEnd};
 ghost use Rattle.std.specs.Prelude.{string_bytes};
-ghost use Rattle.gossip_line.specs.Pull.{Awaits, CountsEnds, CountsReading, Greets, IsUnsaid, IsUnspelled, Pull, PullsRound, ReadsAnswer, SaysOperation, SendsFront, fault_of, front_line, rest_word, unread_fault};
+ghost use Rattle.gossip_line.specs.Pull.{Awaits, CountsEnds, CountsReading, Greets, IsNoAnswer, IsUnspelled, Pull};
+ghost use Rattle.gossip_line.specs.Pull.{PullsRound, ReadsAnswer, SaysOperation, SendsFront, fault_of, front_line};
+ghost use Rattle.gossip_line.specs.Pull.{rest_word, unread_fault};
 ghost use Rattle.gossip_line.specs.Session.{Moment};
 
 use super::command::{HELLO, after};
@@ -34,7 +37,7 @@ pub struct Pulled {
     pub rounds: u32,
     /// How many operations they had.
     pub taken: u64,
-    /// Whether the last one said that others are left.
+    /// Whether the last one reported that others are left.
     pub more: bool,
 }
 
@@ -45,12 +48,14 @@ pub struct Handed {
     pub more: bool,
 }
 
-/// Takes from a session what the sink lacks, in rounds: the sink's front is written, an answer is read, and once it is whole its operations are
-/// handed over, in their order. After an answer that says that nothing is left, or after 4,096 rounds, `quit` is written and nothing more is read.
-/// Refusals: 1 `LongLine`, a line has more than 524,288 bytes; 2 `BadVersion`, the first line names another version; 3 `ReadFault`, the source
-/// failed; 4 `WriteFault`, the drain failed; 5 `NoMemory`, memory was refused, here or in the sink; 6 `BadAnswer`, a line is none that an answer
-/// has, an operation isn't read, a 257th one came, or the input ended where a line is awaited; 7 `Closed`, the sink has ended. Of an answer that
-/// isn't whole nothing is handed over. It costs what the sink costs, and O(n) for n bytes that are read and written.
+/// Takes from a session what the sink lacks, in rounds: the sink's front is written, an answer is read, and once it is
+/// whole its operations are handed over, in their order. After an answer that says that nothing is left, or after 4,096
+/// rounds, `quit` is written and nothing more is read. Refusals: 1 `LongLine`, a line has more than 524,288 bytes; 2
+/// `BadVersion`, the first line names another version; 3 `ReadFault`, the source failed; 4 `WriteFault`, the drain
+/// failed; 5 `NoMemory`, memory was refused, here or in the sink; 6 `BadAnswer`, a line is none that an answer has, an
+/// operation isn't read, a 257th one came, or the input ended where a line is awaited; 7 `Closed`, the sink has ended.
+/// Of an answer that isn't whole nothing is handed over. It costs what the sink costs, and O(n) for n bytes that are
+/// read and written.
 pub fn pull_run<S: Source, D: Drain, K: Sink>(
     alloc: Global,
     source: &mut S,
@@ -112,7 +117,8 @@ fn greet<S: Source, D: Drain>(
     drain: &mut D,
 ) -> Result<(), LineFault>
     ensures greets { (came : List ℕ) × Consumes (S.left source.old) (S.left source.new) came
-        × Greets reader.old came (S.left source.new) (D.taken drain.old) (D.taken drain.new) (S.failed source.old) (S.failed source.new)
+        × Greets reader.old came (S.left source.new) (D.taken drain.old) (D.taken drain.new) (S.failed source.old)
+        (S.failed source.new)
         (D.failed drain.old) (D.failed drain.new) result reader.new }
     ensures limit { reader.new.limit ≡ reader.old.limit }
 {
@@ -167,7 +173,8 @@ fn declined(fault: SinkFault) -> LineFault
 
 /// Asks for what a front lacks.
 fn send_front<D: Drain>(alloc: Global, drain: &mut D, front: &Front) -> Result<(), LineFault>
-    ensures { SendsFront front.now (D.taken drain.old) (D.taken drain.new) (D.failed drain.old) (D.failed drain.new) result }
+    ensures { SendsFront front.now (D.taken drain.old) (D.taken drain.new) (D.failed drain.old)
+        (D.failed drain.new) result }
 {
     let Ok(line) = line_of(alloc, front) else {
         return Err(LineFault::NoMemory);
@@ -244,8 +251,9 @@ fn rest_of(line: &[u8]) -> Option<bool>
 
 /// Adds the operation of a line.
 fn add_operation(ops: &mut Vec<Op>, alloc: Global, line: &[u8]) -> Result<(), LineFault>
-    ensures ok { OnOk result ((op : Operation) × SaysOperation line.now op × (ops.new.items ≡ ops.old.items ++ op ∷ [])) }
-    ensures err { IfErr result (IsUnsaid line.now) }
+    ensures ok { OnOk result
+        ((op : Operation) × SaysOperation line.now op × (ops.new.items ≡ ops.old.items ++ op ∷ [])) }
+    ensures err { IfErr result (IsNoAnswer line.now) }
 {
     let Some(text) = after(line, b"op ") else {
         return Err(LineFault::BadAnswer);

@@ -23,7 +23,8 @@ const STAMP_LINE: usize = 96;
 
 /// Writes a text.
 pub fn send<D: Drain>(drain: &mut D, text: &str) -> Result<(), LineFault>
-    ensures { Sends text.now (Ok tt) (D.taken drain.old) (D.taken drain.new) (D.failed drain.old) (D.failed drain.new) result }
+    ensures { Sends text.now (Ok tt) (D.taken drain.old) (D.taken drain.new) (D.failed drain.old)
+        (D.failed drain.new) result }
 {
     match write_all(drain, text.as_bytes()) {
         Ok(()) => Ok(()),
@@ -33,14 +34,16 @@ pub fn send<D: Drain>(drain: &mut D, text: &str) -> Result<(), LineFault>
 
 /// Writes a text, after which the session goes on.
 pub fn go_on<D: Drain>(drain: &mut D, text: &str) -> Result<bool, LineFault>
-    ensures { Sends text.now (Ok true) (D.taken drain.old) (D.taken drain.new) (D.failed drain.old) (D.failed drain.new) result }
+    ensures { Sends text.now (Ok true) (D.taken drain.old) (D.taken drain.new) (D.failed drain.old)
+        (D.failed drain.new) result }
 {
     go_on_bytes(drain, text.as_bytes())
 }
 
 /// Writes the bytes of a text, after which the session goes on.
 pub fn go_on_bytes<D: Drain>(drain: &mut D, text: &[u8]) -> Result<bool, LineFault>
-    ensures { Sends text.now (Ok true) (D.taken drain.old) (D.taken drain.new) (D.failed drain.old) (D.failed drain.new) result }
+    ensures { Sends text.now (Ok true) (D.taken drain.old) (D.taken drain.new) (D.failed drain.old)
+        (D.failed drain.new) result }
 {
     match write_all(drain, text) {
         Ok(()) => Ok(true),
@@ -50,7 +53,8 @@ pub fn go_on_bytes<D: Drain>(drain: &mut D, text: &[u8]) -> Result<bool, LineFau
 
 /// Writes the line of a stamp. It takes no memory.
 pub fn send_stamp<D: Drain>(drain: &mut D, stamp: Stamp) -> Result<bool, LineFault>
-    ensures { Sends (stamp_line stamp) (Ok true) (D.taken drain.old) (D.taken drain.new) (D.failed drain.old) (D.failed drain.new) result }
+    ensures { Sends (stamp_line stamp) (Ok true) (D.taken drain.old) (D.taken drain.new) (D.failed drain.old)
+        (D.failed drain.new) result }
 {
     let mut line = ArrayString::new();
     line.push_str("ok ");
@@ -77,7 +81,8 @@ fn add_number(line: &mut ArrayString<STAMP_LINE>, number: u64)
 
 /// Writes a report. It takes no memory.
 pub fn send_report<D: Drain>(drain: &mut D, verdicts: &Verdicts) -> Result<bool, LineFault>
-    ensures { Sends (report_of verdicts.now) (Ok true) (D.taken drain.old) (D.taken drain.new) (D.failed drain.old) (D.failed drain.new) result }
+    ensures { Sends (report_of verdicts.now) (Ok true) (D.taken drain.old) (D.taken drain.new) (D.failed drain.old)
+        (D.failed drain.new) result }
 {
     match write_report(verdicts, drain) {
         Ok(()) => Ok(true),

@@ -18,12 +18,13 @@ pub const LINE_LIMIT: usize = 524288;
 /// How many lines a session may have.
 const LINES: usize = 1000000;
 
-/// Answers the lines of a source, one after the other, until one ends the session or the source ends; an unfinished last line isn't answered. Each
-/// answer is made whole before its first byte is written. Refusals: 1 `LongLine`, a line has more than 524,288 bytes, which is answered, too; 2
-/// `BadVersion`, the first line isn't `hello 2`, or another version is named, which is answered, too; 3 `ReadFault`, the source failed, or
-/// 1,000,000 lines were answered and none ended the session; 4 `WriteFault`, the drain failed: what was taken in stays so; 5 `NoMemory`, memory was
-/// refused for reading a line. Want of memory in an answer is answered, and the session goes on. It costs what the port's answers cost, and O(n)
-/// for n bytes that are read and written.
+/// Answers the lines of a source, one after the other, until one ends the session or the source ends; an unfinished
+/// last line isn't answered. Each answer is made whole before its first byte is written. Refusals: 1 `LongLine`, a line
+/// has more than 524,288 bytes, which is answered, too; 2 `BadVersion`, the first line isn't `hello 2`, or another
+/// version is named, which is answered, too; 3 `ReadFault`, the source failed, or 1,000,000 lines were answered and
+/// none ended the session; 4 `WriteFault`, the drain failed: what was taken in stays so; 5 `NoMemory`, memory was
+/// refused for reading a line. Want of memory in an answer is answered, and the session goes on. It costs what the
+/// port's answers cost, and O(n) for n bytes that are read and written.
 pub fn session_run<S: Source, D: Drain, P: Port>(
     alloc: Global,
     source: &mut S,
@@ -38,8 +39,8 @@ pub fn session_run<S: Source, D: Drain, P: Port>(
     answer_lines(alloc, LINE_LIMIT, LINES, source, drain, port)
 }
 
-/// Answers a session as `session_run` does, whose lines have at most `limit` bytes, and of which at most `most` lines are answered. Refusals: as there, with
-/// these in place of its limits.
+/// Answers a session as `session_run` does, whose lines have at most `limit` bytes, and of which at most `most` lines
+/// are answered. Refusals: as there, with these in place of its limits.
 pub fn answer_lines<S: Source, D: Drain, P: Port>(
     alloc: Global,
     limit: usize,
@@ -71,7 +72,8 @@ pub fn answer_lines<S: Source, D: Drain, P: Port>(
 
 /// How a session ends where no line is read. Of a line that is too long that is answered.
 fn end_unread<D: Drain>(fault: BytesFault, drain: &mut D) -> Result<(), LineFault>
-    ensures { EndsUnread fault (D.taken drain.old) (D.taken drain.new) (D.failed drain.old) (D.failed drain.new) result }
+    ensures { EndsUnread fault (D.taken drain.old) (D.taken drain.new) (D.failed drain.old)
+        (D.failed drain.new) result }
 {
     match fault {
         BytesFault::TooLong => {

@@ -1,5 +1,6 @@
 -- The items listed change by change are just the items of the state, in order.
-use Rattle.std.proofs.Common.{◌≡◌, ℕ, T, List, [], ◌∷◌, ◌++◌, map, flat_map, Contains, append-nil, sym, ap, ◌∙◌, subst, inl, inr}
+use Rattle.std.proofs.Common.{◌≡◌, ℕ, T, List, [], ◌∷◌, ◌++◌, map, flat_map, Contains, append-nil, sym, ap, ◌∙◌, subst}
+use Rattle.std.proofs.Common.{inl, inr}
 use Rattle.std.specs.declared.cmp.Ordering.TheVariants.{Less}
 use Rattle.std.specs.Ordering.{nat_cmp, ordering_then, is_lt}
 use Rattle.std.specs.Cmp.{nat_cmp_total, tied_itself}
@@ -15,28 +16,33 @@ use Rattle.state_core.specs.declared.item.Item.{Item}
 use Rattle.state_core.specs.State.{State}
 use Rattle.state_core.specs.Items.{item_cmp}
 use Rattle.graph_core.specs.ItemGraph.{AreItems}
-use Rattle.lattice_core.specs.MemberLaws.{Contains-cons_cases, Contains-none, Contains-of_map, Contains-to_map, Contains-of_flat_map, Contains-to_flat_map, sorted_append}
+use Rattle.lattice_core.specs.MemberLaws.{Contains-cons_cases, Contains-none, Contains-of_map, Contains-to_map}
+use Rattle.lattice_core.specs.MemberLaws.{Contains-of_flat_map, Contains-to_flat_map, sorted_append}
 use Rattle.lattice_core.specs.Tests.{first_of_both, second_of_both, less}
 use Rattle.lattice_core.specs.Keep.{numbers_exact}
 use Rattle.lattice_core.specs.EntryLaws.{get-entry, entry-get, some_of, is_some_of}
 use Rattle.graph_core.specs.Listed.{item_of, items_in, all_items}
 
 -- ---- lists in order
-above : {X : Type 0} (key : ℕ) (es : List (ℕ × X)) → T (below_all nat_cmp key es) → (e : ℕ × X) → Contains es e → nat_cmp key e.0 ≡ Less
+above : {X : Type 0} (key : ℕ) (es : List (ℕ × X)) → T (below_all nat_cmp key es) → (e : ℕ × X) → Contains es e
+    → nat_cmp key e.0 ≡ Less
 above key [] h e c = absurd (Contains-none e c)
 above key (f ∷ fs) h e c = elim (Contains-cons_cases f fs e c) [
-  | inl same ↦ subst (λ g. nat_cmp key g.0 ≡ Less) same (less (nat_cmp key f.0) (first_of_both (is_lt (nat_cmp key f.0)) (below_all nat_cmp key fs) h))
+  | inl same ↦ subst (λ g. nat_cmp key g.0 ≡ Less) same
+      (less (nat_cmp key f.0) (first_of_both (is_lt (nat_cmp key f.0)) (below_all nat_cmp key fs) h))
   | inr later ↦ above key fs (second_of_both (is_lt (nat_cmp key f.0)) (below_all nat_cmp key fs) h) e later
 ]
 
--- patch sets of one change stand by their numbers
-same_change : (number a b : ℕ) → nat_cmp a b ≡ Less → item_cmp (record { change = number; set = a }) (record { change = number; set = b }) ≡ Less
+-- patch sets of one change come by their numbers
+same_change : (number a b : ℕ) → nat_cmp a b ≡ Less
+    → item_cmp (record { change = number; set = a }) (record { change = number; set = b }) ≡ Less
 same_change number a b h = ap (λ r. ordering_then r (nat_cmp a b)) (tied_itself nat_cmp_total number) ∙ h
 
 lower_change : (x y : Item) → nat_cmp x.change y.change ≡ Less → item_cmp x y ≡ Less
 lower_change x y h = ap (λ r. ordering_then r (nat_cmp x.set y.set)) h
 
-sets_in_order : (number : ℕ) (sets : List (ℕ × (Timestamp × Patch))) → T (is_sorted nat_cmp sets) → IsStrictlySortedBy item_cmp (map (item_of number) sets)
+sets_in_order : (number : ℕ) (sets : List (ℕ × (Timestamp × Patch))) → T (is_sorted nat_cmp sets)
+    → IsStrictlySortedBy item_cmp (map (item_of number) sets)
 unfolding IsStrictlySortedBy
 sets_in_order number [] sorted = tt
 sets_in_order number (e ∷ es) sorted = (
@@ -47,9 +53,11 @@ sets_in_order number (e ∷ es) sorted = (
 )
 
 change_of_listed : (e : ℕ × Change) (item : Item) → Contains (items_in e) item → e.0 ≡ item.change
-change_of_listed e item c = let found = Contains-of_map (item_of e.0) (entries e.1.sets) item c in ap (λ (i : Item). i.change) found.2
+change_of_listed e item c = let found = Contains-of_map (item_of e.0) (entries e.1.sets) item c in ap
+    (λ (i : Item). i.change) found.2
 
-changes_in_order : (es : List (ℕ × Change)) → T (is_sorted nat_cmp es) → IsStrictlySortedBy item_cmp (flat_map items_in es)
+changes_in_order : (es : List (ℕ × Change)) → T (is_sorted nat_cmp es)
+    → IsStrictlySortedBy item_cmp (flat_map items_in es)
 unfolding IsStrictlySortedBy
 changes_in_order [] sorted = tt
 changes_in_order (e ∷ es) sorted = sorted_append item_cmp (items_in e) (flat_map items_in es)
@@ -71,7 +79,8 @@ listed_is_item state item c =
 item_is_listed : (state : State) (item : Item) → IsItem state item → Contains (all_items state) item
 item_is_listed state item is =
     let patch = some_of (get is.0.sets item.set) is.2 in
-    Contains-to_flat_map items_in (entries state) (item.change, is.0) item (entry-get numbers_exact state item.change is.0 is.1)
+    Contains-to_flat_map items_in (entries state) (item.change, is.0) item
+    (entry-get numbers_exact state item.change is.0 is.1)
     (Contains-to_map (item_of item.change) (entries is.0.sets) (item.set, patch.0) (entry-get numbers_exact is.0.sets item.set patch.0 patch.1))
 
 pub AreItems-all_items : (state : State) → AreItems state (all_items state)
@@ -81,6 +90,8 @@ AreItems-all_items state = record {
 }
 
 -- where no change is left, all items are listed
-pub listed_all : (items : List Item) (rest : List (ℕ × Change)) (state : State) → rest ≡ [] → items ++ flat_map items_in rest ≡ all_items state → AreItems state items
+pub listed_all : (items : List Item) (rest : List (ℕ × Change)) (state : State) → rest ≡ []
+    → items ++ flat_map items_in rest ≡ all_items state → AreItems state items
 listed_all items rest state none so_far =
-    subst (AreItems state) (sym (sym (append-nil items) ∙ ap (λ l. items ++ flat_map items_in l) (sym none) ∙ so_far)) (AreItems-all_items state)
+    subst (AreItems state) (sym (sym (append-nil items) ∙ ap (λ l. items ++ flat_map items_in l) (sym none) ∙ so_far))
+    (AreItems-all_items state)

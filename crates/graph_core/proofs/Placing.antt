@@ -1,5 +1,6 @@
 -- The places of the last items of some changes, one change after the other.
-use Rattle.std.proofs.Common.{◌≡◌, ◌≢◌, ◌<◌, ◌≤◌, ◌+◌, ℕ, cond, eqb, List, [], ◌∷◌, ◌++◌, take, length, get_or, Contains, sym, ap, ◌∙◌, subst, arith, inl, inr}
+use Rattle.std.proofs.Common.{◌≡◌, ◌≢◌, ◌<◌, ◌≤◌, ◌+◌, ℕ, cond, eqb, List, [], ◌∷◌, ◌++◌, take, length, get_or}
+use Rattle.std.proofs.Common.{Contains, sym, ap, ◌∙◌, subst, arith, inl, inr}
 use Rattle.std.specs.declared.cmp.Ordering.TheVariants.{Less, Equal, Greater}
 use Rattle.std.specs.Ordering.{nat_cmp}
 use Rattle.std.specs.List.Sorted.{IsStrictlyIncreasing, IsStrictlySortedBy}
@@ -18,12 +19,15 @@ use Rattle.state_core.specs.ItemLaws.{changes_rise}
 less_is : (m n : ℕ) → m < n → nat_cmp m n ≡ Less
 less_is m n h = ap (λ b. cond b Less (cond (eqb m n) Equal Greater)) (lt-ltb m n h)
 
-increasing_push : (xs : List ℕ) (n : ℕ) → IsStrictlyIncreasing xs → ((m : ℕ) → Contains xs m → m < n) → IsStrictlyIncreasing (xs ++ n ∷ [])
+increasing_push : (xs : List ℕ) (n : ℕ) → IsStrictlyIncreasing xs → ((m : ℕ) → Contains xs m → m < n)
+    → IsStrictlyIncreasing (xs ++ n ∷ [])
 increasing_push xs n rising above =
-    IsStrictlyIncreasing-from_sorted (xs ++ n ∷ []) (sorted_push nat_cmp xs n (sorted_from_strictly_increasing xs rising) (λ m c. less_is m n (above m c)))
+    IsStrictlyIncreasing-from_sorted (xs ++ n ∷ [])
+    (sorted_push nat_cmp xs n (sorted_from_strictly_increasing xs rising) (λ m c. less_is m n (above m c)))
 
--- what stands before a place of a rising list is less than what stands there
-pub taken_below : (xs : List ℕ) (i : ℕ) → IsStrictlyIncreasing xs → i < length xs → (m : ℕ) → Contains (take i xs) m → m < get_or xs i 0
+-- what comes before a place of a rising list is less than what is there
+pub taken_below : (xs : List ℕ) (i : ℕ) → IsStrictlyIncreasing xs → i < length xs → (m : ℕ) → Contains (take i xs) m
+    → m < get_or xs i 0
 taken_below xs i rising within m c =
     let k_less : c.0 < i = omega (arith, c.1, length-take-le i xs (omega (arith, within))) in
     let here : get_or xs c.0 m ≡ m = sym (get_or-take i xs c.0 m k_less) ∙ c.2 in
@@ -41,14 +45,15 @@ module _ (items : List Item) (sorted : IsStrictlySortedBy item_cmp items) where
   one_last : (number a b : ℕ) → IsLastOf items number a → IsLastOf items number b → a ≡ b
   one_last number a b p q = omega (arith, p.last b q.item q.here q.of, q.last a p.item p.here p.of)
 
-  -- the last item of a lesser change stands before
+  -- the last item of a lesser change comes before
   last_before : (m n a b : ℕ) → m < n → IsLastOf items m a → IsLastOf items n b → a < b
   last_before m n a b h p q = less_unless a b (λ back.
       let rises = changes_rise items sorted b a q.item p.item back q.here p.here in
       omega (arith, h, rises, p.of, q.of))
 
   pub ArePlaces-none : (numbers places : List ℕ) (number : ℕ) → ArePlaces items numbers places
-      → ((place : ℕ) (item : Item) → IsAt items place item → item.change ≢ number) → ArePlaces items (numbers ++ number ∷ []) places
+      → ((place : ℕ) (item : Item) → IsAt items place item → item.change ≢ number)
+      → ArePlaces items (numbers ++ number ∷ []) places
   ArePlaces-none numbers places number are none = record {
     increasing = are.increasing;
     each = λ place. (
@@ -61,10 +66,12 @@ module _ (items : List Item) (sorted : IsStrictlySortedBy item_cmp items) where
   }
 
   pub ArePlaces-one : (numbers places : List ℕ) (number place : ℕ) → ArePlaces items numbers places
-      → ((m : ℕ) → Contains numbers m → m < number) → IsLastOf items number place → ArePlaces items (numbers ++ number ∷ []) (places ++ place ∷ [])
+      → ((m : ℕ) → Contains numbers m → m < number) → IsLastOf items number place
+      → ArePlaces items (numbers ++ number ∷ []) (places ++ place ∷ [])
   ArePlaces-one numbers places number place are above last = record {
     increasing = increasing_push places place are.increasing (λ other c.
-        let found = (are.each other).0 c in last_before found.0 number other place (above found.0 found.1) found.2 last);
+        let found = (are.each other).0 c in last_before found.0 number other place
+        (above found.0 found.1) found.2 last);
     each = λ other. (
       λ c. elim (Contains-push_cases places place other c) [
         | inl before ↦ let found = (are.each other).0 before in (found.0, Contains-append_left numbers (number ∷ []) found.0 found.1, found.2)
@@ -72,18 +79,24 @@ module _ (items : List Item) (sorted : IsStrictlySortedBy item_cmp items) where
       ],
       λ found. elim (Contains-push_cases numbers number found.0 found.1) [
         | inl before ↦ Contains-append_left places (place ∷ []) other ((are.each other).1 (found.0, before, found.2))
-        | inr same ↦ subst (Contains (places ++ place ∷ [])) (one_last found.0 place other (subst (λ n. IsLastOf items n place) same last) found.2) (Contains-push places place)
+        | inr same ↦ subst (Contains (places ++ place ∷ []))
+            (one_last found.0 place other (subst (λ n. IsLastOf items n place) same last) found.2)
+            (Contains-push places place)
       ],
     );
   }
 
   -- one change more of a rising list
-  pub places_more_none : (numbers places : List ℕ) (i : ℕ) → i < length numbers → ArePlaces items (take i numbers) places
-      → ((place : ℕ) (item : Item) → IsAt items place item → item.change ≢ get_or numbers i 0) → ArePlaces items (take (i + 1) numbers) places
+  pub places_more_none : (numbers places : List ℕ) (i : ℕ) → i < length numbers
+      → ArePlaces items (take i numbers) places
+      → ((place : ℕ) (item : Item) → IsAt items place item → item.change ≢ get_or numbers i 0)
+      → ArePlaces items (take (i + 1) numbers) places
   places_more_none numbers places i within are none =
-      subst (λ l. ArePlaces items l places) (sym (take_more numbers i 0 within)) (ArePlaces-none (take i numbers) places (get_or numbers i 0) are none)
+      subst (λ l. ArePlaces items l places) (sym (take_more numbers i 0 within))
+      (ArePlaces-none (take i numbers) places (get_or numbers i 0) are none)
 
-  pub places_more : (numbers places : List ℕ) (i place : ℕ) → IsStrictlyIncreasing numbers → i < length numbers → ArePlaces items (take i numbers) places
+  pub places_more : (numbers places : List ℕ) (i place : ℕ) → IsStrictlyIncreasing numbers → i < length numbers
+      → ArePlaces items (take i numbers) places
       → IsLastOf items (get_or numbers i 0) place → ArePlaces items (take (i + 1) numbers) (places ++ place ∷ [])
   places_more numbers places i place rising within are last =
       subst (λ l. ArePlaces items l (places ++ place ∷ [])) (sym (take_more numbers i 0 within))

@@ -1,5 +1,6 @@
 -- What a binary search over items in order finds.
-use Rattle.std.proofs.Common.{◌≡◌, ◌≢◌, ◌≤◌, ◌<◌, ◌+◌, ◌-◌, ℕ, Bool, true, false, List, Contains, leb, refl, sym, ◌∙◌, subst, arith, inl, inr}
+use Rattle.std.proofs.Common.{◌≡◌, ◌≢◌, ◌≤◌, ◌<◌, ◌+◌, ◌-◌, ℕ, Bool, true, false, List, Contains, leb, refl, sym, ◌∙◌}
+use Rattle.std.proofs.Common.{subst, arith, inl, inr}
 use Rattle.std.specs.Prelude.{slice_get, Option, Some, None}
 use Rattle.std.specs.Option.{SomeIff}
 use Rattle.std.specs.declared.cmp.Ordering.{Ordering}
@@ -20,39 +21,49 @@ less_unless : (m n : ℕ) → (n ≤ m → ⊥) → m < n
 less_unless m n h = omega (arith, h)
 
 -- the parts of what partition_point says, at items by place
-module _ (p : Item → Bool) (items : List Item) (after : ℕ) (point : IsPartitionPoint (λ y. p y ≡ true) (λ y. p y ≡ false) items after) where
+module _ (p : Item → Bool) (items : List Item) (after : ℕ)
+    (point : IsPartitionPoint (λ y. p y ≡ true) (λ y. p y ≡ false) items after) where
   pub passes : (place : ℕ) (item : Item) → IsAt items place item → place < after → p item ≡ true
-  passes place item here less = subst (λ x. p x ≡ true) (get_or_from_slice_get items place item item here) (point.0 place item (omega arith) less)
+  passes place item here less =
+      subst (λ x. p x ≡ true) (get_or_from_slice_get items place item item here) (point.0 place item (omega arith) less)
 
   pub fails : (place : ℕ) (item : Item) → IsAt items place item → after ≤ place → p item ≡ false
-  fails place item here h = subst (λ x. p x ≡ false) (get_or_from_slice_get items place item item here) (point.1 place item h (slice_get_within items place item here))
+  fails place item here h = subst (λ x. p x ≡ false) (get_or_from_slice_get items place item item here)
+      (point.1 place item h (slice_get_within items place item here))
 
-  -- an item that passes stands before the point, one that fails behind it
+  -- an item that passes comes before the point, one that fails behind it
   pub before : (place : ℕ) (item : Item) → IsAt items place item → p item ≡ true → place < after
   before place item here passed = less_unless place after (λ h. false≢true (sym (fails place item here h) ∙ passed))
 
 -- ---- the last item of a change
-pub rising : (items : List Item) → IsStrictlySortedBy item_cmp items → IsNonDecreasingBy (λ (item : Item). item.change) items
-rising items sorted i j d h less = changes_rise items sorted i j _ _ h (slice_get-get_or items i d (omega (arith, h, less))) (slice_get-get_or items j d less)
+pub rising : (items : List Item) → IsStrictlySortedBy item_cmp items
+    → IsNonDecreasingBy (λ (item : Item). item.change) items
+rising items sorted i j d h less = changes_rise items sorted i j _ _ h
+    (slice_get-get_or items i d (omega (arith, h, less))) (slice_get-get_or items j d less)
 
-pub up_to_partitioned : (items : List Item) (number : ℕ) → IsStrictlySortedBy item_cmp items → IsPartitionedBy (λ (item : Item). leb item.change number) items
-up_to_partitioned items number sorted = IsPartitionedBy-leb (λ (item : Item). item.change) items number (rising items sorted)
+pub up_to_partitioned : (items : List Item) (number : ℕ) → IsStrictlySortedBy item_cmp items
+    → IsPartitionedBy (λ (item : Item). leb item.change number) items
+up_to_partitioned items number sorted =
+    IsPartitionedBy-leb (λ (item : Item). item.change) items number (rising items sorted)
 
 module _ (items : List Item) (number after : ℕ) (sorted : IsStrictlySortedBy item_cmp items) (point : IsPartitionPoint (λ (item : Item). leb item.change number ≡ true) (λ (item : Item). leb item.change number ≡ false) items after) where
-  -- an item of the change stands before the point
+  -- an item of the change comes before the point
   of_before : (place : ℕ) (item : Item) → IsAt items place item → item.change ≡ number → place < after
-  of_before place item here of = before (λ item. leb item.change number) items after point place item here (le-leb item.change number (omega (arith, of)))
+  of_before place item here of = before (λ item. leb item.change number) items after point place item here
+      (le-leb item.change number (omega (arith, of)))
 
   pub none_before : after ≡ 0 → (place : ℕ) (item : Item) → IsAt items place item → item.change ≢ number
   none_before none place item here of = absurd (omega (arith, none, of_before place item here of))
 
-  pub none_at : (place : ℕ) (last : Item) → after ≡ place + 1 → IsAt items place last → last.change ≢ number → (other_place : ℕ) (item : Item) → IsAt items other_place item → item.change ≢ number
+  pub none_at : (place : ℕ) (last : Item) → after ≡ place + 1 → IsAt items place last → last.change ≢ number
+      → (other_place : ℕ) (item : Item) → IsAt items other_place item → item.change ≢ number
   none_at place last after_is here differs other_place item there of =
       let low = changes_rise items sorted other_place place item last (omega (arith, after_is, of_before other_place item there of)) there here in
       let high = leb-true last.change number (passes (λ item. leb item.change number) items after point place last here (omega (arith, after_is))) in
       differs (omega (arith, low, high, of))
 
-  pub last_at : (place : ℕ) (last : Item) → after ≡ place + 1 → IsAt items place last → last.change ≡ number → IsLastOf items number place
+  pub last_at : (place : ℕ) (last : Item) → after ≡ place + 1 → IsAt items place last → last.change ≡ number
+      → IsLastOf items number place
   last_at place last after_is here of = record {
     item = last;
     here = here;
@@ -61,7 +72,8 @@ module _ (items : List Item) (number after : ℕ) (sorted : IsStrictlySortedBy i
   }
 
 -- what checked_sub answered
-pub point_of_some : (found : Option ℕ) (point place : ℕ) → SomeIff found (1 ≤ point) (point - 1) → found ≡ Some place → point ≡ place + 1
+pub point_of_some : (found : Option ℕ) (point place : ℕ) → SomeIff found (1 ≤ point) (point - 1) → found ≡ Some place
+    → point ≡ place + 1
 point_of_some None point place sub is = cc
 point_of_some (Some x) point place sub is = let same : x ≡ place = cc in omega (arith, sub.0, sub.1, same)
 
@@ -85,17 +97,21 @@ same_place : (place point : ℕ) → ¬ (place < point) → ¬ (point < place) �
 same_place place point p q = omega (arith, p, q)
 
 module _ (items : List Item) (sorted : IsStrictlySortedBy item_cmp items) (item : Item) where
-  below_at : (i j : ℕ) (x y : Item) → i ≤ j → slice_get items i ≡ Some x → slice_get items j ≡ Some y → item_cmp y item ≡ Less → item_cmp x item ≡ Less
+  below_at : (i j : ℕ) (x y : Item) → i ≤ j → slice_get items i ≡ Some x → slice_get items j ≡ Some y
+      → item_cmp y item ≡ Less → item_cmp x item ≡ Less
   below_at i j x y h at_i at_j less = elim (earlier_or_same i j h) [
     | inl earlier ↦ items_total.trans x y item (sorted_at item_cmp items sorted i j x y earlier at_i at_j) less
-    | inr same ↦ subst (λ z. item_cmp z item ≡ Less) (one_item items j y x at_j (subst (λ k. slice_get items k ≡ Some x) same at_i)) less
+    | inr same ↦ subst (λ z. item_cmp z item ≡ Less)
+        (one_item items j y x at_j (subst (λ k. slice_get items k ≡ Some x) same at_i)) less
   ]
 
   pub before_partitioned : IsPartitionedBy (stands_before item) items
   before_partitioned i j d h less yes_j =
       of_less _ (below_at i j _ _ h (slice_get-get_or items i d (omega (arith, h, less))) (slice_get-get_or items j d less) (less_of _ yes_j))
 
-  pub found_at : (point : ℕ) → IsPartitionPoint (λ y. stands_before item y ≡ true) (λ y. stands_before item y ≡ false) items point → Contains items item → IsAt items point item
+  pub found_at : (point : ℕ)
+      → IsPartitionPoint (λ y. stands_before item y ≡ true) (λ y. stands_before item y ≡ false) items point
+      → Contains items item → IsAt items point item
   found_at point is has =
       let there = at_Contains items item has in
       subst (λ k. IsAt items k item) (same_place there.0 point

@@ -1,5 +1,6 @@
 -- What an item waits for, from what it names.
-use Rattle.std.proofs.Common.{◌≡◌, ◌≢◌, ◌↔◌, ℕ, Bool, true, false, not, List, [], ◌∷◌, ◌++◌, Contains, filter, Some, eqb, refl, sym, subst, inl, inr}
+use Rattle.std.proofs.Common.{◌≡◌, ◌≢◌, ◌↔◌, ℕ, Bool, true, false, not, List, [], ◌∷◌, ◌++◌, Contains, filter, Some}
+use Rattle.std.proofs.Common.{eqb, refl, sym, subst, inl, inr}
 use Rattle.std.specs.FinMap as finite
 use Rattle.std.specs.Ordering.{nat_cmp}
 use Rattle.std.specs.List.Retain.{IsFiltered, DiffersFromLast}
@@ -23,16 +24,19 @@ use Rattle.state_core.specs.Known.{merged_in}
 use Rattle.state_core.specs.KnownLaws.{merged_test}
 
 -- ---- what an item names
-module _ (gate : GateRules) (state : State) (item : Item) (change : Change) (message needs : List ℕ) (ignored : List (List ℕ))
+module _ (gate : GateRules) (state : State) (item : Item) (change : Change) (message needs : List ℕ)
+    (ignored : List (List ℕ))
     (stands : finite.get state item.change ≡ Some change) (said : message_of change item.set ≡ Some message)
-    (bases : List (List ℕ)) (same_bases : bases ≡ gate.bases) (found_under : AreFooters bases item.change message needs ignored) where
+    (bases : List (List ℕ)) (same_bases : bases ≡ gate.bases)
+    (found_under : AreFooters bases item.change message needs ignored) where
   found : AreFooters gate.bases item.change message needs ignored
   found = subst (λ texts. AreFooters texts item.change message needs ignored) same_bases found_under
 
   one_change : (other : Change) → finite.get state item.change ≡ Some other → other ≡ change
   one_change other e = cc
 
-  one_message : (other : Change) (text : List ℕ) → finite.get state item.change ≡ Some other → message_of other item.set ≡ Some text → text ≡ message
+  one_message : (other : Change) (text : List ℕ) → finite.get state item.change ≡ Some other
+      → message_of other item.set ≡ Some text → text ≡ message
   one_message other text e said_it =
       let same : message_of change item.set ≡ Some text = subst (λ c. message_of c item.set ≡ Some text) (one_change other e) said_it in cc
 
@@ -40,18 +44,21 @@ module _ (gate : GateRules) (state : State) (item : Item) (change : Change) (mes
   needed_by number is = (found.needed number).1 (subst (λ m. MessageNeeds gate.bases item.change m number) (one_message is.change is.message is.stands is.said) is.needs)
 
   names_need : (number : ℕ) → Contains needs number → IsNeeded gate state item number
-  names_need number c = record { change = change; stands = stands; message = message; said = said; needs = (found.needed number).0 c }
+  names_need number c =
+      record { change = change; stands = stands; message = message; said = said; needs = (found.needed number).0 c }
 
   parent_is : (number : ℕ) → IsParent state item number → parent_of change item.set ≡ Some number
   parent_is number is = subst (λ c. parent_of c item.set ≡ Some number) (one_change is.change is.stands) is.parent
 
-  pub names_alone : ((number : ℕ) → parent_of change item.set ≡ Some number → number ≡ item.change) → (number : ℕ) → Contains needs number ↔ Names gate state item number
+  pub names_alone : ((number : ℕ) → parent_of change item.set ≡ Some number → number ≡ item.change) → (number : ℕ)
+      → Contains needs number ↔ Names gate state item number
   names_alone own number = (
     λ c. inl (names_need number c),
     λ names. elim names [ inl need ↦ needed_by number need | inr parent ↦ absurd (parent.other (own number (parent_is number parent))) ],
   )
 
-  pub names_with : (parent : ℕ) → parent_of change item.set ≡ Some parent → parent ≢ item.change → (number : ℕ) → Contains (needs ++ parent ∷ []) number ↔ Names gate state item number
+  pub names_with : (parent : ℕ) → parent_of change item.set ≡ Some parent → parent ≢ item.change → (number : ℕ)
+      → Contains (needs ++ parent ∷ []) number ↔ Names gate state item number
   names_with parent is other number = (
     λ c. elim (Contains-push_cases needs parent number c) [
       | inl need ↦ inl (names_need number need)
@@ -59,7 +66,8 @@ module _ (gate : GateRules) (state : State) (item : Item) (change : Change) (mes
     ],
     λ names. elim names [
       | inl need ↦ Contains-append_left needs (parent ∷ []) number (needed_by number need)
-      | inr its ↦ let same : parent ≡ number = one_parent (parent_is number its) in subst (Contains (needs ++ parent ∷ [])) same (Contains-push needs parent)
+      | inr its ↦ let same : parent ≡ number = one_parent (parent_is number its) in subst
+          (Contains (needs ++ parent ∷ [])) same (Contains-push needs parent)
     ],
   ) where
     one_parent : parent_of change item.set ≡ Some number → parent ≡ number
@@ -81,7 +89,8 @@ is_open_in state number = not (merged_in (finite.get state number))
 pub settled : (gate : GateRules) (state : State) (item : Item) (names kept sorted once : List ℕ)
     → ((number : ℕ) → Contains names number ↔ Names gate state item number)
     → kept ≡ filter (is_open_in state) names
-    → IsPermutation kept sorted → IsSorted nat_cmp sorted → IsFiltered (DiffersFromLast eqb) [] sorted once → AreTargets gate state item once
+    → IsPermutation kept sorted → IsSorted nat_cmp sorted → IsFiltered (DiffersFromLast eqb) [] sorted once
+    → AreTargets gate state item once
 settled gate state item names kept sorted once named kept_is moved in_order filtered =
     let is = dedup_is eqb sorted once filtered in
     record {
@@ -95,6 +104,7 @@ settled gate state item names kept sorted once named kept_is moved in_order filt
             let in_names = (named n).1 target.0 in
             let unmerged = stays (merged_in (finite.get state n)) (λ e. target.1 ((merged_test state n).0 e)) in
             let in_kept = subst (λ l. Contains l n) (sym kept_is) (Contains-to_filter (is_open_in state) names n in_names unmerged) in
-            subst (λ l. Contains l n) (sym is) (Contains-dedup_nat sorted n (Contains-permutation kept sorted n moved in_kept)),
+            subst (λ l. Contains l n) (sym is)
+            (Contains-dedup_nat sorted n (Contains-permutation kept sorted n moved in_kept)),
       );
     }

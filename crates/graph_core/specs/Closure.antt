@@ -1,4 +1,5 @@
--- A search for what some items reach: which items are found, and which are ahead, so that what they wait for is still to be found.
+-- A search for what some items reach: which items are found, and which are ahead, so that what they wait for is still
+-- to be found.
 use Rattle.std.specs.Prelude.{◌≡◌, ◌↔◌, ◌⊎◌, ℕ, List, Contains, IsTrue}
 use Rattle.std.specs.Ordering.{nat_cmp, ordering_then}
 use Rattle.std.specs.declared.cmp.Ordering.{Ordering}
@@ -20,13 +21,15 @@ IsFound found item = IsTrue (contains pair_cmp found (item.change, item.set))
 abbrev pub IsSeen : BTreeSet (ℕ × ℕ) → List Item → Item → Type 0
 IsSeen found ahead item = IsFound found item ⊎ Contains ahead item
 
--- only items of the state are found or ahead; the first ones are, and so is the end of each edge of an item that is found
+-- only items of the state are found or ahead; the first ones are, and so is the end of each edge of an item that is
+-- found
 pub record IsClosing (gate : GateRules) (state : State) (first : List Item) (found : BTreeSet (ℕ × ℕ)) (ahead : List Item) : Type 0 where
   pub items : (item : Item) → IsSeen found ahead item → IsItem state item
   pub has : (item : Item) → Contains first item → IsSeen found ahead item
   pub held : (item other : Item) → IsFound found item → IsDependency gate state item other → IsSeen found ahead other
 
--- what was ahead is ahead, and so is the current item of each of the changes; what else is ahead is an item of the state
+-- what was ahead is ahead, and so is the current item of each of the changes; what else is ahead is an item of the
+-- state
 pub record AddsCurrent (state : State) (numbers : List ℕ) (old new : List Item) : Type 0 where
   pub keeps : (item : Item) → Contains old item → Contains new item
   pub adds : (item : Item) → Contains numbers item.change → IsCurrentItem state item → Contains new item

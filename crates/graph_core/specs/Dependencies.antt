@@ -1,7 +1,8 @@
--- What an item waits for. Footers `Depends-On:` and that a dependency has to be merged, or to go in together with what needs it, are
--- those of Zuul (zuul-ci.org/docs, "Cross-Project Dependencies"), and that items on a cycle of dependencies may go in together where a queue
--- has `allow-circular-dependencies` is that of Zuul's queues ("Queue"). That a Git parent counts like a footer, that a change doesn't wait
--- for itself, and that a dependency which isn't merged stands for its current patch set, are this project's own rules.
+-- What an item waits for. Footers `Depends-On:` and that a dependency has to be merged, or to go in together with what
+-- needs it, are those of Zuul (zuul-ci.org/docs, "Cross-Project Dependencies"), and that items on a cycle of
+-- dependencies may go in together where a queue has `allow-circular-dependencies` is that of Zuul's queues ("Queue").
+-- That a Git parent counts like a footer, that a change doesn't wait for itself, and that a dependency which isn't
+-- merged stands for its current patch set, are this project's own rules.
 use Rattle.std.specs.Prelude.{◌≡◌, ◌≢◌, ℕ, ◌⊎◌, List, Some}
 use Rattle.std.specs.FinMap as finite
 use Rattle.change_core.specs.Change.{Change}

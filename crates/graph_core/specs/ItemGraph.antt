@@ -1,5 +1,5 @@
--- The items of a state with what they wait for, as lists: at each place an item, the changes that it waits for, the places of their
--- current items, and whether it is on a cycle.
+-- The items of a state with what they wait for, as lists: at each place an item, the changes that it waits for, the
+-- places of their current items, and whether it is on a cycle.
 use Rattle.std.specs.Prelude.{◌≡◌, ◌↔◌, ℕ, Bool, List, [], ◌∷◌, Some, slice_get, Contains, IsTrue, if◌then◌else◌, ◌==◌}
 use Rattle.std.specs.List.{list_any, AllZip}
 use Rattle.std.specs.List.Sorted.{IsStrictlyIncreasing, IsStrictlySortedBy}
@@ -17,7 +17,7 @@ pub record ItemGraph : Type 0 where
   pub ends : List (List ℕ)
   pub on_cycle : List Bool
 
--- the item stands at the place
+-- the item is at the place
 abbrev pub IsAt : List Item → ℕ → Item → Type 0
 IsAt items place item = slice_get items place ≡ Some item
 
@@ -26,8 +26,8 @@ pub record AreItems (state : State) (items : List Item) : Type 0 where
   pub in_order : IsStrictlySortedBy item_cmp items
   pub each : (item : Item) → Contains items item ↔ IsItem state item
 
--- the items are a part of those of the state, in order, each once, that holds what they wait for: the end of each edge of one of them is among
--- them. All items of the state are such a part
+-- the items are a part of those of the state, in order, each once, that holds what they wait for: the end of each edge
+-- of one of them is among them. All items of the state are such a part
 pub record ArePart (gate : GateRules) (state : State) (items : List Item) : Type 0 where
   pub in_order : IsStrictlySortedBy item_cmp items
   pub each : (item : Item) → Contains items item → IsItem state item
@@ -38,7 +38,7 @@ pub record AreTargets (gate : GateRules) (state : State) (item : Item) (targets 
   pub increasing : IsStrictlyIncreasing targets
   pub each : (number : ℕ) → Contains targets number ↔ IsTarget gate state item number
 
--- at the place stands the end of an edge of the item
+-- at the place is the end of an edge of the item
 pub record EndsAt (E : Item → Item → Type 0) (items : List Item) (item : Item) (place : ℕ) : Type 0 where
   pub other : Item
   pub there : IsAt items place other
@@ -49,8 +49,9 @@ pub record AreEnds (E : Item → Item → Type 0) (items : List Item) (item : It
   pub increasing : IsStrictlyIncreasing ends
   pub each : (place : ℕ) → Contains ends place ↔ EndsAt E items item place
 
--- the graph is that of a part of the state's items under the gate: with each of them stands what it waits for, where the edges to that end, and
--- whether it is on a cycle of edges. All of this is as in the whole state, since no edge leads out of the part
+-- the graph is that of a part of the state's items under the gate: beside each of them is what it waits for, where the
+-- edges to that end, and whether it is on a cycle of edges. All of this is as in the whole state, since no edge leads
+-- out of the part
 pub record IsGraphOf (gate : GateRules) (state : State) (graph : ItemGraph) : Type 0 where
   pub items : ArePart gate state graph.items
   pub targets : AllZip (AreTargets gate state) graph.items graph.targets
@@ -64,9 +65,10 @@ has targets number = list_any (λ target. target == number) targets
 abbrev pub namers_of : List Item → List (List ℕ) → ℕ → List Item
 namers_of [] rows number = []
 namers_of (item ∷ items) [] number = []
-namers_of (item ∷ items) (targets ∷ rows) number = if has targets number then item ∷ namers_of items rows number else namers_of items rows number
+namers_of (item ∷ items) (targets ∷ rows) number =
+    if has targets number then item ∷ namers_of items rows number else namers_of items rows number
 
--- the item and the other stand at one place of lists side by side
+-- the item and the other are at one place of lists side by side
 pub record StandsAt {X : Type 0} (items : List Item) (others : List X) (item : Item) (other : X) : Type 0 where
   pub place : ℕ
   pub here : IsAt items place item

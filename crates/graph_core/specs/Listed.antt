@@ -19,17 +19,19 @@ items_in change = map (item_of change.0) (finite.entries change.1.sets)
 abbrev pub all_items : State → List Item
 all_items state = flat_map items_in (finite.entries state)
 
--- at the place stands an item of the change, and at none behind it
+-- at the place is an item of the change, and at none behind it
 pub record IsLastOf (items : List Item) (number place : ℕ) : Type 0 where
   pub item : Item
   pub here : IsAt items place item
   pub of : item.change ≡ number
-  pub last : (other_place : ℕ) (other : Item) → IsAt items other_place other → other.change ≡ number → other_place ≤ place
+  pub last : (other_place : ℕ) (other : Item) → IsAt items other_place other → other.change ≡ number
+      → other_place ≤ place
 
 -- the list has just the places of the last items of the changes, in order, each once
 pub record ArePlaces (items : List Item) (numbers places : List ℕ) : Type 0 where
   pub increasing : IsStrictlyIncreasing places
-  pub each : (place : ℕ) → Contains places place ↔ ((number : ℕ) × Contains numbers number × IsLastOf items number place)
+  pub each : (place : ℕ)
+      → Contains places place ↔ ((number : ℕ) × Contains numbers number × IsLastOf items number place)
 
 -- the items that a map has at a change
 abbrev pub items_at : {X Z : Type 0} → Option (Vec X Z) → List X

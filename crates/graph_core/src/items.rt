@@ -32,7 +32,7 @@ pub fn add_items(items: &mut Vec<Item>, change: u32, state: &ChangeState) -> Res
     Ok(())
 }
 
-/// Whether an item stands before another.
+/// Whether an item comes before another.
 pub fn is_before(item: &Item, other: &Item) -> bool
     ensures { result ≡ is_lt (item_cmp item.now other.now) }
 {

@@ -1,5 +1,6 @@
 -- Flags beside the items of a graph say which of them are ahead of a change, and which behind it.
-use Rattle.std.proofs.Common.{◌≡◌, ◌↔◌, ◌<◌, ◌∙◌, ℕ, Bool, true, List, Contains, Option, None, Some, map, length, replicate, refl, sym, ap, subst, arith, eq-eqb}
+use Rattle.std.proofs.Common.{◌≡◌, ◌↔◌, ◌<◌, ◌∙◌, ℕ, Bool, true, List, Contains, Option, None, Some, map, length}
+use Rattle.std.proofs.Common.{replicate, refl, sym, ap, subst, arith, eq-eqb}
 use Rattle.std.specs.Prelude.{option_map, slice_get}
 use Rattle.std.proofs.lemmas.Bool.{eqb-true}
 use Rattle.std.proofs.lemmas.List.{get_or-replicate, length-map, length-replicate}
@@ -26,19 +27,22 @@ all_marked flags n place is within =
     subst (λ l. IsMarked l place) (sym is)
     (slice_get-get_or (replicate n true) place true (omega (arith, within, length-replicate {A = Bool} n true)) ∙ ap Some (get_or-replicate n place true true within))
 
-module _ (gate : GateRules) (state : State) (graph : ItemGraph) (is : IsGraphOf gate state graph) (whole : AreItems state graph.items) where
+module _ (gate : GateRules) (state : State) (graph : ItemGraph) (is : IsGraphOf gate state graph)
+    (whole : AreItems state graph.items) where
   pub held : (x y : Item) → IsDependency gate state x y → Contains graph.items y
   held x y edge = (whole.each y).1 (edge.1.change, edge.1.stands, edge.1.greatest.known)
 
   -- ---- what leads to what
-  pub leads_items : (place end : ℕ) (item other : Item) → IsAt graph.items place item → IsAt graph.items end other → LeadsTo (HasEdge graph.ends) place end → LeadsTo (IsDependency gate state) item other
+  pub leads_items : (place end : ℕ) (item other : Item) → IsAt graph.items place item → IsAt graph.items end other
+      → LeadsTo (HasEdge graph.ends) place end → LeadsTo (IsDependency gate state) item other
   leads_items place end item other here there leads = (
     leads.0,
     Leads-items (IsDependency gate state) graph.items graph.ends is.ends (λ p. p ≡ end) (λ o. o ≡ other)
         (λ p o at same. one_item graph.items end o other (subst (λ q. IsAt graph.items q o) same at) there) leads.0 place item here leads.1,
   )
 
-  pub leads_places : (place end : ℕ) (item other : Item) → IsAt graph.items place item → IsAt graph.items end other → LeadsTo (IsDependency gate state) item other → LeadsTo (HasEdge graph.ends) place end
+  pub leads_places : (place end : ℕ) (item other : Item) → IsAt graph.items place item → IsAt graph.items end other
+      → LeadsTo (IsDependency gate state) item other → LeadsTo (HasEdge graph.ends) place end
   leads_places place end item other here there leads = (
     leads.0,
     Leads-places (IsDependency gate state) graph.items graph.ends is.ends is.items.held (λ p. p ≡ end) (λ o. o ≡ other)
@@ -55,14 +59,16 @@ module _ (gate : GateRules) (state : State) (graph : ItemGraph) (is : IsGraphOf 
         eqb-true item.change number (one_flag (is_of number item) (sym (slice_get-map (is_of number) graph.items place ∙ ap (option_map (is_of number)) here) ∙ marked))
 
     own_marked : (place : ℕ) (item : Item) → IsAt graph.items place item → item.change ≡ number → IsMarked own place
-    own_marked place item here of = slice_get-map (is_of number) graph.items place ∙ ap (option_map (is_of number)) here ∙ ap Some (eq-eqb item.change number of)
+    own_marked place item here of = slice_get-map (is_of number) graph.items place ∙ ap (option_map (is_of number)) here
+        ∙ ap Some (eq-eqb item.change number of)
 
     own_at : (place : ℕ) → IsMarked own place → (item : Item) × IsAt graph.items place item
     own_at place marked =
         let within : place < length graph.items = omega (arith, slice_get_within own place true marked, length-map graph.items (is_of number)) in
         at_below graph.items place within
 
-    ahead_of : (flags : List Bool) → AreReached graph.ends own flags → (place : ℕ) (item : Item) → IsAt graph.items place item → IsMarked flags place ↔ IsAhead gate state (Some number) item
+    ahead_of : (flags : List Bool) → AreReached graph.ends own flags → (place : ℕ) (item : Item)
+        → IsAt graph.items place item → IsMarked flags place ↔ IsAhead gate state (Some number) item
     ahead_of flags reach place item here = (
       λ marked.
           let reached = (reach.each place).0 marked in
@@ -77,25 +83,30 @@ module _ (gate : GateRules) (state : State) (graph : ItemGraph) (is : IsGraphOf 
           (reach.each place).1 (from.0, own_marked from.0 ahead.0 from.1 ahead.2, leads_places from.0 place ahead.0 item from.1 here ahead.3),
     )
 
-    behind_of : (flags : List Bool) → AreLeading graph.ends own flags → (place : ℕ) (item : Item) → IsAt graph.items place item → IsMarked flags place ↔ IsBehind gate state (Some number) item
+    behind_of : (flags : List Bool) → AreLeading graph.ends own flags → (place : ℕ) (item : Item)
+        → IsAt graph.items place item → IsMarked flags place ↔ IsBehind gate state (Some number) item
     behind_of flags lead place item here = (
       λ marked.
           let leads = (lead.each place).0 marked in (
             leads.0,
-            Leads-items (IsDependency gate state) graph.items graph.ends is.ends (IsMarked own) (λ o. o.change ≡ number) own_is leads.0 place item here leads.1,
+            Leads-items (IsDependency gate state) graph.items graph.ends is.ends (IsMarked own)
+                (λ o. o.change ≡ number) own_is leads.0 place item here leads.1,
           ),
       λ behind.
           (lead.each place).1 (
             behind.0,
-            Leads-places (IsDependency gate state) graph.items graph.ends is.ends is.items.held (IsMarked own) (λ o. o.change ≡ number) own_marked behind.0 place item here behind.1,
+            Leads-places (IsDependency gate state) graph.items graph.ends is.ends is.items.held (IsMarked own)
+                (λ o. o.change ≡ number) own_marked behind.0 place item here behind.1,
           ),
     )
 
   -- ---- with or without a change
-  pub ahead_at : (around : Option ℕ) (flags : List Bool) → AreAhead graph around flags → (place : ℕ) (item : Item) → IsAt graph.items place item → IsMarked flags place ↔ IsAhead gate state around item
+  pub ahead_at : (around : Option ℕ) (flags : List Bool) → AreAhead graph around flags → (place : ℕ) (item : Item)
+      → IsAt graph.items place item → IsMarked flags place ↔ IsAhead gate state around item
   ahead_at None flags all place item here = (λ marked. tt, λ ahead. all_marked flags (length graph.items) place all (slice_get_within graph.items place item here))
   ahead_at (Some number) flags reach place item here = ahead_of number flags reach place item here
 
-  pub behind_at : (around : Option ℕ) (flags : List Bool) → AreBehind graph around flags → (place : ℕ) (item : Item) → IsAt graph.items place item → IsMarked flags place ↔ IsBehind gate state around item
+  pub behind_at : (around : Option ℕ) (flags : List Bool) → AreBehind graph around flags → (place : ℕ) (item : Item)
+      → IsAt graph.items place item → IsMarked flags place ↔ IsBehind gate state around item
   behind_at None flags all place item here = (λ marked. tt, λ behind. all_marked flags (length graph.items) place all (slice_get_within graph.items place item here))
   behind_at (Some number) flags lead place item here = behind_of number flags lead place item here

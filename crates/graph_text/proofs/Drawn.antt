@@ -1,5 +1,7 @@
 -- What is drawn place by place is what the definitions over items say.
-use Rattle.std.proofs.Common.{◌≡◌, ◌↔◌, ◌⊎◌, ◌<◌, ◌==◌, ◌&&◌, ◌∙◌, ℕ, zero, suc, Bool, true, false, List, [], ◌∷◌, ◌++◌, Option, None, Some, Contains, length, map, cond, refl, sym, ap, subst, arith, inl, inr, eq-eqb}
+use Rattle.std.proofs.Common.{◌≡◌, ◌↔◌, ◌⊎◌, ◌<◌, ◌==◌, ◌&&◌, ◌∙◌, ℕ, zero, suc, Bool, true, false, List, [], ◌∷◌, ◌++◌}
+use Rattle.std.proofs.Common.{Option, None, Some, Contains, length, map, cond, refl, sym, ap, subst, arith, inl, inr}
+use Rattle.std.proofs.Common.{eq-eqb}
 use Rattle.std.specs.Prelude.{slice_get, slice_index, slice_index_or, IsTrue}
 use Rattle.std.specs.List.{AllZip, AllByRecursion}
 use Rattle.std.specs.List.Sorted.{IsStrictlyIncreasing, IsStrictlySortedBy}
@@ -15,7 +17,8 @@ use Rattle.walk_core.specs.Components.{AreFirsts}
 use Rattle.walk_core.specs.Digraphs.{IsMarked, ends_of, row}
 use Rattle.walk_core.specs.Walks.{IsOnCycle}
 use Rattle.walk_core.proofs.Gathering.{first_within}
-use Rattle.lattice_core.specs.MemberLaws.{Contains-none, Contains-cons_cases, Contains-first, Contains-later, Contains-to_map, Contains-of_map}
+use Rattle.lattice_core.specs.MemberLaws.{Contains-none, Contains-cons_cases, Contains-first, Contains-later}
+use Rattle.lattice_core.specs.MemberLaws.{Contains-to_map, Contains-of_map}
 use Rattle.lattice_core.specs.PlaceLaws.{Contains-at, at_Contains, at_below, one_item, one_place, sorted_at}
 use Rattle.lattice_core.specs.ZipLaws.{AllZip-at, AllZip-beside, AllZip-map, length-AllZip}
 use Rattle.gate_rules.specs.Rules.{GateRules}
@@ -31,9 +34,11 @@ use Rattle.ready_core.specs.Causes.{item_at}
 use Rattle.ready_core.specs.Verdicts.{AreVerdicts, Judged, items_out}
 use Rattle.ready_core.specs.declared.verdicts.Refusal.{Refusal}
 use Rattle.graph_text.specs.declared.node.Node.{Node}
-use Rattle.graph_text.specs.Drawing.{AreNeeds, AreNodes, AreUnknown, IsAhead, IsCycleOf, IsDrawn, IsNode, IsVerdictOn, items_of}
+use Rattle.graph_text.specs.Drawing.{AreNeeds, AreNodes, AreUnknown, IsAhead, IsCycleOf, IsDrawn, IsNode, IsVerdictOn}
+use Rattle.graph_text.specs.Drawing.{items_of}
 use Rattle.graph_text.specs.Near.{AreAhead, AreBehind}
-use Rattle.graph_text.specs.Places.{AreKept, AreNeedsAt, AreNodesAt, AreSides, AreUnknownAt, IsNodeAt, IsOutFor, IsShown, first_at, flag_at}
+use Rattle.graph_text.specs.Places.{AreKept, AreNeedsAt, AreNodesAt, AreSides, AreUnknownAt, IsNodeAt, IsOutFor}
+use Rattle.graph_text.specs.Places.{IsShown, first_at, flag_at}
 use Rattle.graph_text.proofs.Around.{ahead_at, behind_at, held}
 use Rattle.graph_text.proofs.Firsts.{first_item}
 
@@ -43,7 +48,8 @@ either_true true = inl refl
 either_true false = inr refl
 
 both_same : (a b : Item) → a.change ≡ b.change → a.set ≡ b.set → a ≡ b
-both_same a b change set = ap (λ n. record { change = n; set = a.set }) change ∙ ap (λ n. record { change = b.change; set = n }) set
+both_same a b change set =
+    ap (λ n. record { change = n; set = a.set }) change ∙ ap (λ n. record { change = b.change; set = n }) set
 
 differ_by : (b : Bool) (m n : ℕ) → (m == n) ≡ b → b ≡ false → ¬ (m ≡ n)
 differ_by b m n is no_test same = false≢true (sym (is ∙ no_test) ∙ eq-eqb m n same)
@@ -54,7 +60,8 @@ same_or_not a b = elim (either_true (a.change == b.change)) [
     | inl set ↦ inl (both_same a b (eqb-true a.change b.change change) (eqb-true a.set b.set set))
     | inr not ↦ inr (λ same. differ_by (a.set == b.set) a.set b.set refl not (ap (λ (i : Item). i.set) same))
   ]
-  | inr not ↦ inr (λ same. differ_by (a.change == b.change) a.change b.change refl not (ap (λ (i : Item). i.change) same))
+  | inr not ↦ inr
+      (λ same. differ_by (a.change == b.change) a.change b.change refl not (ap (λ (i : Item). i.change) same))
 ]
 
 among_or_not : (xs : List Item) (x : Item) → Contains xs x ⊎ ¬ Contains xs x
@@ -85,7 +92,9 @@ below_of : (a b : ℕ) → nat_cmp a b ≡ Less → a < b
 below_of a b e = subst (λ o. MatchOrdering o (a < b) (a ≡ b) (b < a)) e (ranked a b (nat_cmp a b) refl)
 
 module _ (items : List Item) (sorted : IsStrictlySortedBy item_cmp items) where
-  above_all : (place : ℕ) (item : Item) (places : List ℕ) (others : List Item) → IsAt items place item → IsStrictlySortedBy nat_cmp (place ∷ places) → AllZip (IsAt items) places others → AllByRecursion (λ other. item_cmp item other ≡ Less) others
+  above_all : (place : ℕ) (item : Item) (places : List ℕ) (others : List Item) → IsAt items place item
+      → IsStrictlySortedBy nat_cmp (place ∷ places) → AllZip (IsAt items) places others
+      → AllByRecursion (λ other. item_cmp item other ≡ Less) others
   unfolding IsStrictlySortedBy
   above_all place item [] [] here rising all = tt
   above_all place item [] (o ∷ others) here rising all = absurd all
@@ -95,15 +104,18 @@ module _ (items : List Item) (sorted : IsStrictlySortedBy item_cmp items) where
     above_all place item places others here (rising.0.1, rising.1.1) all.1,
   )
 
-  rises : (places : List ℕ) (others : List Item) → IsStrictlySortedBy nat_cmp places → AllZip (IsAt items) places others → IsStrictlySortedBy item_cmp others
+  rises : (places : List ℕ) (others : List Item) → IsStrictlySortedBy nat_cmp places → AllZip (IsAt items) places others
+      → IsStrictlySortedBy item_cmp others
   unfolding IsStrictlySortedBy
   rises [] [] rising all = tt
   rises [] (o ∷ others) rising all = absurd all
   rises (p ∷ places) [] rising all = absurd all
-  rises (p ∷ places) (o ∷ others) rising all = (above_all p o places others all.0 rising all.1, rises places others rising.1 all.1)
+  rises (p ∷ places) (o ∷ others) rising all =
+      (above_all p o places others all.0 rising all.1, rises places others rising.1 all.1)
 
   -- the items at some places
-  found_at : (places : List ℕ) (others : List Item) → AllZip (IsAt items) places others → (other : Item) → Contains others other ↔ ((place : ℕ) × Contains places place × IsAt items place other)
+  found_at : (places : List ℕ) (others : List Item) → AllZip (IsAt items) places others → (other : Item)
+      → Contains others other ↔ ((place : ℕ) × Contains places place × IsAt items place other)
   found_at places others all other = (
     λ c.
         let at = at_Contains others other c in
@@ -112,10 +124,12 @@ module _ (items : List Item) (sorted : IsStrictlySortedBy item_cmp items) where
     λ found.
         let at = at_Contains places found.0 found.1 in
         let beside = AllZip-at (IsAt items) places others all at.0 found.0 at.1 in
-        subst (Contains others) (one_item items found.0 beside.0 other beside.2 found.2) (Contains-at others at.0 beside.0 beside.1),
+        subst (Contains others) (one_item items found.0 beside.0 other beside.2 found.2)
+        (Contains-at others at.0 beside.0 beside.1),
   )
 
-  mapped_at : (places : List ℕ) → ((place : ℕ) → Contains places place → place < length items) → AllZip (IsAt items) places (map (item_at items) places)
+  mapped_at : (places : List ℕ) → ((place : ℕ) → Contains places place → place < length items)
+      → AllZip (IsAt items) places (map (item_at items) places)
   mapped_at [] within = tt
   mapped_at (p ∷ places) within =
       (slice_get-get_or items p _ (within p (Contains-first p places)), mapped_at places (λ q c. within q (Contains-later p places q c)))
@@ -127,10 +141,12 @@ row_at : (found : Option (List ℕ)) (r : List ℕ) → found ≡ Some r → row
 row_at None r is = cc
 row_at (Some other) r is = cc
 
-module _ (gate : GateRules) (state : State) (graph : ItemGraph) (is : IsGraphOf gate state graph) (whole : AreItems state graph.items) (around : Option ℕ) (ahead behind : List Bool)
+module _ (gate : GateRules) (state : State) (graph : ItemGraph) (is : IsGraphOf gate state graph)
+    (whole : AreItems state graph.items) (around : Option ℕ) (ahead behind : List Bool)
     (are_ahead : AreAhead graph around ahead) (are_behind : AreBehind graph around behind) where
   -- ---- which items are drawn
-  shown_drawn : (place : ℕ) (item : Item) → IsAt graph.items place item → IsShown state graph.items ahead behind place ↔ IsDrawn gate state around item
+  shown_drawn : (place : ℕ) (item : Item) → IsAt graph.items place item
+      → IsShown state graph.items ahead behind place ↔ IsDrawn gate state around item
   shown_drawn place item here = (
     λ shown.
         let same = one_item graph.items place shown.item item shown.here here in
@@ -154,9 +170,12 @@ module _ (gate : GateRules) (state : State) (graph : ItemGraph) (is : IsGraphOf 
   )
 
   -- ---- what an item waits for
-  needs_drawn : (place : ℕ) (item : Item) → IsAt graph.items place item → (needs : List Item) → AreNeedsAt state graph.items ahead behind (ends_of graph.ends place) needs → AreNeeds gate state around item needs
+  needs_drawn : (place : ℕ) (item : Item) → IsAt graph.items place item → (needs : List Item)
+      → AreNeedsAt state graph.items ahead behind (ends_of graph.ends place) needs
+      → AreNeeds gate state around item needs
   needs_drawn place item here needs are = record {
-    in_order = rises graph.items is.items.in_order are.places needs (sorted_from_strictly_increasing are.places are.kept.increasing) all;
+    in_order = rises graph.items is.items.in_order are.places needs
+        (sorted_from_strictly_increasing are.places are.kept.increasing) all;
     each = λ other. (
       λ c.
           let found = (found_at graph.items is.items.in_order are.places needs all other).0 c in
@@ -170,16 +189,19 @@ module _ (gate : GateRules) (state : State) (graph : ItemGraph) (is : IsGraphOf 
           (found_at graph.items is.items.in_order are.places needs all other).1 (at.0, kept, at.1),
     );
   } where
-    beside : (ends : List ℕ) × (slice_get graph.ends place ≡ Some ends) × AreEnds (IsDependency gate state) graph.items item ends
+    beside : (ends : List ℕ) × (slice_get graph.ends place ≡ Some ends)
+        × AreEnds (IsDependency gate state) graph.items item ends
     beside = AllZip-at (AreEnds (IsDependency gate state) graph.items) graph.items graph.ends is.ends place item here
 
     within : (p : ℕ) → Contains are.places p → p < length graph.items
     within p c = let kept = ((are.kept.each p).0 c).1 in slice_get_within graph.items p kept.item kept.here
 
     all : AllZip (IsAt graph.items) are.places needs
-    all = subst (AllZip (IsAt graph.items) are.places) (sym are.needs_are) (mapped_at graph.items is.items.in_order are.places within)
+    all = subst (AllZip (IsAt graph.items) are.places) (sym are.needs_are)
+        (mapped_at graph.items is.items.in_order are.places within)
 
-  unknown_drawn : (place : ℕ) (item : Item) → IsAt graph.items place item → (unknown : List ℕ) → AreUnknownAt state graph ahead place unknown → AreUnknown gate state around item unknown
+  unknown_drawn : (place : ℕ) (item : Item) → IsAt graph.items place item → (unknown : List ℕ)
+      → AreUnknownAt state graph ahead place unknown → AreUnknown gate state around item unknown
   unknown_drawn place item here unknown are = record {
     increasing = are.increasing;
     each = λ number. (
@@ -214,34 +236,43 @@ module _ (gate : GateRules) (state : State) (graph : ItemGraph) (is : IsGraphOf 
 
   -- ---- its cycle
   module _ (firsts : List ℕ) (are_firsts : AreFirsts graph.ends firsts) where
-    cycle_drawn : (place : ℕ) (item : Item) → IsAt graph.items place item → (cycle : Option Item) → cycle ≡ first_at graph firsts place → IsCycleOf gate state item cycle
-    cycle_drawn place item here cycle cycle_is = subst (IsCycleOf gate state item) (sym cycle_is) (by_flag beside.0 (get_or_from_slice_get graph.on_cycle place beside.0 false beside.1) beside.2) where
-      beside : (flag : Bool) × (slice_get graph.on_cycle place ≡ Some flag) × (IsTrue flag ↔ IsOnCycle (IsDependency gate state) item)
-      beside = AllZip-at (λ i flag. IsTrue flag ↔ IsOnCycle (IsDependency gate state) i) graph.items graph.on_cycle is.on_cycle place item here
+    cycle_drawn : (place : ℕ) (item : Item) → IsAt graph.items place item → (cycle : Option Item)
+        → cycle ≡ first_at graph firsts place → IsCycleOf gate state item cycle
+    cycle_drawn place item here cycle cycle_is = subst (IsCycleOf gate state item) (sym cycle_is)
+        (by_flag beside.0 (get_or_from_slice_get graph.on_cycle place beside.0 false beside.1) beside.2) where
+          beside : (flag : Bool) × (slice_get graph.on_cycle place ≡ Some flag)
+              × (IsTrue flag ↔ IsOnCycle (IsDependency gate state) item)
+          beside = AllZip-at (λ i flag. IsTrue flag ↔ IsOnCycle (IsDependency gate state) i) graph.items graph.on_cycle is.on_cycle place item here
 
-      sized : length graph.ends ≡ length graph.items
-      sized = length-AllZip (AreEnds (IsDependency gate state) graph.items) graph.items graph.ends is.ends
+          sized : length graph.ends ≡ length graph.items
+          sized = length-AllZip (AreEnds (IsDependency gate state) graph.items) graph.items graph.ends is.ends
 
-      place_in : place < length graph.ends
-      place_in = omega (arith, sized, slice_get_within graph.items place item here)
+          place_in : place < length graph.ends
+          place_in = omega (arith, sized, slice_get_within graph.items place item here)
 
-      first_in : slice_index firsts place < length graph.items
-      first_in = omega (arith, sized, first_within graph.ends firsts are_firsts place place_in)
+          first_in : slice_index firsts place < length graph.items
+          first_in = omega (arith, sized, first_within graph.ends firsts are_firsts place place_in)
 
-      by_flag : (flag : Bool) → flag_at graph.on_cycle place ≡ flag → IsTrue flag ↔ IsOnCycle (IsDependency gate state) item
-          → IsCycleOf gate state item (cond (flag_at graph.on_cycle place) (Some (item_at graph.items (slice_index firsts place))) None)
-      by_flag true at cycles =
-          subst (λ b. IsCycleOf gate state item (cond b (Some (item_at graph.items (slice_index firsts place))) None)) (sym at) (
-            cycles.0 refl,
-            first_item gate state graph is whole place (slice_index firsts place) item (item_at graph.items (slice_index firsts place)) here
-                (slice_get-get_or graph.items (slice_index firsts place) _ first_in) (are_firsts.each place place_in),
-          )
-      by_flag false at cycles =
-          subst (λ b. IsCycleOf gate state item (cond b (Some (item_at graph.items (slice_index firsts place))) None)) (sym at) (λ on. false≢true (cycles.1 on))
+          by_flag : (flag : Bool) → flag_at graph.on_cycle place ≡ flag
+              → IsTrue flag ↔ IsOnCycle (IsDependency gate state) item
+              → IsCycleOf gate state item
+              (cond (flag_at graph.on_cycle place) (Some (item_at graph.items (slice_index firsts place))) None)
+          by_flag true at cycles =
+              subst (λ b. IsCycleOf gate state item (cond b (Some (item_at graph.items (slice_index firsts place))) None))
+              (sym at) (
+                cycles.0 refl,
+                first_item gate state graph is whole place (slice_index firsts place) item
+                    (item_at graph.items (slice_index firsts place)) here
+                    (slice_get-get_or graph.items (slice_index firsts place) _ first_in) (are_firsts.each place place_in),
+              )
+          by_flag false at cycles =
+              subst (λ b. IsCycleOf gate state item (cond b (Some (item_at graph.items (slice_index firsts place))) None))
+              (sym at) (λ on. false≢true (cycles.1 on))
 
   -- ---- its verdict
   module _ (verdicts : Judged) (judged : AreVerdicts gate state verdicts) where
-    verdict_drawn : (item : Item) → IsItem state item → (refusal : Option Refusal) → IsOutFor verdicts.out item refusal → IsVerdictOn verdicts item refusal
+    verdict_drawn : (item : Item) → IsItem state item → (refusal : Option Refusal) → IsOutFor verdicts.out item refusal
+        → IsVerdictOn verdicts item refusal
     verdict_drawn item there None not_out = elim (among_or_not verdicts.ready item) [
       | inl ready ↦ ready
       | inr not ↦ absurd (not_out ((judged.out item).1 (there, λ is_ready. not ((judged.ready item).1 is_ready))))
@@ -249,9 +280,11 @@ module _ (gate : GateRules) (state : State) (graph : ItemGraph) (is : IsGraphOf 
     verdict_drawn item there (Some refusal) out = out
 
     -- ---- all nodes
-    pub nodes_drawn : (nodes : List Node) → AreNodesAt state graph verdicts.out ahead behind nodes → AreNodes gate state verdicts around nodes
+    pub nodes_drawn : (nodes : List Node) → AreNodesAt state graph verdicts.out ahead behind nodes
+        → AreNodes gate state verdicts around nodes
     nodes_drawn nodes are = record {
-      in_order = rises graph.items is.items.in_order are.all.places (items_of nodes) (sorted_from_strictly_increasing are.all.places are.all.kept.increasing) zipped;
+      in_order = rises graph.items is.items.in_order are.all.places (items_of nodes)
+          (sorted_from_strictly_increasing are.all.places are.all.kept.increasing) zipped;
       each = λ item. (
         λ c.
             let found = (found_at graph.items is.items.in_order are.all.places (items_of nodes) zipped item).0 c in
@@ -272,7 +305,9 @@ module _ (gate : GateRules) (state : State) (graph : ItemGraph) (is : IsGraphOf 
             unknown = unknown_drawn beside.0 node.item its.item node.unknown.items its.unknown;
           };
     } where
-      items_zipped : (places : List ℕ) (some : List Node) → AllZip (IsNodeAt state graph verdicts.out ahead behind are.firsts) places some → AllZip (IsAt graph.items) places (items_of some)
+      items_zipped : (places : List ℕ) (some : List Node)
+          → AllZip (IsNodeAt state graph verdicts.out ahead behind are.firsts) places some
+          → AllZip (IsAt graph.items) places (items_of some)
       items_zipped [] [] all = tt
       items_zipped [] (n ∷ ns) all = absurd all
       items_zipped (p ∷ ps) [] all = absurd all
@@ -282,26 +317,32 @@ module _ (gate : GateRules) (state : State) (graph : ItemGraph) (is : IsGraphOf 
       zipped = items_zipped are.all.places nodes are.all.nodes_at
 
 -- ---- what a graph and its flags are
-ahead_sized : (graph : ItemGraph) → length graph.ends ≡ length graph.items → (around : Option ℕ) (flags : List Bool) → AreAhead graph around flags → length flags ≡ length graph.items
+ahead_sized : (graph : ItemGraph) → length graph.ends ≡ length graph.items → (around : Option ℕ) (flags : List Bool)
+    → AreAhead graph around flags → length flags ≡ length graph.items
 ahead_sized graph sized None flags all = ap length all ∙ length-replicate (length graph.items) true
 ahead_sized graph sized (Some number) flags reach = reach.nodes ∙ sized
 
-behind_sized : (graph : ItemGraph) → length graph.ends ≡ length graph.items → (around : Option ℕ) (flags : List Bool) → AreBehind graph around flags → length flags ≡ length graph.items
+behind_sized : (graph : ItemGraph) → length graph.ends ≡ length graph.items → (around : Option ℕ) (flags : List Bool)
+    → AreBehind graph around flags → length flags ≡ length graph.items
 behind_sized graph sized None flags all = ap length all ∙ length-replicate (length graph.items) true
 behind_sized graph sized (Some number) flags lead = lead.nodes ∙ sized
 
-module _ (gate : GateRules) (state : State) (graph : ItemGraph) (is : IsGraphOf gate state graph) (whole : AreItems state graph.items) (around : Option ℕ) (ahead behind : List Bool)
+module _ (gate : GateRules) (state : State) (graph : ItemGraph) (is : IsGraphOf gate state graph)
+    (whole : AreItems state graph.items) (around : Option ℕ) (ahead behind : List Bool)
     (are_ahead : AreAhead graph around ahead) (are_behind : AreBehind graph around behind) where
   all_nodes : length graph.ends ≡ length graph.items
   all_nodes = length-AllZip (AreEnds (IsDependency gate state) graph.items) graph.items graph.ends is.ends
 
-  ends_at : (place : ℕ) (found : Option (List ℕ)) → slice_get graph.ends place ≡ found → IsStrictlyIncreasing (row found)
+  ends_at : (place : ℕ) (found : Option (List ℕ)) → slice_get graph.ends place ≡ found
+      → IsStrictlyIncreasing (row found)
   ends_at place None at = IsStrictlyIncreasing-from_sorted [] no_numbers
   ends_at place (Some ends) at = (AllZip-beside (AreEnds (IsDependency gate state) graph.items) graph.items graph.ends is.ends place ends at).2.increasing
 
-  targets_at : (place : ℕ) (found : Option (List ℕ)) → slice_get graph.targets place ≡ found → IsStrictlyIncreasing (row found)
+  targets_at : (place : ℕ) (found : Option (List ℕ)) → slice_get graph.targets place ≡ found
+      → IsStrictlyIncreasing (row found)
   targets_at place None at = IsStrictlyIncreasing-from_sorted [] no_numbers
-  targets_at place (Some targets) at = (AllZip-beside (AreTargets gate state) graph.items graph.targets is.targets place targets at).2.increasing
+  targets_at place (Some targets) at =
+      (AllZip-beside (AreTargets gate state) graph.items graph.targets is.targets place targets at).2.increasing
 
   pub graph_sides : AreSides graph ahead behind
   graph_sides = record {
@@ -309,7 +350,8 @@ module _ (gate : GateRules) (state : State) (graph : ItemGraph) (is : IsGraphOf 
     ahead_all = ahead_sized graph all_nodes around ahead are_ahead;
     behind_all = behind_sized graph all_nodes around behind are_behind;
     nodes = all_nodes;
-    cycles = length-AllZip (λ i flag. IsTrue flag ↔ IsOnCycle (IsDependency gate state) i) graph.items graph.on_cycle is.on_cycle;
+    cycles = length-AllZip
+        (λ i flag. IsTrue flag ↔ IsOnCycle (IsDependency gate state) i) graph.items graph.on_cycle is.on_cycle;
     within = ends_within (IsDependency gate state) graph.items graph.ends is.ends;
     ends_rise = λ place. ends_at place (slice_get graph.ends place) refl;
     targets_rise = λ place. targets_at place (slice_get graph.targets place) refl;

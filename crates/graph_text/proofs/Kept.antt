@@ -1,5 +1,6 @@
 -- What is kept of numbers in order, one number after the other.
-use Rattle.std.proofs.Common.{◌≡◌, ◌↔◌, ◌⊎◌, ◌<◌, ◌≤◌, ◌+◌, ℕ, cond, eqb, List, [], ◌∷◌, ◌++◌, take, length, get_or, Contains, sym, ap, ◌∙◌, subst, arith, inl, inr}
+use Rattle.std.proofs.Common.{◌≡◌, ◌↔◌, ◌⊎◌, ◌<◌, ◌≤◌, ◌+◌, ℕ, cond, eqb, List, [], ◌∷◌, ◌++◌, take, length, get_or}
+use Rattle.std.proofs.Common.{Contains, sym, ap, ◌∙◌, subst, arith, inl, inr}
 use Rattle.std.specs.declared.cmp.Ordering.TheVariants.{Less, Equal, Greater}
 use Rattle.std.specs.Ordering.{nat_cmp}
 use Rattle.std.specs.List.Sorted.{IsStrictlyIncreasing, IsStrictlySortedBy}
@@ -14,9 +15,11 @@ use Rattle.graph_text.specs.Places.{AreKept}
 less_is : (m n : ℕ) → m < n → nat_cmp m n ≡ Less
 less_is m n h = ap (λ b. cond b Less (cond (eqb m n) Equal Greater)) (lt-ltb m n h)
 
-increasing_push : (xs : List ℕ) (n : ℕ) → IsStrictlyIncreasing xs → ((m : ℕ) → Contains xs m → m < n) → IsStrictlyIncreasing (xs ++ n ∷ [])
+increasing_push : (xs : List ℕ) (n : ℕ) → IsStrictlyIncreasing xs → ((m : ℕ) → Contains xs m → m < n)
+    → IsStrictlyIncreasing (xs ++ n ∷ [])
 increasing_push xs n rising above =
-    IsStrictlyIncreasing-from_sorted (xs ++ n ∷ []) (sorted_push nat_cmp xs n (sorted_from_strictly_increasing xs rising) (λ m c. less_is m n (above m c)))
+    IsStrictlyIncreasing-from_sorted (xs ++ n ∷ [])
+    (sorted_push nat_cmp xs n (sorted_from_strictly_increasing xs rising) (λ m c. less_is m n (above m c)))
 
 -- which numbers there are now: those from before, and one more
 abbrev pub Grows : (ℕ → Type 0) → (ℕ → Type 0) → ℕ → Type 0
@@ -62,7 +65,8 @@ below_grows count m = (
 )
 
 -- the first of some numbers, and the next one
-pub taken_grows : (xs : List ℕ) (i : ℕ) → i < length xs → Grows (Contains (take i xs)) (Contains (take (i + 1) xs)) (get_or xs i 0)
+pub taken_grows : (xs : List ℕ) (i : ℕ) → i < length xs
+    → Grows (Contains (take i xs)) (Contains (take (i + 1) xs)) (get_or xs i 0)
 taken_grows xs i within m = (
   λ c. elim (Contains-push_cases (take i xs) (get_or xs i 0) m (subst (λ l. Contains l m) (take_more xs i 0 within) c)) [
     | inl before ↦ inl before
@@ -70,10 +74,12 @@ taken_grows xs i within m = (
   ],
   λ either. subst (λ l. Contains l m) (sym (take_more xs i 0 within)) (elim either [
     | inl before ↦ Contains-append_left (take i xs) (get_or xs i 0 ∷ []) m before
-    | inr same ↦ subst (Contains (take i xs ++ get_or xs i 0 ∷ [])) (sym same) (Contains-push (take i xs) (get_or xs i 0))
+    | inr same ↦ subst (Contains (take i xs ++ get_or xs i 0 ∷ [])) (sym same)
+        (Contains-push (take i xs) (get_or xs i 0))
   ]),
 )
 
 -- all of the numbers were gone over
-pub kept_all : (P : ℕ → Type 0) (xs : List ℕ) (i : ℕ) (kept : List ℕ) → length xs ≤ i → AreKept (Contains (take i xs)) P kept → AreKept (Contains xs) P kept
+pub kept_all : (P : ℕ → Type 0) (xs : List ℕ) (i : ℕ) (kept : List ℕ) → length xs ≤ i
+    → AreKept (Contains (take i xs)) P kept → AreKept (Contains xs) P kept
 kept_all P xs i kept past are = subst (λ l. AreKept (Contains l) P kept) (take_all i xs past) are

@@ -1,5 +1,6 @@
 -- Nodes, place after place.
-use Rattle.std.proofs.Common.{◌≡◌, ◌<◌, ◌+◌, ℕ, Bool, List, [], ◌∷◌, ◌++◌, Contains, eqb, flat_map, refl, sym, subst, arith}
+use Rattle.std.proofs.Common.{◌≡◌, ◌<◌, ◌+◌, ℕ, Bool, List, [], ◌∷◌, ◌++◌, Contains, eqb, flat_map, refl, sym, subst}
+use Rattle.std.proofs.Common.{arith}
 use Rattle.std.specs.List.{AllZip}
 use Rattle.std.specs.List.Retain.{IsFiltered, DiffersFromLast}
 use Rattle.std.specs.List.Sorted.{IsPermutation, IsSorted, IsStrictlyIncreasing}
@@ -16,7 +17,8 @@ use Rattle.graph_text.specs.declared.node.Node.{Node}
 use Rattle.graph_text.specs.Places.{AreNodesTo, IsNodeAt, IsShown}
 use Rattle.graph_text.proofs.Kept.{below_grows, kept_skips, kept_takes}
 
-zip_push : {X Y : Type 0} (R : X → Y → Type 0) (xs : List X) (ys : List Y) (x : X) (y : Y) → AllZip R xs ys → R x y → AllZip R (xs ++ x ∷ []) (ys ++ y ∷ [])
+zip_push : {X Y : Type 0} (R : X → Y → Type 0) (xs : List X) (ys : List Y) (x : X) (y : Y) → AllZip R xs ys → R x y
+    → AllZip R (xs ++ x ∷ []) (ys ++ y ∷ [])
 zip_push R [] [] x y all r = (r, tt)
 zip_push R [] (b ∷ ys) x y all r = absurd all
 zip_push R (a ∷ xs) [] x y all r = absurd all
@@ -24,23 +26,30 @@ zip_push R (a ∷ xs) (b ∷ ys) x y all r = (all.0, zip_push R xs ys x y all.1 
 
 module _ (state : State) (graph : ItemGraph) (out : List Left) (ahead behind : List Bool) (firsts : List ℕ) where
   module _ (count : ℕ) (nodes : List Node) (are : AreNodesTo state graph out ahead behind firsts count nodes) where
-    pub node_less : ¬ IsShown state graph.items ahead behind count → AreNodesTo state graph out ahead behind firsts (count + 1) nodes
+    pub node_less : ¬ IsShown state graph.items ahead behind count
+        → AreNodesTo state graph out ahead behind firsts (count + 1) nodes
     node_less not = record {
       places = are.places;
-      kept = kept_skips (IsShown state graph.items ahead behind) (λ m. m < count) (λ m. m < count + 1) are.places count are.kept (below_grows count) not;
+      kept = kept_skips (IsShown state graph.items ahead behind) (λ m. m < count)
+          (λ m. m < count + 1) are.places count are.kept (below_grows count) not;
       nodes_at = are.nodes_at;
     }
 
-    pub node_more : IsShown state graph.items ahead behind count → (node : Node) → IsNodeAt state graph out ahead behind firsts count node
-        → (pushed : List Node) → pushed ≡ nodes ++ node ∷ [] → AreNodesTo state graph out ahead behind firsts (count + 1) pushed
-    node_more is node drawn pushed pushed_is = subst (AreNodesTo state graph out ahead behind firsts (count + 1)) (sym pushed_is) (record {
-      places = are.places ++ count ∷ [];
-      kept = kept_takes (IsShown state graph.items ahead behind) (λ m. m < count) (λ m. m < count + 1) are.places count are.kept (below_grows count) is (λ m less. less) _ refl;
-      nodes_at = zip_push (IsNodeAt state graph out ahead behind firsts) are.places nodes count node are.nodes_at drawn;
-    })
+    pub node_more : IsShown state graph.items ahead behind count → (node : Node)
+        → IsNodeAt state graph out ahead behind firsts count node
+        → (pushed : List Node) → pushed ≡ nodes ++ node ∷ []
+        → AreNodesTo state graph out ahead behind firsts (count + 1) pushed
+    node_more is node drawn pushed pushed_is =
+        subst (AreNodesTo state graph out ahead behind firsts (count + 1)) (sym pushed_is) (record {
+          places = are.places ++ count ∷ [];
+          kept = kept_takes (IsShown state graph.items ahead behind) (λ m. m < count)
+              (λ m. m < count + 1) are.places count are.kept (below_grows count) is (λ m less. less) _ refl;
+          nodes_at = zip_push (IsNodeAt state graph out ahead behind firsts) are.places nodes count node are.nodes_at drawn;
+        })
 
 -- ---- the unknown changes of all nodes
-pub all_unknown : (nodes : List Node) (named sorted once : List ℕ) → named ≡ flat_map (λ node. node.unknown.items) nodes → IsPermutation named sorted → IsSorted nat_cmp sorted
+pub all_unknown : (nodes : List Node) (named sorted once : List ℕ) → named ≡ flat_map (λ node. node.unknown.items) nodes
+    → IsPermutation named sorted → IsSorted nat_cmp sorted
     → IsFiltered (DiffersFromLast eqb) [] sorted once → AreAllUnknown nodes once
 all_unknown nodes named sorted once named_is moved in_order filtered =
     let is = dedup_is eqb sorted once filtered in
@@ -52,6 +61,7 @@ all_unknown nodes named sorted once named_is moved in_order filtered =
             subst (λ l. Contains l n) named_is in_named,
         λ has.
             let in_named = subst (λ l. Contains l n) (sym named_is) has in
-            subst (λ l. Contains l n) (sym is) (Contains-dedup_nat sorted n (Contains-permutation named sorted n moved in_named)),
+            subst (λ l. Contains l n) (sym is)
+            (Contains-dedup_nat sorted n (Contains-permutation named sorted n moved in_named)),
       );
     }

@@ -1,5 +1,6 @@
 -- The words of items and refusals have no byte that would be changed between quotes.
-use Rattle.std.proofs.Common.{◌≡◌, ◌≢◌, ◌<◌, ◌≤◌, ◌^◌, ◌==◌, ◌&&◌, ℕ, Bool, true, false, not, List, [], ◌∷◌, ◌++◌, refl, sym, ap, ◌∙◌, arith, decimal, eq-eqb}
+use Rattle.std.proofs.Common.{◌≡◌, ◌≢◌, ◌<◌, ◌≤◌, ◌^◌, ◌==◌, ◌&&◌, ℕ, Bool, true, false, not, List, [], ◌∷◌, ◌++◌, refl}
+use Rattle.std.proofs.Common.{sym, ap, ◌∙◌, arith, decimal, eq-eqb}
 use Rattle.std.specs.Prelude.{codes}
 use Rattle.std.specs.List.{All, AllByRecursion}
 use Rattle.std.specs.Str.Parse.{AllDigits}
@@ -15,7 +16,7 @@ use Rattle.gate_rules.specs.declared.condition.Clause.TheVariants.{OpenState, Cu
 use Rattle.ready_core.specs.declared.verdicts.Refusal.{Refusal}
 use Rattle.ready_core.specs.declared.verdicts.Refusal.TheVariants.{Own, Cycle, Unknown, Dependency}
 use Rattle.report_text.specs.Report.{side_name, clause_text, refusal_text, item_text}
-use Rattle.report_text.specs.Told.{IsSmallItem, IsSmallClause, IsSmallRefusal}
+use Rattle.report_text.specs.Printed.{IsSmallItem, IsSmallClause, IsSmallRefusal}
 use Rattle.graph_text.specs.Lines.{IsPlain, IsPlainByte}
 
 -- ---- words that are written here
@@ -61,7 +62,8 @@ digits_plain (d ∷ ds) all =
     )
 
 number_plain : (n : ℕ) → n < 2 ^ 64 → IsPlain (decimal n)
-number_plain n small = All-from_recursion IsPlainByte (decimal n) (digits_plain (decimal n) (decimal_is_IsNumeral n small).0.1)
+number_plain n small =
+    All-from_recursion IsPlainByte (decimal n) (digits_plain (decimal n) (decimal_is_IsNumeral n small).0.1)
 
 -- ---- items and refusals
 pub item_plain : (item : Item) → IsSmallItem item → IsPlain (item_text item)
@@ -78,7 +80,8 @@ clause_plain : (clause : Clause) → IsSmallClause clause → IsPlain (clause_te
 clause_plain OpenState small = written (codes "open") refl
 clause_plain CurrentSet small = written (codes "current-patchset") refl
 clause_plain StatusIn small = written (codes "status") refl
-clause_plain (Approval number) small = All-append IsPlainByte (codes "approval ") (decimal number) (written (codes "approval ") refl) (number_plain number small)
+clause_plain (Approval number) small = All-append IsPlainByte (codes "approval ") (decimal number)
+    (written (codes "approval ") refl) (number_plain number small)
 
 pub refusal_plain : (refusal : Refusal) → IsSmallRefusal refusal → IsPlain (refusal_text refusal)
 refusal_plain (Own condition) small =
@@ -86,5 +89,7 @@ refusal_plain (Own condition) small =
     (All-append IsPlainByte (side_name condition.side) (codes " ") (side_plain condition.side) (written (codes " ") refl))
     (clause_plain condition.clause small)
 refusal_plain Cycle small = written (codes "cycle") refl
-refusal_plain (Unknown number) small = All-append IsPlainByte (codes "unknown ") (decimal number) (written (codes "unknown ") refl) (number_plain number small)
-refusal_plain (Dependency number) small = All-append IsPlainByte (codes "dependency ") (decimal number) (written (codes "dependency ") refl) (number_plain number small)
+refusal_plain (Unknown number) small = All-append IsPlainByte (codes "unknown ") (decimal number)
+    (written (codes "unknown ") refl) (number_plain number small)
+refusal_plain (Dependency number) small = All-append IsPlainByte (codes "dependency ") (decimal number)
+    (written (codes "dependency ") refl) (number_plain number small)

@@ -1,4 +1,4 @@
--- The text of a picture, in the DOT language (graphviz.org/doc/info/lang.html): names and labels stand in double
+-- The text of a picture, in the DOT language (graphviz.org/doc/info/lang.html): names and labels are in double
 -- quotes, in which a quote would have a backslash before it; in a label a backslash and an `n` are a line end, and a
 -- backslash would be doubled. No word here has any of them, so none is changed. Nodes of one cluster are named under
 -- `subgraph` with one name. The form is the project's own.

@@ -1,4 +1,4 @@
--- Which items of a graph stand near a change, as flags beside its items.
+-- Which items of a graph are near a change, as flags beside its items.
 use Rattle.std.specs.Prelude.{◌≡◌, ◌==◌, ℕ, Bool, true, List, Option, None, Some, length, map, replicate}
 use Rattle.state_core.specs.declared.item.Item.{Item}
 use Rattle.graph_core.specs.ItemGraph.{ItemGraph}

@@ -3,7 +3,7 @@
 ghost use Rattle.state_core.specs.declared.item.Item.{Item};
 ghost use Rattle.ready_core.specs.declared.verdicts.Refusal.{Refusal};
 ghost use Rattle.report_text.specs.Report.{item_text, refusal_text};
-ghost use Rattle.report_text.specs.Told.{IsSmallItem, IsSmallRefusal};
+ghost use Rattle.report_text.specs.Printed.{IsSmallItem, IsSmallRefusal};
 ghost use Rattle.graph_text.specs.Lines.{IsPlain};
 
 /// A law: no quote, no backslash and no line end is in the words of an item or of a refusal, so that they stand for

@@ -1,4 +1,4 @@
-//! What stands near the items of a change: what they lead to, and what leads to them.
+//! What is near the items of a change: what they lead to, and what leads to them.
 
 ghost use Rattle.std.specs.Prelude.{◌≡◌, IfOk, length, map};
 ghost use Rattle.walk_core.specs.Digraphs.{IsWithin};
@@ -18,7 +18,7 @@ pub struct Near {
     pub behind: Vec<bool>,
 }
 
-/// What stands near the items of a change. It costs O(n + m) for n items and m edges.
+/// What is near the items of a change. It costs O(n + m) for n items and m edges.
 pub fn near_of(alloc: Global, graph: &Graph, around: Option<u32>) -> Result<Near, NoMemory>
     requires { IsWithin graph.now.ends }
     ensures ahead { IfOk result (λ near. AreAhead graph.now around near.ahead.items) }
@@ -33,7 +33,7 @@ pub fn near_of(alloc: Global, graph: &Graph, around: Option<u32>) -> Result<Near
     Ok(Near { ahead, behind })
 }
 
-/// All items stand near.
+/// All items are near.
 fn all_near(alloc: Global, graph: &Graph) -> Result<Near, NoMemory>
     ensures ahead { IfOk result (λ near. AreAhead graph.now None near.ahead.items) }
     ensures behind { IfOk result (λ near. AreBehind graph.now None near.behind.items) }

@@ -54,7 +54,7 @@ pub fn nodes_of(
     Ok(nodes)
 }
 
-/// Whether the item at a place is drawn: its change isn't merged, and it stands near.
+/// Whether the item at a place is drawn: its change isn't merged, and it is near.
 fn is_shown(state: &State, graph: &Graph, near: &Near, place: usize) -> bool
     requires sides { AreSides graph.now near.now.ahead.items near.now.behind.items }
     requires place { place < length graph.now.items }
@@ -184,7 +184,7 @@ fn refusal_of(out: &[Left], item: Item) -> Option<Refusal>
     Some(left.refusal)
 }
 
-/// Whether an item stands before another.
+/// Whether an item comes before another.
 fn is_before(item: Item, other: Item) -> bool
     ensures { result ≡ stands_before other item }
 {

@@ -79,7 +79,7 @@ fn add_statement(text: &mut String, node: &Node) -> Result<(), NoMemory>
     Ok(())
 }
 
-/// Adds what stands on a node: the item, and on a line of its own why it is left out, if it is.
+/// Adds the label of a node: the item, and on a line of its own why it is left out, if it is.
 fn add_label(text: &mut String, item: Item, refusal: Option<Refusal>) -> Result<(), NoMemory>
     ensures { OnOk result (string_bytes text.new ≡ string_bytes text.old ++ label_text item refusal) }
 {

@@ -1,5 +1,6 @@
 -- Lines as they come from a source. A line ends at its LF; one carriage return before that is dropped.
-use Rattle.std.specs.Prelude.{◌≡◌, ◌≢◌, ◌≤◌, ◌<◌, ◌+◌, ℕ, Bool, true, false, List, [], ◌++◌, Result, Ok, Err, length, take, drop, All}
+use Rattle.std.specs.Prelude.{◌≡◌, ◌≢◌, ◌≤◌, ◌<◌, ◌+◌, ℕ, Bool, true, false, List, [], ◌++◌, Result, Ok, Err, length}
+use Rattle.std.specs.Prelude.{take, drop, All}
 use Rattle.byte_ends.specs.Lines.{as_line, without_cr}
 use Rattle.byte_ends.specs.declared.faults.BytesFault.{BytesFault}
 use Rattle.byte_ends.specs.declared.faults.BytesFault.TheVariants.{TooLong, ReadFault, NoMemory}
@@ -37,7 +38,8 @@ pub record IsTooLong (limit : ℕ) (bytes : List ℕ) : Type 0 where
 
 -- what a call answers and leaves, where it reads these bytes
 abbrev pub Hands : Reading → List ℕ → Result Bool BytesFault → Reading → Type 0
-Hands old came (Ok true) new = (piece : List ℕ) × BeginsWithLine old.limit (old.held ++ came) piece new.held × (new.line ≡ without_cr piece)
+Hands old came (Ok true) new =
+    (piece : List ℕ) × BeginsWithLine old.limit (old.held ++ came) piece new.held × (new.line ≡ without_cr piece)
 Hands old came (Ok false) new = IsUnfinished old.limit (old.held ++ came) × (new.held ≡ old.held ++ came)
 Hands old came (Err TooLong) new = IsTooLong old.limit (old.held ++ came) × (new.held ≡ old.held ++ came)
 Hands old came (Err ReadFault) new = new.held ≡ old.held ++ came

@@ -1,6 +1,7 @@
 //! Reads a source in blocks, and hands out its lines.
 
-ghost use Rattle.std.specs.Prelude.{◌≡◌, ◌≢◌, ◌++◌, List, ℕ, false, [], Ok, length, IfOk, IfErr, IsErrOf, OnErr, MatchOption};
+ghost use Rattle.std.specs.Prelude.{◌≡◌, ◌≢◌, ◌++◌, List, ℕ, false, [], Ok, length, IfOk, IfErr, IsErrOf, OnErr};
+ghost use Rattle.std.specs.Prelude.{MatchOption};
 ghost use Rattle.std.specs.Io.KnownBytes.{Consumes, IsAtEnd, Keeps};
 ghost use Rattle.byte_ends.specs.ReadAll.{CountsRead};
 ghost use Rattle.byte_ends.specs.Lines.{without_cr};
@@ -15,8 +16,9 @@ use std::marker::Model;
 /// How many bytes are read at once.
 const BLOCK: usize = 65536;
 
-/// Cuts what comes from a source into lines: each ends at an LF, and one carriage return before it is dropped. Bytes that were read past the
-/// line that was handed out last are held for the next ones. Contracts see the limit, that line, and what is held.
+/// Cuts what comes from a source into lines: each ends at an LF, and one carriage return before it is dropped. Bytes
+/// that were read past the line that was handed out last are held for the next ones. Contracts see the limit, that
+/// line, and what is held.
 #[derive(Drop)]
 pub struct LineReader<A: Allocator + Copy = Global> {
     bytes: Vec<u8, A>,
@@ -54,10 +56,10 @@ impl<A: Allocator + Copy> LineReader<A> {
         })
     }
 
-    /// Reads the next line, and says whether there is one: where not, the source is at its end, and what is held is a line without its LF.
-    /// Refusals: 6 `TooLong`, more than the limit's bytes came with no LF among them; 7 `ReadFault`, the source failed; 8 `NoMemory`. What was
-    /// read stays held. Where a whole line is held already the source isn't asked. It costs O(n) for n bytes, each of which is looked at twice
-    /// at most.
+    /// Reads the next line, and says whether there is one: where not, the source is at its end, and what is held is a
+    /// line without its LF. Refusals: 6 `TooLong`, more than the limit's bytes came with no LF among them; 7
+    /// `ReadFault`, the source failed; 8 `NoMemory`. What was read stays held. Where a whole line is held already the
+    /// source isn't asked. It costs O(n) for n bytes, each of which is looked at twice at most.
     pub fn next_line<S: Source>(&mut self, source: &mut S) -> Result<bool, BytesFault>
         ensures hands { (came : List ℕ) × Consumes (S.left source.old) (S.left source.new) came
             × Hands self.old came result self.new }
@@ -73,10 +75,10 @@ impl<A: Allocator + Copy> LineReader<A> {
         self.read_line(source)
     }
 
-    /// Passes over what comes up to the next LF, as the rest of a line that is too long, and says whether there was an LF: where not, the source
-    /// is at its end. What was passed over isn't held: beside what was held before a block of the source is held at most. Refusals: 6 `TooLong`,
-    /// no LF was among 2^64 - 1 blocks; 7 `ReadFault`, the source failed; 8 `NoMemory`. What was read until then is passed over. It costs O(n)
-    /// for n bytes.
+    /// Passes over what comes up to the next LF, as the rest of a line that is too long, and says whether there was an
+    /// LF: where not, the source is at its end. What was passed over isn't held: beside what was held before a block of
+    /// the source is held at most. Refusals: 6 `TooLong`, no LF was among 2^64 - 1 blocks; 7 `ReadFault`, the source
+    /// failed; 8 `NoMemory`. What was read until then is passed over. It costs O(n) for n bytes.
     pub fn pass_over<S: Source>(&mut self, source: &mut S) -> Result<bool, BytesFault>
         ensures passes { (came : List ℕ) × Consumes (S.left source.old) (S.left source.new) came
             × Passes self.old.held came result self.new.held }

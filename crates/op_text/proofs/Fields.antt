@@ -1,11 +1,13 @@
 -- The fields in their order.
-use Rattle.std.proofs.Common.{◌≡◌, ℕ, ◌<◌, ◌+◌, length, suc, zero, Bool, true, false, ◌&&◌, List, [], ◌∷◌, get_or, Ordering, Less, Equal, Greater, refl, sym, ap, ◌∙◌, arith}
+use Rattle.std.proofs.Common.{◌≡◌, ℕ, ◌<◌, ◌+◌, length, suc, zero, Bool, true, false, ◌&&◌, List, [], ◌∷◌, get_or}
+use Rattle.std.proofs.Common.{Ordering, Less, Equal, Greater, refl, sym, ap, ◌∙◌, arith}
 use Rattle.std.proofs.lemmas.Bool.{false≢true}
 use Rattle.std.proofs.lemmas.Cmp.{ranked}
 use Rattle.std.specs.Cmp.Lexicographic.{slice_cmp}
 use Rattle.std.specs.Ordering.{nat_cmp}
 use Rattle.op_text.specs.declared.field.Field.{Field}
-use Rattle.op_text.specs.declared.field.Field.TheVariants.{Change, Label, Message, Op, Parent, Seq, Set, Site, Start, Time, Value, Voter}
+use Rattle.op_text.specs.declared.field.Field.TheVariants.{Change, Label, Message, Op, Parent, Seq, Set, Site, Start}
+use Rattle.op_text.specs.declared.field.Field.TheVariants.{Time, Value, Voter}
 use Rattle.op_text.specs.Field.{key_of}
 use Rattle.op_text.specs.Text.{all_fields}
 
@@ -23,7 +25,7 @@ place_of Time = 9
 place_of Value = 10
 place_of Voter = 11
 
--- each field stands at its place
+-- each field is at its place
 pub field_at : (field : Field) → (place_of field < 12) × (get_or all_fields (place_of field) Change ≡ field)
 field_at Change = (omega arith, refl)
 field_at Label = (omega arith, refl)
@@ -91,7 +93,8 @@ same_ordering Greater Greater h = refl
 same_ordering a b h = absurd (false≢true h)
 
 -- the keys are in the order of the places
-in_order : every (λ f. every (λ g. alike (slice_cmp nat_cmp (key_of f) (key_of g)) (nat_cmp (place_of f) (place_of g)))) ≡ true
+in_order : every (λ f. every (λ g. alike (slice_cmp nat_cmp (key_of f) (key_of g)) (nat_cmp (place_of f) (place_of g))))
+    ≡ true
 unfolding alike
 in_order = refl
 
@@ -120,6 +123,6 @@ placed = (refl, (refl, (refl, (refl, (refl, (refl, (refl, (refl, (refl, (refl, (
 pub same_place : (f g : Field) → place_of f ≡ place_of g → f ≡ g
 same_place f g e = sym (field_at f).1 ∙ ap (λ i. get_or all_fields i Change) e ∙ (field_at g).1
 
--- the place of what stands at a place
+-- the place of what is at a place
 pub place_at : (i : ℕ) → i < 12 → place_of (get_or all_fields i Change) ≡ i
 place_at i h = omega (arith, placed_at all_fields 0 i placed h)

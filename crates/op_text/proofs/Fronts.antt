@@ -1,5 +1,6 @@
 -- Lists of values as fronts' entries.
-use Rattle.std.proofs.Common.{◌≡◌, ℕ, ◌<◌, zero, suc, List, [], ◌∷◌, ◌++◌, length, get_or, Some, Result, Ok, Err, IfOk, IfErr, MatchResult, codes, refl, sym, ◌∙◌, subst, arith}
+use Rattle.std.proofs.Common.{◌≡◌, ℕ, ◌<◌, zero, suc, List, [], ◌∷◌, ◌++◌, length, get_or, Some, Result, Ok, Err, IfOk}
+use Rattle.std.proofs.Common.{IfErr, MatchResult, codes, refl, sym, ◌∙◌, subst, arith}
 use Rattle.serde_json.specs.Data.{Data, null, boolean, number, string, array, object, Items, no_items, item}
 use Rattle.serde_json.specs.Find.{as_array}
 use Rattle.serde_json.specs.View.{view, items_view}
@@ -11,8 +12,10 @@ use Rattle.op_text.specs.Shape.{NamesKey}
 use Rattle.op_text.specs.Front.{Entry, HoldsEntry, IsEntry, AreEntries, IsList, SpellsEntries, IsFrontRefusal}
 
 -- an entry's value is a list
-entry_items : (value : Data) (values : Items) (entry : Entry) → as_array value ≡ Some values → IsEntry value entry → HoldsEntry values entry
-entry_items (array found) values entry is h = let same : found ≡ values = cc in subst (λ items. HoldsEntry items entry) same h
+entry_items : (value : Data) (values : Items) (entry : Entry) → as_array value ≡ Some values → IsEntry value entry
+    → HoldsEntry values entry
+entry_items (array found) values entry is h = let same : found ≡ values = cc in subst
+    (λ items. HoldsEntry items entry) same h
 entry_items null values entry is h = absurd h
 entry_items (boolean b) values entry is h = absurd h
 entry_items (number n) values entry is h = absurd h
@@ -27,25 +30,30 @@ three_items (a ∷ b ∷ []) entry h = absurd h
 three_items (a ∷ b ∷ c ∷ []) entry h = refl
 three_items (a ∷ b ∷ c ∷ d ∷ rest) entry h = absurd h
 
-pub three_values : (value : Data) (values : List Value) (entry : Entry) → as_array value ≡ Some (items_view values) → IsEntry value entry → length values ≡ 3
+pub three_values : (value : Data) (values : List Value) (entry : Entry) → as_array value ≡ Some (items_view values)
+    → IsEntry value entry → length values ≡ 3
 three_values value values entry is h = three_items values entry (entry_items value (items_view values) entry is h)
 
-pub AreEntries-push : (values : List Value) (entries : List Entry) (value : Value) (entry : Entry) → AreEntries (items_view values) entries → IsEntry (view value) entry
+pub AreEntries-push : (values : List Value) (entries : List Entry) (value : Value) (entry : Entry)
+    → AreEntries (items_view values) entries → IsEntry (view value) entry
     → AreEntries (items_view (values ++ value ∷ [])) (entries ++ entry ∷ [])
 AreEntries-push [] [] value entry so_far is = (is, tt)
 AreEntries-push [] (e ∷ entries) value entry so_far is = absurd so_far
 AreEntries-push (v ∷ values) [] value entry so_far is = absurd so_far
-AreEntries-push (v ∷ values) (e ∷ entries) value entry so_far is = (so_far.0, AreEntries-push values entries value entry so_far.1 is)
+AreEntries-push (v ∷ values) (e ∷ entries) value entry so_far is =
+    (so_far.0, AreEntries-push values entries value entry so_far.1 is)
 
 -- each value is an entry
-pub AreEntries-at : (values : List Value) (entries : List Entry) (i : ℕ) (d : Value) → i < length values → AreEntries (items_view values) entries → (entry : Entry) × IsEntry (view (get_or values i d)) entry
+pub AreEntries-at : (values : List Value) (entries : List Entry) (i : ℕ) (d : Value) → i < length values
+    → AreEntries (items_view values) entries → (entry : Entry) × IsEntry (view (get_or values i d)) entry
 AreEntries-at [] entries i d within h = absurd (omega arith)
 AreEntries-at (v ∷ values) [] i d within h = absurd h
 AreEntries-at (v ∷ values) (e ∷ entries) zero d within h = (e, h.0)
 AreEntries-at (v ∷ values) (e ∷ entries) (suc i) d within h = AreEntries-at values entries i d (omega arith) h.1
 
 -- the refusal names the key `front`
-pub refuses_front : (text : List ℕ) (fault : OpTextFault) (values : Items) → NamesKey fault (codes "front") → IsList text values → ((entries : List Entry) → ¬ AreEntries values entries) → IsFrontRefusal text fault
+pub refuses_front : (text : List ℕ) (fault : OpTextFault) (values : Items) → NamesKey fault (codes "front")
+    → IsList text values → ((entries : List Entry) → ¬ AreEntries values entries) → IsFrontRefusal text fault
 refuses_front text NotJson values named is none = absurd named
 refuses_front text (BadShape key) values named is none = (named, values, is, none)
 refuses_front text (BadBody fault) values named is none = absurd named
@@ -78,19 +86,25 @@ same_entries no_items [] (f ∷ fs) p q = absurd q
 same_entries no_items (e ∷ es) fs p q = absurd p
 same_entries (item v values) [] fs p q = absurd p
 same_entries (item v values) (e ∷ es) [] p q = absurd q
-same_entries (item v values) (e ∷ es) (f ∷ fs) p q = λ i. same_entry v e f p.0 q.0 i ∷ same_entries values es fs p.1 q.1 i
+same_entries (item v values) (e ∷ es) (f ∷ fs) p q =
+    λ i. same_entry v e f p.0 q.0 i ∷ same_entries values es fs p.1 q.1 i
 
 same_list : (text : List ℕ) (u v : Items) → IsList text u → IsList text v → u ≡ v
 same_list text u v p q = let e : Some (array u) ≡ Some (array v) = sym p.value ∙ q.value in cc
 
-not_refused : (text : List ℕ) (entries : List Entry) (fault : OpTextFault) → SpellsEntries text entries → IsFrontRefusal text fault → fault ≡ NoMemory
+not_refused : (text : List ℕ) (entries : List Entry) (fault : OpTextFault) → SpellsEntries text entries
+    → IsFrontRefusal text fault → fault ≡ NoMemory
 not_refused text entries NotJson p h = absurd (h p.0 p.1)
-not_refused text entries (BadShape key) p h = absurd (h.3 entries (subst (λ values. AreEntries values entries) (same_list text p.0 h.1 p.1 h.2) p.2))
+not_refused text entries (BadShape key) p h =
+    absurd (h.3 entries (subst (λ values. AreEntries values entries) (same_list text p.0 h.1 p.1 h.2) p.2))
 not_refused text entries (BadBody fault) p h = absurd h
 not_refused text entries NoMemory p h = refl
 
-pub front_is_read : {T : Type 0} (shown : T → List Entry) (text : List ℕ) (result : Result T OpTextFault) → IfOk result (λ x. SpellsEntries text (shown x)) → IfErr result (IsFrontRefusal text)
-    → (entries : List Entry) → SpellsEntries text entries → MatchResult result (λ x. shown x ≡ entries) (λ fault. fault ≡ NoMemory)
+pub front_is_read : {T : Type 0} (shown : T → List Entry) (text : List ℕ) (result : Result T OpTextFault)
+    → IfOk result (λ x. SpellsEntries text (shown x)) → IfErr result (IsFrontRefusal text)
+    → (entries : List Entry) → SpellsEntries text entries
+    → MatchResult result (λ x. shown x ≡ entries) (λ fault. fault ≡ NoMemory)
 front_is_read shown text (Ok x) ok err entries p =
-    same_entries p.0 (shown x) entries (subst (λ values. AreEntries values (shown x)) (same_list text ok.0 p.0 ok.1 p.1) ok.2) p.2
+    same_entries p.0 (shown x) entries
+    (subst (λ values. AreEntries values (shown x)) (same_list text ok.0 p.0 ok.1 p.1) ok.2) p.2
 front_is_read shown text (Err fault) ok err entries p = not_refused text entries fault p err

@@ -1,5 +1,7 @@
--- Written texts stand on one line, and spell what they were written for.
-use Rattle.std.proofs.Common.{◌≡◌, ℕ, ℤ, ◌+◌, ◌/◌, ◌%◌, ◌^◌, ◌<◌, ◌≤◌, zero, suc, pos, negsuc, List, [], ◌∷◌, ◌++◌, Bool, true, false, cond, ltb, Option, Some, None, IfSome, option_map, decimal, length, ⊎_elim, refl, sym, ap, ◌∙◌, arith, rules}
+-- Written texts are of one line, and spell what they were written for.
+use Rattle.std.proofs.Common.{◌≡◌, ℕ, ℤ, ◌+◌, ◌/◌, ◌%◌, ◌^◌, ◌<◌, ◌≤◌, zero, suc, pos, negsuc, List, [], ◌∷◌, ◌++◌}
+use Rattle.std.proofs.Common.{Bool, true, false, cond, ltb, Option, Some, None, IfSome, option_map, decimal, length}
+use Rattle.std.proofs.Common.{⊎_elim, refl, sym, ap, ◌∙◌, arith, rules}
 use Rattle.std.proofs.lemmas.Bool.{cases_lt, ltb-true, ltb-false}
 use Rattle.std.proofs.lemmas.Bool.Decides.{nat_tests}
 use Rattle.std.proofs.lemmas.Fmt.{decimal_by_steps}
@@ -26,12 +28,14 @@ use Rattle.review_ops.specs.Deed.{Deed, change_of, set_of, message_of, parent_of
 use Rattle.review_ops.specs.Good.{IsGood, IsNumber, IsKeptLabel, IsVoter, IsMessage, is_label_byte}
 use Rattle.review_ops.specs.Operation.{Operation}
 use Rattle.op_text.specs.declared.field.Field.{Field}
-use Rattle.op_text.specs.declared.field.Field.TheVariants.{Change, Label, Message, Op, Parent, Seq, Set, Site, Start, Time, Value, Voter}
+use Rattle.op_text.specs.declared.field.Field.TheVariants.{Change, Label, Message, Op, Parent, Seq, Set, Site, Start}
+use Rattle.op_text.specs.declared.field.Field.TheVariants.{Time, Value, Voter}
 use Rattle.op_text.specs.declared.field.Kind.{Kind}
 use Rattle.op_text.specs.declared.field.Kind.TheVariants.{PatchSet, Vote, Withdraw, Abandon, Restore, Merged}
 use Rattle.op_text.specs.Field.{key_of, name_of}
 use Rattle.op_text.specs.Spelling.{kind_of, SpellsBody, SpellsOperation}
-use Rattle.op_text.specs.Text.{whole, data_of, all_fields, with_member, members_over, members_of, body_text, operation_text, IsOneLine}
+use Rattle.op_text.specs.Text.{whole, data_of, all_fields, with_member, members_over, members_of, body_text}
+use Rattle.op_text.specs.Text.{operation_text, IsOneLine}
 use Rattle.op_text.proofs.Spelled.{body_spelled, operation_spelled}
 
 abbrev pub ArePlain : List ℕ → Type 0
@@ -49,20 +53,23 @@ letter_plain x h = grind (arith, nat_tests)
 digit_plain : (d : ℕ) → 32 ≤ digit_char d
 digit_plain d = grind (arith, nat_tests)
 
-ArePlain-cond : (b : Bool) (xs ys : List ℕ) → (b ≡ true → ArePlain xs) → (b ≡ false → ArePlain ys) → ArePlain (cond b xs ys)
+ArePlain-cond : (b : Bool) (xs ys : List ℕ) → (b ≡ true → ArePlain xs) → (b ≡ false → ArePlain ys)
+    → ArePlain (cond b xs ys)
 ArePlain-cond true xs ys p q = p refl
 ArePlain-cond false xs ys p q = q refl
 
 ArePlain-escape_byte : (x : ℕ) → ArePlain (escape_byte x)
 unfolding escape_byte
 ArePlain-escape_byte x =
-    ArePlain-cond (ltb 0 (escape_letter x)) _ _ (λ h. (omega arith, (letter_plain x (ltb-true 0 (escape_letter x) h), tt)))
+    ArePlain-cond (ltb 0 (escape_letter x)) _ _
+    (λ h. (omega arith, (letter_plain x (ltb-true 0 (escape_letter x) h), tt)))
     (λ _. ArePlain-cond (ltb x 32) _ _ (λ _. (omega arith, (omega arith, (omega arith, (omega arith, (digit_plain (x / 16), (digit_plain (x % 16), tt)))))))
     (λ h. (ltb-false x 32 h, tt)))
 
 ArePlain-escape : (text : List ℕ) → ArePlain (escape text)
 ArePlain-escape [] = tt
-ArePlain-escape (x ∷ text) = ArePlain-append (escape_byte x) (escape text) (ArePlain-escape_byte x) (ArePlain-escape text)
+ArePlain-escape (x ∷ text) =
+    ArePlain-append (escape_byte x) (escape text) (ArePlain-escape_byte x) (ArePlain-escape text)
 
 ArePlain-quoted : (text : List ℕ) → ArePlain (quoted text)
 ArePlain-quoted text = (omega arith, ArePlain-append (escape text) (34 ∷ []) (ArePlain-escape text) (omega arith, tt))
@@ -92,7 +99,11 @@ pub printable_text : (text : List ℕ) → IsUtf8 text → Printable (string tex
 printable_text text h = record { plain = ArePlain-quoted text; utf8 = IsUtf8-quoted text h; numbers = tt }
 
 pub printable_whole : (n : ℕ) → n < 2 ^ 64 → Printable (whole n)
-printable_whole n h = let text = plain_decimal n h in record { plain = text.0; utf8 = text.1; numbers = IsNumber-decimal n h }
+printable_whole n h = let text = plain_decimal n h in record {
+  plain = text.0;
+  utf8 = text.1;
+  numbers = IsNumber-decimal n h;
+}
 
 pub printable_integer : (z : ℤ) → FitsSigned w8 z → Printable (number (of_integer z))
 printable_integer (pos n) h = printable_whole n (search (rules, h))
@@ -132,11 +143,14 @@ object_plain : (held : Members) → HavePrintable held → ArePlain (compact_tex
 object_plain held h = (omega arith, plain_members false held h)
 
 object_utf8 : (held : Members) → HavePrintable held → IsUtf8 (compact_text (object held))
-object_utf8 held h = IsUtf8-append (123 ∷ []) (members_text false held) (one_ascii 123 (omega arith)) (utf8_members false held h)
+object_utf8 held h =
+    IsUtf8-append (123 ∷ []) (members_text false held) (one_ascii 123 (omega arith)) (utf8_members false held h)
 
-object_lexed : (held : Members) → HavePrintable held → tokens (compact_text (object held)) ≡ tree.json_tokens (outline (object held))
+object_lexed : (held : Members) → HavePrintable held
+    → tokens (compact_text (object held)) ≡ tree.json_tokens (outline (object held))
 object_lexed held h =
-    ap tokens (sym (print-outline (object held))) ∙ tokens-print (tree.json_tokens (outline (object held))) (ArePrintable-json_tokens (outline (object held)) (numbers_members held h))
+    ap tokens (sym (print-outline (object held))) ∙ tokens-print (tree.json_tokens (outline (object held)))
+    (ArePrintable-json_tokens (outline (object held)) (numbers_members held h))
 
 -- ---- the members of a deed
 
@@ -162,9 +176,11 @@ name_utf8 Abandon = IsUtf8-are_ascii (name_of Abandon) refl
 name_utf8 Restore = IsUtf8-are_ascii (name_of Restore) refl
 name_utf8 Merged = IsUtf8-are_ascii (name_of Merged) refl
 
-ascii_text : (test : ℕ → Bool) → ((byte : ℕ) → IsTrue (test byte) → byte < 128) → (text : List ℕ) → All (λ byte. IsTrue (test byte)) text → IsUtf8 text
+ascii_text : (test : ℕ → Bool) → ((byte : ℕ) → IsTrue (test byte) → byte < 128) → (text : List ℕ)
+    → All (λ byte. IsTrue (test byte)) text → IsUtf8 text
 ascii_text test low text all = IsUtf8-from_ascii text (λ i.
-    ⊎_elim (λ within. low (slice_index text i) (all i 0 within)) (λ past. rw (get_or_past text i 0 past) (omega arith)) (cases_lt i (length text)))
+    ⊎_elim (λ within. low (slice_index text i) (all i 0 within)) (λ past. rw (get_or_past text i 0 past) (omega arith))
+    (cases_lt i (length text)))
 
 label_utf8 : (text : List ℕ) → IsKeptLabel text → IsUtf8 text
 label_utf8 text h = ascii_text is_label_byte (λ byte is. grind (arith, nat_tests)) text h.label.letters
@@ -172,15 +188,19 @@ label_utf8 text h = ascii_text is_label_byte (λ byte is. grind (arith, nat_test
 voter_utf8 : (text : List ℕ) → IsVoter text → IsUtf8 text
 voter_utf8 text h = ascii_text is_ascii_graphic (λ byte is. grind (arith, nat_tests)) text h.visible
 
-printable_with : (key : List ℕ) (o : Option Data) (rest : Members) → IsUtf8 key → IfSome o Printable → HavePrintable rest → HavePrintable (with_member key o rest)
+printable_with : (key : List ℕ) (o : Option Data) (rest : Members) → IsUtf8 key → IfSome o Printable
+    → HavePrintable rest → HavePrintable (with_member key o rest)
 printable_with key None rest named h later = later
 printable_with key (Some d) rest named h later = (named, h, later)
 
-printable_over : (values : Field → Option Data) → ((f : Field) → IfSome (values f) Printable) → (fs : List Field) → HavePrintable (members_over fs values)
+printable_over : (values : Field → Option Data) → ((f : Field) → IfSome (values f) Printable) → (fs : List Field)
+    → HavePrintable (members_over fs values)
 printable_over values h [] = tt
-printable_over values h (f ∷ fs) = printable_with (key_of f) (values f) (members_over fs values) (key_utf8 f) (h f) (printable_over values h fs)
+printable_over values h (f ∷ fs) =
+    printable_with (key_of f) (values f) (members_over fs values) (key_utf8 f) (h f) (printable_over values h fs)
 
-IfSome-map : {A B : Type 0} (f : A → B) (P : A → Type 0) (Q : B → Type 0) → ((x : A) → P x → Q (f x)) → (o : Option A) → IfSome o P → IfSome (option_map f o) Q
+IfSome-map : {A B : Type 0} (f : A → B) (P : A → Type 0) (Q : B → Type 0) → ((x : A) → P x → Q (f x)) → (o : Option A)
+    → IfSome o P → IfSome (option_map f o) Q
 IfSome-map f P Q g None h = tt
 IfSome-map f P Q g (Some x) h = g x h
 
@@ -190,17 +210,24 @@ printable_number n h = printable_whole n (omega (arith, h.fits))
 module _ (stamp : Option Timestamp) (deed : Deed) (numbered : IfSome stamp IsNumbered) (good : IsGood deed) where
   printable : (f : Field) → IfSome (data_of stamp deed f) Printable
   printable Change = printable_number (change_of deed) good.change
-  printable Label = IfSome-map string IsKeptLabel Printable (λ text h. printable_text text (label_utf8 text h)) (label_of deed) good.label
-  printable Message = IfSome-map string IsMessage Printable (λ text h. printable_text text h.utf8) (message_of deed) good.message
+  printable Label = IfSome-map string IsKeptLabel Printable (λ text h. printable_text text (label_utf8 text h))
+      (label_of deed) good.label
+  printable Message =
+      IfSome-map string IsMessage Printable (λ text h. printable_text text h.utf8) (message_of deed) good.message
   printable Op = printable_text (name_of (kind_of deed)) (name_utf8 (kind_of deed))
   printable Parent = IfSome-map whole IsNumber Printable printable_number (parent_of deed) good.parent
   printable Seq = IfSome-map (λ t. whole t.seq) IsNumbered Printable (λ t h. printable_whole t.seq h.seq) stamp numbered
   printable Set = IfSome-map whole IsNumber Printable printable_number (set_of deed) good.set
-  printable Site = IfSome-map (λ t. whole t.site) IsNumbered Printable (λ t h. printable_whole t.site (omega (arith, h.site))) stamp numbered
-  printable Start = IfSome-map (λ t. whole t.start) IsNumbered Printable (λ t h. printable_whole t.start (omega (arith, h.start))) stamp numbered
-  printable Time = IfSome-map (λ t. whole t.time) IsNumbered Printable (λ t h. printable_whole t.time h.time) stamp numbered
-  printable Value = IfSome-map (λ z. number (of_integer z)) (FitsSigned w8) Printable printable_integer (value_of deed) good.value
-  printable Voter = IfSome-map string IsVoter Printable (λ text h. printable_text text (voter_utf8 text h)) (voter_of deed) good.voter
+  printable Site = IfSome-map (λ t. whole t.site) IsNumbered Printable
+      (λ t h. printable_whole t.site (omega (arith, h.site))) stamp numbered
+  printable Start = IfSome-map (λ t. whole t.start) IsNumbered Printable
+      (λ t h. printable_whole t.start (omega (arith, h.start))) stamp numbered
+  printable Time =
+      IfSome-map (λ t. whole t.time) IsNumbered Printable (λ t h. printable_whole t.time h.time) stamp numbered
+  printable Value =
+      IfSome-map (λ z. number (of_integer z)) (FitsSigned w8) Printable printable_integer (value_of deed) good.value
+  printable Voter =
+      IfSome-map string IsVoter Printable (λ text h. printable_text text (voter_utf8 text h)) (voter_of deed) good.voter
 
   held_printable : HavePrintable (members_of stamp deed)
   held_printable = printable_over (data_of stamp deed) printable all_fields
@@ -209,18 +236,21 @@ module _ (stamp : Option Timestamp) (deed : Deed) (numbered : IfSome stamp IsNum
   one_line = record {
     rest = members_text false (members_of stamp deed);
     begins = refl;
-    plain = All-from_recursion (λ byte. 32 ≤ byte) (compact_text (object (members_of stamp deed))) (object_plain (members_of stamp deed) held_printable);
+    plain = All-from_recursion (λ byte. 32 ≤ byte) (compact_text (object (members_of stamp deed)))
+        (object_plain (members_of stamp deed) held_printable);
   }
 
 pub operation_one_line : (op : Operation) → IsNumbered op.stamp → IsGood op.deed → IsOneLine (operation_text op)
 unfolding operation_text
 operation_one_line op numbered good = one_line (Some op.stamp) op.deed numbered good
 
-pub operation_text_spells : (op : Operation) → IsNumbered op.stamp → IsGood op.deed → SpellsOperation (operation_text op) op
+pub operation_text_spells : (op : Operation) → IsNumbered op.stamp → IsGood op.deed
+    → SpellsOperation (operation_text op) op
 unfolding operation_text
 operation_text_spells op numbered good =
     let held = held_printable (Some op.stamp) op.deed numbered good in
-    operation_spelled op numbered good _ (object_lexed (members_of (Some op.stamp) op.deed) held) (object_utf8 (members_of (Some op.stamp) op.deed) held)
+    operation_spelled op numbered good _ (object_lexed (members_of (Some op.stamp) op.deed) held)
+    (object_utf8 (members_of (Some op.stamp) op.deed) held)
 
 pub body_one_line : (deed : Deed) → IsGood deed → IsOneLine (body_text deed)
 unfolding body_text

@@ -14,11 +14,13 @@ use Rattle.op_text.specs.Shape.{NamesKind, HasShape, IsBadKey, IsNamedKey}
 use Rattle.op_text.specs.Spelling.{kind_of, HoldsDeed, SpellsBody, SpellsOperation, IsRefusalOf}
 use Rattle.op_text.specs.OneSpelling.{same_kind, same_members, same_deed, one_body, one_operation}
 
-not_bad : (kind : Form) (named : Kind) (held : Members) (key : List ℕ) → HasShape kind named held → ¬ IsBadKey kind named held key
+not_bad : (kind : Form) (named : Kind) (held : Members) (key : List ℕ) → HasShape kind named held
+    → ¬ IsBadKey kind named held key
 not_bad kind named held key shape (inl bad) = false≢true (sym bad.2 ∙ shape.fields bad.0)
 not_bad kind named held key shape (inr bad) = bad.0 (shape.only key bad.1)
 
-not_named : (kind : Form) (named : Kind) (held : Members) (key : List ℕ) → NamesKind held named → HasShape kind named held → ¬ IsNamedKey kind held key
+not_named : (kind : Form) (named : Kind) (held : Members) (key : List ℕ) → NamesKind held named
+    → HasShape kind named held → ¬ IsNamedKey kind held key
 not_named kind named held key names shape (inl none) = none.0 named names
 not_named kind named held key names shape (inr bad) =
     let same = same_kind held bad.0 named bad.1 names in
@@ -26,7 +28,8 @@ not_named kind named held key names shape (inr bad) =
 
 -- ---- bodies
 
-body_not_refused : (text : List ℕ) (deed : Deed) (fault : OpTextFault) → SpellsBody text deed → IsRefusalOf form.Body text fault → fault ≡ NoMemory
+body_not_refused : (text : List ℕ) (deed : Deed) (fault : OpTextFault) → SpellsBody text deed
+    → IsRefusalOf form.Body text fault → fault ≡ NoMemory
 body_not_refused text deed NotJson p h = absurd (h p.0 p.1.object)
 body_not_refused text deed (BadShape key) p h =
     let same = same_members text p.0 h.0 p.1.object h.1 in
@@ -34,14 +37,16 @@ body_not_refused text deed (BadShape key) p h =
 body_not_refused text deed (BadBody fault) p h = absurd h
 body_not_refused text deed NoMemory p h = refl
 
-pub body_is_read : {T : Type 0} (view : T → Deed) (text : List ℕ) (result : Result T OpTextFault) → IfOk result (λ x. SpellsBody text (view x)) → IfErr result (IsRefusalOf form.Body text)
+pub body_is_read : {T : Type 0} (view : T → Deed) (text : List ℕ) (result : Result T OpTextFault)
+    → IfOk result (λ x. SpellsBody text (view x)) → IfErr result (IsRefusalOf form.Body text)
     → (deed : Deed) → SpellsBody text deed → MatchResult result (λ x. view x ≡ deed) (λ fault. fault ≡ NoMemory)
 body_is_read view text (Ok x) ok err deed p = one_body text (view x) deed ok p
 body_is_read view text (Err fault) ok err deed p = body_not_refused text deed fault p err
 
 -- ---- operations
 
-operation_not_refused : (text : List ℕ) (op : Operation) (fault : OpTextFault) → SpellsOperation text op → IsRefusalOf form.Operation text fault → fault ≡ NoMemory
+operation_not_refused : (text : List ℕ) (op : Operation) (fault : OpTextFault) → SpellsOperation text op
+    → IsRefusalOf form.Operation text fault → fault ≡ NoMemory
 operation_not_refused text op NotJson p h = absurd (h p.members p.spells.object)
 operation_not_refused text op (BadShape key) p h =
     let same = same_members text p.members h.0 p.spells.object h.1 in
@@ -52,7 +57,8 @@ operation_not_refused text op (BadBody fault) p h =
     absurd (IsFaultless-HasFault fault p.deed p.faultless (subst (λ d. HasFault fault d) (sym deed) h.3.has))
 operation_not_refused text op NoMemory p h = refl
 
-pub operation_is_read : {T : Type 0} (view : T → Operation) (text : List ℕ) (result : Result T OpTextFault) → IfOk result (λ x. SpellsOperation text (view x)) → IfErr result (IsRefusalOf form.Operation text)
+pub operation_is_read : {T : Type 0} (view : T → Operation) (text : List ℕ) (result : Result T OpTextFault)
+    → IfOk result (λ x. SpellsOperation text (view x)) → IfErr result (IsRefusalOf form.Operation text)
     → (op : Operation) → SpellsOperation text op → MatchResult result (λ x. view x ≡ op) (λ fault. fault ≡ NoMemory)
 operation_is_read view text (Ok x) ok err op p = one_operation text (view x) op ok p
 operation_is_read view text (Err fault) ok err op p = operation_not_refused text op fault p err

@@ -1,5 +1,7 @@
 -- The written text of a good body, or of an operation, spells it.
-use Rattle.std.proofs.Common.{◌≡◌, ℕ, ℤ, ◌^◌, ◌<◌, ◌≤◌, pos, negsuc, List, [], ◌∷◌, true, ◌&&◌, cond, Option, Some, None, IfSome, Result, Ok, Err, IfOk, option_map, refl, sym, ap, ◌∙◌, append-nil, arith, rules, le-leb}
+use Rattle.std.proofs.Common.{◌≡◌, ℕ, ℤ, ◌^◌, ◌<◌, ◌≤◌, pos, negsuc, List, [], ◌∷◌, true, ◌&&◌, cond, Option, Some}
+use Rattle.std.proofs.Common.{None, IfSome, Result, Ok, Err, IfOk, option_map, refl, sym, ap, ◌∙◌, append-nil, arith}
+use Rattle.std.proofs.Common.{rules, le-leb}
 use Rattle.std.proofs.lemmas.Bool.{lt-ltb}
 use Rattle.std.proofs.lemmas.Bool.Decides.{nat_tests}
 use Rattle.std.specs.Prelude.{option_and_then, FitsSigned, IsUtf8}
@@ -17,13 +19,17 @@ use Rattle.serde_json.proofs.Texts.{print-outline}
 use Rattle.serde_json.proofs.Numbers.{number_of-decimal, number_of-negative}
 use Rattle.json.proofs.Printed.Trees.{value-json_tokens}
 use Rattle.review_ops.specs.Timestamp.{Timestamp, IsNumbered}
-use Rattle.review_ops.specs.Deed.{Deed, patch_set, vote, withdraw, abandon, restore, merged, change_of, set_of, message_of, parent_of, label_of, voter_of, value_of}
+use Rattle.review_ops.specs.Deed.{Deed, patch_set, vote, withdraw, abandon, restore, merged, change_of, set_of}
+use Rattle.review_ops.specs.Deed.{message_of, parent_of, label_of, voter_of, value_of}
 use Rattle.review_ops.specs.Good.{IsGood, IsNumber, IsFaultless-IsGood, kept_deed-IsGood}
 use Rattle.review_ops.specs.Operation.{Operation}
 use Rattle.op_text.specs.declared.field.Field.{Field}
-use Rattle.op_text.specs.declared.field.Field.TheVariants.{Change, Label, Message, Op, Parent, Seq, Set, Site, Start, Time, Value, Voter}
-use Rattle.op_text.specs.Field.{key_of, name_of, rule_of, stamp_rule, set_rule, message_rule, parent_rule, vote_rule, value_rule, stands, accepts, is_within, is_vote_value, number_in, integer_in}
-use Rattle.op_text.specs.Text.{form_of, whole, data_of, all_fields, with_member, members_over, members_of, body_text, operation_text}
+use Rattle.op_text.specs.declared.field.Field.TheVariants.{Change, Label, Message, Op, Parent, Seq, Set, Site, Start}
+use Rattle.op_text.specs.declared.field.Field.TheVariants.{Time, Value, Voter}
+use Rattle.op_text.specs.Field.{key_of, name_of, rule_of, stamp_rule, set_rule, message_rule, parent_rule, vote_rule}
+use Rattle.op_text.specs.Field.{value_rule, obeys, accepts, is_within, is_vote_value, number_in, integer_in}
+use Rattle.op_text.specs.Text.{form_of, whole, data_of, all_fields, with_member, members_over, members_of, body_text}
+use Rattle.op_text.specs.Text.{operation_text}
 use Rattle.op_text.specs.Spelling.{kind_of, SpellsDeed, SpellsBody, SpellsOperation, HoldsStamp}
 use Rattle.op_text.proofs.Found.{found_at-members_over, only_fields}
 
@@ -55,7 +61,8 @@ abbrev puts : Members → Members → Members
 puts found no_members = found
 puts found (member k d rest) = puts (put k d found) rest
 
-members_back : (rest found : Members) → AreReadable rest → of_members (members_outline rest) found ≡ Some (puts found rest)
+members_back : (rest found : Members) → AreReadable rest
+    → of_members (members_outline rest) found ≡ Some (puts found rest)
 members_back no_members found h = refl
 members_back (member k d rest) found h = rw h.0.back (members_back rest (put k d found) h.1)
 
@@ -66,7 +73,8 @@ members_flat (member k d rest) h = rw (h.0.flat, members_flat rest h.1) refl
 abbrev whole_of : Option (json.Json × List Token) → Option Data
 whole_of parsed = option_and_then of_json (option_and_then (λ p. json.if_last p.0 p.1) parsed)
 
-object_read : (held : Members) (text : List ℕ) → AreReadable held → puts no_members held ≡ held → tokens text ≡ tree.json_tokens (outline (object held)) → read text ≡ Some (object held)
+object_read : (held : Members) (text : List ℕ) → AreReadable held → puts no_members held ≡ held
+    → tokens text ≡ tree.json_tokens (outline (object held)) → read text ≡ Some (object held)
 object_read held text h ordered lexed =
     let j = outline (object held) in
     let back : of_json j ≡ Some (object held) = ap (option_map object) (members_back held no_members h ∙ ap Some ordered) in
@@ -75,15 +83,19 @@ object_read held text h ordered lexed =
 
 -- ---- the members of a deed
 
-readable_with : (key : List ℕ) (o : Option Data) (rest : Members) → IfSome o Readable → AreReadable rest → AreReadable (with_member key o rest)
+readable_with : (key : List ℕ) (o : Option Data) (rest : Members) → IfSome o Readable → AreReadable rest
+    → AreReadable (with_member key o rest)
 readable_with key None rest h later = later
 readable_with key (Some d) rest h later = (h, later)
 
-readable_over : (values : Field → Option Data) → ((f : Field) → IfSome (values f) Readable) → (fs : List Field) → AreReadable (members_over fs values)
+readable_over : (values : Field → Option Data) → ((f : Field) → IfSome (values f) Readable) → (fs : List Field)
+    → AreReadable (members_over fs values)
 readable_over values h [] = tt
-readable_over values h (f ∷ fs) = readable_with (key_of f) (values f) (members_over fs values) (h f) (readable_over values h fs)
+readable_over values h (f ∷ fs) =
+    readable_with (key_of f) (values f) (members_over fs values) (h f) (readable_over values h fs)
 
-IfSome-map : {A B : Type 0} (f : A → B) (P : A → Type 0) (Q : B → Type 0) → ((x : A) → P x → Q (f x)) → (o : Option A) → IfSome o P → IfSome (option_map f o) Q
+IfSome-map : {A B : Type 0} (f : A → B) (P : A → Type 0) (Q : B → Type 0) → ((x : A) → P x → Q (f x)) → (o : Option A)
+    → IfSome o P → IfSome (option_map f o) Q
 IfSome-map f P Q g None h = tt
 IfSome-map f P Q g (Some x) h = g x h
 
@@ -103,10 +115,14 @@ module _ (stamp : Option Timestamp) (deed : Deed) (numbered : IfSome stamp IsNum
   readable Parent = IfSome-map whole IsNumber Readable readable_number (parent_of deed) good.parent
   readable Seq = IfSome-map (λ t. whole t.seq) IsNumbered Readable (λ t h. readable_whole t.seq h.seq) stamp numbered
   readable Set = IfSome-map whole IsNumber Readable readable_number (set_of deed) good.set
-  readable Site = IfSome-map (λ t. whole t.site) IsNumbered Readable (λ t h. readable_whole t.site (omega (arith, h.site))) stamp numbered
-  readable Start = IfSome-map (λ t. whole t.start) IsNumbered Readable (λ t h. readable_whole t.start (omega (arith, h.start))) stamp numbered
-  readable Time = IfSome-map (λ t. whole t.time) IsNumbered Readable (λ t h. readable_whole t.time h.time) stamp numbered
-  readable Value = IfSome-map (λ z. number (of_integer z)) (FitsSigned w8) Readable readable_integer (value_of deed) good.value
+  readable Site = IfSome-map (λ t. whole t.site) IsNumbered Readable
+      (λ t h. readable_whole t.site (omega (arith, h.site))) stamp numbered
+  readable Start = IfSome-map (λ t. whole t.start) IsNumbered Readable
+      (λ t h. readable_whole t.start (omega (arith, h.start))) stamp numbered
+  readable Time =
+      IfSome-map (λ t. whole t.time) IsNumbered Readable (λ t h. readable_whole t.time h.time) stamp numbered
+  readable Value =
+      IfSome-map (λ z. number (of_integer z)) (FitsSigned w8) Readable readable_integer (value_of deed) good.value
   readable Voter = readable_texts (voter_of deed)
 
 -- each key goes last
@@ -126,7 +142,7 @@ in_order (Some stamp) (abandon change) = refl
 in_order (Some stamp) (restore change) = refl
 in_order (Some stamp) (merged change) = refl
 
--- ---- each field stands as it should
+-- ---- each field obeys its rule
 
 within_bounds : (low high n : ℕ) → low ≤ n → n ≤ high → is_within low high (Some n) ≡ true
 within_bounds low high n above below = grind (arith, nat_tests)
@@ -143,59 +159,64 @@ value_within (negsuc n) h =
     let below : n ≤ 127 = search (rules, h) in
     ap (λ b. b && true) (le-leb n 127 below)
 
-label_stands : (deed : Deed) → stands (vote_rule (kind_of deed)) Label (option_map string (label_of deed)) ≡ true
-label_stands (patch_set change set message parent) = refl
-label_stands (vote change set label voter value) = refl
-label_stands (withdraw change set label voter) = refl
-label_stands (abandon change) = refl
-label_stands (restore change) = refl
-label_stands (merged change) = refl
+label_obeys : (deed : Deed) → obeys (vote_rule (kind_of deed)) Label (option_map string (label_of deed)) ≡ true
+label_obeys (patch_set change set message parent) = refl
+label_obeys (vote change set label voter value) = refl
+label_obeys (withdraw change set label voter) = refl
+label_obeys (abandon change) = refl
+label_obeys (restore change) = refl
+label_obeys (merged change) = refl
 
-voter_stands : (deed : Deed) → stands (vote_rule (kind_of deed)) Voter (option_map string (voter_of deed)) ≡ true
-voter_stands (patch_set change set message parent) = refl
-voter_stands (vote change set label voter value) = refl
-voter_stands (withdraw change set label voter) = refl
-voter_stands (abandon change) = refl
-voter_stands (restore change) = refl
-voter_stands (merged change) = refl
+voter_obeys : (deed : Deed) → obeys (vote_rule (kind_of deed)) Voter (option_map string (voter_of deed)) ≡ true
+voter_obeys (patch_set change set message parent) = refl
+voter_obeys (vote change set label voter value) = refl
+voter_obeys (withdraw change set label voter) = refl
+voter_obeys (abandon change) = refl
+voter_obeys (restore change) = refl
+voter_obeys (merged change) = refl
 
-message_stands : (deed : Deed) → stands (message_rule (kind_of deed)) Message (option_map string (message_of deed)) ≡ true
-message_stands (patch_set change set message parent) = refl
-message_stands (vote change set label voter value) = refl
-message_stands (withdraw change set label voter) = refl
-message_stands (abandon change) = refl
-message_stands (restore change) = refl
-message_stands (merged change) = refl
+message_obeys : (deed : Deed) → obeys (message_rule (kind_of deed)) Message (option_map string (message_of deed)) ≡ true
+message_obeys (patch_set change set message parent) = refl
+message_obeys (vote change set label voter value) = refl
+message_obeys (withdraw change set label voter) = refl
+message_obeys (abandon change) = refl
+message_obeys (restore change) = refl
+message_obeys (merged change) = refl
 
-set_stands : (deed : Deed) → IfSome (set_of deed) IsNumber → stands (set_rule (kind_of deed)) Set (option_map whole (set_of deed)) ≡ true
-set_stands (patch_set change set message parent) h = within32 set h
-set_stands (vote change set label voter value) h = within32 set h
-set_stands (withdraw change set label voter) h = within32 set h
-set_stands (abandon change) h = refl
-set_stands (restore change) h = refl
-set_stands (merged change) h = refl
+set_obeys : (deed : Deed) → IfSome (set_of deed) IsNumber
+    → obeys (set_rule (kind_of deed)) Set (option_map whole (set_of deed)) ≡ true
+set_obeys (patch_set change set message parent) h = within32 set h
+set_obeys (vote change set label voter value) h = within32 set h
+set_obeys (withdraw change set label voter) h = within32 set h
+set_obeys (abandon change) h = refl
+set_obeys (restore change) h = refl
+set_obeys (merged change) h = refl
 
-parent_stands : (deed : Deed) → IfSome (parent_of deed) IsNumber → stands (parent_rule (kind_of deed)) Parent (option_map whole (parent_of deed)) ≡ true
-parent_stands (patch_set change set message None) h = refl
-parent_stands (patch_set change set message (Some parent)) h = within32 parent h
-parent_stands (vote change set label voter value) h = refl
-parent_stands (withdraw change set label voter) h = refl
-parent_stands (abandon change) h = refl
-parent_stands (restore change) h = refl
-parent_stands (merged change) h = refl
+parent_obeys : (deed : Deed) → IfSome (parent_of deed) IsNumber
+    → obeys (parent_rule (kind_of deed)) Parent (option_map whole (parent_of deed)) ≡ true
+parent_obeys (patch_set change set message None) h = refl
+parent_obeys (patch_set change set message (Some parent)) h = within32 parent h
+parent_obeys (vote change set label voter value) h = refl
+parent_obeys (withdraw change set label voter) h = refl
+parent_obeys (abandon change) h = refl
+parent_obeys (restore change) h = refl
+parent_obeys (merged change) h = refl
 
-value_stands : (deed : Deed) → IfSome (value_of deed) (FitsSigned w8) → stands (value_rule (kind_of deed)) Value (option_map (λ z. number (of_integer z)) (value_of deed)) ≡ true
-value_stands (patch_set change set message parent) h = refl
-value_stands (vote change set label voter value) h = value_within value h
-value_stands (withdraw change set label voter) h = refl
-value_stands (abandon change) h = refl
-value_stands (restore change) h = refl
-value_stands (merged change) h = refl
+value_obeys : (deed : Deed) → IfSome (value_of deed) (FitsSigned w8)
+    → obeys (value_rule (kind_of deed)) Value (option_map (λ z. number (of_integer z)) (value_of deed)) ≡ true
+value_obeys (patch_set change set message parent) h = refl
+value_obeys (vote change set label voter value) h = value_within value h
+value_obeys (withdraw change set label voter) h = refl
+value_obeys (abandon change) h = refl
+value_obeys (restore change) h = refl
+value_obeys (merged change) h = refl
 
-stamp_stands : (field : Field) (low high : ℕ) (part : Timestamp → ℕ) → ((d : Data) → accepts field d ≡ is_within low high (number_in d)) → (stamp : Option Timestamp)
-    → IfSome stamp (λ t. (low ≤ part t) × (part t ≤ high)) → stands (stamp_rule (form_of stamp)) field (option_map (λ t. whole (part t)) stamp) ≡ true
-stamp_stands field low high part by None h = refl
-stamp_stands field low high part by (Some t) h = by (whole (part t)) ∙ within_bounds low high (part t) h.0 h.1
+stamp_obeys : (field : Field) (low high : ℕ) (part : Timestamp → ℕ)
+    → ((d : Data) → accepts field d ≡ is_within low high (number_in d)) → (stamp : Option Timestamp)
+    → IfSome stamp (λ t. (low ≤ part t) × (part t ≤ high))
+    → obeys (stamp_rule (form_of stamp)) field (option_map (λ t. whole (part t)) stamp) ≡ true
+stamp_obeys field low high part by None h = refl
+stamp_obeys field low high part by (Some t) h = by (whole (part t)) ∙ within_bounds low high (part t) h.0 h.1
 
 IfSome-weaker : {A : Type 0} (P Q : A → Type 0) → ((x : A) → P x → Q x) → (o : Option A) → IfSome o P → IfSome o Q
 IfSome-weaker P Q f None h = tt
@@ -209,34 +230,42 @@ texts_back : (o : Option (List ℕ)) → option_and_then as_str (option_map stri
 texts_back None = refl
 texts_back (Some text) = refl
 
-integers_back : (o : Option ℤ) → IfSome o (FitsSigned w8) → option_and_then integer_in (option_map (λ z. number (of_integer z)) o) ≡ o
+integers_back : (o : Option ℤ) → IfSome o (FitsSigned w8)
+    → option_and_then integer_in (option_map (λ z. number (of_integer z)) o) ≡ o
 integers_back None h = refl
-integers_back (Some (pos n)) h = let small : n < 2 ^ 63 = search (rules, h) in ap (λ b. cond b (Some (pos n)) None) (lt-ltb n (2 ^ 63) small)
+integers_back (Some (pos n)) h = let small : n < 2 ^ 63 = search (rules, h) in ap (λ b. cond b (Some (pos n)) None)
+    (lt-ltb n (2 ^ 63) small)
 integers_back (Some (negsuc n)) h = refl
 
 module _ (stamp : Option Timestamp) (deed : Deed) (numbered : IfSome stamp IsNumbered) (good : IsGood deed) where
-  field_stands : (f : Field) → stands (rule_of (form_of stamp) (kind_of deed) f) f (data_of stamp deed f) ≡ true
-  field_stands Change = within32 (change_of deed) good.change
-  field_stands Label = label_stands deed
-  field_stands Message = message_stands deed
-  field_stands Op = refl
-  field_stands Parent = parent_stands deed good.parent
-  field_stands Seq = stamp_stands Seq 1 18446744073709551615 (λ t. t.seq) (λ d. refl) stamp (IfSome-weaker IsNumbered _ (λ t h. (h.first, omega (arith, h.seq))) stamp numbered)
-  field_stands Set = set_stands deed good.set
-  field_stands Site = stamp_stands Site 0 65535 (λ t. t.site) (λ d. refl) stamp (IfSome-weaker IsNumbered _ (λ t h. (omega arith, omega (arith, h.site))) stamp numbered)
-  field_stands Start = stamp_stands Start 0 4294967295 (λ t. t.start) (λ d. refl) stamp (IfSome-weaker IsNumbered _ (λ t h. (omega arith, omega (arith, h.start))) stamp numbered)
-  field_stands Time = stamp_stands Time 0 18446744073709551615 (λ t. t.time) (λ d. refl) stamp (IfSome-weaker IsNumbered _ (λ t h. (omega arith, omega (arith, h.time))) stamp numbered)
-  field_stands Value = value_stands deed good.value
-  field_stands Voter = voter_stands deed
+  field_obeys : (f : Field) → obeys (rule_of (form_of stamp) (kind_of deed) f) f (data_of stamp deed f) ≡ true
+  field_obeys Change = within32 (change_of deed) good.change
+  field_obeys Label = label_obeys deed
+  field_obeys Message = message_obeys deed
+  field_obeys Op = refl
+  field_obeys Parent = parent_obeys deed good.parent
+  field_obeys Seq = stamp_obeys Seq 1 18446744073709551615 (λ t. t.seq) (λ d. refl) stamp
+      (IfSome-weaker IsNumbered _ (λ t h. (h.first, omega (arith, h.seq))) stamp numbered)
+  field_obeys Set = set_obeys deed good.set
+  field_obeys Site = stamp_obeys Site 0 65535 (λ t. t.site) (λ d. refl) stamp
+      (IfSome-weaker IsNumbered _ (λ t h. (omega arith, omega (arith, h.site))) stamp numbered)
+  field_obeys Start = stamp_obeys Start 0 4294967295 (λ t. t.start) (λ d. refl) stamp
+      (IfSome-weaker IsNumbered _ (λ t h. (omega arith, omega (arith, h.start))) stamp numbered)
+  field_obeys Time = stamp_obeys Time 0 18446744073709551615 (λ t. t.time) (λ d. refl) stamp
+      (IfSome-weaker IsNumbered _ (λ t h. (omega arith, omega (arith, h.time))) stamp numbered)
+  field_obeys Value = value_obeys deed good.value
+  field_obeys Voter = voter_obeys deed
 
-  pub spells_written : (text : List ℕ) → tokens text ≡ tree.json_tokens (outline (object (members_of stamp deed))) → IsUtf8 text → SpellsDeed (form_of stamp) text (members_of stamp deed) deed
+  pub spells_written : (text : List ℕ) → tokens text ≡ tree.json_tokens (outline (object (members_of stamp deed)))
+      → IsUtf8 text → SpellsDeed (form_of stamp) text (members_of stamp deed) deed
   spells_written text lexed utf8 =
       let found = found_at-members_over (data_of stamp deed) in
       let held = readable_over (data_of stamp deed) (readable stamp deed numbered good) all_fields in
       record {
-        object = record { utf8 = utf8; value = object_read (members_of stamp deed) text held (in_order stamp deed) lexed };
+        object =
+            record { utf8 = utf8; value = object_read (members_of stamp deed) text held (in_order stamp deed) lexed };
         shape = record {
-          fields = λ f. ap (stands (rule_of (form_of stamp) (kind_of deed) f) f) (found f) ∙ field_stands f;
+          fields = λ f. ap (obeys (rule_of (form_of stamp) (kind_of deed) f) f) (found f) ∙ field_obeys f;
           only = only_fields (data_of stamp deed) all_fields;
         };
         holds = record {
@@ -261,10 +290,13 @@ holds_written stamp deed =
       seq = ap (option_and_then number_in) (found Seq);
     }
 
-pub body_spelled : (deed : Deed) → IsGood deed → (text : List ℕ) → tokens text ≡ tree.json_tokens (outline (object (members_of None deed))) → IsUtf8 text → SpellsBody text deed
+pub body_spelled : (deed : Deed) → IsGood deed → (text : List ℕ)
+    → tokens text ≡ tree.json_tokens (outline (object (members_of None deed))) → IsUtf8 text → SpellsBody text deed
 body_spelled deed good text lexed utf8 = (members_of None deed, spells_written None deed tt good text lexed utf8)
 
-pub operation_spelled : (op : Operation) → IsNumbered op.stamp → IsGood op.deed → (text : List ℕ) → tokens text ≡ tree.json_tokens (outline (object (members_of (Some op.stamp) op.deed))) → IsUtf8 text → SpellsOperation text op
+pub operation_spelled : (op : Operation) → IsNumbered op.stamp → IsGood op.deed → (text : List ℕ)
+    → tokens text ≡ tree.json_tokens (outline (object (members_of (Some op.stamp) op.deed))) → IsUtf8 text
+    → SpellsOperation text op
 operation_spelled op numbered good text lexed utf8 = record {
   members = members_of (Some op.stamp) op.deed;
   deed = op.deed;
@@ -275,7 +307,8 @@ operation_spelled op numbered good text lexed utf8 = record {
 }
 
 -- two facts of what a call returned
-pub both_facts : {T E : Type 0} (r : Result T E) (P Q R : T → Type 0) → ((x : T) → P x → Q x → R x) → IfOk r P → IfOk r Q → IfOk r R
+pub both_facts : {T E : Type 0} (r : Result T E) (P Q R : T → Type 0) → ((x : T) → P x → Q x → R x) → IfOk r P
+    → IfOk r Q → IfOk r R
 both_facts (Ok x) P Q R f p q = f x p q
 both_facts (Err e) P Q R f p q = tt
 
@@ -283,6 +316,7 @@ pub printed_body : (deed : Deed) → print (tree.json_tokens (outline (object (m
 unfolding body_text
 printed_body deed = print-outline (object (members_of None deed))
 
-pub printed_operation : (op : Operation) → print (tree.json_tokens (outline (object (members_of (Some op.stamp) op.deed)))) ≡ operation_text op
+pub printed_operation : (op : Operation)
+    → print (tree.json_tokens (outline (object (members_of (Some op.stamp) op.deed)))) ≡ operation_text op
 unfolding operation_text
 printed_operation op = print-outline (object (members_of (Some op.stamp) op.deed))

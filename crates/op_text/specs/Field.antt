@@ -1,6 +1,7 @@
--- The keys of operation and body texts, and what may stand under each. The texts are the project's own; a value is what
+-- The keys of operation and body texts, and what each may hold. The texts are the project's own; a value is what
 -- serde_json's Value reads (JSON: RFC 8259).
-use Rattle.std.specs.Prelude.{ℕ, ℤ, negsuc, pos, List, Bool, true, false, ◌&&◌, nat_le, Option, Some, None, option_and_then, is_some, is_none, codes, int_le}
+use Rattle.std.specs.Prelude.{ℕ, ℤ, negsuc, pos, List, Bool, true, false, ◌&&◌, nat_le, Option, Some, None}
+use Rattle.std.specs.Prelude.{option_and_then, is_some, is_none, codes, int_le}
 use Rattle.serde_json.specs.Data.{Data}
 use Rattle.serde_json.specs.Find.{as_number, as_str, as_u64, as_i64}
 use Rattle.op_text.specs.declared.field.Form.{Form}
@@ -8,11 +9,12 @@ use Rattle.op_text.specs.declared.field.Form.TheVariants.{Body, Operation}
 use Rattle.op_text.specs.declared.field.Kind.{Kind}
 use Rattle.op_text.specs.declared.field.Kind.TheVariants.{PatchSet, Vote, Withdraw, Abandon, Restore, Merged}
 use Rattle.op_text.specs.declared.field.Field.{Field}
-use Rattle.op_text.specs.declared.field.Field.TheVariants.{Change, Label, Message, Op, Parent, Seq, Set, Site, Start, Time, Value, Voter}
+use Rattle.op_text.specs.declared.field.Field.TheVariants.{Change, Label, Message, Op, Parent, Seq, Set, Site, Start}
+use Rattle.op_text.specs.declared.field.Field.TheVariants.{Time, Value, Voter}
 use Rattle.op_text.specs.declared.field.Rule.{Rule}
 use Rattle.op_text.specs.declared.field.Rule.TheVariants.{Refused, Optional, Required}
 
--- what stands under `op` for each kind
+-- the value under `op` for each kind
 abbrev pub name_of : Kind → List ℕ
 name_of PatchSet = codes "patchset"
 name_of Vote = codes "vote"
@@ -133,10 +135,10 @@ accepts Time d = is_within 0 18446744073709551615 (number_in d)
 accepts Value d = is_vote_value (integer_in d)
 accepts Voter d = is_some (as_str d)
 
--- whether a field stands as its rule wants it, by what was found under its key
-abbrev pub stands : Rule → Field → Option Data → Bool
-stands Refused field found = is_none found
-stands Optional field None = true
-stands Optional field (Some d) = accepts field d
-stands Required field None = false
-stands Required field (Some d) = accepts field d
+-- whether a field obeys its rule, by what was found under its key
+abbrev pub obeys : Rule → Field → Option Data → Bool
+obeys Refused field found = is_none found
+obeys Optional field None = true
+obeys Optional field (Some d) = accepts field d
+obeys Required field None = false
+obeys Required field (Some d) = accepts field d

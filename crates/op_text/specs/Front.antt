@@ -1,4 +1,5 @@
--- What the text of a front spells: for a site and a run of it, how many operations of that run are there, without a gap.
+-- What the text of a front spells: for a site and a run of it, how many operations of that run are there, without a
+-- gap.
 use Rattle.std.specs.Prelude.{◌≡◌, ℕ, ◌≤◌, ◌==◌, ◌&&◌, List, [], ◌∷◌, map, filter, Some, IsUtf8, string_bytes, codes}
 use Rattle.std.specs.FinMap.{entries}
 use Rattle.serde_json.specs.Data.{Data, array, Items, no_items, item}
@@ -19,7 +20,8 @@ Entry = ℕ × ℕ × ℕ
 -- a list of the three numbers, each within its bounds
 abbrev pub HoldsEntry : Items → Entry → Type 0
 HoldsEntry (item site (item start (item count no_items))) entry =
-    (number_in site ≡ Some entry.0) × (entry.0 ≤ 65535) × (number_in start ≡ Some entry.1) × (entry.1 ≤ 4294967295) × (number_in count ≡ Some entry.2)
+    (number_in site ≡ Some entry.0) × (entry.0 ≤ 65535) × (number_in start ≡ Some entry.1) × (entry.1 ≤ 4294967295)
+    × (number_in count ≡ Some entry.2)
 HoldsEntry values entry = ⊥
 
 abbrev pub IsEntry : Data → Entry → Type 0
@@ -38,7 +40,7 @@ pub record IsList (text : List ℕ) (values : Items) : Type 0 where
   pub utf8 : IsUtf8 text
   pub value : read text ≡ Some (array values)
 
--- the text is a list of entries, as they stand: in any order, with any repeated
+-- the text is a list of entries, as they are: in any order, with any repeated
 abbrev pub SpellsEntries : List ℕ → List Entry → Type 0
 SpellsEntries text entries = (values : Items) × IsList text values × AreEntries values entries
 
@@ -79,6 +81,7 @@ front_text front = compact_text (array (entries_data (entries_of front)))
 -- What each refusal of a front's text says. Want of memory says nothing of it.
 abbrev pub IsFrontRefusal : List ℕ → OpTextFault → Type 0
 IsFrontRefusal text NotJson = (values : Items) → ¬ IsList text values
-IsFrontRefusal text (BadShape key) = (string_bytes key ≡ codes "front") × (values : Items) × IsList text values × ((entries : List Entry) → ¬ AreEntries values entries)
+IsFrontRefusal text (BadShape key) = (string_bytes key ≡ codes "front") × (values : Items) × IsList text values
+    × ((entries : List Entry) → ¬ AreEntries values entries)
 IsFrontRefusal text (BadBody fault) = ⊥
 IsFrontRefusal text NoMemory = Unit {0}

@@ -1,11 +1,13 @@
--- A text spells one body, operation or front at most: an object has one value, and a value one stamp, one deed or one list of entries.
+-- A text spells one body, operation or front at most: an object has one value, and a value one stamp, one deed or one
+-- list of entries.
 use Rattle.std.specs.Prelude.{◌≡◌, ℕ, ℤ, pos, List, [], ◌∷◌, Option, Some, cond}
 use Rattle.std.proofs.Common.{eqb, get_or, unwrap_or, refl, sym, ap, ◌∙◌, subst}
 use Rattle.serde_json.specs.Data.{Data, Members, object, array, Items, no_items, item}
 use Rattle.replica_core.specs.Front.{Reaches}
 use Rattle.replica_core.specs.FrontLaws.{same_reaches}
 use Rattle.review_ops.specs.Timestamp.{Timestamp}
-use Rattle.review_ops.specs.Deed.{Deed, patch_set, vote, withdraw, abandon, restore, merged, change_of, set_of, message_of, parent_of, label_of, voter_of, value_of, kept_deed}
+use Rattle.review_ops.specs.Deed.{Deed, patch_set, vote, withdraw, abandon, restore, merged, change_of, set_of}
+use Rattle.review_ops.specs.Deed.{message_of, parent_of, label_of, voter_of, value_of, kept_deed}
 use Rattle.review_ops.specs.Operation.{Operation}
 use Rattle.op_text.specs.declared.field.Kind.{Kind}
 use Rattle.op_text.specs.declared.field.Kind.TheVariants.{PatchSet, Vote, Withdraw, Abandon, Restore, Merged}
@@ -39,15 +41,19 @@ same_kind held a b p q =
 -- ---- a deed is what its fields are
 
 deed_by : Kind → ℕ → Option ℕ → Option (List ℕ) → Option ℕ → Option (List ℕ) → Option (List ℕ) → Option ℤ → Deed
-deed_by PatchSet change set message parent label voter value = patch_set change (unwrap_or set 0) (unwrap_or message []) parent
-deed_by Vote change set message parent label voter value = vote change (unwrap_or set 0) (unwrap_or label []) (unwrap_or voter []) (unwrap_or value (pos 0))
-deed_by Withdraw change set message parent label voter value = withdraw change (unwrap_or set 0) (unwrap_or label []) (unwrap_or voter [])
+deed_by PatchSet change set message parent label voter value =
+    patch_set change (unwrap_or set 0) (unwrap_or message []) parent
+deed_by Vote change set message parent label voter value =
+    vote change (unwrap_or set 0) (unwrap_or label []) (unwrap_or voter []) (unwrap_or value (pos 0))
+deed_by Withdraw change set message parent label voter value =
+    withdraw change (unwrap_or set 0) (unwrap_or label []) (unwrap_or voter [])
 deed_by Abandon change set message parent label voter value = abandon change
 deed_by Restore change set message parent label voter value = restore change
 deed_by Merged change set message parent label voter value = merged change
 
 abbrev fields_of : Deed → Deed
-fields_of d = deed_by (kind_of d) (change_of d) (set_of d) (message_of d) (parent_of d) (label_of d) (voter_of d) (value_of d)
+fields_of d =
+    deed_by (kind_of d) (change_of d) (set_of d) (message_of d) (parent_of d) (label_of d) (voter_of d) (value_of d)
 
 deed_by-fields : (d : Deed) → fields_of d ≡ d
 unfolding deed_by
@@ -124,7 +130,8 @@ same_items text v w p q = let e : Some (array v) ≡ Some (array w) = sym p.valu
 
 -- entries say one front
 pub SayFront-unique : (entries : List Entry) (f g : Reaches) → SayFront entries f → SayFront entries g → f ≡ g
-SayFront-unique entries f g say_f say_g = same_reaches f g say_f.reached say_g.reached (λ site start. say_f.reaches site start ∙ sym (say_g.reaches site start))
+SayFront-unique entries f g say_f say_g = same_reaches f g say_f.reached say_g.reached
+    (λ site start. say_f.reaches site start ∙ sym (say_g.reaches site start))
 
 pub one_front : (text : List ℕ) (f g : Reaches) → SpellsFront text f → SpellsFront text g → f ≡ g
 one_front text f g p q =

@@ -2,7 +2,8 @@
 use Rattle.std.specs.Prelude.{◌≡◌, ℕ, List, string_bytes, Some}
 use Rattle.serde_json.specs.Data.{Members}
 use Rattle.review_ops.specs.Timestamp.{Timestamp}
-use Rattle.review_ops.specs.Deed.{Deed, patch_set, vote, withdraw, abandon, restore, merged, change_of, set_of, message_of, parent_of, label_of, voter_of, value_of, kept_deed}
+use Rattle.review_ops.specs.Deed.{Deed, patch_set, vote, withdraw, abandon, restore, merged, change_of, set_of}
+use Rattle.review_ops.specs.Deed.{message_of, parent_of, label_of, voter_of, value_of, kept_deed}
 use Rattle.review_ops.specs.Good.{IsFaultless}
 use Rattle.review_ops.specs.Fault.{IsFirstFault}
 use Rattle.review_ops.specs.Operation.{Operation}
@@ -10,7 +11,8 @@ use Rattle.op_text.specs.declared.field.Form.{Form}
 use Rattle.op_text.specs.declared.field.Form.TheVariants as form
 use Rattle.op_text.specs.declared.field.Kind.{Kind}
 use Rattle.op_text.specs.declared.field.Kind.TheVariants.{PatchSet, Vote, Withdraw, Abandon, Restore, Merged}
-use Rattle.op_text.specs.declared.field.Field.TheVariants.{Change, Label, Message, Parent, Seq, Set, Site, Start, Time, Value, Voter}
+use Rattle.op_text.specs.declared.field.Field.TheVariants.{Change, Label, Message, Parent, Seq, Set, Site, Start, Time}
+use Rattle.op_text.specs.declared.field.Field.TheVariants.{Value, Voter}
 use Rattle.op_text.specs.declared.fault.OpTextFault.{OpTextFault}
 use Rattle.op_text.specs.declared.fault.OpTextFault.TheVariants.{NotJson, BadShape, BadBody, NoMemory}
 use Rattle.op_text.specs.Shape.{IsObject, HasShape, IsNamedKey, NamesKind, number_at, integer_at, text_at}
@@ -62,8 +64,10 @@ pub record SpellsOperation (text : List ℕ) (op : Operation) : Type 0 where
 -- What each refusal of a text says. Want of memory says nothing of it.
 abbrev pub IsRefusalOf : Form → List ℕ → OpTextFault → Type 0
 IsRefusalOf kind text NotJson = (members : Members) → ¬ IsObject text members
-IsRefusalOf kind text (BadShape key) = (members : Members) × IsObject text members × IsNamedKey kind members (string_bytes key)
+IsRefusalOf kind text (BadShape key) =
+    (members : Members) × IsObject text members × IsNamedKey kind members (string_bytes key)
 -- a body's reading doesn't ask whether it is good
 IsRefusalOf form.Body text (BadBody fault) = ⊥
-IsRefusalOf form.Operation text (BadBody fault) = (members : Members) × (deed : Deed) × SpellsDeed form.Operation text members deed × IsFirstFault fault deed
+IsRefusalOf form.Operation text (BadBody fault) =
+    (members : Members) × (deed : Deed) × SpellsDeed form.Operation text members deed × IsFirstFault fault deed
 IsRefusalOf kind text NoMemory = Unit {0}

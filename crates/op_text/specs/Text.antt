@@ -1,4 +1,5 @@
--- The texts that are written for bodies and operations: the compact JSON text of the object, its members in byte order of their keys.
+-- The texts that are written for bodies and operations: the compact JSON text of the object, its members in byte order
+-- of their keys.
 use Rattle.std.specs.Prelude.{◌≡◌, ℕ, ◌≤◌, List, [], ◌∷◌, All, Option, Some, None, option_map}
 use Rattle.serde_json.specs.Data.{Data, number, string, object, unsigned, Members, no_members, member}
 use Rattle.serde_json.specs.Find.{of_integer}
@@ -9,7 +10,8 @@ use Rattle.review_ops.specs.Operation.{Operation}
 use Rattle.op_text.specs.declared.field.Form.{Form}
 use Rattle.op_text.specs.declared.field.Form.TheVariants as form
 use Rattle.op_text.specs.declared.field.Field.{Field}
-use Rattle.op_text.specs.declared.field.Field.TheVariants.{Change, Label, Message, Op, Parent, Seq, Set, Site, Start, Time, Value, Voter}
+use Rattle.op_text.specs.declared.field.Field.TheVariants.{Change, Label, Message, Op, Parent, Seq, Set, Site, Start}
+use Rattle.op_text.specs.declared.field.Field.TheVariants.{Time, Value, Voter}
 use Rattle.op_text.specs.Field.{key_of, name_of}
 use Rattle.op_text.specs.Spelling.{kind_of}
 
@@ -21,7 +23,7 @@ form_of (Some stamp) = form.Operation
 abbrev pub whole : ℕ → Data
 whole n = number (unsigned n)
 
--- what stands under a field's key, if anything does
+-- the value under a field's key, if there is one
 abbrev pub data_of : Option Timestamp → Deed → Field → Option Data
 data_of stamp deed Change = Some (whole (change_of deed))
 data_of stamp deed Label = option_map string (label_of deed)
@@ -58,7 +60,7 @@ body_text deed = compact_text (object (members_of None deed))
 unfoldable pub operation_text : Operation → List ℕ
 operation_text op = compact_text (object (members_of (Some op.stamp) op.deed))
 
--- the text stands on one line: it begins with `{` and has no control character, so no LF and no CR
+-- the text is one line: it begins with `{` and has no control character, so no LF and no CR
 pub record IsOneLine (text : List ℕ) : Type 0 where
   pub rest : List ℕ
   pub begins : text ≡ 123 ∷ rest

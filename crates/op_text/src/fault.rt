@@ -49,7 +49,8 @@ impl OpTextFault {
         }
     }
 
-    /// Writes the fault's words in reports: its name, and the key that isn't as it should be or the name of the body's fault. In O(n) for their length.
+    /// Writes the fault's words in reports: its name, and the key that isn't as it should be or the name of the body's
+    /// fault. In O(n) for their length.
     pub fn write_words(&self, text: &mut String) -> Result<(), AllocError>
         ensures { OnOk result (string_bytes text.new ≡ string_bytes text.old ++ words_of self.now) }
     {

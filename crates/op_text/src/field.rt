@@ -2,7 +2,7 @@ ghost use Rattle.std.specs.Prelude.{◌≡◌, ◌≢◌, MatchOption, option_ma
 ghost use Rattle.serde_json.specs.View.{view};
 ghost use Rattle.review_ops.specs.Draft.{deed_of};
 ghost use Rattle.op_text.specs.Spelling.{kind_of};
-ghost use Rattle.op_text.specs.Field.{key_of, name_of, rule_of, accepts, stands};
+ghost use Rattle.op_text.specs.Field.{key_of, name_of, rule_of, accepts, obeys};
 
 use review_ops::Draft;
 use serde_json::Value;
@@ -188,7 +188,7 @@ impl Field {
         }
     }
 
-    /// Whether a value may stand under the field's key.
+    /// Whether a value may be under the field's key.
     pub fn accepts(self, value: &Value) -> bool
         ensures { result ≡ accepts self (view value.now) }
     {
@@ -207,9 +207,9 @@ impl Field {
     }
 }
 
-/// Whether a field stands as its rule wants it, where `found` is what stands under its key.
-pub fn stands(rule: Rule, field: Field, found: Option<&Value>) -> bool
-    ensures { result ≡ stands rule field (option_map (λ value. view value.now) found.entry) }
+/// Whether a field obeys its rule, where `found` is the value under its key.
+pub fn obeys(rule: Rule, field: Field, found: Option<&Value>) -> bool
+    ensures { result ≡ obeys rule field (option_map (λ value. view value.now) found.entry) }
 {
     match (rule, found) {
         (Rule::Refused, Some(_)) => false,

@@ -1,7 +1,8 @@
 ghost use Rattle.std.specs.Prelude.{◌≡◌, List, IfOk, IfErr, IfSome, IfNone, MatchResult, string_bytes};
 ghost use Rattle.serde_json.specs.View.{view, items_view};
 ghost use Rattle.replica_core.specs.Front.{Reaches};
-ghost use Rattle.op_text.specs.Front.{Entry, IsEntry, IsList, SpellsEntries, SayFront, SpellsFront, IsFrontRefusal, entry_data, front_text};
+ghost use Rattle.op_text.specs.Front.{Entry, IsEntry, IsList, SpellsEntries, SayFront, SpellsFront, IsFrontRefusal};
+ghost use Rattle.op_text.specs.Front.{entry_data, front_text};
 
 use super::fault::OpTextFault;
 use super::shape::{bad_shape, unread};
@@ -10,10 +11,11 @@ use replica_core::{Front, Reach, Row};
 use serde_json::Value;
 use std::alloc::Global;
 
-/// Reads the text of a front. Entries may come in any order, and more than once: of those with the same site and start the greatest number
-/// counts, and 0 is as none. What the text spells is read, unless memory runs out. Refusals: 1 `NotJson`, the bytes aren't UTF-8 or aren't the
-/// text of one JSON list; 2 `BadShape` with the key `front`, an item isn't a list of three numbers in their ranges; 4 `NoMemory`. It costs the
-/// length of the text, and for each entry the logarithm of the rows.
+/// Reads the text of a front. Entries may come in any order, and more than once: of those with the same site and start
+/// the greatest number counts, and 0 is as none. What the text spells is read, unless memory runs out. Refusals: 1
+/// `NotJson`, the bytes aren't UTF-8 or aren't the text of one JSON list; 2 `BadShape` with the key `front`, an item
+/// isn't a list of three numbers in their ranges; 4 `NoMemory`. It costs the length of the text, and for each entry the
+/// logarithm of the rows.
 pub fn read_front(alloc: Global, bytes: &[u8]) -> Result<Front, OpTextFault>
     ensures spelled { IfOk result (λ front. SpellsFront bytes.now front) }
     ensures refused { IfErr result (IsFrontRefusal bytes.now) }
@@ -26,7 +28,8 @@ pub fn read_front(alloc: Global, bytes: &[u8]) -> Result<Front, OpTextFault>
     front_of(alloc, entries)
 }
 
-/// The text of a front: a list of its rows in their order, which `read_front` reads back as the front. It costs the length of the text.
+/// The text of a front: a list of its rows in their order, which `read_front` reads back as the front. It costs the
+/// length of the text.
 pub fn write_front(alloc: Global, front: &Front) -> Result<String, NoMemory>
     ensures text { IfOk result (λ text. string_bytes text ≡ front_text front.now) }
     ensures spells { IfOk result (λ text. SpellsFront (string_bytes text) front.now) }
@@ -65,7 +68,7 @@ fn front_of(alloc: Global, entries: Vec<(u16, u32, u64)>) -> Result<Front, OpTex
     Ok(front)
 }
 
-/// Reads the entries of a front's text as they stand: the site, the start of the site, and a number.
+/// Reads the entries of a front's text as they are: the site, the start of the site, and a number.
 fn read_entries(alloc: Global, bytes: &[u8]) -> Result<Vec<(u16, u32, u64)>, OpTextFault>
     ensures spelled { IfOk result (λ entries. SpellsEntries bytes.now entries.items) }
     ensures refused { IfErr result (IsFrontRefusal bytes.now) }

@@ -8,13 +8,13 @@ ghost use Rattle.replica_core.specs.Front.{Reaches};
 ghost use Rattle.op_text.specs.Front.{SpellsFront};
 ghost use Rattle.op_text.specs.Spelling.{SpellsBody, SpellsOperation};
 
-/// A law: the text of each operation stands on one line, and spells the operation.
+/// A law: the text of each operation is one line, and spells the operation.
 pub fn operations_are_spelled()
     ensures line { (op : Operation) → IsNumbered op.stamp → IsGood op.deed → IsOneLine (operation_text op) }
     ensures spells { (op : Operation) → IsNumbered op.stamp → IsGood op.deed → SpellsOperation (operation_text op) op }
 {}
 
-/// A law: the text of each good body stands on one line, and spells the body.
+/// A law: the text of each good body is one line, and spells the body.
 pub fn bodies_are_spelled()
     ensures line { (deed : Deed) → IsGood deed → IsOneLine (body_text deed) }
     ensures spells { (deed : Deed) → IsGood deed → SpellsBody (body_text deed) deed }
@@ -22,7 +22,9 @@ pub fn bodies_are_spelled()
 
 /// A law: a text spells one operation at most, one body and one front.
 pub fn texts_spell_once()
-    ensures operation { (text : List ℕ) (op other : Operation) → SpellsOperation text op → SpellsOperation text other → op ≡ other }
+    ensures operation { (text : List ℕ) (op other : Operation) → SpellsOperation text op → SpellsOperation text other
+        → op ≡ other }
     ensures body { (text : List ℕ) (deed other : Deed) → SpellsBody text deed → SpellsBody text other → deed ≡ other }
-    ensures front { (text : List ℕ) (front other : Reaches) → SpellsFront text front → SpellsFront text other → front ≡ other }
+    ensures front { (text : List ℕ) (front other : Reaches) → SpellsFront text front → SpellsFront text other
+        → front ≡ other }
 {}

@@ -1,8 +1,8 @@
 //! The JSON texts of operations, bodies and fronts.
 //!
-//! An operation is one JSON object (RFC 8259), read as serde_json's `Value` reads it and written compactly, with its members
-//! in byte order of their keys, on one line. `op` says the kind; a body is the same object without `seq`, `site`, `start` and
-//! `time`.
+//! An operation is one JSON object (RFC 8259), read as serde_json's `Value` reads it and written compactly, with its
+//! members in byte order of their keys, on one line. `op` says the kind; a body is the same object without `seq`,
+//! `site`, `start` and `time`.
 //!
 //! | `op` | Keys beside `op`, `seq`, `site`, `start`, `time` |
 //! |---|---|
@@ -11,9 +11,9 @@
 //! | `withdraw` | `change`, `label`, `set`, `voter` |
 //! | `abandon`, `restore`, `merged` | `change` |
 //!
-//! `time` is a whole number below 2^64, `seq` one from 1 on, `site` one below 2^16, `start`, `change`, `set` and `parent` are
-//! below 2^32, `value` is from -128 to 127, the others are texts. A label is read in any case, and kept and written in lower
-//! case. A front is a list of lists `[site,start,n]`.
+//! `time` is a whole number below 2^64, `seq` one from 1 on, `site` one below 2^16, `start`, `change`, `set` and
+//! `parent` are below 2^32, `value` is from -128 to 127, the others are texts. A label is read in any case, and kept
+//! and written in lower case. A front is a list of lists `[site,start,n]`.
 //!
 //! An example of its use:
 //!

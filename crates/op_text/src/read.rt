@@ -1,4 +1,5 @@
-ghost use Rattle.std.specs.Prelude.{◌≡◌, ◌≢◌, ◌<◌, ◌^◌, ℕ, List, Some, IfOk, IfErr, IfSome, IsSome, IsSomeAnd, MatchResult, FitsSigned, option_map, string_bytes};
+ghost use Rattle.std.specs.Prelude.{◌≡◌, ◌≢◌, ◌<◌, ◌^◌, ℕ, List, Some, IfOk, IfErr, IfSome, IsSome, IsSomeAnd};
+ghost use Rattle.std.specs.Prelude.{MatchResult, FitsSigned, option_map, string_bytes};
 ghost use Rattle.std.specs.Int.{w8};
 ghost use Rattle.serde_json.specs.Find.{get_member, as_str};
 ghost use Rattle.serde_json.specs.View.{members_view, view};
@@ -18,10 +19,10 @@ use review_ops::{Body, Draft, Op, Stamp};
 use serde_json::{Map, Value};
 use std::alloc::Global;
 
-/// Reads the text of a body, which needn't be good: `Body::checked` is asked later. What the text spells is read, unless
-/// memory runs out. Refusals: 1 `NotJson`, the bytes aren't UTF-8 or aren't the text of one JSON object; 2 `BadShape`, the
-/// key `op` names no kind, or else the first key in byte order that is missing, not expected or not accepted;
-/// 4 `NoMemory`. It costs the length of the text.
+/// Reads the text of a body, which needn't be good: `Body::checked` is asked later. What the text spells is read,
+/// unless memory runs out. Refusals: 1 `NotJson`, the bytes aren't UTF-8 or aren't the text of one JSON object; 2
+/// `BadShape`, the key `op` names no kind, or else the first key in byte order that is missing, not expected or not
+/// accepted; 4 `NoMemory`. It costs the length of the text.
 pub fn read_body(alloc: Global, bytes: &[u8]) -> Result<Draft, OpTextFault>
     ensures spelled { IfOk result (λ draft. SpellsBody bytes.now (deed_of draft)) }
     ensures refused { IfErr result (IsRefusalOf Form.Body bytes.now) }
@@ -33,10 +34,10 @@ pub fn read_body(alloc: Global, bytes: &[u8]) -> Result<Draft, OpTextFault>
     spelled_body(alloc, bytes)
 }
 
-/// Reads the text of an operation. The label of a vote is kept in lower case. What the text spells is read, unless memory
-/// runs out. Refusals: 1 `NotJson` and 2 `BadShape` as those of `read_body`; 3 `BadBody`, the body that the text spells
-/// isn't good, with the cause that `Body::checked` answers; 4 `NoMemory`. It costs the length of the text, and least where
-/// the text is as `write_op` writes it.
+/// Reads the text of an operation. The label of a vote is kept in lower case. What the text spells is read, unless
+/// memory runs out. Refusals: 1 `NotJson` and 2 `BadShape` as those of `read_body`; 3 `BadBody`, the body that the text
+/// spells isn't good, with the cause that `Body::checked` answers; 4 `NoMemory`. It costs the length of the text, and
+/// least where the text is as `write_op` writes it.
 pub fn read_op(alloc: Global, bytes: &[u8]) -> Result<Op, OpTextFault>
     ensures spelled { IfOk result (SpellsOperation bytes.now) }
     ensures refused { IfErr result (IsRefusalOf Form.Operation bytes.now) }
@@ -71,8 +72,8 @@ fn spelled_operation(alloc: Global, bytes: &[u8]) -> Result<Op, OpTextFault>
     Ok(Op::new(stamp, body))
 }
 
-/// The operation of a text as `write_op` writes it, which costs much less than reading any JSON. Other texts that spell an
-/// operation get no answer, and so does a text for which memory runs out.
+/// The operation of a text as `write_op` writes it, which costs much less than reading any JSON. Other texts that spell
+/// an operation get no answer, and so does a text for which memory runs out.
 fn as_written(alloc: Global, bytes: &[u8]) -> Option<Op>
     ensures { IfSome result (SpellsOperation bytes.now) }
 {

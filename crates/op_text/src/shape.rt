@@ -5,11 +5,12 @@ ghost use Rattle.serde_json.specs.Errors.{IsMemory};
 ghost use Rattle.serde_json.specs.Find.{get_member};
 ghost use Rattle.serde_json.specs.View.{view, members_view};
 ghost use Rattle.op_text.specs.Field.{key_of};
-ghost use Rattle.op_text.specs.Shape.{IsObject, IsFieldKey, IsNamedKey, IsFirstBadKey, HasShape, NamesKind, NamesKey, IsShapeFault, fits, text_at};
+ghost use Rattle.op_text.specs.Shape.{IsObject, IsFieldKey, IsNamedKey, IsFirstBadKey, HasShape, NamesKind, NamesKey};
+ghost use Rattle.op_text.specs.Shape.{IsShapeFault, fits, text_at};
 ghost use Rattle.op_text.specs.Spelling.{IsRefusalOf};
 
 use super::fault::OpTextFault;
-use super::field::{Field, Form, Kind, stands};
+use super::field::{Field, Form, Kind, obeys};
 use serde_json::{Error, Map, Value};
 use std::alloc::Global;
 use std::cmp::Ordering;
@@ -42,7 +43,7 @@ pub fn unread(error: &Error) -> OpTextFault
     }
 }
 
-/// What stands under a key.
+/// The value under a key.
 pub fn found<'a>(members: &'a Map<String, Value>, key: &str) -> Option<&'a Value>
     ensures { option_map (λ value. view value.now) result
         ≡ get_member key.now (members_view members.now.entries) }
@@ -50,7 +51,7 @@ pub fn found<'a>(members: &'a Map<String, Value>, key: &str) -> Option<&'a Value
     members.get(key)
 }
 
-/// The first field, by its key, that doesn't stand as the form and the kind want it.
+/// The first field, by its key, that isn't as the form and the kind want it.
 pub fn first_misfit(members: &Map<String, Value>, form: Form, kind: Kind) -> Option<Field>
     ensures none { IfNone result
         ((field : _) → fits form kind (members_view members.now.entries) field ≡ true) }
@@ -68,12 +69,12 @@ pub fn first_misfit(members: &Map<String, Value>, form: Form, kind: Kind) -> Opt
     None
 }
 
-/// Whether a field stands as the form and the kind want it.
+/// Whether a field is as the form and the kind want it.
 fn fits(members: &Map<String, Value>, form: Form, kind: Kind, field: Field) -> bool
     ensures { result ≡ fits form kind (members_view members.now.entries) field }
 {
     let rule = field.rule(form, kind);
-    stands(rule, field, found(members, field.key()))
+    obeys(rule, field, found(members, field.key()))
 }
 
 /// The first key that is no field's.

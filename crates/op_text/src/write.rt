@@ -59,7 +59,7 @@ fn object_text(alloc: Global, stamp: Option<Stamp>, body: &Body) -> Result<Strin
     Ok(String::from_utf8(out.into_inner()).unwrap())
 }
 
-/// Writes what stands under a field's key, if anything does.
+/// Writes the value under a field's key, if there is one.
 fn write_field(
     out: &mut Writer<Global>,
     field: Field,

@@ -1,5 +1,7 @@
 -- Searches over edges turned round, and what their answers say of the graph.
-use Rattle.std.proofs.Common.{◌≡◌, ◌<◌, ◌≤◌, ◌+◌, ◌↔◌, ℕ, Bool, true, List, [], ◌∷◌, ◌++◌, length, map, Contains, Option, Some, None, is_some, zero, suc, refl, sym, ap, ◌∙◌, subst, arith, inl, inr, length-append}
+use Rattle.std.proofs.Common.{◌≡◌, ◌<◌, ◌≤◌, ◌+◌, ◌↔◌, ℕ, Bool, true, List, [], ◌∷◌, ◌++◌, length, map, Contains}
+use Rattle.std.proofs.Common.{Option, Some, None, is_some, zero, suc, refl, sym, ap, ◌∙◌, subst, arith, inl, inr}
+use Rattle.std.proofs.Common.{length-append}
 use Rattle.std.specs.Prelude.{slice_get, option_map}
 use Rattle.std.proofs.lemmas.List.{length-map, map_push}
 use Rattle.std.proofs.lemmas.Option.{slice_get-map, slice_get_within, slice_get-get_or}
@@ -11,8 +13,10 @@ use Rattle.lattice_core.specs.PlaceLaws.{earlier_or_same}
 use Rattle.reach_core.specs.Reach.{IsLeading, AreLeading, AreReached}
 
 -- ---- what distances say of leading
-module _ (graph : List (List ℕ)) (marked : List Bool) (distances : List (Option ℕ)) (sized : length marked ≡ length graph) (are : AreDistances graph marked distances) where
-  leads_at : (x : ℕ) (found : Option (Option ℕ)) → slice_get distances x ≡ found → option_map is_some found ≡ Some true → IsLeading graph marked x
+module _ (graph : List (List ℕ)) (marked : List Bool) (distances : List (Option ℕ))
+    (sized : length marked ≡ length graph) (are : AreDistances graph marked distances) where
+  leads_at : (x : ℕ) (found : Option (Option ℕ)) → slice_get distances x ≡ found → option_map is_some found ≡ Some true
+      → IsLeading graph marked x
   leads_at x None at is = cc
   leads_at x (Some None) at is = cc
   leads_at x (Some (Some n)) at is = (n, (are.each x (Some n) at).leads)
@@ -21,7 +25,8 @@ module _ (graph : List (List ℕ)) (marked : List Bool) (distances : List (Optio
   within zero x leads = omega (arith, slice_get_within marked x true leads, sized, are.nodes)
   within (suc n) x leads = omega (arith, HasEdge-starts graph x leads.0 leads.1, are.nodes)
 
-  there_at : (x n : ℕ) (distance : Option ℕ) → slice_get distances x ≡ Some distance → Leads (HasEdge graph) (IsMarked marked) n x → is_some distance ≡ true
+  there_at : (x n : ℕ) (distance : Option ℕ) → slice_get distances x ≡ Some distance
+      → Leads (HasEdge graph) (IsMarked marked) n x → is_some distance ≡ true
   there_at x n None at leads = absurd (are.each x None at n leads)
   there_at x n (Some m) at leads = refl
 
@@ -37,7 +42,8 @@ module _ (graph : List (List ℕ)) (marked : List Bool) (distances : List (Optio
   }
 
 -- ---- walks and where they end
-Leads-end : {N : Type 0} (E : N → N → Type 0) (P : N → Type 0) (n : ℕ) (x : N) → Leads E P n x → (y : N) × P y × Walk E n x y
+Leads-end : {N : Type 0} (E : N → N → Type 0) (P : N → Type 0) (n : ℕ) (x : N) → Leads E P n x
+    → (y : N) × P y × Walk E n x y
 Leads-end E P zero x is = (x, is, refl)
 Leads-end E P (suc n) x leads = let rest = Leads-end E P n leads.0 leads.2 in (rest.0, rest.1, (leads.0, leads.1, rest.2))
 
@@ -45,12 +51,14 @@ end-Leads : {N : Type 0} (E : N → N → Type 0) (P : N → Type 0) (n : ℕ) (
 end-Leads E P zero x y is walk = subst P (sym walk) is
 end-Leads E P (suc n) x y is walk = (walk.0, walk.1, end-Leads E P n walk.0 y is walk.2)
 
-Walk-by : {N : Type 0} (E F : N → N → Type 0) → ((a b : N) → E a b → F a b) → (n : ℕ) (x y : N) → Walk E n x y → Walk F n x y
+Walk-by : {N : Type 0} (E F : N → N → Type 0) → ((a b : N) → E a b → F a b) → (n : ℕ) (x y : N) → Walk E n x y
+    → Walk F n x y
 Walk-by E F gives zero x y walk = walk
 Walk-by E F gives (suc n) x y walk = (walk.0, gives x walk.0 walk.1, Walk-by E F gives n walk.0 y walk.2)
 
 -- what leads to a marked node over the edges turned round is reached from one
-pub AreReached-turned : (graph turned : List (List ℕ)) (marked flags : List Bool) → IsReversed graph turned → AreLeading turned marked flags → AreReached graph marked flags
+pub AreReached-turned : (graph turned : List (List ℕ)) (marked flags : List Bool) → IsReversed graph turned
+    → AreLeading turned marked flags → AreReached graph marked flags
 AreReached-turned graph turned marked flags reversed are = record {
   nodes = are.nodes ∙ reversed.nodes;
   each = λ x. (
@@ -61,7 +69,8 @@ AreReached-turned graph turned marked flags reversed are = record {
     λ reached.
         let walk : Walk (HasEdge turned) reached.2.0 x reached.0 = Walk-turned (HasEdge turned) reached.2.0 reached.0 x
         (Walk-by (HasEdge graph) (λ a b. HasEdge turned b a) (λ a b edge. (reversed.edges a b).0 edge) reached.2.0 reached.0 x reached.2.1) in
-        (are.each x).1 (reached.2.0, end-Leads (HasEdge turned) (IsMarked marked) reached.2.0 x reached.0 reached.1 walk),
+        (are.each x).1
+        (reached.2.0, end-Leads (HasEdge turned) (IsMarked marked) reached.2.0 x reached.0 reached.1 walk),
   );
 }
 
@@ -83,12 +92,14 @@ pub record AreNamers (graph : List (List ℕ)) (count : ℕ) (rows : List (List 
 at_last : (x count : ℕ) → x < count + 1 → x ≤ count
 at_last x count less = omega (arith, less)
 
-pub more_namers : {T : Type 0} (f : T → List ℕ) (graph : List (List ℕ)) (count : ℕ) (rows : List T) (new : T) → AreNamers graph count (map f rows)
+pub more_namers : {T : Type 0} (f : T → List ℕ) (graph : List (List ℕ)) (count : ℕ) (rows : List T) (new : T)
+    → AreNamers graph count (map f rows)
     → ((y : ℕ) → Contains (f new) y ↔ HasEdge graph y count) → AreNamers graph (count + 1) (map f (rows ++ new ∷ []))
 more_namers f graph count rows new are names = record {
   nodes = ap length (map_push f rows new) ∙ length-append (map f rows) (f new ∷ []) ∙ ap (λ n. n + 1) are.nodes;
   each = λ x y less. elim (earlier_or_same x count (at_last x count less)) [
-    | inl earlier ↦ subst (λ r. Contains (row r) y ↔ HasEdge graph y x) (sym (before x (omega (arith, earlier, are.nodes)))) (are.each x y earlier)
+    | inl earlier ↦ subst (λ r. Contains (row r) y ↔ HasEdge graph y x)
+        (sym (before x (omega (arith, earlier, are.nodes)))) (are.each x y earlier)
     | inr same ↦ subst (λ n. Contains (ends_of (map f (rows ++ new ∷ [])) n) y ↔ HasEdge graph y n) (sym same)
         (subst (λ r. Contains (row r) y ↔ HasEdge graph y count) (sym last) (names y))
   ];
@@ -97,9 +108,11 @@ more_namers f graph count rows new are names = record {
   before x less = ap (λ l. slice_get l x) (map_push f rows new) ∙ push_before (map f rows) (f new) x less
 
   last : slice_get (map f (rows ++ new ∷ [])) count ≡ Some (f new)
-  last = ap (λ l. slice_get l count) (map_push f rows new) ∙ subst (λ n. slice_get (map f rows ++ f new ∷ []) n ≡ Some (f new)) are.nodes (push_at (map f rows) (f new))
+  last = ap (λ l. slice_get l count) (map_push f rows new)
+      ∙ subst (λ n. slice_get (map f rows ++ f new ∷ []) n ≡ Some (f new)) are.nodes (push_at (map f rows) (f new))
 
-pub all_named : (graph rows : List (List ℕ)) (count : ℕ) → IsWithin graph → length graph ≤ count → count ≤ length graph → AreNamers graph count rows → IsReversed graph rows
+pub all_named : (graph rows : List (List ℕ)) (count : ℕ) → IsWithin graph → length graph ≤ count → count ≤ length graph
+    → AreNamers graph count rows → IsReversed graph rows
 all_named graph rows count is low high are = record {
   nodes = omega (arith, are.nodes, low, high);
   edges = λ x y. (

@@ -1,5 +1,6 @@
 -- Rows of nodes, row after row.
-use Rattle.std.proofs.Common.{◌≡◌, ◌<◌, ◌+◌, ℕ, List, [], ◌∷◌, ◌++◌, Option, None, Some, Contains, length, map, length-append, refl, sym, ap, ◌∙◌, subst, arith, inl, inr}
+use Rattle.std.proofs.Common.{◌≡◌, ◌<◌, ◌+◌, ℕ, List, [], ◌∷◌, ◌++◌, Option, None, Some, Contains, length, map}
+use Rattle.std.proofs.Common.{length-append, refl, sym, ap, ◌∙◌, subst, arith, inl, inr}
 use Rattle.std.specs.Prelude.{slice_get}
 use Rattle.std.specs.List.{All}
 use Rattle.std.proofs.lemmas.List.{map_push}
@@ -14,9 +15,11 @@ pub record AreRows (count nodes : ℕ) (rows : List (List ℕ)) : Type 0 where
   pub below : (ends : List ℕ) → Contains rows ends → All (λ end. end < nodes) ends
 
 pub no_rows : (nodes : ℕ) (rows : List (List ℕ)) → rows ≡ [] → AreRows 0 nodes rows
-no_rows nodes rows is = record { size = ap length is; below = λ ends c. absurd (Contains-none ends (subst (λ l. Contains l ends) is c)) }
+no_rows nodes rows is =
+    record { size = ap length is; below = λ ends c. absurd (Contains-none ends (subst (λ l. Contains l ends) is c)) }
 
-pub row_more : {T : Type 0} (f : T → List ℕ) (count nodes : ℕ) (rows : List T) (new : T) → AreRows count nodes (map f rows) → All (λ end. end < nodes) (f new)
+pub row_more : {T : Type 0} (f : T → List ℕ) (count nodes : ℕ) (rows : List T) (new : T)
+    → AreRows count nodes (map f rows) → All (λ end. end < nodes) (f new)
     → AreRows (count + 1) nodes (map f (rows ++ new ∷ []))
 row_more f count nodes rows new are all = subst (AreRows (count + 1) nodes) (sym (map_push f rows new)) (record {
   size = length-append (map f rows) (f new ∷ []) ∙ ap (λ n. n + 1) are.size;

@@ -8,7 +8,8 @@ use lattice_core::NoMemory;
 use std::alloc::Allocator;
 use walk_core::Digraph;
 
-/// Which nodes lead to a marked one, over some edges or none. It takes O(n + m) time and memory for n nodes and m edges.
+/// Which nodes lead to a marked one, over some edges or none. It takes O(n + m) time and memory for n nodes and m
+/// edges.
 pub fn leading<A: Allocator + Copy>(
     alloc: A,
     graph: &Digraph<A>,
@@ -36,7 +37,8 @@ fn are_there<A: Allocator + Copy>(
     )
 }
 
-/// Which nodes a marked one leads to, over some edges or none. It takes O(n + m) time and memory for n nodes and m edges.
+/// Which nodes a marked one leads to, over some edges or none. It takes O(n + m) time and memory for n nodes and m
+/// edges.
 pub fn reached<A: Allocator + Copy>(
     alloc: A,
     graph: &Digraph<A>,

@@ -1,5 +1,6 @@
 -- A dependency leads on to its current item, so that ranks are fewer than the items that are left out.
-use Rattle.std.proofs.Common.{◌≡◌, ◌≤◌, ◌<◌, ◌==◌, ℕ, zero, suc, not, List, length, filter, Contains, refl, sym, ap, ◌∙◌, subst, arith, inl, inr}
+use Rattle.std.proofs.Common.{◌≡◌, ◌≤◌, ◌<◌, ◌==◌, ℕ, zero, suc, not, List, length, filter, Contains, refl, sym, ap}
+use Rattle.std.proofs.Common.{◌∙◌, subst, arith, inl, inr}
 use Rattle.std.proofs.lemmas.Bool.{eq-eqb, ne_eqb, cases_eq}
 use Rattle.std.proofs.lemmas.List.Filters.{length-filter_both}
 use Rattle.walk_core.specs.Walks.{IsDistance-once}
@@ -33,9 +34,11 @@ module _ {X : Type 0} (rank : X → ℕ) where
 module _ (gate : GateRules) (state : State) (verdicts : Judged) (are : AreVerdicts gate state verdicts) where
   -- an item at some distance from one that isn't eligible isn't ready
   not_ready : (item : Item) (rank : ℕ) → IsRank gate state item rank → ¬ IsReady gate state item
-  not_ready item rank far ready = IsClosed-safe {E = IsDependency gate state} {IsEligible = IsEligible gate state} ready.closed rank item ready.has far.leads
+  not_ready item rank far ready = IsClosed-safe {E = IsDependency gate state}
+      {IsEligible = IsEligible gate state} ready.closed rank item ready.has far.leads
 
-  left_at : (item : Item) (rank : ℕ) → IsCurrentItem state item → IsRank gate state item rank → IsLeftAt state verdicts item.change rank
+  left_at : (item : Item) (rank : ℕ) → IsCurrentItem state item → IsRank gate state item rank
+      → IsLeftAt state verdicts item.change rank
   left_at item rank current far =
       let is_item : IsItem state item = (current.change, current.stands, current.greatest.known) in
       let found = Contains-of_map (λ (left : Left). left.item) verdicts.out item ((are.out item).1 (is_item, not_ready item rank far)) in
@@ -46,10 +49,12 @@ module _ (gate : GateRules) (state : State) (verdicts : Judged) (are : AreVerdic
         out = found.1;
         current = subst (IsCurrentItem state) (sym found.2) current;
         of = ap (λ (i : Item). i.change) found.2;
-        rank = IsDistance-once {E = IsDependency gate state} {P = IsIneligible gate state} next.rank rank next.item its (subst (λ i. IsRank gate state i rank) (sym found.2) far);
+        rank = IsDistance-once {E = IsDependency gate state} {P = IsIneligible gate state} next.rank rank next.item its
+            (subst (λ i. IsRank gate state i rank) (sym found.2) far);
       }
 
-  pub leads_from : (item : Item) (refusal : Refusal) (rank : ℕ) → IsRefused gate state item refusal rank → LeadsFrom state verdicts refusal rank
+  pub leads_from : (item : Item) (refusal : Refusal) (rank : ℕ) → IsRefused gate state item refusal rank
+      → LeadsFrom state verdicts refusal rank
   leads_from item (Own condition) rank is = is.1
   leads_from item Cycle rank is = is.2
   leads_from item (Unknown number) rank is = is.3
@@ -57,14 +62,17 @@ module _ (gate : GateRules) (state : State) (verdicts : Judged) (are : AreVerdic
       let begins = is.1.begins in
       (is.1.rest, is.1.one_more, subst (λ n. IsLeftAt state verdicts n is.1.rest) begins.1 (left_at begins.0 is.1.rest begins.2.edge.1 begins.2.rest))
 
-  next_left : (refusal : Refusal) (rank rest : ℕ) → LeadsFrom state verdicts refusal rank → rank ≡ suc rest → (next : Left) × Contains verdicts.out next × (next.rank ≡ rest)
+  next_left : (refusal : Refusal) (rank rest : ℕ) → LeadsFrom state verdicts refusal rank → rank ≡ suc rest
+      → (next : Left) × Contains verdicts.out next × (next.rank ≡ rest)
   next_left (Own condition) rank rest leads is = absurd (omega (arith, leads, is))
   next_left Cycle rank rest leads is = absurd (omega (arith, leads, is))
   next_left (Unknown number) rank rest leads is = absurd (omega (arith, leads, is))
-  next_left (Dependency number) rank rest leads is = (leads.2.next, leads.2.out, leads.2.rank ∙ omega (arith, leads.1, is))
+  next_left (Dependency number) rank rest leads is =
+      (leads.2.next, leads.2.out, leads.2.rank ∙ omega (arith, leads.1, is))
 
   -- an item is left out with each rank below one that is
-  each_rank_below : (n : ℕ) (left : Left) → Contains verdicts.out left → left.rank ≡ n → (k : ℕ) → k ≤ n → (other : Left) × Contains verdicts.out other × (other.rank ≡ k)
+  each_rank_below : (n : ℕ) (left : Left) → Contains verdicts.out left → left.rank ≡ n → (k : ℕ) → k ≤ n
+      → (other : Left) × Contains verdicts.out other × (other.rank ≡ k)
   each_rank_below zero left has is k less = (left, has, omega (arith, is, less))
   each_rank_below (suc n) left has is k less = elim (cases_eq k (suc n)) [
     | inl same ↦ (left, has, is ∙ sym same)
@@ -74,4 +82,5 @@ module _ (gate : GateRules) (state : State) (verdicts : Judged) (are : AreVerdic
   ]
 
   pub rank_is_short : (left : Left) → Contains verdicts.out left → left.rank < length verdicts.out
-  rank_is_short left has = more_than_ranks (λ (other : Left). other.rank) left.rank verdicts.out (each_rank_below left.rank left has refl)
+  rank_is_short left has =
+      more_than_ranks (λ (other : Left). other.rank) left.rank verdicts.out (each_rank_below left.rank left has refl)

@@ -1,5 +1,6 @@
 -- The items that were judged place by place, with the ready ones in rank order, are the verdicts.
-use Rattle.std.proofs.Common.{◌≡◌, ◌↔◌, ◌<◌, ℕ, zero, suc, Bool, true, List, [], ◌∷◌, Contains, Option, Some, None, map, length, is_none, refl, sym, ◌∙◌, ap, subst, arith}
+use Rattle.std.proofs.Common.{◌≡◌, ◌↔◌, ◌<◌, ℕ, zero, suc, Bool, true, List, [], ◌∷◌, Contains, Option, Some, None, map}
+use Rattle.std.proofs.Common.{length, is_none, refl, sym, ◌∙◌, ap, subst, arith}
 use Rattle.std.specs.Prelude.{slice_get, option_map}
 use Rattle.std.proofs.lemmas.List.{length-map}
 use Rattle.std.proofs.lemmas.Option.{slice_get-map, slice_get_within}
@@ -30,45 +31,61 @@ none_of : (rank : Option ℕ) → is_none rank ≡ true → rank ≡ None
 none_of None is = refl
 none_of (Some rank) is = cc
 
-flag_of : (ranks : List (Option ℕ)) (place : ℕ) (found : Option (Option ℕ)) → slice_get ranks place ≡ found → option_map is_none found ≡ Some true → slice_get ranks place ≡ Some None
+flag_of : (ranks : List (Option ℕ)) (place : ℕ) (found : Option (Option ℕ)) → slice_get ranks place ≡ found
+    → option_map is_none found ≡ Some true → slice_get ranks place ≡ Some None
 flag_of ranks place None at is = cc
-flag_of ranks place (Some rank) at is = let none : is_none rank ≡ true = one (is_none rank) is in at ∙ ap Some (none_of rank none) where
-  one : (b : Bool) → Some b ≡ Some true → b ≡ true
-  one b e = cc
+flag_of ranks place (Some rank) at is = let none : is_none rank ≡ true = one (is_none rank) is in at
+    ∙ ap Some (none_of rank none) where
+      one : (b : Bool) → Some b ≡ Some true → b ≡ true
+      one b e = cc
 
-pub unranked_at : (ranks : List (Option ℕ)) (place : ℕ) → IsMarked (safe_flags ranks) place → slice_get ranks place ≡ Some None
-unranked_at ranks place marked = flag_of ranks place (slice_get ranks place) refl (sym (slice_get-map is_none ranks place) ∙ marked)
+pub unranked_at : (ranks : List (Option ℕ)) (place : ℕ) → IsMarked (safe_flags ranks) place
+    → slice_get ranks place ≡ Some None
+unranked_at ranks place marked =
+    flag_of ranks place (slice_get ranks place) refl (sym (slice_get-map is_none ranks place) ∙ marked)
 
-pub at_unranked : (ranks : List (Option ℕ)) (place : ℕ) → slice_get ranks place ≡ Some None → IsMarked (safe_flags ranks) place
+pub at_unranked : (ranks : List (Option ℕ)) (place : ℕ) → slice_get ranks place ≡ Some None
+    → IsMarked (safe_flags ranks) place
 at_unranked ranks place none = slice_get-map is_none ranks place ∙ ap (option_map is_none) none
 
 -- the places without a rank hold the ends of their edges
-flag_on : (ranks : List (Option ℕ)) (x y : ℕ) (found : Option ℕ) → slice_get ranks x ≡ Some None → slice_get ranks y ≡ Some found → ((m : ℕ) → slice_get ranks y ≡ Some (Some m) → (n : ℕ) × (slice_get ranks x ≡ Some (Some n))) → IsMarked (safe_flags ranks) y
+flag_on : (ranks : List (Option ℕ)) (x y : ℕ) (found : Option ℕ) → slice_get ranks x ≡ Some None
+    → slice_get ranks y ≡ Some found
+    → ((m : ℕ) → slice_get ranks y ≡ Some (Some m) → (n : ℕ) × (slice_get ranks x ≡ Some (Some n)))
+    → IsMarked (safe_flags ranks) y
 flag_on ranks x y None none at before = at_unranked ranks y at
 flag_on ranks x y (Some m) none at before = let there = (before m at).1 in cc
 
-pub flags_closed : (graph : ItemGraph) (causes : List (Option Refusal)) (ranks : List (Option ℕ)) → AreSearched graph causes ranks → (x y : ℕ) → IsMarked (safe_flags ranks) x → HasEdge graph.ends x y → IsMarked (safe_flags ranks) y
+pub flags_closed : (graph : ItemGraph) (causes : List (Option Refusal)) (ranks : List (Option ℕ))
+    → AreSearched graph causes ranks → (x y : ℕ) → IsMarked (safe_flags ranks) x → HasEdge graph.ends x y
+    → IsMarked (safe_flags ranks) y
 flags_closed graph causes ranks searched x y marked edge =
     let within = searched.within x y edge in
     let found = at_below ranks y (omega (arith, within, searched.distances.nodes)) in
-    flag_on ranks x y found.0 (unranked_at ranks x marked) found.1 (λ m at. AreDistances-before graph.ends (flags_of causes) ranks searched.distances x y m edge at)
+    flag_on ranks x y found.0 (unranked_at ranks x marked) found.1
+    (λ m at. AreDistances-before graph.ends (flags_of causes) ranks searched.distances x y m edge at)
 
 -- what leads on from a place is a place
-pub leads_within : (graph : List (List ℕ)) → IsWithin graph → (n x y : ℕ) → x < length graph → Walk (HasEdge graph) n x y → y < length graph
+pub leads_within : (graph : List (List ℕ)) → IsWithin graph → (n x y : ℕ) → x < length graph
+    → Walk (HasEdge graph) n x y → y < length graph
 leads_within graph within zero x y here same = subst (λ z. z < length graph) same here
 leads_within graph within (suc n) x y here walk = leads_within graph within n walk.0 y (within x walk.0 walk.1) walk.2
 
 -- the items of ranks are their nodes
-pub items_again : (ranks : List ItemRank) → map (λ (rank : ItemRank). rank.node) ranks ≡ map (λ (rank : Rank Item). rank.node) (map to_rank ranks)
+pub items_again : (ranks : List ItemRank)
+    → map (λ (rank : ItemRank). rank.node) ranks ≡ map (λ (rank : Rank Item). rank.node) (map to_rank ranks)
 items_again [] = refl
 items_again (rank ∷ ranks) = ap (λ items. rank.node ∷ items) (items_again ranks)
 
 -- ranks in order are those of a list in rank order
-ranks_order : (E : Item → Item → Type 0) (P : Item → Type 0) (ranks : List (Rank Item)) → AreRanksInOrder item_cmp E P ranks → IsInRankOrder item_cmp E P (map (λ (rank : Rank Item). rank.node) ranks)
+ranks_order : (E : Item → Item → Type 0) (P : Item → Type 0) (ranks : List (Rank Item))
+    → AreRanksInOrder item_cmp E P ranks → IsInRankOrder item_cmp E P (map (λ (rank : Rank Item). rank.node) ranks)
 ranks_order E P ranks are = record { just = are.just; ranks = ranks; of = refl; each = are.each; rising = are.rising }
 
-module _ (gate : GateRules) (state : State) (graph : ItemGraph) (causes : List (Option Refusal)) (ranks : List (Option ℕ)) (verdicts : RankedVerdicts)
-    (is : IsGraphOf gate state graph) (of : AreCauses gate state graph.items causes) (judgement : IsJudgement graph causes ranks verdicts.ranks verdicts.out) where
+module _ (gate : GateRules) (state : State) (graph : ItemGraph) (causes : List (Option Refusal))
+    (ranks : List (Option ℕ)) (verdicts : RankedVerdicts)
+    (is : IsGraphOf gate state graph) (of : AreCauses gate state graph.items causes)
+    (judgement : IsJudgement graph causes ranks verdicts.ranks verdicts.out) where
   split : Judged
   split = record { ready = judgement.safe; out = verdicts.out }
 
@@ -78,9 +95,11 @@ module _ (gate : GateRules) (state : State) (graph : ItemGraph) (causes : List (
   sizes : length (safe_flags ranks) ≡ length graph.items
   sizes = length-map ranks is_none ∙ judgement.searched.distances.nodes ∙ judgement.searched.nodes
 
-  unranked_place : (place : ℕ) (item : Item) (found : Option ℕ) → IsAt graph.items place item → IsSafeItem gate state item → slice_get ranks place ≡ Some found → slice_get ranks place ≡ Some None
+  unranked_place : (place : ℕ) (item : Item) (found : Option ℕ) → IsAt graph.items place item
+      → IsSafeItem gate state item → slice_get ranks place ≡ Some found → slice_get ranks place ≡ Some None
   unranked_place place item None here safe at = at
-  unranked_place place item (Some rank) here safe at = absurd (unsafe_at gate state graph causes ranks is of judgement.searched place item rank here at safe)
+  unranked_place place item (Some rank) here safe at =
+      absurd (unsafe_at gate state graph causes ranks is of judgement.searched place item rank here at safe)
 
   some_rank : (place : ℕ) → place < length ranks → (found : Option ℕ) × (slice_get ranks place ≡ Some found)
   some_rank place within = at_below ranks place within
@@ -110,7 +129,8 @@ module _ (gate : GateRules) (state : State) (graph : ItemGraph) (causes : List (
       judgement.places judgement.in_order)
 
   -- what leads on from an item of the graph stays in it
-  walk_held : (n : ℕ) (x y : Item) → Contains graph.items x → Walk (IsDependency gate state) n x y → Contains graph.items y
+  walk_held : (n : ℕ) (x y : Item) → Contains graph.items x → Walk (IsDependency gate state) n x y
+      → Contains graph.items y
   walk_held zero x y here same = subst (Contains graph.items) same here
   walk_held (suc n) x y here walk = walk_held n walk.0 y (is.items.held x walk.0 here walk.1) walk.2
 

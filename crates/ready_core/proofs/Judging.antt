@@ -1,5 +1,6 @@
 -- The verdicts, item after item.
-use Rattle.std.proofs.Common.{◌≡◌, ◌<◌, ◌≤◌, ◌+◌, ◌⊎◌, ◌↔◌, ℕ, List, [], ◌∷◌, ◌++◌, length, Contains, Option, Some, None, sym, ap, ◌∙◌, subst, arith, inl, inr}
+use Rattle.std.proofs.Common.{◌≡◌, ◌<◌, ◌≤◌, ◌+◌, ◌⊎◌, ◌↔◌, ℕ, List, [], ◌∷◌, ◌++◌, length, Contains, Option, Some}
+use Rattle.std.proofs.Common.{None, sym, ap, ◌∙◌, subst, arith, inl, inr}
 use Rattle.std.specs.declared.cmp.Ordering.{Ordering}
 use Rattle.std.specs.declared.cmp.Ordering.TheVariants.{Less}
 use Rattle.std.specs.List.Sorted.{IsStrictlySortedBy}
@@ -40,7 +41,8 @@ judged_nothing gate state items = record {
   out_in_order = sorted_none item_cmp;
 }
 
-module _ (gate : GateRules) (state : State) (items : List Item) (sorted : IsStrictlySortedBy item_cmp items) (count : ℕ) (ready : List Item) (out : List Left)
+module _ (gate : GateRules) (state : State) (items : List Item) (sorted : IsStrictlySortedBy item_cmp items) (count : ℕ)
+    (ready : List Item) (out : List Left)
     (are : AreJudged gate state items count ready out) (next : Item) (here : IsAt items count next) where
   one_more : (item : Item) → StandsBefore items count item → StandsBefore items (count + 1) item
   one_more item stands = record { place = stands.place; before = omega (arith, stands.before); here = stands.here }
@@ -80,11 +82,14 @@ module _ (gate : GateRules) (state : State) (items : List Item) (sorted : IsStri
       ],
     );
     refused = are.refused;
-    ready_in_order = sorted_push item_cmp ready next are.ready_in_order (λ item c. before_next item ((are.ready item).0 c).0);
+    ready_in_order =
+        sorted_push item_cmp ready next are.ready_in_order (λ item c. before_next item ((are.ready item).0 c).0);
     out_in_order = are.out_in_order;
   }
 
-  pub judged_out : (left : Left) → left.item ≡ next → ¬ IsSafeItem gate state next → IsRefused gate state next left.refusal left.rank → AreJudged gate state items (count + 1) ready (out ++ left ∷ [])
+  pub judged_out : (left : Left) → left.item ≡ next → ¬ IsSafeItem gate state next
+      → IsRefused gate state next left.refusal left.rank
+      → AreJudged gate state items (count + 1) ready (out ++ left ∷ [])
   judged_out left is_next unsafe refused =
       let shown : items_out (out ++ left ∷ []) ≡ items_out out ++ next ∷ [] = map_push (λ (l : Left). l.item) out left ∙ ap (λ i. items_out out ++ i ∷ []) is_next in
       record {
@@ -107,7 +112,8 @@ module _ (gate : GateRules) (state : State) (items : List Item) (sorted : IsStri
         );
         refused = λ other c. elim (Contains-push_cases out left other c) [
           | inl before ↦ are.refused other before
-          | inr same ↦ subst (λ (l : Left). IsRefused gate state l.item l.refusal l.rank) same (subst (λ i. IsRefused gate state i left.refusal left.rank) (sym is_next) refused)
+          | inr same ↦ subst (λ (l : Left). IsRefused gate state l.item l.refusal l.rank) same
+              (subst (λ i. IsRefused gate state i left.refusal left.rank) (sym is_next) refused)
         ];
         ready_in_order = are.ready_in_order;
         out_in_order = subst (IsStrictlySortedBy item_cmp) (sym shown)
@@ -126,7 +132,11 @@ pub record AreSplit (gate : GateRules) (state : State) (items : List Item) (verd
 module _ (gate : GateRules) (state : State) (graph : ItemGraph) (verdicts : Judged) (is : IsGraphOf gate state graph)
     (are : AreJudged gate state graph.items (length graph.items) verdicts.ready verdicts.out) where
   stands : (item : Item) → Contains graph.items item → StandsBefore graph.items (length graph.items) item
-  stands item c = let at = at_Contains graph.items item c in record { place = at.0; before = slice_get_within graph.items at.0 item at.1; here = at.1 }
+  stands item c = let at = at_Contains graph.items item c in record {
+    place = at.0;
+    before = slice_get_within graph.items at.0 item at.1;
+    here = at.1;
+  }
 
   listed : (item : Item) → StandsBefore graph.items (length graph.items) item → Contains graph.items item
   listed item at = Contains-at graph.items at.place item at.here
@@ -139,7 +149,8 @@ module _ (gate : GateRules) (state : State) (graph : ItemGraph) (verdicts : Judg
   }
 
   pub ready_is_safe : (item : Item) → IsReady gate state item → IsSafeItem gate state item
-  ready_is_safe item ready = λ n. IsClosed-safe {E = IsDependency gate state} {IsEligible = IsEligible gate state} ready.closed n item ready.has
+  ready_is_safe item ready = λ n. IsClosed-safe {E = IsDependency gate state}
+      {IsEligible = IsEligible gate state} ready.closed n item ready.has
 
   pub all_judged : ((item : Item) → Contains graph.items item → IsEligible gate state item ⊎ ¬ IsEligible gate state item) → AreSplit gate state graph.items verdicts
   all_judged decided =
@@ -158,11 +169,13 @@ module _ (gate : GateRules) (state : State) (graph : ItemGraph) (verdicts : Judg
       }
 
 -- whether an item is eligible is known where the causes are
-decided_by : (gate : GateRules) (state : State) (item : Item) (cause : Option Refusal) → IsCauseOf gate state item cause → IsEligible gate state item ⊎ ¬ IsEligible gate state item
+decided_by : (gate : GateRules) (state : State) (item : Item) (cause : Option Refusal) → IsCauseOf gate state item cause
+    → IsEligible gate state item ⊎ ¬ IsEligible gate state item
 decided_by gate state item None is = inl is
 decided_by gate state item (Some refusal) is = inr (refused_ineligible gate state item refusal is)
 
-pub decided_all : (gate : GateRules) (state : State) (items : List Item) (causes : List (Option Refusal)) → AreCauses gate state items causes
+pub decided_all : (gate : GateRules) (state : State) (items : List Item) (causes : List (Option Refusal))
+    → AreCauses gate state items causes
     → (item : Item) → Contains items item → IsEligible gate state item ⊎ ¬ IsEligible gate state item
 decided_all gate state items causes of item c =
     let at = at_Contains items item c in

@@ -1,5 +1,6 @@
 -- One state has one list of verdicts under one gate.
-use Rattle.std.proofs.Common.{◌≡◌, ◌≤◌, ◌⊎◌, ◌↔◌, ℕ, true, List, [], ◌∷◌, Contains, Some, suc, refl, sym, ap, ◌∙◌, subst, arith, inl, inr}
+use Rattle.std.proofs.Common.{◌≡◌, ◌≤◌, ◌⊎◌, ◌↔◌, ℕ, true, List, [], ◌∷◌, Contains, Some, suc, refl, sym, ap, ◌∙◌}
+use Rattle.std.proofs.Common.{subst, arith, inl, inr}
 use Rattle.std.specs.Prelude.{nat_lt}
 use Rattle.std.proofs.lemmas.Bool.{lt-ltb, cases_lt}
 use Rattle.lattice_core.specs.Keep.{IsExactOrder}
@@ -32,7 +33,8 @@ pub items_exactly : IsExactOrder item_cmp
 items_exactly = record { total = items_total; exact = items_exact }
 
 -- lists whose items are the same, where an item has one entry
-lefts_same : (xs ys : List Left) → items_out xs ≡ items_out ys → ((l m : Left) → Contains xs l → Contains ys m → l.item ≡ m.item → l ≡ m) → xs ≡ ys
+lefts_same : (xs ys : List Left) → items_out xs ≡ items_out ys
+    → ((l m : Left) → Contains xs l → Contains ys m → l.item ≡ m.item → l ≡ m) → xs ≡ ys
 lefts_same [] [] same one = refl
 lefts_same [] (y ∷ ys) same one = cc
 lefts_same (x ∷ xs) [] same one = cc
@@ -47,7 +49,8 @@ lefts_same (x ∷ xs) (y ∷ ys) same one =
 numbers_total : (j k : ℕ) → (nat_lt j k ≡ true) ⊎ ((nat_lt k j ≡ true) ⊎ (j ≡ k))
 numbers_total j k = elim (cases_lt j k) [
   | inl less ↦ inl (lt-ltb j k less)
-  | inr not_less ↦ elim (earlier_or_same k j not_less) [ inl more ↦ inr (inl (lt-ltb k j more)) | inr same ↦ inr (inr (sym same)) ]
+  | inr not_less ↦ elim
+      (earlier_or_same k j not_less) [ inl more ↦ inr (inl (lt-ltb k j more)) | inr same ↦ inr (inr (sym same)) ]
 ]
 
 clauses_total : (c d : Clause) → (clause_before c d ≡ true) ⊎ ((clause_before d c ≡ true) ⊎ (c ≡ d))
@@ -71,13 +74,17 @@ clauses_total (Approval j) (Approval k) = elim (numbers_total j k) [
   | inr rest ↦ elim rest [ inl more ↦ inr (inl more) | inr same ↦ inr (inr (ap Approval same)) ]
 ]
 
-conditions_total : (s t : Side) (c d : Clause) → (side_before s t (clause_before c d) ≡ true) ⊎ ((side_before t s (clause_before d c) ≡ true) ⊎ ((s ≡ t) × (c ≡ d)))
-conditions_total Require Require c d = elim (clauses_total c d) [ inl a ↦ inl a | inr b ↦ elim b [ inl e ↦ inr (inl e) | inr f ↦ inr (inr (refl, f)) ] ]
+conditions_total : (s t : Side) (c d : Clause) → (side_before s t (clause_before c d) ≡ true)
+    ⊎ ((side_before t s (clause_before d c) ≡ true) ⊎ ((s ≡ t) × (c ≡ d)))
+conditions_total Require Require c d = elim
+    (clauses_total c d) [ inl a ↦ inl a | inr b ↦ elim b [ inl e ↦ inr (inl e) | inr f ↦ inr (inr (refl, f)) ] ]
 conditions_total Require Reject c d = inl refl
 conditions_total Reject Require c d = inr (inl refl)
-conditions_total Reject Reject c d = elim (clauses_total c d) [ inl a ↦ inl a | inr b ↦ elim b [ inl e ↦ inr (inl e) | inr f ↦ inr (inr (refl, f)) ] ]
+conditions_total Reject Reject c d = elim
+    (clauses_total c d) [ inl a ↦ inl a | inr b ↦ elim b [ inl e ↦ inr (inl e) | inr f ↦ inr (inr (refl, f)) ] ]
 
-first_same : (gate : GateRules) (standing : ItemStanding) (a b : Condition) → IsFirstBroken gate standing a → IsFirstBroken gate standing b → a ≡ b
+first_same : (gate : GateRules) (standing : ItemStanding) (a b : Condition) → IsFirstBroken gate standing a
+    → IsFirstBroken gate standing b → a ≡ b
 first_same gate standing a b p q = elim (conditions_total a.side b.side a.clause b.clause) [
   | inl earlier ↦ absurd (q.first a earlier p.here)
   | inr rest ↦ elim rest [
@@ -86,10 +93,12 @@ first_same gate standing a b p q = elim (conditions_total a.side b.side a.clause
   ]
 ]
 
-own_same : (gate : GateRules) (state : State) (item : Item) (a b : Condition) → IsItem state item → IsOwn gate state item (Some a) → IsOwn gate state item (Some b) → a ≡ b
+own_same : (gate : GateRules) (state : State) (item : Item) (a b : Condition) → IsItem state item
+    → IsOwn gate state item (Some a) → IsOwn gate state item (Some b) → a ≡ b
 own_same gate state item a b is p q =
     let current = greatest_known is.0 item.set is.2 in
-    first_same gate (standing_of is.0 current.0 item.set) a b (p is.0 current.0 is.1 current.1) (q is.0 current.0 is.1 current.1)
+    first_same gate (standing_of is.0 current.0 item.set) a b (p is.0 current.0 is.1 current.1)
+    (q is.0 current.0 is.1 current.1)
 
 -- ---- an item has one refusal
 least_same : (m n : ℕ) → m ≤ n → n ≤ m → m ≡ n
@@ -99,7 +108,8 @@ rest_same : (a b : ℕ) → suc a ≡ suc b → a ≡ b
 rest_same a b e = omega (arith, e)
 
 module _ (gate : GateRules) (state : State) (item : Item) (is : IsItem state item) where
-  refusals_same : (r s : Refusal) (rank : ℕ) → IsRefused gate state item r rank → IsRefused gate state item s rank → r ≡ s
+  refusals_same : (r s : Refusal) (rank : ℕ) → IsRefused gate state item r rank → IsRefused gate state item s rank
+      → r ≡ s
   refusals_same (Own a) (Own b) rank p q = ap Own (own_same gate state item a b is p.0 q.0)
   refusals_same (Own a) Cycle rank p q = absurd (own_excludes gate state item a is p.0 q.0)
   refusals_same (Own a) (Unknown n) rank p q = absurd (own_excludes gate state item a is p.0 q.0)
@@ -110,7 +120,8 @@ module _ (gate : GateRules) (state : State) (item : Item) (is : IsItem state ite
   refusals_same Cycle (Dependency n) rank p q = absurd (q.0.off p.1.0 p.1.1)
   refusals_same (Unknown m) (Own b) rank p q = absurd (own_excludes gate state item b is q.0 p.0)
   refusals_same (Unknown m) Cycle rank p q = absurd (p.1 q.1.0 q.1.1)
-  refusals_same (Unknown m) (Unknown n) rank p q = ap Unknown (least_same m n (p.2.least n q.2.here) (q.2.least m p.2.here))
+  refusals_same (Unknown m) (Unknown n) rank p q =
+      ap Unknown (least_same m n (p.2.least n q.2.here) (q.2.least m p.2.here))
   refusals_same (Unknown m) (Dependency n) rank p q = absurd (q.0.known m p.2.here)
   refusals_same (Dependency m) (Own b) rank p q = absurd (own_excludes gate state item b is q.0 p.0.own)
   refusals_same (Dependency m) Cycle rank p q = absurd (p.0.off q.1.0 q.1.1)
@@ -122,9 +133,12 @@ module _ (gate : GateRules) (state : State) (item : Item) (is : IsItem state ite
       (q.1.least m (subst (λ r. BeginsShortest gate state item r m) rest p.1.begins)))
 
   ranks_same : (r s : Refusal) (j k : ℕ) → IsRefused gate state item r j → IsRefused gate state item s k → j ≡ k
-  ranks_same r s j k p q = IsDistance-once {E = IsDependency gate state} {P = IsIneligible gate state} j k item (refused_rank gate state item r j p) (refused_rank gate state item s k q)
+  ranks_same r s j k p q = IsDistance-once {E = IsDependency gate state} {P = IsIneligible gate state} j k item
+      (refused_rank gate state item r j p) (refused_rank gate state item s k q)
 
-left_same : (gate : GateRules) (state : State) (l m : Left) → IsItem state l.item → IsRefused gate state l.item l.refusal l.rank → IsRefused gate state m.item m.refusal m.rank → l.item ≡ m.item → l ≡ m
+left_same : (gate : GateRules) (state : State) (l m : Left) → IsItem state l.item
+    → IsRefused gate state l.item l.refusal l.rank → IsRefused gate state m.item m.refusal m.rank → l.item ≡ m.item
+    → l ≡ m
 left_same gate state l m is p q same =
     let here : IsRefused gate state l.item m.refusal m.rank = subst (λ i. IsRefused gate state i m.refusal m.rank) (sym same) q in
     let rank : l.rank ≡ m.rank = ranks_same gate state l.item is l.refusal m.refusal l.rank m.rank p here in
@@ -134,7 +148,8 @@ left_same gate state l m is p q same =
 both_ways : {P Q R : Type 0} → P ↔ Q → R ↔ Q → P ↔ R
 both_ways p r = (λ x. r.1 (p.0 x), λ x. p.1 (r.0 x))
 
-pub one_verdicts : (gate : GateRules) (state : State) (a b : Judged) → AreVerdicts gate state a → AreVerdicts gate state b → a ≡ b
+pub one_verdicts : (gate : GateRules) (state : State) (a b : Judged) → AreVerdicts gate state a
+    → AreVerdicts gate state b → a ≡ b
 one_verdicts gate state a b are also =
     let ready = one_rank_order items_exactly (IsDependency gate state) (IsReady gate state) a.ready b.ready are.ready_in_order also.ready_in_order in
     let items = sorted_same items_total (items_out a.out) (items_out b.out) are.out_in_order also.out_in_order (λ item. both_ways (are.out item) (also.out item)) in

@@ -1,5 +1,6 @@
 -- What the search for verdicts knows of the items in turn.
-use Rattle.std.specs.Prelude.{◌≡◌, ◌<◌, ◌≤◌, ◌↔◌, ℕ, Bool, List, Option, None, Some, map, is_none, is_some, length, slice_get, slice_index_or, Contains}
+use Rattle.std.specs.Prelude.{◌≡◌, ◌<◌, ◌≤◌, ◌↔◌, ℕ, Bool, List, Option, None, Some, map, is_none, is_some, length}
+use Rattle.std.specs.Prelude.{slice_get, slice_index_or, Contains}
 use Rattle.std.specs.List.{AllZip}
 use Rattle.std.specs.List.Sorted.{IsStrictlySortedBy}
 use Rattle.std.specs.Ordering.{nat_cmp}
@@ -80,9 +81,10 @@ pub record IsNearest (ranks : List (Option ℕ)) (places : List ℕ) (wanted pla
   pub index : ℕ
   pub here : slice_get places index ≡ Some place
   pub rank : HasDistance ranks place wanted
-  pub first : (earlier other : ℕ) → earlier < index → slice_get places earlier ≡ Some other → ¬ HasDistance ranks other wanted
+  pub first : (earlier other : ℕ) → earlier < index → slice_get places earlier ≡ Some other
+      → ¬ HasDistance ranks other wanted
 
--- the item stands at one of the first places
+-- the item is at one of the first places
 pub record StandsBefore (items : List Item) (count : ℕ) (item : Item) : Type 0 where
   pub place : ℕ
   pub before : place < count
@@ -94,7 +96,8 @@ IsSafeItem gate state = IsSafe (IsDependency gate state) (IsEligible gate state)
 -- the verdicts on the items at the first places
 pub record AreJudged (gate : GateRules) (state : State) (items : List Item) (count : ℕ) (safe : List Item) (left_out : List Left) : Type 0 where
   pub ready : (item : Item) → Contains safe item ↔ (StandsBefore items count item × IsSafeItem gate state item)
-  pub out : (item : Item) → Contains (items_out left_out) item ↔ (StandsBefore items count item × ¬ IsSafeItem gate state item)
+  pub out : (item : Item)
+      → Contains (items_out left_out) item ↔ (StandsBefore items count item × ¬ IsSafeItem gate state item)
   pub refused : (left : Left) → Contains left_out left → IsRefused gate state left.item left.refusal left.rank
   pub ready_in_order : IsStrictlySortedBy item_cmp safe
   pub out_in_order : IsStrictlySortedBy item_cmp (items_out left_out)
@@ -102,7 +105,8 @@ pub record AreJudged (gate : GateRules) (state : State) (items : List Item) (cou
 -- the same, of whatever gate and state the graph and the causes are of
 abbrev pub AreJudgedBy : ItemGraph → List (Option Refusal) → ℕ → List Item → List Left → Type 0
 AreJudgedBy graph causes count ready out =
-    (gate : GateRules) (state : State) → IsGraphOf gate state graph → AreCauses gate state graph.items causes → AreJudged gate state graph.items count ready out
+    (gate : GateRules) (state : State) → IsGraphOf gate state graph → AreCauses gate state graph.items causes
+    → AreJudged gate state graph.items count ready out
 
 -- ---- the order of the ready items
 

@@ -21,7 +21,8 @@ judged ranked = record { ready = map (λ rank. rank.node) ranked.ranks; out = ra
 
 -- what the ready items are ordered by is so in the state
 abbrev pub AreReadyRanks : GateRules → State → List (Rank Item) → Type 0
-AreReadyRanks gate state ranks = (rank : Rank Item) → Contains ranks rank → IsRank item_cmp (IsDependency gate state) (IsReady gate state) rank
+AreReadyRanks gate state ranks =
+    (rank : Rank Item) → Contains ranks rank → IsRank item_cmp (IsDependency gate state) (IsReady gate state) rank
 
 -- the verdicts on a part of the items of the state
 pub record AreRankedVerdictsOn (gate : GateRules) (state : State) (items : List Item) (ranked : RankedVerdicts) : Type 0 where

@@ -1,6 +1,7 @@
--- Which items Zuul may enqueue, and why another one isn't among them. An item goes in with what it waits for: the ready items are the
--- union of all closed sets of eligible items (`Closed`), so that items on a cycle go in together where the gate allows cycles (Zuul's
--- `allow-circular-dependencies`). What an item left out is told, and its rank, are this project's own.
+-- Which items Zuul may enqueue, and why another one isn't among them. An item goes in with what it waits for: the ready
+-- items are the union of all closed sets of eligible items (`Closed`), so that items on a cycle go in together where
+-- the gate allows cycles (Zuul's `allow-circular-dependencies`). The refusal of an item left out, and its rank, are
+-- this project's own.
 use Rattle.std.specs.Prelude.{◌≡◌, ◌≤◌, ℕ, false, None, Some}
 use Rattle.std.proofs.Common.{suc}
 use Rattle.walk_core.specs.Walks.{BeginsFewest, IsDistance, IsOnCycle}
@@ -49,10 +50,12 @@ IsReady gate state item = IsInClosedSet (IsDependency gate state) (IsEligible ga
 abbrev pub IsRank : GateRules → State → Item → ℕ → Type 0
 IsRank gate state item rank = IsDistance (IsDependency gate state) (IsIneligible gate state) rank item
 
--- the change begins a shortest walk from the item to one that isn't eligible, with so many edges left behind its current item
+-- the change begins a shortest walk from the item to one that isn't eligible, with so many edges left behind its
+-- current item
 abbrev pub BeginsShortest : GateRules → State → Item → ℕ → ℕ → Type 0
 BeginsShortest gate state item rest number =
-    (other : Item) × (other.change ≡ number) × BeginsFewest (IsDependency gate state) (IsIneligible gate state) rest item other
+    (other : Item) × (other.change ≡ number)
+    × BeginsFewest (IsDependency gate state) (IsIneligible gate state) rest item other
 
 -- it is the least target of which no patch set is known
 pub record IsLeastUnknown (gate : GateRules) (state : State) (item : Item) (number : ℕ) : Type 0 where
@@ -73,4 +76,5 @@ IsRefused gate state item (Own condition) rank = IsOwn gate state item (Some con
 IsRefused gate state item Cycle rank = IsFree gate state item × IsOnBarredCycle gate state item × (rank ≡ 0)
 IsRefused gate state item (Unknown number) rank =
     IsFree gate state item × IsOffCycles gate state item × IsLeastUnknown gate state item number × (rank ≡ 0)
-IsRefused gate state item (Dependency number) rank = IsEligible gate state item × IsLeastNearest gate state item number rank
+IsRefused gate state item (Dependency number) rank =
+    IsEligible gate state item × IsLeastNearest gate state item number rank

@@ -23,14 +23,14 @@ pub record Judged : Type 0 where
 abbrev pub items_out : List Left → List Item
 items_out = map (λ left. left.item)
 
--- just the ready items, in rank order: by how many ready items an item waits for, over others, itself among them, then by the least item of its
--- cycle, then by itself
+-- just the ready items, in rank order: by how many ready items an item waits for, over others, itself among them, then
+-- by the least item of its cycle, then by itself
 abbrev pub IsInGateOrder : GateRules → State → List Item → Type 0
 IsInGateOrder gate state = IsInRankOrder item_cmp (IsDependency gate state) (IsReady gate state)
 
--- the verdicts are those of the state under the gate: just the items that some closed set of eligible items has are ready, each other one is
--- left out for its refusal, and both lists are in order, each item once: the ready ones in gate order, in which each comes after what it waits for,
--- but for its cycle, and the others by change and patch set
+-- the verdicts are those of the state under the gate: just the items that some closed set of eligible items has are
+-- ready, each other one is left out for its refusal, and both lists are in order, each item once: the ready ones in
+-- gate order, in which each comes after what it waits for, but for its cycle, and the others by change and patch set
 pub record AreVerdicts (gate : GateRules) (state : State) (verdicts : Judged) : Type 0 where
   pub ready : (item : Item) → Contains verdicts.ready item ↔ IsReady gate state item
   pub out : (item : Item) → Contains (items_out verdicts.out) item ↔ (IsItem state item × ¬ IsReady gate state item)
@@ -38,13 +38,15 @@ pub record AreVerdicts (gate : GateRules) (state : State) (verdicts : Judged) : 
   pub ready_in_order : IsInGateOrder gate state verdicts.ready
   pub out_in_order : IsStrictlySortedBy item_cmp (items_out verdicts.out)
 
--- the verdicts are those on some items of the state under the gate: of these just the ones that are ready in the whole state are ready, each other
--- one is left out for its refusal in the whole state, and both lists are in order, as in the verdicts on all items
+-- the verdicts are those on some items of the state under the gate: of these just the ones that are ready in the whole
+-- state are ready, each other one is left out for its refusal in the whole state, and both lists are in order, as in
+-- the verdicts on all items
 pub record AreVerdictsOn (gate : GateRules) (state : State) (items : List Item) (verdicts : Judged) : Type 0 where
   pub ready : (item : Item) → Contains verdicts.ready item ↔ (Contains items item × IsReady gate state item)
   pub out : (item : Item) → Contains (items_out verdicts.out) item ↔ (Contains items item × ¬ IsReady gate state item)
   pub refused : (left : Left) → Contains verdicts.out left → IsRefused gate state left.item left.refusal left.rank
-  pub ready_in_order : IsInRankOrder item_cmp (IsDependency gate state) (λ item. Contains items item × IsReady gate state item) verdicts.ready
+  pub ready_in_order : IsInRankOrder item_cmp (IsDependency gate state)
+      (λ item. Contains items item × IsReady gate state item) verdicts.ready
   pub out_in_order : IsStrictlySortedBy item_cmp (items_out verdicts.out)
 
 -- the change's current item is left out with this rank

@@ -6,7 +6,8 @@ ghost use Rattle.state_core.specs.Known.{IsKnown};
 ghost use Rattle.gate_rules.specs.Own.{IsOwn};
 ghost use Rattle.graph_core.specs.ItemGraph.{ArePart, IsAt, IsGraphOf};
 ghost use Rattle.ready_core.specs.Refusals.{IsOffCycles, IsOnBarredCycle};
-ghost use Rattle.ready_core.specs.Causes.{AreCauses, AreOwns, IsAmongItsOwn, IsCauseOf, IsFirstUnknown, IsOwnBefore, flags_of};
+ghost use Rattle.ready_core.specs.Causes.{AreCauses, AreOwns, IsAmongItsOwn, IsCauseOf, IsFirstUnknown, IsOwnBefore};
+ghost use Rattle.ready_core.specs.Causes.{flags_of};
 
 use super::verdicts::Refusal;
 use gate_rules::{Condition, Gate};
@@ -41,7 +42,8 @@ fn is_barred(gate: &Gate, graph: &Graph, place: usize) -> bool
     graph.on_cycles()[place]
 }
 
-/// Whether the items before and after the one at a place are of its change, so that neither it nor the one before it is the current one.
+/// Whether the items before and after the one at a place are of its change, so that neither it nor the one before it is
+/// the current one.
 fn is_among_its_own(items: &[Item], place: usize) -> bool
     requires { place < length items.now }
     ensures { IsTrue result → IsAmongItsOwn items.now place }

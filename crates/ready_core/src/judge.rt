@@ -13,7 +13,8 @@ ghost use Rattle.state_core.specs.Items.{item_cmp};
 ghost use Rattle.walk_core.specs.NodeRanks.{to_rank as to_node_rank};
 ghost use Rattle.walk_core.specs.Ranks.{rank_cmp};
 ghost use Rattle.walk_core.specs.Levels.{HasDistance};
-ghost use Rattle.ready_core.specs.Causes.{AreCauses, AreJudgedBy, AreOwns, AreSearched, IsJudgement, IsNearest, IsRankWithin, rank_at, safe_flags};
+ghost use Rattle.ready_core.specs.Causes.{AreCauses, AreJudgedBy, AreOwns, AreSearched, IsJudgement, IsNearest};
+ghost use Rattle.ready_core.specs.Causes.{IsRankWithin, rank_at, safe_flags};
 
 use super::causes::{all_causes, flags_of, own_conditions};
 use super::ranked::{ItemRank, Ranked};
@@ -55,8 +56,8 @@ pub fn verdicts_on(
     ranked.into_verdicts(alloc)
 }
 
-/// As `verdicts_on`, with what each ready item is ordered by: how many ready items of the whole state it waits for, over
-/// others, and the first of its cycle.
+/// As `verdicts_on`, with what each ready item is ordered by: how many ready items of the whole state it waits for,
+/// over others, and the first of its cycle.
 pub fn ranked_on(
     alloc: Global,
     state: &State,
@@ -123,7 +124,8 @@ fn by_place(
     ranks: &[Option<usize>],
 ) -> Result<Verdicts, NoMemory>
     requires { AreSearched graph.now causes.now ranks.now }
-    ensures { IfOk result (λ verdicts. AreJudgedBy graph.now causes.now (length graph.now.items) verdicts.ready verdicts.out) }
+    ensures { IfOk result
+        (λ verdicts. AreJudgedBy graph.now causes.now (length graph.now.items) verdicts.ready verdicts.out) }
 {
     let items = graph.items();
     let mut ready = Vec::new(alloc);

@@ -14,14 +14,15 @@ ghost use Rattle.ready_core.specs.Closed.{AreSafe, HoldsEnds, IsClosed, IsInClos
 ghost use Rattle.ready_core.specs.Refusals.{IsEligible};
 ghost use Rattle.ready_core.specs.Verdicts.{AreVerdicts, Judged, LeadsOn};
 
-/// A law: no walk leads from a member of a closed set to a node that isn't eligible. Edges are given by the list of their ends.
+/// A law: no walk leads from a member of a closed set to a node that isn't eligible. Edges are held as the list of
+/// their ends.
 pub fn closed_sets_are_safe<N>()
     ensures { (ends : N → List N) → (eligible : N → Bool) → (x : N)
         → IsInClosedSet (IsEdge ends) (IsOfKind eligible) x → IsSafe (IsEdge ends) (IsOfKind eligible) x }
 {}
 
-/// A law: of nodes that hold the ends of their edges, those from which no walk leads to one that isn't eligible are a closed set, and
-/// the union of all closed sets.
+/// A law: of nodes that hold the ends of their edges, those from which no walk leads to one that isn't eligible are a
+/// closed set, and the union of all closed sets.
 pub fn safe_nodes_are_closed<N>()
     ensures closed { (ends : N → List N) → (eligible : N → Bool) → (nodes set : List N)
         → HoldsEnds (IsEdge ends) nodes → AreSafe (IsEdge ends) (IsOfKind eligible) nodes set
@@ -40,18 +41,18 @@ pub fn ready_items_are_the_greatest_closed_set()
         → (item : Item) → Contains set item → Contains verdicts.ready item }
 {}
 
-/// A law: of a ready item each item that it waits for stands before it or on its cycle, and what stands between two items of a cycle is on it. There
-/// is one such list, as `verdicts_are_unique` says.
-pub fn ready_items_stand_in_gate_order()
+/// A law: of a ready item each item that it waits for comes before it or is on its cycle, and what is between two items
+/// of a cycle is on it. There is one such list, as `verdicts_are_unique` says.
+pub fn ready_items_are_in_gate_order()
     ensures ends { (gate : GateRules) → (state : State) → (verdicts : Judged) → AreVerdicts gate state verdicts
         → EndsStandBefore (IsDependency gate state) verdicts.ready }
     ensures together { (gate : GateRules) → (state : State) → (verdicts : Judged) → AreVerdicts gate state verdicts
         → TogetherStandTogether (IsDependency gate state) verdicts.ready }
 {}
 
-/// A law: an item that is left out for a dependency has a rank above 0, and the current item of that dependency is left out, too, with the rank
-/// below. So who follows these lines comes to an own condition, a cycle or an unknown change after as many steps as the rank says, which are
-/// fewer than the items that are left out.
+/// A law: an item that is left out for a dependency has a rank above 0, and the current item of that dependency is left
+/// out, too, with the rank below. So who follows these lines comes to an own condition, a cycle or an unknown change
+/// after as many steps as the rank says, which are fewer than the items that are left out.
 pub fn dependencies_lead_to_a_cause()
     ensures leads { (gate : GateRules) → (state : State) → (verdicts : Judged) → AreVerdicts gate state verdicts
         → (left : Left) → Contains verdicts.out left → LeadsOn state verdicts left }

@@ -1,8 +1,8 @@
 //! Which items of a state are ready under a gate, and why each other one isn't.
 //!
-//! An item is eligible where it breaks no condition of its own, waits for no unknown change, and is on no cycle, unless the gate allows cycles.
-//! The ready items are the union of all sets of eligible items that hold the current items of what their members wait for. Each other item has
-//! one refusal and a rank, by the first of these causes:
+//! An item is eligible where it breaks no condition of its own, waits for no unknown change, and is on no cycle, unless
+//! the gate allows cycles. The ready items are the union of all sets of eligible items that hold the current items of
+//! what their members wait for. Each other item has one refusal and a rank, by the first of these causes:
 //!
 //! | Refusal | Cause | Rank |
 //! |---|---|---|
@@ -11,8 +11,9 @@
 //! | `Unknown` | the least change that it waits for and of which no patch set is known | 0 |
 //! | `Dependency` | the least change that begins a shortest walk to an item that isn't eligible | the length of that walk |
 //!
-//! The ready items stand in gate order: by how many ready items an item waits for, over others, itself among them; then by the least item of its
-//! cycle; then by change and patch set. So what an item waits for stands before it, and the items of an allowed cycle stand together.
+//! The ready items are in gate order: by how many ready items an item waits for, over others, itself among them; then
+//! by the least item of its cycle; then by change and patch set. So what an item waits for comes before it, and the
+//! items of an allowed cycle are side by side.
 //!
 //! An example of its use:
 //!
@@ -37,8 +38,8 @@ mod verdicts;
 pub use causes::own_conditions;
 pub use judge::{evaluate, ranked_on, verdicts_on};
 pub use laws::{
-    closed_sets_are_safe, dependencies_lead_to_a_cause, ready_items_are_the_greatest_closed_set,
-    ready_items_stand_in_gate_order, safe_nodes_are_closed, verdicts_are_unique,
+    closed_sets_are_safe, dependencies_lead_to_a_cause, ready_items_are_in_gate_order,
+    ready_items_are_the_greatest_closed_set, safe_nodes_are_closed, verdicts_are_unique,
 };
 pub use ranked::{ItemRank, Ranked, items_of};
 pub use verdicts::{Left, Refusal, Verdicts};

@@ -24,8 +24,8 @@ pub enum Refusal {
 pub struct Left {
     pub item: Item,
     pub refusal: Refusal,
-    /// How many items stand between this one and what is wrong: 0 where the item itself isn't eligible, and one more than that of the change that
-    /// a `Dependency` names.
+    /// How many items are between this one and what is wrong: 0 where the item itself isn't eligible, and one more than
+    /// that of the change that a `Dependency` names.
     pub rank: usize,
 }
 
@@ -67,7 +67,8 @@ impl Verdicts {
         (self.ready, self.out)
     }
 
-    /// The items that are ready, in gate order: each after what it waits for, but for its cycle. Takes no memory, as `out`.
+    /// The items that are ready, in gate order: each after what it waits for, but for its cycle. Takes no memory, as
+    /// `out`.
     pub fn ready(&self) -> &[Item]
         ensures { result.now ≡ self.now.ready }
     {

@@ -21,7 +21,8 @@ set_twice [] i x y = refl
 set_twice (z ∷ xs) zero x y = refl
 set_twice (z ∷ xs) (suc i) x y = ap (λ l. z ∷ l) (set_twice xs i x y)
 
-module _ (lines : List RowLine) (sorted : IsStrictlySortedBy row_order (rows_of lines)) (row : ℕ × ℕ) (there : Contains (rows_of lines) row) where
+module _ (lines : List RowLine) (sorted : IsStrictlySortedBy row_order (rows_of lines)) (row : ℕ × ℕ)
+    (there : Contains (rows_of lines) row) where
   abbrev index : ℕ
   index = line_rank lines row
 
@@ -30,32 +31,42 @@ module _ (lines : List RowLine) (sorted : IsStrictlySortedBy row_order (rows_of 
 
   module _ (out : RowLine) (found : Some out ≡ slice_get lines index) where
     pub out_there : Contains lines out
-    out_there = (index, slice_get_within lines index out (sym found), get_or_from_slice_get lines index out out (sym found))
+    out_there =
+        (index, slice_get_within lines index out (sym found), get_or_from_slice_get lines index out out (sym found))
 
     pub out_row : row_of out ≡ row
-    out_row = ap row_of (sym (get_or_from_slice_get lines index out out (sym found))) ∙ (line_there lines sorted row there).1 out
+    out_row = ap row_of (sym (get_or_from_slice_get lines index out out (sym found)))
+        ∙ (line_there lines sorted row there).1 out
 
   module _ (other : RowLine) (same : row_of other ≡ row) where
     pub rows_kept : rows_of (set lines index other) ≡ rows_of lines
     rows_kept = map-set_same row_of lines index other other (same ∙ sym ((line_there lines sorted row there).1 other))
 
-    pub still_sorted : (without : List RowLine) → without ≡ set lines index other → IsStrictlySortedBy row_order (rows_of without)
+    pub still_sorted : (without : List RowLine) → without ≡ set lines index other
+        → IsStrictlySortedBy row_order (rows_of without)
     still_sorted without is = subst (IsStrictlySortedBy row_order) (sym (ap rows_of is ∙ rows_kept)) sorted
 
     -- what comes in its place
-    pub back_in : (without after : List RowLine) (new : RowLine) → without ≡ set lines index other → row_of new ≡ row → after ≡ set without (line_rank without (row_of new)) new → after ≡ set lines index new
+    pub back_in : (without after : List RowLine) (new : RowLine) → without ≡ set lines index other → row_of new ≡ row
+        → after ≡ set without (line_rank without (row_of new)) new → after ≡ set lines index new
     back_in without after new is new_row after_is =
         after_is ∙ ap (λ l. set l (line_rank l (row_of new)) new) is
         ∙ ap (λ r. set (set lines index other) (line_rank (set lines index other) r) new) new_row
         ∙ ap (λ n. set (set lines index other) n new) (ap (rank (is_earlier_row row)) rows_kept)
         ∙ set_twice lines index other new
 
-    pub as_it_was : (without after : List RowLine) (out new : RowLine) → Some out ≡ slice_get lines index → without ≡ set lines index other → new ≡ out → after ≡ set without (line_rank without (row_of new)) new → after ≡ lines
+    pub as_it_was : (without after : List RowLine) (out new : RowLine) → Some out ≡ slice_get lines index
+        → without ≡ set lines index other → new ≡ out → after ≡ set without (line_rank without (row_of new)) new
+        → after ≡ lines
     as_it_was without after out new found is same_line after_is =
         back_in without after new is (ap row_of same_line ∙ out_row out found) after_is
-        ∙ ap (set lines index) (same_line ∙ sym (get_or_from_slice_get lines index out out (sym found))) ∙ set-get_or lines index out
+        ∙ ap (set lines index) (same_line ∙ sym (get_or_from_slice_get lines index out out (sym found)))
+        ∙ set-get_or lines index out
 
-  pub changed : (journal after : List Operation) (op : Operation) (new : RowLine) → AreLines journal lines → row ≡ (op.stamp.site, op.stamp.start) → row_of new ≡ row → after ≡ arrived journal op → IsLine after new → AreLines after (set lines index new)
+  pub changed : (journal after : List Operation) (op : Operation) (new : RowLine) → AreLines journal lines
+      → row ≡ (op.stamp.site, op.stamp.start) → row_of new ≡ row → after ≡ arrived journal op → IsLine after new
+      → AreLines after (set lines index new)
   changed journal after op new are op_row new_row after_is is =
       let at = line_there lines sorted row there in
-      arrived_lines journal lines are index at.0 new (λ d. new_row ∙ sym (at.1 d)) op (new_row ∙ op_row) after after_is is
+      arrived_lines journal lines are index at.0 new (λ d. new_row ∙ sym (at.1 d)) op
+      (new_row ∙ op_row) after after_is is

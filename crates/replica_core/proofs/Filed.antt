@@ -1,5 +1,6 @@
 -- A line's places and the operations there.
-use Rattle.std.proofs.Common.{◌≡◌, ◌<◌, ◌&&◌, ℕ, suc, Bool, true, cond, List, [], ◌∷◌, None, Some, length, get_or, refl, sym, ap, subst, ◌∙◌, arith}
+use Rattle.std.proofs.Common.{◌≡◌, ◌<◌, ◌&&◌, ℕ, suc, Bool, true, cond, List, [], ◌∷◌, None, Some, length, get_or, refl}
+use Rattle.std.proofs.Common.{sym, ap, subst, ◌∙◌, arith}
 use Rattle.std.specs.Prelude.{slice_get}
 use Rattle.std.specs.List.{All, AllByRecursion}
 use Rattle.std.specs.Option.{option_map}
@@ -27,19 +28,26 @@ module _ (test : Operation → Bool) (journal : List Operation) where
   at_inside : (place : ℕ) → place < length journal → passes_at test journal place ≡ test (op_at journal place)
   at_inside place inside = ap (is_some_passing test) (slice_get-get_or journal place _ inside)
 
-  rank-places : (places : List ℕ) → All (λ place. place < length journal) places → rank (passes_at test journal) places ≡ rank test (ops_at journal places)
+  rank-places : (places : List ℕ) → All (λ place. place < length journal) places
+      → rank (passes_at test journal) places ≡ rank test (ops_at journal places)
   rank-places [] inside = refl
   rank-places (place ∷ places) inside =
-      ap (λ t. cond t (suc (rank (passes_at test journal) places)) 0) (at_inside place (All-head (λ p. p < length journal) place places inside))
-      ∙ ap (λ n. cond (test (op_at journal place)) (suc n) 0) (rank-places places (All-tail (λ p. p < length journal) place places inside))
+      ap (λ t. cond t (suc (rank (passes_at test journal) places)) 0)
+      (at_inside place (All-head (λ p. p < length journal) place places inside))
+      ∙ ap (λ n. cond (test (op_at journal place)) (suc n) 0)
+      (rank-places places (All-tail (λ p. p < length journal) place places inside))
 
-  at_index : (places : List ℕ) → All (λ place. place < length journal) places → (i d : ℕ) → i < length places → passes_at test journal (get_or places i d) ≡ test (get_or (ops_at journal places) i (op_at journal d))
-  at_index places inside i d low = at_inside (get_or places i d) (inside i d low) ∙ ap test (sym (get_or-map (op_at journal) places i d (op_at journal d) low))
+  at_index : (places : List ℕ) → All (λ place. place < length journal) places → (i d : ℕ) → i < length places
+      → passes_at test journal (get_or places i d) ≡ test (get_or (ops_at journal places) i (op_at journal d))
+  at_index places inside i d low = at_inside (get_or places i d) (inside i d low)
+      ∙ ap test (sym (get_or-map (op_at journal) places i d (op_at journal d) low))
 
-  parts-places : (places : List ℕ) → All (λ place. place < length journal) places → IsPartitionedBy test (ops_at journal places) → IsPartitionedBy (passes_at test journal) places
+  parts-places : (places : List ℕ) → All (λ place. place < length journal) places
+      → IsPartitionedBy test (ops_at journal places) → IsPartitionedBy (passes_at test journal) places
   parts-places places inside parted i j d low high passes =
       at_index places inside i d (omega (arith, low, high))
-      ∙ parted i j (op_at journal d) low (omega (arith, high, length-map places (op_at journal))) (sym (at_index places inside j d high) ∙ passes)
+      ∙ parted i j (op_at journal d) low (omega (arith, high, length-map places (op_at journal)))
+      (sym (at_index places inside j d high) ∙ passes)
 
 module _ (journal : List Operation) (line : RowLine) (filed : IsFiled journal line) where
   pub has_of : (op : Operation) → has (ops_of journal line) op ≡ (is_of line.site line.start op && has journal op)
@@ -63,7 +71,8 @@ module _ (journal : List Operation) (line : RowLine) (filed : IsFiled journal li
     placed_rank = rank-places test journal places inside ∙ ap (λ l. rank test (ops_at journal l)) are
 
   -- the operation at one of its places
-  pub placed_op : (places : List ℕ) → places ≡ line.places → (index place : ℕ) → Some place ≡ slice_get places index → slice_get (ops_of journal line) index ≡ slice_get journal place
+  pub placed_op : (places : List ℕ) → places ≡ line.places → (index place : ℕ) → Some place ≡ slice_get places index
+      → slice_get (ops_of journal line) index ≡ slice_get journal place
   placed_op places are index place there =
       let low : index < length places = slice_get_within places index place (sym there) in
       let inside : place < length journal = subst (λ p. p < length journal) (get_or_from_slice_get places index place place (sym there)) (All-same (λ p. p < length journal) places line.places are filed.inside index place low) in
@@ -72,5 +81,6 @@ module _ (journal : List Operation) (line : RowLine) (filed : IsFiled journal li
       ∙ sym (slice_get-get_or journal place _ inside)
 
   -- where there is no place there is no operation
-  pub placed_none : (places : List ℕ) → places ≡ line.places → (index : ℕ) → None ≡ slice_get places index → None ≡ slice_get (ops_of journal line) index
+  pub placed_none : (places : List ℕ) → places ≡ line.places → (index : ℕ) → None ≡ slice_get places index
+      → None ≡ slice_get (ops_of journal line) index
   placed_none places are index none = sym (slice_get-map (op_at journal) line.places index ∙ ap (option_map (op_at journal)) (ap (λ l. slice_get l index) (sym are) ∙ sym none))

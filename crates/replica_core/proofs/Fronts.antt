@@ -7,6 +7,8 @@ use Rattle.replica_core.specs.Front.{Reaches, AreReached}
 use Rattle.replica_core.specs.FrontLaws.{AreReached-put}
 
 pub AreReached-raise : {T E : Type 0} (result : Result T E) (old new : Reaches) (site start seq : ℕ) → (seq ≡ 0 → ⊥)
-    → OnOk result (new ≡ put_joined (ord_max nat_cmp) old (site, start) seq) → OnErr result (new ≡ old) → AreReached old → AreReached new
-AreReached-raise (Ok x) old new site start seq some ok err reached = subst AreReached (sym ok) (AreReached-put old site start seq (omega (arith, some)) reached)
+    → OnOk result (new ≡ put_joined (ord_max nat_cmp) old (site, start) seq) → OnErr result (new ≡ old) → AreReached old
+    → AreReached new
+AreReached-raise (Ok x) old new site start seq some ok err reached =
+    subst AreReached (sym ok) (AreReached-put old site start seq (omega (arith, some)) reached)
 AreReached-raise (Err e) old new site start seq some ok err reached = subst AreReached (sym err) reached

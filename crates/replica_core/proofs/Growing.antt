@@ -1,5 +1,7 @@
 -- The lines of a journal to which an operation comes: its own line has changed, the others are as they were.
-use Rattle.std.proofs.Common.{◌≡◌, ◌<◌, ◌+◌, ◌&&◌, ◌||◌, ◌==◌, inl, inr, ℕ, Bool, true, false, cond, List, [], ◌∷◌, ◌++◌, length, get_or, set, filter, refl, sym, ap, subst, ◌∙◌, arith, get_or-set_other, get_or-set_same}
+use Rattle.std.proofs.Common.{◌≡◌, ◌<◌, ◌+◌, ◌&&◌, ◌||◌, ◌==◌, inl, inr, ℕ, Bool, true, false, cond, List, [], ◌∷◌}
+use Rattle.std.proofs.Common.{◌++◌, length, get_or, set, filter, refl, sym, ap, subst, ◌∙◌, arith, get_or-set_other}
+use Rattle.std.proofs.Common.{get_or-set_same}
 use Rattle.std.specs.declared.cmp.Ordering.TheVariants.{Less, Equal}
 use Rattle.std.specs.Cmp.{tied_itself}
 use Rattle.std.specs.List.{Contains}
@@ -29,7 +31,8 @@ or_false true = refl
 or_false false = refl
 
 -- ---- another line
-module _ (journal : List Operation) (op : Operation) (line : RowLine) (other : is_of line.site line.start op ≡ false) where
+module _ (journal : List Operation) (op : Operation) (line : RowLine)
+    (other : is_of line.site line.start op ≡ false) where
   kept : filter (is_of line.site line.start) (journal ++ op ∷ []) ≡ filter (is_of line.site line.start) journal
   kept =
       filter-append (is_of line.site line.start) journal (op ∷ [])
@@ -46,7 +49,8 @@ module _ (journal : List Operation) (op : Operation) (line : RowLine) (other : i
   elsewhere is = record {
     filed = record {
       inside = still_inside journal op line.places is.filed.inside;
-      ordered = subst (IsInOrder row_by_row (filter (is_of line.site line.start) (journal ++ op ∷ []))) (sym (ops_at-grown journal op line.places is.filed.inside))
+      ordered = subst (IsInOrder row_by_row (filter (is_of line.site line.start) (journal ++ op ∷ [])))
+          (sym (ops_at-grown journal op line.places is.filed.inside))
           (subst (λ ops. IsInOrder row_by_row ops (ops_of journal line)) (sym kept) is.filed.ordered);
     };
     reach = record {
@@ -56,7 +60,10 @@ module _ (journal : List Operation) (op : Operation) (line : RowLine) (other : i
   }
 
 -- ---- all of them
-module _ (journal : List Operation) (lines : List RowLine) (are : AreLines journal lines) (index : ℕ) (inside : index < length lines) (new : RowLine) (same_row : (d : RowLine) → row_of new ≡ row_of (get_or lines index d)) (op : Operation) (row : row_of new ≡ (op.stamp.site, op.stamp.start)) where
+module _ (journal : List Operation) (lines : List RowLine) (are : AreLines journal lines) (index : ℕ)
+    (inside : index < length lines) (new : RowLine)
+    (same_row : (d : RowLine) → row_of new ≡ row_of (get_or lines index d)) (op : Operation)
+    (row : row_of new ≡ (op.stamp.site, op.stamp.start)) where
   rows_same : rows_of (set lines index new) ≡ rows_of lines
   rows_same = map-set_same row_of lines index new new (same_row new)
 
@@ -80,19 +87,23 @@ module _ (journal : List Operation) (lines : List RowLine) (are : AreLines journ
     | inr after ↦ apart index k d (omega (arith, after, differs)) low (sym (same ∙ same_row d))
   ]
 
-  not_of : (k : ℕ) (d : RowLine) → k < length lines → ¬ (k ≡ index) → is_of (get_or lines k d).site (get_or lines k d).start op ≡ false
+  not_of : (k : ℕ) (d : RowLine) → k < length lines → ¬ (k ≡ index)
+      → is_of (get_or lines k d).site (get_or lines k d).start op ≡ false
   not_of k d low differs =
       let line = get_or lines k d in
       false_from_ne_true (is_of line.site line.start op) (λ of_it. other_row k d low differs ((λ i. (sym (site_of line.site line.start op of_it) i, sym (start_of line.site line.start op of_it) i)) ∙ sym row))
 
-  of_grown : IsLine (journal ++ op ∷ []) new → (k : ℕ) (d : RowLine) → k < length lines → (same : Bool) → (k == index) ≡ same → IsLine (journal ++ op ∷ []) (get_or (set lines index new) k d)
+  of_grown : IsLine (journal ++ op ∷ []) new → (k : ℕ) (d : RowLine) → k < length lines → (same : Bool)
+      → (k == index) ≡ same → IsLine (journal ++ op ∷ []) (get_or (set lines index new) k d)
   of_grown is k d low true e =
       subst (IsLine (journal ++ op ∷ [])) (sym (ap (λ n. get_or (set lines index new) n d) (eqb-true k index e) ∙ get_or-set_same lines index new d inside)) is
   of_grown is k d low false e =
       let differs : ¬ (k ≡ index) = eqb-false k index e in
-      subst (IsLine (journal ++ op ∷ [])) (sym (get_or-set_other lines index k new d differs)) (elsewhere journal op (get_or lines k d) (not_of k d low differs) (are.each k d low))
+      subst (IsLine (journal ++ op ∷ [])) (sym (get_or-set_other lines index k new d differs))
+      (elsewhere journal op (get_or lines k d) (not_of k d low differs) (are.each k d low))
 
-  covered : (o : Operation) (old last : Bool) → has journal o ≡ old → same_operation op o ≡ last → (old || (last || false)) ≡ true → Contains (rows_of lines) (o.stamp.site, o.stamp.start)
+  covered : (o : Operation) (old last : Bool) → has journal o ≡ old → same_operation op o ≡ last
+      → (old || (last || false)) ≡ true → Contains (rows_of lines) (o.stamp.site, o.stamp.start)
   covered o true last is_old is_last h = are.whole o is_old
   covered o false true is_old is_last h =
       subst (Contains (rows_of lines)) (row_at lines index inside (row_of new) new ∙ sym (same_row new) ∙ row ∙ ap (λ x. (x.stamp.site, x.stamp.start)) (same_is_equal op o is_last))
@@ -106,7 +117,8 @@ module _ (journal : List Operation) (lines : List RowLine) (are : AreLines journ
     whole = λ o h. subst (λ rows. Contains rows (o.stamp.site, o.stamp.start)) (sym rows_same) (covered o (has journal o) (same_operation op o) refl refl (sym (list_any-append (λ x. same_operation x o) journal (op ∷ [])) ∙ h));
   }
 
-  after_arrived : (known : Bool) → has journal op ≡ known → (after : List Operation) → after ≡ arrived journal op → IsLine after new → AreLines after (set lines index new)
+  after_arrived : (known : Bool) → has journal op ≡ known → (after : List Operation) → after ≡ arrived journal op
+      → IsLine after new → AreLines after (set lines index new)
   after_arrived true e after is line =
       let same : after ≡ journal = is ∙ ap (λ t. cond t journal (journal ++ op ∷ [])) e in
       subst (λ j. AreLines j (set lines index new)) (sym same) (known_lines (subst (λ j. IsLine j new) same line))
@@ -114,5 +126,6 @@ module _ (journal : List Operation) (lines : List RowLine) (are : AreLines journ
       let same : after ≡ journal ++ op ∷ [] = is ∙ ap (λ t. cond t journal (journal ++ op ∷ [])) e in
       subst (λ j. AreLines j (set lines index new)) (sym same) (grown_lines (subst (λ j. IsLine j new) same line))
 
-  pub arrived_lines : (after : List Operation) → after ≡ arrived journal op → IsLine after new → AreLines after (set lines index new)
+  pub arrived_lines : (after : List Operation) → after ≡ arrived journal op → IsLine after new
+      → AreLines after (set lines index new)
   arrived_lines = after_arrived (has journal op) refl

@@ -1,5 +1,6 @@
 -- The front that has the reach of each line is that of the journal.
-use Rattle.std.proofs.Common.{◌≡◌, ◌≤◌, ◌<◌, ◌&&◌, ◌||◌, ◌==◌, inl, inr, ℕ, Bool, true, false, cond, max, List, [], ◌∷◌, Option, None, Some, fold, length, get_or, refl, sym, ap, subst, ◌∙◌, arith, eq-eqb}
+use Rattle.std.proofs.Common.{◌≡◌, ◌≤◌, ◌<◌, ◌&&◌, ◌||◌, ◌==◌, inl, inr, ℕ, Bool, true, false, cond, max, List, [], ◌∷◌}
+use Rattle.std.proofs.Common.{Option, None, Some, fold, length, get_or, refl, sym, ap, subst, ◌∙◌, arith, eq-eqb}
 use Rattle.std.specs.Prelude.{IfSome}
 use Rattle.std.specs.Option.{unwrap_or}
 use Rattle.std.specs.FinMap.{empty, get, get-empty}
@@ -20,7 +21,8 @@ use Rattle.replica_core.proofs.LineLists.{none_held, row_at, empty_line}
 -- ---- what is reached is numbered from 1 on
 reached_from : (lines : List RowLine) (front : Reaches) → AreReached front → AreReached (fold raised_by front lines)
 reached_from [] front reached = reached
-reached_from (line ∷ lines) front reached = reached_from lines (raised_by front line) (AreReached-raised front line.site line.start line.reach reached)
+reached_from (line ∷ lines) front reached =
+    reached_from lines (raised_by front line) (AreReached-raised front line.site line.start line.reach reached)
 
 -- ---- the reach of a row
 module _ (site start : ℕ) where
@@ -30,9 +32,11 @@ module _ (site start : ℕ) where
   abbrev reach_after : ℕ → RowLine → ℕ
   reach_after reach line = cond (is_row line) (max reach line.reach) reach
 
-  reach_by : (lines : List RowLine) (front : Reaches) → reach_of (fold raised_by front lines) site start ≡ fold reach_after (reach_of front site start) lines
+  reach_by : (lines : List RowLine) (front : Reaches)
+      → reach_of (fold raised_by front lines) site start ≡ fold reach_after (reach_of front site start) lines
   reach_by [] front = refl
-  reach_by (line ∷ lines) front = reach_by lines (raised_by front line) ∙ ap (λ n. fold reach_after n lines) (reach_of-raised front line.site line.start line.reach site start)
+  reach_by (line ∷ lines) front = reach_by lines (raised_by front line)
+      ∙ ap (λ n. fold reach_after n lines) (reach_of-raised front line.site line.start line.reach site start)
 
   one_of : (P : ℕ → Type 0) (a b : ℕ) → P a → P b → P (max a b)
   one_of P a b at_a at_b = elim (cases_lt a b) [
@@ -41,7 +45,8 @@ module _ (site start : ℕ) where
   ]
 
   module _ (P : ℕ → Type 0) where
-    stays : (lines : List RowLine) → All (λ line. is_row line ≡ true → P line.reach) lines → (reach : ℕ) → P reach → P (fold reach_after reach lines)
+    stays : (lines : List RowLine) → All (λ line. is_row line ≡ true → P line.reach) lines → (reach : ℕ) → P reach
+        → P (fold reach_after reach lines)
     stays [] all reach is = is
     stays (line ∷ lines) all reach is =
         stays lines (All-tail (λ l. is_row l ≡ true → P l.reach) line lines all) (reach_after reach line)
@@ -50,10 +55,12 @@ module _ (site start : ℕ) where
           | false ↦ λ e. is
         ] refl)
 
-    comes : (lines : List RowLine) → All (λ line. is_row line ≡ true → P line.reach) lines → list_any is_row lines ≡ true → P (fold reach_after 0 lines)
+    comes : (lines : List RowLine) → All (λ line. is_row line ≡ true → P line.reach) lines
+        → list_any is_row lines ≡ true → P (fold reach_after 0 lines)
     comes [] all some = cc
     comes (line ∷ lines) all some = elim (is_row line) as (λ t. is_row line ≡ t → (t || list_any is_row lines) ≡ true → P (fold reach_after (cond t (max 0 line.reach) 0) lines)) [
-      | true ↦ λ e h. stays lines (All-tail (λ l. is_row l ≡ true → P l.reach) line lines all) (max 0 line.reach) (subst P (sym (zero-max line.reach)) (All-head (λ l. is_row l ≡ true → P l.reach) line lines all e))
+      | true ↦ λ e h. stays lines (All-tail (λ l. is_row l ≡ true → P l.reach) line lines all) (max 0 line.reach)
+          (subst P (sym (zero-max line.reach)) (All-head (λ l. is_row l ≡ true → P l.reach) line lines all e))
       | false ↦ λ e h. comes lines (All-tail (λ l. is_row l ≡ true → P l.reach) line lines all) h
     ] refl some
 
@@ -95,10 +102,13 @@ module _ (journal : List Operation) (lines : List RowLine) (are : AreLines journ
   right : Right (reach_of (front_of lines) site start)
   right = subst Right (sym (reach_by site start lines empty ∙ ap (λ found. fold (reach_after site start) (unwrap_or found 0) lines) (get-empty row_order (site, start)))) (right_at (list_any (is_row site start) lines) refl)
 
-into : (held : ℕ → Bool) (found : Option ℕ) → IfSome found (λ reach. 1 ≤ reach) → IsGapless held (unwrap_or found 0) → ReachesInto held found
+into : (held : ℕ → Bool) (found : Option ℕ) → IfSome found (λ reach. 1 ≤ reach) → IsGapless held (unwrap_or found 0)
+    → ReachesInto held found
 into held None some is = is.ends
 into held (Some reach) some is = (some, is)
 
-pub IsFront-lines : (journal : List Operation) (lines : List RowLine) → AreLines journal lines → IsFront journal (front_of lines)
+pub IsFront-lines : (journal : List Operation) (lines : List RowLine) → AreLines journal lines
+    → IsFront journal (front_of lines)
 IsFront-lines journal lines are site start =
-    into (holds journal site start) (get (front_of lines) (site, start)) (reached_from lines empty AreReached-empty site start) (right journal lines are site start)
+    into (holds journal site start) (get (front_of lines) (site, start))
+    (reached_from lines empty AreReached-empty site start) (right journal lines are site start)

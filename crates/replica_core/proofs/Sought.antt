@@ -1,5 +1,6 @@
 -- What a search in a line finds: the first operation that doesn't pass is what is looked for, or nothing is.
-use Rattle.std.proofs.Common.{◌≡◌, ◌≤◌, ◌<◌, ◌+◌, ◌==◌, ◌&&◌, ◌||◌, ◌⊎◌, inl, inr, ℕ, suc, Bool, true, false, not, cond, List, [], ◌∷◌, drop, refl, sym, ap, subst, ◌∙◌, arith}
+use Rattle.std.proofs.Common.{◌≡◌, ◌≤◌, ◌<◌, ◌+◌, ◌==◌, ◌&&◌, ◌||◌, ◌⊎◌, inl, inr, ℕ, suc, Bool, true, false, not, cond}
+use Rattle.std.proofs.Common.{List, [], ◌∷◌, drop, refl, sym, ap, subst, ◌∙◌, arith}
 use Rattle.std.specs.Prelude.{slice_get, nat_lt}
 use Rattle.std.specs.declared.cmp.Ordering.{Ordering}
 use Rattle.std.specs.declared.cmp.Ordering.TheVariants.{Less, Equal, Greater}
@@ -28,17 +29,21 @@ use Rattle.chunk_list.specs.Chunks.{is_some_passing}
 module _ (test match : Operation → Bool) (In : Operation → Type 0)
     (no_pass : (x : Operation) → match x ≡ true → test x ≡ false)
     (first_one : (x y : Operation) → In x → In y → row_by_row x y ≡ Less → test x ≡ false → match y ≡ true → match x ≡ true) where
-  no_later : (x : Operation) (xs : List Operation) → In x → AllByRecursion In xs → AllByRecursion (λ y. row_by_row x y ≡ Less) xs → test x ≡ false → match x ≡ false → list_any match xs ≡ false
+  no_later : (x : Operation) (xs : List Operation) → In x → AllByRecursion In xs
+      → AllByRecursion (λ y. row_by_row x y ≡ Less) xs → test x ≡ false → match x ≡ false → list_any match xs ≡ false
   no_later x [] of_x all above fails other = refl
   no_later x (y ∷ xs) of_x all above fails other =
-      ap (λ t. t || list_any match xs) (false_from_ne_true (match y) (λ e. false≢true (sym other ∙ first_one x y of_x all.0 above.0 fails e)))
+      ap (λ t. t || list_any match xs)
+      (false_from_ne_true (match y) (λ e. false≢true (sym other ∙ first_one x y of_x all.0 above.0 fails e)))
       ∙ no_later x xs of_x all.1 above.1 fails other
 
-  pub sought : (xs : List Operation) → IsStrictlySortedBy row_by_row xs → AllByRecursion In xs → list_any match xs ≡ is_some_passing match (slice_get xs (rank test xs))
+  pub sought : (xs : List Operation) → IsStrictlySortedBy row_by_row xs → AllByRecursion In xs
+      → list_any match xs ≡ is_some_passing match (slice_get xs (rank test xs))
   unfolding IsStrictlySortedBy
   sought [] sorted all = refl
   sought (x ∷ xs) sorted all = elim (test x) as (λ t. test x ≡ t → list_any match (x ∷ xs) ≡ is_some_passing match (slice_get (x ∷ xs) (cond t (suc (rank test xs)) 0))) [
-    | true ↦ λ e. ap (λ t. t || list_any match xs) (false_from_ne_true (match x) (λ m. false≢true (sym (no_pass x m) ∙ e))) ∙ sought xs sorted.1 all.1
+    | true ↦ λ e. ap (λ t. t || list_any match xs)
+        (false_from_ne_true (match x) (λ m. false≢true (sym (no_pass x m) ∙ e))) ∙ sought xs sorted.1 all.1
     | false ↦ λ e. elim (match x) as (λ t. match x ≡ t → (t || list_any match xs) ≡ t) [
       | true ↦ λ m. refl
       | false ↦ λ m. no_later x xs all.0 all.1 sorted.0 e m
@@ -59,14 +64,17 @@ all_any : (xs : List Operation) → AllByRecursion (λ _. Unit {0}) xs
 all_any [] = tt
 all_any (x ∷ xs) = (tt, all_any xs)
 
-pub sought_op : (op : Operation) (xs : List Operation) → IsStrictlySortedBy row_by_row xs → has xs op ≡ is_some_passing (λ other. same_operation other op) (slice_get xs (rank (is_below op) xs))
+pub sought_op : (op : Operation) (xs : List Operation) → IsStrictlySortedBy row_by_row xs
+    → has xs op ≡ is_some_passing (λ other. same_operation other op) (slice_get xs (rank (is_below op) xs))
 sought_op op xs sorted = sought (is_below op) (λ other. same_operation other op) (λ _. Unit {0})
     (λ x e. ap (is_below op) (same_is_equal x op e) ∙ not_below_itself op)
     (λ x y of_x of_y less fails e. absurd (false≢true (sym fails ∙ subst (λ o. is_below o x ≡ true) (same_is_equal y op e) (below_less x y less))))
     xs sorted (all_any xs)
 
 -- ---- the order in a row: by number, then by time, then by deed
-rises_at : (o p : Ordering) (a b c d : ℕ) (deeds : Ordering) → MatchOrdering o (a < b) (a ≡ b) (b < a) → MatchOrdering p (c < d) (c ≡ d) (d < c) → ordering_then o (ordering_then p deeds) ≡ Less → (a < b) ⊎ ((a ≡ b) × (c ≤ d))
+rises_at : (o p : Ordering) (a b c d : ℕ) (deeds : Ordering) → MatchOrdering o (a < b) (a ≡ b) (b < a)
+    → MatchOrdering p (c < d) (c ≡ d) (d < c) → ordering_then o (ordering_then p deeds) ≡ Less
+    → (a < b) ⊎ ((a ≡ b) × (c ≤ d))
 rises_at Less p a b c d deeds h k less = inl h
 rises_at Equal Less a b c d deeds h k less = inr (h, omega (arith, k))
 rises_at Equal Equal a b c d deeds h k less = inr (h, omega (arith, k))
@@ -79,7 +87,8 @@ no_less a b h = grind (arith, nat_tests)
 within_low : (n a b : ℕ) → a ≤ b → not (nat_lt n b) ≡ true → not (nat_lt n a) ≡ true
 within_low n a b h within = grind (arith, nat_tests)
 
-before_low : (s t a b c d : ℕ) → (a < b) ⊎ ((a ≡ b) × (c ≤ d)) → (nat_lt b s || (b == s && nat_lt d t)) ≡ true → (nat_lt a s || (a == s && nat_lt c t)) ≡ true
+before_low : (s t a b c d : ℕ) → (a < b) ⊎ ((a ≡ b) × (c ≤ d)) → (nat_lt b s || (b == s && nat_lt d t)) ≡ true
+    → (nat_lt a s || (a == s && nat_lt c t)) ≡ true
 before_low s t a b c d rises before = grind (arith, nat_tests)
 
 not_before_itself : (s t : ℕ) → (nat_lt s s || (s == s && nat_lt t t)) ≡ false
@@ -106,32 +115,41 @@ module _ (site start : ℕ) where
 
   module _ (x y : Operation) (of_x : IsOf x) (of_y : IsOf y) where
     abbrev inside : Ordering
-    inside = ordering_then (nat_cmp x.stamp.seq y.stamp.seq) (ordering_then (nat_cmp x.stamp.time y.stamp.time) (deed_cmp x.deed y.deed))
+    inside = ordering_then (nat_cmp x.stamp.seq y.stamp.seq)
+        (ordering_then (nat_cmp x.stamp.time y.stamp.time) (deed_cmp x.deed y.deed))
 
     in_row : row_by_row x y ≡ inside
     in_row =
         ap (λ o. ordering_then o (ordering_then (nat_cmp x.stamp.start y.stamp.start) inside)) (ap (nat_cmp x.stamp.site) (site_of y of_y ∙ sym (site_of x of_x)) ∙ tied_itself numbers_exact.total x.stamp.site)
         ∙ ap (λ o. ordering_then o inside) (ap (nat_cmp x.stamp.start) (start_of y of_y ∙ sym (start_of x of_x)) ∙ tied_itself numbers_exact.total x.stamp.start)
 
-    pub rises : row_by_row x y ≡ Less → (x.stamp.seq < y.stamp.seq) ⊎ ((x.stamp.seq ≡ y.stamp.seq) × (x.stamp.time ≤ y.stamp.time))
+    pub rises : row_by_row x y ≡ Less
+        → (x.stamp.seq < y.stamp.seq) ⊎ ((x.stamp.seq ≡ y.stamp.seq) × (x.stamp.time ≤ y.stamp.time))
     rises less =
-        rises_at (nat_cmp x.stamp.seq y.stamp.seq) (nat_cmp x.stamp.time y.stamp.time) x.stamp.seq y.stamp.seq x.stamp.time y.stamp.time (deed_cmp x.deed y.deed)
+        rises_at (nat_cmp x.stamp.seq y.stamp.seq)
+        (nat_cmp x.stamp.time y.stamp.time) x.stamp.seq y.stamp.seq x.stamp.time y.stamp.time
+        (deed_cmp x.deed y.deed)
         (ranks x.stamp.seq y.stamp.seq) (ranks x.stamp.time y.stamp.time) (sym in_row ∙ less)
 
     pub no_lower : row_by_row x y ≡ Less → x.stamp.seq ≤ y.stamp.seq
     no_lower less = elim (rises less) [ inl h ↦ omega (arith, h) | inr h ↦ omega (arith, h.0) ]
 
-  pub within_falls : (seq : ℕ) (x y : Operation) → IsOf x → IsOf y → row_by_row x y ≡ Less → is_within seq y ≡ true → is_within seq x ≡ true
+  pub within_falls : (seq : ℕ) (x y : Operation) → IsOf x → IsOf y → row_by_row x y ≡ Less → is_within seq y ≡ true
+      → is_within seq x ≡ true
   within_falls seq x y of_x of_y less = within_low seq x.stamp.seq y.stamp.seq (no_lower x y of_x of_y less)
 
-  pub before_falls : (stamp : Timestamp) (x y : Operation) → IsOf x → IsOf y → row_by_row x y ≡ Less → is_before stamp y ≡ true → is_before stamp x ≡ true
-  before_falls stamp x y of_x of_y less = before_low stamp.seq stamp.time x.stamp.seq y.stamp.seq x.stamp.time y.stamp.time (rises x y of_x of_y less)
+  pub before_falls : (stamp : Timestamp) (x y : Operation) → IsOf x → IsOf y → row_by_row x y ≡ Less
+      → is_before stamp y ≡ true → is_before stamp x ≡ true
+  before_falls stamp x y of_x of_y less =
+      before_low stamp.seq stamp.time x.stamp.seq y.stamp.seq x.stamp.time y.stamp.time (rises x y of_x of_y less)
 
   -- the operations with a stamp
-  same_place : (s t a c : ℕ) → (a < s) ⊎ ((a ≡ s) × (c ≤ t)) → (nat_lt a s || (a == s && nat_lt c t)) ≡ false → (a ≡ s) × (c ≡ t)
+  same_place : (s t a c : ℕ) → (a < s) ⊎ ((a ≡ s) × (c ≤ t)) → (nat_lt a s || (a == s && nat_lt c t)) ≡ false
+      → (a ≡ s) × (c ≡ t)
   same_place s t a c rises fails = (grind (arith, nat_tests), grind (arith, nat_tests))
 
-  first_stamp : (stamp : Timestamp) (x y : Operation) → IsOf x → IsOf y → row_by_row x y ≡ Less → is_before stamp x ≡ false → has_it stamp y ≡ true → has_it stamp x ≡ true
+  first_stamp : (stamp : Timestamp) (x y : Operation) → IsOf x → IsOf y → row_by_row x y ≡ Less
+      → is_before stamp x ≡ false → has_it stamp y ≡ true → has_it stamp x ≡ true
   first_stamp stamp x y of_x of_y less fails is =
       let there : y.stamp ≡ stamp = same_by_test timestamps_exact y.stamp stamp is in
       let equal = same_place stamp.seq stamp.time x.stamp.seq x.stamp.time (subst (λ s. (x.stamp.seq < s.seq) ⊎ ((x.stamp.seq ≡ s.seq) × (x.stamp.time ≤ s.time))) there (rises x y of_x of_y less)) fails in
@@ -143,7 +161,9 @@ module _ (site start : ℕ) where
       } in
       ap (λ s. eq_by_cmp timestamp_cmp s stamp) same ∙ is
 
-  pub sought_stamp : (stamp : Timestamp) (xs : List Operation) → IsStrictlySortedBy row_by_row xs → AllByRecursion IsOf xs → has_stamp xs stamp ≡ is_some_passing (has_it stamp) (slice_get xs (rank (is_before stamp) xs))
+  pub sought_stamp : (stamp : Timestamp) (xs : List Operation) → IsStrictlySortedBy row_by_row xs
+      → AllByRecursion IsOf xs
+      → has_stamp xs stamp ≡ is_some_passing (has_it stamp) (slice_get xs (rank (is_before stamp) xs))
   sought_stamp stamp = sought (is_before stamp) (has_it stamp) IsOf
       (λ x e. ap (λ s. nat_lt s.seq stamp.seq || (s.seq == stamp.seq && nat_lt s.time stamp.time)) (same_by_test timestamps_exact x.stamp stamp e) ∙ not_before_itself stamp.seq stamp.time)
       (first_stamp stamp)
@@ -158,7 +178,8 @@ module _ (site start : ℕ) where
   first_next : (n a b : ℕ) → a ≤ b → not (nat_lt n a) ≡ false → (b == n + 1) ≡ true → (a == n + 1) ≡ true
   first_next n a b low fails is = grind (arith, nat_tests)
 
-  pub sought_next : (seq : ℕ) (xs : List Operation) → IsStrictlySortedBy row_by_row xs → AllByRecursion IsOf xs → list_any (is_next seq) xs ≡ is_some_passing (is_next seq) (slice_get xs (rank (is_within seq) xs))
+  pub sought_next : (seq : ℕ) (xs : List Operation) → IsStrictlySortedBy row_by_row xs → AllByRecursion IsOf xs
+      → list_any (is_next seq) xs ≡ is_some_passing (is_next seq) (slice_get xs (rank (is_within seq) xs))
   sought_next seq = sought (is_within seq) (is_next seq) IsOf
       (λ x e. next_fails seq x.stamp.seq e)
       (λ x y of_x of_y less fails is. first_next seq x.stamp.seq y.stamp.seq (no_lower x y of_x of_y less) fails is)
@@ -167,13 +188,16 @@ module _ (site start : ℕ) where
   past_next : (n a b : ℕ) → a ≤ b → nat_lt n a ≡ true → nat_lt n b ≡ true
   past_next n a b low past = grind (arith, nat_tests)
 
-  all_past : (seq : ℕ) (x : Operation) (xs : List Operation) → IsOf x → AllByRecursion IsOf xs → AllByRecursion (λ y. row_by_row x y ≡ Less) xs → nat_lt seq x.stamp.seq ≡ true → ops_past seq xs ≡ xs
+  all_past : (seq : ℕ) (x : Operation) (xs : List Operation) → IsOf x → AllByRecursion IsOf xs
+      → AllByRecursion (λ y. row_by_row x y ≡ Less) xs → nat_lt seq x.stamp.seq ≡ true → ops_past seq xs ≡ xs
   all_past seq x [] of_x all above past = refl
   all_past seq x (y ∷ xs) of_x all above past =
-      ap (λ t. cond t (y ∷ ops_past seq xs) (ops_past seq xs)) (past_next seq x.stamp.seq y.stamp.seq (no_lower x y of_x all.0 above.0) past)
+      ap (λ t. cond t (y ∷ ops_past seq xs) (ops_past seq xs))
+      (past_next seq x.stamp.seq y.stamp.seq (no_lower x y of_x all.0 above.0) past)
       ∙ ap (λ l. y ∷ l) (all_past seq x xs of_x all.1 above.1 past)
 
-  pub past_rank : (seq : ℕ) (xs : List Operation) → IsStrictlySortedBy row_by_row xs → AllByRecursion IsOf xs → drop (rank (is_within seq) xs) xs ≡ ops_past seq xs
+  pub past_rank : (seq : ℕ) (xs : List Operation) → IsStrictlySortedBy row_by_row xs → AllByRecursion IsOf xs
+      → drop (rank (is_within seq) xs) xs ≡ ops_past seq xs
   unfolding IsStrictlySortedBy
   past_rank seq [] sorted all = refl
   past_rank seq (x ∷ xs) sorted all = elim (nat_lt seq x.stamp.seq) as (λ t. nat_lt seq x.stamp.seq ≡ t → drop (cond (not t) (suc (rank (is_within seq) xs)) 0) (x ∷ xs) ≡ cond t (x ∷ ops_past seq xs) (ops_past seq xs)) [

@@ -19,7 +19,12 @@ seqs site start journal = map (λ op. op.stamp.seq) (filter (is_of site start) j
 
 -- one above every time, and one above every sequence number of the site under the start
 abbrev pub next_of : List Operation → ℕ → ℕ → Timestamp
-next_of journal site start = record { time = greatest (times journal) + 1; site = site; start = start; seq = greatest (seqs site start journal) + 1 }
+next_of journal site start = record {
+  time = greatest (times journal) + 1;
+  site = site;
+  start = start;
+  seq = greatest (seqs site start journal) + 1;
+}
 
 -- there is nothing above, in 64 bits
 abbrev pub IsSpent : List Operation → ℕ → ℕ → Type 0

@@ -1,7 +1,8 @@
--- How far a journal reaches without a gap. A row is what one site stamped under one start, numbered from 1 on; a front has a number for
--- each row, and two fronts join by the greater number: the vector of Shapiro, Preguiça, Baquero and Zawirski's G-Counter (INRIA RR-7506,
--- 2011, 3.1.2).
-use Rattle.std.specs.Prelude.{◌≡◌, ◌≤◌, ◌+◌, ◌==◌, ◌&&◌, ℕ, Bool, true, false, List, Option, MatchOption, IfSome, if◌then◌else◌}
+-- How far a journal reaches without a gap. A row is what one site stamped under one start, numbered from 1 on; a front
+-- has a number for each row, and two fronts join by the greater number: the vector of Shapiro, Preguiça, Baquero and
+-- Zawirski's G-Counter (INRIA RR-7506, 2011, 3.1.2).
+use Rattle.std.specs.Prelude.{◌≡◌, ◌≤◌, ◌+◌, ◌==◌, ◌&&◌, ℕ, Bool, true, false, List, Option, MatchOption, IfSome}
+use Rattle.std.specs.Prelude.{if◌then◌else◌}
 use Rattle.std.specs.declared.cmp.Ordering.{Ordering}
 use Rattle.std.specs.Ordering.{nat_cmp, ord_max}
 use Rattle.std.specs.Option.{unwrap_or}

@@ -35,11 +35,13 @@ same_itself = test_of_same operations_exact
 flips : (x y : Operation) → same_operation x y ≡ same_operation y x
 flips = (eq_by_cmp_equiv operations_exact.total).symm
 
-apart_from : (first : Operation) (ops : List Operation) → AreApart (first ∷ ops) → dedup_from same_operation first ops ≡ first ∷ ops
+apart_from : (first : Operation) (ops : List Operation) → AreApart (first ∷ ops)
+    → dedup_from same_operation first ops ≡ first ∷ ops
 unfolding IsDistinct
 apart_from first [] apart = refl
 apart_from first (op ∷ ops) apart =
-    ap (λ t. cond t (dedup_from same_operation first ops) (first ∷ dedup_from same_operation op ops)) (flips op first ∙ apart.0.0) ∙ ap (λ l. first ∷ l) (apart_from op ops apart.1)
+    ap (λ t. cond t (dedup_from same_operation first ops) (first ∷ dedup_from same_operation op ops))
+    (flips op first ∙ apart.0.0) ∙ ap (λ l. first ∷ l) (apart_from op ops apart.1)
 
 none_twice : (ops : List Operation) → AreApart ops → dedup same_operation ops ≡ ops
 unfolding IsDistinct
@@ -51,18 +53,21 @@ module _ {order : Operation → Operation → Ordering} (exact_order : IsExactOr
   not_below_itself : (x : Operation) → order x x ≡ Less → ⊥
   not_below_itself x less = let e : Less ≡ Equal = sym less ∙ tied_itself exact_order.total x in cc
 
-  above_at : (b : Bool) (x y z : Operation) (xs : List Operation) → same_operation y z ≡ b → order x y ≡ Less → (has xs z ≡ true → order x z ≡ Less) → (b || has xs z) ≡ true → order x z ≡ Less
+  above_at : (b : Bool) (x y z : Operation) (xs : List Operation) → same_operation y z ≡ b → order x y ≡ Less
+      → (has xs z ≡ true → order x z ≡ Less) → (b || has xs z) ≡ true → order x z ≡ Less
   above_at true x y z xs e less later h = subst (λ o. order x o ≡ Less) (same_is_equal y z e) less
   above_at false x y z xs e less later h = later h
 
-  has_above : (x z : Operation) (xs : List Operation) → AllByRecursion (λ y. order x y ≡ Less) xs → has xs z ≡ true → order x z ≡ Less
+  has_above : (x z : Operation) (xs : List Operation) → AllByRecursion (λ y. order x y ≡ Less) xs → has xs z ≡ true
+      → order x z ≡ Less
   has_above x z [] above h = cc
   has_above x z (y ∷ xs) above h = above_at (same_operation y z) x y z xs refl above.0 (has_above x z xs above.1) h
 
   has_no_lower : (x : Operation) (xs : List Operation) → AllByRecursion (λ y. order x y ≡ Less) xs → has xs x ≡ false
   has_no_lower x xs above = false_from_ne_true (has xs x) (λ h. not_below_itself x (has_above x x xs above h))
 
-  head_or_above : (b : Bool) (x y : Operation) (ys : List Operation) → same_operation y x ≡ b → AllByRecursion (λ z. order y z ≡ Less) ys → (b || has ys x) ≡ true → (x ≡ y) ⊎ (order y x ≡ Less)
+  head_or_above : (b : Bool) (x y : Operation) (ys : List Operation) → same_operation y x ≡ b
+      → AllByRecursion (λ z. order y z ≡ Less) ys → (b || has ys x) ≡ true → (x ≡ y) ⊎ (order y x ≡ Less)
   head_or_above true x y ys e above h = inl (sym (same_is_equal y x e))
   head_or_above false x y ys e above h = inr (has_above y x ys above h)
 
@@ -71,12 +76,15 @@ module _ {order : Operation → Operation → Ordering} (exact_order : IsExactOr
   heads x y (inr p) (inl e) = sym e
   heads x y (inr p) (inr q) = absurd (not_below_itself x (exact_order.total.trans x y x q p))
 
-  rest_at : (b : Bool) (x op : Operation) (xs ys : List Operation) → same_operation x op ≡ b → AllByRecursion (λ z. order x z ≡ Less) xs → AllByRecursion (λ z. order x z ≡ Less) ys → (b || has xs op) ≡ (b || has ys op) → has xs op ≡ has ys op
+  rest_at : (b : Bool) (x op : Operation) (xs ys : List Operation) → same_operation x op ≡ b
+      → AllByRecursion (λ z. order x z ≡ Less) xs → AllByRecursion (λ z. order x z ≡ Less) ys
+      → (b || has xs op) ≡ (b || has ys op) → has xs op ≡ has ys op
   rest_at true x op xs ys e above also h =
       subst (λ o. has xs o ≡ has ys o) (same_is_equal x op e) (has_no_lower x xs above ∙ sym (has_no_lower x ys also))
   rest_at false x op xs ys e above also h = h
 
-  same_members : (xs ys : List Operation) → IsStrictlySortedBy order xs → IsStrictlySortedBy order ys → ((op : Operation) → has xs op ≡ has ys op) → xs ≡ ys
+  same_members : (xs ys : List Operation) → IsStrictlySortedBy order xs → IsStrictlySortedBy order ys
+      → ((op : Operation) → has xs op ≡ has ys op) → xs ≡ ys
   unfolding IsStrictlySortedBy
   same_members [] [] p q same = refl
   same_members [] (y ∷ ys) p q same = let e : false ≡ true = same y ∙ ap (λ t. t || has ys y) (same_itself y) in cc
@@ -88,24 +96,30 @@ module _ {order : Operation → Operation → Ordering} (exact_order : IsExactOr
       let also : AllByRecursion (λ z. order x z ≡ Less) ys = subst (λ o. AllByRecursion (λ z. order o z ≡ Less) ys) (sym first) q.0 in
       let same_first : (op : Operation) → (same_operation x op || has xs op) ≡ (same_operation x op || has ys op) = λ op. same op ∙ ap (λ o. same_operation o op || has ys op) (sym first) in
       ap (λ o. o ∷ xs) first
-      ∙ ap (λ l. y ∷ l) (same_members xs ys p.1 q.1 (λ op. rest_at (same_operation x op) x op xs ys refl p.0 also (same_first op)))
+      ∙ ap (λ l. y ∷ l)
+      (same_members xs ys p.1 q.1 (λ op. rest_at (same_operation x op) x op xs ys refl p.0 also (same_first op)))
 
   -- a set has one list in order
-  pub IsInOrder-unique : (ops ordered others : List Operation) → IsInOrder order ops ordered → IsInOrder order ops others → ordered ≡ others
-  IsInOrder-unique ops ordered others a b = same_members ordered others a.sorted b.sorted (λ op. a.members op ∙ sym (b.members op))
+  pub IsInOrder-unique : (ops ordered others : List Operation) → IsInOrder order ops ordered
+      → IsInOrder order ops others → ordered ≡ others
+  IsInOrder-unique ops ordered others a b =
+      same_members ordered others a.sorted b.sorted (λ op. a.members op ∙ sym (b.members op))
 
   -- and equal sets have the same one
-  pub IsInOrder-same : (ops others ordered : List Operation) → ((op : Operation) → has ops op ≡ has others op) → IsInOrder order ops ordered → IsInOrder order others ordered
+  pub IsInOrder-same : (ops others ordered : List Operation) → ((op : Operation) → has ops op ≡ has others op)
+      → IsInOrder order ops ordered → IsInOrder order others ordered
   IsInOrder-same ops others ordered same is = record { sorted = is.sorted; members = λ op. is.members op ∙ same op }
 
-  -- ---- a list in which none stands twice, sorted
+  -- ---- a list in which none is twice, sorted
   one_test : (b : Bool) (x y : Operation) → same_operation x y ≡ b → b ≡ eq_by_cmp order x y
   one_test true x y e = sym (ap (eq_by_cmp order x) (sym (same_is_equal x y e)) ∙ test_of_same exact_order x)
   one_test false x y e = sym (test_of_different exact_order x y (λ same. let known : true ≡ false = sym (same_itself x) ∙ ap (same_operation x) same ∙ e in cc))
 
-  pub sorted_in_order : (ops ordered : List Operation) → AreApart ops → IsPermutation ops ordered → IsSorted order ordered → IsInOrder order ops ordered
+  pub sorted_in_order : (ops ordered : List Operation) → AreApart ops → IsPermutation ops ordered
+      → IsSorted order ordered → IsInOrder order ops ordered
   sorted_in_order ops ordered apart permuted sorted = record {
-    sorted = subst (IsStrictlySortedBy order) (none_twice ordered (IsDistinct-IsPermutation same_operation flips ops ordered permuted apart))
+    sorted = subst (IsStrictlySortedBy order)
+        (none_twice ordered (IsDistinct-IsPermutation same_operation flips ops ordered permuted apart))
         (IsStrictlySortedBy-dedup exact_order.total {E = same_operation} (λ x y. one_test (same_operation x y) x y refl) ordered sorted);
     members = λ op. sym (list_any-IsPermutation (λ arrived. same_operation arrived op) ops ordered permuted);
   }

@@ -1,5 +1,5 @@
--- A journal is a set of operations: the grow-only set of Shapiro, Preguiça, Baquero and Zawirski (INRIA RR-7506, 2011, 3.3.1). It is
--- given by the list of its arrivals, each operation once, in the order in which it first came.
+-- A journal is a set of operations: the grow-only set of Shapiro, Preguiça, Baquero and Zawirski (INRIA RR-7506, 2011,
+-- 3.3.1). It is held as the list of its arrivals, each operation once, in the order in which it first came.
 use Rattle.std.specs.Prelude.{Bool, true, false, List, [], ◌∷◌, ◌++◌, if◌then◌else◌}
 use Rattle.std.specs.Ordering.{eq_by_cmp}
 use Rattle.std.specs.List.{IsDistinct, list_any}
@@ -29,7 +29,7 @@ abbrev pub all_arrived : List Operation → List Operation → List Operation
 all_arrived journal [] = journal
 all_arrived journal (op ∷ ops) = all_arrived (arrived journal op) ops
 
--- no operation stands twice
+-- no operation is twice
 abbrev pub AreApart : List Operation → Type 0
 AreApart = IsDistinct same_operation
 

@@ -1,4 +1,5 @@
--- The lines of a journal: one for each row, in the order of the rows. A line has the places of its row's operations in their order.
+-- The lines of a journal: one for each row, in the order of the rows. A line has the places of its row's operations in
+-- their order.
 use Rattle.std.specs.Prelude.{◌≡◌, ◌<◌, ℕ, true, List, map, filter, fold, length, slice_index_or}
 use Rattle.std.specs.List.{All, Contains}
 use Rattle.std.specs.List.Sorted.{IsStrictlySortedBy}
@@ -12,7 +13,7 @@ use Rattle.replica_core.specs.InOrder.{IsInOrder}
 use Rattle.replica_core.specs.Missing.{row_by_row}
 use Rattle.replica_core.specs.RowLine.{RowLine}
 
--- what stands where nothing came
+-- what is there where nothing came
 abbrev nothing : Operation
 nothing = record { stamp = record { time = 0; site = 0; start = 0; seq = 0 }; deed = merged 0 }
 

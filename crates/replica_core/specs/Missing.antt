@@ -9,7 +9,7 @@ use Rattle.review_ops.specs.Order.{deeds_exact}
 use Rattle.replica_core.specs.Front.{Reaches, reach_of}
 use Rattle.replica_core.specs.InOrder.{IsInOrder}
 
--- where an operation stands among those of its row, and which row it is of
+-- where an operation is among those of its row, and which row it is of
 abbrev pub row_key : Operation → ℕ × (ℕ × (ℕ × (ℕ × Deed)))
 row_key op = (op.stamp.site, (op.stamp.start, (op.stamp.seq, (op.stamp.time, op.deed))))
 
@@ -18,7 +18,9 @@ abbrev pub row_by_row : Operation → Operation → Ordering
 row_by_row = on row_key (pair_order nat_cmp (pair_order nat_cmp (pair_order nat_cmp (pair_order nat_cmp deed_cmp))))
 
 pub row_by_row_exact : IsExactOrder row_by_row
-row_by_row_exact = on_exact row_key (λ p. record { stamp = record { time = p.1.1.1.0; site = p.0; start = p.1.0; seq = p.1.1.0 }; deed = p.1.1.1.1 }) (λ _. refl)
+row_by_row_exact = on_exact row_key
+    (λ p. record { stamp = record { time = p.1.1.1.0; site = p.0; start = p.1.0; seq = p.1.1.0 }; deed = p.1.1.1.1 })
+    (λ _. refl)
     (pairs_exact numbers_exact (pairs_exact numbers_exact (pairs_exact numbers_exact (pairs_exact numbers_exact deeds_exact))))
 
 -- whether the operation lies past the front

@@ -23,7 +23,8 @@ both_are true b h = (refl, h)
 both_are false b h = cc
 
 -- an operation that is held at a place of a row is a twin of any other there
-twin_held : (held : List Operation) (stamp : Timestamp) → holds held stamp.site stamp.start stamp.seq ≡ true → (other : Operation) × (has held other ≡ true) × AreTwins stamp other.stamp
+twin_held : (held : List Operation) (stamp : Timestamp) → holds held stamp.site stamp.start stamp.seq ≡ true
+    → (other : Operation) × (has held other ≡ true) × AreTwins stamp other.stamp
 twin_held held stamp h =
     let found = has_one (λ op. is_of stamp.site stamp.start op && op.stamp.seq == stamp.seq) held h in
     let other = found.0 in
@@ -31,12 +32,15 @@ twin_held held stamp h =
     let place = both_are (other.stamp.site == stamp.site) (other.stamp.start == stamp.start) row.0 in
     (other, found.1, record { site = sym (eqb-true other.stamp.site stamp.site place.0); start = sym (eqb-true other.stamp.start stamp.start place.1); seq = sym (eqb-true other.stamp.seq stamp.seq row.1) })
 
-within_reach : (held : List Operation) (op : Operation) (reach : Option ℕ) → ReachesInto (holds held op.stamp.site op.stamp.start) reach → 1 ≤ op.stamp.seq → op.stamp.seq ≤ unwrap_or reach 0 → holds held op.stamp.site op.stamp.start op.stamp.seq ≡ true
+within_reach : (held : List Operation) (op : Operation) (reach : Option ℕ)
+    → ReachesInto (holds held op.stamp.site op.stamp.start) reach → 1 ≤ op.stamp.seq → op.stamp.seq ≤ unwrap_or reach 0
+    → holds held op.stamp.site op.stamp.start op.stamp.seq ≡ true
 within_reach held op None is first within = absurd (omega arith)
 within_reach held op (Some reach) is first within = is.1.gapless op.stamp.seq first within
 
 -- each operation of the other journal is held, or lacked by the front
-pub held_or_lacked : (held other lacked : List Operation) (front : Reaches) → IsFront held front → IsMissing other front lacked
+pub held_or_lacked : (held other lacked : List Operation) (front : Reaches) → IsFront held front
+    → IsMissing other front lacked
     → ((op : Operation) → has other op ≡ true → 1 ≤ op.stamp.seq)
     → ((op twin : Operation) → has other op ≡ true → has held twin ≡ true → AreTwins op.stamp twin.stamp → op ≡ twin)
     → (op : Operation) → has other op ≡ true → (has held op ≡ true) ⊎ (has lacked op ≡ true)

@@ -7,8 +7,8 @@ use Rattle.replica_core.specs.Lines.{AreLines}
 use Rattle.replica_core.specs.RowLine.{RowLine}
 use Rattle.state_core.specs.State.{State, state_of}
 
--- the state that is kept is that of the journal, in which no operation stands twice; the lines are those of the journal, and the
--- latest time is its greatest
+-- the state that is kept is that of the journal, in which no operation is twice; the lines are those of the journal,
+-- and the latest time is its greatest
 pub record IsRecord (journal : List Operation) (kept : List RowLine) (time : ℕ) (state : State) : Type 0 where
   pub joined : state ≡ state_of journal
   pub apart : AreApart journal

@@ -46,4 +46,9 @@ line_rank lines row = rank (is_earlier_row row) (rows_of lines)
 -- the line with a place after all of the journal's, where this operation comes in order
 abbrev pub with_place : List Operation → RowLine → Operation → RowLine
 with_place journal line op =
-    record { site = line.site; start = line.start; places = insert line.places (rank (is_below op) (ops_of journal line)) (length journal); reach = line.reach }
+    record {
+      site = line.site;
+      start = line.start;
+      places = insert line.places (rank (is_below op) (ops_of journal line)) (length journal);
+      reach = line.reach;
+    }

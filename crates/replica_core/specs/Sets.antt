@@ -1,5 +1,6 @@
 -- Journals as sets: two that have the same operations, in whatever order they came, have the same state.
-use Rattle.std.specs.Prelude.{◌≡◌, ◌≤◌, ◌+◌, ℕ, Bool, true, false, ◌||◌, ◌&&◌, cond, List, [], ◌∷◌, map, filter, fold, max, Contains}
+use Rattle.std.specs.Prelude.{◌≡◌, ◌≤◌, ◌+◌, ℕ, Bool, true, false, ◌||◌, ◌&&◌, cond, List, [], ◌∷◌, map, filter, fold}
+use Rattle.std.specs.Prelude.{max, Contains}
 use Rattle.std.specs.List.{Any, list_any}
 use Rattle.std.proofs.Common.{refl, sym, ap, ◌∙◌, subst, arith}
 use Rattle.std.proofs.lemmas.Bool.{false≢true}
@@ -34,7 +35,8 @@ module _ (test : Operation → Bool) where
   pub any_alike : (xs ys : List Operation) → IsSameSet xs ys → list_any test xs ≡ list_any test ys
   any_alike xs ys same = tested_alike test xs ys (members_alike xs ys same) (members_alike ys xs (λ op. sym (same op)))
 
-  kept_true : (b : Bool) (x op : Operation) (rest later : Bool) → same_operation x op ≡ b → test x ≡ true → rest ≡ (test op && later) → (b || rest) ≡ (test op && (b || later))
+  kept_true : (b : Bool) (x op : Operation) (rest later : Bool) → same_operation x op ≡ b → test x ≡ true
+      → rest ≡ (test op && later) → (b || rest) ≡ (test op && (b || later))
   kept_true true x op rest later e passes is = sym (ap (λ t. t && true) (ap test (sym (same_is_equal x op e)) ∙ passes))
   kept_true false x op rest later e passes is = is
 
@@ -42,8 +44,10 @@ module _ (test : Operation → Bool) where
   nothing_kept true later e = absurd (false≢true (sym e))
   nothing_kept false later e = refl
 
-  kept_false : (b : Bool) (x op : Operation) (rest later : Bool) → same_operation x op ≡ b → test x ≡ false → rest ≡ (test op && later) → rest ≡ (test op && (b || later))
-  kept_false true x op rest later e fails is = is ∙ nothing_kept (test op) later (ap test (sym (same_is_equal x op e)) ∙ fails)
+  kept_false : (b : Bool) (x op : Operation) (rest later : Bool) → same_operation x op ≡ b → test x ≡ false
+      → rest ≡ (test op && later) → rest ≡ (test op && (b || later))
+  kept_false true x op rest later e fails is =
+      is ∙ nothing_kept (test op) later (ap test (sym (same_is_equal x op e)) ∙ fails)
   kept_false false x op rest later e fails is = is
 
   pub has-filter : (xs : List Operation) (op : Operation) → has (filter test xs) op ≡ (test op && has xs op)
@@ -66,7 +70,8 @@ module _ (read : Operation → ℕ) where
   from_start [] a = omega arith
   from_start (x ∷ xs) a = omega (arith, le-max_left a (read x), from_start xs (max a (read x)))
 
-  reached_at : (b : Bool) (x op : Operation) (whole : ℕ) → same_operation x op ≡ b → read x ≤ whole → (later : Bool) → (later ≡ true → read op ≤ whole) → (b || later) ≡ true → read op ≤ whole
+  reached_at : (b : Bool) (x op : Operation) (whole : ℕ) → same_operation x op ≡ b → read x ≤ whole → (later : Bool)
+      → (later ≡ true → read op ≤ whole) → (b || later) ≡ true → read op ≤ whole
   reached_at true x op whole e first later rest h = subst (λ o. read o ≤ whole) (same_is_equal x op e) first
   reached_at false x op whole e first later rest h = rest h
 
@@ -74,12 +79,15 @@ module _ (read : Operation → ℕ) where
   reached [] a op h = absurd (false≢true h)
   reached (x ∷ xs) a op h =
       reached_at (same_operation x op) x op (fold max (max a (read x)) (map read xs)) refl
-      (omega (arith, le-max_right a (read x), from_start xs (max a (read x)))) (has xs op) (reached xs (max a (read x)) op) h
+      (omega (arith, le-max_right a (read x), from_start xs (max a (read x)))) (has xs op)
+      (reached xs (max a (read x)) op) h
 
-  pub bounded : (xs : List Operation) (a b : ℕ) → a ≤ b → ((op : Operation) → has xs op ≡ true → read op ≤ b) → fold max a (map read xs) ≤ b
+  pub bounded : (xs : List Operation) (a b : ℕ) → a ≤ b → ((op : Operation) → has xs op ≡ true → read op ≤ b)
+      → fold max a (map read xs) ≤ b
   bounded [] a b start all = start
   bounded (x ∷ xs) a b start all =
-      bounded xs (max a (read x)) b (max-le start (all x (ap (λ t. t || has xs x) (same_itself x)))) (λ op h. all op (elim (same_operation x op) as (λ t. (t || has xs op) ≡ true) [ true ↦ refl | false ↦ h ]))
+      bounded xs (max a (read x)) b (max-le start (all x (ap (λ t. t || has xs x) (same_itself x))))
+      (λ op h. all op (elim (same_operation x op) as (λ t. (t || has xs op) ≡ true) [ true ↦ refl | false ↦ h ]))
 
   at_most : (xs ys : List Operation) → IsSameSet xs ys → greatest (map read xs) ≤ greatest (map read ys)
   at_most xs ys same = bounded xs 0 (greatest (map read ys)) (omega arith) (λ op h. reached ys 0 op (sym (same op) ∙ h))
@@ -88,7 +96,8 @@ module _ (read : Operation → ℕ) where
   greatest_alike xs ys same = omega (arith, at_most xs ys same, at_most ys xs (λ op. sym (same op)))
 
 -- equal sets have one next stamp
-pub next_of-same : (xs ys : List Operation) (site start : ℕ) → IsSameSet xs ys → next_of xs site start ≡ next_of ys site start
+pub next_of-same : (xs ys : List Operation) (site start : ℕ) → IsSameSet xs ys
+    → next_of xs site start ≡ next_of ys site start
 next_of-same xs ys site start same =
     let times_alike = greatest_alike (λ op. op.stamp.time) xs ys same in
     let seqs_alike = greatest_alike (λ op. op.stamp.seq) (filter (is_of site start) xs) (filter (is_of site start) ys) (filtered_alike (is_of site start) xs ys same) in

@@ -99,8 +99,8 @@ impl Join for Reach {
     }
 }
 
-/// How far a record goes without a gap, row by row. Contracts see a finite map from rows to the sequence numbers that are reached, each at
-/// least 1.
+/// How far a record goes without a gap, row by row. Contracts see a finite map from rows to the sequence numbers that
+/// are reached, each at least 1.
 #[derive(Drop)]
 pub struct Front<A: Allocator + Copy = Global> {
     rows: JoinMap<Row, Reach, A>,
@@ -139,8 +139,8 @@ impl<A: Allocator + Copy> Front<A> {
         }
     }
 
-    /// Keeps the greater of the number and the one that the row has; 0 changes nothing. Where memory is refused nothing changes. In time
-    /// logarithmic in the number of rows.
+    /// Keeps the greater of the number and the one that the row has; 0 changes nothing. Where memory is refused nothing
+    /// changes. In time logarithmic in the number of rows.
     pub fn raise(&mut self, row: Row, seq: u64) -> Result<(), NoMemory>
         ensures ok { OnOk result (self.new ≡ raised self.old row.site row.start seq) }
         ensures err { OnErr result (self.new ≡ self.old) }

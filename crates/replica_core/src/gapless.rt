@@ -12,8 +12,9 @@ use lattice_core::NoMemory;
 use std::alloc::Allocator;
 
 impl<A: Allocator + Copy> Replica<A> {
-    /// How far the journal goes without a gap, row by row: for each site and start of which it has the first operation, the greatest
-    /// sequence number that it has with all before it. In time near-linear in the rows, and memory that grows with them.
+    /// How far the journal goes without a gap, row by row: for each site and start of which it has the first operation,
+    /// the greatest sequence number that it has with all before it. In time near-linear in the rows, and memory that
+    /// grows with them.
     pub fn front(&self) -> Result<Front<A>, NoMemory>
         ensures { IfOk result (λ front. IsFront self.now front) }
     {

@@ -10,15 +10,17 @@ ghost use Rattle.replica_core.specs.Missing.{IsMissing};
 ghost use Rattle.replica_core.specs.Sets.{IsSameSet};
 ghost use Rattle.state_core.specs.State.{state_of};
 
-/// A law: journals with the same operations, in whatever order they came, have the same state, the same next stamps, the same front, and lack
-/// the same operations of a front, which come in the same order.
+/// A law: journals with the same operations, in whatever order they came, have the same state, the same next stamps,
+/// the same front, and lack the same operations of a front, which come in the same order.
 pub fn equal_journals_agree()
     ensures state { (xs ys : List Operation) → IsSameSet xs ys → state_of xs ≡ state_of ys }
-    ensures next { (xs ys : List Operation) (site start : ℕ) → IsSameSet xs ys → next_of xs site start ≡ next_of ys site start }
+    ensures next { (xs ys : List Operation) (site start : ℕ) → IsSameSet xs ys
+        → next_of xs site start ≡ next_of ys site start }
     ensures front { (xs ys : List Operation) (f g : Reaches) → IsSameSet xs ys → IsFront xs f → IsFront ys g → f ≡ g }
     ensures missing { (xs ys : List Operation) (front : Reaches) (ops others : List Operation) → IsSameSet xs ys
         → IsMissing xs front ops → IsMissing ys front others → ops ≡ others }
-    ensures order { (xs ys ops others : List Operation) → IsSameSet xs ys → IsInOrderOf xs ops → IsInOrderOf ys others → ops ≡ others }
+    ensures order { (xs ys ops others : List Operation) → IsSameSet xs ys → IsInOrderOf xs ops → IsInOrderOf ys others
+        → ops ≡ others }
 {}
 
 /// A law: operations that come to a journal, in any order and with any repeated, join it as a set.

@@ -1,4 +1,4 @@
-//! The line of a row: where its operations stand among the arrivals.
+//! The line of a row: where its operations are among the arrivals.
 
 ghost use Rattle.std.specs.Prelude.{◌≡◌, ◌≤◌, ◌<◌, ◌+◌, ◌-◌, ◌^◌, true, ℕ, [], length, slice_get, IfOk};
 ghost use Rattle.std.specs.List.{All};
@@ -18,8 +18,8 @@ use review_ops::{Op, Stamp};
 use std::alloc::{Allocator, Global};
 use std::marker::Model;
 
-/// What is kept of a row: the places of its operations among the arrivals, in the order of their sequence numbers, times and bodies, and
-/// the sequence number up to which there is no gap.
+/// What is kept of a row: the places of its operations among the arrivals, in the order of their sequence numbers,
+/// times and bodies, and the sequence number up to which there is no gap.
 #[derive(Drop)]
 pub(super) struct Line<A: Allocator + Copy = Global> {
     pub(super) row: Row,
@@ -72,10 +72,12 @@ impl<A: Allocator + Copy> Line<A> {
         })
     }
 
-    /// The first of the row's operations that isn't below this one. In logarithmic time, and in constant time where all are below.
+    /// The first of the row's operations that isn't below this one. In logarithmic time, and in constant time where all
+    /// are below.
     fn from_op<'a>(&self, arrivals: &'a [Op<A>], op: &Op<A>) -> Option<&'a Op<A>>
         requires { IsFiled arrivals.now self.now }
-        ensures { let ops = ops_of arrivals.now self.now in option_copied result ≡ slice_get ops (rank (is_below op.now) ops) }
+        ensures { let ops = ops_of arrivals.now self.now in option_copied result
+            ≡ slice_get ops (rank (is_below op.now) ops) }
     {
         let place = *self.places.first_failing(&Below { arrivals, op })?;
         arrivals.get(place)
@@ -84,7 +86,8 @@ impl<A: Allocator + Copy> Line<A> {
     /// The first of the row's operations with a sequence number and time not below a stamp's. In logarithmic time.
     fn from_stamp<'a>(&self, arrivals: &'a [Op<A>], stamp: Stamp) -> Option<&'a Op<A>>
         requires { IsFiled arrivals.now self.now }
-        ensures { let ops = ops_of arrivals.now self.now in option_copied result ≡ slice_get ops (rank (is_before stamp) ops) }
+        ensures { let ops = ops_of arrivals.now self.now in option_copied result
+            ≡ slice_get ops (rank (is_before stamp) ops) }
     {
         let place = *self.places.first_failing(&Before { arrivals, stamp })?;
         arrivals.get(place)
@@ -93,7 +96,8 @@ impl<A: Allocator + Copy> Line<A> {
     /// The first of the row's operations past a sequence number. In logarithmic time.
     fn from_past<'a>(&self, arrivals: &'a [Op<A>], seq: u64) -> Option<&'a Op<A>>
         requires { IsFiled arrivals.now self.now }
-        ensures { let ops = ops_of arrivals.now self.now in option_copied result ≡ slice_get ops (rank (is_within seq) ops) }
+        ensures { let ops = ops_of arrivals.now self.now in option_copied result
+            ≡ slice_get ops (rank (is_within seq) ops) }
     {
         let place = *self.places.first_failing(&Within { arrivals, seq })?;
         arrivals.get(place)
@@ -141,7 +145,8 @@ impl<A: Allocator + Copy> Line<A> {
         }
     }
 
-    /// Whether one of the row's operations has the number after this one. In constant time where that is its last, else in logarithmic time.
+    /// Whether one of the row's operations has the number after this one. In constant time where that is its last, else
+    /// in logarithmic time.
     fn follows(&self, arrivals: &[Op<A>], seq: u64) -> bool
         requires filed { IsFiled arrivals.now self.now }
         requires next { seq < 2 ^ 64 - 1 }
@@ -181,10 +186,12 @@ fn copy_places<A: Allocator + Copy>(
     Ok(copied)
 }
 
-/// The number up to which a row has no gap, where it has none up to the line's reach. In logarithmic time for each number that it climbs.
+/// The number up to which a row has no gap, where it has none up to the line's reach. In logarithmic time for each
+/// number that it climbs.
 pub(super) fn climbed<A: Allocator + Copy>(arrivals: &[Op<A>], line: &Line<A>) -> u64
     requires filed { IsFiled arrivals.now line.now }
-    requires gapless { (seq : ℕ) → 1 ≤ seq → seq ≤ line.now.reach → holds arrivals.now line.now.site line.now.start seq ≡ true }
+    requires gapless { (seq : ℕ) → 1 ≤ seq → seq ≤ line.now.reach
+        → holds arrivals.now line.now.site line.now.start seq ≡ true }
     ensures { IsGapless (holds arrivals.now line.now.site line.now.start) result }
 {
     let last = line.last_seq(arrivals);

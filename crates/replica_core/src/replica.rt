@@ -1,4 +1,5 @@
-ghost use Rattle.std.specs.Prelude.{◌≡◌, ◌↔◌, ◌<◌, Some, IsTrue, IfOk, slice_get, MatchResult, List, take, OnOk, OnErr, [], length, ℕ, slice_index_or, if◌then◌else◌};
+ghost use Rattle.std.specs.Prelude.{◌≡◌, ◌↔◌, ◌<◌, Some, IsTrue, IfOk, slice_get, MatchResult, List, take, OnOk, OnErr};
+ghost use Rattle.std.specs.Prelude.{[], length, ℕ, slice_index_or, if◌then◌else◌};
 ghost use Rattle.std.specs.List.{Contains};
 ghost use Rattle.std.specs.Option.{option_copied};
 ghost use Rattle.std.specs.FinMap.{get};
@@ -22,9 +23,9 @@ use state_core::State;
 use std::alloc::{Allocator, Global};
 use std::marker::Model;
 
-/// The journal of a site, and the state that it joins to. Contracts see the arrivals: each operation of the journal once, in the order in
-/// which it first came. Beside the arrivals a line for each row says where the row's operations stand among them, so that only `absorb`
-/// and `copy` walk the whole.
+/// The journal of a site, and the state that it joins to. Contracts see the arrivals: each operation of the journal
+/// once, in the order in which it first came. Beside the arrivals a line for each row says where the row's operations
+/// are among them, so that only `absorb` and `copy` walk the whole.
 #[derive(Drop)]
 pub struct Replica<A: Allocator + Copy = Global> {
     pub(super) arrivals: Vec<Op<A>, A>,
@@ -60,9 +61,10 @@ impl<A: Allocator + Copy> Replica<A> {
         }
     }
 
-    /// Adds an operation to the journal and joins it into the state of its change, in place. Where memory is refused nothing changes. In
-    /// O(log n) for n operations, whatever the order of arrival, beside what the state's `take` costs: a place that comes last in its row is
-    /// pushed, any other moves at most the 512 places of its chunk, and once in 256 times the list of its row's chunks.
+    /// Adds an operation to the journal and joins it into the state of its change, in place. Where memory is refused
+    /// nothing changes. In O(log n) for n operations, whatever the order of arrival, beside what the state's `take`
+    /// costs: a place that comes last in its row is pushed, any other moves at most the 512 places of its chunk, and
+    /// once in 256 times the list of its row's chunks.
     pub fn take(&mut self, op: Op<A>) -> Result<Taken, NoMemory>
         ensures ok { IfOk result (λ taken. (self.new ≡ arrived self.old op) × (taken ≡ taken_of (has self.old op))) }
         ensures err { OnErr result (self.new ≡ self.old) }
@@ -84,9 +86,9 @@ impl<A: Allocator + Copy> Replica<A> {
         }
     }
 
-    /// Takes in every operation of another replica, in the order of operations. Where memory is refused the first `taken` of them are in, not
-    /// all, and nothing else. It sorts the other's arrivals where they stand, which takes no memory, and time linear in them where they came in order,
-    /// and then takes one after the other.
+    /// Takes in every operation of another replica, in the order of operations. Where memory is refused the first
+    /// `taken` of them are in, not all, and nothing else. It sorts the other's arrivals in place, which takes no
+    /// memory, and time linear in them where they came in order, and then takes one after the other.
     pub fn absorb(&mut self, other: Replica<A>) -> Result<(), Partly>
         ensures { (whole : List Operation) × IsInOrderOf other whole × MatchResult result
             (λ _. self.new ≡ all_arrived self.old whole)
@@ -121,7 +123,8 @@ impl<A: Allocator + Copy> Replica<A> {
         }
     }
 
-    /// Whether the journal has an operation with this stamp. In time logarithmic in the rows and in the operations of its row.
+    /// Whether the journal has an operation with this stamp. In time logarithmic in the rows and in the operations of
+    /// its row.
     pub fn has_stamp(&self, stamp: Stamp) -> bool
         ensures { result ≡ has_stamp self.now stamp }
     {
@@ -215,7 +218,8 @@ impl<A: Allocator + Copy> Replica<A> {
     }
 }
 
-/// Adds an operation to the line of its row, to the arrivals and to the state, unless it stands there. Where memory is refused nothing changes.
+/// Adds an operation to the line of its row, to the arrivals and to the state, unless it is there. Where memory is
+/// refused nothing changes.
 fn file_in<A: Allocator + Copy>(
     lines: &mut ChunkList<Line<A>, A>,
     arrivals: &mut Vec<Op<A>, A>,
@@ -240,7 +244,8 @@ fn file_in<A: Allocator + Copy>(
     taken
 }
 
-/// Adds an operation to its line, to the arrivals and to the state, unless it stands there. Where memory is refused nothing changes.
+/// Adds an operation to its line, to the arrivals and to the state, unless it is there. Where memory is refused nothing
+/// changes.
 fn file<A: Allocator + Copy>(
     line: &mut Line<A>,
     arrivals: &mut Vec<Op<A>, A>,
@@ -267,7 +272,8 @@ fn file<A: Allocator + Copy>(
     Ok(Taken::New)
 }
 
-/// Adds the place after all arrivals to the line of an operation, and its effect to the state. Where memory is refused nothing changes.
+/// Adds the place after all arrivals to the line of an operation, and its effect to the state. Where memory is refused
+/// nothing changes.
 fn enter<A: Allocator + Copy>(
     line: &mut Line<A>,
     arrivals: &[Op<A>],

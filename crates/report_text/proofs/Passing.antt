@@ -1,5 +1,6 @@
 -- How a text passes to a drain, piece by piece.
-use Rattle.std.proofs.Common.{◌≡◌, ℕ, ◌+◌, ◌<◌, List, [], ◌∷◌, ◌++◌, length, take, drop, get_or, flat_map, sym, ap, ◌∙◌, subst, arith, append_assoc, length-append, take-append-drop, Option}
+use Rattle.std.proofs.Common.{◌≡◌, ℕ, ◌+◌, ◌<◌, List, [], ◌∷◌, ◌++◌, length, take, drop, get_or, flat_map, sym, ap, ◌∙◌}
+use Rattle.std.proofs.Common.{subst, arith, append_assoc, length-append, take-append-drop, Option}
 use Rattle.std.proofs.lemmas.List.{append-nil, take-append-le, take_more}
 use Rattle.std.proofs.lemmas.Grind.{flat_map-append}
 use Rattle.std.proofs.Math.Seq.{take-append-add}
@@ -22,7 +23,8 @@ module _ (a b c : Option (List ℕ)) (w v s t : List ℕ) (passes : Passes a w b
 
   -- a text is added to what waits
   pub Passes-added : (u : List ℕ) → u ≡ v ++ t → Passes a w b u (s ++ t)
-  Passes-added u is = record { written = passes.written; took = passes.took; same = whole ∙ ap (λ l. passes.written ++ l) (sym is) }
+  Passes-added u is =
+      record { written = passes.written; took = passes.took; same = whole ∙ ap (λ l. passes.written ++ l) (sym is) }
 
   -- another text passes
   pub Passes-then : (u : List ℕ) → Passes b v c u t → Passes a w c u (s ++ t)
@@ -50,7 +52,8 @@ Passes-room a b c w v u s passes room = subst (Passes a w c u) (append-nil s) (P
 -- ---- lines, of which some have passed
 
 module _ {X : Type 0} (line : X → List ℕ) (xs : List X) (i : ℕ) where
-  lines_more : (x d : X) → i < length xs → x ≡ get_or xs i d → flat_map line (take i xs) ++ line x ≡ flat_map line (take (i + 1) xs)
+  lines_more : (x d : X) → i < length xs → x ≡ get_or xs i d
+      → flat_map line (take i xs) ++ line x ≡ flat_map line (take (i + 1) xs)
   lines_more x d within is =
       ap (λ l. flat_map line (take i xs) ++ l) (ap line is ∙ sym (append-nil (line (get_or xs i d))))
       ∙ sym (flat_map-append line (take i xs) (get_or xs i d ∷ []))
@@ -61,7 +64,8 @@ module _ {X : Type 0} (line : X → List ℕ) (xs : List X) (i : ℕ) where
 
   module _ (a b c : Option (List ℕ)) (w v : List ℕ) (passes : Passes a w b v (flat_map line (take i xs))) where
     -- room is made for one more line, and it is added
-    pub line_added : (u added : List ℕ) (x d : X) → i < length xs → x ≡ get_or xs i d → Passes b v c u [] → added ≡ u ++ line x → Passes a w c added (flat_map line (take (i + 1) xs))
+    pub line_added : (u added : List ℕ) (x d : X) → i < length xs → x ≡ get_or xs i d → Passes b v c u []
+        → added ≡ u ++ line x → Passes a w c added (flat_map line (take (i + 1) xs))
     line_added u added x d within is room more =
         subst (Passes a w c added) (lines_more x d within is)
         (Passes-added a c c w u (flat_map line (take i xs)) (line x) (Passes-room a b c w v u (flat_map line (take i xs)) passes room) added more)
@@ -77,8 +81,10 @@ module _ {X : Type 0} (line : X → List ℕ) (xs : List X) (i : ℕ) where
 module _ (a b c : Option (List ℕ)) (w v s t : List ℕ) (empty : w ≡ []) (passes : Passes a w b v s) where
   -- the cut is in what waits
   pub cut_before : IsCut b c v → IsCut a c (s ++ t)
-  cut_before cut = subst (λ l. IsCut a c (l ++ (s ++ t))) empty (Passes-cut a b c w v s t passes (IsCut-more b c v t cut))
+  cut_before cut =
+      subst (λ l. IsCut a c (l ++ (s ++ t))) empty (Passes-cut a b c w v s t passes (IsCut-more b c v t cut))
 
   -- the cut is in what waits and the last part
   pub cut_in_last : (u : List ℕ) → u ≡ v ++ t → IsCut b c u → IsCut a c (s ++ t)
-  cut_in_last u is cut = subst (λ l. IsCut a c (l ++ (s ++ t))) empty (Passes-cut a b c w v s t passes (subst (IsCut b c) is cut))
+  cut_in_last u is cut =
+      subst (λ l. IsCut a c (l ++ (s ++ t))) empty (Passes-cut a b c w v s t passes (subst (IsCut b c) is cut))

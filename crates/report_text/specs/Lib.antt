@@ -1,5 +1,5 @@
 pub mod Fault
 pub mod Pages
 pub mod Report
-pub mod Told
+pub mod Printed
 pub mod StateText

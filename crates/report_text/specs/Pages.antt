@@ -3,11 +3,11 @@ use Rattle.std.specs.Prelude.{◌≡◌, ◌+◌, ◌<◌, ◌≤◌, ℕ, List,
 use Rattle.std.specs.Io.KnownBytes.{Appends}
 use Rattle.arrayvec.specs.ArrayString.{ArrayString, array_string_len}
 
--- so many bytes more stand on a page
+-- so many bytes more are on a page
 abbrev pub HasRoom : ArrayString → ℕ → Type 0
 HasRoom page more = array_string_len page + more ≤ 4096
 
--- the drain took some front of the text, not all
+-- the drain took some prefix of the text, not all
 abbrev pub IsCut : Option (List ℕ) → Option (List ℕ) → List ℕ → Type 0
 IsCut old new text = (count : ℕ) × (count < length text) × Appends old new (take count text)
 

@@ -1,5 +1,5 @@
--- The text of a report: which items are ready under a gate, and why each other item isn't. The names of conditions are the keys of Zuul's
--- Gerrit driver (zuul-ci.org/docs, "Gerrit", pipeline requirements); the form is the project's own.
+-- The text of a report: which items are ready under a gate, and why each other item isn't. The names of conditions are
+-- the keys of Zuul's Gerrit driver (zuul-ci.org/docs, "Gerrit", pipeline requirements); the form is the project's own.
 use Rattle.std.specs.Prelude.{ℕ, List, ◌++◌, codes, length, flat_map}
 use Rattle.std.specs.Fmt.{decimal}
 use Rattle.state_core.specs.declared.item.Item.{Item}
@@ -51,4 +51,5 @@ end_line ready out = as_line (codes "end " ++ decimal ready ++ codes " " ++ deci
 -- the items that are ready, one a line, then the others, each with its refusal, and the end line
 abbrev pub report_of : Judged → List ℕ
 report_of verdicts =
-    flat_map ready_line verdicts.ready ++ flat_map out_line verdicts.out ++ end_line (length verdicts.ready) (length verdicts.out)
+    flat_map ready_line verdicts.ready ++ flat_map out_line verdicts.out ++ end_line (length verdicts.ready)
+    (length verdicts.out)

@@ -1,5 +1,5 @@
--- The state text: a line for each change, and after it a line for its newest abandon or restore, for each patch set and for each vote.
--- A message stands as its JSON text (RFC 8259, section 7). The form is the project's own.
+-- The state text: a line for each change, and after it a line for its newest abandon or restore, for each patch set and
+-- for each vote. A message is written as its JSON text (RFC 8259, section 7). The form is the project's own.
 use Rattle.std.specs.Prelude.{ℕ, ℤ, List, [], ◌∷◌, ◌++◌, Option, None, Some, codes, flat_map, decimal}
 use Rattle.std.specs.Fmt.{signed_decimal}
 use Rattle.std.specs.FinMap as finite
@@ -19,7 +19,8 @@ joined parts = flat_map (λ part. part) parts
 
 -- `change N STATUS`
 abbrev pub status_line : ℕ → Change → List ℕ
-status_line number change = joined (codes "change " ∷ decimal number ∷ codes " " ∷ status_name (status_of change) ∷ codes "\n" ∷ [])
+status_line number change =
+    joined (codes "change " ∷ decimal number ∷ codes " " ∷ status_name (status_of change) ∷ codes "\n" ∷ [])
 
 -- `life N abandoned STAMP` or `life N restored STAMP`, where there is one
 abbrev pub life_name : Life → List ℕ
@@ -28,7 +29,8 @@ life_name Restored = codes " restored "
 
 abbrev pub life_line : ℕ → Option (Timestamp × Life) → List ℕ
 life_line number None = []
-life_line number (Some register) = joined (codes "life " ∷ decimal number ∷ life_name register.1 ∷ timestamp_text register.0 ∷ codes "\n" ∷ [])
+life_line number (Some register) =
+    joined (codes "life " ∷ decimal number ∷ life_name register.1 ∷ timestamp_text register.0 ∷ codes "\n" ∷ [])
 
 -- `set N,P STAMP MESSAGE`, and ` parent K` where there is one
 abbrev pub parent_part : Option ℕ → List ℕ
@@ -49,8 +51,10 @@ vote_line number vote =
 abbrev pub change_text : ℕ × Change → List ℕ
 change_text change =
     joined (status_line change.0 change.1 ∷ life_line change.0 change.1.life
-    ∷ flat_map (set_line change.0) (finite.entries change.1.sets) ∷ flat_map (vote_line change.0) (finite.entries change.1.votes) ∷ [])
+    ∷ flat_map (set_line change.0) (finite.entries change.1.sets) ∷ flat_map (vote_line change.0)
+    (finite.entries change.1.votes) ∷ [])
 
 -- the changes in number order, and `end C` with their number
 abbrev pub state_text : State → List ℕ
-state_text state = flat_map change_text (finite.entries state) ++ joined (codes "end " ∷ decimal (finite.len state) ∷ codes "\n" ∷ [])
+state_text state =
+    flat_map change_text (finite.entries state) ++ joined (codes "end " ∷ decimal (finite.len state) ∷ codes "\n" ∷ [])

@@ -5,15 +5,15 @@ ghost use Rattle.state_core.specs.State.{State};
 ghost use Rattle.gate_rules.specs.Rules.{GateRules};
 ghost use Rattle.ready_core.specs.Verdicts.{AreVerdicts, Judged};
 ghost use Rattle.report_text.specs.Report.{report_of};
-ghost use Rattle.report_text.specs.Told.{AreSmall, told};
+ghost use Rattle.report_text.specs.Printed.{AreSmall, printed};
 
 use ready_core::verdicts_are_unique;
 
-/// A law: the text of a report tells which items are ready, and the refusal of each other item.
+/// A law: the text of a report determines which items are ready, and the refusal of each other item.
 pub fn reports_have_one_reading()
     ensures { (verdicts others : Judged) → AreSmall verdicts → AreSmall others
         → report_of verdicts ≡ report_of others
-        → (verdicts.ready ≡ others.ready) × (map told verdicts.out ≡ map told others.out) }
+        → (verdicts.ready ≡ others.ready) × (map printed verdicts.out ≡ map printed others.out) }
 {}
 
 /// A law: under one gate equal states print equal reports.

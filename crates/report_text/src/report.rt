@@ -5,7 +5,8 @@ ghost use Rattle.std.specs.Io.KnownBytes.{Appends};
 ghost use Rattle.arrayvec.specs.ArrayString.{array_string_len};
 ghost use Rattle.byte_ends.specs.Failures.{CountsFailure};
 ghost use Rattle.report_text.specs.Pages.{HasRoom, IsCut, Passes};
-ghost use Rattle.report_text.specs.Report.{side_name, clause_text, refusal_text, item_text, ready_line, out_line, end_line, report_of};
+ghost use Rattle.report_text.specs.Report.{side_name, clause_text, refusal_text, item_text, ready_line, out_line};
+ghost use Rattle.report_text.specs.Report.{end_line, report_of};
 
 use super::fault::WriteReportFault;
 use super::page::{Page, add_number, make_room, send};
@@ -14,12 +15,12 @@ use gate_rules::{Clause, Condition, Side};
 use ready_core::{Left, Refusal, Verdicts};
 use state_core::Item;
 
-/// Writes the report: a line for each item that is ready, a line for each other item with its refusal, both in the order of the
-/// verdicts, and the end line. Refusal: 1 `WriteFault`, the drain failed, and has taken what of the text went before. It takes no
-/// memory. It costs the text, which goes to the drain in pages of at most 4,096 bytes.
+/// Writes the report: a line for each item that is ready, a line for each other item with its refusal, both in the
+/// order of the verdicts, and the end line. Refusal: 1 `WriteFault`, the drain failed, and has taken what of the text
+/// went before. It takes no memory. It costs the text, which goes to the drain in pages of at most 4,096 bytes.
 pub fn write_report<D: Drain>(verdicts: &Verdicts, drain: &mut D) -> Result<(), WriteReportFault>
     ensures ok { OnOk result (Appends (D.taken drain.old) (D.taken drain.new) (report_of verdicts.now)) }
-    // Some front of the text was taken, not all.
+    // Some prefix of the text was taken, not all.
     ensures cut { OnErr result (IsCut (D.taken drain.old) (D.taken drain.new) (report_of verdicts.now)) }
     ensures counted { CountsFailure (D.failed drain.old) (D.failed drain.new) result }
 {

@@ -1,6 +1,7 @@
 //! The text of a state.
 
-ghost use Rattle.std.specs.Prelude.{◌≡◌, ◌++◌, ◌<◌, ℕ, OnOk, IfOk, IsErrOf, MatchResult, flat_map, string_bytes, take, length};
+ghost use Rattle.std.specs.Prelude.{◌≡◌, ◌++◌, ◌<◌, ℕ, OnOk, IfOk, IsErrOf, MatchResult, flat_map, string_bytes, take};
+ghost use Rattle.std.specs.Prelude.{length};
 ghost use Rattle.std.specs.FinMap as finite;
 ghost use Rattle.std.specs.Io.KnownBytes.{Appends};
 ghost use Rattle.json.specs.Print.{quoted};
@@ -18,9 +19,9 @@ use review_ops::Stamp;
 use state_core::State;
 use std::alloc::{AllocError, Allocator};
 
-/// Writes the state text: for each change a line with its status, and then lines for its newest abandon or restore, its patch sets and its
-/// votes. Refusals: 1 `WriteFault`, the drain failed, and has taken what of the text went before; 2 `NoMemory`, nothing was written. It costs
-/// O(n) for a text of n bytes, which is collected before it is written.
+/// Writes the state text: for each change a line with its status, and then lines for its newest abandon or restore, its
+/// patch sets and its votes. Refusals: 1 `WriteFault`, the drain failed, and has taken what of the text went before; 2
+/// `NoMemory`, nothing was written. It costs O(n) for a text of n bytes, which is collected before it is written.
 pub fn write_state<A: Allocator + Copy, D: Drain>(
     state: &State<A>,
     drain: &mut D,

@@ -19,8 +19,8 @@ pub fn event_words(words: &[String]) -> Option<EventWords> {
     }
 }
 
-/// Reads Gerrit's lines from the input, and writes what a client of a session says of them to the output, and what is lost of them to the errors. Answers
-/// the status: 0 at the end of the input, 1 where the feed ended before.
+/// Reads Gerrit's lines from the input, and writes what a client of a session says of them to the output, and what is
+/// lost of them to the errors. Answers the status: 0 at the end of the input, 1 where the feed ended before.
 pub fn events<I: Source, O: Drain, E: Drain>(
     alloc: Global,
     input: &mut I,
@@ -33,8 +33,8 @@ pub fn events<I: Source, O: Drain, E: Drain>(
     report_end(alloc, fault.number(), fault.name(), errors)
 }
 
-/// Reads Gerrit's lines from the input, and feeds them to the site at a port, and writes what is lost of them to the errors. Answers the status: 0 at the
-/// end of the input, 1 where the feed ended before.
+/// Reads Gerrit's lines from the input, and feeds them to the site at a port, and writes what is lost of them to the
+/// errors. Answers the status: 0 at the end of the input, 1 where the feed ended before.
 pub fn events_to<R: Clock + Net<Stream = TcpStream>, I: Source, E: Drain>(
     rt: &R,
     alloc: Global,

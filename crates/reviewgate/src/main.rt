@@ -46,7 +46,8 @@ fn main(rt: HostRuntime) -> ExitCode {
     ExitCode::from(status)
 }
 
-/// Recovers a journal for `recover`, feeds Gerrit's lines to a session for `events`, or else runs the command that the words ask for. Answers the status.
+/// Recovers a journal for `recover`, feeds Gerrit's lines to a session for `events`, or else runs the command that the
+/// words ask for. Answers the status.
 fn do_words<R: Files + Input + Print + AllocGlobal + Clock + Net<Stream = TcpStream>, E: Drain>(
     rt: &R,
     alloc: Global,

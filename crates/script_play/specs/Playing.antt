@@ -1,5 +1,6 @@
 -- What a script's steps print, one after the other. The texts are the project's own; the world is world_core's machine.
-use Rattle.std.specs.Prelude.{◌≡◌, ◌⊎◌, ℕ, Bool, List, [], ◌∷◌, ◌++◌, MatchOption, Ok, Err, codes, decimal, if◌then◌else◌}
+use Rattle.std.specs.Prelude.{◌≡◌, ◌⊎◌, ℕ, Bool, List, [], ◌∷◌, ◌++◌, MatchOption, Ok, Err, codes, decimal}
+use Rattle.std.specs.Prelude.{if◌then◌else◌}
 use Rattle.std.specs.Global.{Global}
 use Rattle.gate_rules.specs.Rules.{GateRules}
 use Rattle.op_text.specs.Front.{front_text}
@@ -35,7 +36,8 @@ rest_word more = if more then codes "more" else codes "done"
 
 abbrev pub reply_text : Reply → List ℕ
 reply_text (Took stamp) = codes "ok " ++ timestamp_text stamp
-reply_text (Packet number count more) = codes "packet " ++ decimal number ++ codes " " ++ decimal count ++ codes " " ++ rest_word more
+reply_text (Packet number count more) =
+    codes "packet " ++ decimal number ++ codes " " ++ decimal count ++ codes " " ++ rest_word more
 reply_text (Delivered count) = codes "took " ++ decimal count
 reply_text Saved = codes "saved"
 reply_text Restarted = codes "restarted"
@@ -63,7 +65,8 @@ PlaysEvent old event printed new = (answer : Answer) × MayAnswer old event answ
 -- a site sends what another lacks by its front now, or memory doesn't suffice for the front
 abbrev pub PlaysSendTo : ℕ → List Operation → WorldState → List ℕ → WorldState → Type 0
 PlaysSendTo site journal old printed new =
-    ((front : Reaches) × IsFront journal front × PlaysEvent old (Send site front) printed new) ⊎ ((printed ≡ no_memory) × (new ≡ old))
+    ((front : Reaches) × IsFront journal front × PlaysEvent old (Send site front) printed new)
+    ⊎ ((printed ≡ no_memory) × (new ≡ old))
 
 -- the state text is shown, or memory doesn't suffice for it
 abbrev pub ShowsState : List Operation → List ℕ → Type 0
@@ -71,25 +74,34 @@ ShowsState journal printed = (printed ≡ state_text (state_of journal)) ⊎ (pr
 
 -- the front's text is shown on a line, or memory doesn't suffice for it
 abbrev pub ShowsFront : List Operation → List ℕ → Type 0
-ShowsFront journal printed = ((front : Reaches) × IsFront journal front × (printed ≡ front_text front ++ codes "\n")) ⊎ (printed ≡ no_memory)
+ShowsFront journal printed =
+    ((front : Reaches) × IsFront journal front × (printed ≡ front_text front ++ codes "\n")) ⊎ (printed ≡ no_memory)
 
 -- the report of the journal's state under the gate is shown, or memory doesn't suffice for it
 abbrev pub ShowsReport : GateRules → List Operation → List ℕ → Type 0
-ShowsReport gate journal printed = ((verdicts : Judged) × AreVerdicts gate (state_of journal) verdicts × (printed ≡ report_of verdicts)) ⊎ (printed ≡ no_memory)
+ShowsReport gate journal printed =
+    ((verdicts : Judged) × AreVerdicts gate (state_of journal) verdicts × (printed ≡ report_of verdicts))
+    ⊎ (printed ≡ no_memory)
 
 abbrev pub PlaysStep : WorldState → Step → List ℕ → WorldState → Type 0
 PlaysStep old (Happens event) printed new = PlaysEvent old event printed new
-PlaysStep old (SendTo site receiver) printed new = MatchOption (numbered old.sites receiver) ((printed ≡ no_site) × (new ≡ old)) (λ at. PlaysSendTo site at.journal old printed new)
-PlaysStep old (State site) printed new = MatchOption (numbered old.sites site) (printed ≡ no_site) (λ at. ShowsState at.journal printed) × (new ≡ old)
-PlaysStep old (Front site) printed new = MatchOption (numbered old.sites site) (printed ≡ no_site) (λ at. ShowsFront at.journal printed) × (new ≡ old)
-PlaysStep old (Ready site gate) printed new = MatchOption (numbered old.sites site) (printed ≡ no_site) (λ at. ShowsReport gate.now at.journal printed) × (new ≡ old)
+PlaysStep old (SendTo site receiver) printed new = MatchOption (numbered old.sites receiver)
+    ((printed ≡ no_site) × (new ≡ old)) (λ at. PlaysSendTo site at.journal old printed new)
+PlaysStep old (State site) printed new =
+    MatchOption (numbered old.sites site) (printed ≡ no_site) (λ at. ShowsState at.journal printed) × (new ≡ old)
+PlaysStep old (Front site) printed new =
+    MatchOption (numbered old.sites site) (printed ≡ no_site) (λ at. ShowsFront at.journal printed) × (new ≡ old)
+PlaysStep old (Ready site gate) printed new =
+    MatchOption (numbered old.sites site) (printed ≡ no_site) (λ at. ShowsReport gate.now at.journal printed)
+    × (new ≡ old)
 
 -- ---- a run: one step after the other, each from the world that the one before left, and their texts in that order
 
 abbrev pub Plays : WorldState → List Step → List ℕ → WorldState → Type 0
 Plays old [] printed new = (printed ≡ []) × (new ≡ old)
 Plays old (step ∷ steps) printed new =
-    (text : List ℕ) × (mid : WorldState) × (rest : List ℕ) × PlaysStep old step text mid × Plays mid steps rest new × (printed ≡ text ++ rest)
+    (text : List ℕ) × (mid : WorldState) × (rest : List ℕ) × PlaysStep old step text mid × Plays mid steps rest new
+    × (printed ≡ text ++ rest)
 
 -- from the start, some run by these steps prints this
 abbrev pub IsRunText : WorldState → List Step → List ℕ → Type 0

@@ -1,4 +1,5 @@
-//! Scripts played over a world of sites: the steps of a script are played one after the other, and what each prints is said here.
+//! Scripts played over a world of sites: the steps of a script are played one after the other, and what each prints is
+//! defined here.
 //!
 //! | Printed | Of what |
 //! |---|---|

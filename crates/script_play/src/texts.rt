@@ -77,7 +77,8 @@ pub fn report_text(alloc: Global, replica: &Replica, gate: &Gate) -> Text
 
 /// The text of a replica's front, and an LF.
 fn written_front(alloc: Global, replica: &Replica) -> Result<String, NoMemory>
-    ensures { IfOk result (λ line. (front : Reaches) × IsFront replica.now front × (string_bytes line ≡ front_text front ++ codes "\n")) }
+    ensures { IfOk result
+        (λ line. (front : Reaches) × IsFront replica.now front × (string_bytes line ≡ front_text front ++ codes "\n")) }
 {
     let front = replica.front()?;
     let mut line = write_front(alloc, &front)?;

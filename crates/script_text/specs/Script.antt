@@ -1,5 +1,5 @@
--- What the lines of a script say. The grammar is the project's own. A `ready` line says something only under a gate, which its reports are
--- made under.
+-- What the lines of a script say. The grammar is the project's own. A `ready` line says something only under a gate,
+-- which its reports are made under.
 use Rattle.std.specs.Prelude.{◌≡◌, ◌≤◌, ◌==◌, ℕ, Bool, false, List, [], ◌∷◌, Option, None, Some, Result, Ok, Err, codes}
 use Rattle.byte_ends.specs.Lines.{lines_of}
 use Rattle.gate_rules.specs.Rules.{GateRules}
@@ -58,17 +58,22 @@ word_of (Ready site gate) = codes "ready"
 -- what follows the word and a blank
 abbrev pub SayStep : Option GateRules → List ℕ → Step → Type 0
 -- `SITE BODY`
-SayStep under fields (Happens (Intake site draft)) = (body : List ℕ) × IsNumberBefore fields most_site site body × SpellsBody body (deed_of draft)
+SayStep under fields (Happens (Intake site draft)) =
+    (body : List ℕ) × IsNumberBefore fields most_site site body × SpellsBody body (deed_of draft)
 -- `SITE FRONT`
-SayStep under fields (Happens (Send site front)) = (text : List ℕ) × IsNumberBefore fields most_site site text × (names_site text ≡ false) × SpellsFront text front
+SayStep under fields (Happens (Send site front)) =
+    (text : List ℕ) × IsNumberBefore fields most_site site text × (names_site text ≡ false) × SpellsFront text front
 -- `PACKET SITE`
-SayStep under fields (Happens (Deliver packet site)) = (field : List ℕ) × IsNumberBefore fields most_packet packet field × IsNumberField field most_site site
+SayStep under fields (Happens (Deliver packet site)) =
+    (field : List ℕ) × IsNumberBefore fields most_packet packet field × IsNumberField field most_site site
 -- `SITE`
 SayStep under fields (Happens (Save site)) = IsNumberField fields most_site site
 -- `SITE START`
-SayStep under fields (Happens (Restart site start)) = (field : List ℕ) × IsNumberBefore fields most_site site field × IsNumberField field most_start start
+SayStep under fields (Happens (Restart site start)) =
+    (field : List ℕ) × IsNumberBefore fields most_site site field × IsNumberField field most_start start
 -- `SITE @SITE`
-SayStep under fields (SendTo site receiver) = (field : List ℕ) × IsNumberBefore fields most_site site (64 ∷ field) × IsNumberField field most_site receiver
+SayStep under fields (SendTo site receiver) =
+    (field : List ℕ) × IsNumberBefore fields most_site site (64 ∷ field) × IsNumberField field most_site receiver
 -- `SITE`
 SayStep under fields (State site) = IsNumberField fields most_site site
 SayStep under fields (Front site) = IsNumberField fields most_site site
@@ -80,8 +85,8 @@ abbrev pub SaysStep : Option GateRules → List ℕ → Step → Type 0
 SaysStep under line step = (fields : List ℕ) × IsAfterWord line (word_of step) fields × SayStep under fields step
 
 -- the same of a line that begins with this word
-abbrev pub IsSaidAfter : Option GateRules → List ℕ → List ℕ → Step → Type 0
-IsSaidAfter under word fields step = (word_of step ≡ word) × SayStep under fields step
+abbrev pub IsReadAfter : Option GateRules → List ℕ → List ℕ → Step → Type 0
+IsReadAfter under word fields step = (word_of step ≡ word) × SayStep under fields step
 
 -- the line says no step
 abbrev pub SaysNoStep : Option GateRules → List ℕ → Type 0
@@ -89,7 +94,8 @@ SaysNoStep under line = (step : Step) → ¬ SaysStep under line step
 
 -- steps that ask for the same: drafts of the same deed are as good as one, and so are gates with the same rules
 abbrev pub IsSameStep : Step → Step → Type 0
-IsSameStep (Happens (Intake site draft)) (Happens (Intake other another)) = (site ≡ other) × (deed_of draft ≡ deed_of another)
+IsSameStep (Happens (Intake site draft)) (Happens (Intake other another)) =
+    (site ≡ other) × (deed_of draft ≡ deed_of another)
 IsSameStep (Ready site gate) (Ready other another) = (site ≡ other) × (gate.now ≡ another.now)
 IsSameStep step other = step ≡ other
 

@@ -4,7 +4,8 @@ ghost use Rattle.std.specs.Prelude.{◌≡◌, ℕ, false, List, ◌∷◌, IfOk
 ghost use Rattle.std.specs.Option.{option_copied};
 ghost use Rattle.gate_rules.specs.Rules.{GateRules};
 ghost use Rattle.script_text.specs.Fields.{IsNumberField};
-ghost use Rattle.script_text.specs.Script.{IsNumberBefore, IsRead, IsSaidAfter, IsUnreadScript, SaysScript, SaysSites, SaysStep, line_fault_of, most_site, names_site};
+ghost use Rattle.script_text.specs.Script.{IsNumberBefore, IsRead, IsReadAfter, IsUnreadScript, SaysScript, SaysSites};
+ghost use Rattle.script_text.specs.Script.{SaysStep, line_fault_of, most_site, names_site};
 
 use super::fault::ScriptFault;
 use super::fields::{after_word, read_number, split_field};
@@ -56,15 +57,16 @@ enum LineFault {
     NoMemory,
 }
 
-/// Reads a script: its first line that says something is `sites N`, N from 1 to 64, and each later one says a step, up to the first that
-/// says none. A `ready` line says a step only under a gate. Refusals: 1 `BadSites`, the first line says no number of sites, or there is none;
-/// 3 `NoMemory`. In O(n) for a text of n bytes.
+/// Reads a script: its first line that says something is `sites N`, N from 1 to 64, and each later one says a step, up
+/// to the first that says none. A `ready` line says a step only under a gate. Refusals: 1 `BadSites`, the first line
+/// says no number of sites, or there is none; 3 `NoMemory`. In O(n) for a text of n bytes.
 pub fn read_script<'a>(
     alloc: Global,
     text: &[u8],
     gate: Option<&'a Gate>,
 ) -> Result<Script<'a>, ScriptFault>
-    ensures says { IfOk result (λ script. SaysScript (option_copied gate.entry) text.now script.sites script.steps.items script.bad_line) }
+    ensures says { IfOk result
+        (λ script. SaysScript (option_copied gate.entry) text.now script.sites script.steps.items script.bad_line) }
     ensures unread { IfErr result (IsUnreadScript text.now) }
 {
     let mut lines = ScriptLines::new(text);
@@ -147,8 +149,9 @@ fn read_step<'a>(alloc: Global, line: &[u8], gate: Option<&'a Gate>) -> Result<S
 
 /// `SITE`, under the gate
 fn read_ready<'a>(field: &[u8], gate: Option<&'a Gate>) -> Result<Step<'a>, LineFault>
-    ensures says { IfOk result (IsSaidAfter (option_copied gate.entry) (codes "ready") field.now) }
-    ensures only { (step : Step) → IsSaidAfter (option_copied gate.entry) (codes "ready") field.now step → IsRead step result }
+    ensures says { IfOk result (IsReadAfter (option_copied gate.entry) (codes "ready") field.now) }
+    ensures only { (step : Step) → IsReadAfter (option_copied gate.entry) (codes "ready") field.now step
+        → IsRead step result }
 {
     let Some(gate) = gate else {
         return Err(LineFault::Bad);
@@ -159,8 +162,9 @@ fn read_ready<'a>(field: &[u8], gate: Option<&'a Gate>) -> Result<Step<'a>, Line
 
 /// `SITE BODY`
 fn read_intake<'a>(alloc: Global, fields: &[u8]) -> Result<Step<'a>, LineFault>
-    ensures says { (gate : Option GateRules) → IfOk result (IsSaidAfter gate (codes "intake") fields.now) }
-    ensures only { (gate : Option GateRules) → (step : Step) → IsSaidAfter gate (codes "intake") fields.now step → IsRead step result }
+    ensures says { (gate : Option GateRules) → IfOk result (IsReadAfter gate (codes "intake") fields.now) }
+    ensures only { (gate : Option GateRules) → (step : Step) → IsReadAfter gate (codes "intake") fields.now step
+        → IsRead step result }
 {
     let Some((site, body)) = site_before(fields) else {
         return Err(LineFault::Bad);
@@ -173,8 +177,9 @@ fn read_intake<'a>(alloc: Global, fields: &[u8]) -> Result<Step<'a>, LineFault>
 
 /// `SITE FRONT` or `SITE @SITE`
 fn read_send<'a>(alloc: Global, fields: &[u8]) -> Result<Step<'a>, LineFault>
-    ensures says { (gate : Option GateRules) → IfOk result (IsSaidAfter gate (codes "send") fields.now) }
-    ensures only { (gate : Option GateRules) → (step : Step) → IsSaidAfter gate (codes "send") fields.now step → IsRead step result }
+    ensures says { (gate : Option GateRules) → IfOk result (IsReadAfter gate (codes "send") fields.now) }
+    ensures only { (gate : Option GateRules) → (step : Step) → IsReadAfter gate (codes "send") fields.now step
+        → IsRead step result }
 {
     let Some((site, front)) = site_before(fields) else {
         return Err(LineFault::Bad);
@@ -212,8 +217,9 @@ fn line_fault(fault: &OpTextFault) -> LineFault
 
 /// `SITE START`
 fn read_restart<'a>(fields: &[u8]) -> Result<Step<'a>, LineFault>
-    ensures says { (gate : Option GateRules) → IfOk result (IsSaidAfter gate (codes "restart") fields.now) }
-    ensures only { (gate : Option GateRules) → (step : Step) → IsSaidAfter gate (codes "restart") fields.now step → IsRead step result }
+    ensures says { (gate : Option GateRules) → IfOk result (IsReadAfter gate (codes "restart") fields.now) }
+    ensures only { (gate : Option GateRules) → (step : Step) → IsReadAfter gate (codes "restart") fields.now step
+        → IsRead step result }
 {
     let Some((site, start)) = site_before(fields) else {
         return Err(LineFault::Bad);
@@ -227,8 +233,9 @@ fn read_restart<'a>(fields: &[u8]) -> Result<Step<'a>, LineFault>
 
 /// `PACKET SITE`
 fn read_deliver<'a>(fields: &[u8]) -> Result<Step<'a>, LineFault>
-    ensures says { (gate : Option GateRules) → IfOk result (IsSaidAfter gate (codes "deliver") fields.now) }
-    ensures only { (gate : Option GateRules) → (step : Step) → IsSaidAfter gate (codes "deliver") fields.now step → IsRead step result }
+    ensures says { (gate : Option GateRules) → IfOk result (IsReadAfter gate (codes "deliver") fields.now) }
+    ensures only { (gate : Option GateRules) → (step : Step) → IsReadAfter gate (codes "deliver") fields.now step
+        → IsRead step result }
 {
     let Some((packet, site)) = number_before(fields, u64::MAX) else {
         return Err(LineFault::Bad);

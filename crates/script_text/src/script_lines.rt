@@ -39,7 +39,8 @@ impl<'a> ScriptLines<'a> {
 
     /// The next line that says something.
     pub fn next_line(&mut self) -> Option<(u64, &'a [u8])>
-        ensures { MatchOption result ((self.old ≡ []) × (self.new ≡ [])) (λ line. self.old ≡ (line.0, line.1.now) ∷ self.new) }
+        ensures { MatchOption result ((self.old ≡ []) × (self.new ≡ []))
+            (λ line. self.old ≡ (line.0, line.1.now) ∷ self.new) }
     {
         while let Some(line) = self.lines.next_line() {
             self.number += 1;

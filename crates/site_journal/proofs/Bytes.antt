@@ -1,5 +1,6 @@
 -- Lists of bytes that are cut at line ends.
-use Rattle.std.proofs.Common.{◌≡◌, ◌≢◌, ◌⊎◌, inl, inr, ℕ, ◌≤◌, List, [], ◌∷◌, ◌++◌, length, refl, sym, ap, ◌∙◌, arith, append_assoc, append-nil, length-append}
+use Rattle.std.proofs.Common.{◌≡◌, ◌≢◌, ◌⊎◌, inl, inr, ℕ, ◌≤◌, List, [], ◌∷◌, ◌++◌, length, refl, sym, ap, ◌∙◌, arith}
+use Rattle.std.proofs.Common.{append_assoc, append-nil, length-append}
 use Rattle.std.specs.List.{AllByRecursion}
 use Rattle.std.proofs.lemmas.List.Elements.{All-from_recursion, recursion_from_All}
 use Rattle.byte_ends.specs.Lines.{as_line}
@@ -36,7 +37,8 @@ first_line (x ∷ p) (y ∷ q) r s a b e =
     let same = rest.0 in (cc, rest.1)
 
 -- a front of a text ends within its first line, or after it
-pub within_line : (q w a b : List ℕ) → Plain q → as_line q ++ w ≡ a ++ b → ((c : List ℕ) × (a ≡ as_line q ++ c) × (w ≡ c ++ b)) ⊎ ((c : List ℕ) × (q ≡ a ++ c))
+pub within_line : (q w a b : List ℕ) → Plain q → as_line q ++ w ≡ a ++ b
+    → ((c : List ℕ) × (a ≡ as_line q ++ c) × (w ≡ c ++ b)) ⊎ ((c : List ℕ) × (q ≡ a ++ c))
 within_line [] w [] b plain e = inr ([], refl)
 within_line [] w (x ∷ a) b plain e = inl (a, cc, cc)
 within_line (y ∷ q) w [] b plain e = inr (y ∷ q, refl)

@@ -1,5 +1,6 @@
 -- What a crash leaves of lines that were being written.
-use Rattle.std.proofs.Common.{◌≡◌, ◌⊎◌, inl, inr, ℕ, suc, List, [], ◌∷◌, ◌++◌, length, map, take, refl, sym, ap, ◌∙◌, subst, arith, append_assoc, append-nil, length-append}
+use Rattle.std.proofs.Common.{◌≡◌, ◌⊎◌, inl, inr, ℕ, suc, List, [], ◌∷◌, ◌++◌, length, map, take, refl, sym, ap, ◌∙◌}
+use Rattle.std.proofs.Common.{subst, arith, append_assoc, append-nil, length-append}
 use Rattle.byte_ends.specs.Lines.{as_line}
 use Rattle.review_ops.specs.Operation.{Operation}
 use Rattle.review_ops.specs.Timestamp.{IsNumbered}
@@ -25,7 +26,8 @@ pub record Front (ops : List Operation) (text : List ℕ) : Type 0 where
 none : (ops : List Operation) (rest : List ℕ) → IsTorn rest → Front ops rest
 none ops rest torn = record { pieces = []; count = 0; rest = rest; whole = refl; says = tt; torn = torn }
 
-pub front_of_lines : (qs : List (List ℕ)) (ops : List Operation) (a b : List ℕ) → SayOperations qs ops → whole_lines qs ≡ a ++ b → Front ops a
+pub front_of_lines : (qs : List (List ℕ)) (ops : List Operation) (a b : List ℕ) → SayOperations qs ops
+    → whole_lines qs ≡ a ++ b → Front ops a
 front_of_lines [] ops [] b says e = none ops [] (record { plain = has_none [] tt; short = omega arith })
 front_of_lines [] ops (x ∷ a) b says e = cc
 front_of_lines (q ∷ qs) [] a b says e = absurd says
@@ -36,7 +38,8 @@ front_of_lines (q ∷ qs) (op ∷ ops) a b says e =
             pieces = q ∷ later.pieces;
             count = suc later.count;
             rest = later.rest;
-            whole = found.1 ∙ ap (λ l. as_line q ++ l) later.whole ∙ sym (append_assoc (as_line q) (whole_lines later.pieces) later.rest);
+            whole = found.1 ∙ ap (λ l. as_line q ++ l) later.whole
+                ∙ sym (append_assoc (as_line q) (whole_lines later.pieces) later.rest);
             says = (says.0, later.says);
             torn = later.torn;
           }
@@ -47,7 +50,8 @@ front_of_lines (q ∷ qs) (op ∷ ops) a b says e =
     ]
 
 -- lines before it
-pub says_front : (text left more : List ℕ) (ops later : List Operation) → Says text ops [] → left ≡ text ++ more → (front : Front later more) → Says left (ops ++ take front.count later) front.rest
+pub says_front : (text left more : List ℕ) (ops later : List Operation) → Says text ops [] → left ≡ text ++ more
+    → (front : Front later more) → Says left (ops ++ take front.count later) front.rest
 says_front text left more ops later says e front = record {
   pieces = says.pieces ++ front.pieces;
   whole = e ∙ ap (λ l. l ++ more) (says.whole ∙ ap (λ l. header_line ++ l) (append-nil (whole_lines says.pieces)))
@@ -61,8 +65,10 @@ says_front text left more ops later says e front = record {
 
 module _ (line : (op : Operation) → IsNumbered op.stamp → IsGood op.deed → IsOneLine (operation_text op))
     (spells : (op : Operation) → IsNumbered op.stamp → IsGood op.deed → SpellsOperation (operation_text op) op) where
-  pub crash_of_lines : (text left : List ℕ) (ops more : List Operation) → Says text ops [] → AreSound more → AreShort more
-      → IsPrefix text left → IsPrefix left (text ++ operation_lines more) → (count : ℕ) × (rest : List ℕ) × Says left (ops ++ take count more) rest
+  pub crash_of_lines : (text left : List ℕ) (ops more : List Operation) → Says text ops [] → AreSound more
+      → AreShort more
+      → IsPrefix text left → IsPrefix left (text ++ operation_lines more)
+      → (count : ℕ) × (rest : List ℕ) × Says left (ops ++ take count more) rest
   crash_of_lines text left ops more says sound short least most =
       let whole : text ++ operation_lines more ≡ text ++ (least.0 ++ most.0) = most.1 ∙ ap (λ l. l ++ most.0) least.1 ∙ append_assoc text least.0 most.0 in
       let back : whole_lines (map operation_text more) ≡ least.0 ++ most.0 = sym (lines_are_whole more) ∙ same_back text (operation_lines more) (least.0 ++ most.0) whole in

@@ -1,5 +1,7 @@
 -- The fronts of its bytes that a tape in memory has.
-use Rattle.std.proofs.Common.{◌≡◌, ℕ, suc, zero, ◌+◌, ◌-◌, ◌≤◌, min, Bool, true, false, List, [], ◌∷◌, ◌++◌, length, take, drop, if◌then◌else◌, refl, sym, ap, ◌∙◌, subst, arith, append_assoc, append-nil, take-append-drop}
+use Rattle.std.proofs.Common.{◌≡◌, ℕ, suc, zero, ◌+◌, ◌-◌, ◌≤◌, min, Bool, true, false, List, [], ◌∷◌, ◌++◌, length}
+use Rattle.std.proofs.Common.{take, drop, if◌then◌else◌, refl, sym, ap, ◌∙◌, subst, arith, append_assoc, append-nil}
+use Rattle.std.proofs.Common.{take-append-drop}
 use Rattle.std.proofs.lemmas.List.{take_all, take-append-le, length-take, length-drop, drop-take}
 use Rattle.std.proofs.Math.Seq.{drop-nil}
 use Rattle.site_journal.specs.Prefixes.{IsPrefix}
@@ -23,12 +25,14 @@ front_of : (n m : ℕ) (xs : List ℕ) → n ≤ m → IsPrefix (take n xs) (tak
 front_of n m xs le = subst (λ l. IsPrefix l (take m xs)) (takes n n m xs (omega (arith, le))) (front_is n (take m xs))
 
 abbrev pub shown : List ℕ → ℕ → ℕ → Bool → Image
-shown xs len synced doubted = record { contents = take len xs; synced = take synced xs; written = xs; doubted = doubted }
+shown xs len synced doubted =
+    record { contents = take len xs; synced = take synced xs; written = xs; doubted = doubted }
 
 -- ---- a sync
 
 pub settled : (xs ys : List ℕ) (synced len : ℕ) (doubted : Bool) → synced ≤ len → ys ≡ take len xs
-    → Steadies (shown xs len synced doubted) (shown ys len len doubted) × (doubted ≡ false → IsSettled (shown ys len len doubted))
+    → Steadies (shown xs len synced doubted) (shown ys len len doubted)
+    × (doubted ≡ false → IsSettled (shown ys len len doubted))
 settled xs ys synced len doubted le e =
     let same : take len ys ≡ take len xs = ap (take len) e ∙ takes len len len xs (omega arith) in (
       record {
@@ -41,7 +45,8 @@ settled xs ys synced len doubted le e =
 
 -- ---- a cut
 
-pub uncut : (xs : List ℕ) (len old synced : ℕ) (doubted : Bool) → Shrinks len (shown xs old synced doubted) (shown xs old synced doubted)
+pub uncut : (xs : List ℕ) (len old synced : ℕ) (doubted : Bool)
+    → Shrinks len (shown xs old synced doubted) (shown xs old synced doubted)
 uncut xs len old synced doubted = record {
   least = front_is len (take old xs);
   most = prefix-refl (take old xs);
@@ -50,7 +55,8 @@ uncut xs len old synced doubted = record {
   doubted = refl;
 }
 
-pub cut_to : (xs : List ℕ) (len old synced synced' : ℕ) (doubted : Bool) → len ≤ length (take old xs) → synced' ≡ min synced len
+pub cut_to : (xs : List ℕ) (len old synced synced' : ℕ) (doubted : Bool) → len ≤ length (take old xs)
+    → synced' ≡ min synced len
     → Shrinks len (shown xs old synced doubted) (shown xs len synced' doubted) × (take len xs ≡ take len (take old xs))
 cut_to xs len old synced synced' doubted le e =
     let within : len ≤ old = omega (arith, le, length-take old xs) in
@@ -58,7 +64,8 @@ cut_to xs len old synced synced' doubted le e =
       record {
         least = subst (IsPrefix (take len (take old xs))) same (prefix-refl (take len (take old xs)));
         most = front_of len old xs within;
-        synced = subst (IsPrefix (take len (take synced xs))) (takes synced' len synced xs e) (prefix-refl (take len (take synced xs)));
+        synced = subst (IsPrefix (take len (take synced xs))) (takes synced' len synced xs e)
+            (prefix-refl (take len (take synced xs)));
         written = prefix-refl xs;
         doubted = refl;
       },
@@ -67,12 +74,15 @@ cut_to xs len old synced synced' doubted le e =
 
 -- ---- an append that tears
 
-torn_part : (is_done : Bool) (xs part : List ℕ) → (rest : List ℕ) × ((if is_done then xs ++ part else xs) ≡ xs ++ rest) × IsPrefix rest part
+torn_part : (is_done : Bool) (xs part : List ℕ)
+    → (rest : List ℕ) × ((if is_done then xs ++ part else xs) ≡ xs ++ rest) × IsPrefix rest part
 torn_part true xs part = (part, refl, prefix-refl part)
 torn_part false xs part = ([], sym (append-nil xs), (part, refl))
 
-pub torn : (is_done : Bool) (xs ys bytes part : List ℕ) (len synced n len' : ℕ) (doubted : Bool) → xs ≡ take len xs → synced ≤ length xs → part ≡ take n bytes
-    → ys ≡ (if is_done then xs ++ part else xs) → len' ≡ length ys → Grows bytes (shown xs len synced doubted) (shown ys len' synced doubted)
+pub torn : (is_done : Bool) (xs ys bytes part : List ℕ) (len synced n len' : ℕ) (doubted : Bool) → xs ≡ take len xs
+    → synced ≤ length xs → part ≡ take n bytes
+    → ys ≡ (if is_done then xs ++ part else xs) → len' ≡ length ys
+    → Grows bytes (shown xs len synced doubted) (shown ys len' synced doubted)
 torn is_done xs ys bytes part len synced n len' doubted whole le cut e count =
     let p = torn_part is_done xs part in
     let is : ys ≡ xs ++ p.0 = e ∙ p.1 in
@@ -106,7 +116,8 @@ drop_to (suc k) (suc j) [] e = absurd (omega (arith, e))
 drop_to zero (suc j) (x ∷ xs) e = absurd (omega (arith, e))
 drop_to (suc k) (suc j) (x ∷ xs) e = drop_to k j xs (omega (arith, e))
 
-module _ (xs slice rest : List ℕ) (at at' len count : ℕ) (within : len ≤ length xs) (least : at' ≡ min at len) (cut : slice ≡ take (len - at') (drop at' xs)) (after : rest ≡ drop count slice) where
+module _ (xs slice rest : List ℕ) (at at' len count : ℕ) (within : len ≤ length xs) (least : at' ≡ min at len)
+    (cut : slice ≡ take (len - at') (drop at' xs)) (after : rest ≡ drop count slice) where
   all_length : length (take len xs) ≡ len
   all_length = length-take len xs ∙ omega (arith, within)
 
@@ -122,7 +133,8 @@ module _ (xs slice rest : List ℕ) (at at' len count : ℕ) (within : len ≤ l
       (omega (arith, ap length rest_is, length-drop (at' + count) (take len xs), all_length))
       ∙ sym rest_is
 
-  pub read_front : (part : List ℕ) → slice ≡ part ++ rest → drop at (take len xs) ≡ part ++ drop (len - length rest) (take len xs)
+  pub read_front : (part : List ℕ) → slice ≡ part ++ rest
+      → drop at (take len xs) ≡ part ++ drop (len - length rest) (take len xs)
   read_front part is =
       sym (drop_to at' at (take len xs) (omega (arith, least, all_length)))
       ∙ sym slice_is ∙ is ∙ ap (λ l. part ++ l) (sym left_is)

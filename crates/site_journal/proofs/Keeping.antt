@@ -1,5 +1,6 @@
 -- What the calls of a tape do to what is kept, one after the other.
-use Rattle.std.proofs.Common.{◌≡◌, ℕ, ◌+◌, ◌<◌, ◌≤◌, Bool, true, false, List, [], ◌∷◌, ◌++◌, Option, Some, None, Result, length, take, get_or, refl, sym, ap, ◌∙◌, subst, arith, append-nil, length-append}
+use Rattle.std.proofs.Common.{◌≡◌, ℕ, ◌+◌, ◌<◌, ◌≤◌, Bool, true, false, List, [], ◌∷◌, ◌++◌, Option, Some, None, Result}
+use Rattle.std.proofs.Common.{length, take, get_or, refl, sym, ap, ◌∙◌, subst, arith, append-nil, length-append}
 use Rattle.std.specs.Prelude.{IfSome}
 use Rattle.std.proofs.lemmas.List.{take_at, take_all, take_more}
 use Rattle.byte_ends.specs.Failures.{most_failures, OneFailed, NoneFailed}
@@ -21,13 +22,15 @@ same_ends xs ys a b = by_rest a.0 a.1
   where
     by_rest : (rest : List ℕ) → ys ≡ xs ++ rest → ys ≡ xs
     by_rest [] e = e ∙ append-nil xs
-    by_rest (x ∷ rest) e = absurd (omega (arith, ap length e, length-append xs (x ∷ rest), ap length b.1, length-append ys b.0))
+    by_rest (x ∷ rest) e =
+        absurd (omega (arith, ap length e, length-append xs (x ∷ rest), ap length b.1, length-append ys b.0))
 
 take_front : (front rest whole : List ℕ) (len : ℕ) → whole ≡ front ++ rest → len ≡ length front → take len whole ≡ front
 take_front front rest whole len e n = ap (λ k. take k whole) n ∙ ap (take (length front)) e ∙ take_at front rest _ refl
 
--- ---- what is told through two calls
-pub changes_trans : (a b c : Option Image) (P Q R : Image → Image → Type 0) → Changes a b P → Changes b c Q → ((i j k : Image) → P i j → Q j k → R i k) → Changes a c R
+-- ---- what is known through two calls
+pub changes_trans : (a b c : Option Image) (P Q R : Image → Image → Type 0) → Changes a b P → Changes b c Q
+    → ((i j k : Image) → P i j → Q j k → R i k) → Changes a c R
 changes_trans None None None P Q R p q f = tt
 changes_trans None None (Some k) P Q R p q f = absurd q
 changes_trans None (Some j) c P Q R p q f = absurd p
@@ -35,13 +38,15 @@ changes_trans (Some i) None c P Q R p q f = absurd p
 changes_trans (Some i) (Some j) None P Q R p q f = absurd q
 changes_trans (Some i) (Some j) (Some k) P Q R p q f = f i j k p q
 
-pub changes_from : (a b : Option Image) (H : Image → Type 0) (P Q : Image → Image → Type 0) → IfSome a H → Changes a b P → ((i j : Image) → H i → P i j → Q i j) → Changes a b Q
+pub changes_from : (a b : Option Image) (H : Image → Type 0) (P Q : Image → Image → Type 0) → IfSome a H → Changes a b P
+    → ((i j : Image) → H i → P i j → Q i j) → Changes a b Q
 changes_from None None H P Q h p f = tt
 changes_from None (Some j) H P Q h p f = absurd p
 changes_from (Some i) None H P Q h p f = absurd p
 changes_from (Some i) (Some j) H P Q h p f = f i j h p
 
-pub some_after : (a b : Option Image) (H : Image → Type 0) (P : Image → Image → Type 0) (G : Image → Type 0) → IfSome a H → Changes a b P → ((i j : Image) → H i → P i j → G j) → IfSome b G
+pub some_after : (a b : Option Image) (H : Image → Type 0) (P : Image → Image → Type 0) (G : Image → Type 0)
+    → IfSome a H → Changes a b P → ((i j : Image) → H i → P i j → G j) → IfSome b G
 some_after None None H P G h p f = tt
 some_after None (Some j) H P G h p f = absurd p
 some_after (Some i) None H P G h p f = absurd p
@@ -57,12 +62,14 @@ module _ (len : ℕ) (lines : List ℕ) where
   abbrev At : Image → Type 0
   At i = IsSettled i × (length i.contents ≡ len)
 
-  pub undone : (done : Bool) → done ≡ true → (i j k : Image) → At i → Grows lines i j → TakesBack len done j k → IsSettled k × (k.contents ≡ i.contents)
+  pub undone : (done : Bool) → done ≡ true → (i j k : Image) → At i → Grows lines i j → TakesBack len done j k
+      → IsSettled k × (k.contents ≡ i.contents)
   undone done is i j k at grows back =
       let settled = back.settled is (grows.doubted ∙ at.0.trusted) in
       (settled.0, settled.1 ∙ take_front i.contents grows.begins.0 j.contents len grows.begins.1 (sym at.1))
 
-  pub kept : (i j k : Image) → At i → Grows lines i j → j.contents ≡ i.contents ++ lines → Steadies j k → (j.doubted ≡ false → IsSettled k) → IsSettled k × (k.contents ≡ i.contents ++ lines)
+  pub kept : (i j k : Image) → At i → Grows lines i j → j.contents ≡ i.contents ++ lines → Steadies j k
+      → (j.doubted ≡ false → IsSettled k) → IsSettled k × (k.contents ≡ i.contents ++ lines)
   kept i j k at grows whole sync settles = (settles (grows.doubted ∙ at.0.trusted), sync.contents ∙ whole)
 
   pub within : (i j : Image) → At i → Grows lines i j → len ≤ length j.contents
@@ -70,7 +77,8 @@ module _ (len : ℕ) (lines : List ℕ) where
 
 -- ---- lines of operations
 
-pub sound_next : (ops : List Operation) (i : ℕ) (op : Operation) → i < length ops → op ≡ get_or ops i op → IsNumbered op.stamp → IsGood op.deed → AreSound (take i ops) → AreSound (take (i + 1) ops)
+pub sound_next : (ops : List Operation) (i : ℕ) (op : Operation) → i < length ops → op ≡ get_or ops i op
+    → IsNumbered op.stamp → IsGood op.deed → AreSound (take i ops) → AreSound (take (i + 1) ops)
 sound_next ops i op within is numbered good sound =
     let here : IsSound op = record { numbered = numbered; good = good } in
     rw (take_more ops i op within) (push (take i ops) (get_or ops i op) sound (subst IsSound is here))
@@ -79,11 +87,14 @@ sound_next ops i op within is numbered good sound =
     push [] x sound is = (is, tt)
     push (y ∷ xs) x sound is = (sound.0, push xs x sound.1 is)
 
-pub short_next : (ops : List Operation) (i : ℕ) (op : Operation) → i < length ops → op ≡ get_or ops i op → length (operation_text op) ≤ most_line → AreShort (take i ops) → AreShort (take (i + 1) ops)
+pub short_next : (ops : List Operation) (i : ℕ) (op : Operation) → i < length ops → op ≡ get_or ops i op
+    → length (operation_text op) ≤ most_line → AreShort (take i ops) → AreShort (take (i + 1) ops)
 short_next ops i op within is short all =
-    rw (take_more ops i op within) (push (take i ops) (get_or ops i op) all (subst (λ o. length (operation_text o) ≤ most_line) is short))
+    rw (take_more ops i op within)
+    (push (take i ops) (get_or ops i op) all (subst (λ o. length (operation_text o) ≤ most_line) is short))
   where
-    push : (xs : List Operation) (x : Operation) → AreShort xs → length (operation_text x) ≤ most_line → AreShort (xs ++ x ∷ [])
+    push : (xs : List Operation) (x : Operation) → AreShort xs → length (operation_text x) ≤ most_line
+        → AreShort (xs ++ x ∷ [])
     push [] x sound is = (is, tt)
     push (y ∷ xs) x sound is = (sound.0, push xs x sound.1 is)
 
@@ -109,33 +120,41 @@ module _ (before ops : List Operation) where
         all = λ all. absurd (never all);
       }
 
-  pub same_survives : (are_all : Type 0) → (are_all → ⊥) → (image : Option Image) → IfSome image Held → IfSome image (Survives are_all)
+  pub same_survives : (are_all : Type 0) → (are_all → ⊥) → (image : Option Image) → IfSome image Held
+      → IfSome image (Survives are_all)
   same_survives are_all never image held = some_weaker image Held (Survives are_all) (left_same are_all never) held
 
-  pub undone_survives : (are_all : Type 0) → (are_all → ⊥) → (old mid new : Option Image) → mid ≡ old → IfSome old Held → Changes mid new (λ i j. IsSettled j × (j.contents ≡ i.contents)) → IfSome new (Survives are_all)
+  pub undone_survives : (are_all : Type 0) → (are_all → ⊥) → (old mid new : Option Image) → mid ≡ old → IfSome old Held
+      → Changes mid new (λ i j. IsSettled j × (j.contents ≡ i.contents)) → IfSome new (Survives are_all)
   undone_survives are_all never old mid new same held changes =
-      some_after mid new Held (λ i j. IsSettled j × (j.contents ≡ i.contents)) (Survives are_all) (subst (λ o. IfSome o Held) (sym same) held) changes
+      some_after mid new Held (λ i j. IsSettled j × (j.contents ≡ i.contents)) (Survives are_all)
+      (subst (λ o. IfSome o Held) (sym same) held) changes
       (λ i j h w. left_same are_all never j (w.0, subst (λ l. Says l before []) (sym w.1) h.1))
 
   module _ (more : (text : List ℕ) → Says text before [] → Says (text ++ operation_lines ops) (before ++ ops) []) where
-    left_kept : (are_all : Type 0) (i j : Image) → Held i → IsSettled j → j.contents ≡ i.contents ++ operation_lines ops → Survives are_all j
+    left_kept : (are_all : Type 0) (i j : Image) → Held i → IsSettled j → j.contents ≡ i.contents ++ operation_lines ops
+        → Survives are_all j
     left_kept are_all i j held settled whole left is =
         let same : left ≡ j.contents =
         same_ends j.contents left (subst (λ l. IsPrefix l left) settled.synced is.least) (subst (λ l. IsPrefix left l) settled.written is.most) in record {
           count = length ops;
           rest = [];
-          says = subst (λ l. Says left (before ++ l) []) (sym (take_all (length ops) ops (omega arith))) (subst (λ l. Says l (before ++ ops) []) (sym (same ∙ whole)) (more i.contents held.1));
+          says = subst (λ l. Says left (before ++ l) []) (sym (take_all (length ops) ops (omega arith)))
+              (subst (λ l. Says l (before ++ ops) []) (sym (same ∙ whole)) (more i.contents held.1));
           all = λ all. refl;
         }
 
-    pub kept_survives : (are_all : Type 0) (bytes : List ℕ) → bytes ≡ operation_lines ops → (old mid new : Option Image) → mid ≡ old → IfSome old Held
+    pub kept_survives : (are_all : Type 0) (bytes : List ℕ) → bytes ≡ operation_lines ops → (old mid new : Option Image)
+        → mid ≡ old → IfSome old Held
         → Changes mid new (λ i j. IsSettled j × (j.contents ≡ i.contents ++ bytes)) → IfSome new (Survives are_all)
     kept_survives are_all bytes is old mid new same held changes =
-        some_after mid new Held (λ i j. IsSettled j × (j.contents ≡ i.contents ++ bytes)) (Survives are_all) (subst (λ o. IfSome o Held) (sym same) held) changes
+        some_after mid new Held (λ i j. IsSettled j × (j.contents ≡ i.contents ++ bytes)) (Survives are_all)
+        (subst (λ o. IfSome o Held) (sym same) held) changes
         (λ i j h w. left_kept are_all i j h w.0 (w.1 ∙ ap (λ l. i.contents ++ l) is))
 
   module _ (lines : (text left : List ℕ) → Says text before [] → IsPrefix text left → IsPrefix left (text ++ operation_lines ops) → (count : ℕ) × (rest : List ℕ) × Says left (before ++ take count ops) rest) where
-    left_doubtful : (are_all : Type 0) → (are_all → ⊥) → (i j : Image) → Held i → IsPrefix i.contents j.synced → IsPrefix j.written (i.contents ++ operation_lines ops) → Survives are_all j
+    left_doubtful : (are_all : Type 0) → (are_all → ⊥) → (i j : Image) → Held i → IsPrefix i.contents j.synced
+        → IsPrefix j.written (i.contents ++ operation_lines ops) → Survives are_all j
     left_doubtful are_all never i j held least most left is =
         let found = lines i.contents left held.1 (prefix-trans i.contents j.synced left least is.least) (prefix-trans left j.written (i.contents ++ operation_lines ops) is.most most) in record {
           count = found.0;
@@ -144,8 +163,11 @@ module _ (before ops : List Operation) where
           all = λ all. absurd (never all);
         }
 
-    pub doubtful_survives : (are_all : Type 0) → (are_all → ⊥) → (bytes : List ℕ) → bytes ≡ operation_lines ops → (old mid new : Option Image) → mid ≡ old → IfSome old Held
-        → Changes mid new (λ i j. IsPrefix i.contents j.synced × IsPrefix j.written (i.contents ++ bytes)) → IfSome new (Survives are_all)
+    pub doubtful_survives : (are_all : Type 0) → (are_all → ⊥) → (bytes : List ℕ) → bytes ≡ operation_lines ops
+        → (old mid new : Option Image) → mid ≡ old → IfSome old Held
+        → Changes mid new (λ i j. IsPrefix i.contents j.synced × IsPrefix j.written (i.contents ++ bytes))
+        → IfSome new (Survives are_all)
     doubtful_survives are_all never bytes is old mid new same held changes =
-        some_after mid new Held (λ i j. IsPrefix i.contents j.synced × IsPrefix j.written (i.contents ++ bytes)) (Survives are_all) (subst (λ o. IfSome o Held) (sym same) held) changes
+        some_after mid new Held (λ i j. IsPrefix i.contents j.synced × IsPrefix j.written (i.contents ++ bytes))
+        (Survives are_all) (subst (λ o. IfSome o Held) (sym same) held) changes
         (λ i j h w. left_doubtful are_all never i j h w.0 (subst (λ l. IsPrefix j.written (i.contents ++ l)) is w.1))

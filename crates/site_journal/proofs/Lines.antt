@@ -1,5 +1,6 @@
 -- What the lines of a journal say, line by line.
-use Rattle.std.proofs.Common.{◌≡◌, ◌≢◌, ℕ, ◌≤◌, List, [], ◌∷◌, ◌++◌, length, map, refl, sym, ap, ◌∙◌, subst, arith, append_assoc, append-nil, length-append}
+use Rattle.std.proofs.Common.{◌≡◌, ◌≢◌, ℕ, ◌≤◌, List, [], ◌∷◌, ◌++◌, length, map, refl, sym, ap, ◌∙◌, subst, arith}
+use Rattle.std.proofs.Common.{append_assoc, append-nil, length-append}
 use Rattle.std.proofs.lemmas.Grind.{flat_map-append}
 use Rattle.std.proofs.lemmas.List.Elements.{All-weaker}
 use Rattle.byte_ends.specs.Lines.{as_line}
@@ -10,10 +11,12 @@ use Rattle.op_text.specs.Spelling.{SpellsOperation}
 use Rattle.op_text.specs.Text.{operation_text, IsOneLine}
 use Rattle.snapshot_text.specs.Snapshot.{operation_lines}
 use Rattle.snapshot_text.specs.Sound.{AreSound}
-use Rattle.site_journal.specs.Text.{header_line, journal_text, whole_lines, AreShort, SayOperations, IsTorn, Says, IsFresh}
+use Rattle.site_journal.specs.Text.{header_line, journal_text, whole_lines, AreShort, SayOperations, IsTorn, Says}
+use Rattle.site_journal.specs.Text.{IsFresh}
 use Rattle.site_journal.proofs.Bytes.{Plain, plain_of, has_none, no_line_end, first_line, same_back}
 
-pub say-append : (ps qs : List (List ℕ)) (ops more : List Operation) → SayOperations ps ops → SayOperations qs more → SayOperations (ps ++ qs) (ops ++ more)
+pub say-append : (ps qs : List (List ℕ)) (ops more : List Operation) → SayOperations ps ops → SayOperations qs more
+    → SayOperations (ps ++ qs) (ops ++ more)
 say-append [] qs [] more a b = b
 say-append [] qs (o ∷ ops) more a b = absurd a
 say-append (p ∷ ps) qs [] more a b = absurd a
@@ -29,7 +32,8 @@ whole-push ps p = whole-append ps (p ∷ []) ∙ ap (λ l. whole_lines ps ++ l) 
 -- there are as many bytes as lines, or more
 pub whole-length : (ps : List (List ℕ)) → length ps ≤ length (whole_lines ps)
 whole-length [] = omega arith
-whole-length (p ∷ ps) = omega (arith, whole-length ps, length-append (as_line p) (whole_lines ps), length-append p (10 ∷ []))
+whole-length (p ∷ ps) =
+    omega (arith, whole-length ps, length-append (as_line p) (whole_lines ps), length-append p (10 ∷ []))
 
 -- ---- what is written
 
@@ -44,18 +48,21 @@ module _ (line : (op : Operation) → IsNumbered op.stamp → IsGood op.deed →
   written_say [] sound short = tt
   written_say (op ∷ ops) sound short = (
     record {
-      plain = All-weaker (λ byte. 32 ≤ byte) (λ byte. byte ≢ 10) (λ byte high is. omega arith) (operation_text op) (line op sound.0.numbered sound.0.good).plain;
+      plain = All-weaker (λ byte. 32 ≤ byte) (λ byte. byte ≢ 10) (λ byte high is. omega arith) (operation_text op)
+          (line op sound.0.numbered sound.0.good).plain;
       short = short.0;
       spells = spells op sound.0.numbered sound.0.good;
     },
     written_say ops sound.1 short.1,
   )
 
-  pub says_more : (text : List ℕ) (ops more : List Operation) → Says text ops [] → AreSound more → AreShort more → Says (text ++ operation_lines more) (ops ++ more) []
+  pub says_more : (text : List ℕ) (ops more : List Operation) → Says text ops [] → AreSound more → AreShort more
+      → Says (text ++ operation_lines more) (ops ++ more) []
   says_more text ops more says sound short =
       let texts = map operation_text more in record {
         pieces = says.pieces ++ texts;
-        whole = ap (λ l. l ++ operation_lines more) (says.whole ∙ ap (λ l. header_line ++ l) (append-nil (whole_lines says.pieces)))
+        whole = ap (λ l. l ++ operation_lines more)
+            (says.whole ∙ ap (λ l. header_line ++ l) (append-nil (whole_lines says.pieces)))
             ∙ append_assoc header_line (whole_lines says.pieces) (operation_lines more)
             ∙ ap (λ l. header_line ++ (whole_lines says.pieces ++ l)) (lines_are_whole more)
             ∙ ap (λ l. header_line ++ l) (sym (whole-append says.pieces texts))
@@ -78,7 +85,8 @@ module _ (line : (op : Operation) → IsNumbered op.stamp → IsGood op.deed →
 -- ---- one reading
 
 module _ (once : (text : List ℕ) (op other : Operation) → SpellsOperation text op → SpellsOperation text other → op ≡ other) where
-  same_lines : (ps qs : List (List ℕ)) (ops others : List Operation) (r s : List ℕ) → SayOperations ps ops → SayOperations qs others → Plain r → Plain s
+  same_lines : (ps qs : List (List ℕ)) (ops others : List Operation) (r s : List ℕ) → SayOperations ps ops
+      → SayOperations qs others → Plain r → Plain s
       → whole_lines ps ++ r ≡ whole_lines qs ++ s → (ops ≡ others) × (r ≡ s)
   same_lines [] [] [] [] r s a b pr ps' e = (refl, e)
   same_lines [] [] [] (o ∷ others) r s a b pr ps' e = absurd b
@@ -90,17 +98,21 @@ module _ (once : (text : List ℕ) (op other : Operation) → SpellsOperation te
   same_lines (p ∷ ps) (q ∷ qs) [] others r s a b pr ps' e = absurd a
   same_lines (p ∷ ps) (q ∷ qs) (o ∷ ops) [] r s a b pr ps' e = absurd b
   same_lines (p ∷ ps) (q ∷ qs) (o ∷ ops) (x ∷ others) r s a b pr ps' e =
-      let both = first_line p q (whole_lines ps ++ r) (whole_lines qs ++ s) (plain_of p a.0.plain) (plain_of q b.0.plain)
+      let both = first_line p q (whole_lines ps ++ r) (whole_lines qs ++ s) (plain_of p a.0.plain)
+      (plain_of q b.0.plain)
       (sym (append_assoc (as_line p) (whole_lines ps) r) ∙ e ∙ append_assoc (as_line q) (whole_lines qs) s) in
       let rest = same_lines ps qs ops others r s a.1 b.1 pr ps' both.1 in
       let head : o ≡ x = once p o x a.0.spells (subst (λ t. SpellsOperation t x) (sym both.0) b.0.spells) in
       let tail : ops ≡ others = rest.0 in (cc, rest.1)
 
-  pub one_reading : (text : List ℕ) (ops others : List Operation) (rest other : List ℕ) → Says text ops rest → Says text others other → (ops ≡ others) × (rest ≡ other)
+  pub one_reading : (text : List ℕ) (ops others : List Operation) (rest other : List ℕ) → Says text ops rest
+      → Says text others other → (ops ≡ others) × (rest ≡ other)
   one_reading text ops others rest other a b =
       let whole : header_line ++ (whole_lines a.pieces ++ rest) ≡ header_line ++ (whole_lines b.pieces ++ other) = sym a.whole ∙ b.whole in
       let bodies : whole_lines a.pieces ++ rest ≡ whole_lines b.pieces ++ other = same_back header_line (whole_lines a.pieces ++ rest) (whole_lines b.pieces ++ other) whole in
-      same_lines a.pieces b.pieces ops others rest other a.says b.says (plain_of rest a.torn.plain) (plain_of other b.torn.plain) bodies
+      same_lines a.pieces b.pieces ops others rest other a.says b.says (plain_of rest a.torn.plain)
+      (plain_of other b.torn.plain) bodies
 
 pub not_fresh : (text : List ℕ) (ops : List Operation) (rest : List ℕ) → Says text ops rest → ¬ IsFresh text
-not_fresh text ops rest says fresh = let few = fresh.1 in omega (arith, ap length says.whole, length-append header_line (whole_lines says.pieces ++ rest), few)
+not_fresh text ops rest says fresh = let few = fresh.1 in omega
+    (arith, ap length says.whole, length-append header_line (whole_lines says.pieces ++ rest), few)

@@ -14,7 +14,7 @@ use Rattle.site_journal.specs.declared.fault.KeepFault.TheVariants.{NoMemory, To
 
 -- ---- opening
 
--- what stands of a text once it was opened: its whole lines, or the first line alone; and what that says
+-- what is left of a text once it was opened: its whole lines, or the first line alone; and what that says
 pub record IsOpened (text : List ℕ) (journal : List Operation) (lost : ℕ) (after : List ℕ) : Type 0 where
   pub ops : List Operation
   pub rest : List ℕ
@@ -35,7 +35,7 @@ IsUnharmed old new =
 -- ---- keeping
 
 pub record Book : Type 0 where
-  -- what its tape has, as far as it is told
+  -- what its tape has, as far as it is known
   pub image : Option Image
   -- how many calls of its tape have failed
   pub failed : ℕ
@@ -51,7 +51,8 @@ pub record IsHolding (book : Book) (ops : List Operation) : Type 0 where
 pub record IsKept (old : Book) (ops : List Operation) (new : Book) : Type 0 where
   pub before : old.is_spoiled ≡ false
   pub sound : new.is_spoiled ≡ false
-  pub added : Changes old.image new.image (λ i j. IsSettled i × IsSettled j × (j.contents ≡ i.contents ++ operation_lines ops))
+  pub added : Changes old.image new.image
+      (λ i j. IsSettled i × IsSettled j × (j.contents ≡ i.contents ++ operation_lines ops))
 
 -- nothing was written, or what was written was taken back and that is synced, or the journal is spoiled
 abbrev pub IsNotKept : Book → KeepFault → Book → Type 0
@@ -62,7 +63,8 @@ IsNotKept old Failed new =
     (old.is_spoiled ≡ false) × (¬ NoneFailed old.failed new.failed)
     × (new.is_spoiled ≡ false → Changes old.image new.image (λ i j. IsSettled i × IsSettled j × (j.contents ≡ i.contents)))
 
--- what a crash leaves says all that was acknowledged, and then the first so many of these, all of them where they were acknowledged too
+-- what a crash leaves says all that was acknowledged, and then the first so many of these, all of them where they were
+-- acknowledged too
 pub record Recovers (acknowledged ops : List Operation) (are_all : Type 0) (left : List ℕ) : Type 0 where
   pub count : ℕ
   pub rest : List ℕ
@@ -71,7 +73,8 @@ pub record Recovers (acknowledged ops : List Operation) (are_all : Type 0) (left
 
 -- whatever a crash leaves, that is so
 abbrev pub SurvivesCrashes : Book → List Operation → List Operation → Type 0 → Type 0
-SurvivesCrashes book acknowledged ops are_all = IfSome book.image (λ i. (left : List ℕ) → IsLeftBy i left → Recovers acknowledged ops are_all left)
+SurvivesCrashes book acknowledged ops are_all =
+    IfSome book.image (λ i. (left : List ℕ) → IsLeftBy i left → Recovers acknowledged ops are_all left)
 
 -- unless it is spoiled all that its tape has is synced, and has this length
 abbrev pub IsSteady : Option Image → ℕ → Bool → Type 0

@@ -18,9 +18,11 @@ use Rattle.site_journal.specs.declared.fault.JournalFault.TheVariants.{BadHeader
 
 -- what begins with a line that isn't read, or with more bytes than a line has and no line end among them
 abbrev pub IsNoLine : List ℕ → LineCause → Type 0
-IsNoLine text cause.TooLong = (front later : List ℕ) × (text ≡ front ++ later) × HasNoLf front × (most_line < length front)
+IsNoLine text cause.TooLong =
+    (front later : List ℕ) × (text ≡ front ++ later) × HasNoLf front × (most_line < length front)
 IsNoLine text (cause.Text fault) =
-    (piece later : List ℕ) × (text ≡ as_line piece ++ later) × HasNoLf piece × IsCause piece fault × ((op : Operation) → ¬ SpellsOperation piece op)
+    (piece later : List ℕ) × (text ≡ as_line piece ++ later) × HasNoLf piece × IsCause piece fault
+    × ((op : Operation) → ¬ SpellsOperation piece op)
 
 -- after the first line come lines of operations, and then what is no line, as that of this number, from 1
 pub record IsBadLine (text : List ℕ) (number : ℕ) (why : LineCause) : Type 0 where
@@ -49,7 +51,7 @@ IsRefusal text TooLong = most_text < length text
 IsRefusal text Failed = Unit {0}
 IsRefusal text NoMemory = Unit {0}
 
--- a call that failed is told by a count of one more, and any other fault leaves the count
+-- after a call that failed the count is one more, and any other fault leaves it
 abbrev pub CountsFault : ℕ → ℕ → JournalFault → Type 0
 CountsFault old new BadHeader = new ≡ old
 CountsFault old new (BadLine number why) = new ≡ old
@@ -82,7 +84,7 @@ abbrev pub words_of : JournalFault → List ℕ
 words_of (BadLine number why) = codes "BadLine " ++ decimal number ++ codes " " ++ cause_words why
 words_of fault = name_of fault
 
--- how a refused line is told
+-- how a refused line is reported
 abbrev pub line_fault_of : ℕ → OpTextFault → JournalFault
 line_fault_of number text.NotJson = BadLine number (cause.Text text.NotJson)
 line_fault_of number (text.BadShape key) = BadLine number (cause.Text (text.BadShape key))

@@ -25,7 +25,7 @@ IsFound text (Fresh bytes) = IsFresh text × (bytes ≡ length text)
 IsFound text (Lines journal len torn) = (ops : List Operation) × (rest : List ℕ) × Says text ops rest
     × (journal ≡ all_arrived [] ops) × (torn ≡ length rest) × (length text ≡ len + torn)
 
--- what stands where the first line should, up to its length
+-- what is where the first line should be, up to its length
 abbrev pub IsJudged : List ℕ → Head → Type 0
 IsJudged head Whole = head ≡ header_line
 IsJudged head Front = IsFresh head

@@ -11,19 +11,22 @@ use Rattle.site_journal.specs.Fault.{IsRefusal}
 use Rattle.site_journal.specs.declared.recovery.RecoverFault.{RecoverFault}
 use Rattle.site_journal.specs.declared.recovery.RecoverFault.TheVariants.{Journal, Snapshot}
 
--- the operations of its whole lines; all that is left out is a torn line, or a front of the first one
+-- the operations of its whole lines; all that is left out is a torn line, or a prefix of the first one
 abbrev pub IsRecovered : List ℕ → List Operation → ℕ → Type 0
-IsRecovered text ops torn = ((rest : List ℕ) × Says text ops rest × (torn ≡ length rest)) ⊎ (IsFresh text × (ops ≡ []) × (torn ≡ length text))
+IsRecovered text ops torn =
+    ((rest : List ℕ) × Says text ops rest × (torn ≡ length rest)) ⊎ (IsFresh text × (ops ≡ []) × (torn ≡ length text))
 
--- a journal that isn't read has nothing written of it. Where the drain failed, a proper prefix of the snapshot is written
+-- a journal that isn't read has nothing written of it. Where the drain failed, a proper prefix of the snapshot is
+-- written
 abbrev pub IsRefusedRecovery : Option (List ℕ) → Option (List ℕ) → RecoverFault → Option (List ℕ) → Type 0
 IsRefusedRecovery left old (Journal fault) new = IfSome left (λ text. IsRefusal text fault) × (new ≡ old)
-IsRefusedRecovery left old (Snapshot WriteFault) new = IfSome left (λ text. (ops : List Operation) × (torn : ℕ) × IsRecovered text ops torn
+IsRefusedRecovery left old (Snapshot WriteFault) new =
+    IfSome left (λ text. (ops : List Operation) × (torn : ℕ) × IsRecovered text ops torn
     × (sorted : List Operation) × IsInOrderOf (all_arrived [] ops) sorted
     × (count : ℕ) × (count < length (snapshot_text sorted)) × Appends old new (take count (snapshot_text sorted)))
 IsRefusedRecovery left old (Snapshot NoMemory) new = new ≡ old
 
--- a drain that failed is told by a count of one more
+-- after a drain that failed its count is one more
 abbrev pub CountsRecovery : ℕ → ℕ → RecoverFault → Type 0
 CountsRecovery old new (Journal fault) = new ≡ old
 CountsRecovery old new (Snapshot fault) = CountsWriteFault old new fault

@@ -1,9 +1,10 @@
--- What a tape has, what a crash leaves of it, and what its calls do to that. Only fronts of lists are spoken of, and no moments in time: a call
--- that a crash cuts short is one that failed.
-use Rattle.std.specs.Prelude.{◌≡◌, ℕ, Bool, true, false, List, ◌++◌, Option, Some, None, Result, IfSome, OnOk, OnErr, take}
+-- What a tape has, what a crash leaves of it, and what its calls do to that. Only fronts of lists are spoken of, and no
+-- moments in time: a call that a crash cuts short is one that failed.
+use Rattle.std.specs.Prelude.{◌≡◌, ℕ, Bool, true, false, List, ◌++◌, Option, Some, None, Result, IfSome, OnOk, OnErr}
+use Rattle.std.specs.Prelude.{take}
 use Rattle.site_journal.specs.Prefixes.{IsPrefix}
 
--- a tape, as far as it is told
+-- a tape, as far as it is known
 pub record Image : Type 0 where
   -- what is read of it
   pub contents : List ℕ
@@ -25,7 +26,7 @@ pub record IsSettled (image : Image) : Type 0 where
   pub written : image.written ≡ image.contents
   pub trusted : image.doubted ≡ false
 
--- what is told of a tape before is told of it after
+-- what is known of a tape before is known of it after
 abbrev pub Changes : Option Image → Option Image → (Image → Image → Type 0) → Type 0
 Changes None None P = Unit {0}
 Changes None (Some new) P = ⊥
@@ -34,7 +35,7 @@ Changes (Some old) (Some new) P = P old new
 
 -- ---- what calls do
 
--- some front of the bytes was added, and perhaps more of them was written
+-- some prefix of the bytes was added, and perhaps more of them was written
 pub record Grows (bytes : List ℕ) (old new : Image) : Type 0 where
   pub begins : IsPrefix old.contents new.contents
   pub within : IsPrefix new.contents new.written
@@ -54,9 +55,10 @@ pub record Steadies (old new : Image) : Type 0 where
 
 -- where none has failed before, a sync that succeeds settles all; from one that fails on none is believed
 abbrev pub IsSynced : {E : Type 0} → Result Unit E → Image → Image → Type 0
-IsSynced result old new = Steadies old new × OnOk result (old.doubted ≡ false → IsSettled new) × OnErr result (new.doubted ≡ true)
+IsSynced result old new =
+    Steadies old new × OnOk result (old.doubted ≡ false → IsSettled new) × OnErr result (new.doubted ≡ true)
 
--- some of what stands past a length is taken away, and may come back until a sync
+-- some of what is past a length is taken away, and may come back until a sync
 pub record Shrinks (len : ℕ) (old new : Image) : Type 0 where
   pub least : IsPrefix (take len old.contents) new.contents
   pub most : IsPrefix new.contents old.contents
@@ -64,7 +66,7 @@ pub record Shrinks (len : ℕ) (old new : Image) : Type 0 where
   pub written : IsPrefix new.written old.written
   pub doubted : new.doubted ≡ old.doubted
 
--- a cut takes away all that stands past the length, or fails
+-- a cut takes away all that is past the length, or fails
 abbrev pub IsCut : {E : Type 0} → ℕ → Result Unit E → Image → Image → Type 0
 IsCut len result old new = Shrinks len old new × OnOk result (new.contents ≡ take len old.contents)
 

@@ -1,5 +1,6 @@
--- The text of a journal: what it says, and what of it counts. The form is the project's own: a first line, then one operation a line, in the
--- order in which they came. What stands after the last line end is a line that was torn while it was written, and says nothing.
+-- The text of a journal: what it says, and what of it counts. The form is the project's own: a first line, then one
+-- operation a line, in the order in which they came. What follows the last line end is a line that was torn while it
+-- was written, and says nothing.
 use Rattle.std.specs.Prelude.{◌≡◌, ◌<◌, ◌≤◌, ℕ, List, [], ◌∷◌, ◌++◌, codes, length, flat_map}
 use Rattle.byte_ends.specs.Lines.{as_line}
 use Rattle.line_reader.specs.Lines.{HasNoLf}

@@ -2,7 +2,8 @@
 
 ghost use Rattle.std.specs.Prelude.{◌≡◌, ◌++◌, OnOk, string_bytes};
 ghost use Rattle.site_journal.specs.Fault.{cause_words, name_of, number_of, words_of};
-ghost use Rattle.site_journal.specs.declared.fault.JournalFault.TheVariants.{Failed as TapeFailed, NoMemory as OutOfMemory};
+ghost use Rattle.site_journal.specs.declared.fault.JournalFault.TheVariants.{Failed as TapeFailed};
+ghost use Rattle.site_journal.specs.declared.fault.JournalFault.TheVariants.{NoMemory as OutOfMemory};
 ghost use Rattle.site_journal.specs.declared.fault.KeepFault.TheVariants.{NoMemory as NoneKept};
 
 use byte_ends::Failed;
@@ -22,7 +23,7 @@ pub enum LineCause {
     Text(OpTextFault),
 }
 
-/// Why a journal isn't read. Of the faults in a text the first in line order stands.
+/// Why a journal isn't read. Of the faults in a text the first in line order counts.
 #[derive(Debug, Drop, Error)]
 pub enum JournalFault {
     /// 1: the first line isn't `reviewgate 2`.
@@ -48,7 +49,8 @@ pub enum KeepFault {
     /// Memory was refused. Nothing was written.
     #[error("no memory")]
     NoMemory,
-    /// The text of an operation has more than 524,288 bytes, or the journal would have more than any file. Nothing was written.
+    /// The text of an operation has more than 524,288 bytes, or the journal would have more than any file. Nothing was
+    /// written.
     #[error("more bytes than a line has")]
     TooLong,
     /// The tape failed in this call.
@@ -98,7 +100,8 @@ impl JournalFault {
         }
     }
 
-    /// Writes the fault's words in reports: its name, and of a bad line its number and the words of the cause. In O(n) for their length.
+    /// Writes the fault's words in reports: its name, and of a bad line its number and the words of the cause. In O(n)
+    /// for their length.
     pub fn write_words(&self, text: &mut String) -> Result<(), AllocError>
         ensures { OnOk result (string_bytes text.new ≡ string_bytes text.old ++ words_of self.now) }
     {

@@ -1,11 +1,13 @@
 //! A journal: operations are appended to it, and what is acknowledged stays.
 
-ghost use Rattle.std.specs.Prelude.{◌≡◌, ◌≤◌, ◌+◌, ◌++◌, ◌∷◌, [], ℕ, List, Some, false, IfOk, IfErr, IfSome, IsOk, MatchResult, OnOk, length, map, vec_len};
+ghost use Rattle.std.specs.Prelude.{◌≡◌, ◌≤◌, ◌+◌, ◌++◌, ◌∷◌, [], ℕ, List, Some, false, IfOk, IfErr, IfSome, IsOk};
+ghost use Rattle.std.specs.Prelude.{MatchResult, OnOk, length, map, vec_len};
 ghost use Rattle.review_ops.specs.Operation.{Operation};
 ghost use Rattle.snapshot_text.specs.Snapshot.{operation_lines};
 ghost use Rattle.snapshot_text.specs.Sound.{AreSound};
 ghost use Rattle.byte_ends.specs.Failures.{most_failures};
-ghost use Rattle.site_journal.specs.Book.{CountsWritten, IsHolding, IsKept, IsNotKept, IsOpened, IsUnwritten, IsWritten, SurvivesCrashes, TakesBack};
+ghost use Rattle.site_journal.specs.Book.{CountsWritten, IsHolding, IsKept, IsNotKept, IsOpened, IsUnwritten};
+ghost use Rattle.site_journal.specs.Book.{IsWritten, SurvivesCrashes, TakesBack};
 ghost use Rattle.site_journal.specs.Fault.{CountsFault, IsRefusal};
 ghost use Rattle.site_journal.specs.Tape.{Changes, IsAtStart, IsSettled};
 ghost use Rattle.site_journal.specs.Text.{AreShort};
@@ -21,7 +23,8 @@ use review_ops::Op;
 use std::alloc::Global;
 use std::marker::Model;
 
-/// The journal of a site, over a tape. Contracts see what the tape has, how many of its calls failed, and whether it keeps nothing any more.
+/// The journal of a site, over a tape. Contracts see what the tape has, how many of its calls failed, and whether it
+/// keeps nothing any more.
 #[derive(Drop)]
 pub struct Journal<T: Tape> {
     alloc: Global,
@@ -54,7 +57,8 @@ impl<T: Tape + Drop> Journal<T> {
     /// Opens the journal on a tape that was just opened, as `open_tape` does: all that it answers is synced.
     pub fn open(alloc: Global, tape: T) -> Result<Started<T>, JournalFault>
         requires { IsAtStart (T.image tape) (T.left tape) }
-        ensures ok { IfOk result (λ started. (started.journal.is_spoiled ≡ false) × Changes (T.image tape) started.journal.image
+        ensures ok { IfOk result
+            (λ started. (started.journal.is_spoiled ≡ false) × Changes (T.image tape) started.journal.image
             (λ i j. IsSettled j × IsOpened i.contents started.replica started.torn j.contents)) }
         ensures holds { IfOk result (λ started. (ops : List Operation) × IsHolding started.journal ops) }
         ensures refused { IfErr result (λ fault. IfSome (T.image tape) (λ i. IsRefusal i.contents fault)) }
@@ -77,14 +81,17 @@ impl<T: Tape + Drop> Journal<T> {
 }
 
 impl<T: Tape> Journal<T> {
-    /// Adds the lines of the operations, and has them stay: at `Ok` they are acknowledged. At `Err` none of them is: where the tape failed it is cut
-    /// back to what was acknowledged and that is synced, and where that fails too, or a sync has failed, the journal keeps nothing any more. Whatever a
-    /// crash leaves says what was acknowledged, and then the first so many of the operations. It costs their texts and one sync.
+    /// Adds the lines of the operations, and has them stay: at `Ok` they are acknowledged. At `Err` none of them is:
+    /// where the tape failed it is cut back to what was acknowledged and that is synced, and where that fails too, or a
+    /// sync has failed, the journal keeps nothing any more. Whatever a crash leaves says what was acknowledged, and
+    /// then the first so many of the operations. It costs their texts and one sync.
     pub fn append(&mut self, ops: &[Op]) -> Result<(), KeepFault>
         ensures ok { OnOk result (IsKept self.old ops.now self.new) }
-        ensures holds { OnOk result ((before : List Operation) → IsHolding self.old before → IsHolding self.new (before ++ ops.now)) }
+        ensures holds { OnOk result
+            ((before : List Operation) → IsHolding self.old before → IsHolding self.new (before ++ ops.now)) }
         ensures err { IfErr result (λ fault. IsNotKept self.old fault self.new) }
-        ensures any_crash { (before : List Operation) → IsHolding self.old before → SurvivesCrashes self.new before ops.now (IsOk result) }
+        ensures any_crash { (before : List Operation) → IsHolding self.old before
+            → SurvivesCrashes self.new before ops.now (IsOk result) }
         ensures counted { OnOk result (self.new.failed ≡ self.old.failed) }
     {
         journals_say_their_operations();
@@ -170,7 +177,7 @@ fn write_lines<T: Tape>(tape: &mut T, len: u64, lines: &[u8]) -> Written
     Written::Kept
 }
 
-/// Takes back what stands past what is synced, and has that stay. Whether both were done.
+/// Takes back what is past what is synced, and has that stay. Whether both were done.
 fn take_back<T: Tape>(tape: &mut T, len: u64) -> bool
     requires { IfSome (T.image tape.old) (λ i. len ≤ length i.contents) }
     ensures back { Changes (T.image tape.old) (T.image tape.new) (TakesBack len result) }

@@ -10,7 +10,7 @@ ghost use Rattle.site_journal.specs.Text.{AreShort, IsFresh, Says, header_line, 
 
 use op_text::{operations_are_spelled, texts_spell_once};
 
-/// A law: a text has one reading at most as a journal, and a front of the first line has none.
+/// A law: a text has one reading at most as a journal, and a prefix of the first line has none.
 pub fn journals_have_one_reading()
     ensures one { (text : List ℕ) (ops others : List Operation) (rest other : List ℕ)
         → Says text ops rest → Says text others other → (ops ≡ others) × (rest ≡ other) }
@@ -28,11 +28,12 @@ pub fn journals_say_their_operations()
     operations_are_spelled();
 }
 
-/// A law: what a crash leaves of a journal to which operations were being added says all that it said before, and the first so many of them. What it
-/// leaves of the first line is a front of it, or says nothing.
+/// A law: what a crash leaves of a journal to which operations were being added says all that it did before, and the
+/// first so many of them. What it leaves of the first line is a prefix of it, or says nothing.
 pub fn crashes_lose_nothing_acknowledged()
     ensures lines { (text left : List ℕ) (ops more : List Operation) → Says text ops [] → AreSound more → AreShort more
-        → IsPrefix text left → IsPrefix left (text ++ operation_lines more) → (count : ℕ) × (rest : List ℕ) × Says left (ops ++ take count more) rest }
+        → IsPrefix text left → IsPrefix left (text ++ operation_lines more)
+        → (count : ℕ) × (rest : List ℕ) × Says left (ops ++ take count more) rest }
     ensures first { (left : List ℕ) → IsPrefix left header_line → IsFresh left ⊎ Says left [] [] }
 {
     operations_are_spelled();

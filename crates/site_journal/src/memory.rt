@@ -7,8 +7,8 @@ use crate::tape::{Feed, Tape};
 use byte_ends::Failed;
 use std::io::Read;
 
-/// A tape in memory. What stands past a cut, and what was written past what is synced, is there until a sync: a crash may leave any front of it.
-/// Calls of it fail where that was asked for, and where memory is refused.
+/// A tape in memory. What is past a cut, and what was written past what is synced, is there until a sync: a crash may
+/// leave any prefix of it. Calls of it fail where that was asked for, and where memory is refused.
 #[derive(Debug, Drop)]
 pub struct MemoryTape {
     bytes: Vec<u8>,
@@ -28,7 +28,8 @@ impl MemoryTape {
 
     /// A tape that was just opened, with these bytes, of which none is synced. No call of it fails.
     pub fn new(bytes: Vec<u8>) -> MemoryTape
-        ensures image { memory_image result ≡ record { contents = bytes.items; synced = []; written = bytes.items; doubted = false } }
+        ensures image { memory_image result
+            ≡ record { contents = bytes.items; synced = []; written = bytes.items; doubted = false } }
         ensures left { memory_left result ≡ bytes.items }
     {
         let len = bytes.len();
@@ -44,7 +45,8 @@ impl MemoryTape {
         }
     }
 
-    /// Has the calls fail from now on of which the bits of a number are set, the lowest for the next one. An append that fails writes so many bytes.
+    /// Has the calls fail from now on of which the bits of a number are set, the lowest for the next one. An append
+    /// that fails writes so many bytes.
     pub fn fail(&mut self, failing: u64, tears: usize)
         ensures image { memory_image self.new ≡ memory_image self.old }
         ensures left { memory_left self.new ≡ memory_left self.old }

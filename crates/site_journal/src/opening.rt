@@ -1,6 +1,8 @@
-//! Opens a journal: reads it, cuts off a line that was torn, and has all of it synced before anything of it is answered.
+//! Opens a journal: reads it, cuts off a line that was torn, and has all of it synced before anything of it is
+//! answered.
 
-ghost use Rattle.std.specs.Prelude.{◌≡◌, ◌⊎◌, ◌+◌, false, IfOk, IfErr, IfSome, IsErrOf, MatchResult, OnErr, OnOk, length, take};
+ghost use Rattle.std.specs.Prelude.{◌≡◌, ◌⊎◌, ◌+◌, false, IfOk, IfErr, IfSome, IsErrOf, MatchResult, OnErr, OnOk};
+ghost use Rattle.std.specs.Prelude.{length, take};
 ghost use Rattle.byte_ends.specs.Failures.{CountsFailure};
 ghost use Rattle.site_journal.specs.Book.{IsOpened, IsUnharmed};
 ghost use Rattle.site_journal.specs.Fault.{CountsFault, IsRefusal};
@@ -26,10 +28,11 @@ pub struct Opened {
     pub torn: usize,
 }
 
-/// Reads the journal on a tape that was just opened, and leaves it with whole lines, all synced. A tape that is empty, or has only a front of the first
-/// line, gets that line. A torn last line is cut off. Refusals: 1 `BadHeader`, the first line is another one; 2 `BadLine`, the line of this number,
-/// from 1, isn't read; 3 `TooLong`; 4 `Failed`, the tape failed; 5 `NoMemory`. At 1, 2, 3 and 5 the tape has what it had. It costs the bytes, and
-/// what the replica's `take` costs for each operation.
+/// Reads the journal on a tape that was just opened, and leaves it with whole lines, all synced. A tape that is empty,
+/// or has only a prefix of the first line, gets that line. A torn last line is cut off. Refusals: 1 `BadHeader`, the
+/// first line is another one; 2 `BadLine`, the line of this number, from 1, isn't read; 3 `TooLong`; 4 `Failed`, the
+/// tape failed; 5 `NoMemory`. At 1, 2, 3 and 5 the tape has what it had. It costs the bytes, and what the replica's
+/// `take` costs for each operation.
 pub fn open_tape<T: Tape>(alloc: Global, tape: &mut T) -> Result<Opened, JournalFault>
     requires { IsAtStart (T.image tape.old) (T.left tape.old) }
     ensures ok { IfOk result (λ opened. Changes (T.image tape.old) (T.image tape.new) (λ i j. IsSettled j
@@ -59,7 +62,8 @@ pub fn open_tape<T: Tape>(alloc: Global, tape: &mut T) -> Result<Opened, Journal
 /// Writes the rest of the first line.
 fn begin<T: Tape>(tape: &mut T, bytes: usize) -> Result<(), Failed>
     requires { IfSome (T.image tape.old) (λ i. (i.doubted ≡ false) × IsFresh i.contents × (bytes ≡ length i.contents)) }
-    ensures ok { OnOk result (Changes (T.image tape.old) (T.image tape.new) (λ i j. IsSettled j × (j.contents ≡ header_line))) }
+    ensures ok { OnOk result
+        (Changes (T.image tape.old) (T.image tape.new) (λ i j. IsSettled j × (j.contents ≡ header_line))) }
     ensures err { OnErr result (Changes (T.image tape.old) (T.image tape.new) (λ i j. IsFresh i.contents
         × (IsPrefix j.written i.written ⊎ IsPrefix j.written header_line))) }
     ensures counted { CountsFailure (T.failed tape.old) (T.failed tape.new) result }
@@ -72,7 +76,8 @@ fn begin<T: Tape>(tape: &mut T, bytes: usize) -> Result<(), Failed>
 /// Cuts off a torn line, and syncs the rest.
 fn settle<T: Tape>(tape: &mut T, len: u64, torn: usize) -> Result<(), Failed>
     requires { IfSome (T.image tape.old) (λ i. (i.doubted ≡ false) × (length i.contents ≡ len + torn)) }
-    ensures ok { OnOk result (Changes (T.image tape.old) (T.image tape.new) (λ i j. IsSettled j × (j.contents ≡ take len i.contents))) }
+    ensures ok { OnOk result
+        (Changes (T.image tape.old) (T.image tape.new) (λ i j. IsSettled j × (j.contents ≡ take len i.contents))) }
     ensures err { OnErr result (Changes (T.image tape.old) (T.image tape.new) (λ i j. IsPrefix (take len i.synced) j.synced × IsPrefix j.written i.written)) }
     ensures counted { CountsFailure (T.failed tape.old) (T.failed tape.new) result }
 {

@@ -1,6 +1,7 @@
 //! Reads the text of a journal, block by block.
 
-ghost use Rattle.std.specs.Prelude.{IsErrOf, IsTrue, ◌↔◌, ◌≡◌, ◌≤◌, ◌<◌, ◌+◌, ◌++◌, ◌∷◌, [], ℕ, List, IfOk, IfErr, IfSome, MatchOption, MatchResult, OnOk, length, vec_len};
+ghost use Rattle.std.specs.Prelude.{IsErrOf, IsTrue, ◌↔◌, ◌≡◌, ◌≤◌, ◌<◌, ◌+◌, ◌++◌, ◌∷◌, [], ℕ, List, IfOk, IfErr};
+ghost use Rattle.std.specs.Prelude.{IfSome, MatchOption, MatchResult, OnOk, length, vec_len};
 ghost use Rattle.std.specs.Io.KnownBytes.{Consumes, IsAtEnd};
 ghost use Rattle.byte_ends.specs.Lines.{as_line};
 ghost use Rattle.line_reader.specs.Lines.{HasFirstLf, HasNoLf};
@@ -32,7 +33,8 @@ const TEXT_LIMIT: u64 = u64::MAX - 131_071;
 pub enum Found {
     /// So many bytes of its first line, and nothing else.
     Fresh(usize),
-    /// The operations of its whole lines, which have so many bytes with the first line's; and so many bytes of a torn one.
+    /// The operations of its whole lines, which have so many bytes with the first line's; and so many bytes of a torn
+    /// one.
     Lines(Replica, u64, usize),
 }
 
@@ -52,18 +54,18 @@ pub fn read_text<F: Feed>(alloc: Global, feed: &mut F) -> Result<Found, JournalF
     }
 }
 
-/// What stands where the first line should.
+/// What is where the first line should be.
 #[derive(Clone, Copy)]
 pub enum Head {
     /// The first line.
     Whole,
-    /// A front of it.
+    /// A prefix of it.
     Front,
     /// Something else.
     Other,
 }
 
-/// Judges what stands where the first line should, up to its length.
+/// Judges what is where the first line should be, up to its length.
 fn judged(head: &[u8]) -> Head
     requires { length head.now ≤ 13 }
     ensures { IsJudged head.now result }
@@ -84,7 +86,7 @@ fn is_same(bytes: &[u8], others: &[u8]) -> bool
     bytes == others
 }
 
-/// Reads what stands where the first line should, up to its length.
+/// Reads what is where the first line should be, up to its length.
 fn read_head<F: Feed>(alloc: Global, feed: &mut F) -> Result<Vec<u8>, JournalFault>
     ensures came { IfOk result (λ head. Consumes (F.left feed.old) (F.left feed.new) head.items) }
     ensures most { IfOk result (λ head. vec_len head ≤ 13) }
@@ -152,7 +154,8 @@ fn read_lines<F: Feed>(alloc: Global, feed: &mut F) -> Result<Found, JournalFaul
     Err(JournalFault::TooLong)
 }
 
-/// How far the text of a journal was read: the operations of the lines so far, the front of the next line, and its number from 1.
+/// How far the text of a journal was read: the operations of the lines so far, the beginning of the next line, and its
+/// number from 1.
 #[derive(Drop)]
 struct Reading {
     pub alloc: Global,
@@ -177,7 +180,8 @@ impl Reading {
     /// What was found, where so many bytes came in all.
     fn found(self, seen: u64) -> Found
         requires { length self.held.items ≤ seen }
-        ensures { (came : List ℕ) → HasRead came self.replica self.held.items self.next → length came ≡ seen → IsFound came result }
+        ensures { (came : List ℕ) → HasRead came self.replica self.held.items self.next → length came ≡ seen
+            → IsFound came result }
     {
         let Reading { replica, held, .. } = self;
         let torn = held.as_slice().len();
@@ -192,7 +196,8 @@ impl Reading {
             → HasRead (came ++ part) self.new.replica self.new.held.items self.new.next)) }
         ensures most { IfOk result (λ count. count ≤ length piece.old) }
         ensures end { IfOk result (λ count. count ≡ 0 → 0 < length piece.old → IsAtEnd (F.left feed.new)) }
-        ensures refused { IfErr result (λ fault. (came : List ℕ) → HasRead came self.old.replica self.old.held.items self.old.next
+        ensures refused { IfErr result
+            (λ fault. (came : List ℕ) → HasRead came self.old.replica self.old.held.items self.old.next
             → IfSome (F.left feed.old) (λ more. IsRefusal (came ++ more) fault)) }
         ensures same { F.image feed.new ≡ F.image feed.old }
         ensures counted { MatchResult result
@@ -211,7 +216,8 @@ impl Reading {
     fn take_block(&mut self, block: &[u8]) -> Result<(), JournalFault>
         ensures ok { OnOk result ((came : List ℕ) → HasRead came self.old.replica self.old.held.items self.old.next
             → HasRead (came ++ block.now) self.new.replica self.new.held.items self.new.next) }
-        ensures err { IfErr result (λ fault. (came : List ℕ) → HasRead came self.old.replica self.old.held.items self.old.next
+        ensures err { IfErr result
+            (λ fault. (came : List ℕ) → HasRead came self.old.replica self.old.held.items self.old.next
             → (later : List ℕ) → IsRefusal ((came ++ block.now) ++ later) fault) }
         ensures unfailing { IsErrOf result JournalFault.Failed → ⊥ }
     {
@@ -228,7 +234,8 @@ impl Reading {
         requires { HasNoLf piece.now }
         ensures ok { OnOk result ((came : List ℕ) → HasRead came self.old.replica self.old.held.items self.old.next
             → HasRead (came ++ as_line piece.now) self.new.replica self.new.held.items self.new.next) }
-        ensures err { IfErr result (λ fault. (came : List ℕ) → HasRead came self.old.replica self.old.held.items self.old.next
+        ensures err { IfErr result
+            (λ fault. (came : List ℕ) → HasRead came self.old.replica self.old.held.items self.old.next
             → (later : List ℕ) → IsRefusal ((came ++ as_line piece.now) ++ later) fault) }
         ensures unfailing { IsErrOf result JournalFault.Failed → ⊥ }
     {
@@ -241,7 +248,8 @@ impl Reading {
         requires { HasNoLf piece.now }
         ensures ok { OnOk result ((came : List ℕ) → HasRead came self.old.replica self.old.held.items self.old.next
             → HasRead (came ++ piece.now) self.new.replica self.new.held.items self.new.next) }
-        ensures err { IfErr result (λ fault. (came : List ℕ) → HasRead came self.old.replica self.old.held.items self.old.next
+        ensures err { IfErr result
+            (λ fault. (came : List ℕ) → HasRead came self.old.replica self.old.held.items self.old.next
             → (later : List ℕ) → IsRefusal ((came ++ piece.now) ++ later) fault) }
         ensures unfailing { IsErrOf result JournalFault.Failed → ⊥ }
     {
@@ -256,7 +264,8 @@ impl Reading {
     fn take_line(&mut self) -> Result<(), JournalFault>
         ensures ok { OnOk result ((came : List ℕ) → HasRead came self.old.replica self.old.held.items self.old.next
             → HasRead (came ++ 10 ∷ []) self.new.replica self.new.held.items self.new.next) }
-        ensures err { IfErr result (λ fault. (came : List ℕ) → HasRead came self.old.replica self.old.held.items self.old.next
+        ensures err { IfErr result
+            (λ fault. (came : List ℕ) → HasRead came self.old.replica self.old.held.items self.old.next
             → (later : List ℕ) → IsRefusal ((came ++ 10 ∷ []) ++ later) fault) }
         ensures unfailing { IsErrOf result JournalFault.Failed → ⊥ }
     {
@@ -274,7 +283,7 @@ impl Reading {
     }
 }
 
-/// How it is told that the line of this number isn't read.
+/// How it is reported that the line of this number isn't read.
 fn line_fault(number: u64, cause: OpTextFault) -> JournalFault
     ensures { result ≡ line_fault_of number cause }
 {

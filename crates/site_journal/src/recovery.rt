@@ -9,7 +9,8 @@ ghost use Rattle.snapshot_text.specs.Snapshot.{snapshot_text};
 ghost use Rattle.site_journal.specs.Text.{IsFresh, Says};
 ghost use Rattle.site_journal.specs.Fault.{IsRefusal};
 ghost use Rattle.site_journal.specs.Recovery.{CountsRecovery, IsRecovered, IsRefusedRecovery};
-ghost use Rattle.site_journal.specs.declared.recovery.RecoverFault.TheVariants.{Journal as NotRead, Snapshot as NotWritten};
+ghost use Rattle.site_journal.specs.declared.recovery.RecoverFault.TheVariants.{Journal as NotRead};
+ghost use Rattle.site_journal.specs.declared.recovery.RecoverFault.TheVariants.{Snapshot as NotWritten};
 
 use crate::fault::JournalFault;
 use crate::reading::{Found, read_text};
@@ -31,7 +32,8 @@ pub enum RecoverFault {
     Snapshot(WriteSnapFault),
 }
 
-/// Writes the snapshot of a journal's whole lines, and answers how many bytes of a torn line it left out. It changes nothing of what it reads.
+/// Writes the snapshot of a journal's whole lines, and answers how many bytes of a torn line it left out. It changes
+/// nothing of what it reads.
 pub fn recover<S: Source + Drop, D: Drain>(
     alloc: Global,
     source: S,
@@ -40,8 +42,10 @@ pub fn recover<S: Source + Drop, D: Drain>(
     ensures ok { IfOk result (λ torn. IfSome (S.left source) (λ text. (ops : List Operation) × IsRecovered text ops torn
         × (sorted : List Operation) × IsInOrderOf (all_arrived [] ops) sorted
         × Appends (D.taken drain.old) (D.taken drain.new) (snapshot_text sorted))) }
-    ensures err { IfErr result (λ fault. IsRefusedRecovery (S.left source) (D.taken drain.old) fault (D.taken drain.new)) }
-    ensures counted { MatchResult result (λ _. D.failed drain.new ≡ D.failed drain.old) (CountsRecovery (D.failed drain.old) (D.failed drain.new)) }
+    ensures err { IfErr result
+        (λ fault. IsRefusedRecovery (S.left source) (D.taken drain.old) fault (D.taken drain.new)) }
+    ensures counted { MatchResult result (λ _. D.failed drain.new ≡ D.failed drain.old)
+        (CountsRecovery (D.failed drain.old) (D.failed drain.new)) }
 {
     let (replica, torn) = read_journal(alloc, source)?;
     write_snapshot(alloc, &replica, drain)?;
@@ -53,7 +57,8 @@ fn read_journal<S: Source + Drop>(
     alloc: Global,
     source: S,
 ) -> Result<(Replica, usize), JournalFault>
-    ensures ok { IfOk result (λ read. IfSome (S.left source) (λ text. (ops : List Operation) × IsRecovered text ops read.1
+    ensures ok { IfOk result
+        (λ read. IfSome (S.left source) (λ text. (ops : List Operation) × IsRecovered text ops read.1
         × (read.0 ≡ all_arrived [] ops))) }
     ensures err { IfErr result (λ fault. IfSome (S.left source) (λ text. IsRefusal text fault)) }
 {

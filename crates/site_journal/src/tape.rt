@@ -11,16 +11,16 @@ use byte_ends::{Failed, Source};
 
 /// What the text of a journal is read from.
 pub trait Feed {
-    /// What it has, where that is told.
+    /// What it has, where that is known.
     ghost image: { Self → Option Image };
 
-    /// The bytes that reads will give from here on, where they are told.
+    /// The bytes that reads will give from here on, where they are known.
     ghost left: { Self → Option (List ℕ) };
 
     /// How many calls have failed. The count stays at `u64::MAX`.
     ghost failed: { Self → ℕ };
 
-    /// Reads some bytes into the front of the slice, and says how many. 0 on a slice that isn't empty is the end.
+    /// Reads some bytes into the front of the slice, and answers how many. 0 on a slice that isn't empty is the end.
     fn read(&mut self, into: &mut [u8]) -> Result<usize, Failed>
         ensures bound { ReadsAtMost result into.new }
         ensures bytes { ReadConsumes (left self.old) (left self.new) result into.new }
@@ -28,9 +28,10 @@ pub trait Feed {
         ensures counted { CountsFailure (failed self.old) (failed self.new) result };
 }
 
-/// A tape that grows at its end, and of which a crash leaves a front: at least what was synced, and no more than what was written.
+/// A tape that grows at its end, and of which a crash leaves a prefix: at least what was synced, and no more than what
+/// was written.
 pub trait Tape: Feed {
-    /// Writes the bytes at the end. Where it fails some front of them may stand there.
+    /// Writes the bytes at the end. Where it fails some prefix of them may be there.
     fn append(&mut self, bytes: &[u8]) -> Result<(), Failed>
         requires { IfSome (Self.image self.old) IsWhole }
         ensures written { Changes (Self.image self.old) (Self.image self.new) (IsAppended bytes.now result) }
@@ -41,14 +42,14 @@ pub trait Tape: Feed {
         ensures synced { Changes (Self.image self.old) (Self.image self.new) (IsSynced result) }
         ensures counted { CountsFailure (Self.failed self.old) (Self.failed self.new) result };
 
-    /// Takes away what stands past so many bytes.
+    /// Takes away what is past so many bytes.
     fn cut(&mut self, len: u64) -> Result<(), Failed>
         requires { IfSome (Self.image self.old) (λ image. len ≤ length image.contents) }
         ensures cut { Changes (Self.image self.old) (Self.image self.new) (IsCut len result) }
         ensures counted { CountsFailure (Self.failed self.old) (Self.failed self.new) result };
 }
 
-/// A source as a feed, of which nothing is told but what it has left.
+/// A source as a feed, of which nothing is known but what it has left.
 #[derive(Drop)]
 pub struct SourceFeed<S: Source> {
     source: S,

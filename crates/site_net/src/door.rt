@@ -18,8 +18,8 @@ impl Door {
         Ok(Door { listener, latch })
     }
 
-    /// Waits for the next connection. What is sent over it isn't held back to be sent with more. It fails where the door is shut, and where the
-    /// system can't open more files.
+    /// Waits for the next connection. What is sent over it isn't held back to be sent with more. It fails where the
+    /// door is shut, and where the system can't open more files.
     pub fn accept(&self) -> io::Result<TcpStream> {
         let (stream, _address) = self.listener.accept()?;
         stream.set_nodelay(true)?;

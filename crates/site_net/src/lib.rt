@@ -1,4 +1,5 @@
-//! The connections of a site: a listener that can be shut from beside, ends that don't wait for ever, and the wish that a site stops.
+//! The connections of a site: a listener that can be shut from beside, ends that don't wait for ever, and the wish that
+//! a site stops.
 #![tactic(auto)]
 
 mod door;

@@ -9,7 +9,8 @@ use std::time::Duration;
 /// How long a site waits for the other side of a connection.
 #[derive(Clone, Copy)]
 pub struct Patience {
-    /// For the first line, for the rest of a line that has begun, or until the other side takes in some of what it is sent.
+    /// For the first line, for the rest of a line that has begun, or until the other side takes in some of what it is
+    /// sent.
     pub limit: Duration,
     /// For the next line; without end where there is no limit.
     pub idle: Option<Duration>,

@@ -10,7 +10,8 @@ use std::time::{Clock, Duration, Instant};
 /// How many milliseconds a read waits before it looks again whether it is to go on.
 const TICK_MS: u64 = 100;
 
-/// What the other side of a connection sends, until there is no patience with it left, which is a failure, or the site stops, which is the end.
+/// What the other side of a connection sends, until there is no patience with it left, which is a failure, or the site
+/// stops, which is the end.
 #[derive(Drop)]
 pub struct PatientReader<'a, R: Clock> {
     rt: &'a R,
@@ -22,7 +23,8 @@ pub struct PatientReader<'a, R: Clock> {
 }
 
 impl<'a, R: Clock> PatientReader<'a, R> {
-    /// A reader that awaits the first line from now on. It fails where the clock can't be read or the system sets no time limit for the socket.
+    /// A reader that awaits the first line from now on. It fails where the clock can't be read or the system sets no
+    /// time limit for the socket.
     pub fn new(
         rt: &'a R,
         stream: &'a TcpStream,

@@ -10,8 +10,8 @@ use std::time::{Clock, Duration, Instant};
 /// How many milliseconds a write waits before it looks again whether it is to go on.
 const TICK_MS: u64 = 100;
 
-/// What is sent to the other side of a connection. It fails where the other side takes in nothing of a write for as long as there is patience. A site
-/// that stops still sends the answers that it has begun.
+/// What is sent to the other side of a connection. It fails where the other side takes in nothing of a write for as
+/// long as there is patience. A site that stops still sends the answers that it has begun.
 #[derive(Drop)]
 pub struct PatientWriter<'a, R: Clock> {
     rt: &'a R,

@@ -1,5 +1,6 @@
 -- The exchange that adds a publish keeps the rule.
-use Rattle.std.proofs.Common.{◌≡◌, ℕ, ◌+◌, ◌<◌, ◌==◌, Bool, true, false, List, [], ◌∷◌, ◌++◌, length, refl, ap, sym, subst, arith, inl, length-append, None}
+use Rattle.std.proofs.Common.{◌≡◌, ℕ, ◌+◌, ◌<◌, ◌==◌, Bool, true, false, List, [], ◌∷◌, ◌++◌, length, refl, ap, sym}
+use Rattle.std.proofs.Common.{subst, arith, inl, length-append, None}
 use Rattle.std.proofs.lemmas.List.{append-nil}
 use Rattle.std.proofs.lemmas.Bool.Decides.{nat_tests}
 use mathlib.Core.List.{IsPrefix}
@@ -20,7 +21,8 @@ moved xs ys n = Unit {0}
 
 adds_goes : (log v : Log) (e : List Operation) (old : ℕ) → length v ≡ old → IsPrefix v log
     → (b : Bool) → (length log == old) ≡ b
-    → Goes IsCounted shown moved 0 (v, (no_nib, None)) (λ n. either (n == old) (old + 1) n) (Adds (step 0 old (old + 1) e) (v, (no_nib, None))) ((length log, true) ∷ (0, true) ∷ []) log
+    → Goes IsCounted shown moved 0 (v, (no_nib, None)) (λ n. either (n == old) (old + 1) n)
+    (Adds (step 0 old (old + 1) e) (v, (no_nib, None))) ((length log, true) ∷ (0, true) ∷ []) log
 adds_goes log v e old len pre true is =
     let here : length log ≡ old = grind (arith, nat_tests) in
     let same : v ≡ log = prefix_whole v log pre (omega arith) in
@@ -47,7 +49,8 @@ adds_goes log v e old len pre false is =
 
 -- whatever the book is, the exchange adds the publish to all that was seen, or finds that the list is longer
 pub adds_moves : (v : Log) (e : List Operation) (old : ℕ) → length v ≡ old
-    → Moves IsCounted shown moved 0 (v, (no_nib, None)) (λ n. either (n == old) (old + 1) n) (Adds (step 0 old (old + 1) e) (v, (no_nib, None)))
+    → Moves IsCounted shown moved 0 (v, (no_nib, None)) (λ n. either (n == old) (old + 1) n)
+    (Adds (step 0 old (old + 1) e) (v, (no_nib, None)))
 adds_moves v e old len cs log kept pre away =
     let P : List Cell → Type 0 = λ c. (0 < length c) × ((cell c 0).1 ≡ true) × Goes IsCounted shown moved 0 (v, (no_nib, None)) (λ n. either (n == old) (old + 1) n) (Adds (step 0 old (old + 1) e) (v, (no_nib, None))) c log in
     subst P (sym kept) (omega arith, refl, adds_goes log v e old len pre (length log == old) refl)

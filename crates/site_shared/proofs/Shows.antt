@@ -20,10 +20,12 @@ begins_on (Some s) x y g b = goes_on s x.sight.seen y.sight.seen b g
 
 -- a window that knows nothing may come at any time
 pub admits : Admits Keeps None
-admits x places keeps place known at = ⊎_elim (keeps place known) (λ (e : None ≡ known). subst (λ k. Begins k x) e tt) (at_snoc places None known place at)
+admits x places keeps place known at =
+    ⊎_elim (keeps place known) (λ (e : None ≡ known). subst (λ k. Begins k x) e tt) (at_snoc places None known place at)
 
 -- a step that goes on from what is shown keeps the rule, and is seen
-pub turns : (place : ℕ) (known : Option Seeing) (x y : Shown) → Goes x.sight.seen y.sight.seen → TurnsAt Keeps place known x y Sees
+pub turns : (place : ℕ) (known : Option Seeing) (x y : Shown) → Goes x.sight.seen y.sight.seen
+    → TurnsAt Keeps place known x y Sees
 turns place known x y goes places keeps at = (
   Some y.sight.seen,
   (λ j k e. ⊎_elim (λ (t : (j ≡ place) × (Some y.sight.seen ≡ k)). subst (λ q. Begins q y) t.1 (goes_self y.sight.seen))
@@ -32,15 +34,20 @@ turns place known x y goes places keeps at = (
   (refl, begins_on known x y goes (keeps place known at)),
 )
 
-keeps_set : (x : Shown) (places : List (Option Seeing)) (place : ℕ) (known : Option Seeing) → Keeps x places → Begins known x → Keeps x (set places place known)
+keeps_set : (x : Shown) (places : List (Option Seeing)) (place : ℕ) (known : Option Seeing) → Keeps x places
+    → Begins known x → Keeps x (set places place known)
 keeps_set x places place known keeps begins j k e =
-    ⊎_elim (λ (t : (j ≡ place) × (known ≡ k)). subst (λ q. Begins q x) t.1 begins) (λ (t : (j ≢ place) × (get_elem? places j ≡ some k)). keeps j k t.1) (at_set places place j known k e)
+    ⊎_elim (λ (t : (j ≡ place) × (known ≡ k)). subst (λ q. Begins q x) t.1 begins)
+    (λ (t : (j ≢ place) × (get_elem? places j ≡ some k)). keeps j k t.1) (at_set places place j known k e)
 
 pub forks : (place : ℕ) (known : Option Seeing) → Forks Keeps place known known known
 forks place known x places keeps at j k e =
-    ⊎_elim (keeps_set x places place known keeps (keeps place known at) j k) (λ (same : known ≡ k). subst (λ q. Begins q x) same (keeps place known at)) (at_snoc (set places place known) known k j e)
+    ⊎_elim (keeps_set x places place known keeps (keeps place known at) j k)
+    (λ (same : known ≡ k). subst (λ q. Begins q x) same (keeps place known at))
+    (at_snoc (set places place known) known k j e)
 
-pub merges : (place : ℕ) (known : Option Seeing) (other : ℕ) (told : Option Seeing) → Merges Keeps place known other told told None
+pub merges : (place : ℕ) (known : Option Seeing) (other : ℕ) (told : Option Seeing)
+    → Merges Keeps place known other told told None
 merges place known other told x places keeps at apart there =
     let b : Begins told x = ⊎_elim (λ (t : (other ≡ place) × (told ≡ told)). absurd (apart t.0)) (λ (t : (other ≢ place) × (get_elem? places other ≡ some told)). keeps other told t.1) (at_set places place other told told there) in
     keeps_set x (set places place told) other None (keeps_set x places place told keeps b) tt

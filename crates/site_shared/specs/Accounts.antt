@@ -1,5 +1,6 @@
 -- The account of a running site: what its desk published and holds, and what receipts and windows have seen of that.
-use Rattle.std.specs.Prelude.{◌≡◌, ◌≤◌, ◌<◌, ◌==◌, ◌&&◌, Bool, not, nat_le, ℕ, List, [], ◌∷◌, ◌++◌, Option, length, take}
+use Rattle.std.specs.Prelude.{◌≡◌, ◌≤◌, ◌<◌, ◌==◌, ◌&&◌, Bool, not, nat_le, ℕ, List, [], ◌∷◌, ◌++◌, Option, length}
+use Rattle.std.specs.Prelude.{take}
 use mathlib.Core.List.{IsPrefix}
 use Rattle.logbook.specs.Pages.{Book}
 use Rattle.review_ops.specs.Deed.{Deed, kept_deed}
@@ -13,8 +14,8 @@ use Rattle.site_shared.specs.Publishes.{arrive}
 use Rattle.site_shared.specs.declared.fault.DeskFault.{DeskFault}
 use Rattle.site_shared.specs.declared.fault.DeskFault.TheVariants.{ClockSpent, BadBody, NoMemory}
 
--- which opening it is; what was published, the opening's journal first; what is held, to be published next; and the site and the start of what is
--- taken in
+-- which opening it is; what was published, the opening's journal first; what is held, to be published next; and the
+-- site and the start of what is taken in
 pub record Account : Type 0 where
   pub book : Book
   pub published : List (List Operation)
@@ -69,7 +70,13 @@ flushing account = record account { published = account.published ++ account.hel
 
 -- the receipt for all that the account has published
 abbrev pub receipt_of : Account → Option Timestamp → Extent
-receipt_of account stamp = record { book = account.book; published = account.published; site = account.site; start = account.start; stamp = stamp }
+receipt_of account stamp = record {
+  book = account.book;
+  published = account.published;
+  site = account.site;
+  start = account.start;
+  stamp = stamp;
+}
 
 -- a window that has seen all that the account has published
 abbrev pub watching : Account → Outlook
@@ -91,12 +98,13 @@ pub record IsPartly (old : Account) (ops : List Operation) (count : ℕ) (new : 
   pub some : count ≤ length ops
   pub held : new ≡ holding old (take count ops)
 
--- an intake is refused so: no stamp is left; else the body is bad, by its first fault; else memory was refused, and where the operation is held it
--- is one that may be taken in
+-- an intake is refused so: no stamp is left; else the body is bad, by its first fault; else memory was refused, and
+-- where the operation is held it is one that may be taken in
 abbrev pub RefusesIntake : Account → Deed → DeskFault → Account → Type 0
 RefusesIntake old deed ClockSpent new = IsSpent (record_of old) old.site old.start × (new ≡ old)
 RefusesIntake old deed (BadBody cause) new = HasStamp old × IsFirstFault cause deed × (new ≡ old)
-RefusesIntake old deed (NoMemory held) new = (0 < held → HasStamp old × IsFaultless deed) × IsPartly old (next_operation old deed ∷ []) held new
+RefusesIntake old deed (NoMemory held) new =
+    (0 < held → HasStamp old × IsFaultless deed) × IsPartly old (next_operation old deed ∷ []) held new
 
 -- operations are refused so: memory was refused, and the first so many are held
 abbrev pub RefusesAll : Account → List Operation → DeskFault → Account → Type 0

@@ -10,8 +10,8 @@ use Rattle.site_shared.specs.Spares.{AreSpares}
 use Rattle.site_shared.specs.declared.shown.Shown.{Shown}
 use Rattle.site_shared.specs.declared.spares.Spares.{Spares}
 
--- the word counts the publishes that the desk has seen; these are shown, and nothing waits to be shown; the spares have first parts of what is shown;
--- the next replica has what is held, too; and the site was opened
+-- the word counts the publishes that the desk has seen; these are shown, and nothing waits to be shown; the spares have
+-- first parts of what is shown; the next replica has what is held, too; and the site was opened
 pub record IsDesk (seen : Seeing) (head : Named) (showing : Seeing) (waiting : List Shown) (kept : Spares) (following : Option (List Operation)) (held : List Operation) : Type 0 where
   pub named : head ≡ head_of seen.book
   pub shown : showing ≡ seen

@@ -1,4 +1,4 @@
--- The rule of the word that all threads share, and what its one step tells.
+-- The rule of the word that all threads share, and what its one step shows.
 use Rattle.std.specs.Prelude.{ℕ, ◌≡◌, ◌==◌, true, List, [], ◌∷◌, ◌++◌, length, MatchBool}
 use Rattle.logbook.specs.Pages.{Cell, Step, View, Book, Named}
 use Rattle.review_ops.specs.Operation.{Operation}

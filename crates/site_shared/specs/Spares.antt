@@ -8,4 +8,5 @@ use Rattle.site_shared.specs.declared.spares.Spares.{Spares}
 -- each spare has the first operations of the journal
 abbrev pub AreSpares : List Operation → Spares → Type 0
 AreSpares journal spares =
-    IfSome spares.previous (λ spare. IsFrontPart (arc_value spare) journal) × IfSome spares.older (λ spare. IsFrontPart (arc_value spare) journal)
+    IfSome spares.previous (λ spare. IsFrontPart (arc_value spare) journal)
+    × IfSome spares.older (λ spare. IsFrontPart (arc_value spare) journal)

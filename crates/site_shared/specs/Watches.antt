@@ -12,8 +12,8 @@ use Rattle.site_shared.specs.Publishes.{arrive}
 use Rattle.site_shared.specs.declared.fault.RefreshFault.{RefreshFault}
 use Rattle.site_shared.specs.declared.fault.RefreshFault.TheVariants.{Stranger, NoMemory, Closed}
 
--- of which opening a watch is, and what was seen of its publishes; the site and the start that it bears; and the verdicts under a gate, unless memory
--- was refused
+-- of which opening a watch is, and what was seen of its publishes; the site and the start that it bears; and the
+-- verdicts under a gate, unless memory was refused
 pub record Watched : Type 0 where
   pub book : Book
   pub seen : List (List Operation)
@@ -37,7 +37,8 @@ pub record HasVerdictsOf (publishes : List (List Operation)) (watch : Watched) :
   pub there : watch.verdicts ≡ Some judged
   pub verdicts : AreVerdicts watch.gate (state_of (arrive publishes)) judged
 
--- the watch is of the window's opening, bears its site and start, and has the verdicts under the gate on just what the window sees
+-- the watch is of the window's opening, bears its site and start, and has the verdicts under the gate on just what the
+-- window sees
 pub record IsWatchOf (gate : GateRules) (window : Outlook) (watch : Watched) : Type 0 where
   pub own : IsOwnWatch window watch
   pub book : watch.book ≡ window.book

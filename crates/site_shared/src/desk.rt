@@ -1,6 +1,7 @@
 //! The one that takes in and publishes.
 
-ghost use Rattle.std.specs.Prelude.{◌≡◌, ◌<◌, [], ◌∷◌, ◌++◌, IfErr, IfOk, None, OnErr, OnOk, Some, if◌then◌else◌, length};
+ghost use Rattle.std.specs.Prelude.{◌≡◌, ◌<◌, [], ◌∷◌, ◌++◌, IfErr, IfOk, None, OnErr, OnOk, Some, if◌then◌else◌};
+ghost use Rattle.std.specs.Prelude.{length};
 ghost use Rattle.std.specs.Arc.{arc_value};
 ghost use Rattle.replica_core.specs.Journal.{arrived, has};
 ghost use Rattle.review_ops.specs.Draft.{deed_of};
@@ -22,9 +23,9 @@ use std::marker::Model;
 use std::mem;
 use std::sync::{Arc, Wait};
 
-/// The desk of a running site: it stamps and takes in operations, and publishes them to the windows. What it can't publish for want of memory it holds,
-/// and publishes first, with the next call that publishes. It is used up by `end`. Contracts see its account: what was published, the opening's journal
-/// first, and what is held.
+/// The desk of a running site: it stamps and takes in operations, and publishes them to the windows. What it can't
+/// publish for want of memory it holds, and publishes first, with the next call that publishes. It is used up by `end`.
+/// Contracts see its account: what was published, the opening's journal first, and what is held.
 pub struct Desk {
     show: Show,
     head: Head,
@@ -51,7 +52,8 @@ impl Model for Desk {
 
 impl Desk {
     ghost use Rattle.std.specs.Prelude.{drop};
-    ghost use Rattle.site_shared.specs.Accounts.{HasStamp, IsSameOpening, RefusesAll, RefusesIntake, flushing, holding, next_operation, receipt_of, record_of};
+    ghost use Rattle.site_shared.specs.Accounts.{HasStamp, IsSameOpening, RefusesAll, RefusesIntake, flushing, holding};
+    ghost use Rattle.site_shared.specs.Accounts.{next_operation, receipt_of, record_of};
     ghost use Rattle.site_shared.specs.Law.{head_of};
     ghost use Rattle.site_shared.specs.Showing.{Goes};
 
@@ -76,11 +78,13 @@ impl Desk {
         }
     }
 
-    /// Stamps a body and publishes it, after all that is held. The receipt has the stamp, whose time is above that of all that was published or held. Memory
-    /// may be refused before the body is looked at; no operation of the call is held then. Waits for windows that look at what was shown two publishes
-    /// ago. Costs what came since then, and the rows of the journal in logarithm.
+    /// Stamps a body and publishes it, after all that is held. The receipt has the stamp, whose time is above that of
+    /// all that was published or held. Memory may be refused before the body is looked at; no operation of the call is
+    /// held then. Waits for windows that look at what was shown two publishes ago. Costs what came since then, and the
+    /// rows of the journal in logarithm.
     pub fn intake<R: Wait>(&mut self, rt: &R, draft: Draft) -> Result<Receipt, DeskFault>
-        ensures ok { IfOk result (λ receipt. let op = next_operation self.old (deed_of draft) in HasStamp self.old × IsFaultless (deed_of draft)
+        ensures ok { IfOk result (λ receipt. let op = next_operation self.old (deed_of draft) in HasStamp self.old
+            × IsFaultless (deed_of draft)
             × (self.new ≡ flushing (holding self.old (op ∷ []))) × (receipt ≡ receipt_of self.new (Some op.stamp))) }
         ensures err { IfErr result (λ fault. RefusesIntake self.old (deed_of draft) fault self.new) }
         ensures opening { IsSameOpening self.old self.new }
@@ -94,7 +98,8 @@ impl Desk {
 
     /// Publishes operations, whether they are new or not, after all that is held. Waits and costs as `intake`.
     pub fn take_all<R: Wait>(&mut self, rt: &R, ops: Vec<Op>) -> Result<Receipt, DeskFault>
-        ensures ok { IfOk result (λ receipt. (self.new ≡ flushing (holding self.old ops.items)) × (receipt ≡ receipt_of self.new None)) }
+        ensures ok { IfOk result
+            (λ receipt. (self.new ≡ flushing (holding self.old ops.items)) × (receipt ≡ receipt_of self.new None)) }
         ensures err { IfErr result (λ fault. RefusesAll self.old ops.items fault self.new) }
         ensures opening { IsSameOpening self.old self.new }
     {
@@ -120,9 +125,11 @@ impl Desk {
 
     /// Stamps a body and holds it, without a publish, and answers the stamp. Waits for nobody.
     pub fn hold(&mut self, draft: Draft) -> Result<Stamp, DeskFault>
-        ensures ok { IfOk result (λ stamp. let op = next_operation self.old (deed_of draft) in HasStamp self.old × IsFaultless (deed_of draft)
+        ensures ok { IfOk result (λ stamp. let op = next_operation self.old (deed_of draft) in HasStamp self.old
+            × IsFaultless (deed_of draft)
             × (self.new ≡ holding self.old (op ∷ [])) × (stamp ≡ op.stamp)) }
-        ensures err { IfErr result (λ fault. (self.new ≡ self.old) × RefusesIntake self.old (deed_of draft) fault self.old) }
+        ensures err { IfErr result
+            (λ fault. (self.new ≡ self.old) × RefusesIntake self.old (deed_of draft) fault self.old) }
         ensures opening { IsSameOpening self.old self.new }
     {
         let op = self.stamped(draft)?;
@@ -151,7 +158,8 @@ impl Desk {
 
     /// Holds an operation, unless it was published or is held, without a publish. Waits for nobody.
     pub fn hold_new(&mut self, op: Op) -> Result<(), NoMemory>
-        ensures ok { OnOk result (self.new ≡ (if has (record_of self.old) op then self.old else holding self.old (op ∷ []))) }
+        ensures ok { OnOk result
+            (self.new ≡ (if has (record_of self.old) op then self.old else holding self.old (op ∷ []))) }
         ensures err { OnErr result (self.new ≡ self.old) }
         ensures opening { IsSameOpening self.old self.new }
     {
@@ -171,7 +179,8 @@ impl Desk {
         self.held.as_slice()
     }
 
-    /// Ends the site: a window that is asked from now on answers what was shown last, or `Closed`. What is held is dropped. Waits for windows that look.
+    /// Ends the site: a window that is asked from now on answers what was shown last, or `Closed`. What is held is
+    /// dropped. Waits for windows that look.
     pub fn end<R: Wait>(self, rt: &R) {
         let Desk {
             show,
@@ -189,7 +198,8 @@ impl Desk {
     /// The operation of a body, under the next stamp.
     fn stamped(&mut self, draft: Draft) -> Result<Op, DeskFault>
         ensures same { self.new ≡ self.old }
-        ensures ok { IfOk result (λ op. (op ≡ next_operation self.old (deed_of draft)) × HasStamp self.old × IsFaultless (deed_of draft)) }
+        ensures ok { IfOk result
+            (λ op. (op ≡ next_operation self.old (deed_of draft)) × HasStamp self.old × IsFaultless (deed_of draft)) }
         ensures err { IfErr result (λ fault. RefusesIntake self.old (deed_of draft) fault self.old) }
     {
         let Ok(next) = self.take_next() else {
@@ -259,7 +269,8 @@ impl Desk {
     /// Shows the replica of a sight that has one publish more, of what was held.
     fn turn_to<R: Wait>(&mut self, rt: &R, replica: Arc<Replica>, twin: Arc<Replica>, sight: Sight)
         requires replicas { (arc_value replica ≡ record_of self.old) × (arc_value twin ≡ record_of self.old) }
-        requires sight { (sight.seen.log ≡ self.old.published ++ self.old.held ∷ []) × (sight.seen.book ≡ self.old.book) }
+        requires sight { (sight.seen.log ≡ self.old.published ++ self.old.held ∷ [])
+            × (sight.seen.book ≡ self.old.book) }
         ensures { self.new ≡ flushing self.old }
     {
         let next = Shown {
@@ -272,7 +283,8 @@ impl Desk {
             |show: Show, next: Shown| -> (Show, ())
                 requires settled { drop show.behind show.log.items ≡ [] }
                 requires goes_on { Goes show.desk.shown.value.sight.seen next.sight.seen }
-                ensures { (drop result.0.behind result.0.log.items ≡ []) × (result.0.desk.shown.value.sight.seen ≡ next.sight.seen) }
+                ensures { (drop result.0.behind result.0.log.items ≡ [])
+                    × (result.0.desk.shown.value.sight.seen ≡ next.sight.seen) }
             { (shown_by(rt, show, next), ()) },
         );
         let Shown {

@@ -1,7 +1,8 @@
 //! Why a running site doesn't do what it is asked for.
 
 ghost use Rattle.std.specs.Prelude.{◌≡◌, codes};
-ghost use Rattle.site_shared.specs.Fault.{desk_name_of, desk_number_of, open_name_of, open_number_of, refresh_name_of, refresh_number_of, window_name_of, window_number_of};
+ghost use Rattle.site_shared.specs.Fault.{desk_name_of, desk_number_of, open_name_of, open_number_of, refresh_name_of};
+ghost use Rattle.site_shared.specs.Fault.{refresh_number_of, window_name_of, window_number_of};
 
 use review_ops::BodyFault;
 use thiserror::Error;
@@ -29,7 +30,8 @@ pub enum DeskFault {
     /// 2: the body is refused.
     #[error("bad body: {0}")]
     BadBody(BodyFault),
-    /// 3: memory was refused. So many operations of the call, its first ones, are held, and are published first by the next call that publishes.
+    /// 3: memory was refused. So many operations of the call, its first ones, are held, and are published first by the
+    /// next call that publishes.
     #[error("no memory, {0} operations are held")]
     NoMemory(usize),
 }

@@ -1,9 +1,10 @@
-//! A running site that threads share without locks: one desk takes in and publishes, up to eight windows look beside it and never wait for it, and
-//! receipts tell a window what it must have seen.
+//! A running site that threads share without locks: one desk takes in and publishes, up to eight windows look beside it
+//! and never wait for it, and receipts show a window what it must have seen.
 //!
-//! What was published is one list, which begins with the journal that the site was opened with and only grows. The desk's account is that list and
-//! what is held; each look of a window is at one prefix of the list, which goes on from all that the window has seen and learnt. A watch keeps the
-//! verdicts on what a window saw, and a window brings it up to date.
+//! What was published is one list, which begins with the journal that the site was opened with and only grows. The
+//! desk's account is that list and what is held; each look of a window is at one prefix of the list, which goes on from
+//! all that the window has seen and learnt. A watch keeps the verdicts on what a window saw, and a window brings it up
+//! to date.
 //!
 //! | Fault | Where |
 //! |---|---|
@@ -16,6 +17,7 @@
 //! | `RefreshFault` 2 `NoMemory` | of `Window::refresh`: the watch has no verdicts until a refresh succeeds |
 #![tactic(auto)]
 
+mod branded;
 mod desk;
 mod fault;
 mod law;
@@ -28,16 +30,15 @@ mod shown;
 mod sight;
 mod spares;
 mod stage;
-mod told;
 mod watch;
 mod window;
 
+pub use branded::{BrandedReceipt, Naming};
 pub use desk::Desk;
 pub use fault::{DeskFault, OpenFault, RefreshFault, Stranger, WindowFault};
 pub use laws::{later_journals_go_on, publishes_are_steps, stamps_are_above_all};
 pub use open::open_site;
 pub use pause::Pause;
 pub use receipt::Receipt;
-pub use told::{Naming, Told};
 pub use watch::Watch;
 pub use window::Window;

@@ -21,8 +21,8 @@ use review_ops::Op;
 use std::alloc::Global;
 use std::sync::{Arc, Wait};
 
-/// Opens a site over a replica, with one desk and so many windows. Where the replica holds a stamp of the site under this start or a later one it answers
-/// `StartUsed`, before all else. Walks the journal once.
+/// Opens a site over a replica, with one desk and so many windows. Where the replica holds a stamp of the site under
+/// this start or a later one it answers `StartUsed`, before all else. Walks the journal once.
 pub fn open_site<R: Wait>(
     rt: &R,
     site: u16,
@@ -34,7 +34,8 @@ pub fn open_site<R: Wait>(
     ensures used { (result ≡ Err StartUsed) ↔ (list_any (is_used site start) replica ≡ true) }
     ensures desk { IfOk result (λ opened. (opened.0.published ≡ replica ∷ []) × (opened.0.held ≡ [])
         × (opened.0.site ≡ site) × (opened.0.start ≡ start)) }
-    ensures windows { IfOk result (λ opened. (vec_len opened.1 ≡ windows) × All (λ window. window ≡ watching opened.0) opened.1.items) }
+    ensures windows { IfOk result
+        (λ opened. (vec_len opened.1 ≡ windows) × All (λ window. window ≡ watching opened.0) opened.1.items) }
 {
     if is_start_used(replica.as_slice(), site, start) {
         return Err(OpenFault::StartUsed);
@@ -64,7 +65,8 @@ fn is_start_used(ops: &[Op], site: u16, start: u32) -> bool
 
 /// The list of publishes, which begins with a journal, and the replica that has it.
 fn opening(alloc: Global, replica: Replica) -> Result<(Head, Shown), NoMemory>
-    ensures { IfOk result (λ opened. (opened.0 ≡ head_of opened.1.sight.seen.book) × (opened.1.sight.seen.log ≡ replica ∷ [])) }
+    ensures { IfOk result
+        (λ opened. (opened.0 ≡ head_of opened.1.sight.seen.book) × (opened.1.sight.seen.log ≡ replica ∷ [])) }
 {
     let Opened { head, sight } = Opened::new();
     let Some(sight) = sight.with::<Replica, Opens>(&head, &replica) else {
@@ -82,7 +84,8 @@ fn shown_first<R: Wait>(
     latest: &Shown,
 ) -> Result<Show, NoMemory>
     requires { (0 < windows) × (windows ≤ 8) }
-    ensures { IfOk result (λ show. (drop show.behind show.log.items ≡ []) × (show.desk.shown.value.sight.seen ≡ latest.now.sight.seen)
+    ensures { IfOk result
+        (λ show. (drop show.behind show.log.items ≡ []) × (show.desk.shown.value.sight.seen ≡ latest.now.sight.seen)
         × (view show.desk.place ≡ Some latest.now.sight.seen)) }
 {
     let first = latest.again()?;
@@ -101,7 +104,8 @@ fn new_windows(
     count: usize,
 ) -> Result<Vec<Window>, OpenFault>
     requires { view show.old.desk.place ≡ Some sight.now.seen }
-    ensures kept { (show.new.desk.shown ≡ show.old.desk.shown) × (show.new.log ≡ show.old.log) × (show.new.behind ≡ show.old.behind) }
+    ensures kept { (show.new.desk.shown ≡ show.old.desk.shown) × (show.new.log ≡ show.old.log)
+        × (show.new.behind ≡ show.old.behind) }
     ensures ok { IfOk result (λ made. (vec_len made ≡ count)
         × All (λ w. w ≡ record { book = sight.now.seen.book; seen = sight.now.seen.log; site = origin.0; start = origin.1 }) made.items) }
     ensures err { IfErr result (λ fault. fault ≢ StartUsed) }

@@ -6,7 +6,8 @@ use crate::sight::Sight;
 use review_ops::Stamp;
 use std::marker::Model;
 
-/// The publishes of an opening, up to one of them. A window that learns it sees no less from then on. Contracts see the list. Threads may share it.
+/// The publishes of an opening, up to one of them. A window that learns it sees no less from then on. Contracts see the
+/// list. Threads may share it.
 #[derive(Drop)]
 pub struct Receipt {
     sight: Sight,
@@ -25,7 +26,8 @@ impl Model for Receipt {
 
 impl Receipt {
     pub(crate) fn new(sight: Sight, site: u16, start: u32, stamp: Option<Stamp>) -> Receipt
-        ensures { result ≡ record { book = sight.seen.book; published = sight.seen.log; site = site; start = start; stamp = stamp } }
+        ensures { result
+            ≡ record { book = sight.seen.book; published = sight.seen.log; site = site; start = start; stamp = stamp } }
     {
         Receipt {
             sight,

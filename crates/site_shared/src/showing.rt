@@ -28,7 +28,7 @@ impl Protocol<Shown, Knowledge> for Shows {
     ghost first = { None };
 }
 
-/// What entering and publishing tell.
+/// What entering and publishing show.
 pub struct Sees;
 
 impl Outcome<Shown, Knowledge> for Sees {
@@ -37,7 +37,7 @@ impl Outcome<Shown, Knowledge> for Sees {
     ghost then = { Sees };
 }
 
-/// The desk tells all that it knows.
+/// The desk shows all that it knows.
 pub struct Tells;
 
 impl Split<Knowledge> for Tells {
@@ -46,7 +46,7 @@ impl Split<Knowledge> for Tells {
     ghost right = { λ known. known };
 }
 
-/// A new window takes in what it is told.
+/// A new window takes in what it is shown.
 pub struct TakesIn;
 
 impl Join<Knowledge> for TakesIn {

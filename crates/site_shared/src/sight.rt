@@ -72,7 +72,8 @@ impl Sight {
         }
     }
 
-    /// Adds a publish to all that was seen: what the value asks for. None where the list has another one there, which no one but its desk adds.
+    /// Adds a publish to all that was seen: what the value asks for. None where the list has another one there, which
+    /// no one but its desk adds.
     pub fn with<X, M: Plain<X, Member, u64>>(&self, head: &Head, about: &X) -> Option<Sight>
         requires head { head.now ≡ head_of self.now.seen.book }
         requires plain { M.state about.now ≡ None }

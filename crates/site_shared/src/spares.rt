@@ -1,4 +1,5 @@
-//! The replicas that were shown before. The older one isn't looked at any more, so that it can be brought up and shown again.
+//! The replicas that were shown before. The older one isn't looked at any more, so that it can be brought up and shown
+//! again.
 
 ghost use Rattle.std.specs.Prelude.{◌≡◌, IfOk};
 ghost use Rattle.std.specs.Arc.{arc_value};
@@ -30,8 +31,8 @@ impl Spares {
         }
     }
 
-    /// A replica that is equal to the one which is shown: the older spare brought up, where nobody looks at it, in time that grows with what it
-    /// lacks, and else a copy, which costs the journal.
+    /// A replica that is equal to the one which is shown: the older spare brought up, where nobody looks at it, in time
+    /// that grows with what it lacks, and else a copy, which costs the journal.
     pub fn brought_up(&mut self, shown: &Replica) -> Result<Replica, NoMemory>
         requires { AreSpares shown.now self.old }
         ensures spares { AreSpares shown.now self.new }

@@ -36,7 +36,8 @@ fn appended<R: Wait>(rt: &R, mut show: Show, next: Shown) -> Show
 
 /// Shows what lies before the writer. It tries until that is shown, for the list of publishes has it already.
 fn published<R: Wait>(rt: &R, mut show: Show) -> Show
-    requires { Goes show.desk.shown.value.sight.seen (seen_after show.desk.shown.value.sight.seen (drop show.behind show.log.items)) }
+    requires { Goes show.desk.shown.value.sight.seen
+        (seen_after show.desk.shown.value.sight.seen (drop show.behind show.log.items)) }
     ensures settled { drop result.behind result.log.items ≡ [] }
     ensures shown { result.desk.shown.value.sight.seen
         ≡ seen_after show.desk.shown.value.sight.seen (drop show.behind show.log.items) }

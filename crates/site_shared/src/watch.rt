@@ -15,8 +15,9 @@ use replica_core::Replica;
 use std::marker::Model;
 use watch_core::Evaluator;
 
-/// The verdicts under a gate on what a window saw. `Window::watch` makes it, and `Window::refresh` brings it up to date. Contracts see which opening it
-/// is of, what was seen, the site and the start that it bears, the gate, and the verdicts.
+/// The verdicts under a gate on what a window saw. `Window::watch` makes it, and `Window::refresh` brings it up to
+/// date. Contracts see which opening it is of, what was seen, the site and the start that it bears, the gate, and the
+/// verdicts.
 #[derive(Drop)]
 pub struct Watch {
     evaluator: Evaluator,
@@ -88,7 +89,8 @@ impl Watch {
         &self.sight
     }
 
-    /// Brings the verdicts up to those on a replica that has the publishes of a later sight. Where memory is refused there are none.
+    /// Brings the verdicts up to those on a replica that has the publishes of a later sight. Where memory is refused
+    /// there are none.
     pub(crate) fn follow(&mut self, replica: &Replica, sight: &Sight) -> Result<(), NoMemory>
         requires book { sight.now.seen.book ≡ self.old.book }
         requires later { IsPrefix self.old.seen sight.now.seen.log }

@@ -1,6 +1,7 @@
 //! How threads look at a running site.
 
-ghost use Rattle.std.specs.Prelude.{◌≡◌, ◌⊎◌, ◌<◌, ◌↔◌, List, Err, IfErr, IfNone, IfOk, IfSome, IsOk, MatchBool, MatchResult, OnErr, OnOk, Some, length, nat_lt, take};
+ghost use Rattle.std.specs.Prelude.{◌≡◌, ◌⊎◌, ◌<◌, ◌↔◌, List, Err, IfErr, IfNone, IfOk, IfSome, IsOk, MatchBool};
+ghost use Rattle.std.specs.Prelude.{MatchResult, OnErr, OnOk, Some, length, nat_lt, take};
 ghost use Rattle.std.specs.Arc.{arc_value};
 ghost use Rattle.std.specs.List.{list_any};
 ghost use mathlib.Core.List.{IsPrefix};
@@ -29,8 +30,9 @@ use std::alloc::AllocError;
 use std::marker::Model;
 use watch_core::Evaluator;
 
-/// A place from which one thread looks at a running site, beside the desk and the other windows. It never waits for them. Each look is at one moment: at
-/// a prefix of the publishes, which goes on from all that the window has seen and learnt before. Contracts see that prefix.
+/// A place from which one thread looks at a running site, beside the desk and the other windows. It never waits for
+/// them. Each look is at one moment: at a prefix of the publishes, which goes on from all that the window has seen and
+/// learnt before. Contracts see that prefix.
 #[derive(Drop)]
 pub struct Window {
     glass: Option<Glass>,
@@ -67,8 +69,10 @@ impl Window {
     ) -> Result<Window, AllocError>
         requires { view show.old.desk.place ≡ Some sight.now.seen }
         ensures told { view show.new.desk.place ≡ Some sight.now.seen }
-        ensures kept { (show.new.desk.shown ≡ show.old.desk.shown) × (show.new.log ≡ show.old.log) × (show.new.behind ≡ show.old.behind) }
-        ensures ok { IfOk result (λ w. w ≡ record { book = sight.now.seen.book; seen = sight.now.seen.log; site = site; start = start }) }
+        ensures kept { (show.new.desk.shown ≡ show.old.desk.shown) × (show.new.log ≡ show.old.log)
+            × (show.new.behind ≡ show.old.behind) }
+        ensures ok { IfOk result
+            (λ w. w ≡ record { book = sight.now.seen.book; seen = sight.now.seen.log; site = site; start = start }) }
     {
         let mut glass = show.factory().reader()?;
         let note = show.tell::<Tells>();
@@ -81,8 +85,9 @@ impl Window {
         })
     }
 
-    /// Takes in a receipt: from now on the window sees no less than the publish that it was answered for. A receipt that bears the window's own site and
-    /// start comes from the window's opening; of any other one nothing is taken in. Takes no memory.
+    /// Takes in a receipt: from now on the window sees no less than the publish that it was answered for. A receipt
+    /// that bears the window's own site and start comes from the window's opening; of any other one nothing is taken
+    /// in. Takes no memory.
     pub fn learn(&mut self, receipt: &Receipt) -> Result<(), Stranger>
         requires { IsOwn self.old receipt.now → receipt.now.book ≡ self.old.book }
         ensures own { IsOk result ↔ IsOwn self.old receipt.now }
@@ -97,7 +102,8 @@ impl Window {
         Ok(())
     }
 
-    /// Whether this window has seen all that another one of its opening has. What one of the two has seen begins what the other has: they see one list.
+    /// Whether this window has seen all that another one of its opening has. What one of the two has seen begins what
+    /// the other has: they see one list.
     pub fn covers(&self, other: &Window) -> bool
         requires { other.now.book ≡ self.now.book }
         ensures { MatchBool result (IsPrefix other.now.seen self.now.seen) (IsPrefix self.now.seen other.now.seen) }
@@ -114,7 +120,8 @@ impl Window {
         self.report_with(gate, &mut AtOnce)
     }
 
-    /// As `report`, with a pause: the window enters, asks the pause until it answers false, at most 1,000,000 times, and then looks at what it entered at.
+    /// As `report`, with a pause: the window enters, asks the pause until it answers false, at most 1,000,000 times,
+    /// and then looks at what it entered at.
     pub fn report_with<P: Pause>(
         &mut self,
         gate: &Gate,
@@ -135,7 +142,8 @@ impl Window {
         verdicts.map_err(|_| WindowFault::NoMemory)
     }
 
-    /// The verdicts under a gate on what the window sees, which `refresh` brings up to date. Costs what `evaluate` does.
+    /// The verdicts under a gate on what the window sees, which `refresh` brings up to date. Costs what `evaluate`
+    /// does.
     pub fn watch(&mut self, gate: Gate) -> Result<Watch, WindowFault>
         ensures later { GoesOn self.old self.new }
         ensures ok { IfOk result (IsWatchOf gate self.new) }
@@ -153,9 +161,10 @@ impl Window {
         Ok(Watch::new(evaluator, sight, self.site, self.start))
     }
 
-    /// Brings a watch up to date with what the window sees, which is then no less than what the watch saw. A watch that bears the window's own site and
-    /// start comes from the window's opening; any other one is refused. Memory is refused only where something new came, or the watch has no verdicts.
-    /// Costs what `Evaluator::update` does, over one look, without a copy of the replica.
+    /// Brings a watch up to date with what the window sees, which is then no less than what the watch saw. A watch that
+    /// bears the window's own site and start comes from the window's opening; any other one is refused. Memory is
+    /// refused only where something new came, or the watch has no verdicts. Costs what `Evaluator::update` does, over
+    /// one look, without a copy of the replica.
     pub fn refresh(&mut self, watch: &mut Watch) -> Result<(), RefreshFault>
         requires { IsOwnWatch self.old watch.old → watch.old.book ≡ self.old.book }
         ensures later { GoesOn self.old self.new }
@@ -177,7 +186,8 @@ impl Window {
         }
     }
 
-    /// Whether the journal has an operation with this stamp. Takes no memory, and time logarithmic in the rows and in the operations of its row.
+    /// Whether the journal has an operation with this stamp. Takes no memory, and time logarithmic in the rows and in
+    /// the operations of its row.
     pub fn has(&mut self, stamp: Stamp) -> Result<bool, WindowFault>
         ensures later { GoesOn self.old self.new }
         ensures ok { IfOk result (λ found. found ≡ has_stamp (arrive self.new.seen) stamp) }
@@ -191,12 +201,13 @@ impl Window {
         Ok(found)
     }
 
-    /// Whether one of the operations bears the window's own site, and its start or a later one, though the journal hasn't
-    /// got it: then another process takes in as this site. Takes no memory, and for each operation time logarithmic in the
-    /// rows and in the operations of its row.
+    /// Whether one of the operations bears the window's own site, and its start or a later one, though the journal
+    /// hasn't got it: then another process takes in as this site. Takes no memory, and for each operation time
+    /// logarithmic in the rows and in the operations of its row.
     pub fn has_foreign(&mut self, ops: &[Op]) -> Result<bool, WindowFault>
         ensures later { GoesOn self.old self.new }
-        ensures ok { IfOk result (λ found. found ≡ list_any (is_foreign self.old.site self.old.start (arrive self.new.seen)) ops.now) }
+        ensures ok { IfOk result
+            (λ found. found ≡ list_any (is_foreign self.old.site self.old.start (arrive self.new.seen)) ops.now) }
         ensures closed { IfErr result (λ fault. (fault ≡ Closed) × (self.new ≡ self.old)) }
     {
         let (site, start) = (self.site, self.start);
@@ -222,8 +233,8 @@ impl Window {
         front.map_err(|_| WindowFault::NoMemory)
     }
 
-    /// Copies of the operations that a front lacks, by site, start, sequence number, time and body: the first `limit` of them. Grows with what it
-    /// answers.
+    /// Copies of the operations that a front lacks, by site, start, sequence number, time and body: the first `limit`
+    /// of them. Grows with what it answers.
     pub fn missing(&mut self, front: &Front, limit: usize) -> Result<Missing, WindowFault>
         ensures later { GoesOn self.old self.new }
         ensures ok { IfOk result (λ missing. (all : List Operation) × IsMissing (arrive self.new.seen) front.now all
@@ -238,7 +249,8 @@ impl Window {
         missing.map_err(|_| WindowFault::NoMemory)
     }
 
-    /// A copy of the replica: the opening's arrivals, and then those of each publish, in its order. It costs the journal.
+    /// A copy of the replica: the opening's arrivals, and then those of each publish, in its order. It costs the
+    /// journal.
     pub fn snapshot(&mut self) -> Result<Replica, WindowFault>
         ensures later { GoesOn self.old self.new }
         ensures ok { IfOk result (λ copied. copied ≡ arrive self.new.seen) }
@@ -254,7 +266,8 @@ impl Window {
 
     /// Takes what is shown. None where the desk has ended, and where less is shown than was learnt, which no desk does.
     fn enter(&mut self) -> Option<Look>
-        ensures some { IfSome result (λ look. (look.part.value.sight.seen.log ≡ self.new.seen) × Knows self.new.book (view look.place)) }
+        ensures some { IfSome result
+            (λ look. (look.part.value.sight.seen.log ≡ self.new.seen) × Knows self.new.book (view look.place)) }
         ensures later { GoesOn self.old self.new }
         ensures none { IfNone result (self.new ≡ self.old) }
     {
@@ -277,7 +290,8 @@ impl Window {
     /// Takes what is shown, which goes on from what a sight of the opening has seen, too.
     fn enter_from(&mut self, sight: &Sight) -> Option<Look>
         requires { sight.now.seen.book ≡ self.old.book }
-        ensures some { IfSome result (λ look. (look.part.value.sight.seen.log ≡ self.new.seen) × Knows self.new.book (view look.place)) }
+        ensures some { IfSome result
+            (λ look. (look.part.value.sight.seen.log ≡ self.new.seen) × Knows self.new.book (view look.place)) }
         ensures no_less { IfSome result (λ _. IsPrefix sight.now.seen.log self.new.seen) }
         ensures later { GoesOn self.old self.new }
         ensures none { IfNone result (self.new ≡ self.old) }

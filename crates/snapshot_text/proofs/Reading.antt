@@ -1,5 +1,6 @@
 -- How a reading of a snapshot's lines goes on, line by line.
-use Rattle.std.proofs.Common.{◌≤◌, ◌≡◌, ℕ, ◌+◌, List, [], ◌∷◌, ◌++◌, length, refl, sym, ap, ◌∙◌, subst, arith, append_assoc, length-append}
+use Rattle.std.proofs.Common.{◌≤◌, ◌≡◌, ℕ, ◌+◌, List, [], ◌∷◌, ◌++◌, length, refl, sym, ap, ◌∙◌, subst, arith}
+use Rattle.std.proofs.Common.{append_assoc, length-append}
 use Rattle.std.proofs.lemmas.List.{append-nil}
 use Rattle.std.specs.Prelude.{codes, Option, None, Some, IfSome}
 use Rattle.byte_ends.specs.Lines.{lines_of}
@@ -12,25 +13,30 @@ use Rattle.op_text.specs.declared.fault.OpTextFault.TheVariants as op_fault
 use Rattle.replica_core.specs.JournalLaws.{all_arrived-push}
 use Rattle.replica_core.specs.Journal.{arrived, all_arrived}
 use Rattle.snapshot_text.specs.declared.fault.SnapFault.{SnapFault}
-use Rattle.snapshot_text.specs.declared.fault.SnapFault.TheVariants.{BadHeader, BadLine, NoEnd, BadCount, AfterEnd, TooLong, ReadFault, NoMemory}
-use Rattle.snapshot_text.specs.Snapshot.{IsHeader, IsEndLine, IsNoEndLine, IsOperationLine, AreOperationLines, BeginsWith, SaysOperations, IsFirstFault, IsRefusal, IsOfText, most_bytes}
+use Rattle.snapshot_text.specs.declared.fault.SnapFault.TheVariants.{BadHeader, BadLine, NoEnd, BadCount, AfterEnd}
+use Rattle.snapshot_text.specs.declared.fault.SnapFault.TheVariants.{TooLong, ReadFault, NoMemory}
+use Rattle.snapshot_text.specs.Snapshot.{IsHeader, IsEndLine, IsNoEndLine, IsOperationLine, AreOperationLines}
+use Rattle.snapshot_text.specs.Snapshot.{BeginsWith, SaysOperations, IsFirstFault, IsRefusal, IsOfText, most_bytes}
 use Rattle.snapshot_text.specs.Reading.{IsEndFault, IsLineFault, line_fault_of}
 
 -- ---- lines of operations
 
-AreOperationLines-push : (lines : List (List ℕ)) (ops : List Operation) (text : List ℕ) (op : Operation) → AreOperationLines lines ops → IsOperationLine text op → AreOperationLines (lines ++ text ∷ []) (ops ++ op ∷ [])
+AreOperationLines-push : (lines : List (List ℕ)) (ops : List Operation) (text : List ℕ) (op : Operation)
+    → AreOperationLines lines ops → IsOperationLine text op → AreOperationLines (lines ++ text ∷ []) (ops ++ op ∷ [])
 AreOperationLines-push [] [] text op are is = (is, tt)
 AreOperationLines-push [] (o ∷ ops) text op are is = absurd are
 AreOperationLines-push (l ∷ lines) [] text op are is = absurd are
 AreOperationLines-push (l ∷ lines) (o ∷ ops) text op are is = (are.0, AreOperationLines-push lines ops text op are.1 is)
 
-AreOperationLines-length : (lines : List (List ℕ)) (ops : List Operation) → AreOperationLines lines ops → length lines ≡ length ops
+AreOperationLines-length : (lines : List (List ℕ)) (ops : List Operation) → AreOperationLines lines ops
+    → length lines ≡ length ops
 AreOperationLines-length [] [] are = refl
 AreOperationLines-length [] (o ∷ ops) are = absurd are
 AreOperationLines-length (l ∷ lines) [] are = absurd are
 AreOperationLines-length (l ∷ lines) (o ∷ ops) are = omega (arith, AreOperationLines-length lines ops are.1)
 
-BeginsWith-push : {lines : List (List ℕ)} {ops : List Operation} {rest : List (List ℕ)} (text : List ℕ) (op : Operation) → BeginsWith lines ops (text ∷ rest) → IsOperationLine text op → BeginsWith lines (ops ++ op ∷ []) rest
+BeginsWith-push : {lines : List (List ℕ)} {ops : List Operation} {rest : List (List ℕ)} (text : List ℕ) (op : Operation)
+    → BeginsWith lines ops (text ∷ rest) → IsOperationLine text op → BeginsWith lines (ops ++ op ∷ []) rest
 BeginsWith-push {lines} {ops} {rest} text op begins is = record {
   first = begins.first;
   front = begins.front ++ text ∷ [];
@@ -39,7 +45,8 @@ BeginsWith-push {lines} {ops} {rest} text op begins is = record {
   operations = AreOperationLines-push begins.front ops text op begins.operations is;
 }
 
-pub BeginsWith-length : {lines : List (List ℕ)} {ops : List Operation} {rest : List (List ℕ)} → BeginsWith lines ops rest → length lines ≡ length ops + length rest + 1
+pub BeginsWith-length : {lines : List (List ℕ)} {ops : List Operation} {rest : List (List ℕ)}
+    → BeginsWith lines ops rest → length lines ≡ length ops + length rest + 1
 BeginsWith-length {lines} {ops} {rest} begins =
     omega (arith, ap length begins.form, length-append begins.front rest, AreOperationLines-length begins.front ops begins.operations)
 
@@ -51,7 +58,8 @@ same_digits : (c d : List ℕ) → codes "end " ++ c ≡ codes "end " ++ d → c
 same_digits c d e = cc
 
 one_number : (text : List ℕ) (m n : ℕ) → IsEndLine text m → IsEndLine text n → m ≡ n
-one_number text m n a b = sym a.value ∙ ap (digits_value 10) (same_digits a.digits b.digits (sym a.form ∙ b.form)) ∙ b.value
+one_number text m n a b =
+    sym a.value ∙ ap (digits_value 10) (same_digits a.digits b.digits (sym a.form ∙ b.form)) ∙ b.value
 
 -- ---- what the rest of the lines says
 
@@ -65,7 +73,8 @@ pub record SaysFrom (rest : List (List ℕ)) (done whole : List Operation) : Typ
   operations : AreOperationLines front later
   end : IsEndLine last (length whole)
 
-from_start : {lines rest : List (List ℕ)} {whole : List Operation} (first : List ℕ) → lines ≡ first ∷ rest → SaysOperations lines whole → SaysFrom rest [] whole
+from_start : {lines rest : List (List ℕ)} {whole : List Operation} (first : List ℕ) → lines ≡ first ∷ rest
+    → SaysOperations lines whole → SaysFrom rest [] whole
 from_start {lines} {rest} {whole} first e says = record {
   later = whole;
   front = says.1.front;
@@ -89,18 +98,22 @@ record AtEnd (rest : List (List ℕ)) (done whole : List Operation) (n : ℕ) : 
   all : whole ≡ done
   number : n ≡ length whole
 
-at_end : (last : List ℕ) (rest : List (List ℕ)) (done whole : List Operation) (n : ℕ) → IsEndLine last n → SaysFrom (last ∷ rest) done whole → AtEnd rest done whole n
+at_end : (last : List ℕ) (rest : List (List ℕ)) (done whole : List Operation) (n : ℕ) → IsEndLine last n
+    → SaysFrom (last ∷ rest) done whole → AtEnd rest done whole n
 at_end last rest done whole n is says = by_front says.front says.later says.form says.operations says.split
   where
-    by_front : (front : List (List ℕ)) (later : List Operation) → last ∷ rest ≡ front ++ says.last ∷ [] → AreOperationLines front later → whole ≡ done ++ later → AtEnd rest done whole n
+    by_front : (front : List (List ℕ)) (later : List Operation) → last ∷ rest ≡ front ++ says.last ∷ []
+        → AreOperationLines front later → whole ≡ done ++ later → AtEnd rest done whole n
     by_front [] [] e are split = record {
       none = cc;
       all = split ∙ append-nil done;
-      number = let same : says.last ≡ last = cc in one_number last n (length whole) is (subst (λ t. IsEndLine t (length whole)) same says.end);
+      number = let same : says.last ≡ last = cc in one_number last n (length whole) is
+          (subst (λ t. IsEndLine t (length whole)) same says.end);
     }
     by_front [] (o ∷ later) e are split = absurd are
     by_front (l ∷ front) [] e are split = absurd are
-    by_front (l ∷ front) (o ∷ later) e are split = let same : last ≡ l = cc in absurd (are.0.other n (subst (λ t. IsEndLine t n) same is))
+    by_front (l ∷ front) (o ∷ later) e are split = let same : last ≡ l = cc in absurd
+        (are.0.other n (subst (λ t. IsEndLine t n) same is))
 
 -- a line that is no end line spells the next operation
 record AtLine (text : List ℕ) (rest : List (List ℕ)) (done whole : List Operation) : Type 0 where
@@ -108,11 +121,14 @@ record AtLine (text : List ℕ) (rest : List (List ℕ)) (done whole : List Oper
   spells : SpellsOperation text op
   says : SaysFrom rest (done ++ op ∷ []) whole
 
-at_line : (text : List ℕ) (rest : List (List ℕ)) (done whole : List Operation) → IsNoEndLine text → SaysFrom (text ∷ rest) done whole → AtLine text rest done whole
+at_line : (text : List ℕ) (rest : List (List ℕ)) (done whole : List Operation) → IsNoEndLine text
+    → SaysFrom (text ∷ rest) done whole → AtLine text rest done whole
 at_line text rest done whole other says = by_front says.front says.later says.form says.operations says.split
   where
-    by_front : (front : List (List ℕ)) (later : List Operation) → text ∷ rest ≡ front ++ says.last ∷ [] → AreOperationLines front later → whole ≡ done ++ later → AtLine text rest done whole
-    by_front [] later e are split = let same : says.last ≡ text = cc in absurd (other (length whole) (subst (λ t. IsEndLine t (length whole)) same says.end))
+    by_front : (front : List (List ℕ)) (later : List Operation) → text ∷ rest ≡ front ++ says.last ∷ []
+        → AreOperationLines front later → whole ≡ done ++ later → AtLine text rest done whole
+    by_front [] later e are split = let same : says.last ≡ text = cc in absurd
+        (other (length whole) (subst (λ t. IsEndLine t (length whole)) same says.end))
     by_front (l ∷ front) [] e are split = absurd are
     by_front (l ∷ front) (o ∷ later) e are split = let same : l ≡ text = cc in record {
       op = o;
@@ -138,7 +154,8 @@ pub record Reading (base : List Operation) (lines rest : List (List ℕ)) (journ
   pub counted : length ops ≡ count
   pub only : (whole : List Operation) → SaysOperations lines whole → SaysFrom rest ops whole
 
-pub Reading-start : {lines rest : List (List ℕ)} (base : List Operation) (first : List ℕ) → lines ≡ first ∷ rest → IsHeader first → Reading base lines rest base 0
+pub Reading-start : {lines rest : List (List ℕ)} (base : List Operation) (first : List ℕ) → lines ≡ first ∷ rest
+    → IsHeader first → Reading base lines rest base 0
 Reading-start base first e header = record {
   ops = [];
   begins = record { first = first; front = []; form = e; header = header; operations = tt };
@@ -148,8 +165,10 @@ Reading-start base first e header = record {
 }
 
 -- the operation of one more line arrives
-pub Reading-more : {base : List Operation} {lines : List (List ℕ)} {journal : List Operation} {count : ℕ} (text : List ℕ) (rest : List (List ℕ)) (op : Operation)
-    → Reading base lines (text ∷ rest) journal count → IsNoEndLine text → SpellsOperation text op → ((o : Operation) → SpellsOperation text o → o ≡ op) → Reading base lines rest (arrived journal op) (count + 1)
+pub Reading-more : {base : List Operation} {lines : List (List ℕ)} {journal : List Operation} {count : ℕ}
+    (text : List ℕ) (rest : List (List ℕ)) (op : Operation)
+    → Reading base lines (text ∷ rest) journal count → IsNoEndLine text → SpellsOperation text op
+    → ((o : Operation) → SpellsOperation text o → o ≡ op) → Reading base lines rest (arrived journal op) (count + 1)
 Reading-more {base} text rest op reading other spells one = record {
   ops = reading.ops ++ op ∷ [];
   begins = BeginsWith-push text op reading.begins (record { other = other; spells = spells });
@@ -160,12 +179,17 @@ Reading-more {base} text rest op reading other spells one = record {
       subst (λ o. SaysFrom rest (reading.ops ++ o ∷ []) whole) (one at.op at.spells) at.says;
 }
 
-pub Reading-whole : {base : List Operation} {lines : List (List ℕ)} {journal : List Operation} {count : ℕ} (last : List ℕ) (rest : List (List ℕ)) (n : ℕ)
-    → Reading base lines (last ∷ rest) journal count → IsEndLine last n → (whole : List Operation) → SaysOperations lines whole → journal ≡ all_arrived base whole
-Reading-whole {base} last rest n reading is whole says = reading.taken ∙ ap (all_arrived base) (sym (at_end last rest reading.ops whole n is (reading.only whole says)).all)
+pub Reading-whole : {base : List Operation} {lines : List (List ℕ)} {journal : List Operation} {count : ℕ}
+    (last : List ℕ) (rest : List (List ℕ)) (n : ℕ)
+    → Reading base lines (last ∷ rest) journal count → IsEndLine last n → (whole : List Operation)
+    → SaysOperations lines whole → journal ≡ all_arrived base whole
+Reading-whole {base} last rest n reading is whole says =
+    reading.taken ∙ ap (all_arrived base) (sym (at_end last rest reading.ops whole n is (reading.only whole says)).all)
 
-pub Reading-no_bad_end : {base : List Operation} {lines : List (List ℕ)} {journal : List Operation} {count : ℕ} (last : List ℕ) (rest : List (List ℕ)) (n : ℕ) (fault : SnapFault)
-    → Reading base lines (last ∷ rest) journal count → IsEndLine last n → IsEndFault n count rest fault → (whole : List Operation) → ¬ SaysOperations lines whole
+pub Reading-no_bad_end : {base : List Operation} {lines : List (List ℕ)} {journal : List Operation} {count : ℕ}
+    (last : List ℕ) (rest : List (List ℕ)) (n : ℕ) (fault : SnapFault)
+    → Reading base lines (last ∷ rest) journal count → IsEndLine last n → IsEndFault n count rest fault
+    → (whole : List Operation) → ¬ SaysOperations lines whole
 Reading-no_bad_end last rest n BadHeader reading is bad whole says = bad
 Reading-no_bad_end last rest n (BadLine k cause) reading is bad whole says = bad
 Reading-no_bad_end last rest n NoEnd reading is bad whole says = bad
@@ -179,11 +203,14 @@ Reading-no_bad_end last rest n TooLong reading is bad whole says = bad
 Reading-no_bad_end last rest n ReadFault reading is bad whole says = bad
 Reading-no_bad_end last rest n NoMemory reading is bad whole says = bad
 
-pub Reading-nothing : {base : List Operation} {lines : List (List ℕ)} {journal : List Operation} {count : ℕ} → Reading base lines [] journal count → (whole : List Operation) → ¬ SaysOperations lines whole
+pub Reading-nothing : {base : List Operation} {lines : List (List ℕ)} {journal : List Operation} {count : ℕ}
+    → Reading base lines [] journal count → (whole : List Operation) → ¬ SaysOperations lines whole
 Reading-nothing reading whole says = none_left (reading.only whole says)
 
-pub Reading-no_bad_line : {base : List Operation} {lines : List (List ℕ)} {journal : List Operation} {count : ℕ} (text : List ℕ) (rest : List (List ℕ)) (n : ℕ) (fault : SnapFault)
-    → Reading base lines (text ∷ rest) journal count → IsNoEndLine text → IsLineFault text n fault → (whole : List Operation) → SaysOperations lines whole → fault ≡ NoMemory
+pub Reading-no_bad_line : {base : List Operation} {lines : List (List ℕ)} {journal : List Operation} {count : ℕ}
+    (text : List ℕ) (rest : List (List ℕ)) (n : ℕ) (fault : SnapFault)
+    → Reading base lines (text ∷ rest) journal count → IsNoEndLine text → IsLineFault text n fault
+    → (whole : List Operation) → SaysOperations lines whole → fault ≡ NoMemory
 Reading-no_bad_line text rest n BadHeader reading other bad whole says = absurd bad
 Reading-no_bad_line text rest n (BadLine m cause) reading other bad whole says =
     let at = at_line text rest reading.ops whole other (reading.only whole says) in absurd (bad.2 at.op at.spells)
@@ -195,7 +222,9 @@ Reading-no_bad_line text rest n ReadFault reading other bad whole says = absurd 
 Reading-no_bad_line text rest n NoMemory reading other bad whole says = refl
 
 -- a refused line
-pub line_refused : (text : List ℕ) (number : ℕ) (cause : OpTextFault) → IsRefusalOf form.Operation text cause → ((op : Operation) → SpellsOperation text op → cause ≡ op_fault.NoMemory) → IsLineFault text number (line_fault_of number cause)
+pub line_refused : (text : List ℕ) (number : ℕ) (cause : OpTextFault) → IsRefusalOf form.Operation text cause
+    → ((op : Operation) → SpellsOperation text op → cause ≡ op_fault.NoMemory)
+    → IsLineFault text number (line_fault_of number cause)
 line_refused text number op_fault.NotJson refusal only = (refl, refusal, λ op spells. let e = only op spells in cc)
 line_refused text number (op_fault.BadShape key) refusal only = (refl, refusal, λ op spells. let e = only op spells in cc)
 line_refused text number (op_fault.BadBody fault) refusal only = (refl, refusal, λ op spells. let e = only op spells in cc)
@@ -203,7 +232,8 @@ line_refused text number op_fault.NoMemory refusal only = tt
 
 -- ---- from the lines to the bytes
 
-pub refusal_of : (text : List ℕ) (fault : SnapFault) → length text ≤ most_bytes → IsFirstFault (lines_of text) fault → IsRefusal text fault × IsOfText fault
+pub refusal_of : (text : List ℕ) (fault : SnapFault) → length text ≤ most_bytes → IsFirstFault (lines_of text) fault
+    → IsRefusal text fault × IsOfText fault
 refusal_of text BadHeader within is = ((within, is), ((λ e. cc), (λ e. cc)))
 refusal_of text (BadLine n cause) within is = ((within, is), ((λ e. cc), (λ e. cc)))
 refusal_of text NoEnd within is = ((within, is), ((λ e. cc), (λ e. cc)))
@@ -213,7 +243,8 @@ refusal_of text TooLong within is = absurd is
 refusal_of text ReadFault within is = absurd is
 refusal_of text NoMemory within is = (tt, ((λ e. cc), (λ e. cc)))
 
--- what a text is refused by is a refusal of the bytes that are told to be it
-pub known_refusal : (left : Option (List ℕ)) (bytes : List ℕ) → IfSome left (λ text. bytes ≡ text) → (fault : SnapFault) → IsRefusal bytes fault × IsOfText fault → IfSome left (λ text. IsRefusal text fault)
+-- what a text is refused by is a refusal of the bytes that are known to be it
+pub known_refusal : (left : Option (List ℕ)) (bytes : List ℕ) → IfSome left (λ text. bytes ≡ text) → (fault : SnapFault)
+    → IsRefusal bytes fault × IsOfText fault → IfSome left (λ text. IsRefusal text fault)
 known_refusal None bytes same fault is = tt
 known_refusal (Some text) bytes same fault is = subst (λ t. IsRefusal t fault) same is.0

@@ -4,7 +4,8 @@ use Rattle.byte_ends.specs.declared.faults.BytesFault.{BytesFault}
 use Rattle.byte_ends.specs.declared.faults.BytesFault.TheVariants as bytes
 use Rattle.op_text.specs.Fault as operation
 use Rattle.snapshot_text.specs.declared.fault.SnapFault.{SnapFault}
-use Rattle.snapshot_text.specs.declared.fault.SnapFault.TheVariants.{BadHeader, BadLine, NoEnd, BadCount, AfterEnd, TooLong, ReadFault, NoMemory}
+use Rattle.snapshot_text.specs.declared.fault.SnapFault.TheVariants.{BadHeader, BadLine, NoEnd, BadCount, AfterEnd}
+use Rattle.snapshot_text.specs.declared.fault.SnapFault.TheVariants.{TooLong, ReadFault, NoMemory}
 use Rattle.snapshot_text.specs.declared.fault.WriteSnapFault.{WriteSnapFault}
 use Rattle.snapshot_text.specs.declared.fault.WriteSnapFault.TheVariants as write
 

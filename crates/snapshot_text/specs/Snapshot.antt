@@ -13,7 +13,8 @@ use Rattle.op_text.specs.Text.{operation_text}
 use Rattle.snapshot_text.specs.declared.fault.WriteSnapFault.{WriteSnapFault}
 use Rattle.snapshot_text.specs.declared.fault.WriteSnapFault.TheVariants as write
 use Rattle.snapshot_text.specs.declared.fault.SnapFault.{SnapFault}
-use Rattle.snapshot_text.specs.declared.fault.SnapFault.TheVariants.{BadHeader, BadLine, NoEnd, BadCount, AfterEnd, TooLong, ReadFault, NoMemory}
+use Rattle.snapshot_text.specs.declared.fault.SnapFault.TheVariants.{BadHeader, BadLine, NoEnd, BadCount, AfterEnd}
+use Rattle.snapshot_text.specs.declared.fault.SnapFault.TheVariants.{TooLong, ReadFault, NoMemory}
 
 -- ---- what is written
 
@@ -23,7 +24,8 @@ operation_lines ops = flat_map (λ op. as_line (operation_text op)) ops
 
 -- the header, the operations one a line, and the end line with their number
 abbrev pub snapshot_text : List Operation → List ℕ
-snapshot_text ops = as_line (codes "reviewgate 2") ++ operation_lines ops ++ as_line (codes "end " ++ decimal (length ops))
+snapshot_text ops =
+    as_line (codes "reviewgate 2") ++ operation_lines ops ++ as_line (codes "end " ++ decimal (length ops))
 
 -- ---- what is read
 
@@ -73,16 +75,19 @@ IsCause text (op_fault.BadShape key) = IsRefusalOf form.Operation text (op_fault
 IsCause text (op_fault.BadBody fault) = IsRefusalOf form.Operation text (op_fault.BadBody fault)
 IsCause text op_fault.NoMemory = ⊥
 
--- Which fault stands first in the lines: all lines before it are as they should be. Want of memory says nothing of them.
+-- Which fault is first in the lines: all lines before it are as they should be. Want of memory says nothing of them.
 abbrev pub IsFirstFault : List (List ℕ) → SnapFault → Type 0
 IsFirstFault lines BadHeader = (first : List ℕ) (rest : List (List ℕ)) → lines ≡ first ∷ rest → ¬ IsHeader first
 IsFirstFault lines (BadLine n cause) =
-    (ops : List Operation) × (text : List ℕ) × (rest : List (List ℕ)) × BeginsWith lines ops (text ∷ rest) × (n ≡ length ops + 2) × IsNoEndLine text × IsCause text cause
+    (ops : List Operation) × (text : List ℕ) × (rest : List (List ℕ)) × BeginsWith lines ops (text ∷ rest)
+    × (n ≡ length ops + 2) × IsNoEndLine text × IsCause text cause
 IsFirstFault lines NoEnd = (ops : List Operation) × BeginsWith lines ops []
 IsFirstFault lines BadCount =
-    (ops : List Operation) × (last : List ℕ) × (rest : List (List ℕ)) × BeginsWith lines ops (last ∷ rest) × (count : ℕ) × IsEndLine last count × (count ≢ length ops)
+    (ops : List Operation) × (last : List ℕ) × (rest : List (List ℕ)) × BeginsWith lines ops (last ∷ rest) × (count : ℕ)
+    × IsEndLine last count × (count ≢ length ops)
 IsFirstFault lines AfterEnd =
-    (ops : List Operation) × (last after : List ℕ) × (rest : List (List ℕ)) × BeginsWith lines ops (last ∷ after ∷ rest) × IsEndLine last (length ops)
+    (ops : List Operation) × (last after : List ℕ) × (rest : List (List ℕ)) × BeginsWith lines ops (last ∷ after ∷ rest)
+    × IsEndLine last (length ops)
 IsFirstFault lines TooLong = ⊥
 IsFirstFault lines ReadFault = ⊥
 IsFirstFault lines NoMemory = Unit {0}
@@ -93,7 +98,8 @@ IsFirstFault lines NoMemory = Unit {0}
 abbrev pub most_bytes : ℕ
 most_bytes = 1073741824
 
--- why a text isn't read: there is too much of it, or else its first fault. A failing source and want of memory say nothing of it.
+-- why a text isn't read: there is too much of it, or else its first fault. A failing source and want of memory say
+-- nothing of it.
 abbrev pub IsRefusal : List ℕ → SnapFault → Type 0
 IsRefusal text BadHeader = (length text ≤ most_bytes) × IsFirstFault (lines_of text) BadHeader
 IsRefusal text (BadLine n cause) = (length text ≤ most_bytes) × IsFirstFault (lines_of text) (BadLine n cause)
@@ -112,7 +118,7 @@ IsOfText fault = (fault ≢ TooLong) × (fault ≢ ReadFault)
 abbrev pub IsOutside : SnapFault → Type 0
 IsOutside fault = (fault ≡ TooLong) ⊎ (fault ≡ ReadFault) ⊎ (fault ≡ NoMemory)
 
--- a failing source is told by a count of one failure more, and any other fault leaves the count
+-- after a failing source the count is one failure more, and any other fault leaves it
 abbrev pub CountsSnapFault : ℕ → ℕ → SnapFault → Type 0
 CountsSnapFault old new BadHeader = new ≡ old
 CountsSnapFault old new (BadLine n cause) = new ≡ old

@@ -1,8 +1,10 @@
 //! Why a snapshot isn't read or written.
 
 ghost use Rattle.std.specs.Prelude.{◌≡◌, ◌++◌, OnOk, string_bytes};
-ghost use Rattle.snapshot_text.specs.Fault.{number_of, name_of, words_of, write_number_of, write_name_of, snap_fault_of};
-ghost use Rattle.snapshot_text.specs.declared.fault.WriteSnapFault.TheVariants.{WriteFault as WriteFailed, NoMemory as OutOfMemory};
+ghost use Rattle.snapshot_text.specs.Fault.{number_of, name_of, words_of, write_number_of, write_name_of};
+ghost use Rattle.snapshot_text.specs.Fault.{snap_fault_of};
+ghost use Rattle.snapshot_text.specs.declared.fault.WriteSnapFault.TheVariants.{WriteFault as WriteFailed};
+ghost use Rattle.snapshot_text.specs.declared.fault.WriteSnapFault.TheVariants.{NoMemory as OutOfMemory};
 
 use byte_ends::{BytesFault, Failed};
 use lattice_core::NoMemory;
@@ -10,7 +12,7 @@ use op_text::OpTextFault;
 use std::alloc::AllocError;
 use thiserror::Error;
 
-/// Why a snapshot isn't read. Of the faults in a text the first in line order stands.
+/// Why a snapshot isn't read. Of the faults in a text the first in line order counts.
 #[derive(Debug, Drop, Error)]
 pub enum SnapFault {
     /// 1: there is no first line, or it is neither `reviewgate 1` nor `reviewgate 2`.
@@ -26,7 +28,7 @@ pub enum SnapFault {
     /// 4: the end line's number isn't that of the operation lines before it, repeats counted.
     #[error("bad count")]
     BadCount,
-    /// 5: a line stands after the end line, perhaps an empty one.
+    /// 5: a line comes after the end line, perhaps an empty one.
     #[error("a line after the end")]
     AfterEnd,
     /// 6: there are more bytes than the limit.
@@ -84,7 +86,8 @@ impl SnapFault {
         }
     }
 
-    /// Writes the fault's words in reports: its name, and of a bad line its number and the words of the cause. In O(n) for their length.
+    /// Writes the fault's words in reports: its name, and of a bad line its number and the words of the cause. In O(n)
+    /// for their length.
     pub fn write_words(&self, text: &mut String) -> Result<(), AllocError>
         ensures { OnOk result (string_bytes text.new ≡ string_bytes text.old ++ words_of self.now) }
     {

@@ -1,9 +1,11 @@
-ghost use Rattle.std.specs.Prelude.{◌≡◌, ◌↔◌, ◌≤◌, length, OnOk, List, [], Some, IsTrue, IfOk, IfErr, IfSome, MatchResult, ℕ};
+ghost use Rattle.std.specs.Prelude.{◌≡◌, ◌↔◌, ◌≤◌, length, OnOk, List, [], Some, IsTrue, IfOk, IfErr, IfSome};
+ghost use Rattle.std.specs.Prelude.{MatchResult, ℕ};
 ghost use Rattle.byte_ends.specs.Lines.{lines_of};
 ghost use Rattle.review_ops.specs.Operation.{Operation};
 ghost use Rattle.op_text.specs.Spelling.{SpellsOperation};
 ghost use Rattle.replica_core.specs.Journal.{arrived, all_arrived};
-ghost use Rattle.snapshot_text.specs.Snapshot.{IsHeader, SaysOperations, most_bytes, IsFirstFault, IsRefusal, IsOfText, IsOutside, CountsSnapFault};
+ghost use Rattle.snapshot_text.specs.Snapshot.{IsHeader, SaysOperations, most_bytes, IsFirstFault, IsRefusal, IsOfText};
+ghost use Rattle.snapshot_text.specs.Snapshot.{IsOutside, CountsSnapFault};
 ghost use Rattle.snapshot_text.specs.Reading.{IsEndFault, IsLineFault, line_fault_of};
 
 use super::end_line::claimed;
@@ -16,12 +18,12 @@ use std::alloc::Global;
 /// The most bytes that a snapshot has: 1 GiB.
 pub const SNAPSHOT_LIMIT: usize = 1_073_741_824;
 
-/// Reads a snapshot to the end of its source: the replica in which its operations have arrived in the order of their lines. Lines may
-/// stand in any order and be repeated. The first line says version 1 or 2; the end line has 1 to 20 digits. Refusals, of
-/// which the first in line order stands: 1 `BadHeader`, 2 `BadLine` with the line's number from 1 and the cause, 3 `NoEnd`,
-/// 4 `BadCount`, 5 `AfterEnd`; and before any of them 6 `TooLong`, more than 1,073,741,824 bytes, and 7 `ReadFault`, the source
-/// failed; 8 `NoMemory`. Nothing of a refused snapshot is handed out. It costs the bytes, and what the replica's `take` costs for
-/// each operation.
+/// Reads a snapshot to the end of its source: the replica in which its operations have arrived in the order of their
+/// lines. Lines may come in any order and be repeated. The first line says version 1 or 2; the end line has 1 to 20
+/// digits. Refusals, of which the first in line order counts: 1 `BadHeader`, 2 `BadLine` with the line's number from 1
+/// and the cause, 3 `NoEnd`, 4 `BadCount`, 5 `AfterEnd`; and before any of them 6 `TooLong`, more than 1,073,741,824
+/// bytes, and 7 `ReadFault`, the source failed; 8 `NoMemory`. Nothing of a refused snapshot is handed out. It costs the
+/// bytes, and what the replica's `take` costs for each operation.
 pub fn read_snapshot<S: Source>(alloc: Global, source: &mut S) -> Result<Replica, SnapFault>
     ensures ok { IfOk result (λ replica. IfSome (S.left source.old) (λ text. (ops : List Operation)
         × SaysOperations (lines_of text) ops × (replica ≡ all_arrived [] ops))) }
@@ -41,8 +43,9 @@ pub fn read_snapshot<S: Source>(alloc: Global, source: &mut S) -> Result<Replica
     snapshot_of(alloc, &text)
 }
 
-/// Reads the text of a snapshot as `read_snapshot` reads what a source has, for a caller that has the bytes and has seen to their
-/// limit. Of the refusals 6 and 7 never come. It costs the bytes, and what the replica's `take` costs for each operation.
+/// Reads the text of a snapshot as `read_snapshot` reads what a source has, for a caller that has the bytes and has
+/// seen to their limit. Of the refusals 6 and 7 never come. It costs the bytes, and what the replica's `take` costs for
+/// each operation.
 pub fn snapshot_of(alloc: Global, text: &[u8]) -> Result<Replica, SnapFault>
     requires { length text.now ≤ most_bytes }
     ensures ok { IfOk result (λ replica. (ops : List Operation)
@@ -57,9 +60,9 @@ pub fn snapshot_of(alloc: Global, text: &[u8]) -> Result<Replica, SnapFault>
     snapshot_onto(Replica::new(alloc), text)
 }
 
-/// Reads the text of a snapshot, as `snapshot_of` does, into a replica that is given up for it: its operations arrive, in the order
-/// of their lines, after what the replica has. Neither the replica nor anything of the text is handed out of a refusal. It costs the
-/// bytes, and what the replica's `take` costs for each operation.
+/// Reads the text of a snapshot, as `snapshot_of` does, into a replica that is given up for it: its operations arrive,
+/// in the order of their lines, after what the replica has. Neither the replica nor anything of the text is handed out
+/// of a refusal. It costs the bytes, and what the replica's `take` costs for each operation.
 pub fn snapshot_onto(replica: Replica, text: &[u8]) -> Result<Replica, SnapFault>
     requires { length text.now ≤ most_bytes }
     ensures ok { IfOk result (λ both. (ops : List Operation)
@@ -146,7 +149,7 @@ fn take_line(
     }
 }
 
-/// How it is told that the line with this number isn't read.
+/// How it is reported that the line with this number isn't read.
 fn line_fault(number: u64, cause: OpTextFault) -> SnapFault
     ensures { result ≡ line_fault_of number cause }
 {

@@ -14,9 +14,9 @@ use replica_core::Replica;
 use review_ops::Op;
 use std::alloc::Global;
 
-/// Writes the snapshot of a replica: its operations in their order, each once. Refusals: 1 `WriteFault`, the drain failed, and
-/// has taken what of the text went before; 2 `NoMemory`, nothing was written. It sorts references and copies no operation; it
-/// costs the sort, and the text, which is collected before it is written.
+/// Writes the snapshot of a replica: its operations in their order, each once. Refusals: 1 `WriteFault`, the drain
+/// failed, and has taken what of the text went before; 2 `NoMemory`, nothing was written. It sorts references and
+/// copies no operation; it costs the sort, and the text, which is collected before it is written.
 pub fn write_snapshot<D: Drain>(
     alloc: Global,
     replica: &Replica,
@@ -26,7 +26,7 @@ pub fn write_snapshot<D: Drain>(
     ensures ok { OnOk result ((ops : List Operation) × IsInOrderOf replica.now ops
         × Appends (D.taken drain.old) (D.taken drain.new) (snapshot_text ops)
         × SaysOperations (lines_of (snapshot_text ops)) ops) }
-    // Some front of the text was taken, not all.
+    // Some prefix of the text was taken, not all.
     ensures cut { IsErrOf result WriteSnapFault.WriteFault
         → (ops : List Operation) × IsInOrderOf replica.now ops
         × (count : ℕ) × (count < length (snapshot_text ops))

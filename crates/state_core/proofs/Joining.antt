@@ -12,14 +12,18 @@ use Rattle.change_core.specs.StateLaws.{no_change-joined}
 use Rattle.state_core.specs.State.{State, with_effect}
 
 -- the change that is there is joined in place
-pub effect_in_place : (old shown : State) (op : Operation) (number : ℕ) (was new : Change) → number ≡ change_of op.deed → Some was ≡ get old number → new ≡ change_joined was (effect_of op) → shown ≡ insert old number new → shown ≡ with_effect old op
+pub effect_in_place : (old shown : State) (op : Operation) (number : ℕ) (was new : Change) → number ≡ change_of op.deed
+    → Some was ≡ get old number → new ≡ change_joined was (effect_of op) → shown ≡ insert old number new
+    → shown ≡ with_effect old op
 effect_in_place old shown op number was new number_is found new_is shown_is =
     shown_is ∙ ap (insert old number) new_is
     ∙ ap (λ f. insert old number (joined_to change_joined f (effect_of op))) found
     ∙ ap (λ n. insert old n (joined_to change_joined (get old n) (effect_of op))) number_is
 
 -- a change that isn't there is added
-pub effect_added : (old shown : State) (op : Operation) (number : ℕ) (new : Change) → number ≡ change_of op.deed → None ≡ get old number → new ≡ change_joined no_change (effect_of op) → shown ≡ insert old number new → shown ≡ with_effect old op
+pub effect_added : (old shown : State) (op : Operation) (number : ℕ) (new : Change) → number ≡ change_of op.deed
+    → None ≡ get old number → new ≡ change_joined no_change (effect_of op) → shown ≡ insert old number new
+    → shown ≡ with_effect old op
 effect_added old shown op number new number_is found new_is shown_is =
     shown_is ∙ ap (insert old number) (new_is ∙ no_change-joined (effect_of op))
     ∙ ap (λ f. insert old number (joined_to change_joined f (effect_of op))) found
@@ -34,5 +38,7 @@ put_back old number was found = same_at_each_key numbers_exact (insert old numbe
       | false ↦ λ e. refl
     ] refl)
 
-pub unchanged_in_place : (old shown : State) (number : ℕ) (was new : Change) → Some was ≡ get old number → new ≡ was → shown ≡ insert old number new → shown ≡ old
-unchanged_in_place old shown number was new found new_is shown_is = shown_is ∙ ap (insert old number) new_is ∙ put_back old number was found
+pub unchanged_in_place : (old shown : State) (number : ℕ) (was new : Change) → Some was ≡ get old number → new ≡ was
+    → shown ≡ insert old number new → shown ≡ old
+unchanged_in_place old shown number was new found new_is shown_is =
+    shown_is ∙ ap (insert old number) new_is ∙ put_back old number was found

@@ -52,13 +52,15 @@ greatest_of_some [] e c = absurd (Contains-none e c)
 greatest_of_some (f ∷ fs) e c = greatest_entry f fs
 
 -- a change with a known patch set has a greatest one
-pub greatest_known : (change : Change) (set : ℕ) → IsKnownSet change set → (current : ℕ) × IsGreatestKnown change current
+pub greatest_known : (change : Change) (set : ℕ) → IsKnownSet change set
+    → (current : ℕ) × IsGreatestKnown change current
 greatest_known change set known =
     let patch = some_of (get change.sets set) known in
     let found = greatest_of_some (entries change.sets) (set, patch.0) (entry-get numbers_exact change.sets set patch.0 patch.1) in (
       found.0.0,
       record {
-        known = is_some_of (get change.sets found.0.0) found.0.1 (get-entry numbers_exact change.sets found.0.0 found.0.1 found.1.has);
+        known = is_some_of (get change.sets found.0.0) found.0.1
+            (get-entry numbers_exact change.sets found.0.0 found.0.1 found.1.has);
         greatest = λ other is.
             let its = some_of (get change.sets other) is in
             found.1.greatest (other, its.0) (entry-get numbers_exact change.sets other its.0 its.1);

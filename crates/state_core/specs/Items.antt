@@ -1,5 +1,5 @@
--- Items: the known patch sets of changes, and the current ones among them (Gerrit, "Changes": a change has patch sets, of which the last
--- is the current one).
+-- Items: the known patch sets of changes, and the current ones among them (Gerrit, "Changes": a change has patch sets,
+-- of which the last is the current one).
 use Rattle.std.specs.Prelude.{◌≡◌, Some}
 use Rattle.std.specs.declared.cmp.Ordering.{Ordering}
 use Rattle.std.specs.Ordering.{nat_cmp, ordering_then}

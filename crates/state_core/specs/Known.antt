@@ -1,4 +1,5 @@
--- What a state says of a change's number: whether some patch set of the change is known, and whether the change is merged.
+-- What a state says of a change's number: whether some patch set of the change is known, and whether the change is
+-- merged.
 use Rattle.std.specs.Prelude.{◌≡◌, ℕ, Bool, true, false, Option, None, Some}
 use Rattle.std.specs.FinMap as finite
 use Rattle.change_core.specs.Change.{Change}

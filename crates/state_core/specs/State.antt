@@ -1,4 +1,5 @@
--- The state of a review record: a finite map from the changes that an operation is on to what the operations on them add up to.
+-- The state of a review record: a finite map from the changes that an operation is on to what the operations on them
+-- add up to.
 use Rattle.std.specs.Prelude.{◌≡◌, ℕ, Bool, List, [], filter, fold, MatchOption}
 use Rattle.std.specs.Ordering.{nat_cmp, eq_by_cmp}
 use Rattle.std.specs.Coded.{Coded, coded_ℕ}
@@ -26,11 +27,12 @@ is_on change op = eq_by_cmp nat_cmp change (change_of op.deed)
 abbrev pub ops_on : ℕ → List Operation → List Operation
 ops_on change journal = filter (is_on change) journal
 
--- the state is that of the journal: it has just the changes that an operation is on, and each is what the operations on it
--- add up to
+-- the state is that of the journal: it has just the changes that an operation is on, and each is what the operations on
+-- it add up to
 abbrev pub IsJournalState : List Operation → State → Type 0
 IsJournalState journal state =
-    (change : ℕ) → MatchOption (get state change) (ops_on change journal ≡ []) (λ c. (¬ (ops_on change journal ≡ [])) × IsStateOf (ops_on change journal) c)
+    (change : ℕ) → MatchOption (get state change) (ops_on change journal ≡ [])
+    (λ c. (¬ (ops_on change journal ≡ [])) × IsStateOf (ops_on change journal) c)
 
 -- the state with the effect of one more operation
 abbrev pub with_effect : State → Operation → State

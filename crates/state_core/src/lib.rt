@@ -1,4 +1,5 @@
-//! The state of all changes of a review record: a finite map from their numbers to their states, joined as a lattice, and its items.
+//! The state of all changes of a review record: a finite map from their numbers to their states, joined as a lattice,
+//! and its items.
 //!
 //! An example of its use:
 //!

@@ -12,8 +12,8 @@ use review_ops::Op;
 use std::alloc::{Allocator, Global};
 use std::marker::Model;
 
-/// The state of a review record: of each change that an operation is on, what the operations on it add up to, in whatever order they
-/// came. Contracts see a finite map from the numbers of changes.
+/// The state of a review record: of each change that an operation is on, what the operations on it add up to, in
+/// whatever order they came. Contracts see a finite map from the numbers of changes.
 #[derive(Drop)]
 pub struct State<A: Allocator + Copy = Global> {
     changes: JoinMap<u32, ChangeState<A>, A>,
@@ -41,8 +41,8 @@ impl<A: Allocator + Copy> State<A> {
         }
     }
 
-    /// Joins the effect of an operation into the state of its change, in place. Where memory is refused nothing changes. In O(log n)
-    /// for n changes, beside what the change's `take` costs.
+    /// Joins the effect of an operation into the state of its change, in place. Where memory is refused nothing
+    /// changes. In O(log n) for n changes, beside what the change's `take` costs.
     pub fn take(&mut self, op: &Op<A>) -> Result<(), NoMemory>
         ensures ok { OnOk result (self.new ≡ with_effect self.old op.now) }
         ensures err { OnErr result (self.new ≡ self.old) }

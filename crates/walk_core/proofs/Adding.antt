@@ -1,5 +1,6 @@
 -- Counts that add up: what a cycle leads to is on it, or is what the one cycle that it leads into leads to.
-use Rattle.std.proofs.Common.{◌≡◌, ◌≢◌, ◌↔◌, ◌⊎◌, inl, inr, ◌+◌, ◌-◌, ◌<◌, ◌^◌, ℕ, zero, suc, List, [], ◌∷◌, Option, None, Some, refl, sym, ◌∙◌, subst, length, set, get_or, min, arith}
+use Rattle.std.proofs.Common.{◌≡◌, ◌≢◌, ◌↔◌, ◌⊎◌, inl, inr, ◌+◌, ◌-◌, ◌<◌, ◌^◌, ℕ, zero, suc, List, [], ◌∷◌, Option}
+use Rattle.std.proofs.Common.{None, Some, refl, sym, ◌∙◌, subst, length, set, get_or, min, arith}
 use Rattle.std.specs.List.{Contains}
 use Rattle.std.specs.Option.{option_map}
 use Rattle.std.specs.declared.cmp.Ordering.TheVariants.{Less}
@@ -24,7 +25,8 @@ use Rattle.walk_core.proofs.Ordered.{count_same}
 
 -- ---- counts of two kinds add up
 
-sorted_cons : (x : ℕ) (xs : List ℕ) → ((z : ℕ) → Contains xs z → nat_cmp x z ≡ Less) → IsStrictlySortedBy nat_cmp xs → IsStrictlySortedBy nat_cmp (x ∷ xs)
+sorted_cons : (x : ℕ) (xs : List ℕ) → ((z : ℕ) → Contains xs z → nat_cmp x z ≡ Less) → IsStrictlySortedBy nat_cmp xs
+    → IsStrictlySortedBy nat_cmp (x ∷ xs)
 unfolding IsStrictlySortedBy
 sorted_cons x xs below sorted = (recursion_from_All (λ z. nat_cmp x z ≡ Less) xs (λ k d within. below (get_or xs k d) (Contains-get_or xs k d within)), sorted)
 
@@ -32,9 +34,11 @@ sorted_rest : (x : ℕ) (xs : List ℕ) → IsStrictlySortedBy nat_cmp (x ∷ xs
 unfolding IsStrictlySortedBy
 sorted_rest x xs sorted = sorted.1
 
-sorted_first : (x : ℕ) (xs : List ℕ) → IsStrictlySortedBy nat_cmp (x ∷ xs) → (z : ℕ) → Contains xs z → nat_cmp x z ≡ Less
+sorted_first : (x : ℕ) (xs : List ℕ) → IsStrictlySortedBy nat_cmp (x ∷ xs) → (z : ℕ) → Contains xs z
+    → nat_cmp x z ≡ Less
 unfolding IsStrictlySortedBy
-sorted_first x xs sorted z here = All-contains (λ y. nat_cmp x y ≡ Less) xs z (All-from_recursion (λ y. nat_cmp x y ≡ Less) xs sorted.0) here
+sorted_first x xs sorted z here =
+    All-contains (λ y. nat_cmp x y ≡ Less) xs z (All-from_recursion (λ y. nat_cmp x y ≡ Less) xs sorted.0) here
 
 -- one list in order has the members of two
 record AreBoth (xs ys zs : List ℕ) : Type 0 where
@@ -42,7 +46,8 @@ record AreBoth (xs ys zs : List ℕ) : Type 0 where
   pub just : (z : ℕ) → Contains zs z ↔ (Contains xs z ⊎ Contains ys z)
   pub size : length zs ≡ length xs + length ys
 
-insert_one : (y : ℕ) (xs : List ℕ) → IsStrictlySortedBy nat_cmp xs → ¬ Contains xs y → (zs : List ℕ) × AreBoth (y ∷ []) xs zs
+insert_one : (y : ℕ) (xs : List ℕ) → IsStrictlySortedBy nat_cmp xs → ¬ Contains xs y
+    → (zs : List ℕ) × AreBoth (y ∷ []) xs zs
 insert_one y [] sorted new = (
   y ∷ [],
   record {
@@ -91,7 +96,8 @@ insert_one y (x ∷ xs) sorted new = elim (cases_lt y x) [
           just = λ z. (
             λ here. elim (Contains-cons_cases x rest.0 z here) [
               | inl same ↦ inr (subst (Contains (x ∷ xs)) same (Contains-first x xs))
-              | inr later ↦ elim ((rest.1.just z).0 later) [ inl is ↦ inl is | inr old ↦ inr (Contains-later x xs z old) ]
+              | inr later ↦ elim
+                  ((rest.1.just z).0 later) [ inl is ↦ inl is | inr old ↦ inr (Contains-later x xs z old) ]
             ],
             λ is. elim is [
               | inl one ↦ Contains-later x rest.0 z ((rest.1.just z).1 (inl one))
@@ -106,7 +112,8 @@ insert_one y (x ∷ xs) sorted new = elim (cases_lt y x) [
       )
 ]
 
-both_lists : (ys xs : List ℕ) → IsStrictlySortedBy nat_cmp ys → IsStrictlySortedBy nat_cmp xs → ((z : ℕ) → Contains ys z → ¬ Contains xs z) → (zs : List ℕ) × AreBoth ys xs zs
+both_lists : (ys xs : List ℕ) → IsStrictlySortedBy nat_cmp ys → IsStrictlySortedBy nat_cmp xs
+    → ((z : ℕ) → Contains ys z → ¬ Contains xs z) → (zs : List ℕ) × AreBoth ys xs zs
 both_lists [] xs ys_sorted xs_sorted apart = (
   xs,
   record {
@@ -131,7 +138,8 @@ both_lists (y ∷ ys) xs ys_sorted xs_sorted apart =
               | inl same ↦ inl (subst (Contains (y ∷ ys)) same (Contains-first y ys))
               | inr none ↦ absurd (Contains-none z none)
             ]
-            | inr old ↦ elim ((rest.1.just z).0 old) [ inl later ↦ inl (Contains-later y ys z later) | inr other ↦ inr other ]
+            | inr old ↦ elim
+                ((rest.1.just z).0 old) [ inl later ↦ inl (Contains-later y ys z later) | inr other ↦ inr other ]
           ],
           λ is. elim is [
             | inl here ↦ elim (Contains-cons_cases y ys z here) [
@@ -146,7 +154,8 @@ both_lists (y ∷ ys) xs ys_sorted xs_sorted apart =
     )
 
 -- two kinds that have no member in common have together as many as both
-pub count_both : (P Q : ℕ → Type 0) (a b : ℕ) → ((x : ℕ) → P x → ¬ Q x) → HasCount nat_cmp P a → HasCount nat_cmp Q b → HasCount nat_cmp (λ x. P x ⊎ Q x) (a + b)
+pub count_both : (P Q : ℕ → Type 0) (a b : ℕ) → ((x : ℕ) → P x → ¬ Q x) → HasCount nat_cmp P a → HasCount nat_cmp Q b
+    → HasCount nat_cmp (λ x. P x ⊎ Q x) (a + b)
 count_both P Q a b apart p q =
     let both = both_lists p.members q.members p.in_order q.in_order (λ z here also. apart z ((p.just z).0 here) ((q.just z).0 also)) in
     record {
@@ -156,14 +165,16 @@ count_both P Q a b apart p q =
         λ here. elim ((both.1.just x).0 here) [ inl is ↦ inl ((p.just x).0 is) | inr is ↦ inr ((q.just x).0 is) ],
         λ has. (both.1.just x).1 (elim has [ inl is ↦ inl ((p.just x).1 is) | inr is ↦ inr ((q.just x).1 is) ]),
       );
-      size = let sizes = both.1.size in let a_size = p.size in let b_size = q.size in omega (arith, sizes, a_size, b_size);
+      size = let sizes = both.1.size in let a_size = p.size in let b_size = q.size in omega
+          (arith, sizes, a_size, b_size);
     }
 
 -- ---- first nodes
 
 module _ (graph : List (List ℕ)) (firsts : List ℕ) (are : AreFirsts graph firsts) where
   -- nodes that are together have the same first node
-  pub together_firsts : (x y : ℕ) → x < length graph → y < length graph → AreTogether (HasEdge graph) x y → get_or firsts x 0 ≡ get_or firsts y 0
+  pub together_firsts : (x y : ℕ) → x < length graph → y < length graph → AreTogether (HasEdge graph) x y
+      → get_or firsts x 0 ≡ get_or firsts y 0
   together_firsts x y x_within y_within together =
       let fx = get_or firsts x 0 in
       let fy = get_or firsts y 0 in
@@ -190,7 +201,8 @@ module _ (graph : List (List ℕ)) (firsts : List ℕ) (are : AreFirsts graph fi
 
   -- ---- what a cycle leads to
 
-  module _ (nodes targets : List ℕ) (hold : HoldEnds graph nodes) (just : (x : ℕ) → Contains targets x ↔ Contains nodes x) (in_order : IsStrictlySortedBy nat_cmp targets) where
+  module _ (nodes targets : List ℕ) (hold : HoldEnds graph nodes)
+      (just : (x : ℕ) → Contains targets x ↔ Contains nodes x) (in_order : IsStrictlySortedBy nat_cmp targets) where
     pub holds_walk : (n x y : ℕ) → Contains nodes x → Walk (HasEdge graph) n x y → Contains nodes y
     holds_walk zero x y here same = subst (Contains nodes) same here
     holds_walk (suc n) x y here walk = holds_walk n walk.0 y (hold.ends x walk.0 here walk.1) walk.2
@@ -200,7 +212,8 @@ module _ (graph : List (List ℕ)) (firsts : List ℕ) (are : AreFirsts graph fi
       first = get_or firsts node 0
 
       first_here : Contains nodes first
-      first_here = let leads = (are.each node (hold.within node here)).here.forth in holds_walk leads.0 node (get_or firsts node 0) here leads.1
+      first_here = let leads = (are.each node (hold.within node here)).here.forth in holds_walk leads.0 node
+          (get_or firsts node 0) here leads.1
 
       first_first : get_or firsts first 0 ≡ first
       first_first = first_again node (hold.within node here)
@@ -212,19 +225,23 @@ module _ (graph : List (List ℕ)) (firsts : List ℕ) (are : AreFirsts graph fi
       on_cycle_led y is = (is.0, first_leads y first (hold.within y ((just y).0 is.0)) is.1)
 
       walk_stays : ((x y : ℕ) → Contains nodes x → get_or firsts x 0 ≡ first → HasEdge graph x y → get_or firsts y 0 ≡ first)
-          → (n x y : ℕ) → Contains nodes x → get_or firsts x 0 ≡ first → Walk (HasEdge graph) n x y → get_or firsts y 0 ≡ first
+          → (n x y : ℕ) → Contains nodes x → get_or firsts x 0 ≡ first → Walk (HasEdge graph) n x y
+          → get_or firsts y 0 ≡ first
       walk_stays stays zero x y inside is same = subst (λ z. get_or firsts z 0 ≡ first) same is
-      walk_stays stays (suc n) x y inside is walk = walk_stays stays n walk.0 y (hold.ends x walk.0 inside walk.1) (stays x walk.0 inside is walk.1) walk.2
+      walk_stays stays (suc n) x y inside is walk =
+          walk_stays stays n walk.0 y (hold.ends x walk.0 inside walk.1) (stays x walk.0 inside is walk.1) walk.2
 
       -- a cycle that leads into no other leads to its own nodes
       count_alone : ((x y : ℕ) → Contains nodes x → get_or firsts x 0 ≡ first → HasEdge graph x y → get_or firsts y 0 ≡ first)
           → (size : ℕ) → HasCount nat_cmp OnCycle size → LeadsToCount graph targets first size
-      count_alone stays size counted = count_same OnCycle (λ y. Contains targets y × LeadsTo (HasEdge graph) first y) size
+      count_alone stays size counted =
+          count_same OnCycle (λ y. Contains targets y × LeadsTo (HasEdge graph) first y) size
           (λ y. (on_cycle_led y, λ led. (led.0, walk_stays stays led.1.0 first y first_here first_first led.1.1))) counted
 
       module _ (next : ℕ) (is_next : IsNext graph firsts first next)
           (goes : (x y : ℕ) → Contains nodes x → get_or firsts x 0 ≡ first → HasEdge graph x y → (get_or firsts y 0 ≡ first) ⊎ (get_or firsts y 0 ≡ next)) where
-        walk_goes : (n x y : ℕ) → Contains nodes x → get_or firsts x 0 ≡ first → Walk (HasEdge graph) n x y → (get_or firsts y 0 ≡ first) ⊎ LeadsTo (HasEdge graph) next y
+        walk_goes : (n x y : ℕ) → Contains nodes x → get_or firsts x 0 ≡ first → Walk (HasEdge graph) n x y
+            → (get_or firsts y 0 ≡ first) ⊎ LeadsTo (HasEdge graph) next y
         walk_goes zero x y inside is same = inl (subst (λ z. get_or firsts z 0 ≡ first) same is)
         walk_goes (suc n) x y inside is walk =
             let z_here = hold.ends x walk.0 inside walk.1 in
@@ -241,8 +258,11 @@ module _ (graph : List (List ℕ)) (firsts : List ℕ) (are : AreFirsts graph fi
             let same = together_firsts next first is_next.within (hold.within first first_here) (record { forth = back; back = is_next.leads }) in
             is_next.apart (sym is_next.first ∙ same ∙ first_first)
 
-        count_next : (size sum : ℕ) → HasCount nat_cmp OnCycle size → LeadsToCount graph targets next sum → LeadsToCount graph targets first (size + sum)
-        count_next size sum own other = count_same (λ y. OnCycle y ⊎ (Contains targets y × LeadsTo (HasEdge graph) next y)) (λ y. Contains targets y × LeadsTo (HasEdge graph) first y) (size + sum)
+        count_next : (size sum : ℕ) → HasCount nat_cmp OnCycle size → LeadsToCount graph targets next sum
+            → LeadsToCount graph targets first (size + sum)
+        count_next size sum own other = count_same
+            (λ y. OnCycle y ⊎ (Contains targets y × LeadsTo (HasEdge graph) next y))
+            (λ y. Contains targets y × LeadsTo (HasEdge graph) first y) (size + sum)
             (λ y. (
               λ is. elim is [ inl on ↦ on_cycle_led y on | inr led ↦ (led.0, LeadsTo-trans (HasEdge graph) first next y is_next.leads led.1) ],
               λ led. elim (walk_goes led.1.0 first y first_here first_first led.1.1) [ inl on ↦ inl (led.0, on) | inr leads ↦ inr (led.0, leads) ],
@@ -250,10 +270,12 @@ module _ (graph : List (List ℕ)) (firsts : List ℕ) (are : AreFirsts graph fi
             (count_both OnCycle (λ y. Contains targets y × LeadsTo (HasEdge graph) next y) size sum cycles_apart own other)
 
       -- the sum of a cycle that leads into one other at most is right
-      module _ (next : Option ℕ) (size : ℕ) (sums : List (Option ℕ)) (are_sums : AreSums graph targets sums) (few : length targets < 2 ^ 64) (own : HasCount nat_cmp OnCycle size)
+      module _ (next : Option ℕ) (size : ℕ) (sums : List (Option ℕ)) (are_sums : AreSums graph targets sums)
+          (few : length targets < 2 ^ 64) (own : HasCount nat_cmp OnCycle size)
           (is_next : (to : ℕ) → next ≡ Some to → IsNext graph firsts first to)
           (goes : (x y : ℕ) → Contains nodes x → get_or firsts x 0 ≡ first → HasEdge graph x y → IsHereOrNext firsts first next y) where
-        sum_after : (to : ℕ) → next ≡ Some to → (there : Option ℕ) → option_at sums to ≡ there → (sum : ℕ) → option_map (λ s. min (s + size) (2 ^ 64 - 1)) there ≡ Some sum → LeadsToCount graph targets first sum
+        sum_after : (to : ℕ) → next ≡ Some to → (there : Option ℕ) → option_at sums to ≡ there → (sum : ℕ)
+            → option_map (λ s. min (s + size) (2 ^ 64 - 1)) there ≡ Some sum → LeadsToCount graph targets first sum
         sum_after to some None none sum is = cc
         sum_after to some (Some other) there sum is =
             let counted = count_next to (is_next to some) (λ x y inside on edge. elim (goes x y inside on edge) [
@@ -265,7 +287,8 @@ module _ (graph : List (List ℕ)) (firsts : List ℕ) (are : AreFirsts graph fi
             let same : size + other ≡ sum = omega (arith, bound, few, least) in
             subst (LeadsToCount graph targets first) same counted
 
-        sum_right : (read : Option ℕ) → next ≡ read → (sum : ℕ) → sum_with size sums read ≡ Some sum → LeadsToCount graph targets first sum
+        sum_right : (read : Option ℕ) → next ≡ read → (sum : ℕ) → sum_with size sums read ≡ Some sum
+            → LeadsToCount graph targets first sum
         sum_right None none sum is =
             let same : size ≡ sum = cc in
             subst (LeadsToCount graph targets first) same (count_alone (λ x y inside on edge. elim (goes x y inside on edge) [
@@ -274,7 +297,8 @@ module _ (graph : List (List ℕ)) (firsts : List ℕ) (are : AreFirsts graph fi
             ]) size own)
         sum_right (Some to) some sum is = sum_after to some (option_at sums to) refl sum is
 
-        pub sums_more : (value : Option ℕ) → value ≡ sum_with size sums next → first < length sums → AreSums graph targets (set sums first value)
+        pub sums_more : (value : Option ℕ) → value ≡ sum_with size sums next → first < length sums
+            → AreSums graph targets (set sums first value)
         sums_more value is inside = record {
           size = length-set sums first value ∙ are_sums.size;
           each = λ x sum at. elim (cases_eq x first) [

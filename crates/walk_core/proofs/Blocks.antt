@@ -1,5 +1,6 @@
 -- A block of targets: its marks, and what they add to the counts.
-use Rattle.std.proofs.Common.{◌≡◌, ◌⊎◌, inl, inr, ◌+◌, ◌-◌, ◌*◌, ◌/◌, ◌%◌, ◌<◌, ◌≤◌, ◌^◌, ℕ, zero, suc, List, [], ◌∷◌, ◌++◌, refl, sym, ◌∙◌, ap, subst, length, set, take, drop, replicate, get_or, arith}
+use Rattle.std.proofs.Common.{◌≡◌, ◌⊎◌, inl, inr, ◌+◌, ◌-◌, ◌*◌, ◌/◌, ◌%◌, ◌<◌, ◌≤◌, ◌^◌, ℕ, zero, suc, List, [], ◌∷◌}
+use Rattle.std.proofs.Common.{◌++◌, refl, sym, ◌∙◌, ap, subst, length, set, take, drop, replicate, get_or, arith}
 use Rattle.std.specs.Prelude.{count_ones}
 use Rattle.std.specs.Int.{bit_at}
 use Rattle.std.specs.Int.Count.{ones_step}
@@ -9,7 +10,8 @@ use Rattle.std.specs.Ordering.{nat_cmp}
 use Rattle.std.specs.List.Sorted.{IsStrictlySortedBy}
 use Rattle.std.proofs.lemmas.Bool.{cases_eq}
 use Rattle.std.proofs.lemmas.List.{append_assoc, append-nil, length-append, length-set, length_push, take-append-drop}
-use Rattle.std.proofs.lemmas.List.Elements.{All-contains, Contains-get_or, Contains-push_cases, Contains-push, Contains-append_left, Contains-append_right}
+use Rattle.std.proofs.lemmas.List.Elements.{All-contains, Contains-get_or, Contains-push_cases, Contains-push}
+use Rattle.std.proofs.lemmas.List.Elements.{Contains-append_left, Contains-append_right}
 use Rattle.std.proofs.lemmas.List.Sums.{sum_by-cons}
 use Rattle.std.proofs.Math.Seq.{take-add}
 use Rattle.std.proofs.lemmas.Option.{slice_get_past}
@@ -24,7 +26,9 @@ use Rattle.lattice_core.specs.Keep.{numbers_exact}
 use Rattle.lattice_core.specs.MemberLaws.{sorted_push, Contains-none}
 use Rattle.walk_core.specs.SortedLists.{sorted_part}
 use Rattle.walk_core.specs.Components.{AreFirsts}
-use Rattle.walk_core.specs.Marks.{HasMark, PutsMark, words_of, words_at, IsMarkedAt, IsFirstOf, AreBare, AreCountsElsewhere, AreSound, LeadsToTarget, AreMarked, PassesAll, TakesCounts, LeadsToCount, CountsBlock, HoldEnds}
+use Rattle.walk_core.specs.Marks.{HasMark, PutsMark, words_of, words_at, IsMarkedAt, IsFirstOf, AreBare}
+use Rattle.walk_core.specs.Marks.{AreCountsElsewhere, AreSound, LeadsToTarget, AreMarked, PassesAll, TakesCounts}
+use Rattle.walk_core.specs.Marks.{LeadsToCount, CountsBlock, HoldEnds}
 use Rattle.walk_core.specs.declared.block.Marks.{Marks}
 use Rattle.walk_core.proofs.Gathering.{first_within, row_set}
 
@@ -36,7 +40,8 @@ pub record AreMarkedTo (graph : List (List ℕ)) (firsts block : List ℕ) (rows
   pub each : (target : ℕ) → target < count → IsMarkedAt rows (get_or firsts (get_or block target 0) 0) target
   pub only : (row target : ℕ) → IsMarkedAt rows row target → IsFirstOf firsts block row
 
-pub marked_none : (graph : List (List ℕ)) (firsts block : List ℕ) (rows : List Marks) → length rows ≡ length graph → AreBare rows → AreMarkedTo graph firsts block rows 0
+pub marked_none : (graph : List (List ℕ)) (firsts block : List ℕ) (rows : List Marks) → length rows ≡ length graph
+    → AreBare rows → AreMarkedTo graph firsts block rows 0
 marked_none graph firsts block rows size bare = record {
   size = size;
   sound = λ row target has. absurd (bare row target has);
@@ -44,9 +49,11 @@ marked_none graph firsts block rows size bare = record {
   only = λ row target has. absurd (bare row target has);
 }
 
-module _ (graph : List (List ℕ)) (firsts block : List ℕ) (rows : List Marks) (target : ℕ) (are : AreFirsts graph firsts) (marked : AreMarkedTo graph firsts block rows target)
+module _ (graph : List (List ℕ)) (firsts block : List ℕ) (rows : List Marks) (target : ℕ) (are : AreFirsts graph firsts)
+    (marked : AreMarkedTo graph firsts block rows target)
     (within : target < length block) (is_node : get_or block target 0 < length graph) (was now : Marks)
-    (read : words_at rows (get_or firsts (get_or block target 0) 0) ≡ was.words) (puts : PutsMark target was.words now.words) where
+    (read : words_at rows (get_or firsts (get_or block target 0) 0) ≡ was.words)
+    (puts : PutsMark target was.words now.words) where
   row : ℕ
   row = get_or firsts (get_or block target 0) 0
 
@@ -59,7 +66,8 @@ module _ (graph : List (List ℕ)) (firsts block : List ℕ) (rows : List Marks)
   sound_now other offset has = elim (row_set rows row now inside other) [
     | inr kept ↦ marked.sound other offset (subst (λ words. HasMark words offset) kept.1 has)
     | inl here ↦ elim ((puts offset).0 (subst (λ words. HasMark words offset) here.1 has)) [
-      | inl old ↦ marked.sound other offset (subst (λ r. IsMarkedAt rows r offset) (sym here.0) (subst (λ words. HasMark words offset) (sym read) old))
+      | inl old ↦ marked.sound other offset
+          (subst (λ r. IsMarkedAt rows r offset) (sym here.0) (subst (λ words. HasMark words offset) (sym read) old))
       | inr same ↦ record {
         within = subst (λ k. k < length block) (sym same) within;
         leads = subst (λ k. LeadsTo (HasEdge graph) other (get_or block k 0)) (sym same)
@@ -92,8 +100,10 @@ module _ (graph : List (List ℕ)) (firsts block : List ℕ) (rows : List Marks)
     size = length-set rows row now ∙ marked.size;
     sound = sound_now;
     each = λ other less. elim (cases_eq other target) [
-      | inl same ↦ subst (λ k. IsMarkedAt (set rows row now) (get_or firsts (get_or block k 0) 0) k) (sym same) marked_here
-      | inr apart ↦ kept_now (get_or firsts (get_or block other 0) 0) other (marked.each other (omega (arith, less, apart)))
+      | inl same ↦ subst (λ k. IsMarkedAt (set rows row now) (get_or firsts (get_or block k 0) 0) k)
+          (sym same) marked_here
+      | inr apart ↦ kept_now (get_or firsts (get_or block other 0) 0) other
+          (marked.each other (omega (arith, less, apart)))
     ];
     only = λ other offset has. elim (row_set rows row now inside other) [
       | inl here ↦ first_here other here.0
@@ -150,7 +160,8 @@ ones_bits (suc k) word less =
 abbrev pub mark_at : List ℕ → ℕ → ℕ
 mark_at words target = bit_at (get_or words (target / 64) 0) (target % 64)
 
-pub words_bits : (words : List ℕ) → ((k : ℕ) → get_or words k 0 < 2 ^ 64) → sum_by count_ones words ≡ bits_below (mark_at words) (length words * 64)
+pub words_bits : (words : List ℕ) → ((k : ℕ) → get_or words k 0 < 2 ^ 64)
+    → sum_by count_ones words ≡ bits_below (mark_at words) (length words * 64)
 words_bits [] fits = refl
 words_bits (word ∷ words) fits =
     let rest = words_bits words (λ k. fits (suc k)) in
@@ -176,13 +187,15 @@ recursion_left P (x ∷ xs) ys all = (all.0, recursion_left P xs ys all.1)
 pub sorted_part_left : (xs ys : List ℕ) → IsStrictlySortedBy nat_cmp (xs ++ ys) → IsStrictlySortedBy nat_cmp xs
 unfolding IsStrictlySortedBy
 sorted_part_left [] ys sorted = tt
-sorted_part_left (x ∷ xs) ys sorted = (recursion_left (λ z. nat_cmp x z ≡ Less) xs ys sorted.0, sorted_part_left xs ys sorted.1)
+sorted_part_left (x ∷ xs) ys sorted =
+    (recursion_left (λ z. nat_cmp x z ≡ Less) xs ys sorted.0, sorted_part_left xs ys sorted.1)
 
 module _ (Q : ℕ → Type 0) where
   abbrev pub CountIn : List ℕ → ℕ → Type 0
   CountIn nodes count = HasCount nat_cmp (λ y. Contains nodes y × Q y) count
 
-  pub count_yes : (done : List ℕ) (y count : ℕ) → IsStrictlySortedBy nat_cmp (done ++ y ∷ []) → Q y → CountIn done count → CountIn (done ++ y ∷ []) (count + 1)
+  pub count_yes : (done : List ℕ) (y count : ℕ) → IsStrictlySortedBy nat_cmp (done ++ y ∷ []) → Q y → CountIn done count
+      → CountIn (done ++ y ∷ []) (count + 1)
   count_yes done y count sorted has counted = record {
     members = counted.members ++ y ∷ [];
     in_order = sorted_push nat_cmp counted.members y counted.in_order (λ x here. All-contains (λ z. nat_cmp z y ≡ Less) done x (All-before_last nat_cmp done y sorted) ((counted.just x).0 here).0);
@@ -225,22 +238,27 @@ module _ (Q : ℕ → Type 0) where
       let joined : (done ++ y ∷ []) ++ ys ≡ done ++ y ∷ ys = append_assoc done (y ∷ []) ys in
       let sorted_on : IsStrictlySortedBy nat_cmp ((done ++ y ∷ []) ++ ys) = subst (IsStrictlySortedBy nat_cmp) (sym joined) sorted in
       let first : CountIn (done ++ y ∷ []) (count + f 0) = elim (each 0 (omega arith)) [
-        | inl has ↦ let e : count + 1 ≡ count + f 0 = omega (arith, has.0) in subst (CountIn (done ++ y ∷ [])) e (count_yes done y count (sorted_part_left (done ++ y ∷ []) ys sorted_on) has.1 counted)
-        | inr lacks ↦ let e : count ≡ count + f 0 = omega (arith, lacks.0) in subst (CountIn (done ++ y ∷ [])) e (count_no done y count lacks.1 counted)
+        | inl has ↦ let e : count + 1 ≡ count + f 0 = omega (arith, has.0) in subst (CountIn (done ++ y ∷ [])) e
+            (count_yes done y count (sorted_part_left (done ++ y ∷ []) ys sorted_on) has.1 counted)
+        | inr lacks ↦ let e : count ≡ count + f 0 = omega (arith, lacks.0) in subst (CountIn (done ++ y ∷ [])) e
+            (count_no done y count lacks.1 counted)
       ] in
       let rest = count_all ys (done ++ y ∷ []) (count + f 0) (λ i. f (suc i)) sorted_on (λ i less. each (suc i) (omega (arith, less))) first in
       let total : (count + f 0) + bits_below (λ i. f (suc i)) (length ys) ≡ count + (f 0 + bits_below (λ i. f (suc i)) (length ys)) = omega arith in
-      subst (λ nodes. CountIn nodes (count + (f 0 + bits_below (λ i. f (suc i)) (length ys)))) joined (subst (CountIn ((done ++ y ∷ []) ++ ys)) total rest)
+      subst (λ nodes. CountIn nodes (count + (f 0 + bits_below (λ i. f (suc i)) (length ys)))) joined
+      (subst (CountIn ((done ++ y ∷ []) ++ ys)) total rest)
 
   -- there are no more of them than nodes
-  pub count_within : (nodes : List ℕ) (count : ℕ) → IsStrictlySortedBy nat_cmp nodes → CountIn nodes count → count ≤ length nodes
+  pub count_within : (nodes : List ℕ) (count : ℕ) → IsStrictlySortedBy nat_cmp nodes → CountIn nodes count
+      → count ≤ length nodes
   count_within nodes count sorted counted =
       let part = sorted_part numbers_exact.total counted.members nodes counted.in_order sorted (λ z here. ((counted.just z).0 here).0) in
       omega (arith, part.shorter, counted.size)
 
 -- ---- what a block adds to the counts
 
-words_fit : (rows : List Marks) (row : ℕ) → row < length rows → (length (words_at rows row) ≡ 8) × ((k : ℕ) → get_or (words_at rows row) k 0 < 2 ^ 64)
+words_fit : (rows : List Marks) (row : ℕ) → row < length rows
+    → (length (words_at rows row) ≡ 8) × ((k : ℕ) → get_or (words_at rows row) k 0 < 2 ^ 64)
 words_fit [] row within = absurd (omega (arith, within))
 words_fit (marks ∷ rows) zero within = (marks.size, marks.in_range)
 words_fit (marks ∷ rows) (suc row) within = words_fit rows row (omega (arith, within))
@@ -249,12 +267,18 @@ pub bit_cases : (bit : ℕ) → bit < 2 → (bit ≡ 1) ⊎ (bit ≡ 0)
 bit_cases zero less = inr refl
 bit_cases (suc bit) less = inl (omega (arith, less))
 
-module _ (graph : List (List ℕ)) (firsts nodes block : List ℕ) (marked passed taken : List Marks) (counts now : List ℕ) (are : AreFirsts graph firsts) (hold : HoldEnds graph nodes)
-    (few : length block ≤ 512) (is : AreMarked graph firsts block marked) (passes : PassesAll graph firsts nodes marked passed) (size : length passed ≡ length graph) (takes : TakesCounts firsts nodes passed taken counts now) where
+module _ (graph : List (List ℕ)) (firsts nodes block : List ℕ) (marked passed taken : List Marks) (counts now : List ℕ)
+    (are : AreFirsts graph firsts) (hold : HoldEnds graph nodes)
+    (few : length block ≤ 512) (is : AreMarked graph firsts block marked)
+    (passes : PassesAll graph firsts nodes marked passed) (size : length passed ≡ length graph)
+    (takes : TakesCounts firsts nodes passed taken counts now) where
   -- a node is marked with each target that it leads to
-  marked_by_walk : (n x target : ℕ) → target < length block → Contains nodes x → Walk (HasEdge graph) n x (get_or block target 0) → IsMarkedAt passed (get_or firsts x 0) target
-  marked_by_walk zero x target within here same = subst (λ z. IsMarkedAt passed (get_or firsts z 0) target) (sym same) (passes.kept (get_or firsts (get_or block target 0) 0) target (is.each target within))
-  marked_by_walk (suc n) x target within here walk = passes.gathered x here walk.0 target walk.1 (marked_by_walk n walk.0 target within (hold.ends x walk.0 here walk.1) walk.2)
+  marked_by_walk : (n x target : ℕ) → target < length block → Contains nodes x
+      → Walk (HasEdge graph) n x (get_or block target 0) → IsMarkedAt passed (get_or firsts x 0) target
+  marked_by_walk zero x target within here same = subst (λ z. IsMarkedAt passed (get_or firsts z 0) target) (sym same)
+      (passes.kept (get_or firsts (get_or block target 0) 0) target (is.each target within))
+  marked_by_walk (suc n) x target within here walk = passes.gathered x here walk.0 target walk.1
+      (marked_by_walk n walk.0 target within (hold.ends x walk.0 here walk.1) walk.2)
 
   module _ (x : ℕ) (here : Contains nodes x) where
     is_node : x < length graph
@@ -269,7 +293,9 @@ module _ (graph : List (List ℕ)) (firsts nodes block : List ℕ) (marked passe
         let found = passes.sound block is.sound (get_or firsts x 0) target has in
         record { within = found.within; leads = LeadsTo-trans (HasEdge graph) x (get_or firsts x 0) (get_or block target 0) (are.each x is_node).here.forth found.leads }
 
-    bit_says : (target : ℕ) → target < length block → ((bit target ≡ 1) × LeadsTo (HasEdge graph) x (get_or block target 0)) ⊎ ((bit target ≡ 0) × ¬ LeadsTo (HasEdge graph) x (get_or block target 0))
+    bit_says : (target : ℕ) → target < length block
+        → ((bit target ≡ 1) × LeadsTo (HasEdge graph) x (get_or block target 0))
+        ⊎ ((bit target ≡ 0) × ¬ LeadsTo (HasEdge graph) x (get_or block target 0))
     unfolding bit
     bit_says target within = elim (bit_cases (bit target) (bit_at-lt (get_or (words_at passed (get_or firsts x 0)) (target / 64) 0) (target % 64))) [
       | inl one ↦ inl (one, (sound_at target one).leads)
@@ -298,7 +324,9 @@ module _ (graph : List (List ℕ)) (firsts nodes block : List ℕ) (marked passe
         let resized : bits_below bit (length words * 64) ≡ bits_below bit (length block + (512 - length block)) = ap (bits_below bit) sizes in
         omega (arith, all, split, none, resized)
 
-    pub count_more : (done : List ℕ) → IsStrictlySortedBy nat_cmp (done ++ block) → length (done ++ block) < 2 ^ 64 → LeadsToCount graph done x (get_or counts (get_or firsts x 0) 0) → LeadsToCount graph (done ++ block) x (get_or now (get_or firsts x 0) 0)
+    pub count_more : (done : List ℕ) → IsStrictlySortedBy nat_cmp (done ++ block) → length (done ++ block) < 2 ^ 64
+        → LeadsToCount graph done x (get_or counts (get_or firsts x 0) 0)
+        → LeadsToCount graph (done ++ block) x (get_or now (get_or firsts x 0) 0)
     count_more done sorted short counted =
         let before = get_or counts (get_or firsts x 0) 0 in
         let more = count_all (LeadsTo (HasEdge graph) x) block done before bit sorted bit_says counted in
@@ -363,9 +391,11 @@ block_within start size xs x here =
     subst (λ ys. Contains ys x) (take-append-drop start xs)
     (Contains-append_right (take start xs) (drop start xs) x (subst (λ ys. Contains ys x) (take-append-drop size (drop start xs)) (Contains-append_left (take size (drop start xs)) (drop size (drop start xs)) x here)))
 
-module _ (graph : List (List ℕ)) (firsts nodes targets counts now : List ℕ) (start size : ℕ) (sorted : IsStrictlySortedBy nat_cmp targets) (short : length targets < 2 ^ 64)
+module _ (graph : List (List ℕ)) (firsts nodes targets counts now : List ℕ) (start size : ℕ)
+    (sorted : IsStrictlySortedBy nat_cmp targets) (short : length targets < 2 ^ 64)
     (adds : CountsBlock graph firsts nodes (take size (drop start targets)) counts now) (each : (x : ℕ) → Contains nodes x → LeadsToCount graph (take start targets) x (get_or counts (get_or firsts x 0) 0)) where
-  pub next_counts : (x : ℕ) → Contains nodes x → LeadsToCount graph (take (start + size) targets) x (get_or now (get_or firsts x 0) 0)
+  pub next_counts : (x : ℕ) → Contains nodes x
+      → LeadsToCount graph (take (start + size) targets) x (get_or now (get_or firsts x 0) 0)
   next_counts x here =
       let joined = take-add start size targets in
       let in_order : IsStrictlySortedBy nat_cmp (take (start + size) targets) = sorted_part_left (take (start + size) targets) (drop (start + size) targets) (subst (IsStrictlySortedBy nat_cmp) (sym (take-append-drop (start + size) targets)) sorted) in

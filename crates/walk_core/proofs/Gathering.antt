@@ -1,5 +1,6 @@
 -- Marks are passed on against edges: what a node is marked with, and that the marks rise.
-use Rattle.std.proofs.Common.{◌≡◌, ◌≢◌, ◌⊎◌, inl, inr, ◌+◌, ◌<◌, ◌≤◌, ℕ, zero, suc, List, [], ◌∷◌, Bool, true, false, refl, sym, ◌∙◌, ap, subst, length, set, take, get_or, arith}
+use Rattle.std.proofs.Common.{◌≡◌, ◌≢◌, ◌⊎◌, inl, inr, ◌+◌, ◌<◌, ◌≤◌, ℕ, zero, suc, List, [], ◌∷◌, Bool, true, false}
+use Rattle.std.proofs.Common.{refl, sym, ◌∙◌, ap, subst, length, set, take, get_or, arith}
 use Rattle.std.specs.Prelude.{nat_eq}
 use lib.Pointwise.{pointwise}
 use Rattle.std.specs.List.{Contains, sum_by}
@@ -27,7 +28,8 @@ begins_within : (graph : List (List ℕ)) (x y : ℕ) → y < length graph → L
 begins_within graph x y within (zero, same) = omega (arith, within, same)
 begins_within graph x y within (suc n, walk) = HasEdge-starts graph x walk.0 walk.1
 
-pub first_within : (graph : List (List ℕ)) (firsts : List ℕ) → AreFirsts graph firsts → (x : ℕ) → x < length graph → get_or firsts x 0 < length graph
+pub first_within : (graph : List (List ℕ)) (firsts : List ℕ) → AreFirsts graph firsts → (x : ℕ) → x < length graph
+    → get_or firsts x 0 < length graph
 first_within graph firsts are x within = begins_within graph (get_or firsts x 0) x within (are.each x within).here.back
 
 -- ---- sums of words
@@ -44,7 +46,8 @@ sum_of_more (x ∷ xs) (y ∷ ys) same more =
     let first : x ≤ y = more 0 in
     omega (arith, rest, first, sum_by-cons (λ word. word) x xs, sum_by-cons (λ word. word) y ys)
 
-pub sum_of_new : (a b : List ℕ) → length a ≡ length b → ((k : ℕ) → get_or a k 0 ≤ get_or b k 0) → ¬ (b ≡ a) → words_sum a < words_sum b
+pub sum_of_new : (a b : List ℕ) → length a ≡ length b → ((k : ℕ) → get_or a k 0 ≤ get_or b k 0) → ¬ (b ≡ a)
+    → words_sum a < words_sum b
 sum_of_new [] [] same more differs = absurd (differs refl)
 sum_of_new [] (y ∷ ys) same more differs = absurd (omega (arith, same))
 sum_of_new (x ∷ xs) [] same more differs = absurd (omega (arith, same))
@@ -69,11 +72,13 @@ words_differ a b test is failed same =
 
 -- ---- rows that are read and written
 
-pub row_read : (rows : List Marks) (row : ℕ) (read : Marks) → row < length rows → read ≡ get_or rows row read → words_at rows row ≡ read.words
+pub row_read : (rows : List Marks) (row : ℕ) (read : Marks) → row < length rows → read ≡ get_or rows row read
+    → words_at rows row ≡ read.words
 row_read rows row read within is = ap words_of (slice_get_read rows (length rows) row read refl within is)
 
 module _ (rows : List Marks) (row : ℕ) (marks : Marks) (within : row < length rows) where
-  pub row_set : (other : ℕ) → ((other ≡ row) × (words_at (set rows row marks) other ≡ marks.words)) ⊎ ((other ≢ row) × (words_at (set rows row marks) other ≡ words_at rows other))
+  pub row_set : (other : ℕ) → ((other ≡ row) × (words_at (set rows row marks) other ≡ marks.words))
+      ⊎ ((other ≢ row) × (words_at (set rows row marks) other ≡ words_at rows other))
   row_set other = elim (cases_eq other row) [
     | inl same ↦ inl (same, subst (λ r. words_at (set rows row marks) r ≡ marks.words) (sym same) (ap words_of (slice_get-set_same rows row marks within)))
     | inr differs ↦ inr (differs, ap words_of (slice_get-set_other rows row marks other differs))
@@ -86,18 +91,23 @@ pub record HasGathered (rows : List Marks) (firsts before marks ends : List ℕ)
   pub more : (k : ℕ) → get_or before k 0 ≤ get_or marks k 0
   pub kept : (target : ℕ) → HasMark before target → HasMark marks target
   pub each : (end target : ℕ) → Contains ends end → IsMarkedAt rows (get_or firsts end 0) target → HasMark marks target
-  pub right : (target : ℕ) → HasMark marks target → HasMark before target ⊎ ((end : ℕ) × Contains ends end × IsMarkedAt rows (get_or firsts end 0) target)
+  pub right : (target : ℕ) → HasMark marks target
+      → HasMark before target ⊎ ((end : ℕ) × Contains ends end × IsMarkedAt rows (get_or firsts end 0) target)
 
-module _ (rows : List Marks) (firsts before marks read both ends : List ℕ) (i end : ℕ) (within : i < length ends) (is : end ≡ get_or ends i end)
-    (was : words_at rows (get_or firsts end 0) ≡ read) (joined : AreJoined marks read both) (gathered : HasGathered rows firsts before marks (take i ends)) where
+module _ (rows : List Marks) (firsts before marks read both ends : List ℕ) (i end : ℕ) (within : i < length ends)
+    (is : end ≡ get_or ends i end)
+    (was : words_at rows (get_or firsts end 0) ≡ read) (joined : AreJoined marks read both)
+    (gathered : HasGathered rows firsts before marks (take i ends)) where
   pub gathered_more : HasGathered rows firsts before both (take (i + 1) ends)
   gathered_more = record {
     size = joined.size ∙ gathered.size;
-    more = λ k. let below = le_or_l (get_or marks k 0) (get_or read k 0) in omega (arith, gathered.more k, below, joined.each k);
+    more = λ k. let below = le_or_l (get_or marks k 0) (get_or read k 0) in omega
+        (arith, gathered.more k, below, joined.each k);
     kept = λ target has. joined_left marks read both joined target (gathered.kept target has);
     each = λ other target here has. elim ((Contains-more ends i other end within is).0 here) [
       | inl earlier ↦ joined_left marks read both joined target (gathered.each other target earlier has)
-      | inr same ↦ joined_right marks read both joined target (subst (λ words. HasMark words target) was (subst (λ e. IsMarkedAt rows (get_or firsts e 0) target) same has))
+      | inr same ↦ joined_right marks read both joined target
+          (subst (λ words. HasMark words target) was (subst (λ e. IsMarkedAt rows (get_or firsts e 0) target) same has))
     ];
     right = λ target has. elim (HasMark-joined marks read both joined target has) [
       | inl old ↦ elim (gathered.right target old) [
@@ -110,25 +120,31 @@ module _ (rows : List Marks) (firsts before marks read both ends : List ℕ) (i 
 
 -- ---- a node has gathered
 
-module _ (graph : List (List ℕ)) (firsts : List ℕ) (node : ℕ) (rows : List Marks) (are : AreFirsts graph firsts) (is_node : node < length graph) (within : get_or firsts node 0 < length rows)
-    (before marks : Marks) (was : words_at rows (get_or firsts node 0) ≡ before.words) (read : before ≡ get_or rows (get_or firsts node 0) before) (ends : List ℕ)
-    (is_end : (y : ℕ) → Contains ends y → HasEdge graph node y) (has_end : (y : ℕ) → HasEdge graph node y → Contains ends y)
+module _ (graph : List (List ℕ)) (firsts : List ℕ) (node : ℕ) (rows : List Marks) (are : AreFirsts graph firsts)
+    (is_node : node < length graph) (within : get_or firsts node 0 < length rows)
+    (before marks : Marks) (was : words_at rows (get_or firsts node 0) ≡ before.words)
+    (read : before ≡ get_or rows (get_or firsts node 0) before) (ends : List ℕ)
+    (is_end : (y : ℕ) → Contains ends y → HasEdge graph node y)
+    (has_end : (y : ℕ) → HasEdge graph node y → Contains ends y)
     (ends_within : (y : ℕ) → Contains ends y → y < length graph)
     (gathered : HasGathered rows firsts before.words marks.words ends) where
-  leads_on : (block : List ℕ) → AreSound graph block rows → (target : ℕ) → HasMark marks.words target → LeadsToTarget graph block (get_or firsts node 0) target
+  leads_on : (block : List ℕ) → AreSound graph block rows → (target : ℕ) → HasMark marks.words target
+      → LeadsToTarget graph block (get_or firsts node 0) target
   leads_on block sound target has = elim (gathered.right target has) [
     | inl old ↦ sound (get_or firsts node 0) target (subst (λ words. HasMark words target) (sym was) old)
     | inr found ↦
         let there = sound (get_or firsts found.0 0) target found.2 in
         record {
           within = there.within;
-          leads = LeadsTo-trans (HasEdge graph) (get_or firsts node 0) node (get_or block target 0) (are.each node is_node).here.back
+          leads = LeadsTo-trans (HasEdge graph) (get_or firsts node 0) node (get_or block target 0)
+              (are.each node is_node).here.back
               (LeadsTo-edge (HasEdge graph) node found.0 (get_or block target 0) (is_end found.0 found.1)
               (LeadsTo-trans (HasEdge graph) found.0 (get_or firsts found.0 0) (get_or block target 0) (are.each found.0 (ends_within found.0 found.1)).here.forth there.leads));
         }
   ]
 
-  pub passes_new : ¬ (marks.words ≡ before.words) → Passes graph firsts (node ∷ []) rows (set rows (get_or firsts node 0) marks) true
+  pub passes_new : ¬ (marks.words ≡ before.words)
+      → Passes graph firsts (node ∷ []) rows (set rows (get_or firsts node 0) marks) true
   passes_new differs = record {
     size = length-set rows (get_or firsts node 0) marks;
     kept = λ row target has. elim (row_set rows (get_or firsts node 0) marks within row) [
@@ -136,7 +152,8 @@ module _ (graph : List (List ℕ)) (firsts : List ℕ) (node : ℕ) (rows : List
       | inr other ↦ subst (λ words. HasMark words target) (sym other.1) has
     ];
     sound = λ block sound row target has. elim (row_set rows (get_or firsts node 0) marks within row) [
-      | inl here ↦ subst (λ r. LeadsToTarget graph block r target) (sym here.0) (leads_on block sound target (subst (λ words. HasMark words target) here.1 has))
+      | inl here ↦ subst (λ r. LeadsToTarget graph block r target) (sym here.0)
+          (leads_on block sound target (subst (λ words. HasMark words target) here.1 has))
       | inr other ↦ sound row target (subst (λ words. HasMark words target) other.1 has)
     ];
     elsewhere = λ row. elim (row_set rows (get_or firsts node 0) marks within row) [

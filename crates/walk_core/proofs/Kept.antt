@@ -1,5 +1,6 @@
 -- Which nodes are kept: those that are marked, in order or from the last of a list on.
-use Rattle.std.proofs.Common.{◌≡◌, ◌↔◌, ◌⊎◌, inl, inr, ◌+◌, ◌-◌, ◌<◌, ◌≤◌, ℕ, suc, List, [], ◌∷◌, ◌++◌, Bool, true, false, Some, sym, ◌∙◌, ap, subst, length, drop, get_or, arith}
+use Rattle.std.proofs.Common.{◌≡◌, ◌↔◌, ◌⊎◌, inl, inr, ◌+◌, ◌-◌, ◌<◌, ◌≤◌, ℕ, suc, List, [], ◌∷◌, ◌++◌, Bool, true}
+use Rattle.std.proofs.Common.{false, Some, sym, ◌∙◌, ap, subst, length, drop, get_or, arith}
 use Rattle.std.specs.List.{Contains, slice_get}
 use Rattle.std.specs.Ordering.{nat_cmp}
 use Rattle.std.specs.List.Sorted.{IsStrictlySortedBy}
@@ -9,7 +10,8 @@ use Rattle.std.proofs.lemmas.Option.{slice_get-get_or, slice_get_within}
 use Rattle.std.proofs.Math.Seq.{drop-cons}
 use Rattle.walk_core.specs.Digraphs.{IsMarked}
 use Rattle.walk_core.specs.RankLaws.{nat_cmp-less}
-use Rattle.lattice_core.specs.MemberLaws.{sorted_push, Contains-none, Contains-cons_cases, Contains-first, Contains-later}
+use Rattle.lattice_core.specs.MemberLaws.{sorted_push, Contains-none, Contains-cons_cases, Contains-first}
+use Rattle.lattice_core.specs.MemberLaws.{Contains-later}
 use Rattle.walk_core.proofs.Blocks.{none_sorted}
 
 pub marked_of : (kept : List Bool) (i : ℕ) (d : Bool) → i < length kept → get_or kept i d ≡ true → IsMarked kept i
@@ -52,7 +54,8 @@ module _ (kept : List Bool) (count : ℕ) (nodes : List ℕ) (has : HasKept kept
       ],
       λ is. elim (cases_eq x count) [
         | inl same ↦ subst (Contains (nodes ++ count ∷ [])) (sym same) (Contains-push nodes count)
-        | inr other ↦ let less = is.0 in Contains-append_left nodes (count ∷ []) x ((has.just x).1 (omega (arith, less, other), is.1))
+        | inr other ↦ let less = is.0 in Contains-append_left nodes (count ∷ []) x
+            ((has.just x).1 (omega (arith, less, other), is.1))
       ],
     );
     in_order = sorted_push nat_cmp nodes count has.in_order (λ x here. nat_cmp-less x count ((has.just x).0 here).0);
@@ -75,11 +78,13 @@ keeps_none kept nodes left none x = (
   λ is. absurd (Contains-none x (subst (λ ys. Contains ys x) none is.0)),
 )
 
-module _ (kept : List Bool) (nodes found : List ℕ) (left node : ℕ) (some : 0 < left) (within : left ≤ length nodes) (is : node ≡ get_or nodes (left - 1) node) (keeps : KeepsFrom kept nodes left found) where
+module _ (kept : List Bool) (nodes found : List ℕ) (left node : ℕ) (some : 0 < left) (within : left ≤ length nodes)
+    (is : node ≡ get_or nodes (left - 1) node) (keeps : KeepsFrom kept nodes left found) where
   one_more : drop (left - 1) nodes ≡ node ∷ drop left nodes
   one_more =
       let next : suc (left - 1) ≡ left = omega (arith, some) in
-      drop-cons nodes (left - 1) node (omega (arith, some, within)) ∙ ap (λ n. get_or nodes (left - 1) node ∷ drop n nodes) next ∙ ap (λ y. y ∷ drop left nodes) (sym is)
+      drop-cons nodes (left - 1) node (omega (arith, some, within))
+      ∙ ap (λ n. get_or nodes (left - 1) node ∷ drop n nodes) next ∙ ap (λ y. y ∷ drop left nodes) (sym is)
 
   from_here : (x : ℕ) → Contains (drop (left - 1) nodes) x → (node ≡ x) ⊎ Contains (drop left nodes) x
   from_here x here = Contains-cons_cases node (drop left nodes) x (subst (λ ys. Contains ys x) one_more here)
@@ -105,8 +110,10 @@ module _ (kept : List Bool) (nodes found : List ℕ) (left node : ℕ) (some : 0
     ],
   )
 
-pub keeps_all : (kept : List Bool) (nodes found : List ℕ) (left : ℕ) → left ≡ 0 → KeepsFrom kept nodes left found → ((x : ℕ) → Contains nodes x ↔ x < length kept) → (x : ℕ) → Contains found x ↔ IsMarked kept x
+pub keeps_all : (kept : List Bool) (nodes found : List ℕ) (left : ℕ) → left ≡ 0 → KeepsFrom kept nodes left found
+    → ((x : ℕ) → Contains nodes x ↔ x < length kept) → (x : ℕ) → Contains found x ↔ IsMarked kept x
 keeps_all kept nodes found left none keeps all x = (
   λ here. ((keeps x).0 here).1,
-  λ marked. (keeps x).1 (subst (λ n. Contains (drop n nodes) x) (sym none) ((all x).1 (slice_get_within kept x true marked)), marked),
+  λ marked. (keeps x).1
+      (subst (λ n. Contains (drop n nodes) x) (sym none) ((all x).1 (slice_get_within kept x true marked)), marked),
 )

@@ -1,5 +1,6 @@
 -- First nodes of components: how they are found, and that they stay right when a component is found.
-use Rattle.std.proofs.Common.{◌≡◌, ◌≢◌, ◌⊎◌, inl, inr, ◌+◌, ◌<◌, ◌≤◌, ◌++◌, ◌∷◌, [], ℕ, zero, suc, List, refl, sym, ◌∙◌, subst, length, set, take, get_or, min, arith}
+use Rattle.std.proofs.Common.{◌≡◌, ◌≢◌, ◌⊎◌, inl, inr, ◌+◌, ◌<◌, ◌≤◌, ◌++◌, ◌∷◌, [], ℕ, zero, suc, List, refl, sym, ◌∙◌}
+use Rattle.std.proofs.Common.{subst, length, set, take, get_or, min, arith}
 use Rattle.std.specs.List.{Contains}
 use Rattle.std.specs.declared.cmp.Ordering.{Ordering}
 use Rattle.std.specs.declared.cmp.Ordering.TheVariants.{Less, Equal, Greater}
@@ -7,14 +8,16 @@ use Rattle.std.specs.Ordering.{nat_cmp, MatchOrdering}
 use Rattle.std.proofs.lemmas.Bool.{cases_eq, cases_lt}
 use Rattle.std.proofs.lemmas.Cmp.{ranked}
 use Rattle.std.proofs.lemmas.List.{length-set, get_or-set_same, get_or-set_other}
-use Rattle.std.proofs.lemmas.List.Elements.{Contains-append_left, Contains-append_right, Contains-append_cases, Contains-push, Contains-push_cases}
+use Rattle.std.proofs.lemmas.List.Elements.{Contains-append_left, Contains-append_right, Contains-append_cases}
+use Rattle.std.proofs.lemmas.List.Elements.{Contains-push, Contains-push_cases}
 use Rattle.walk_core.specs.Walks.{Reaches, Reaches-trans}
 use Rattle.walk_core.specs.Ranks.{LeadsTo, AreTogether}
 use Rattle.walk_core.specs.RankLaws.{AreTogether-sym, AreTogether-trans}
 use Rattle.lattice_core.specs.MemberLaws.{Contains-none}
 use Rattle.walk_core.specs.Digraphs.{HasEdge}
 use Rattle.walk_core.specs.Edges.{HasEdge-starts}
-use Rattle.walk_core.specs.Components.{place_of, AreConnected, HasComponent, AreSettled, AreLabelled, IsLeastOf, AreFirsts, IsFirst, AreFound}
+use Rattle.walk_core.specs.Components.{place_of, AreConnected, HasComponent, AreSettled, AreLabelled, IsLeastOf}
+use Rattle.walk_core.specs.Components.{AreFirsts, IsFirst, AreFound}
 use Rattle.walk_core.specs.declared.component.Place.{Place}
 use Rattle.walk_core.specs.declared.component.Place.TheVariants.{Waiting, Behind, OnCycle, OffCycle}
 use Rattle.walk_core.proofs.EdgeLemmas.{Contains-more}
@@ -26,14 +29,17 @@ use Rattle.walk_core.proofs.Settling.{settled_on, settled_off}
 pub least_first : (node : ℕ) → IsLeastOf [] node node
 least_first node = record { here = inl refl; own = omega arith; least = λ x here. absurd (Contains-none x here) }
 
-module _ (others : List ℕ) (i end node least : ℕ) (within : i < length others) (is : end ≡ get_or others i end) (was : IsLeastOf (take i others) node least) where
+module _ (others : List ℕ) (i end node least : ℕ) (within : i < length others) (is : end ≡ get_or others i end)
+    (was : IsLeastOf (take i others) node least) where
   pub least_more : IsLeastOf (take (i + 1) others) node (min least end)
   least_more = record {
     here = elim (cases_lt end least) [
-      | inl less ↦ let e : min least end ≡ end = omega (arith, less) in inr (subst (Contains (take (i + 1) others)) (sym e) ((Contains-more others i end end within is).1 (inr refl)))
+      | inl less ↦ let e : min least end ≡ end = omega (arith, less) in inr
+          (subst (Contains (take (i + 1) others)) (sym e) ((Contains-more others i end end within is).1 (inr refl)))
       | inr not ↦ let e : min least end ≡ least = omega (arith, not) in elim was.here [
         | inl own ↦ inl (e ∙ own)
-        | inr here ↦ inr (subst (Contains (take (i + 1) others)) (sym e) ((Contains-more others i least end within is).1 (inl here)))
+        | inr here ↦ inr
+            (subst (Contains (take (i + 1) others)) (sym e) ((Contains-more others i least end within is).1 (inl here)))
       ]
     ];
     own = omega (arith, was.own);
@@ -48,8 +54,11 @@ module _ (others : List ℕ) (i end node least : ℕ) (within : i < length other
 pub labelled_none : (first : ℕ) (firsts : List ℕ) → AreLabelled [] first firsts firsts
 labelled_none first firsts = record { size = refl; each = λ x. inr (λ here. Contains-none x here, refl) }
 
-module _ (nodes : List ℕ) (i end first : ℕ) (before after : List ℕ) (within : i < length nodes) (is : end ≡ get_or nodes i end) (inside : end < length after) (was : AreLabelled (take i nodes) first before after) where
-  labelled_at : (x : ℕ) → (Contains (take (i + 1) nodes) x × (get_or (set after end first) x 0 ≡ first)) ⊎ ((¬ Contains (take (i + 1) nodes) x) × (get_or (set after end first) x 0 ≡ get_or before x 0))
+module _ (nodes : List ℕ) (i end first : ℕ) (before after : List ℕ) (within : i < length nodes)
+    (is : end ≡ get_or nodes i end) (inside : end < length after)
+    (was : AreLabelled (take i nodes) first before after) where
+  labelled_at : (x : ℕ) → (Contains (take (i + 1) nodes) x × (get_or (set after end first) x 0 ≡ first))
+      ⊎ ((¬ Contains (take (i + 1) nodes) x) × (get_or (set after end first) x 0 ≡ get_or before x 0))
   labelled_at x = elim (cases_eq x end) [
     | inl same ↦ inl ((Contains-more nodes i x end within is).1 (inr same), subst (λ y. get_or (set after end first) y 0 ≡ first) (sym same) (get_or-set_same after end first 0 inside))
     | inr other ↦
@@ -65,7 +74,8 @@ module _ (nodes : List ℕ) (i end first : ℕ) (before after : List ℕ) (withi
 
 -- ---- nodes that are together
 
-not_below : (x first : ℕ) (o : Ordering) → o ≡ nat_cmp x first → MatchOrdering o (x < first) (x ≡ first) (first < x) → first ≤ x → ¬ (nat_cmp x first ≡ Less)
+not_below : (x first : ℕ) (o : Ordering) → o ≡ nat_cmp x first → MatchOrdering o (x < first) (x ≡ first) (first < x)
+    → first ≤ x → ¬ (nat_cmp x first ≡ Less)
 not_below x first Less e found h less = absurd (omega (arith, found, h))
 not_below x first Equal e found h less = let no : Equal ≡ Less = e ∙ less in cc
 not_below x first Greater e found h less = let no : Greater ≡ Less = e ∙ less in cc
@@ -115,7 +125,8 @@ module _ (graph : List (List ℕ)) where
     first_of_member x here =
         let together = connected_together node x ((are x).0 here) in
         record {
-          here = AreTogether-trans (HasEdge graph) x node first (AreTogether-sym (HasEdge graph) node x together) with_first;
+          here = AreTogether-trans (HasEdge graph) x node first
+              (AreTogether-sym (HasEdge graph) node x together) with_first;
           least = λ y also. elim (together_cases node y (AreTogether-trans (HasEdge graph) node x y together also)) [
             | inl same ↦ nat_cmp-not_below y first (omega (arith, least.own, same))
             | inr connected ↦ nat_cmp-not_below y first (least.least y ((are y).1 connected))
@@ -124,12 +135,15 @@ module _ (graph : List (List ℕ)) where
 
 -- ---- a component is found
 
-module _ (graph : List (List ℕ)) (node : ℕ) (start end : List Place) (firsts nodes : List ℕ) (found : AreFound graph start firsts nodes) (waits : place_of start node ≡ Waiting)
+module _ (graph : List (List ℕ)) (node : ℕ) (start end : List Place) (firsts nodes : List ℕ)
+    (found : AreFound graph start firsts nodes) (waits : place_of start node ≡ Waiting)
     (component : HasComponent graph node start end) (members : List ℕ) (are : (x : ℕ) → (Contains members x → AreConnected graph node x) × (AreConnected graph node x → Contains members x))
-    (first : ℕ) (least : IsLeastOf members node first) (after : List ℕ) (labelled : AreLabelled members first firsts after) where
+    (first : ℕ) (least : IsLeastOf members node first) (after : List ℕ)
+    (labelled : AreLabelled members first firsts after) where
   on_now : (x : ℕ) → place_of end x ≡ OnCycle → IsFirst graph x (get_or after x 0)
   on_now x is = elim (labelled.each x) [
-    | inl member ↦ subst (IsFirst graph x) (sym member.1) (first_of_member graph node members first are least x member.0)
+    | inl member ↦ subst (IsFirst graph x) (sym member.1)
+        (first_of_member graph node members first are least x member.0)
     | inr other ↦ elim (component.each x) [
       | inl same ↦ subst (IsFirst graph x) (sym other.1) (found.on x (sym same ∙ is))
       | inr new ↦ absurd (other.0 ((are x).1 new.connected))
@@ -172,7 +186,8 @@ module _ (graph : List (List ℕ)) (node : ℕ) (start end : List Place) (firsts
 
   -- the node itself is on no cycle
   module _ (waiting : place_of end node ≡ Waiting) (inside : node < length graph) where
-    at_node : (x : ℕ) → ((x ≡ node) × (place_of (set end node OffCycle) x ≡ OffCycle)) ⊎ ((x ≢ node) × (place_of (set end node OffCycle) x ≡ place_of end x))
+    at_node : (x : ℕ) → ((x ≡ node) × (place_of (set end node OffCycle) x ≡ OffCycle))
+        ⊎ ((x ≢ node) × (place_of (set end node OffCycle) x ≡ place_of end x))
     at_node = place_set end node OffCycle (place_within end node Waiting (λ same. cc (same)) waiting)
 
     on_before : (x : ℕ) → place_of (set end node OffCycle) x ≡ OnCycle → place_of end x ≡ OnCycle
@@ -199,7 +214,8 @@ module _ (graph : List (List ℕ)) (node : ℕ) (start end : List Place) (firsts
       listed = λ x within. elim (listed_now x within) [
         | inl here ↦ inl (Contains-append_left (nodes ++ members) (node ∷ []) x here)
         | inr waits_on ↦ elim (cases_eq x node) [
-          | inl same ↦ inl (subst (Contains ((nodes ++ members) ++ node ∷ [])) (sym same) (Contains-push (nodes ++ members) node))
+          | inl same ↦ inl
+              (subst (Contains ((nodes ++ members) ++ node ∷ [])) (sym same) (Contains-push (nodes ++ members) node))
           | inr other ↦ inr (waits_still x other waits_on)
         ]
       ];
@@ -212,8 +228,10 @@ module _ (graph : List (List ℕ)) (node : ℕ) (start end : List Place) (firsts
 -- ---- at first, and at last
 
 -- nothing is found where all nodes wait
-pub found_none : (graph : List (List ℕ)) (places : List Place) (firsts : List ℕ) → AreSettled graph places → ((x : ℕ) → x < length graph → place_of places x ≡ Waiting)
-    → length firsts ≡ length graph → ((x : ℕ) → x < length graph → get_or firsts x 0 ≡ x) → AreFound graph places firsts []
+pub found_none : (graph : List (List ℕ)) (places : List Place) (firsts : List ℕ) → AreSettled graph places
+    → ((x : ℕ) → x < length graph → place_of places x ≡ Waiting)
+    → length firsts ≡ length graph → ((x : ℕ) → x < length graph → get_or firsts x 0 ≡ x)
+    → AreFound graph places firsts []
 found_none graph places firsts settled wait size own = record {
   settled = settled;
   size = size;
@@ -225,8 +243,10 @@ found_none graph places firsts settled wait size own = record {
   within = λ x here. absurd (Contains-none x here);
 }
 
-module _ (graph : List (List ℕ)) (places : List Place) (firsts nodes : List ℕ) (found : AreFound graph places firsts nodes) (none : (x : ℕ) → place_of places x ≢ Waiting) where
-  first_at : (x : ℕ) (place : Place) → x < length graph → place_of places x ≡ place → IsFirst graph x (get_or firsts x 0)
+module _ (graph : List (List ℕ)) (places : List Place) (firsts nodes : List ℕ)
+    (found : AreFound graph places firsts nodes) (none : (x : ℕ) → place_of places x ≢ Waiting) where
+  first_at : (x : ℕ) (place : Place) → x < length graph → place_of places x ≡ place
+      → IsFirst graph x (get_or firsts x 0)
   first_at x Waiting within is = absurd (none x is)
   first_at x Behind within is = absurd (found.settled.sure x is)
   first_at x OnCycle within is = found.on x is

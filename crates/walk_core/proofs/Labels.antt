@@ -1,9 +1,12 @@
 -- Labels of regions: a search on its way, all searches, and the nodes of each label.
-use Rattle.std.proofs.Common.{◌≡◌, ◌≢◌, ◌⊎◌, inl, inr, ◌+◌, ◌<◌, ◌≤◌, ◌++◌, ◌∷◌, [], ℕ, zero, suc, Bool, true, false, cond, is_none, List, Option, None, Some, refl, sym, ◌∙◌, ap, subst, length, replicate, set, take, get_or, arith}
+use Rattle.std.proofs.Common.{◌≡◌, ◌≢◌, ◌⊎◌, inl, inr, ◌+◌, ◌<◌, ◌≤◌, ◌++◌, ◌∷◌, [], ℕ, zero, suc, Bool, true, false}
+use Rattle.std.proofs.Common.{cond, is_none, List, Option, None, Some, refl, sym, ◌∙◌, ap, subst, length, replicate}
+use Rattle.std.proofs.Common.{set, take, get_or, arith}
 use Rattle.std.specs.List.{Contains, count_by, filter}
 use Rattle.std.proofs.lemmas.Bool.{cases_eq, eq-eqb, ne_eqb, eqb-true}
 use Rattle.std.proofs.lemmas.List.{append-nil, get_or-set_same, get_or-set_other, length-replicate, length-set}
-use Rattle.std.proofs.lemmas.List.Elements.{Contains-push_cases, Contains-append_left, Contains-append_right, filter_more}
+use Rattle.std.proofs.lemmas.List.Elements.{Contains-push_cases, Contains-append_left, Contains-append_right}
+use Rattle.std.proofs.lemmas.List.Elements.{filter_more}
 use Rattle.std.proofs.lemmas.List.Sums.{sum_by-set}
 use Rattle.lattice_core.specs.MemberLaws.{Contains-none}
 use Rattle.walk_core.specs.Digraphs.{HasEdge, IsMarked, ends_of, row}
@@ -20,14 +23,16 @@ abbrev weight : Option ℕ → ℕ
 weight label = cond (is_none label) 1 0
 
 -- a node that gets a label is one less that has none
-pub fewer_unlabelled : (labels : List (Option ℕ)) (node start : ℕ) → node < length labels → label_of labels node ≡ None → unlabelled (set labels node (Some start)) + 1 ≡ unlabelled labels
+pub fewer_unlabelled : (labels : List (Option ℕ)) (node start : ℕ) → node < length labels → label_of labels node ≡ None
+    → unlabelled (set labels node (Some start)) + 1 ≡ unlabelled labels
 fewer_unlabelled labels node start within none =
     let changed = sum_by-set weight labels node (Some start) None within in
     let was : weight (get_or labels node None) ≡ 1 = ap weight none in
     omega (arith, changed, was)
 
 module _ (labels : List (Option ℕ)) (node start : ℕ) (within : node < length labels) where
-  label_set : (x : ℕ) → ((x ≡ node) × (label_of (set labels node (Some start)) x ≡ Some start)) ⊎ ((x ≢ node) × (label_of (set labels node (Some start)) x ≡ label_of labels x))
+  label_set : (x : ℕ) → ((x ≡ node) × (label_of (set labels node (Some start)) x ≡ Some start))
+      ⊎ ((x ≢ node) × (label_of (set labels node (Some start)) x ≡ label_of labels x))
   label_set x = elim (cases_eq x node) [
     | inl same ↦ inl (same, subst (λ y. label_of (set labels node (Some start)) y ≡ Some start) (sym same) (get_or-set_same labels node (Some start) None within))
     | inr other ↦ inr (other, get_or-set_other labels node x (Some start) None other)
@@ -43,7 +48,8 @@ pub record IsNew (kept : List Bool) (start : ℕ) (before now : List (Option ℕ
 pub record IsLabelling (graph : List (List ℕ)) (kept : List Bool) (start : ℕ) (before now : List (Option ℕ)) (ahead : List ℕ) : Type 0 where
   pub size : length now ≡ length before
   pub each : (x : ℕ) → (label_of now x ≡ label_of before x) ⊎ IsNew kept start before now x
-  pub closed : (x y : ℕ) → IsNew kept start before now x → HasEdge graph x y ⊎ HasEdge graph y x → Waits kept now y → Contains ahead y
+  pub closed : (x y : ℕ) → IsNew kept start before now x → HasEdge graph x y ⊎ HasEdge graph y x → Waits kept now y
+      → Contains ahead y
   pub begun : Waits kept now start → Contains ahead start
 
 module _ (graph : List (List ℕ)) (kept : List Bool) (start : ℕ) (before : List (Option ℕ)) where
@@ -55,7 +61,8 @@ module _ (graph : List (List ℕ)) (kept : List Bool) (start : ℕ) (before : Li
     begun = λ waits. here;
   }
 
-  module _ (now : List (Option ℕ)) (rest : List ℕ) (node : ℕ) (labelling : IsLabelling graph kept start before now (rest ++ node ∷ [])) where
+  module _ (now : List (Option ℕ)) (rest : List ℕ) (node : ℕ)
+      (labelling : IsLabelling graph kept start before now (rest ++ node ∷ [])) where
     later : ¬ Waits kept now node → (y : ℕ) → Waits kept now y → Contains (rest ++ node ∷ []) y → Contains rest y
     later not_open y waits here = elim (Contains-push_cases rest node y here) [
       | inl earlier ↦ earlier
@@ -72,7 +79,8 @@ module _ (graph : List (List ℕ)) (kept : List Bool) (start : ℕ) (before : Li
     }
 
     -- one that waits is labelled, and what an edge joins with it is ahead
-    module _ (within : node < length now) (is_open : Waits kept now node) (ends namers : List ℕ) (are_ends : (y : ℕ) → HasEdge graph node y → Contains ends y)
+    module _ (within : node < length now) (is_open : Waits kept now node) (ends namers : List ℕ)
+        (are_ends : (y : ℕ) → HasEdge graph node y → Contains ends y)
         (are_namers : (y : ℕ) → HasEdge graph y node → Contains namers y) where
       after : List (Option ℕ)
       after = set now node (Some start)
@@ -104,9 +112,12 @@ module _ (graph : List (List ℕ)) (kept : List Bool) (start : ℕ) (before : Li
         | inr same ↦ absurd ((waits_yet y waits).0 (sym same))
       ]
 
-      joined_ahead : (x y : ℕ) → x ≡ node → HasEdge graph x y ⊎ HasEdge graph y x → Contains ((rest ++ ends) ++ namers) y
-      joined_ahead x y same (inl edge) = Contains-append_left (rest ++ ends) namers y (Contains-append_right rest ends y (are_ends y (subst (λ z. HasEdge graph z y) same edge)))
-      joined_ahead x y same (inr edge) = Contains-append_right (rest ++ ends) namers y (are_namers y (subst (λ z. HasEdge graph y z) same edge))
+      joined_ahead : (x y : ℕ) → x ≡ node → HasEdge graph x y ⊎ HasEdge graph y x
+          → Contains ((rest ++ ends) ++ namers) y
+      joined_ahead x y same (inl edge) = Contains-append_left (rest ++ ends) namers y
+          (Contains-append_right rest ends y (are_ends y (subst (λ z. HasEdge graph z y) same edge)))
+      joined_ahead x y same (inr edge) =
+          Contains-append_right (rest ++ ends) namers y (are_namers y (subst (λ z. HasEdge graph y z) same edge))
 
       takes_each : (x : ℕ) → (label_of after x ≡ label_of before x) ⊎ IsNew kept start before after x
       unfolding after
@@ -118,11 +129,13 @@ module _ (graph : List (List ℕ)) (kept : List Bool) (start : ℕ) (before : Li
         ]
       ]
 
-      takes_closed : (x y : ℕ) → IsNew kept start before after x → HasEdge graph x y ⊎ HasEdge graph y x → Waits kept after y → Contains ((rest ++ ends) ++ namers) y
+      takes_closed : (x y : ℕ) → IsNew kept start before after x → HasEdge graph x y ⊎ HasEdge graph y x
+          → Waits kept after y → Contains ((rest ++ ends) ++ namers) y
       unfolding after
       takes_closed x y new joins waits = elim (label_set now node start within x) [
         | inl at ↦ joined_ahead x y at.0 joins
-        | inr other ↦ ahead_yet y waits (labelling.closed x y (record { was = new.was; is = sym other.1 ∙ new.is }) joins (waits_yet y waits).1)
+        | inr other ↦ ahead_yet y waits
+            (labelling.closed x y (record { was = new.was; is = sym other.1 ∙ new.is }) joins (waits_yet y waits).1)
       ]
 
       pub labelling_takes : IsLabelling graph kept start before (set now node (Some start)) ((rest ++ ends) ++ namers)
@@ -168,7 +181,8 @@ pub record AreRegionsTo (graph : List (List ℕ)) (kept : List Bool) (labels : L
   pub within : (x label : ℕ) → label_of labels x ≡ Some label → label < length graph
   pub alike : AreAlike graph kept labels
 
-pub regions_none : (graph : List (List ℕ)) (kept : List Bool) (size : ℕ) → size ≡ length graph → AreRegionsTo graph kept (replicate size None) 0
+pub regions_none : (graph : List (List ℕ)) (kept : List Bool) (size : ℕ) → size ≡ length graph
+    → AreRegionsTo graph kept (replicate size None) 0
 regions_none graph kept size sized = record {
   size = length-replicate size None ∙ sized;
   named = λ x less. absurd (omega (arith, less));
@@ -176,7 +190,8 @@ regions_none graph kept size sized = record {
   alike = λ x y x_kept y_kept edge. none_read size x ∙ sym (none_read size y);
 }
 
-module _ (graph : List (List ℕ)) (kept : List Bool) (labels : List (Option ℕ)) (count : ℕ) (are : AreRegionsTo graph kept labels count) where
+module _ (graph : List (List ℕ)) (kept : List Bool) (labels : List (Option ℕ)) (count : ℕ)
+    (are : AreRegionsTo graph kept labels count) where
   pub regions_skip : ¬ Waits kept labels count → AreRegionsTo graph kept labels (count + 1)
   regions_skip not_open = record {
     size = are.size;
@@ -188,11 +203,13 @@ module _ (graph : List (List ℕ)) (kept : List Bool) (labels : List (Option ℕ
     alike = are.alike;
   }
 
-  module _ (within : count < length graph) (after : List (Option ℕ)) (has : HasLabelled graph kept count labels after) where
+  module _ (within : count < length graph) (after : List (Option ℕ))
+      (has : HasLabelled graph kept count labels after) where
     some_label : (x label : ℕ) → label_of after x ≡ Some label → label < length graph
     some_label x label is = elim (has.each x) [
       | inl same ↦ are.within x label (sym same ∙ is)
-      | inr new ↦ let same : Some count ≡ Some label = sym new ∙ is in let e : count ≡ label = cc in omega (arith, within, e)
+      | inr new ↦ let same : Some count ≡ Some label = sym new ∙ is in let e : count ≡ label = cc in omega
+          (arith, within, e)
     ]
 
     pub regions_more : AreRegionsTo graph kept after (count + 1)
@@ -209,7 +226,9 @@ module _ (graph : List (List ℕ)) (kept : List Bool) (labels : List (Option ℕ
       alike = has.alike are.alike;
     }
 
-pub regions_all : (graph : List (List ℕ)) (kept : List Bool) (labels : List (Option ℕ)) (count : ℕ) → length kept ≤ count → ((x : ℕ) → IsMarked kept x → x < length kept) → AreRegionsTo graph kept labels count → AreRegions graph kept labels
+pub regions_all : (graph : List (List ℕ)) (kept : List Bool) (labels : List (Option ℕ)) (count : ℕ)
+    → length kept ≤ count → ((x : ℕ) → IsMarked kept x → x < length kept) → AreRegionsTo graph kept labels count
+    → AreRegions graph kept labels
 regions_all graph kept labels count all inside are = record {
   size = are.size;
   named = λ x marked. are.named x (let within = inside x marked in omega (arith, within, all)) marked;
@@ -238,8 +257,10 @@ module _ (labels : List (Option ℕ)) where
   pub labelled_as : (label x : ℕ) → has_label labels label x ≡ true → label_of labels x ≡ Some label
   labelled_as label x is = label_yes label (label_of labels x) is
 
-  module _ (nodes : List ℕ) (i node : ℕ) (within : i < length nodes) (is : node ≡ get_or nodes i node) (rows : List (List ℕ)) (are : AreGrouped labels (take i nodes) rows) where
-    row_more : (label : ℕ) (passes : Bool) → has_label labels label node ≡ passes → filter (has_label labels label) (take (i + 1) nodes) ≡ filter (has_label labels label) (take i nodes) ++ cond passes (node ∷ []) []
+  module _ (nodes : List ℕ) (i node : ℕ) (within : i < length nodes) (is : node ≡ get_or nodes i node)
+      (rows : List (List ℕ)) (are : AreGrouped labels (take i nodes) rows) where
+    row_more : (label : ℕ) (passes : Bool) → has_label labels label node ≡ passes → filter (has_label labels label)
+        (take (i + 1) nodes) ≡ filter (has_label labels label) (take i nodes) ++ cond passes (node ∷ []) []
     row_more label passes told =
         let more = filter_more (has_label labels label) nodes i node within in
         let read : cond (has_label labels label (get_or nodes i node)) (get_or nodes i node ∷ []) [] ≡ cond passes (node ∷ []) [] =
@@ -252,8 +273,10 @@ module _ (labels : List (Option ℕ)) where
       each = λ label inside. are.each label inside ∙ sym (row_more label false (ap (is_label label) none) ∙ append-nil (filter (has_label labels label) (take i nodes)));
     }
 
-    module _ (label : ℕ) (named : label_of labels node ≡ Some label) (inside_rows : label < length rows) (old : List ℕ) (read : ends_of rows label ≡ old) where
-      row_now : (other : ℕ) → other < length labels → ends_of (set rows label (old ++ node ∷ [])) other ≡ filter (has_label labels other) (take (i + 1) nodes)
+    module _ (label : ℕ) (named : label_of labels node ≡ Some label) (inside_rows : label < length rows) (old : List ℕ)
+        (read : ends_of rows label ≡ old) where
+      row_now : (other : ℕ) → other < length labels
+          → ends_of (set rows label (old ++ node ∷ [])) other ≡ filter (has_label labels other) (take (i + 1) nodes)
       row_now other inside = elim (cases_eq other label) [
         | inl same ↦
             let here : ends_of (set rows label (old ++ node ∷ [])) label ≡ old ++ node ∷ [] = ap row (slice_get-set_same rows label (old ++ node ∷ []) inside_rows) in
@@ -269,7 +292,8 @@ module _ (labels : List (Option ℕ)) where
       pub grouped_takes : AreGrouped labels (take (i + 1) nodes) (set rows label (old ++ node ∷ []))
       grouped_takes = record { size = length-set rows label (old ++ node ∷ []) ∙ are.size; each = row_now }
 
-  pub grouped_none : (rows : List (List ℕ)) (size : ℕ) → rows ≡ replicate size [] → size ≡ length labels → AreGrouped labels [] rows
+  pub grouped_none : (rows : List (List ℕ)) (size : ℕ) → rows ≡ replicate size [] → size ≡ length labels
+      → AreGrouped labels [] rows
   grouped_none rows size are sized = record {
     size = ap length are ∙ length-replicate size [] ∙ sized;
     each = λ label inside. ap (λ graph. ends_of graph label) are ∙ no_ends size label;

@@ -1,5 +1,6 @@
 -- What is marked after marks are put and joined.
-use Rattle.std.proofs.Common.{◌≡◌, ◌≢◌, ◌↔◌, ◌⊎◌, inl, inr, ◌*◌, ◌/◌, ◌%◌, ◌<◌, ◌≤◌, ◌^◌, ℕ, zero, suc, List, sym, ◌∙◌, ap, subst, length, set, get_or, bit_or, max, arith}
+use Rattle.std.proofs.Common.{◌≡◌, ◌≢◌, ◌↔◌, ◌⊎◌, inl, inr, ◌*◌, ◌/◌, ◌%◌, ◌<◌, ◌≤◌, ◌^◌, ℕ, zero, suc, List, sym, ◌∙◌}
+use Rattle.std.proofs.Common.{ap, subst, length, set, get_or, bit_or, max, arith}
 use Rattle.std.specs.Int.{bit_at, w64}
 use Rattle.std.proofs.lemmas.Bool.{cases_eq}
 use Rattle.std.specs.List.{All, sum_by}
@@ -21,7 +22,8 @@ module _ (words : List ℕ) (target : ℕ) (within : target / 64 < length words)
   unfolding put
   put_other other differs = get_or-set_other words (target / 64) (other / 64) _ 0 differs
 
-  put_same : get_or put (target / 64) 0 ≡ bit_or (get_or words (target / 64) 0) (1 * 2 ^ (target % 64) % 18446744073709551616)
+  put_same : get_or put (target / 64) 0
+      ≡ bit_or (get_or words (target / 64) 0) (1 * 2 ^ (target % 64) % 18446744073709551616)
   unfolding put
   put_same = get_or-set_same words (target / 64) _ 0 within
 
@@ -38,7 +40,8 @@ module _ (words : List ℕ) (target : ℕ) (within : target / 64 < length words)
             (λ has. inl (sym kept ∙ has), λ has. elim has [ inl old ↦ kept ∙ old | inr is ↦ absurd (apart (ap (λ n. n % 64) is)) ])
       ]
 
-  pub PutsMark-set : PutsMark target words (set words (target / 64) (bit_or (get_or words (target / 64) 0) (1 * 2 ^ (target % 64) % 18446744073709551616)))
+  pub PutsMark-set : PutsMark target words
+      (set words (target / 64) (bit_or (get_or words (target / 64) 0) (1 * 2 ^ (target % 64) % 18446744073709551616)))
   unfolding put
   PutsMark-set other = elim (cases_eq (other / 64) (target / 64)) [
     | inl same ↦ in_word other same
@@ -54,11 +57,14 @@ either_bit zero b p q e = inr (omega (arith, e))
 either_bit (suc a) b p q e = inl (omega (arith, p))
 
 module _ (a b both : List ℕ) (joined : AreJoined a b both) (target : ℕ) where
-  bit_of : bit_at (get_or both (target / 64) 0) (target % 64) ≡ max (bit_at (get_or a (target / 64) 0) (target % 64)) (bit_at (get_or b (target / 64) 0) (target % 64))
-  bit_of = ap (λ n. bit_at n (target % 64)) (joined.each (target / 64)) ∙ bit_at_or (get_or a (target / 64) 0) (get_or b (target / 64) 0) (target % 64)
+  bit_of : bit_at (get_or both (target / 64) 0) (target % 64)
+      ≡ max (bit_at (get_or a (target / 64) 0) (target % 64)) (bit_at (get_or b (target / 64) 0) (target % 64))
+  bit_of = ap (λ n. bit_at n (target % 64)) (joined.each (target / 64))
+      ∙ bit_at_or (get_or a (target / 64) 0) (get_or b (target / 64) 0) (target % 64)
 
   pub HasMark-joined : HasMark both target → HasMark a target ⊎ HasMark b target
-  HasMark-joined has = either_bit _ _ (bit_at-lt (get_or a (target / 64) 0) (target % 64)) (bit_at-lt (get_or b (target / 64) 0) (target % 64)) (sym bit_of ∙ has)
+  HasMark-joined has = either_bit _ _ (bit_at-lt (get_or a (target / 64) 0) (target % 64))
+      (bit_at-lt (get_or b (target / 64) 0) (target % 64)) (sym bit_of ∙ has)
 
   pub joined_left : HasMark a target → HasMark both target
   joined_left has = omega (arith, bit_of, has, bit_at-lt (get_or b (target / 64) 0) (target % 64))
@@ -67,7 +73,8 @@ module _ (a b both : List ℕ) (joined : AreJoined a b both) (target : ℕ) wher
   joined_right has = omega (arith, bit_of, has, bit_at-lt (get_or a (target / 64) 0) (target % 64))
 
 -- words of 64 bits
-pub words_in_range : (words : List ℕ) → length words ≡ 8 → ((k : ℕ) → get_or words k 0 < 2 ^ 64) → sum_by (λ word. word) words ≤ 8 * 2 ^ 64
+pub words_in_range : (words : List ℕ) → length words ≡ 8 → ((k : ℕ) → get_or words k 0 < 2 ^ 64)
+    → sum_by (λ word. word) words ≤ 8 * 2 ^ 64
 words_in_range words size fits =
     let each : All (λ word. word ≤ 2 ^ 64) words = λ k d within. let fit = fits k in let same = get_or_default words k 0 d within in omega (arith, fit, same) in
     let bound = sum_by-le (λ word. word) (2 ^ 64) words each in

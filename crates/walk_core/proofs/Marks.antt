@@ -1,5 +1,6 @@
 -- What is known of nodes at first, and what the marks say at last.
-use Rattle.std.proofs.Common.{◌≡◌, ◌≢◌, ◌⊎◌, inl, inr, ◌<◌, ◌++◌, ◌∷◌, [], ℕ, List, true, false, Some, refl, sym, ◌∙◌, ap, subst, length, map, replicate, arith}
+use Rattle.std.proofs.Common.{◌≡◌, ◌≢◌, ◌⊎◌, inl, inr, ◌<◌, ◌++◌, ◌∷◌, [], ℕ, List, true, false, Some, refl, sym, ◌∙◌}
+use Rattle.std.proofs.Common.{ap, subst, length, map, replicate, arith}
 use Rattle.std.specs.List.{Contains}
 use Rattle.std.proofs.lemmas.List.{length-map, get_or-map, length-replicate, get_or-replicate}
 use Rattle.std.proofs.lemmas.List.Elements.{Contains-push, Contains-append_left, Contains-push_cases}
@@ -14,7 +15,8 @@ use Rattle.walk_core.proofs.Places.{place_within}
 
 -- ---- at first all nodes wait
 
-module _ (graph : List (List ℕ)) (places : List Place) (size : length places ≡ length graph) (wait : (x : ℕ) → x < length places → place_of places x ≡ Waiting) where
+module _ (graph : List (List ℕ)) (places : List Place) (size : length places ≡ length graph)
+    (wait : (x : ℕ) → x < length places → place_of places x ≡ Waiting) where
   only_waiting : (x : ℕ) (place : Place) → place ≢ OffCycle → place_of places x ≡ place → Waiting ≡ place
   only_waiting x place other is = sym (wait x (place_within places x place other is)) ∙ is
 
@@ -36,21 +38,24 @@ module _ (graph : List (List ℕ)) (places : List Place) (size : length places �
     whole = λ x y is connected. absurd (none_on x is);
   }
 
-pub settled_waiting : (graph : List (List ℕ)) (size : ℕ) → size ≡ length graph → AreSettled graph (replicate size Waiting)
+pub settled_waiting : (graph : List (List ℕ)) (size : ℕ) → size ≡ length graph
+    → AreSettled graph (replicate size Waiting)
 settled_waiting graph size same =
     settled_first graph (replicate size Waiting) (length-replicate size Waiting ∙ same)
     (λ x within. get_or-replicate size x Waiting OffCycle (omega (arith, within, length-replicate size Waiting)))
 
 -- ---- the nodes that wait come yet
 
-module _ (size : ℕ) (order rest : List ℕ) (node : ℕ) (taken : order ≡ rest ++ node ∷ []) (within : (x : ℕ) → Contains order x → x < size) where
+module _ (size : ℕ) (order rest : List ℕ) (node : ℕ) (taken : order ≡ rest ++ node ∷ [])
+    (within : (x : ℕ) → Contains order x → x < size) where
   pub node_taken : node < size
   node_taken = within node (subst (λ xs. Contains xs node) (sym taken) (Contains-push rest node))
 
   pub rest_within : (x : ℕ) → Contains rest x → x < size
   rest_within x here = within x (subst (λ xs. Contains xs x) (sym taken) (Contains-append_left rest (node ∷ []) x here))
 
-module _ (order rest : List ℕ) (node : ℕ) (taken : order ≡ rest ++ node ∷ []) (before after : List Place) (ahead : (x : ℕ) → place_of before x ≡ Waiting → Contains order x) where
+module _ (order rest : List ℕ) (node : ℕ) (taken : order ≡ rest ++ node ∷ []) (before after : List Place)
+    (ahead : (x : ℕ) → place_of before x ≡ Waiting → Contains order x) where
   ahead_cases : (x : ℕ) → place_of before x ≡ Waiting → Contains rest x ⊎ (node ≡ x)
   ahead_cases x is = Contains-push_cases rest node x (subst (λ xs. Contains xs x) taken (ahead x is))
 
@@ -68,7 +73,8 @@ known_on Waiting is = cc
 known_on Behind is = cc
 known_on OffCycle is = cc
 
-module _ (graph : List (List ℕ)) (places : List Place) (settled : AreSettled graph places) (none_waits : (x : ℕ) → place_of places x ≢ Waiting) where
+module _ (graph : List (List ℕ)) (places : List Place) (settled : AreSettled graph places)
+    (none_waits : (x : ℕ) → place_of places x ≢ Waiting) where
   marked_on : (x : ℕ) → IsMarked (map is_on_cycle places) x → place_of places x ≡ OnCycle
   marked_on x marked =
       let within : x < length places = omega (arith, slice_get_within (map is_on_cycle places) x true marked, length-map places is_on_cycle) in
@@ -78,9 +84,11 @@ module _ (graph : List (List ℕ)) (places : List Place) (settled : AreSettled g
   on_marked x is =
       let within = place_within places x OnCycle (λ same. cc (same)) is in
       let inside : x < length (map is_on_cycle places) = omega (arith, within, length-map places is_on_cycle) in
-      slice_get-get_or (map is_on_cycle places) x false inside ∙ ap Some (get_or-map is_on_cycle places x OffCycle false within ∙ ap is_on_cycle is)
+      slice_get-get_or (map is_on_cycle places) x false inside
+      ∙ ap Some (get_or-map is_on_cycle places x OffCycle false within ∙ ap is_on_cycle is)
 
-  cycle_at : (x : ℕ) (place : Place) → place_of places x ≡ place → IsOnCycle (HasEdge graph) x → place_of places x ≡ OnCycle
+  cycle_at : (x : ℕ) (place : Place) → place_of places x ≡ place → IsOnCycle (HasEdge graph) x
+      → place_of places x ≡ OnCycle
   cycle_at x Waiting is cycle = absurd (none_waits x is)
   cycle_at x Behind is cycle = absurd (settled.sure x is)
   cycle_at x OnCycle is cycle = is

@@ -1,5 +1,6 @@
 -- Nodes that wait again.
-use Rattle.std.proofs.Common.{◌≡◌, ◌≢◌, ◌⊎◌, inl, inr, ◌+◌, ◌<◌, ◌∷◌, [], ℕ, List, sym, ◌∙◌, subst, length, set, take, get_or}
+use Rattle.std.proofs.Common.{◌≡◌, ◌≢◌, ◌⊎◌, inl, inr, ◌+◌, ◌<◌, ◌∷◌, [], ℕ, List, sym, ◌∙◌, subst, length, set, take}
+use Rattle.std.proofs.Common.{get_or}
 use Rattle.std.specs.List.{Contains}
 use Rattle.std.proofs.lemmas.List.{length-set, take_more}
 use Rattle.std.proofs.lemmas.List.Elements.{Contains-push, Contains-append_left, Contains-push_cases}
@@ -10,15 +11,19 @@ use Rattle.walk_core.proofs.Places.{place_set}
 
 module _ (nodes : List ℕ) (k : ℕ) (within : k < length nodes) where
   Contains-take_more : (x : ℕ) → Contains (take (k + 1) nodes) x → Contains (take k nodes) x ⊎ (get_or nodes k 0 ≡ x)
-  Contains-take_more x here = Contains-push_cases (take k nodes) (get_or nodes k 0) x (subst (λ xs. Contains xs x) (take_more nodes k 0 within) here)
+  Contains-take_more x here = Contains-push_cases (take k nodes) (get_or nodes k 0) x
+      (subst (λ xs. Contains xs x) (take_more nodes k 0 within) here)
 
   listed_still : (x : ℕ) → Contains (take k nodes) x → Contains (take (k + 1) nodes) x
-  listed_still x here = subst (λ xs. Contains xs x) (sym (take_more nodes k 0 within)) (Contains-append_left (take k nodes) (get_or nodes k 0 ∷ []) x here)
+  listed_still x here = subst (λ xs. Contains xs x) (sym (take_more nodes k 0 within))
+      (Contains-append_left (take k nodes) (get_or nodes k 0 ∷ []) x here)
 
   listed_now : Contains (take (k + 1) nodes) (get_or nodes k 0)
-  listed_now = subst (λ xs. Contains xs (get_or nodes k 0)) (sym (take_more nodes k 0 within)) (Contains-push (take k nodes) (get_or nodes k 0))
+  listed_now = subst (λ xs. Contains xs (get_or nodes k 0)) (sym (take_more nodes k 0 within))
+      (Contains-push (take k nodes) (get_or nodes k 0))
 
-module _ (nodes : List ℕ) (k : ℕ) (within : k < length nodes) (start before : List Place) (released : AreReleased (take k nodes) start before) where
+module _ (nodes : List ℕ) (k : ℕ) (within : k < length nodes) (start before : List Place)
+    (released : AreReleased (take k nodes) start before) where
   -- a node that isn't behind is left alone
   other_each : (x : ℕ) → (place_of before x ≡ place_of start x) ⊎ IsReleased (take (k + 1) nodes) start before x
   other_each x = elim (released.each x) [
@@ -44,7 +49,8 @@ module _ (nodes : List ℕ) (k : ℕ) (within : k < length nodes) (start before 
       | inr freed ↦ freed.was
     ]
 
-    freed_each : (x : ℕ) → (place_of (set before (get_or nodes k 0) Waiting) x ≡ place_of start x) ⊎ IsReleased (take (k + 1) nodes) start (set before (get_or nodes k 0) Waiting) x
+    freed_each : (x : ℕ) → (place_of (set before (get_or nodes k 0) Waiting) x ≡ place_of start x)
+        ⊎ IsReleased (take (k + 1) nodes) start (set before (get_or nodes k 0) Waiting) x
     freed_each x = elim (place_set before (get_or nodes k 0) Waiting here x) [
       | inl at ↦ inr (record {
         listed = subst (λ y. Contains (take (k + 1) nodes) y) (sym at.0) (listed_now nodes k within);
@@ -53,7 +59,8 @@ module _ (nodes : List ℕ) (k : ℕ) (within : k < length nodes) (start before 
       })
       | inr other ↦ elim (released.each x) [
         | inl same ↦ inl (other.1 ∙ same)
-        | inr freed ↦ inr (record { listed = listed_still nodes k within x freed.listed; was = freed.was; is = other.1 ∙ freed.is })
+        | inr freed ↦ inr
+            (record { listed = listed_still nodes k within x freed.listed; was = freed.was; is = other.1 ∙ freed.is })
       ]
     ]
 

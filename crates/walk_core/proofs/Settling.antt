@@ -8,13 +8,15 @@ use Rattle.walk_core.specs.declared.component.Place.{Place}
 use Rattle.walk_core.specs.declared.component.Place.TheVariants.{Waiting, Behind, OnCycle, OffCycle}
 use Rattle.walk_core.proofs.Places.{place_set, place_within}
 
-connected-trans : (graph : List (List ℕ)) (x y z : ℕ) → AreConnected graph x y → AreConnected graph y z → AreConnected graph x z
+connected-trans : (graph : List (List ℕ)) (x y z : ℕ) → AreConnected graph x y → AreConnected graph y z
+    → AreConnected graph x z
 connected-trans graph x y z p q = record {
   forth = Reaches-trans (HasEdge graph) x y z p.forth q.forth;
   back = Reaches-trans (HasEdge graph) z y x q.back p.back;
 }
 
-module _ (graph : List (List ℕ)) (node : ℕ) (start end : List Place) (settled : AreSettled graph start) (waits : place_of start node ≡ Waiting) (component : HasComponent graph node start end) where
+module _ (graph : List (List ℕ)) (node : ℕ) (start end : List Place) (settled : AreSettled graph start)
+    (waits : place_of start node ≡ Waiting) (component : HasComponent graph node start end) where
   sure_after : (x : ℕ) → place_of end x ≢ Behind
   sure_after x is = elim (component.each x) [
     | inl same ↦ settled.sure x (sym same ∙ is)
@@ -73,7 +75,8 @@ module _ (graph : List (List ℕ)) (node : ℕ) (start end : List Place) (settle
     pub node_within : node < length end
     node_within = place_within end node Waiting (λ same. cc (same)) waiting
 
-    at_node : (x : ℕ) → ((x ≡ node) × (place_of (set end node OffCycle) x ≡ OffCycle)) ⊎ ((x ≢ node) × (place_of (set end node OffCycle) x ≡ place_of end x))
+    at_node : (x : ℕ) → ((x ≡ node) × (place_of (set end node OffCycle) x ≡ OffCycle))
+        ⊎ ((x ≢ node) × (place_of (set end node OffCycle) x ≡ place_of end x))
     at_node = place_set end node OffCycle node_within
 
     sure_off : (x : ℕ) → place_of (set end node OffCycle) x ≢ Behind

@@ -5,7 +5,8 @@ use Rattle.walk_core.specs.Walks.{Walk, Reaches, Reaches-trans}
 use Rattle.walk_core.specs.Components.{place_of, HasSpread}
 use Rattle.walk_core.specs.declared.component.Place.{Place}
 
-module _ (E : ℕ → ℕ → Type 0) (sought found : Place) (start : ℕ) (before after : List Place) (nodes : List ℕ) (spread : HasSpread E sought found start before after nodes) where
+module _ (E : ℕ → ℕ → Type 0) (sought found : Place) (start : ℕ) (before after : List Place) (nodes : List ℕ)
+    (spread : HasSpread E sought found start before after nodes) where
   step_finds : (x y : ℕ) → (x ≡ start) ⊎ Contains nodes x → E x y → place_of before y ≡ sought → Contains nodes y
   step_finds x y from step was = elim (spread.each y) [
     | inl same ↦ absurd (spread.closed x y from step (same ∙ was))

@@ -1,9 +1,11 @@
 -- A search on its way: what it found so far, and the nodes that it has still to look at.
-use Rattle.std.proofs.Common.{◌≡◌, ◌≢◌, ◌⊎◌, inl, inr, ◌<◌, ◌++◌, ◌∷◌, [], ℕ, List, Some, refl, sym, ◌∙◌, subst, length, set, arith}
+use Rattle.std.proofs.Common.{◌≡◌, ◌≢◌, ◌⊎◌, inl, inr, ◌<◌, ◌++◌, ◌∷◌, [], ℕ, List, Some, refl, sym, ◌∙◌, subst, length}
+use Rattle.std.proofs.Common.{set, arith}
 use Rattle.std.specs.List.{All, Contains}
 use Rattle.std.specs.Prelude.{◌↔◌}
 use Rattle.std.proofs.lemmas.List.{length-set}
-use Rattle.std.proofs.lemmas.List.Elements.{All-pop, Contains-push, Contains-push_cases, Contains-append_left, Contains-append_right, Contains-append_cases}
+use Rattle.std.proofs.lemmas.List.Elements.{All-pop, Contains-push, Contains-push_cases, Contains-append_left}
+use Rattle.std.proofs.lemmas.List.Elements.{Contains-append_right, Contains-append_cases}
 use Rattle.walk_core.specs.Walks.{Reaches, Reaches-trans}
 use Rattle.walk_core.specs.Components.{place_of, IsFound}
 use Rattle.walk_core.specs.declared.component.Place.{Place}
@@ -17,14 +19,16 @@ pub record IsSpreading (E : ℕ → ℕ → Type 0) (sought found : Place) (star
   pub reached : (x : ℕ) → Contains ahead x → Reaches E start x
 
 -- the node that is taken from the end of nodes of a graph is one, and so is each of the rest
-pub taken_within : (size : ℕ) (ahead rest : List ℕ) (node : ℕ) → ahead ≡ rest ++ node ∷ [] → All (λ x. x < size) ahead → (node < size) × All (λ x. x < size) rest
+pub taken_within : (size : ℕ) (ahead rest : List ℕ) (node : ℕ) → ahead ≡ rest ++ node ∷ [] → All (λ x. x < size) ahead
+    → (node < size) × All (λ x. x < size) rest
 taken_within size ahead rest node is within = let popped = All-pop (λ x. x < size) ahead rest (Some node) is within in (popped.1, popped.0)
 
 none_listed : (x : ℕ) → ¬ Contains [] x
 none_listed x here = let within : here.0 < length {A = ℕ} [] = here.1 in omega (arith, within)
 
 module _ (E : ℕ → ℕ → Type 0) (sought found : Place) (start : ℕ) (before : List Place) where
-  pub spreading_starts : (ahead : List ℕ) → ((y : ℕ) → Contains ahead y ↔ E start y) → IsSpreading E sought found start before before [] ahead
+  pub spreading_starts : (ahead : List ℕ) → ((y : ℕ) → Contains ahead y ↔ E start y)
+      → IsSpreading E sought found start before before [] ahead
   spreading_starts ahead steps = record {
     size = refl;
     each = λ x. inl refl;
@@ -36,7 +40,8 @@ module _ (E : ℕ → ℕ → Type 0) (sought found : Place) (start : ℕ) (befo
     reached = λ x here. (0, (x, (steps x).0 here, refl));
   }
 
-  module _ (now : List Place) (nodes rest : List ℕ) (node : ℕ) (spreading : IsSpreading E sought found start before now nodes (rest ++ node ∷ [])) where
+  module _ (now : List Place) (nodes rest : List ℕ) (node : ℕ)
+      (spreading : IsSpreading E sought found start before now nodes (rest ++ node ∷ [])) where
     -- a node that isn't sought is passed over
     pub spreading_passes : place_of now node ≢ sought → IsSpreading E sought found start before now nodes rest
     spreading_passes other = record {
@@ -51,7 +56,8 @@ module _ (E : ℕ → ℕ → Type 0) (sought found : Place) (start : ℕ) (befo
     }
 
     -- one that is sought is found, and the nodes a step from it are ahead
-    module _ (differ : sought ≢ found) (within : node < length now) (open_yet : place_of now node ≡ sought) (steps : List ℕ) (are : (y : ℕ) → Contains steps y ↔ E node y) where
+    module _ (differ : sought ≢ found) (within : node < length now) (open_yet : place_of now node ≡ sought)
+        (steps : List ℕ) (are : (y : ℕ) → Contains steps y ↔ E node y) where
       was_sought : place_of before node ≡ sought
       was_sought = elim (spreading.each node) [
         | inl same ↦ sym same ∙ open_yet
@@ -84,7 +90,8 @@ module _ (E : ℕ → ℕ → Type 0) (sought found : Place) (start : ℕ) (befo
         ]
       ]
 
-      taken_moved : (x : ℕ) → Contains (nodes ++ node ∷ []) x → IsFound E sought found start before (set now node found) x
+      taken_moved : (x : ℕ) → Contains (nodes ++ node ∷ []) x
+          → IsFound E sought found start before (set now node found) x
       taken_moved x listed = elim (Contains-push_cases nodes node x listed) [
         | inl here ↦ moved_other x here
         | inr same ↦ subst (λ y. IsFound E sought found start before (set now node found) y) same moved_here
@@ -97,7 +104,8 @@ module _ (E : ℕ → ℕ → Type 0) (sought found : Place) (start : ℕ) (befo
         | inr other ↦ (other.0, sym other.1 ∙ is)
       ]
 
-      old_ahead : (x y : ℕ) → (x ≡ start) ⊎ Contains nodes x → E x y → place_of (set now node found) y ≡ sought → Contains (rest ++ steps) y
+      old_ahead : (x y : ℕ) → (x ≡ start) ⊎ Contains nodes x → E x y → place_of (set now node found) y ≡ sought
+          → Contains (rest ++ steps) y
       old_ahead x y from step is =
           let yet = sought_yet y is in
           elim (Contains-push_cases rest node y (spreading.closed x y from step yet.1)) [
@@ -108,7 +116,8 @@ module _ (E : ℕ → ℕ → Type 0) (sought found : Place) (start : ℕ) (befo
       new_ahead : (x y : ℕ) → node ≡ x → E x y → Contains (rest ++ steps) y
       new_ahead x y same step = Contains-append_right rest steps y ((are y).1 (subst (λ z. E z y) (sym same) step))
 
-      taken_closed : (x y : ℕ) → (x ≡ start) ⊎ Contains (nodes ++ node ∷ []) x → E x y → place_of (set now node found) y ≡ sought → Contains (rest ++ steps) y
+      taken_closed : (x y : ℕ) → (x ≡ start) ⊎ Contains (nodes ++ node ∷ []) x → E x y
+          → place_of (set now node found) y ≡ sought → Contains (rest ++ steps) y
       taken_closed x y from step is = elim from [
         | inl same ↦ old_ahead x y (inl same) step is
         | inr listed ↦ elim (Contains-push_cases nodes node x listed) [
@@ -123,7 +132,8 @@ module _ (E : ℕ → ℕ → Type 0) (sought found : Place) (start : ℕ) (befo
         | inr step ↦ Reaches-trans E start node x reached_node (0, (x, (are x).0 step, refl))
       ]
 
-      pub spreading_takes : IsSpreading E sought found start before (set now node found) (nodes ++ node ∷ []) (rest ++ steps)
+      pub spreading_takes : IsSpreading E sought found start before (set now node found) (nodes ++ node ∷ [])
+          (rest ++ steps)
       spreading_takes = record {
         size = length-set now node found ∙ spreading.size;
         each = taken_each;

@@ -1,5 +1,6 @@
 -- Marks are counted and taken away, node by node.
-use Rattle.std.proofs.Common.{◌≡◌, ◌≢◌, inl, inr, ◌+◌, ◌-◌, ◌*◌, ◌/◌, ◌%◌, ◌<◌, ◌^◌, ℕ, List, [], refl, sym, ◌∙◌, ap, subst, length, set, take, get_or, min, arith}
+use Rattle.std.proofs.Common.{◌≡◌, ◌≢◌, inl, inr, ◌+◌, ◌-◌, ◌*◌, ◌/◌, ◌%◌, ◌<◌, ◌^◌, ℕ, List, [], refl, sym, ◌∙◌, ap}
+use Rattle.std.proofs.Common.{subst, length, set, take, get_or, min, arith}
 use Rattle.std.specs.Prelude.{count_ones}
 use Rattle.std.specs.List.{sum_by}
 use Rattle.std.proofs.lemmas.Bool.{cases_eq}
@@ -28,9 +29,12 @@ takes_none firsts rows counts = record {
   left = λ row. inr (record { words = refl; count = refl });
 }
 
-module _ (firsts nodes : List ℕ) (i node : ℕ) (within : i < length nodes) (is : node ≡ get_or nodes i node) (before after : List Marks) (counts now : List ℕ)
-    (takes : TakesCounts firsts (take i nodes) before after counts now) (row_inside : get_or firsts node 0 < length after) (inside : get_or firsts node 0 < length now)
-    (was none : Marks) (read : words_at after (get_or firsts node 0) ≡ was.words) (bare : (target : ℕ) → ¬ HasMark none.words target)
+module _ (firsts nodes : List ℕ) (i node : ℕ) (within : i < length nodes) (is : node ≡ get_or nodes i node)
+    (before after : List Marks) (counts now : List ℕ)
+    (takes : TakesCounts firsts (take i nodes) before after counts now)
+    (row_inside : get_or firsts node 0 < length after) (inside : get_or firsts node 0 < length now)
+    (was none : Marks) (read : words_at after (get_or firsts node 0) ≡ was.words)
+    (bare : (target : ℕ) → ¬ HasMark none.words target)
     (sum : ℕ) (added : sum ≡ min (get_or now (get_or firsts node 0) 0 + sum_by count_ones was.words) (2 ^ 64 - 1)) where
   row : ℕ
   row = get_or firsts node 0
@@ -60,7 +64,8 @@ module _ (firsts nodes : List ℕ) (i node : ℕ) (within : i < length nodes) (i
     | inr other ↦ absurd (other.0 refl)
   ]
 
-  earlier_first : (other : ℕ) → other ≢ row → IsFirstOf firsts (take (i + 1) nodes) other → IsFirstOf firsts (take i nodes) other
+  earlier_first : (other : ℕ) → other ≢ row → IsFirstOf firsts (take (i + 1) nodes) other
+      → IsFirstOf firsts (take i nodes) other
   unfolding row
   earlier_first other apart (x, here, first) = elim ((Contains-more nodes i x node within is).0 here) [
     | inl earlier ↦ (x, earlier, first)
@@ -69,9 +74,11 @@ module _ (firsts nodes : List ℕ) (i node : ℕ) (within : i < length nodes) (i
 
   words_other : (other : ℕ) → other ≢ row → words_at (set after row none) other ≡ words_at after other
   unfolding row
-  words_other other apart = elim (row_set after row none row_inside other) [ inl here ↦ absurd (apart here.0) | inr kept ↦ kept.1 ]
+  words_other other apart = elim
+      (row_set after row none row_inside other) [ inl here ↦ absurd (apart here.0) | inr kept ↦ kept.1 ]
 
-  pub takes_more : TakesCounts firsts (take (i + 1) nodes) before (set after (get_or firsts node 0) none) counts (set now (get_or firsts node 0) sum)
+  pub takes_more : TakesCounts firsts (take (i + 1) nodes) before (set after (get_or firsts node 0) none) counts
+      (set now (get_or firsts node 0) sum)
   unfolding row
   takes_more = record {
     size = length-set after row none ∙ takes.size;
@@ -81,7 +88,8 @@ module _ (firsts nodes : List ℕ) (i node : ℕ) (within : i < length nodes) (i
       | inr apart ↦
           let taken = takes.taken other (earlier_first other apart is_first) in
           record {
-            bare = λ target has. taken.bare target (subst (λ words. HasMark words target) (words_other other apart) has);
+            bare =
+                λ target has. taken.bare target (subst (λ words. HasMark words target) (words_other other apart) has);
             count = get_or-set_other now row other sum 0 apart ∙ taken.count;
           }
     ];

@@ -1,5 +1,6 @@
 -- What a search in depth has still to do.
-use Rattle.std.proofs.Common.{◌≡◌, ◌+◌, ◌<◌, ◌++◌, ◌∷◌, [], ℕ, List, Bool, true, false, not, cond, Some, sym, ◌∙◌, ap, subst, inl, inr, length, set, get_or, map, arith}
+use Rattle.std.proofs.Common.{◌≡◌, ◌+◌, ◌<◌, ◌++◌, ◌∷◌, [], ℕ, List, Bool, true, false, not, cond, Some, sym, ◌∙◌, ap}
+use Rattle.std.proofs.Common.{subst, inl, inr, length, set, get_or, map, arith}
 use Rattle.std.specs.List.{All, Contains, count_by, range_with_len}
 use Rattle.std.specs.Prelude.{◌↔◌}
 use Rattle.std.proofs.lemmas.List.Elements.{All-pop, All-map, Contains-push_cases, Contains-append_left}
@@ -15,7 +16,8 @@ node_of (Leave node) = node
 abbrev pub AreWithin : ℕ → List Task → Type 0
 AreWithin size tasks = All (λ task. node_of task < size) tasks
 
-pub taken_task : (size : ℕ) (tasks rest : List Task) (task : Task) → tasks ≡ rest ++ task ∷ [] → AreWithin size tasks → (node_of task < size) × AreWithin size rest
+pub taken_task : (size : ℕ) (tasks rest : List Task) (task : Task) → tasks ≡ rest ++ task ∷ [] → AreWithin size tasks
+    → (node_of task < size) × AreWithin size rest
 taken_task size tasks rest task is within = let popped = All-pop (λ t. node_of t < size) tasks rest (Some task) is within in (popped.1, popped.0)
 
 pub entered_within : (size : ℕ) (nodes : List ℕ) → All (λ x. x < size) nodes → AreWithin size (map Enter nodes)
@@ -45,7 +47,8 @@ range_within size k d within =
     omega (arith, inside, get_or-range_with_len 0 size k d inside)
 
 -- a node more
-pub all_and_one : (size : ℕ) (nodes : List ℕ) (node : ℕ) → node < size → AreAll size nodes → AreAll size (nodes ++ node ∷ [])
+pub all_and_one : (size : ℕ) (nodes : List ℕ) (node : ℕ) → node < size → AreAll size nodes
+    → AreAll size (nodes ++ node ∷ [])
 all_and_one size nodes node within all x = (
   λ here. elim (Contains-push_cases nodes node x here) [
     | inl earlier ↦ (all x).0 earlier
@@ -56,10 +59,12 @@ all_and_one size nodes node within all x = (
 
 -- ---- how many nodes are still to be entered
 
-pub fewer_left : (entered : List Bool) (node : ℕ) (read : Bool) → node < length entered → read ≡ get_or entered node read → read ≡ false
+pub fewer_left : (entered : List Bool) (node : ℕ) (read : Bool) → node < length entered
+    → read ≡ get_or entered node read → read ≡ false
     → count_by not (set entered node true) + 1 ≡ count_by not entered
 fewer_left entered node read within is first =
-    let changed : count_by not (set entered node true) + cond (not (get_or entered node read)) 1 0 ≡ count_by not entered + cond (not true) 1 0
+    let changed : count_by not (set entered node true) + cond
+    (not (get_or entered node read)) 1 0 ≡ count_by not entered + cond (not true) 1 0
     = sum_by-set (λ b. cond (not b) 1 0) entered node true read within in
     let one : ◌≡◌ {A = ℕ} (cond (not (get_or entered node read)) 1 0) 1 = ap {B = ℕ} (λ b. cond (not b) 1 0) (sym is ∙ first) in
     omega (arith, changed, one)

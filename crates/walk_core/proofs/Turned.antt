@@ -7,7 +7,8 @@ module _ {N : Type 0} (E : N → N → Type 0) where
   Walk-turned zero x y same = sym same
   Walk-turned (suc n) x y walk =
       let e : n + 1 ≡ suc n = omega arith in
-      subst (λ k. Walk E k y x) e (Leads-after E (λ z. z ≡ x) n 1 y walk.0 (Walk-turned n walk.0 y walk.2) (x, walk.1, refl))
+      subst (λ k. Walk E k y x) e
+      (Leads-after E (λ z. z ≡ x) n 1 y walk.0 (Walk-turned n walk.0 y walk.2) (x, walk.1, refl))
 
   pub Reaches-turned : (x y : N) → Reaches (λ a b. E b a) x y → Reaches E y x
   Reaches-turned x y p = (p.0, Walk-turned (suc p.0) x y p.1)

@@ -1,11 +1,13 @@
 -- What is read of a list after a write, and of a list of nothing.
-use Rattle.std.proofs.Common.{◌≡◌, ◌≢◌, ℕ, zero, suc, ◌<◌, List, [], ◌∷◌, length, replicate, set, get_or, Option, None, Some, inl, inr, refl, ap, ◌∙◌, arith}
+use Rattle.std.proofs.Common.{◌≡◌, ◌≢◌, ℕ, zero, suc, ◌<◌, List, [], ◌∷◌, length, replicate, set, get_or, Option, None}
+use Rattle.std.proofs.Common.{Some, inl, inr, refl, ap, ◌∙◌, arith}
 use Rattle.std.specs.List.{slice_get}
 use Rattle.std.proofs.lemmas.Bool.{cases_lt}
 use Rattle.std.proofs.lemmas.List.{length-replicate, length-set, get_or_past, get_or-replicate, get_or-set_same}
 use Rattle.std.proofs.lemmas.Option.{slice_get-get_or}
 
-pub slice_get-set_other : {T : Type 0} (xs : List T) (i : ℕ) (y : T) (j : ℕ) → j ≢ i → slice_get (set xs i y) j ≡ slice_get xs j
+pub slice_get-set_other : {T : Type 0} (xs : List T) (i : ℕ) (y : T) (j : ℕ) → j ≢ i
+    → slice_get (set xs i y) j ≡ slice_get xs j
 slice_get-set_other [] i y j ne = refl
 slice_get-set_other (x ∷ xs) zero y zero ne = absurd (ne refl)
 slice_get-set_other (x ∷ xs) zero y (suc j) ne = refl

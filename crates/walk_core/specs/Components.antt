@@ -1,7 +1,8 @@
--- The nodes of a graph by what is known of them while its strongly connected components are found, one after another: a node's component is what a
--- search back from it finds and a search forth finds again (Fleischer, Hendrickson and Pinar 2000). In the order of a search in depth the search
--- back alone finds it (Sharir 1981).
-use Rattle.std.specs.Prelude.{◌≡◌, ◌≢◌, ◌↔◌, ◌⊎◌, ◌<◌, ◌≤◌, ℕ, Bool, true, false, List, Contains, length, slice_index, slice_index_or}
+-- The nodes of a graph by what is known of them while its strongly connected components are found, one after another: a
+-- node's component is what a search back from it finds and a search forth finds again (Fleischer, Hendrickson and Pinar
+-- 2000). In the order of a search in depth the search back alone finds it (Sharir 1981).
+use Rattle.std.specs.Prelude.{◌≡◌, ◌≢◌, ◌↔◌, ◌⊎◌, ◌<◌, ◌≤◌, ℕ, Bool, true, false, List, Contains, length, slice_index}
+use Rattle.std.specs.Prelude.{slice_index_or}
 use Rattle.std.specs.Ordering.{nat_cmp}
 use Rattle.walk_core.specs.Walks.{Reaches, IsOnCycle}
 use Rattle.walk_core.specs.Ranks.{AreTogether, IsLeast}
@@ -107,7 +108,8 @@ pub record AreFirsts (graph : List (List ℕ)) (firsts : List ℕ) : Type 0 wher
 -- of some nodes each has this first now, and each other node has what it had
 pub record AreLabelled (nodes : List ℕ) (first : ℕ) (before after : List ℕ) : Type 0 where
   pub size : length after ≡ length before
-  pub each : (x : ℕ) → (Contains nodes x × (slice_index after x ≡ first)) ⊎ ((¬ Contains nodes x) × (slice_index after x ≡ slice_index before x))
+  pub each : (x : ℕ) → (Contains nodes x × (slice_index after x ≡ first))
+      ⊎ ((¬ Contains nodes x) × (slice_index after x ≡ slice_index before x))
 
 -- it is the least of a node and some others
 pub record IsLeastOf (others : List ℕ) (node first : ℕ) : Type 0 where
@@ -115,8 +117,8 @@ pub record IsLeastOf (others : List ℕ) (node first : ℕ) : Type 0 where
   pub own : first ≤ node
   pub least : (x : ℕ) → Contains others x → first ≤ x
 
--- what was found of components: of a node that is known to be on a cycle its first node, and each node that waits no longer; other nodes have
--- themselves as first node
+-- what was found of components: of a node that is known to be on a cycle its first node, and each node that waits no
+-- longer; other nodes have themselves as first node
 pub record AreFound (graph : List (List ℕ)) (places : List Place) (firsts nodes : List ℕ) : Type 0 where
   pub settled : AreSettled graph places
   pub size : length firsts ≡ length graph

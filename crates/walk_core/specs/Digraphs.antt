@@ -1,4 +1,5 @@
--- Directed graphs over the numbers of their nodes: the list of each node's row, which is the list of the ends of its edges.
+-- Directed graphs over the numbers of their nodes: the list of each node's row, which is the list of the ends of its
+-- edges.
 use Rattle.std.specs.Prelude.{◌≡◌, ◌↔◌, ◌⊎◌, ◌<◌, ℕ, Bool, true, List, [], Option, None, Some, length, slice_get}
 use Rattle.walk_core.specs.Walks.{Leads, IsDistance, IsOnCycle, IsEdge}
 
@@ -38,7 +39,8 @@ IsDistanceTo graph marked x (Some n) = IsDistance (HasEdge graph) (IsMarked mark
 
 pub record AreDistances (graph : List (List ℕ)) (marked : List Bool) (distances : List (Option ℕ)) : Type 0 where
   pub nodes : length distances ≡ length graph
-  pub each : (x : ℕ) (distance : Option ℕ) → slice_get distances x ≡ Some distance → IsDistanceTo graph marked x distance
+  pub each : (x : ℕ) (distance : Option ℕ) → slice_get distances x ≡ Some distance
+      → IsDistanceTo graph marked x distance
 
 -- just the nodes that are on a cycle are marked
 pub record AreOnCycles (graph : List (List ℕ)) (marked : List Bool) : Type 0 where

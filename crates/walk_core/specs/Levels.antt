@@ -1,5 +1,6 @@
 -- A search by levels: what it has found, and what one of its steps does.
-use Rattle.std.specs.Prelude.{◌≡◌, ◌↔◌, ◌⊎◌, ◌+◌, ◌≤◌, ℕ, Bool, true, false, List, Option, None, Some, Contains, count_by, length, slice_get}
+use Rattle.std.specs.Prelude.{◌≡◌, ◌↔◌, ◌⊎◌, ◌+◌, ◌≤◌, ℕ, Bool, true, false, List, Option, None, Some, Contains}
+use Rattle.std.specs.Prelude.{count_by, length, slice_get}
 use Rattle.walk_core.specs.Walks.{Leads, IsDistance}
 use Rattle.walk_core.specs.declared.distances.Search.{Search}
 use Rattle.walk_core.specs.Digraphs.{HasEdge, IsMarked}
@@ -20,7 +21,8 @@ pub record IsNew (before : List (Option ℕ)) (level : List ℕ) (x : ℕ) : Typ
   pub unknown : (m : ℕ) → ¬ HasDistance before x m
   pub listed : Contains level x
 
--- a step of the search: the nodes of P have distances now, the new ones among them the distance n, and just those have come to the last level
+-- a step of the search: the nodes of P have distances now, the new ones among them the distance n, and just those have
+-- come to the last level
 pub record Discovers (P : ℕ → Type 0) (n : ℕ) (before : List (Option ℕ)) (level : List ℕ) (after : List (Option ℕ)) (grown : List ℕ) : Type 0 where
   pub nodes : length after ≡ length before
   pub all : (x : ℕ) → P x → (m : ℕ) × HasDistance after x m
@@ -32,7 +34,8 @@ pub record Discovers (P : ℕ → Type 0) (n : ℕ) (before : List (Option ℕ))
 
 -- the same, of a search before and after
 abbrev pub SearchReaches : {A : Type 0} → (ℕ → Type 0) → ℕ → Search A → Search A → Type 0
-SearchReaches P n before after = Discovers P n before.distances.items before.level.items after.distances.items after.level.items
+SearchReaches P n before after =
+    Discovers P n before.distances.items before.level.items after.distances.items after.level.items
 
 -- an edge leads from the node to one of these
 abbrev pub LeadsInto : List (List ℕ) → List ℕ → ℕ → Type 0

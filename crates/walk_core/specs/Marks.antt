@@ -1,5 +1,6 @@
 -- Marks of nodes with those of a block of targets that they lead to: one bit for each target, in words of 64.
-use Rattle.std.specs.Prelude.{◌≡◌, ◌↔◌, ◌⊎◌, ◌+◌, ◌-◌, ◌/◌, ◌%◌, ◌<◌, ◌^◌, ℕ, Bool, List, [], ◌++◌, Option, None, Some, Contains, MatchBool, length, min, slice_get, slice_index, sum_by, bit_or, count_ones}
+use Rattle.std.specs.Prelude.{◌≡◌, ◌↔◌, ◌⊎◌, ◌+◌, ◌-◌, ◌/◌, ◌%◌, ◌<◌, ◌^◌, ℕ, Bool, List, [], ◌++◌, Option, None, Some}
+use Rattle.std.specs.Prelude.{Contains, MatchBool, length, min, slice_get, slice_index, sum_by, bit_or, count_ones}
 use Rattle.std.specs.Ordering.{nat_cmp}
 use Rattle.std.specs.List.Sorted.{IsStrictlySortedBy}
 use Rattle.std.specs.Int.{bit_at}
@@ -47,10 +48,11 @@ AreSound graph block rows = (row target : ℕ) → IsMarkedAt rows row target �
 abbrev pub AreKept : List Marks → List Marks → Type 0
 AreKept before after = (row target : ℕ) → IsMarkedAt before row target → IsMarkedAt after row target
 
--- a node is marked with what the ends of its edges are marked with; each node's marks stand at its first node
+-- a node is marked with what the ends of its edges are marked with; each node's marks are at its first node
 abbrev pub IsGathered : List (List ℕ) → List ℕ → List Marks → ℕ → Type 0
 IsGathered graph firsts rows x =
-    (y target : ℕ) → HasEdge graph x y → IsMarkedAt rows (slice_index firsts y) target → IsMarkedAt rows (slice_index firsts x) target
+    (y target : ℕ) → HasEdge graph x y → IsMarkedAt rows (slice_index firsts y) target
+    → IsMarkedAt rows (slice_index firsts x) target
 
 abbrev pub AreGathered : List (List ℕ) → List ℕ → List ℕ → List Marks → Type 0
 AreGathered graph firsts nodes rows = (x : ℕ) → Contains nodes x → IsGathered graph firsts rows x
@@ -65,7 +67,8 @@ IsFirstOf firsts nodes row = (x : ℕ) × Contains nodes x × (slice_index first
 
 -- each row is that of a first node of these, or has the marks that it had
 abbrev pub AreKeptElsewhere : List ℕ → List ℕ → List Marks → List Marks → Type 0
-AreKeptElsewhere firsts nodes before after = (row : ℕ) → IsFirstOf firsts nodes row ⊎ (words_at after row ≡ words_at before row)
+AreKeptElsewhere firsts nodes before after =
+    (row : ℕ) → IsFirstOf firsts nodes row ⊎ (words_at after row ≡ words_at before row)
 
 -- marks were passed on against edges of the nodes: some are new, or there was none to pass on
 pub record Passes (graph : List (List ℕ)) (firsts nodes : List ℕ) (before after : List Marks) (changes : Bool) : Type 0 where
@@ -73,7 +76,8 @@ pub record Passes (graph : List (List ℕ)) (firsts nodes : List ℕ) (before af
   pub kept : AreKept before after
   pub sound : (block : List ℕ) → AreSound graph block before → AreSound graph block after
   pub elsewhere : AreKeptElsewhere firsts nodes before after
-  pub step : MatchBool changes (total_of before < total_of after) ((after ≡ before) × AreGathered graph firsts nodes after)
+  pub step : MatchBool changes (total_of before < total_of after)
+      ((after ≡ before) × AreGathered graph firsts nodes after)
 
 -- marks were passed on until nothing changed
 pub record PassesAll (graph : List (List ℕ)) (firsts nodes : List ℕ) (before after : List Marks) : Type 0 where
@@ -86,7 +90,8 @@ pub record PassesAll (graph : List (List ℕ)) (firsts nodes : List ℕ) (before
 -- each target is marked at its first node, and nothing else is marked
 pub record AreMarked (graph : List (List ℕ)) (firsts block : List ℕ) (rows : List Marks) : Type 0 where
   pub sound : AreSound graph block rows
-  pub each : (target : ℕ) → target < length block → IsMarkedAt rows (slice_index firsts (slice_index block target)) target
+  pub each : (target : ℕ) → target < length block
+      → IsMarkedAt rows (slice_index firsts (slice_index block target)) target
   pub only : (row target : ℕ) → IsMarkedAt rows row target → IsFirstOf firsts block row
 
 -- a node's marks were added to its count, and taken away
@@ -110,14 +115,17 @@ pub record TakesCounts (firsts nodes : List ℕ) (before after : List Marks) (co
 abbrev pub LeadsToCount : List (List ℕ) → List ℕ → ℕ → ℕ → Type 0
 LeadsToCount graph nodes x count = HasCount nat_cmp (λ y. Contains nodes y × LeadsTo (HasEdge graph) x y) count
 
--- each node's count, which stands at its first node, has come to the block's targets
+-- each node's count, which is at its first node, has come to the block's targets
 abbrev pub CountsBlock : List (List ℕ) → List ℕ → List ℕ → List ℕ → List ℕ → List ℕ → Type 0
-CountsBlock graph firsts nodes block counts now = (x : ℕ) (done : List ℕ) → Contains nodes x → IsStrictlySortedBy nat_cmp (done ++ block) → length (done ++ block) < 2 ^ 64
-    → LeadsToCount graph done x (slice_index counts (slice_index firsts x)) → LeadsToCount graph (done ++ block) x (slice_index now (slice_index firsts x))
+CountsBlock graph firsts nodes block counts now = (x : ℕ) (done : List ℕ) → Contains nodes x
+    → IsStrictlySortedBy nat_cmp (done ++ block) → length (done ++ block) < 2 ^ 64
+    → LeadsToCount graph done x (slice_index counts (slice_index firsts x))
+    → LeadsToCount graph (done ++ block) x (slice_index now (slice_index firsts x))
 
 -- each count is that of a first node of these, or as it was
 abbrev pub AreCountsElsewhere : List ℕ → List ℕ → List ℕ → List ℕ → Type 0
-AreCountsElsewhere firsts nodes counts now = (row : ℕ) → IsFirstOf firsts nodes row ⊎ (slice_index now row ≡ slice_index counts row)
+AreCountsElsewhere firsts nodes counts now =
+    (row : ℕ) → IsFirstOf firsts nodes row ⊎ (slice_index now row ≡ slice_index counts row)
 
 -- the nodes hold the ends of their edges
 pub record HoldEnds (graph : List (List ℕ)) (nodes : List ℕ) : Type 0 where

@@ -1,4 +1,5 @@
--- Laws of rank order: what a node waits for comes before it, nodes on one cycle stand together, and there is one such list.
+-- Laws of rank order: what a node waits for comes before it, nodes on one cycle are side by side, and there is one such
+-- list.
 use Rattle.std.specs.Prelude.{◌≡◌, ◌≤◌, ◌<◌, ◌⊎◌, ◌+◌, ℕ, List, [], ◌∷◌, Contains, Some, map, slice_get}
 use Rattle.std.specs.declared.cmp.Ordering.{Ordering}
 use Rattle.std.specs.declared.cmp.Ordering.TheVariants.{Less, Equal, Greater}
@@ -9,7 +10,8 @@ use Rattle.std.proofs.lemmas.Cmp.{on_total, then_total, ranked, tied_back}
 use Rattle.std.proofs.lemmas.Bool.{cases_lt}
 use Rattle.lattice_core.specs.Keep.{IsExactOrder}
 use Rattle.walk_core.specs.Walks.{Leads-after}
-use Rattle.walk_core.specs.Ranks.{LeadsTo, AreTogether, Rank, rank_cmp, IsRank, IsInRankOrder, EndsStandBefore, TogetherStandTogether}
+use Rattle.walk_core.specs.Ranks.{LeadsTo, AreTogether, Rank, rank_cmp, IsRank, IsInRankOrder, EndsStandBefore}
+use Rattle.walk_core.specs.Ranks.{TogetherStandTogether}
 use Rattle.lattice_core.specs.MemberLaws.{Contains-of_map, Contains-to_map}
 use Rattle.lattice_core.specs.PlaceLaws.{Contains-at, at_Contains, sorted_at, not_below_itself}
 use Rattle.walk_core.specs.SortedLists.{sorted_same, sorted_part, IsPart}
@@ -32,7 +34,8 @@ module _ {N : Type 0} (E : N → N → Type 0) where
   }
 
 -- ---- orders by several keys
-less_of : (a b : ℕ) (o : Ordering) → o ≡ nat_cmp a b → MatchOrdering o (a < b) (a ≡ b) (b < a) → a < b → nat_cmp a b ≡ Less
+less_of : (a b : ℕ) (o : Ordering) → o ≡ nat_cmp a b → MatchOrdering o (a < b) (a ≡ b) (b < a) → a < b
+    → nat_cmp a b ≡ Less
 less_of a b Less e found less = sym e
 less_of a b Equal e found less = absurd (omega (arith, found, less))
 less_of a b Greater e found less = absurd (omega (arith, found, less))
@@ -41,7 +44,8 @@ pub nat_cmp-less : (a b : ℕ) → a < b → nat_cmp a b ≡ Less
 nat_cmp-less a b less = less_of a b (nat_cmp a b) refl (ranked a b (nat_cmp a b) refl) less
 
 -- a comparison by further keys is below only where one by the first keys isn't above
-no_more : (r s t : Ordering) → ordering_then r (ordering_then s t) ≡ Less → (ordering_then r s ≡ Less) ⊎ (ordering_then r s ≡ Equal)
+no_more : (r s t : Ordering) → ordering_then r (ordering_then s t) ≡ Less
+    → (ordering_then r s ≡ Less) ⊎ (ordering_then r s ≡ Equal)
 no_more Less s t e = inl refl
 no_more Greater s t e = cc
 no_more Equal Less t e = inl refl
@@ -53,18 +57,21 @@ both_equal Equal s e = (refl, e)
 both_equal Less s e = cc
 both_equal Greater s e = cc
 
-one_of : {X : Type 0} (cmp : X → X → Ordering) (order : IsExactOrder cmp) (x y : X) (o : Ordering) → cmp x y ≡ o → ¬ (cmp x y ≡ Less) → ¬ (cmp y x ≡ Less) → x ≡ y
+one_of : {X : Type 0} (cmp : X → X → Ordering) (order : IsExactOrder cmp) (x y : X) (o : Ordering) → cmp x y ≡ o
+    → ¬ (cmp x y ≡ Less) → ¬ (cmp y x ≡ Less) → x ≡ y
 one_of cmp order x y Less e p q = absurd (p e)
 one_of cmp order x y Equal e p q = order.exact x y e
 one_of cmp order x y Greater e p q = absurd (q (order.total.antisymm y x ∙ ap ordering_reverse e))
 
--- what stands at a place of a list that is made of another
-at_map : {X Y : Type 0} (f : X → Y) (xs : List X) (place : ℕ) (y : Y) → slice_get (map f xs) place ≡ Some y → (x : X) × (slice_get xs place ≡ Some x) × (f x ≡ y)
+-- what is at a place of a list that is made of another
+at_map : {X Y : Type 0} (f : X → Y) (xs : List X) (place : ℕ) (y : Y) → slice_get (map f xs) place ≡ Some y
+    → (x : X) × (slice_get xs place ≡ Some x) × (f x ≡ y)
 at_map f [] place y at = cc
 at_map f (x ∷ xs) zero y at = let same : f x ≡ y = cc in (x, refl, same)
 at_map f (x ∷ xs) (suc place) y at = at_map f xs place y at
 
-map_at : {X Y : Type 0} (f : X → Y) (xs : List X) (place : ℕ) (x : X) → slice_get xs place ≡ Some x → slice_get (map f xs) place ≡ Some (f x)
+map_at : {X Y : Type 0} (f : X → Y) (xs : List X) (place : ℕ) (x : X) → slice_get xs place ≡ Some x
+    → slice_get (map f xs) place ≡ Some (f x)
 map_at f [] place x at = cc
 map_at f (y ∷ ys) zero x at = let same : y ≡ x = cc in ap (λ z. Some (f z)) same
 map_at f (y ∷ ys) (suc place) x at = map_at f ys place x at
@@ -75,7 +82,8 @@ module _ {N : Type 0} {cmp : N → N → Ordering} (order : IsExactOrder cmp) (E
   group_cmp a b = ordering_then (nat_cmp a.count b.count) (cmp a.first b.first)
 
   group_total : IsTotalOrder group_cmp
-  group_total = then_total (on_total (λ (rank : Rank N). rank.count) nat_cmp_total) (on_total (λ (rank : Rank N). rank.first) order.total)
+  group_total = then_total (on_total (λ (rank : Rank N). rank.count) nat_cmp_total)
+      (on_total (λ (rank : Rank N). rank.first) order.total)
 
   pub ranks_total : IsTotalOrder (rank_cmp cmp)
   ranks_total = then_total (on_total (λ (rank : Rank N). rank.count) nat_cmp_total)
@@ -84,7 +92,8 @@ module _ {N : Type 0} {cmp : N → N → Ordering} (order : IsExactOrder cmp) (E
   -- ---- two ranks
   module _ (a b : Rank N) (is_a : IsRank cmp E P a) (is_b : IsRank cmp E P b) where
     led_part : LeadsTo E a.node b.node → IsPart order.total is_b.count.members is_a.count.members
-    led_part leads = sorted_part order.total is_b.count.members is_a.count.members is_b.count.in_order is_a.count.in_order
+    led_part leads =
+        sorted_part order.total is_b.count.members is_a.count.members is_b.count.in_order is_a.count.in_order
         (λ z here. let has = (is_b.count.just z).0 here in (is_a.count.just z).1 (has.0, LeadsTo-trans E a.node b.node z leads has.1))
 
     count_falls : LeadsTo E a.node b.node → b.count ≤ a.count
@@ -101,7 +110,8 @@ module _ {N : Type 0} {cmp : N → N → Ordering} (order : IsExactOrder cmp) (E
         (is_a.first.least b.first (AreTogether-trans E a.node b.node b.first together is_b.first.here))
 
   counts_same : (a b : Rank N) → IsRank cmp E P a → IsRank cmp E P b → AreTogether E a.node b.node → a.count ≡ b.count
-  counts_same a b is_a is_b together = omega (arith, count_falls a b is_a is_b together.forth, count_falls b a is_b is_a together.back)
+  counts_same a b is_a is_b together =
+      omega (arith, count_falls a b is_a is_b together.forth, count_falls b a is_b is_a together.back)
 
   pub rank_same : (a b : Rank N) → IsRank cmp E P a → IsRank cmp E P b → a.node ≡ b.node → a ≡ b
   rank_same a b is_a is_b same =
@@ -112,13 +122,15 @@ module _ {N : Type 0} {cmp : N → N → Ordering} (order : IsExactOrder cmp) (E
 
   -- ---- one list
   module _ (nodes : List N) (are : IsInRankOrder cmp E P nodes) where
-    rank_at : (place : ℕ) (x : N) → slice_get nodes place ≡ Some x → (rank : Rank N) × (slice_get are.ranks place ≡ Some rank) × (rank.node ≡ x)
+    rank_at : (place : ℕ) (x : N) → slice_get nodes place ≡ Some x
+        → (rank : Rank N) × (slice_get are.ranks place ≡ Some rank) × (rank.node ≡ x)
     rank_at place x at = at_map (λ rank. rank.node) are.ranks place x (sym (ap (λ xs. slice_get xs place) are.of) ∙ at)
 
     is_rank_at : (place : ℕ) (rank : Rank N) → slice_get are.ranks place ≡ Some rank → IsRank cmp E P rank
     is_rank_at place rank at = are.each rank (Contains-at are.ranks place rank at)
 
-    earlier : (i j : ℕ) (a b : Rank N) → slice_get are.ranks i ≡ Some a → slice_get are.ranks j ≡ Some b → a.count < b.count → i < j
+    earlier : (i j : ℕ) (a b : Rank N) → slice_get are.ranks i ≡ Some a → slice_get are.ranks j ≡ Some b
+        → a.count < b.count → i < j
     earlier i j a b at_i at_j less = elim (cases_lt i j) [
       | inl is ↦ is
       | inr not ↦ elim (cases_lt j i) [
@@ -161,8 +173,9 @@ module _ {N : Type 0} {cmp : N → N → Ordering} (order : IsExactOrder cmp) (E
               })
         ]
 
-    -- what stands between nodes that are together is together with them
-    between : (a b c : Rank N) → IsRank cmp E P a → IsRank cmp E P b → IsRank cmp E P c → rank_cmp cmp a b ≡ Less → rank_cmp cmp b c ≡ Less → AreTogether E a.node c.node → AreTogether E a.node b.node
+    -- what is between nodes that are together is together with them
+    between : (a b c : Rank N) → IsRank cmp E P a → IsRank cmp E P b → IsRank cmp E P c → rank_cmp cmp a b ≡ Less
+        → rank_cmp cmp b c ≡ Less → AreTogether E a.node c.node → AreTogether E a.node b.node
     between a b c is_a is_b is_c first next together =
         let counts : a.count ≡ c.count = counts_same a c is_a is_c together in
         let firsts : a.first ≡ c.first = firsts_same a c is_a is_c together in
@@ -195,7 +208,8 @@ module _ {N : Type 0} {cmp : N → N → Ordering} (order : IsExactOrder cmp) (E
         subst (λ w. AreTogether E w y) a.2 (subst (AreTogether E a.0.node) b.2 found)
 
   -- ---- two lists
-  same_ranks : (xs ys : List N) (p : IsInRankOrder cmp E P xs) (q : IsInRankOrder cmp E P ys) (rank : Rank N) → Contains p.ranks rank → Contains q.ranks rank
+  same_ranks : (xs ys : List N) (p : IsInRankOrder cmp E P xs) (q : IsInRankOrder cmp E P ys) (rank : Rank N)
+      → Contains p.ranks rank → Contains q.ranks rank
   same_ranks xs ys p q rank here =
       let node : Contains xs rank.node = subst (λ zs. Contains zs rank.node) (sym p.of) (Contains-to_map (λ (r : Rank N). r.node) p.ranks rank here) in
       let there : Contains (map (λ (r : Rank N). r.node) q.ranks) rank.node = subst (λ zs. Contains zs rank.node) q.of ((q.just rank.node).1 ((p.just rank.node).0 node)) in

@@ -1,6 +1,6 @@
--- The order in which a dependent queue takes what waits for each other: by how many nodes a node leads to, itself among them, so that what it leads
--- to comes before it; nodes on one cycle, which lead to the same nodes, by the least of them, and among themselves by their own order. Nodes are of
--- any type, and the edges are a relation between them.
+-- The order in which a dependent queue takes what waits for each other: by how many nodes a node leads to, itself among
+-- them, so that what it leads to comes before it; nodes on one cycle, which lead to the same nodes, by the least of
+-- them, and among themselves by their own order. Nodes are of any type, and the edges are a relation between them.
 use Rattle.std.specs.Prelude.{◌≡◌, ◌↔◌, ◌⊎◌, ◌<◌, ℕ, List, Contains, Some, length, map, slice_get}
 use Rattle.std.specs.declared.cmp.Ordering.{Ordering}
 use Rattle.std.specs.declared.cmp.Ordering.TheVariants.{Less}
@@ -57,7 +57,7 @@ pub record AreRanksInOrder {N : Type 0} (cmp : N → N → Ordering) (E : N → 
   pub each : (rank : Rank N) → Contains ranks rank → IsRank cmp E P rank
   pub rising : IsStrictlySortedBy (rank_cmp cmp) ranks
 
--- one node stands before the other in a list
+-- one node comes before the other in a list
 pub record StandsBefore {N : Type 0} (nodes : List N) (x y : N) : Type 0 where
   pub earlier : ℕ
   pub later : ℕ
@@ -65,11 +65,11 @@ pub record StandsBefore {N : Type 0} (nodes : List N) (x y : N) : Type 0 where
   pub at_earlier : slice_get nodes earlier ≡ Some x
   pub at_later : slice_get nodes later ≡ Some y
 
--- the end of each edge stands before its start, or is together with it
+-- the end of each edge comes before its start, or is together with it
 abbrev pub EndsStandBefore : {N : Type 0} → (N → N → Type 0) → List N → Type 0
 EndsStandBefore {N} E nodes = (x y : N) → Contains nodes x → E x y → StandsBefore nodes y x ⊎ AreTogether E x y
 
--- what stands between two nodes that are together is together with them
+-- what is between two nodes that are together is together with them
 abbrev pub TogetherStandTogether : {N : Type 0} → (N → N → Type 0) → List N → Type 0
 TogetherStandTogether {N} E nodes =
     (x y z : N) → StandsBefore nodes x y → StandsBefore nodes y z → AreTogether E x z → AreTogether E x y

@@ -1,6 +1,7 @@
 -- Regions of the kept nodes of a graph: no edge leads from one region into another. A region is named by one of its
 -- nodes, which is its label.
-use Rattle.std.specs.Prelude.{◌≡◌, ◌≢◌, ◌⊎◌, ◌<◌, ◌==◌, ℕ, Bool, false, List, Option, None, Some, filter, length, slice_index_or}
+use Rattle.std.specs.Prelude.{◌≡◌, ◌≢◌, ◌⊎◌, ◌<◌, ◌==◌, ℕ, Bool, false, List, Option, None, Some, filter, length}
+use Rattle.std.specs.Prelude.{slice_index_or}
 use Rattle.walk_core.specs.Digraphs.{HasEdge, IsMarked, ends_of}
 
 abbrev pub label_of : List (Option ℕ) → ℕ → Option ℕ

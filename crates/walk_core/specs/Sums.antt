@@ -1,6 +1,7 @@
 -- Counts that add up: where a cycle leads into at most one other, it leads to its own nodes and to those that the other
 -- leads to. Each cycle is named by its first node, and a node that is on none is one by itself.
-use Rattle.std.specs.Prelude.{◌≡◌, ◌≢◌, ◌⊎◌, ◌+◌, ◌-◌, ◌<◌, ◌^◌, ℕ, Bool, List, Option, None, Some, Contains, length, min, option_map, slice_index, slice_index_or, unwrap_or}
+use Rattle.std.specs.Prelude.{◌≡◌, ◌≢◌, ◌⊎◌, ◌+◌, ◌-◌, ◌<◌, ◌^◌, ℕ, Bool, List, Option, None, Some, Contains, length}
+use Rattle.std.specs.Prelude.{min, option_map, slice_index, slice_index_or, unwrap_or}
 use Rattle.std.specs.Ordering.{nat_cmp}
 use Rattle.walk_core.specs.Ranks.{HasCount, LeadsTo}
 use Rattle.walk_core.specs.Digraphs.{HasEdge, IsMarked}
@@ -16,16 +17,16 @@ pub record IsNext (graph : List (List ℕ)) (firsts : List ℕ) (from to : ℕ) 
   pub within : to < length graph
   pub apart : to ≢ from
 
--- each cycle that is given another leads into it
+-- each cycle to which another is assigned leads into it
 pub record AreNexts (graph : List (List ℕ)) (firsts : List ℕ) (nexts : List (Option ℕ)) : Type 0 where
   pub size : length nexts ≡ length graph
   pub each : (from to : ℕ) → option_at nexts from ≡ Some to → IsNext graph firsts from to
 
--- a node is on the cycle of a first node, or on the one that this cycle is given
+-- a node is on the cycle of a first node, or on the one that is assigned to this cycle
 abbrev pub IsHereOrNext : List ℕ → ℕ → Option ℕ → ℕ → Type 0
 IsHereOrNext firsts first next x = (slice_index firsts x ≡ first) ⊎ (next ≡ Some (slice_index firsts x))
 
--- a cycle of these nodes without a fork leads into no other than the one that it is given
+-- a cycle of these nodes without a fork leads into no other than the one that is assigned to it
 pub record AreForks (graph : List (List ℕ)) (firsts : List ℕ) (nexts : List (Option ℕ)) (nodes : List ℕ) (forks : List Bool) : Type 0 where
   pub size : length forks ≡ length graph
   pub each : (x y : ℕ) → Contains nodes x → HasEdge graph x y → ¬ IsMarked forks (slice_index firsts x)
@@ -62,7 +63,7 @@ pub record IsWayOut (firsts : List ℕ) (first : ℕ) (ends : List ℕ) (to : �
   pub is : slice_index firsts end ≡ to
   pub apart : to ≢ first
 
--- an end that is neither on the cycle of a first node nor on the one that is given
+-- an end that is neither on the cycle of a first node nor on the one that is assigned
 pub record IsElsewhere (firsts : List ℕ) (first : ℕ) (next : Option ℕ) (end : ℕ) : Type 0 where
   pub apart : slice_index firsts end ≢ first
   pub other : next ≢ Some (slice_index firsts end)

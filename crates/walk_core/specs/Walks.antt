@@ -1,4 +1,5 @@
--- Walks over the edges of a graph: reaching, cycles and distances. Nodes are of any type, and the edges are a relation between them.
+-- Walks over the edges of a graph: reaching, cycles and distances. Nodes are of any type, and the edges are a relation
+-- between them.
 use Rattle.std.specs.Prelude.{◌≡◌, ℕ, Bool, true, ◌+◌, ◌<◌, ◌≤◌, List, Contains}
 use Rattle.std.proofs.Common.{zero, suc, sym, subst, arith}
 
@@ -39,11 +40,13 @@ IsEdge ends x y = Contains (ends x) y
 
 -- ---- walks go on
 
-pub Leads-after : {N : Type 0} (E : N → N → Type 0) (P : N → Type 0) (m n : ℕ) (x y : N) → Walk E m x y → Leads E P n y → Leads E P (m + n) x
+pub Leads-after : {N : Type 0} (E : N → N → Type 0) (P : N → Type 0) (m n : ℕ) (x y : N) → Walk E m x y → Leads E P n y
+    → Leads E P (m + n) x
 Leads-after E P zero n x y same leads =
     let e : n ≡ 0 + n = omega arith in subst (λ k. Leads E P k x) e (subst (λ z. Leads E P n z) (sym same) leads)
 Leads-after E P (suc m) n x y walk leads =
-    let e : suc (m + n) ≡ suc m + n = omega arith in subst (λ k. Leads E P k x) e (walk.0, walk.1, Leads-after E P m n walk.0 y walk.2 leads)
+    let e : suc (m + n) ≡ suc m + n = omega arith in subst (λ k. Leads E P k x) e
+    (walk.0, walk.1, Leads-after E P m n walk.0 y walk.2 leads)
 
 -- what is reached from a node that is reached is reached
 pub Reaches-trans : {N : Type 0} (E : N → N → Type 0) (x y z : N) → Reaches E x y → Reaches E y z → Reaches E x z
@@ -61,21 +64,27 @@ at_most : (n m : ℕ) → ¬ (m < n) → n ≤ m
 at_most n m h = omega (arith, h)
 
 -- a walk with the fewest edges goes on by one that has one edge less
-pub IsDistance-next : {N : Type 0} {E : N → N → Type 0} {P : N → Type 0} (n : ℕ) (x : N) → IsDistance E P (suc n) x → (y : N) × BeginsFewest E P n x y
+pub IsDistance-next : {N : Type 0} {E : N → N → Type 0} {P : N → Type 0} (n : ℕ) (x : N) → IsDistance E P (suc n) x
+    → (y : N) × BeginsFewest E P n x y
 IsDistance-next n x far = (
   far.leads.0,
   record {
     edge = far.leads.1;
-    rest = record { leads = far.leads.2; fewest = λ m less walk. far.fewest (suc m) (omega (arith, less)) (far.leads.0, far.leads.1, walk) };
+    rest = record {
+      leads = far.leads.2;
+      fewest = λ m less walk. far.fewest (suc m) (omega (arith, less)) (far.leads.0, far.leads.1, walk);
+    };
   },
 )
 
 -- the end of an edge is at most one edge nearer
-pub IsDistance-edge : {N : Type 0} {E : N → N → Type 0} {P : N → Type 0} (n m : ℕ) (x y : N) → E x y → IsDistance E P n x → Leads E P m y → n ≤ suc m
+pub IsDistance-edge : {N : Type 0} {E : N → N → Type 0} {P : N → Type 0} (n m : ℕ) (x y : N) → E x y
+    → IsDistance E P n x → Leads E P m y → n ≤ suc m
 IsDistance-edge n m x y edge far near = at_most n (suc m) (λ less. far.fewest (suc m) less (y, edge, near))
 
 -- a node has one distance at most
-pub IsDistance-once : {N : Type 0} {E : N → N → Type 0} {P : N → Type 0} (n m : ℕ) (x : N) → IsDistance E P n x → IsDistance E P m x → n ≡ m
+pub IsDistance-once : {N : Type 0} {E : N → N → Type 0} {P : N → Type 0} (n m : ℕ) (x : N) → IsDistance E P n x
+    → IsDistance E P m x → n ≡ m
 IsDistance-once n m x a b =
     let p : n ≤ m = at_most n m (λ less. a.fewest m less b.leads) in
     let q : m ≤ n = at_most m n (λ less. b.fewest n less a.leads) in

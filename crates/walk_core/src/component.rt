@@ -1,8 +1,10 @@
-//! The strongly connected component of a node: of the nodes that lead to it, those that it leads to. A search back from the node finds the
-//! first, and a search forth over these finds the second. Both go one edge or more, so they find nothing of a node that is on no cycle.
+//! The strongly connected component of a node: of the nodes that lead to it, those that it leads to. A search back from
+//! the node finds the first, and a search forth over these finds the second. Both go one edge or more, so they find
+//! nothing of a node that is on no cycle.
 
 ghost use Rattle.std.specs.Prelude.{◌≡◌, ◌↔◌, ◌<◌, ℕ, All, Contains, IfOk, OnOk, length};
-ghost use Rattle.walk_core.specs.Components.{AreConnected, AreReleased, AreSettled, HasComponent, HasSpread, IsStep, found_place, is_on_cycle, place_of, sought_place};
+ghost use Rattle.walk_core.specs.Components.{AreConnected, AreReleased, AreSettled, HasComponent, HasSpread, IsStep};
+ghost use Rattle.walk_core.specs.Components.{found_place, is_on_cycle, place_of, sought_place};
 ghost use Rattle.walk_core.specs.declared.component.Place.TheVariants.{Waiting};
 
 use super::digraph::Digraph;
@@ -75,7 +77,7 @@ impl Way {
     }
 }
 
-/// Tells all nodes that a waiting node is on a cycle with, and answers them. It tells nothing of a node that is on none.
+/// Places all nodes that a waiting node is on a cycle with, and answers them. A node that is on none is left as it is.
 pub fn find_component<A: Allocator + Copy>(
     alloc: A,
     graph: &Digraph<A>,
@@ -94,8 +96,8 @@ pub fn find_component<A: Allocator + Copy>(
     Ok(members)
 }
 
-/// Goes one step or more from a node, as far as sought nodes lead, and answers the nodes that it found. It takes time and memory that grow with
-/// these nodes and the steps from them.
+/// Goes one step or more from a node, as far as sought nodes lead, and answers the nodes that it found. It takes time
+/// and memory that grow with these nodes and the steps from them.
 fn spread<A: Allocator + Copy>(
     alloc: A,
     graph: &Digraph<A>,
@@ -106,7 +108,8 @@ fn spread<A: Allocator + Copy>(
     requires nodes { length places.old.items ≡ length graph.now }
     requires start { start < length graph.now }
     ensures { IfOk result (λ found.
-        HasSpread (IsStep graph.now way) (sought_place way) (found_place way) start places.old.items places.new.items found.items) }
+        HasSpread (IsStep graph.now way) (sought_place way)
+        (found_place way) start places.old.items places.new.items found.items) }
 {
     let mut found = Vec::new(alloc);
     let mut ahead = Vec::from_slice(alloc, way.steps(graph, start))?;

@@ -1,20 +1,21 @@
-//! How many targets each node leads to. The targets are taken in blocks; in each block a node is marked with the targets that it leads to, by
-//! passing the marks on against the edges until nothing changes. The nodes of a cycle, which lead to the same nodes, have their marks and their
-//! count at the first of them.
+//! How many targets each node leads to. The targets are taken in blocks; in each block a node is marked with the
+//! targets that it leads to, by passing the marks on against the edges until nothing changes. The nodes of a cycle,
+//! which lead to the same nodes, have their marks and their count at the first of them.
 
 ghost use Rattle.std.specs.Prelude.{◌≡◌, ◌<◌, ◌≤◌, ◌∷◌, [], ℕ, Contains, length, slice_index};
 ghost use Rattle.std.specs.Ordering.{nat_cmp};
 ghost use Rattle.std.specs.List.Sorted.{IsStrictlySortedBy};
 ghost use Rattle.walk_core.specs.Components.{AreFirsts};
-ghost use Rattle.walk_core.specs.Marks.{AreBare, AreCountsElsewhere, AreMarked, CountsBlock, HoldEnds, LeadsToCount, Passes, PassesAll, TakesCounts};
+ghost use Rattle.walk_core.specs.Marks.{AreBare, AreCountsElsewhere, AreMarked, CountsBlock, HoldEnds, LeadsToCount};
+ghost use Rattle.walk_core.specs.Marks.{Passes, PassesAll, TakesCounts};
 
 use super::block::{Marks, TARGETS};
 use super::digraph::Digraph;
 use std::alloc::Allocator;
 
-/// Counts how many of the targets each of the nodes leads to, at its first node; other counts stay. Each block of 512 targets costs the nodes and
-/// their edges, times the sweeps that change something; where the nodes stand in such an order that each comes after what it leads to, that is one
-/// sweep, and one more that changes nothing.
+/// Counts how many of the targets each of the nodes leads to, at its first node; other counts stay. Each block of 512
+/// targets costs the nodes and their edges, times the sweeps that change something; where the nodes are in such an
+/// order that each comes after what it leads to, that is one sweep, and one more that changes nothing.
 pub fn count_targets<A: Allocator + Copy>(
     graph: &Digraph<A>,
     firsts: &[usize],
@@ -34,7 +35,8 @@ pub fn count_targets<A: Allocator + Copy>(
     ensures rows { length rows.new.items ≡ length graph.now }
     ensures bare { AreBare rows.new.items }
     ensures counts { length counts.new.items ≡ length graph.now }
-    ensures each { (x : ℕ) → Contains nodes.now x → LeadsToCount graph.now targets.now x (slice_index counts.new.items (slice_index firsts.now x)) }
+    ensures each { (x : ℕ) → Contains nodes.now x
+        → LeadsToCount graph.now targets.now x (slice_index counts.new.items (slice_index firsts.now x)) }
     ensures elsewhere { AreCountsElsewhere firsts.now nodes.now counts.old.items counts.new.items }
 {
     let mut start = 0;
@@ -150,7 +152,8 @@ fn gather<A: Allocator + Copy>(
     true
 }
 
-/// Adds the marks of each of the nodes to its count, and takes them away. Of a cycle's nodes the first that comes finds the marks.
+/// Adds the marks of each of the nodes to its count, and takes them away. Of a cycle's nodes the first that comes finds
+/// the marks.
 fn take_counts<A: Allocator + Copy>(
     firsts: &[usize],
     nodes: &[usize],

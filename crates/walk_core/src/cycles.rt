@@ -1,5 +1,6 @@
-//! The strongly connected components of a graph, found one after another among the nodes that wait: the nodes on cycles, the first node of each
-//! component, and an order of nodes in which a component mostly comes before what it leads to.
+//! The strongly connected components of a graph, found one after another among the nodes that wait: the nodes on
+//! cycles, the first node of each component, and an order of nodes in which a component mostly comes before what it
+//! leads to.
 
 ghost use Rattle.std.specs.Prelude.{◌≡◌, ◌<◌, ℕ, Contains, IfOk, OnOk, length, map};
 ghost use Rattle.walk_core.specs.Digraphs.{AreOnCycles};
@@ -11,8 +12,8 @@ use super::finish::{all_nodes, finishing_order};
 use lattice_core::NoMemory;
 use std::alloc::{Allocator, Global};
 
-/// What is known of the components of a graph: the place of each node, the first node that each is together with, and the nodes in the order in
-/// which they were found.
+/// What is known of the components of a graph: the place of each node, the first node that each is together with, and
+/// the nodes in the order in which they were found.
 #[derive(Drop)]
 pub struct Components<A: Allocator + Copy = Global> {
     places: Vec<Place, A>,
@@ -23,8 +24,8 @@ pub struct Components<A: Allocator + Copy = Global> {
 impl<A: Allocator + Copy> Components<A> {
     ghost use Rattle.walk_core.specs.Components.{HasFound, HasFoundAll, WaitsNoLonger};
 
-    /// The components of a graph. In the order of nodes that it takes, a search back finds a component alone, so it takes time and memory that
-    /// grow with the nodes and edges.
+    /// The components of a graph. In the order of nodes that it takes, a search back finds a component alone, so it
+    /// takes time and memory that grow with the nodes and edges.
     pub fn find(alloc: A, graph: &Digraph<A>) -> Result<Components<A>, NoMemory>
         ensures { IfOk result (HasFoundAll graph.now) }
     {
@@ -50,7 +51,8 @@ impl<A: Allocator + Copy> Components<A> {
         })
     }
 
-    /// Tells of a node that waits, and of all nodes of its component, whether they are on a cycle, and which is the first.
+    /// Tells of a node that waits, and of all nodes of its component, whether they are on a cycle, and which is the
+    /// first.
     fn settle(&mut self, alloc: A, graph: &Digraph<A>, node: usize) -> Result<(), NoMemory>
         requires found { HasFound graph.now self.old }
         requires node { node < length graph.now }

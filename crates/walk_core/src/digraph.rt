@@ -1,7 +1,8 @@
 ghost use Rattle.std.specs.Prelude.{◌≡◌, ◌↔◌, ◌<◌, ℕ, List, [], All, Contains, IfOk, OnOk, length, map, replicate};
 ghost use Rattle.std.specs.Ordering.{nat_cmp};
 ghost use Rattle.walk_core.specs.Components.{AreFirsts};
-ghost use Rattle.walk_core.specs.Digraphs.{AddsEdges, AreDistances, AreOnCycles, HasEdge, IsMarked, IsReversed, IsWithin, ends_of};
+ghost use Rattle.walk_core.specs.Digraphs.{AddsEdges, AreDistances, AreOnCycles, HasEdge, IsMarked, IsReversed};
+ghost use Rattle.walk_core.specs.Digraphs.{IsWithin, ends_of};
 ghost use Rattle.walk_core.specs.NodeRanks.{to_rank};
 ghost use Rattle.walk_core.specs.Ranks.{AreRanksInOrder, IsInRankOrder};
 
@@ -72,8 +73,9 @@ impl<A: Allocator + Copy> Digraph<A> {
         self.namers[node].as_slice()
     }
 
-    /// How many edges the shortest walk has from each node to a marked one, or none where no walk leads to one: a search by levels from the marked
-    /// nodes over the edges turned round. It takes time and memory that grow with the nodes and edges.
+    /// How many edges the shortest walk has from each node to a marked one, or none where no walk leads to one: a
+    /// search by levels from the marked nodes over the edges turned round. It takes time and memory that grow with the
+    /// nodes and edges.
     pub fn distances(&self, marked: &[bool]) -> Result<Vec<Option<usize>, A>, NoMemory>
         requires { length marked.now ≡ length self.now }
         ensures { IfOk result (λ distances. AreDistances self.now marked.now distances.items) }
@@ -88,8 +90,8 @@ impl<A: Allocator + Copy> Digraph<A> {
         cycle_flags(self.alloc, self)
     }
 
-    /// Of each node the least of its cycle, or itself where it is on none: the least of the nodes that lead to it and that it leads to, over some
-    /// edges or none. It takes time and memory that grow with the nodes and edges.
+    /// Of each node the least of its cycle, or itself where it is on none: the least of the nodes that lead to it and
+    /// that it leads to, over some edges or none. It takes time and memory that grow with the nodes and edges.
     pub fn firsts(&self) -> Result<Vec<usize, A>, NoMemory>
         ensures { IfOk result (λ firsts. AreFirsts self.now firsts.items) }
     {
@@ -97,11 +99,12 @@ impl<A: Allocator + Copy> Digraph<A> {
         Ok(components.firsts)
     }
 
-    /// The kept nodes, which hold the ends of their edges, in rank order: by how many nodes each leads to, itself among them, so that each comes after
-    /// what it leads to; the nodes of a cycle, which lead to the same nodes, stand together, by the first of them. With n nodes and m edges it takes
-    /// time O(n log n + m) where no cycle of kept nodes leads into two others (a node on no cycle is one by itself). Else each region that has such a
-    /// cycle, where a region is what edges between kept nodes join in either direction, takes a walk over itself for each 512 of its nodes besides.
-    /// Memory grows with the nodes and edges.
+    /// The kept nodes, which hold the ends of their edges, in rank order: by how many nodes each leads to, itself among
+    /// them, so that each comes after what it leads to; the nodes of a cycle, which lead to the same nodes, are side by
+    /// side, by the first of them. With n nodes and m edges it takes time O(n log n + m) where no cycle of kept nodes
+    /// leads into two others (a node on no cycle is one by itself). Else each region that has such a cycle, where a
+    /// region is what edges between kept nodes join in either direction, takes a walk over itself for each 512 of its
+    /// nodes besides. Memory grows with the nodes and edges.
     pub fn in_rank_order(&self, kept: &[bool]) -> Result<Vec<usize, A>, NoMemory>
         requires sized { length kept.now ≡ length self.now }
         requires closed { (x y : ℕ) → IsMarked kept.now x → HasEdge self.now x y → IsMarked kept.now y }
@@ -123,7 +126,8 @@ impl<A: Allocator + Copy> Digraph<A> {
     }
 }
 
-/// The rows of the graph with each edge turned round: each lists the nodes that have an edge to its own, in their order.
+/// The rows of the graph with each edge turned round: each lists the nodes that have an edge to its own, in their
+/// order.
 fn turned_round<A: Allocator + Copy>(
     alloc: A,
     ends: &[Vec<usize, A>],
@@ -172,7 +176,7 @@ fn name_ends<A: Allocator + Copy>(
     Ok(())
 }
 
-/// Adds an edge to a graph, given by its rows.
+/// Adds an edge to a graph, held as its rows.
 pub(crate) fn add_edge<A: Allocator + Copy>(
     rows: &mut Vec<Vec<usize, A>, A>,
     from: usize,

@@ -1,4 +1,5 @@
-//! Distances over a graph, found by levels: first the marked nodes, then the nodes that have an edge to one of those, and so on.
+//! Distances over a graph, found by levels: first the marked nodes, then the nodes that have an edge to one of those,
+//! and so on.
 
 ghost use Rattle.std.specs.Prelude.{◌≡◌, ◌<◌, All, Contains, IfOk, None, OnOk, [], length, replicate};
 ghost use Rattle.walk_core.specs.Digraphs.{AreDistances, IsMarked};
@@ -83,7 +84,7 @@ impl<A: Allocator + Copy> Search<A> {
     }
 }
 
-/// The distance of each node to the marked ones, as `Digraph::distances` tells it.
+/// The distance of each node to the marked ones, as `Digraph::distances` answers it.
 pub fn distances_to<A: Allocator + Copy>(
     alloc: A,
     graph: &Digraph<A>,

@@ -15,8 +15,9 @@ enum Task {
     Leave(usize),
 }
 
-/// All nodes, and after them all nodes again in the order in which a search in depth along the edges leaves them. Where nodes are taken from the
-/// end, a search back from each finds no more than its component. All nodes stand in front, so that it needs no proof that the search leaves each.
+/// All nodes, and after them all nodes again in the order in which a search in depth along the edges leaves them. Where
+/// nodes are taken from the end, a search back from each finds no more than its component. All nodes are in front, so
+/// that it needs no proof that the search leaves each.
 pub fn finishing_order<A: Allocator + Copy>(
     alloc: A,
     graph: &Digraph<A>,

@@ -16,9 +16,10 @@ use super::sums::lead_sums;
 use lattice_core::NoMemory;
 use std::alloc::Allocator;
 
-/// How many of the kept nodes each of them leads to, at its first node. The nodes are to stand in such an order that each comes after what it leads
-/// to; in another order it takes more time. It takes time that grows with the nodes and edges where no cycle leads into two others, and else, in each
-/// region that has such a cycle, the time of a walk over the region for each 512 of its nodes; and memory that grows with the nodes.
+/// How many of the kept nodes each of them leads to, at its first node. The nodes are to be in such an order that each
+/// comes after what it leads to; in another order it takes more time. It takes time that grows with the nodes and edges
+/// where no cycle leads into two others, and else, in each region that has such a cycle, the time of a walk over the
+/// region for each 512 of its nodes; and memory that grows with the nodes.
 pub fn lead_counts<A: Allocator + Copy>(
     alloc: A,
     graph: &Digraph<A>,
@@ -34,7 +35,8 @@ pub fn lead_counts<A: Allocator + Copy>(
     requires targets { (x : ℕ) → Contains targets.now x ↔ Contains nodes.now x }
     requires in_order { IsStrictlySortedBy nat_cmp targets.now }
     ensures { IfOk result (λ counts. (length counts.items ≡ length graph.now)
-        × ((x : ℕ) → Contains nodes.now x → LeadsToCount graph.now targets.now x (slice_index counts.items (slice_index firsts.now x)))) }
+        × ((x : ℕ) → Contains nodes.now x
+        → LeadsToCount graph.now targets.now x (slice_index counts.items (slice_index firsts.now x)))) }
 {
     let sums = lead_sums(alloc, graph, firsts, nodes, targets)?;
     let mut counts = other_counts(alloc, graph, firsts, kept, nodes, targets, sums.as_slice())?;
@@ -42,7 +44,8 @@ pub fn lead_counts<A: Allocator + Copy>(
     Ok(counts)
 }
 
-/// How many of the kept nodes each of them leads to, where there is no sum, at its first node: region by region in blocks of marks.
+/// How many of the kept nodes each of them leads to, where there is no sum, at its first node: region by region in
+/// blocks of marks.
 fn other_counts<A: Allocator + Copy>(
     alloc: A,
     graph: &Digraph<A>,

@@ -1,4 +1,5 @@
-//! The order of nodes by rank: by how many nodes a node leads to, then by the first node that it is together with, then by itself.
+//! The order of nodes by rank: by how many nodes a node leads to, then by the first node that it is together with, then
+//! by itself.
 
 ghost use Rattle.std.specs.Prelude.{◌≡◌, ◌↔◌, ◌<◌, ℕ, Contains, IfOk, length, map, slice_index};
 ghost use Rattle.std.specs.Ordering.{nat_cmp};
@@ -88,7 +89,7 @@ fn kept_from_last<A: Allocator + Copy>(
     Ok(found)
 }
 
-/// The ranks of the nodes, whose counts stand at their first nodes.
+/// The ranks of the nodes, whose counts are at their first nodes.
 fn ranks_of<A: Allocator + Copy>(
     alloc: A,
     firsts: &[usize],

@@ -1,5 +1,5 @@
-//! The kept nodes of a graph in regions, which no edge joins. A search along the edges in both directions finds a region, which is named by the node
-//! where the search began.
+//! The kept nodes of a graph in regions, which no edge joins. A search along the edges in both directions finds a
+//! region, which is named by the node where the search began.
 
 ghost use Rattle.std.specs.Prelude.{◌≡◌, ◌<◌, ℕ, Bool, Contains, IfOk, MatchBool, OnOk, Some, length, map};
 ghost use Rattle.walk_core.specs.Digraphs.{HasEdge, IsMarked};
@@ -9,7 +9,8 @@ use super::digraph::{Digraph, empty_rows};
 use lattice_core::NoMemory;
 use std::alloc::Allocator;
 
-/// The label of each kept node. It takes time and memory that grow with the nodes and the edges from kept nodes and to them.
+/// The label of each kept node. It takes time and memory that grow with the nodes and the edges from kept nodes and to
+/// them.
 pub fn region_labels<A: Allocator + Copy>(
     alloc: A,
     graph: &Digraph<A>,

@@ -1,21 +1,23 @@
-//! Counts that add up: where a cycle leads into at most one other, it leads to its own nodes and to those that the other leads to. Each cycle is named
-//! by its first node, and a node that is on none is one by itself.
+//! Counts that add up: where a cycle leads into at most one other, it leads to its own nodes and to those that the
+//! other leads to. Each cycle is named by its first node, and a node that is on none is one by itself.
 
-ghost use Rattle.std.specs.Prelude.{◌≡◌, ◌≢◌, ◌↔◌, ◌⊎◌, ◌<◌, ℕ, Contains, IfOk, MatchBool, MatchOption, Some, length, slice_index};
+ghost use Rattle.std.specs.Prelude.{◌≡◌, ◌≢◌, ◌↔◌, ◌⊎◌, ◌<◌, ℕ, Contains, IfOk, MatchBool, MatchOption, Some, length};
+ghost use Rattle.std.specs.Prelude.{slice_index};
 ghost use Rattle.std.specs.Option.{ForSome};
 ghost use Rattle.std.specs.Ordering.{nat_cmp};
 ghost use Rattle.std.specs.List.Sorted.{IsStrictlySortedBy};
 ghost use Rattle.walk_core.specs.Components.{AreFirsts};
 ghost use Rattle.walk_core.specs.Marks.{HoldEnds};
-ghost use Rattle.walk_core.specs.Sums.{AreForks, AreNexts, AreSizes, AreSums, IsElsewhere, IsHereOrNext, IsWayOut, sum_with};
+ghost use Rattle.walk_core.specs.Sums.{AreForks, AreNexts, AreSizes, AreSums, IsElsewhere, IsHereOrNext, IsWayOut};
+ghost use Rattle.walk_core.specs.Sums.{sum_with};
 
 use super::digraph::Digraph;
 use lattice_core::NoMemory;
 use std::alloc::Allocator;
 
-/// How many of the targets each cycle leads to, where that adds up: where the cycle leads into no other, or into one whose sum was there when its own
-/// nodes came. So no sum is missing where no cycle leads into two others and each of the nodes comes after what it leads to. It takes time and memory
-/// that grow with the nodes and edges.
+/// How many of the targets each cycle leads to, where that adds up: where the cycle leads into no other, or into one
+/// whose sum was there when its own nodes came. So no sum is missing where no cycle leads into two others and each of
+/// the nodes comes after what it leads to. It takes time and memory that grow with the nodes and edges.
 pub fn lead_sums<A: Allocator + Copy>(
     alloc: A,
     graph: &Digraph<A>,
@@ -95,7 +97,7 @@ fn way_out(firsts: &[usize], first: usize, ends: &[usize]) -> Option<usize>
     None
 }
 
-/// Which cycles of the nodes lead into one more than they are given.
+/// Which cycles of the nodes lead into one more than is assigned to them.
 fn forks_of<A: Allocator + Copy>(
     alloc: A,
     graph: &Digraph<A>,
@@ -150,7 +152,8 @@ fn sizes_of<A: Allocator + Copy>(
     requires nodes { (x : ℕ) → Contains nodes.now x → x < length firsts.now }
     requires firsts { (x : ℕ) → Contains nodes.now x → slice_index firsts.now x < length firsts.now }
     requires in_order { IsStrictlySortedBy nat_cmp nodes.now }
-    ensures { IfOk result (λ sizes. (length sizes.items ≡ length firsts.now) × AreSizes firsts.now nodes.now sizes.items) }
+    ensures { IfOk result
+        (λ sizes. (length sizes.items ≡ length firsts.now) × AreSizes firsts.now nodes.now sizes.items) }
 {
     let mut sizes = vec![in alloc; 0; firsts.len()]?;
     for node in nodes {

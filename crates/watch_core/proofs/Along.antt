@@ -1,5 +1,5 @@
--- Walks, distances, closed sets and ranks carry over from one graph to another, where a part of the nodes has the same edges in both, and none of them
--- leads out.
+-- Walks, distances, closed sets and ranks carry over from one graph to another, where a part of the nodes has the same
+-- edges in both, and none of them leads out.
 use Rattle.std.proofs.Common.{◌≡◌, ℕ, zero, suc, Bool, filter, subst}
 use Rattle.std.specs.declared.cmp.Ordering.{Ordering}
 use Rattle.lattice_core.specs.MemberLaws.{Contains-of_filter, Contains-to_filter}
@@ -7,8 +7,10 @@ use Rattle.walk_core.specs.Walks.{IsDistance, IsOfKind, Leads, Walk}
 use Rattle.walk_core.specs.Ranks.{AreTogether, IsRank, LeadsTo, Rank}
 use Rattle.ready_core.specs.Closed.{IsInClosedSet}
 
-module _ {N : Type 0} (E F : N → N → Type 0) (part : N → Bool) (forth : (x y : N) → IsOfKind part x → E x y → IsOfKind part y × F x y) where
-  pub Leads-along : (P Q : N → Type 0) → ((x : N) → IsOfKind part x → P x → Q x) → (n : ℕ) (x : N) → IsOfKind part x → Leads E P n x → Leads F Q n x
+module _ {N : Type 0} (E F : N → N → Type 0) (part : N → Bool)
+    (forth : (x y : N) → IsOfKind part x → E x y → IsOfKind part y × F x y) where
+  pub Leads-along : (P Q : N → Type 0) → ((x : N) → IsOfKind part x → P x → Q x) → (n : ℕ) (x : N) → IsOfKind part x
+      → Leads E P n x → Leads F Q n x
   Leads-along P Q gives zero x here is = gives x here is
   Leads-along P Q gives (suc n) x here walk =
       let next = forth x walk.0 here walk.1 in
@@ -31,13 +33,16 @@ module _ {N : Type 0} (E F : N → N → Type 0) (part : N → Bool) (forth : (x
     back = LeadsTo-along y x (stays_in together.forth.0 x y here together.forth.1) together.back;
   }
 
-module _ {N : Type 0} (E F : N → N → Type 0) (part : N → Bool) (forth : (x y : N) → IsOfKind part x → E x y → IsOfKind part y × F x y)
-    (back : (x y : N) → IsOfKind part x → F x y → IsOfKind part y × E x y) (P Q : N → Type 0) (gives : (x : N) → IsOfKind part x → P x → Q x) where
+module _ {N : Type 0} (E F : N → N → Type 0) (part : N → Bool)
+    (forth : (x y : N) → IsOfKind part x → E x y → IsOfKind part y × F x y)
+    (back : (x y : N) → IsOfKind part x → F x y → IsOfKind part y × E x y) (P Q : N → Type 0)
+    (gives : (x : N) → IsOfKind part x → P x → Q x) where
   pub closed_along : (x : N) → IsOfKind part x → IsInClosedSet E P x → IsInClosedSet F Q x
   closed_along x here some = record {
     set = filter part some.set;
     closed = record {
-      members = λ y has. let found = Contains-of_filter part some.set y has in gives y found.1 (some.closed.members y found.0);
+      members = λ y has. let found = Contains-of_filter part some.set y has in gives y found.1
+          (some.closed.members y found.0);
       ends = λ y z has edge.
           let found = Contains-of_filter part some.set y has in
           let next = back y z found.1 edge in
@@ -53,7 +58,8 @@ module _ {N : Type 0} (E F : N → N → Type 0) (part : N → Bool) (forth : (x
       fewest = λ m less walk. far.fewest m less (Leads-along F E part back Q P takes m x here walk);
     }
 
-    pub rank_along : (cmp : N → N → Ordering) (rank : Rank N) → IsOfKind part rank.node → IsRank cmp E P rank → IsRank cmp F Q rank
+    pub rank_along : (cmp : N → N → Ordering) (rank : Rank N) → IsOfKind part rank.node → IsRank cmp E P rank
+        → IsRank cmp F Q rank
     rank_along cmp rank here is = record {
       count = record {
         members = is.count.members;

@@ -1,5 +1,6 @@
--- Lists in which what was found of some items stands in the place of what was kept of them.
-use Rattle.std.proofs.Common.{◌≡◌, ◌↔◌, ◌⊎◌, ◌+◌, ◌<◌, ℕ, suc, Bool, true, false, List, [], ◌∷◌, ◌++◌, Contains, Some, get_or, length, map, set, take, drop, refl, sym, ap, ◌∙◌, subst, inl, inr}
+-- Lists in which what was found of some items takes the place of what was kept of them.
+use Rattle.std.proofs.Common.{◌≡◌, ◌↔◌, ◌⊎◌, ◌+◌, ◌<◌, ℕ, suc, Bool, true, false, List, [], ◌∷◌, ◌++◌, Contains, Some}
+use Rattle.std.proofs.Common.{get_or, length, map, set, take, drop, refl, sym, ap, ◌∙◌, subst, inl, inr}
 use Rattle.std.specs.Prelude.{slice_get, option_map}
 use Rattle.std.specs.List.{insert, remove}
 use Rattle.std.specs.List.Sorted.{IsStrictlySortedBy}
@@ -13,7 +14,8 @@ use Rattle.walk_core.specs.Ranks.{Rank, rank_cmp}
 use Rattle.walk_core.specs.RankLaws.{ranks_total}
 use Rattle.std.proofs.lemmas.List.{set_split, take-append-drop, take_more}
 use Rattle.std.proofs.lemmas.Bool.{false≢true}
-use Rattle.std.proofs.lemmas.List.Elements.{Contains-append_left, Contains-append_right, Contains-append_cases, Contains-get_or, Contains-push, Contains-push_cases}
+use Rattle.std.proofs.lemmas.List.Elements.{Contains-append_left, Contains-append_right, Contains-append_cases}
+use Rattle.std.proofs.lemmas.List.Elements.{Contains-get_or, Contains-push, Contains-push_cases}
 use Rattle.std.proofs.lemmas.Option.{slice_get-map, slice_get_within}
 use Rattle.lattice_core.specs.Keep.{IsExactOrder}
 use Rattle.lattice_core.specs.MemberLaws.{Contains-cons_cases, Contains-first, Contains-later, Contains-none}
@@ -60,21 +62,25 @@ has_or_not (first ∷ items) item = elim (same_or_not first item) [
   | inl same ↦ inl (subst (Contains (first ∷ items)) same (Contains-first first items))
   | inr other ↦ elim (has_or_not items item) [
     | inl later ↦ inl (Contains-later first items item later)
-    | inr none ↦ inr (λ has. elim (Contains-cons_cases first items item has) [ inl same ↦ other same | inr later ↦ none later ])
+    | inr none ↦ inr
+        (λ has. elim (Contains-cons_cases first items item has) [ inl same ↦ other same | inr later ↦ none later ])
   ]
 ]
 
 module _ {X : Type 0} (of : X → Item) where
   -- ---- one item, in the parts of a list
-  exchanged_in : (item : Item) (left was now right : List X) → ((x : X) → Contains left x → ¬ (of x ≡ item)) → ((x : X) → Contains was x → of x ≡ item)
-      → ((x : X) → Contains now x → of x ≡ item) → ((x : X) → Contains right x → ¬ (of x ≡ item)) → HasNew of (λ other. other ≡ item) now (left ++ (was ++ right)) (left ++ (now ++ right))
+  exchanged_in : (item : Item) (left was now right : List X) → ((x : X) → Contains left x → ¬ (of x ≡ item))
+      → ((x : X) → Contains was x → of x ≡ item)
+      → ((x : X) → Contains now x → of x ≡ item) → ((x : X) → Contains right x → ¬ (of x ≡ item))
+      → HasNew of (λ other. other ≡ item) now (left ++ (was ++ right)) (left ++ (now ++ right))
   exchanged_in item left was now right in_left in_was in_now in_right = record {
     each = λ x. (
       λ has. elim (Contains-append_cases left (now ++ right) x has) [
         | inl here ↦ inr (in_left x here, Contains-append_left left (was ++ right) x here)
         | inr later ↦ elim (Contains-append_cases now right x later) [
           | inl here ↦ inl (in_now x here, here)
-          | inr here ↦ inr (in_right x here, Contains-append_right left (was ++ right) x (Contains-append_right was right x here))
+          | inr here ↦ inr
+              (in_right x here, Contains-append_right left (was ++ right) x (Contains-append_right was right x here))
         ]
       ],
       λ found_or_kept. elim found_or_kept [
@@ -100,7 +106,8 @@ module _ {X : Type 0} (of : X → Item) where
   nothing item x has = absurd (Contains-none x has)
 
   -- a list into which an element is put
-  pub exchanged_insert : (xs : List X) (place : ℕ) (x : X) (item : Item) → of x ≡ item → ((y : X) → Contains xs y → ¬ (of y ≡ item))
+  pub exchanged_insert : (xs : List X) (place : ℕ) (x : X) (item : Item) → of x ≡ item
+      → ((y : X) → Contains xs y → ¬ (of y ≡ item))
       → HasNew of (λ other. other ≡ item) (x ∷ []) xs (insert xs place x)
   exchanged_insert xs place x item is none =
       subst (λ l. HasNew of (λ other. other ≡ item) (x ∷ []) l (insert xs place x)) (take-append-drop place xs)
@@ -110,13 +117,15 @@ module _ {X : Type 0} (of : X → Item) where
       (λ y has. none y (subst (λ l. Contains l y) (take-append-drop place xs) (Contains-append_right (take place xs) (drop place xs) y has))))
 
   -- a list in which one element has an item: it is taken out, or another takes its place
-  module _ {cmp : X → X → Ordering} (total : IsTotalOrder cmp) (xs : List X) (sorted : IsStrictlySortedBy cmp xs) (one_each : IsOneEach of xs)
+  module _ {cmp : X → X → Ordering} (total : IsTotalOrder cmp) (xs : List X) (sorted : IsStrictlySortedBy cmp xs)
+      (one_each : IsOneEach of xs)
       (place : ℕ) (x : X) (at : slice_get xs place ≡ Some x) (item : Item) (is : of x ≡ item) where
     in_parts : IsStrictlySortedBy cmp (take place xs ++ x ∷ drop (suc place) xs)
     in_parts = subst (IsStrictlySortedBy cmp) (parts_at xs place x at) sorted
 
     there_too : (y : X) → Contains (take place xs ++ x ∷ drop (suc place) xs) y → of y ≡ item → y ≡ x
-    there_too y has same = one_each.one y x (subst (λ l. Contains l y) (sym (parts_at xs place x at)) has) (Contains-at xs place x at) (same ∙ sym is)
+    there_too y has same = one_each.one y x (subst (λ l. Contains l y) (sym (parts_at xs place x at)) has)
+        (Contains-at xs place x at) (same ∙ sym is)
 
     none_left : (y : X) → Contains (take place xs) y → ¬ (of y ≡ item)
     none_left y has same =
@@ -137,7 +146,8 @@ module _ {X : Type 0} (of : X → Item) where
 
     pub exchanged_set : (new : X) → of new ≡ item → HasNew of (λ other. other ≡ item) (new ∷ []) xs (set xs place new)
     exchanged_set new new_is =
-        subst (λ l. HasNew of (λ other. other ≡ item) (new ∷ []) xs l) (sym (set_split xs place new (slice_get_within xs place x at)))
+        subst (λ l. HasNew of (λ other. other ≡ item) (new ∷ []) xs l)
+        (sym (set_split xs place new (slice_get_within xs place x at)))
         (subst (λ l. HasNew of (λ other. other ≡ item) (new ∷ []) l (take place xs ++ new ∷ drop (suc place) xs)) (sym (parts_at xs place x at))
         (exchanged_in item (take place xs) (x ∷ []) (new ∷ []) (drop (suc place) xs) none_left (just_one x item is) (just_one new item new_is) none_right))
 
@@ -149,7 +159,8 @@ module _ {X : Type 0} (of : X → Item) where
   one_each_alone x = record {
     one = λ y z has also same. elim (Contains-cons_cases x [] y has) [
       | inr later ↦ absurd (Contains-none y later)
-      | inl is_y ↦ elim (Contains-cons_cases x [] z also) [ inr later ↦ absurd (Contains-none z later) | inl is_z ↦ sym is_y ∙ is_z ]
+      | inl is_y ↦ elim
+          (Contains-cons_cases x [] z also) [ inr later ↦ absurd (Contains-none z later) | inl is_z ↦ sym is_y ∙ is_z ]
     ];
   }
 
@@ -164,7 +175,8 @@ module _ {X : Type 0} (of : X → Item) where
         one_item xs j.0 x y (subst (λ k. slice_get xs k ≡ Some x) place i.1) j.1;
   }
 
-  pub one_each_on : (P : Item → Type 0) (found kept new : List X) → HasNew of P found kept new → IsOneEach of found → IsOneEach of kept → IsOneEach of new
+  pub one_each_on : (P : Item → Type 0) (found kept new : List X) → HasNew of P found kept new → IsOneEach of found
+      → IsOneEach of kept → IsOneEach of new
   one_each_on P found kept new are one_found one_kept = record {
     one = λ x y has also same. elim ((are.each x).0 has) [
       | inl x_found ↦ elim ((are.each y).0 also) [
@@ -180,7 +192,8 @@ module _ {X : Type 0} (of : X → Item) where
 
   -- ---- one after the other
   -- the same items again
-  pub HasNew-again : (P : Item → Type 0) (first next xs ys zs : List X) → HasNew of P first xs ys → HasNew of P next ys zs → HasNew of P next xs zs
+  pub HasNew-again : (P : Item → Type 0) (first next xs ys zs : List X) → HasNew of P first xs ys
+      → HasNew of P next ys zs → HasNew of P next xs zs
   HasNew-again P first next xs ys zs one two = record {
     each = λ x. (
       λ has. elim ((two.each x).0 has) [
@@ -195,13 +208,15 @@ module _ {X : Type 0} (of : X → Item) where
   }
 
   -- where there is none of these items
-  pub HasNew-none : (P : Item → Type 0) (found xs : List X) → ((x : X) → Contains found x → ¬ P (of x)) → ((x : X) → Contains xs x → ¬ P (of x)) → HasNew of P found xs xs
+  pub HasNew-none : (P : Item → Type 0) (found xs : List X) → ((x : X) → Contains found x → ¬ P (of x))
+      → ((x : X) → Contains xs x → ¬ P (of x)) → HasNew of P found xs xs
   HasNew-none P found xs not_found not_kept = record {
     each = λ x. (λ has. inr (not_kept x has, has), λ found_or_kept. elim found_or_kept [ inl is ↦ absurd (not_found x is.1 is.0) | inr kept ↦ kept.1 ]);
   }
 
   -- the same items
-  pub HasNew-same : (P Q : Item → Type 0) (found xs ys : List X) → ((item : Item) → P item ↔ Q item) → HasNew of P found xs ys → HasNew of Q found xs ys
+  pub HasNew-same : (P Q : Item → Type 0) (found xs ys : List X) → ((item : Item) → P item ↔ Q item)
+      → HasNew of P found xs ys → HasNew of Q found xs ys
   HasNew-same P Q found xs ys same are = record {
     each = λ x. (
       λ has. elim ((are.each x).0 has) [
@@ -216,8 +231,10 @@ module _ {X : Type 0} (of : X → Item) where
   }
 
   -- one item more
-  pub HasNew-more : (P Q : Item → Type 0) (item : Item) (found one xs ys zs : List X) → ((other : Item) → Q other → P other ⊎ (other ≡ item)) → ((other : Item) → P other → Q other) → Q item
-      → ((x : X) → of x ≡ item → Contains found x ↔ Contains one x) → HasNew of P found xs ys → HasNew of (λ other. other ≡ item) one ys zs → HasNew of Q found xs zs
+  pub HasNew-more : (P Q : Item → Type 0) (item : Item) (found one xs ys zs : List X)
+      → ((other : Item) → Q other → P other ⊎ (other ≡ item)) → ((other : Item) → P other → Q other) → Q item
+      → ((x : X) → of x ≡ item → Contains found x ↔ Contains one x) → HasNew of P found xs ys
+      → HasNew of (λ other. other ≡ item) one ys zs → HasNew of Q found xs zs
   HasNew-more P Q item found one xs ys zs cases stays here just before after = record {
     each = λ x. (
       λ has. elim ((after.each x).0 has) [
@@ -243,7 +260,8 @@ module _ {X : Type 0} (of : X → Item) where
   }
 
   -- what was found of some items, and nothing of others
-  pub HasNew-then_none : (P Q : Item → Type 0) (found xs ys zs : List X) → ((x : X) → Contains found x → ¬ Q (of x)) → HasNew of P found xs ys → HasNew of Q [] ys zs → HasNew of (λ item. P item ⊎ Q item) found xs zs
+  pub HasNew-then_none : (P Q : Item → Type 0) (found xs ys zs : List X) → ((x : X) → Contains found x → ¬ Q (of x))
+      → HasNew of P found xs ys → HasNew of Q [] ys zs → HasNew of (λ item. P item ⊎ Q item) found xs zs
   HasNew-then_none P Q found xs ys zs none one two = record {
     each = λ x. (
       λ has. elim ((two.each x).0 has) [
@@ -263,7 +281,8 @@ module _ {X : Type 0} (of : X → Item) where
     );
   }
 
-  pub HasNew-after_none : (P Q : Item → Type 0) (found xs ys zs : List X) → ((x : X) → Contains found x → ¬ P (of x)) → HasNew of P [] xs ys → HasNew of Q found ys zs → HasNew of (λ item. P item ⊎ Q item) found xs zs
+  pub HasNew-after_none : (P Q : Item → Type 0) (found xs ys zs : List X) → ((x : X) → Contains found x → ¬ P (of x))
+      → HasNew of P [] xs ys → HasNew of Q found ys zs → HasNew of (λ item. P item ⊎ Q item) found xs zs
   HasNew-after_none P Q found xs ys zs none one two = record {
     each = λ x. (
       λ has. elim ((two.each x).0 has) [
@@ -284,8 +303,10 @@ module _ {X : Type 0} (of : X → Item) where
   }
 
 -- ---- two lists
-pub apart_on : {X Y : Type 0} (of : X → Item) (by : Y → Item) (P : Item → Type 0) (found kept new : List X) (found_too kept_too new_too : List Y) → HasNew of P found kept new
-    → HasNew by P found_too kept_too new_too → AreApart of by found found_too → AreApart of by kept kept_too → AreApart of by new new_too
+pub apart_on : {X Y : Type 0} (of : X → Item) (by : Y → Item) (P : Item → Type 0) (found kept new : List X)
+    (found_too kept_too new_too : List Y) → HasNew of P found kept new
+    → HasNew by P found_too kept_too new_too → AreApart of by found found_too → AreApart of by kept kept_too
+    → AreApart of by new new_too
 apart_on of by P found kept new found_too kept_too new_too xs ys apart_found apart_kept = record {
   none = λ x y has also same. elim ((xs.each x).0 has) [
     | inl x_found ↦ elim ((ys.each y).0 also) [
@@ -314,13 +335,16 @@ module _ {X : Type 0} (of : X → Item) (again : Item → Bool) (found : List X)
     pub here_too : Contains found x
     here_too = Contains-get_or found k d less
 
-    pub more_cases : (item : Item) → IsFoundAgain of again (take (k + 1) found) item → IsFoundAgain of again (take k found) item ⊎ (item ≡ of x)
-    more_cases item is = elim (Contains-push_cases (take k found) x is.one (subst (λ l. Contains l is.one) taken is.there)) [
-      | inl earlier ↦ inl (record { again = is.again; one = is.one; there = earlier; is = is.is })
-      | inr same ↦ inr (sym is.is ∙ ap of (sym same))
-    ]
+    pub more_cases : (item : Item) → IsFoundAgain of again (take (k + 1) found) item
+        → IsFoundAgain of again (take k found) item ⊎ (item ≡ of x)
+    more_cases item is =
+        elim (Contains-push_cases (take k found) x is.one (subst (λ l. Contains l is.one) taken is.there)) [
+          | inl earlier ↦ inl (record { again = is.again; one = is.one; there = earlier; is = is.is })
+          | inr same ↦ inr (sym is.is ∙ ap of (sym same))
+        ]
 
-    pub more_stays : (item : Item) → IsFoundAgain of again (take k found) item → IsFoundAgain of again (take (k + 1) found) item
+    pub more_stays : (item : Item) → IsFoundAgain of again (take k found) item
+        → IsFoundAgain of again (take (k + 1) found) item
     more_stays item is = record {
       again = is.again;
       one = is.one;
@@ -337,7 +361,8 @@ module _ {X : Type 0} (of : X → Item) (again : Item → Bool) (found : List X)
     }
 
     -- an item that isn't judged again changes nothing
-    pub passed : again (of x) ≡ false → (item : Item) → IsFoundAgain of again (take k found) item ↔ IsFoundAgain of again (take (k + 1) found) item
+    pub passed : again (of x) ≡ false → (item : Item)
+        → IsFoundAgain of again (take k found) item ↔ IsFoundAgain of again (take (k + 1) found) item
     passed judged item = (
       more_stays item,
       λ is. elim (more_cases item is) [
@@ -354,14 +379,19 @@ module _ {X : Type 0} (of : X → Item) (again : Item → Bool) (found : List X)
     )
 
     module _ (xs ys zs : List X) where
-      pub found_more : IsOneEach of found → again (of x) ≡ true → HasNew of (IsFoundAgain of again (take k found)) found xs ys → HasNew of (λ item. item ≡ of x) (x ∷ []) ys zs
+      pub found_more : IsOneEach of found → again (of x) ≡ true
+          → HasNew of (IsFoundAgain of again (take k found)) found xs ys
+          → HasNew of (λ item. item ≡ of x) (x ∷ []) ys zs
           → HasNew of (IsFoundAgain of again (take (k + 1) found)) found xs zs
       found_more one_each judged before after =
-          HasNew-more of (IsFoundAgain of again (take k found)) (IsFoundAgain of again (take (k + 1) found)) (of x) found (x ∷ []) xs ys zs more_cases more_stays (more_here judged)
+          HasNew-more of (IsFoundAgain of again (take k found)) (IsFoundAgain of again (take (k + 1) found))
+          (of x) found (x ∷ []) xs ys zs more_cases more_stays (more_here judged)
           (just_found one_each) before after
 
-    pub none_more : {Y : Type 0} (by : Y → Item) (xs ys zs : List Y) → again (of x) ≡ true → HasNew by (IsFoundAgain of again (take k found)) [] xs ys → HasNew by (λ item. item ≡ of x) [] ys zs
+    pub none_more : {Y : Type 0} (by : Y → Item) (xs ys zs : List Y) → again (of x) ≡ true
+        → HasNew by (IsFoundAgain of again (take k found)) [] xs ys → HasNew by (λ item. item ≡ of x) [] ys zs
         → HasNew by (IsFoundAgain of again (take (k + 1) found)) [] xs zs
     none_more by xs ys zs judged before after =
-        HasNew-more by (IsFoundAgain of again (take k found)) (IsFoundAgain of again (take (k + 1) found)) (of x) [] [] xs ys zs more_cases more_stays (more_here judged)
+        HasNew-more by (IsFoundAgain of again (take k found)) (IsFoundAgain of again (take (k + 1) found))
+        (of x) [] [] xs ys zs more_cases more_stays (more_here judged)
         (λ y same. (λ has. has, λ has. has)) before after

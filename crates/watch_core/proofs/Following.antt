@@ -1,5 +1,7 @@
 -- What an evaluator keeps is brought up from what begins a journal to all of it.
-use Rattle.std.proofs.Common.{◌≡◌, ◌⊎◌, ◌||◌, ℕ, Bool, true, false, cond, List, [], ◌∷◌, ◌++◌, Contains, Err, None, Ok, Option, Result, Some, filter, length, map, take, drop, refl, sym, ap, ◌∙◌, subst, inl, inr}
+use Rattle.std.proofs.Common.{◌≡◌, ◌⊎◌, ◌||◌, ℕ, Bool, true, false, cond, List, [], ◌∷◌, ◌++◌, Contains, Err, None, Ok}
+use Rattle.std.proofs.Common.{Option, Result, Some, filter, length, map, take, drop, refl, sym, ap, ◌∙◌, subst, inl}
+use Rattle.std.proofs.Common.{inr}
 use Rattle.std.specs.Prelude.{IfOk, IsSome, OnOk, option_and_then, option_map}
 use Rattle.std.specs.Global.{Vec}
 use Rattle.std.specs.Map.{lookup}
@@ -36,7 +38,8 @@ use Rattle.ready_core.specs.declared.verdicts.Left.{Left}
 use Rattle.ready_core.specs.Verdicts.{AreVerdicts, Judged, items_out}
 use Rattle.ready_core.specs.WholeLaws.{on_all_items}
 use Rattle.watch_core.specs.BroughtUp.{AreRankedVerdicts, HoldsItems, IsBroughtUp}
-use Rattle.watch_core.specs.Namers.{HaveNamers, HaveRows, HoldNamers, IsNamer, KeepsNamers, Namers, Rows, has_item, is_again, is_reached, row_of, rows_of}
+use Rattle.watch_core.specs.Namers.{HaveNamers, HaveRows, HoldNamers, IsNamer, KeepsNamers, Namers, Rows, has_item}
+use Rattle.watch_core.specs.Namers.{is_again, is_reached, row_of, rows_of}
 use Rattle.watch_core.specs.Placed.{AreLists, FindsAgain, IsIn, IsOneEach, StandOnce, item_of, node_of}
 use Rattle.watch_core.specs.Touched.{HoldsWhatWaits, touches}
 use Rattle.watch_core.specs.Untouched.{IsUntouched, others}
@@ -51,7 +54,8 @@ use Rattle.watch_core.proofs.Spread.{all_held, holds_what_waits}
 use Rattle.watch_core.proofs.Stays.{after_is, rest_untouched}
 
 -- ---- what waits for a change, as lists
-row_kept : (number : ℕ) (entries : List (ℕ × Vec Item)) → row_of (lookup (λ key. is_eq (nat_cmp number key)) (map (λ (entry : ℕ × Vec Item). (entry.0, entry.1.items)) entries))
+row_kept : (number : ℕ) (entries : List (ℕ × Vec Item)) → row_of
+    (lookup (λ key. is_eq (nat_cmp number key)) (map (λ (entry : ℕ × Vec Item). (entry.0, entry.1.items)) entries))
     ≡ items_at (lookup (λ key. is_eq (nat_cmp number key)) entries)
 row_kept number [] = refl
 row_kept number (entry ∷ entries) = by_key (is_eq (nat_cmp number entry.0)) (row_kept number entries) where
@@ -61,43 +65,54 @@ row_kept number (entry ∷ entries) = by_key (is_eq (nat_cmp number entry.0)) (r
   by_key true rest = refl
   by_key false rest = rest
 
-pub rows_have : (gate : GateRules) (state : State) (namers : Namers) → HaveNamers gate state namers → HaveRows gate state (rows_of namers)
-rows_have gate state namers have = λ item number target. subst (λ l. Contains l item) (sym (row_kept number namers.entries)) (have item number target)
+pub rows_have : (gate : GateRules) (state : State) (namers : Namers) → HaveNamers gate state namers
+    → HaveRows gate state (rows_of namers)
+rows_have gate state namers have =
+    λ item number target. subst (λ l. Contains l item) (sym (row_kept number namers.entries)) (have item number target)
 
-namers_have : (gate : GateRules) (state : State) (namers : Namers) → HaveRows gate state (rows_of namers) → HaveNamers gate state namers
-namers_have gate state namers have = λ item number target. subst (λ l. Contains l item) (row_kept number namers.entries) (have item number target)
+namers_have : (gate : GateRules) (state : State) (namers : Namers) → HaveRows gate state (rows_of namers)
+    → HaveNamers gate state namers
+namers_have gate state namers have =
+    λ item number target. subst (λ l. Contains l item) (row_kept number namers.entries) (have item number target)
 
 -- ---- what is judged again
-pub again_reached : (touched : BTreeSet ℕ) (later : List Operation) (all : Bool) (items : BTreeSet (ℕ × ℕ)) → ((number : ℕ) → contains nat_cmp touched number ≡ touches later number)
+pub again_reached : (touched : BTreeSet ℕ) (later : List Operation) (all : Bool) (items : BTreeSet (ℕ × ℕ))
+    → ((number : ℕ) → contains nat_cmp touched number ≡ touches later number)
     → is_again touched all items ≡ is_reached later all items
 again_reached touched later all items same = λ i item. same item.change i || (all || has_item items item)
 
 -- ---- an item that is known stays known
-known_by : (f : Timestamp × Patch → Timestamp × Patch → Timestamp × Patch) (old found : Option (Timestamp × Patch)) → IsSome old → IsSome (option_joined f old found)
+known_by : (f : Timestamp × Patch → Timestamp × Patch → Timestamp × Patch) (old found : Option (Timestamp × Patch))
+    → IsSome old → IsSome (option_joined f old found)
 known_by f (Some old) None is = is
 known_by f (Some old) (Some new) is = is
 known_by f None found is = cc
 
-known_on : (old : Change) (set : ℕ) (found : Option Change) → IsKnownSet old set → (new : Change) × (option_joined change_joined (Some old) found ≡ Some new) × IsKnownSet new set
+known_on : (old : Change) (set : ℕ) (found : Option Change) → IsKnownSet old set
+    → (new : Change) × (option_joined change_joined (Some old) found ≡ Some new) × IsKnownSet new set
 known_on old set None known = (old, refl, known)
 known_on old set (Some change) known =
     (change_joined old change, refl, subst IsSome (sym (get-map_joined numbers_exact (ord_max patch_order) old.sets change.sets set)) (known_by (ord_max patch_order) (finite.get old.sets set) (finite.get change.sets set) known))
 
-pub stays_item : (journal later : List Operation) (item : Item) → IsItem (state_of journal) item → IsItem (state_of (journal ++ later)) item
+pub stays_item : (journal later : List Operation) (item : Item) → IsItem (state_of journal) item
+    → IsItem (state_of (journal ++ later)) item
 stays_item journal later item is =
     let new = known_on is.0 item.set (finite.get (state_of later) item.change) is.2 in
     (new.0, after_is journal later item.change ∙ ap (λ found. option_joined change_joined found (finite.get (state_of later) item.change)) is.1 ∙ new.1, new.2)
 
 -- ---- an item that names a change is known
-known_of_message : (found : Option (Timestamp × Patch)) (message : List ℕ) → option_map (λ (register : Timestamp × Patch). register.1.message) found ≡ Some message → IsSome found
+known_of_message : (found : Option (Timestamp × Patch)) (message : List ℕ)
+    → option_map (λ (register : Timestamp × Patch). register.1.message) found ≡ Some message → IsSome found
 known_of_message None message is = cc
 known_of_message (Some register) message is = refl
 
-known_of_parent : (found : Option (Timestamp × Patch)) (parent : ℕ) → option_and_then (λ (register : Timestamp × Patch). register.1.parent) found ≡ Some parent → IsSome found
+known_of_parent : (found : Option (Timestamp × Patch)) (parent : ℕ)
+    → option_and_then (λ (register : Timestamp × Patch). register.1.parent) found ≡ Some parent → IsSome found
 known_of_parent None parent is = cc
 known_of_parent (Some register) parent is = refl
 
-names_is_item : (gate : GateRules) (state : State) (item : Item) (number : ℕ) → Names gate state item number → IsItem state item
+names_is_item : (gate : GateRules) (state : State) (item : Item) (number : ℕ) → Names gate state item number
+    → IsItem state item
 names_is_item gate state item number names = elim names [
   | inl needed ↦ (needed.change, needed.stands, known_of_message (finite.get needed.change.sets item.set) needed.message needed.said)
   | inr parent ↦ (parent.change, parent.stands, known_of_parent (finite.get parent.change.sets item.set) number parent.parent)
@@ -106,16 +121,19 @@ names_is_item gate state item number names = elim names [
 -- what an item of a graph waits for is kept
 module _ (gate : GateRules) (state : State) (graph : ItemGraph) (is : IsGraphOf gate state graph) (new : Namers)
     (names : (item : Item) (row : List ℕ) (number : ℕ) → StandsAt graph.items graph.targets item row → Contains row number → IsNamer new number item) where
-  named_here : (item : Item) (number : ℕ) → Contains graph.items item → IsTarget gate state item number → IsNamer new number item
+  named_here : (item : Item) (number : ℕ) → Contains graph.items item → IsTarget gate state item number
+      → IsNamer new number item
   named_here item number here target =
       let at = at_Contains graph.items item here in
       let row = AllZip-at (AreTargets gate state) graph.items graph.targets is.targets at.0 item at.1 in
       names item row.0 number (record { place = at.0; here = at.1; there = row.1 }) ((row.2.each number).1 target)
 
   pub names_all : AreItems state graph.items → HaveNamers gate state new
-  names_all whole = λ item number target. named_here item number ((whole.each item).1 (names_is_item gate state item number target.0)) target
+  names_all whole = λ item number target. named_here item number
+      ((whole.each item).1 (names_is_item gate state item number target.0)) target
 
-  pub names_on : (before : State) (reached : Item → Bool) (old : Namers) → IsUntouched gate before state (others reached) → HoldsItems state reached graph.items → KeepsNamers old new
+  pub names_on : (before : State) (reached : Item → Bool) (old : Namers)
+      → IsUntouched gate before state (others reached) → HoldsItems state reached graph.items → KeepsNamers old new
       → HaveNamers gate before old → HaveNamers gate state new
   names_on before reached old untouched holds keeps have = λ item number target. elim (either (reached item)) [
     | inl again ↦ named_here item number (holds item (names_is_item gate state item number target.0) again) target
@@ -132,12 +150,15 @@ same_ranks : (a b : ItemRank) → to_rank a ≡ to_rank b → a ≡ b
 same_ranks a b e = ap (λ (rank : Rank Item). record { count = rank.count; first = rank.first; node = rank.node }) e
 
 -- the ranks of ready items are one for each item
-one_rank : (gate : GateRules) (state : State) (ranks : List (Rank Item)) → AreReadyRanks gate state ranks → IsOneEach (λ (rank : Rank Item). rank.node) ranks
+one_rank : (gate : GateRules) (state : State) (ranks : List (Rank Item)) → AreReadyRanks gate state ranks
+    → IsOneEach (λ (rank : Rank Item). rank.node) ranks
 one_rank gate state ranks are = record { one = λ a b has also same. rank_same items_order (IsDependency gate state) (IsReady gate state) a b (are a has) (are b also) same }
 
-module _ (gate : GateRules) (state : State) (kept : Judged) (verdicts : AreVerdicts gate state kept) (namers : Rows) where
+module _ (gate : GateRules) (state : State) (kept : Judged) (verdicts : AreVerdicts gate state kept)
+    (namers : Rows) where
   -- as the lists into which what is found is put
-  pub lists_kept : (ranks : List ItemRank) → AreKept gate state (map to_rank ranks) namers kept → AreLists kept.ready ranks kept.out
+  pub lists_kept : (ranks : List ItemRank) → AreKept gate state (map to_rank ranks) namers kept
+      → AreLists kept.ready ranks kept.out
   lists_kept ranks keeps = record {
     ranked = record {
       nodes = keeps.ready ∙ nodes_of ranks;
@@ -155,13 +176,16 @@ module _ (gate : GateRules) (state : State) (kept : Judged) (verdicts : AreVerdi
     };
   }
 
-  pub were : (ranks : List (Rank Item)) → AreKept gate state ranks namers kept → AreRankedVerdicts gate state (record { ranks = ranks; out = kept.out })
+  pub were : (ranks : List (Rank Item)) → AreKept gate state ranks namers kept
+      → AreRankedVerdicts gate state (record { ranks = ranks; out = kept.out })
   were ranks keeps =
-      let same : kept ≡ record { ready = map (λ (rank : Rank Item). rank.node) ranks; out = kept.out } = λ i. record { ready = keeps.ready i; out = kept.out } in
+      let same : kept ≡ record { ready = map (λ (rank : Rank Item). rank.node) ranks; out = kept.out } =
+      λ i. record { ready = keeps.ready i; out = kept.out } in
       record { verdicts = subst (AreVerdicts gate state) same verdicts; ranks = keeps.ranks }
 
-  -- what stands in kept verdicts is an item
-  pub kept_items : (ranks : List (Rank Item)) → AreKept gate state ranks namers kept → (item : Item) → IsIn (record { ranks = ranks; out = kept.out }) item → IsItem state item
+  -- what is in kept verdicts is an item
+  pub kept_items : (ranks : List (Rank Item)) → AreKept gate state ranks namers kept → (item : Item)
+      → IsIn (record { ranks = ranks; out = kept.out }) item → IsItem state item
   kept_items ranks keeps item is = elim is [
     | inl here ↦
         let ready = (verdicts.ready item).0 (subst (λ l. Contains l item) (sym keeps.ready) here) in
@@ -170,7 +194,8 @@ module _ (gate : GateRules) (state : State) (kept : Judged) (verdicts : AreVerdi
   ]
 
 -- ---- what was found
-module _ (gate : GateRules) (state : State) (items : List Item) (found : RankedVerdicts) (are : AreRankedVerdictsOn gate state items found) where
+module _ (gate : GateRules) (state : State) (items : List Item) (found : RankedVerdicts)
+    (are : AreRankedVerdictsOn gate state items found) where
   pub found_once : StandOnce found
   found_once = record {
     ranks = one_rank gate state found.ranks are.ranks;
@@ -183,19 +208,23 @@ module _ (gate : GateRules) (state : State) (items : List Item) (found : RankedV
     };
   }
 
-  -- each of the items stands in what was found
+  -- each of the items is in what was found
   pub found_in : (item : Item) → Contains items item → IsIn found item
   found_in item here = elim (has_or_not (map (λ (rank : Rank Item). rank.node) found.ranks) item) [
     | inl ready ↦ inl ready
     | inr unready ↦ elim (has_or_not (items_out found.out) item) [
       | inl out ↦ inr out
-      | inr in_none ↦ absurd (in_none ((are.verdicts.out item).1 (here, λ ready. unready ((are.verdicts.ready item).1 (here, ready)))))
+      | inr in_none ↦ absurd
+          (in_none ((are.verdicts.out item).1 (here, λ ready. unready ((are.verdicts.ready item).1 (here, ready)))))
     ]
   ]
 
 -- ---- an evaluator that has seen what begins a journal, and what it finds at all of it
-module _ (gate : GateRules) (journal : List Operation) (seen : ℕ) (kept : Judged) (ranks : List (Rank Item)) (namers : Namers)
-    (verdicts : AreVerdicts gate (state_of (take seen journal)) kept) (keeps : AreKept gate (state_of (take seen journal)) ranks (rows_of namers) kept) (all : Bool) (more : BTreeSet (ℕ × ℕ))
+module _ (gate : GateRules) (journal : List Operation) (seen : ℕ) (kept : Judged) (ranks : List (Rank Item))
+    (namers : Namers)
+    (verdicts : AreVerdicts gate (state_of (take seen journal)) kept)
+    (keeps : AreKept gate (state_of (take seen journal)) ranks (rows_of namers) kept) (all : Bool)
+    (more : BTreeSet (ℕ × ℕ))
     (holds : HoldNamers (state_of journal) namers (drop seen journal) (is_reached (drop seen journal) all more)) where
   abbrev reached : Item → Bool
   reached = is_reached (drop seen journal) all more
@@ -204,20 +233,26 @@ module _ (gate : GateRules) (journal : List Operation) (seen : ℕ) (kept : Judg
   old = record { ranks = ranks; out = kept.out }
 
   waits : HoldsWhatWaits gate (take seen journal) (drop seen journal) reached
-  waits = holds_what_waits gate (take seen journal) (drop seen journal) namers all more (namers_have gate (state_of (take seen journal)) namers keeps.namers)
+  waits = holds_what_waits gate (take seen journal) (drop seen journal) namers all more
+      (namers_have gate (state_of (take seen journal)) namers keeps.namers)
       (subst (λ l. HoldNamers (state_of l) namers (drop seen journal) reached) (sym (take-append-drop seen journal)) holds)
 
   untouched : IsUntouched gate (state_of (take seen journal)) (state_of journal) (others reached)
-  untouched = subst (λ l. IsUntouched gate (state_of (take seen journal)) (state_of l) (others reached)) (take-append-drop seen journal)
+  untouched = subst (λ l. IsUntouched gate (state_of (take seen journal)) (state_of l) (others reached))
+      (take-append-drop seen journal)
       (rest_untouched gate (take seen journal) (drop seen journal) reached waits)
 
   stays : (item : Item) → IsItem (state_of (take seen journal)) item → IsItem (state_of journal) item
-  stays item is = subst (λ l. IsItem (state_of l) item) (take-append-drop seen journal) (stays_item (take seen journal) (drop seen journal) item is)
+  stays item is = subst (λ l. IsItem (state_of l) item) (take-append-drop seen journal)
+      (stays_item (take seen journal) (drop seen journal) item is)
 
-  module _ (graph : ItemGraph) (is : IsGraphOf gate (state_of journal) graph) (has : HoldsItems (state_of journal) reached graph.items) where
+  module _ (graph : ItemGraph) (is : IsGraphOf gate (state_of journal) graph)
+      (has : HoldsItems (state_of journal) reached graph.items) where
     pub namers_follow : (new : Namers) → ((item : Item) (row : List ℕ) (number : ℕ) → StandsAt graph.items graph.targets item row → Contains row number → IsNamer new number item) → KeepsNamers namers new
         → HaveNamers gate (state_of journal) new
-    namers_follow new names kept_too = names_on gate (state_of journal) graph is new names (state_of (take seen journal)) reached namers untouched has kept_too (namers_have gate (state_of (take seen journal)) namers keeps.namers)
+    namers_follow new names kept_too = names_on gate (state_of journal) graph is new names
+        (state_of (take seen journal)) reached namers untouched has kept_too
+        (namers_have gate (state_of (take seen journal)) namers keeps.namers)
 
     module _ (found : RankedVerdicts) (are : AreRankedVerdictsOn gate (state_of journal) graph.items found) where
       pub finds : FindsAgain reached old found
@@ -226,27 +261,39 @@ module _ (gate : GateRules) (journal : List Operation) (seen : ℕ) (kept : Judg
             (has item (stays item (kept_items gate (state_of (take seen journal)) kept verdicts (rows_of namers) ranks keeps item stands)) again);
       }
 
-      pub ranked_follow : (new : RankedVerdicts) → IsBroughtUp reached old found new → AreRankedVerdicts gate (state_of journal) new
-      ranked_follow new up = brought_up gate (state_of (take seen journal)) (state_of journal) reached untouched old found new (were gate (state_of (take seen journal)) kept verdicts (rows_of namers) ranks keeps)
+      pub ranked_follow : (new : RankedVerdicts) → IsBroughtUp reached old found new
+          → AreRankedVerdicts gate (state_of journal) new
+      ranked_follow new up = brought_up gate (state_of (take seen journal))
+          (state_of journal) reached untouched old found new
+          (were gate (state_of (take seen journal)) kept verdicts (rows_of namers) ranks keeps)
           graph.items are has up
 
 -- ---- what holds what waits does so where more is judged again
-pub held_wide : (state : State) (namers : Namers) (later : List Operation) (all wide : Bool) (items wide_items : BTreeSet (ℕ × ℕ)) → wide_items ≡ items → (wide ≡ all) ⊎ (wide ≡ true)
-    → HoldNamers state namers later (is_reached later all items) → HoldNamers state namers later (is_reached later wide wide_items)
+pub held_wide : (state : State) (namers : Namers) (later : List Operation) (all wide : Bool)
+    (items wide_items : BTreeSet (ℕ × ℕ)) → wide_items ≡ items → (wide ≡ all) ⊎ (wide ≡ true)
+    → HoldNamers state namers later (is_reached later all items)
+    → HoldNamers state namers later (is_reached later wide wide_items)
 held_wide state namers later all wide items wide_items same (inl as_it_was) holds =
-    subst (λ a. HoldNamers state namers later (is_reached later a wide_items)) (sym as_it_was) (subst (λ l. HoldNamers state namers later (is_reached later all l)) (sym same) holds)
-held_wide state namers later all wide items wide_items same (inr whole) holds = subst (λ a. HoldNamers state namers later (is_reached later a wide_items)) (sym whole) (all_held state namers later wide_items)
+    subst (λ a. HoldNamers state namers later (is_reached later a wide_items)) (sym as_it_was)
+    (subst (λ l. HoldNamers state namers later (is_reached later all l)) (sym same) holds)
+held_wide state namers later all wide items wide_items same (inr whole) holds = subst
+    (λ a. HoldNamers state namers later (is_reached later a wide_items)) (sym whole)
+    (all_held state namers later wide_items)
 
 -- ---- a graph that holds what is reached has as many touched items as the state
-pub count_again : (gate : GateRules) (state : State) (graph : ItemGraph) (later : List Operation) (all : Bool) (more : BTreeSet (ℕ × ℕ)) → IsGraphOf gate state graph
-    → HoldsItems state (is_reached later all more) graph.items → (count : ℕ) → AreTouchedItems state later count → length (filter (is_of_touched later) graph.items) ≡ count
+pub count_again : (gate : GateRules) (state : State) (graph : ItemGraph) (later : List Operation) (all : Bool)
+    (more : BTreeSet (ℕ × ℕ)) → IsGraphOf gate state graph
+    → HoldsItems state (is_reached later all more) graph.items → (count : ℕ) → AreTouchedItems state later count
+    → length (filter (is_of_touched later) graph.items) ≡ count
 count_again gate state graph later all more is has count are =
     touched_count state graph.items later count is.items.in_order is.items.each
     (λ item there touched. has item there (ap (λ test. test || (all || has_item more item)) touched)) are
 
 -- ---- verdicts with what is kept beside them, from their lists
-pub kept_on : (gate : GateRules) (state : State) (verdicts : Judged) (ranks : List ItemRank) (namers : Namers) → AreRankedVerdicts gate state (record { ranks = map to_rank ranks; out = verdicts.out })
-    → verdicts.ready ≡ map node_of ranks → IsStrictlySortedBy (rank_cmp item_cmp) (map to_rank ranks) → HaveNamers gate state namers
+pub kept_on : (gate : GateRules) (state : State) (verdicts : Judged) (ranks : List ItemRank) (namers : Namers)
+    → AreRankedVerdicts gate state (record { ranks = map to_rank ranks; out = verdicts.out })
+    → verdicts.ready ≡ map node_of ranks → IsStrictlySortedBy (rank_cmp item_cmp) (map to_rank ranks)
+    → HaveNamers gate state namers
     → AreVerdicts gate state verdicts × AreKept gate state (map to_rank ranks) (rows_of namers) verdicts
 kept_on gate state verdicts ranks namers are nodes rising have =
     let ready : verdicts.ready ≡ map (λ (rank : Rank Item). rank.node) (map to_rank ranks) = nodes ∙ sym (nodes_of ranks) in
@@ -254,8 +301,14 @@ kept_on gate state verdicts ranks namers are nodes rising have =
     (subst (AreVerdicts gate state) same are.verdicts, record { ready = ready; ranks = are.ranks; rising = rising; namers = rows_have gate state namers have })
 
 -- what was found of all items of a state
-pub ranked_all : (gate : GateRules) (state : State) (items : List Item) (found : RankedVerdicts) → AreItems state items → AreRankedVerdictsOn gate state items found → (ranks : List ItemRank) (out : List Left)
-    → map to_rank ranks ≡ found.ranks → found.out ≡ out → AreRankedVerdicts gate state (record { ranks = map to_rank ranks; out = out })
+pub ranked_all : (gate : GateRules) (state : State) (items : List Item) (found : RankedVerdicts) → AreItems state items
+    → AreRankedVerdictsOn gate state items found → (ranks : List ItemRank) (out : List Left)
+    → map to_rank ranks ≡ found.ranks → found.out ≡ out
+    → AreRankedVerdicts gate state (record { ranks = map to_rank ranks; out = out })
 ranked_all gate state items found whole are ranks out same_ranks same_out =
-    let same : found ≡ record { ranks = map to_rank ranks; out = out } = λ i. record { ranks = sym same_ranks i; out = same_out i } in
-    subst (AreRankedVerdicts gate state) same (record { verdicts = on_all_items gate state items (judged found) whole are.verdicts; ranks = are.ranks })
+    let same : found ≡ record { ranks = map to_rank ranks; out = out } = λ i. record {
+      ranks = sym same_ranks i;
+      out = same_out i;
+    } in
+    subst (AreRankedVerdicts gate state) same
+    (record { verdicts = on_all_items gate state items (judged found) whole are.verdicts; ranks = are.ranks })

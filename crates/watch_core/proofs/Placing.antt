@@ -1,5 +1,6 @@
 -- Lists in order into which an element is put, or from which one is taken, and the place that a binary search finds.
-use Rattle.std.proofs.Common.{◌≡◌, ◌≤◌, ◌<◌, ◌+◌, ℕ, suc, Bool, true, false, List, [], ◌∷◌, ◌++◌, Contains, Some, length, map, take, drop, get_or, refl, sym, ap, ◌∙◌, subst, arith, inl, inr}
+use Rattle.std.proofs.Common.{◌≡◌, ◌≤◌, ◌<◌, ◌+◌, ℕ, suc, Bool, true, false, List, [], ◌∷◌, ◌++◌, Contains, Some}
+use Rattle.std.proofs.Common.{length, map, take, drop, get_or, refl, sym, ap, ◌∙◌, subst, arith, inl, inr}
 use Rattle.std.specs.Prelude.{slice_get, option_map}
 use Rattle.std.specs.List.{AllByRecursion, insert, remove}
 use Rattle.std.specs.declared.cmp.Ordering.{Ordering}
@@ -7,9 +8,11 @@ use Rattle.std.specs.declared.cmp.Ordering.TheVariants.{Less, Equal, Greater}
 use Rattle.std.specs.Ordering.{is_lt, ordering_reverse}
 use Rattle.std.specs.List.Sorted.{IsStrictlySortedBy, IsPartitionedBy, IsPartitionPoint}
 use Rattle.std.proofs.lemmas.Bool.{false≢true}
-use Rattle.std.proofs.lemmas.List.{drop-map, map-append, take-append-drop, take-map, length-take, get_or-take, get_or-drop, length-drop}
+use Rattle.std.proofs.lemmas.List.{drop-map, map-append, take-append-drop, take-map, length-take, get_or-take}
+use Rattle.std.proofs.lemmas.List.{get_or-drop, length-drop}
 use Rattle.std.proofs.Math.Seq.{drop-cons}
-use Rattle.std.proofs.lemmas.List.Elements.{All-from_recursion, recursion_from_All, Contains-append_left, Contains-append_right, Contains-get_or, All-contains}
+use Rattle.std.proofs.lemmas.List.Elements.{All-from_recursion, recursion_from_All, Contains-append_left}
+use Rattle.std.proofs.lemmas.List.Elements.{Contains-append_right, Contains-get_or, All-contains}
 use Rattle.std.proofs.lemmas.Map.Keys.{sorted_tail}
 use Rattle.std.proofs.lemmas.Option.{slice_get-map, slice_get_within, get_or_from_slice_get, slice_get-get_or}
 use Rattle.watch_core.specs.Placed.{IsPlaceFor}
@@ -19,35 +22,42 @@ use Rattle.lattice_core.specs.PlaceLaws.{at_Contains, at_below, earlier_or_same,
 
 -- ---- lists in order, in two parts
 module _ {X : Type 0} (cmp : X → X → Ordering) where
-  pub sorted_cons : (x : X) (xs : List X) → ((y : X) → Contains xs y → cmp x y ≡ Less) → IsStrictlySortedBy cmp xs → IsStrictlySortedBy cmp (x ∷ xs)
+  pub sorted_cons : (x : X) (xs : List X) → ((y : X) → Contains xs y → cmp x y ≡ Less) → IsStrictlySortedBy cmp xs
+      → IsStrictlySortedBy cmp (x ∷ xs)
   unfolding IsStrictlySortedBy
-  sorted_cons x xs above sorted = (recursion_from_All (λ y. cmp x y ≡ Less) xs (λ k d h. above _ (Contains-get_or xs k d h)), sorted)
+  sorted_cons x xs above sorted =
+      (recursion_from_All (λ y. cmp x y ≡ Less) xs (λ k d h. above _ (Contains-get_or xs k d h)), sorted)
 
   pub above_first : (x : X) (xs : List X) → IsStrictlySortedBy cmp (x ∷ xs) → (y : X) → Contains xs y → cmp x y ≡ Less
   unfolding IsStrictlySortedBy
-  above_first x xs sorted y has = All-contains (λ y. cmp x y ≡ Less) xs y (All-from_recursion (λ y. cmp x y ≡ Less) xs sorted.0) has
+  above_first x xs sorted y has =
+      All-contains (λ y. cmp x y ≡ Less) xs y (All-from_recursion (λ y. cmp x y ≡ Less) xs sorted.0) has
 
   pub sorted_left : (xs ys : List X) → IsStrictlySortedBy cmp (xs ++ ys) → IsStrictlySortedBy cmp xs
   unfolding IsStrictlySortedBy
   sorted_left [] ys sorted = tt
   sorted_left (x ∷ xs) ys sorted =
-      sorted_cons x xs (λ y has. above_first x (xs ++ ys) sorted y (Contains-append_left xs ys y has)) (sorted_left xs ys sorted.1)
+      sorted_cons x xs (λ y has. above_first x (xs ++ ys) sorted y (Contains-append_left xs ys y has))
+      (sorted_left xs ys sorted.1)
 
   pub sorted_right : (xs ys : List X) → IsStrictlySortedBy cmp (xs ++ ys) → IsStrictlySortedBy cmp ys
   unfolding IsStrictlySortedBy
   sorted_right [] ys sorted = sorted
   sorted_right (x ∷ xs) ys sorted = sorted_right xs ys sorted.1
 
-  pub left_below : (xs ys : List X) → IsStrictlySortedBy cmp (xs ++ ys) → (x y : X) → Contains xs x → Contains ys y → cmp x y ≡ Less
+  pub left_below : (xs ys : List X) → IsStrictlySortedBy cmp (xs ++ ys) → (x y : X) → Contains xs x → Contains ys y
+      → cmp x y ≡ Less
   unfolding IsStrictlySortedBy
   left_below [] ys sorted x y has also = absurd (Contains-none x has)
   left_below (z ∷ xs) ys sorted x y has also = elim (Contains-cons_cases z xs x has) [
-    | inl same ↦ subst (λ w. cmp w y ≡ Less) same (above_first z (xs ++ ys) sorted y (Contains-append_right xs ys y also))
+    | inl same ↦ subst (λ w. cmp w y ≡ Less) same
+        (above_first z (xs ++ ys) sorted y (Contains-append_right xs ys y also))
     | inr later ↦ left_below xs ys sorted.1 x y later also
   ]
 
   -- one element more
-  pub sorted_inserted : (xs ys : List X) (x : X) → IsStrictlySortedBy cmp (xs ++ ys) → ((y : X) → Contains xs y → cmp y x ≡ Less) → ((y : X) → Contains ys y → cmp x y ≡ Less)
+  pub sorted_inserted : (xs ys : List X) (x : X) → IsStrictlySortedBy cmp (xs ++ ys)
+      → ((y : X) → Contains xs y → cmp y x ≡ Less) → ((y : X) → Contains ys y → cmp x y ≡ Less)
       → IsStrictlySortedBy cmp (xs ++ x ∷ ys)
   sorted_inserted xs ys x sorted below above =
       sorted_append cmp xs (x ∷ ys) (sorted_left xs ys sorted) (sorted_cons x ys above (sorted_right xs ys sorted)) (λ y z has also. elim (Contains-cons_cases x ys z also) [
@@ -56,36 +66,45 @@ module _ {X : Type 0} (cmp : X → X → Ordering) where
       ])
 
   -- and one less
-  pub sorted_removed : (xs ys : List X) (x : X) → IsStrictlySortedBy cmp (xs ++ x ∷ ys) → IsStrictlySortedBy cmp (xs ++ ys)
+  pub sorted_removed : (xs ys : List X) (x : X) → IsStrictlySortedBy cmp (xs ++ x ∷ ys)
+      → IsStrictlySortedBy cmp (xs ++ ys)
   sorted_removed xs ys x sorted =
       sorted_append cmp xs ys (sorted_left xs (x ∷ ys) sorted) (sorted_tail cmp x ys (sorted_right xs (x ∷ ys) sorted))
       (λ y z has also. left_below xs (x ∷ ys) sorted y z has (Contains-later x ys z also))
 
 -- ---- a list in the parts at a place
-pub parts_at : {X : Type 0} (xs : List X) (place : ℕ) (x : X) → slice_get xs place ≡ Some x → xs ≡ take place xs ++ x ∷ drop (suc place) xs
+pub parts_at : {X : Type 0} (xs : List X) (place : ℕ) (x : X) → slice_get xs place ≡ Some x
+    → xs ≡ take place xs ++ x ∷ drop (suc place) xs
 parts_at xs place x at =
     let within = slice_get_within xs place x at in
-    sym (take-append-drop place xs) ∙ ap (λ l. take place xs ++ l) (drop-cons xs place x within ∙ ap (λ y. y ∷ drop (suc place) xs) (get_or_from_slice_get xs place x x at))
+    sym (take-append-drop place xs) ∙ ap (λ l. take place xs ++ l)
+    (drop-cons xs place x within ∙ ap (λ y. y ∷ drop (suc place) xs) (get_or_from_slice_get xs place x x at))
 
-pub sorted_insert : {X : Type 0} (cmp : X → X → Ordering) (xs : List X) (place : ℕ) (x : X) → IsStrictlySortedBy cmp xs → ((y : X) → Contains (take place xs) y → cmp y x ≡ Less)
+pub sorted_insert : {X : Type 0} (cmp : X → X → Ordering) (xs : List X) (place : ℕ) (x : X) → IsStrictlySortedBy cmp xs
+    → ((y : X) → Contains (take place xs) y → cmp y x ≡ Less)
     → ((y : X) → Contains (drop place xs) y → cmp x y ≡ Less) → IsStrictlySortedBy cmp (insert xs place x)
 sorted_insert cmp xs place x sorted below above =
-    sorted_inserted cmp (take place xs) (drop place xs) x (subst (IsStrictlySortedBy cmp) (sym (take-append-drop place xs)) sorted) below above
+    sorted_inserted cmp (take place xs) (drop place xs) x
+    (subst (IsStrictlySortedBy cmp) (sym (take-append-drop place xs)) sorted) below above
 
-pub sorted_remove : {X : Type 0} (cmp : X → X → Ordering) (xs : List X) (place : ℕ) (x : X) → IsStrictlySortedBy cmp xs → slice_get xs place ≡ Some x → IsStrictlySortedBy cmp (remove xs place)
+pub sorted_remove : {X : Type 0} (cmp : X → X → Ordering) (xs : List X) (place : ℕ) (x : X) → IsStrictlySortedBy cmp xs
+    → slice_get xs place ≡ Some x → IsStrictlySortedBy cmp (remove xs place)
 sorted_remove cmp xs place x sorted at =
-    sorted_removed cmp (take place xs) (drop (suc place) xs) x (subst (IsStrictlySortedBy cmp) (parts_at xs place x at) sorted)
+    sorted_removed cmp (take place xs) (drop (suc place) xs) x
+    (subst (IsStrictlySortedBy cmp) (parts_at xs place x at) sorted)
 
 -- ---- order by a key
 module _ {X Y : Type 0} (f : X → Y) (cmp : Y → Y → Ordering) where
   abbrev pub by_key : X → X → Ordering
   by_key x y = cmp (f x) (f y)
 
-  of_row : (y : Y) (xs : List X) → AllByRecursion (λ z. cmp y z ≡ Less) (map f xs) → AllByRecursion (λ x. cmp y (f x) ≡ Less) xs
+  of_row : (y : Y) (xs : List X) → AllByRecursion (λ z. cmp y z ≡ Less) (map f xs)
+      → AllByRecursion (λ x. cmp y (f x) ≡ Less) xs
   of_row y [] all = tt
   of_row y (x ∷ xs) all = (all.0, of_row y xs all.1)
 
-  to_row : (y : Y) (xs : List X) → AllByRecursion (λ x. cmp y (f x) ≡ Less) xs → AllByRecursion (λ z. cmp y z ≡ Less) (map f xs)
+  to_row : (y : Y) (xs : List X) → AllByRecursion (λ x. cmp y (f x) ≡ Less) xs
+      → AllByRecursion (λ z. cmp y z ≡ Less) (map f xs)
   to_row y [] all = tt
   to_row y (x ∷ xs) all = (all.0, to_row y xs all.1)
 
@@ -99,23 +118,30 @@ module _ {X Y : Type 0} (f : X → Y) (cmp : Y → Y → Ordering) where
   sorted_to_map [] sorted = tt
   sorted_to_map (x ∷ xs) sorted = (to_row (f x) xs sorted.0, sorted_to_map xs sorted.1)
 
-pub map-insert : {X Y : Type 0} (f : X → Y) (xs : List X) (place : ℕ) (x : X) → map f (insert xs place x) ≡ insert (map f xs) place (f x)
+pub map-insert : {X Y : Type 0} (f : X → Y) (xs : List X) (place : ℕ) (x : X)
+    → map f (insert xs place x) ≡ insert (map f xs) place (f x)
 map-insert f xs place x =
-    map-append f (take place xs) (x ∷ drop place xs) ∙ ap (λ l. l ++ f x ∷ map f (drop place xs)) (sym (take-map f place xs))
+    map-append f (take place xs) (x ∷ drop place xs)
+    ∙ ap (λ l. l ++ f x ∷ map f (drop place xs)) (sym (take-map f place xs))
     ∙ ap (λ l. take place (map f xs) ++ f x ∷ l) (sym (drop-map f place xs))
 
-pub map-remove : {X Y : Type 0} (f : X → Y) (xs : List X) (place : ℕ) → map f (remove xs place) ≡ remove (map f xs) place
+pub map-remove : {X Y : Type 0} (f : X → Y) (xs : List X) (place : ℕ)
+    → map f (remove xs place) ≡ remove (map f xs) place
 map-remove f xs place =
-    map-append f (take place xs) (drop (suc place) xs) ∙ ap (λ l. l ++ map f (drop (suc place) xs)) (sym (take-map f place xs))
+    map-append f (take place xs) (drop (suc place) xs)
+    ∙ ap (λ l. l ++ map f (drop (suc place) xs)) (sym (take-map f place xs))
     ∙ ap (λ l. take place (map f xs) ++ l) (sym (drop-map f (suc place) xs))
 
 -- what is put to its place
-pub sorted_put : {X Y : Type 0} (f : X → Y) (cmp : Y → Y → Ordering) (xs : List X) (x : X) (place : ℕ) → IsStrictlySortedBy cmp (map f xs) → IsPlaceFor f cmp xs (f x) place
+pub sorted_put : {X Y : Type 0} (f : X → Y) (cmp : Y → Y → Ordering) (xs : List X) (x : X) (place : ℕ)
+    → IsStrictlySortedBy cmp (map f xs) → IsPlaceFor f cmp xs (f x) place
     → IsStrictlySortedBy cmp (map f (insert xs place x))
 sorted_put f cmp xs x place sorted is =
-    sorted_to_map f cmp (insert xs place x) (sorted_insert (by_key f cmp) xs place x (sorted_of_map f cmp xs sorted) is.before is.behind)
+    sorted_to_map f cmp (insert xs place x)
+    (sorted_insert (by_key f cmp) xs place x (sorted_of_map f cmp xs sorted) is.before is.behind)
 
-pub sorted_taken : {X Y : Type 0} (f : X → Y) (cmp : Y → Y → Ordering) (xs : List X) (x : X) (place : ℕ) → IsStrictlySortedBy cmp (map f xs) → slice_get xs place ≡ Some x
+pub sorted_taken : {X Y : Type 0} (f : X → Y) (cmp : Y → Y → Ordering) (xs : List X) (x : X) (place : ℕ)
+    → IsStrictlySortedBy cmp (map f xs) → slice_get xs place ≡ Some x
     → IsStrictlySortedBy cmp (map f (remove xs place))
 sorted_taken f cmp xs x place sorted at =
     sorted_to_map f cmp (remove xs place) (sorted_remove (by_key f cmp) xs place x (sorted_of_map f cmp xs sorted) at)
@@ -132,23 +158,28 @@ of_less r e = subst (λ o. is_lt o ≡ true) (sym e) refl
 same_place : (place point : ℕ) → ¬ (place < point) → ¬ (point < place) → place ≡ point
 same_place place point p q = omega (arith, p, q)
 
--- whether an element stands before a key
+-- whether an element comes before a key
 abbrev pub comes_before : {X Y : Type 0} → (X → Y) → (Y → Y → Ordering) → Y → X → Bool
 comes_before f cmp key x = is_lt (cmp (f x) key)
 
-above_key : {Y : Type 0} {cmp : Y → Y → Ordering} → IsExactOrder cmp → (key y : Y) (r : Ordering) → cmp y key ≡ r → is_lt r ≡ false → ¬ (y ≡ key) → cmp key y ≡ Less
+above_key : {Y : Type 0} {cmp : Y → Y → Ordering} → IsExactOrder cmp → (key y : Y) (r : Ordering) → cmp y key ≡ r
+    → is_lt r ≡ false → ¬ (y ≡ key) → cmp key y ≡ Less
 above_key order key y Less e fails other = absurd (false≢true (sym fails))
 above_key order key y Equal e fails other = absurd (other (order.exact y key e))
 above_key order key y Greater e fails other = order.total.antisymm key y ∙ ap ordering_reverse e
 
-module _ {X Y : Type 0} (f : X → Y) {cmp : Y → Y → Ordering} (order : IsExactOrder cmp) (xs : List X) (sorted : IsStrictlySortedBy cmp (map f xs)) (key : Y) where
+module _ {X Y : Type 0} (f : X → Y) {cmp : Y → Y → Ordering} (order : IsExactOrder cmp) (xs : List X)
+    (sorted : IsStrictlySortedBy cmp (map f xs)) (key : Y) where
   at_key : (place : ℕ) (x : X) → slice_get xs place ≡ Some x → slice_get (map f xs) place ≡ Some (f x)
   at_key place x here = slice_get-map f xs place ∙ ap (option_map f) here
 
-  below_at : (i j : ℕ) (x y : X) → i ≤ j → slice_get xs i ≡ Some x → slice_get xs j ≡ Some y → cmp (f y) key ≡ Less → cmp (f x) key ≡ Less
+  below_at : (i j : ℕ) (x y : X) → i ≤ j → slice_get xs i ≡ Some x → slice_get xs j ≡ Some y → cmp (f y) key ≡ Less
+      → cmp (f x) key ≡ Less
   below_at i j x y h at_i at_j less = elim (earlier_or_same i j h) [
-    | inl earlier ↦ order.total.trans (f x) (f y) key (sorted_at cmp (map f xs) sorted i j (f x) (f y) earlier (at_key i x at_i) (at_key j y at_j)) less
-    | inr same ↦ subst (λ z. cmp (f z) key ≡ Less) (one_item xs j y x at_j (subst (λ k. slice_get xs k ≡ Some x) same at_i)) less
+    | inl earlier ↦ order.total.trans (f x) (f y) key
+        (sorted_at cmp (map f xs) sorted i j (f x) (f y) earlier (at_key i x at_i) (at_key j y at_j)) less
+    | inr same ↦ subst (λ z. cmp (f z) key ≡ Less)
+        (one_item xs j y x at_j (subst (λ k. slice_get xs k ≡ Some x) same at_i)) less
   ]
 
   pub partitioned : IsPartitionedBy (comes_before f cmp key) xs
@@ -157,12 +188,14 @@ module _ {X Y : Type 0} (f : X → Y) {cmp : Y → Y → Ordering} (order : IsEx
 
   module _ (point : ℕ) (is : IsPartitionPoint (λ x. comes_before f cmp key x ≡ true) (λ x. comes_before f cmp key x ≡ false) xs point) where
     passes : (place : ℕ) (x : X) → slice_get xs place ≡ Some x → place < point → comes_before f cmp key x ≡ true
-    passes place x here less = subst (λ y. comes_before f cmp key y ≡ true) (get_or_from_slice_get xs place x x here) (is.0 place x (omega arith) less)
+    passes place x here less = subst (λ y. comes_before f cmp key y ≡ true) (get_or_from_slice_get xs place x x here)
+        (is.0 place x (omega arith) less)
 
     fails : (place : ℕ) (x : X) → slice_get xs place ≡ Some x → point ≤ place → comes_before f cmp key x ≡ false
-    fails place x here h = subst (λ y. comes_before f cmp key y ≡ false) (get_or_from_slice_get xs place x x here) (is.1 place x h (slice_get_within xs place x here))
+    fails place x here h = subst (λ y. comes_before f cmp key y ≡ false) (get_or_from_slice_get xs place x x here)
+        (is.1 place x h (slice_get_within xs place x here))
 
-    -- an element with the key stands at the point
+    -- an element with the key is at the point
     stands_there : (place : ℕ) (x : X) → slice_get xs place ≡ Some x → f x ≡ key → place ≡ point
     stands_there place x here of = same_place place point
         (λ less. not_below_itself order.total key (subst (λ y. cmp y key ≡ Less) of (less_of _ (passes place x here less))))
@@ -184,13 +217,16 @@ module _ {X Y : Type 0} (f : X → Y) {cmp : Y → Y → Ordering} (order : IsEx
         subst (λ y. cmp (f y) key ≡ Less) read (less_of _ (is.0 has.0 x (omega arith) less))
 
     -- where no element has the key
-    behind_point : ((x : X) → Contains xs x → ¬ (f x ≡ key)) → (x : X) → Contains (drop point xs) x → cmp key (f x) ≡ Less
+    behind_point : ((x : X) → Contains xs x → ¬ (f x ≡ key)) → (x : X) → Contains (drop point xs) x
+        → cmp key (f x) ≡ Less
     behind_point none x has =
         let within = has.1 in
         let less : point + has.0 < length xs = omega (arith, within, length-drop point xs) in
         let read : get_or xs (point + has.0) x ≡ x = sym (get_or-drop point xs has.0 x) ∙ has.2 in
         let there : Contains xs x = subst (Contains xs) read (Contains-get_or xs (point + has.0) x less) in
-        above_key order key (f x) (cmp (f x) key) refl (subst (λ y. comes_before f cmp key y ≡ false) read (is.1 (point + has.0) x (omega arith) less)) (none x there)
+        above_key order key (f x) (cmp (f x) key) refl
+        (subst (λ y. comes_before f cmp key y ≡ false) read (is.1 (point + has.0) x (omega arith) less))
+        (none x there)
 
     pub place_for : point ≤ length xs → ((x : X) → Contains xs x → ¬ (f x ≡ key)) → IsPlaceFor f cmp xs key point
     place_for within none = record { within = within; before = before_point; behind = behind_point none }

@@ -1,5 +1,6 @@
 -- What becomes of the lists of verdicts where an item is put or taken out.
-use Rattle.std.proofs.Common.{◌≡◌, ◌<◌, ℕ, List, [], ◌∷◌, Contains, Err, Ok, Result, Some, length, map, set, sym, ap, ◌∙◌, subst, arith, inl, inr}
+use Rattle.std.proofs.Common.{◌≡◌, ◌<◌, ℕ, List, [], ◌∷◌, Contains, Err, Ok, Result, Some, length, map, set, sym, ap}
+use Rattle.std.proofs.Common.{◌∙◌, subst, arith, inl, inr}
 use Rattle.std.specs.Prelude.{OnOk, option_map, slice_get}
 use Rattle.std.specs.List.{remove}
 use Rattle.std.specs.List.Sorted.{IsStrictlySortedBy}
@@ -15,7 +16,8 @@ use Rattle.ready_core.specs.declared.verdicts.Left.{Left}
 use Rattle.ready_core.specs.ItemRanks.{to_rank}
 use Rattle.ready_core.specs.Verdicts.{items_out}
 use Rattle.watch_core.specs.Placed.{AreApart, AreLists, AreReady, HasNew, IsLeftAt, item_of, node_of}
-use Rattle.watch_core.proofs.Exchange.{HasNew-none, apart_on, by_item_total, by_rank_total, exchanged_remove, exchanged_set, one_each_none, one_each_on, one_each_sorted}
+use Rattle.watch_core.proofs.Exchange.{HasNew-none, apart_on, by_item_total, by_rank_total, exchanged_remove}
+use Rattle.watch_core.proofs.Exchange.{exchanged_set, one_each_none, one_each_on, one_each_sorted}
 use Rattle.watch_core.proofs.Placing.{map-remove, sorted_of_map, sorted_taken}
 
 -- two facts of one outcome
@@ -23,8 +25,9 @@ pub both_ok : {T E : Type 0} (r : Result T E) (P Q R : Type 0) → (P → Q → 
 both_ok (Ok value) P Q R gives p q = gives p q
 both_ok (Err error) P Q R gives p q = p
 
--- what stands at a place of a list that is made of another
-of_map_at : {X Y : Type 0} (f : X → Y) (xs : List X) (place : ℕ) (y : Y) → slice_get (map f xs) place ≡ Some y → (x : X) × (slice_get xs place ≡ Some x) × (f x ≡ y)
+-- what is at a place of a list that is made of another
+of_map_at : {X Y : Type 0} (f : X → Y) (xs : List X) (place : ℕ) (y : Y) → slice_get (map f xs) place ≡ Some y
+    → (x : X) × (slice_get xs place ≡ Some x) × (f x ≡ y)
 of_map_at f xs place y at =
     let within = slice_get_within (map f xs) place y at in
     let x = at_below xs place (omega (arith, within, length-map xs f)) in
@@ -43,69 +46,87 @@ nothing : {X : Type 0} (P : X → Type 0) (x : X) → Contains [] x → ¬ P x
 nothing P x has p = Contains-none x has
 
 -- an item that is in no list is changed in none
-pub HasNew-absent : {X : Type 0} (of : X → Item) (item : Item) (xs : List X) → ((x : X) → Contains xs x → ¬ (of x ≡ item)) → HasNew of (λ other. other ≡ item) [] xs xs
-HasNew-absent of item xs absent = HasNew-none of (λ other. other ≡ item) [] xs (λ x. nothing (λ y. of y ≡ item) x) absent
+pub HasNew-absent : {X : Type 0} (of : X → Item) (item : Item) (xs : List X)
+    → ((x : X) → Contains xs x → ¬ (of x ≡ item)) → HasNew of (λ other. other ≡ item) [] xs xs
+HasNew-absent of item xs absent =
+    HasNew-none of (λ other. other ≡ item) [] xs (λ x. nothing (λ y. of y ≡ item) x) absent
 
 -- an item that was taken out is in the list no more
-pub none_left : {X : Type 0} (of : X → Item) (item : Item) (xs ys : List X) → HasNew of (λ other. other ≡ item) [] xs ys → (x : X) → Contains ys x → ¬ (of x ≡ item)
+pub none_left : {X : Type 0} (of : X → Item) (item : Item) (xs ys : List X) → HasNew of (λ other. other ≡ item) [] xs ys
+    → (x : X) → Contains ys x → ¬ (of x ≡ item)
 none_left of item xs ys are x has same = elim ((are.each x).0 has) [
   | inl found ↦ Contains-none x found.1
   | inr kept ↦ kept.0 same
 ]
 
 -- ---- ready items of which one is taken out
-module _ (ready : List Item) (ranks : List ItemRank) (are : AreReady ready ranks) (place : ℕ) (item : Item) (at : slice_get ready place ≡ Some item) where
+module _ (ready : List Item) (ranks : List ItemRank) (are : AreReady ready ranks) (place : ℕ) (item : Item)
+    (at : slice_get ready place ≡ Some item) where
   there : (rank : ItemRank) × (slice_get ranks place ≡ Some rank) × (node_of rank ≡ item)
   there = of_map_at node_of ranks place item (sym (ap (λ (l : List Item). slice_get l place) are.nodes) ∙ at)
 
   pub rank_taken : HasNew node_of (λ other. other ≡ item) [] ranks (remove ranks place)
-  rank_taken = exchanged_remove node_of by_rank_total ranks (sorted_of_map to_rank (rank_cmp item_cmp) ranks are.rising) are.one_each place there.0 there.1 item there.2
+  rank_taken = exchanged_remove node_of by_rank_total ranks
+      (sorted_of_map to_rank (rank_cmp item_cmp) ranks are.rising) are.one_each place there.0 there.1 item there.2
 
   pub ready_taken : AreReady (remove ready place) (remove ranks place)
   ready_taken = record {
     nodes = ap (λ (l : List Item). remove l place) are.nodes ∙ sym (map-remove node_of ranks place);
     rising = sorted_taken to_rank (rank_cmp item_cmp) ranks there.0 place are.rising there.1;
-    one_each = one_each_on node_of (λ other. other ≡ item) [] ranks (remove ranks place) rank_taken (one_each_none node_of) are.one_each;
+    one_each = one_each_on node_of (λ other. other ≡ item) [] ranks (remove ranks place) rank_taken
+        (one_each_none node_of) are.one_each;
   }
 
 -- ---- an item that is left out
-module _ (ready : List Item) (ranks : List ItemRank) (out : List Left) (are : AreLists ready ranks out) (place : ℕ) (item : Item) (is : IsLeftAt out place item) where
+module _ (ready : List Item) (ranks : List ItemRank) (out : List Left) (are : AreLists ready ranks out) (place : ℕ)
+    (item : Item) (is : IsLeftAt out place item) where
   pub rank_absent : HasNew node_of (λ other. other ≡ item) [] ranks ranks
-  rank_absent = HasNew-absent node_of item ranks (λ rank has same. are.apart.none rank is.left has (Contains-at out place is.left is.here) (same ∙ sym is.of))
+  rank_absent = HasNew-absent node_of item ranks
+      (λ rank has same. are.apart.none rank is.left has (Contains-at out place is.left is.here) (same ∙ sym is.of))
 
   pub left_within : place < length out
   left_within = slice_get_within out place is.left is.here
 
   pub left_taken : HasNew item_of (λ other. other ≡ item) [] out (remove out place)
-  left_taken = exchanged_remove item_of by_item_total out (sorted_of_map item_of item_cmp out are.out_in_order) (one_each_sorted item_of out are.out_in_order) place is.left is.here item is.of
+  left_taken = exchanged_remove item_of by_item_total out (sorted_of_map item_of item_cmp out are.out_in_order)
+      (one_each_sorted item_of out are.out_in_order) place is.left is.here item is.of
 
   pub lists_taken : AreLists ready ranks (remove out place)
   lists_taken = record {
     ranked = are.ranked;
     out_in_order = sorted_taken item_of item_cmp out is.left place are.out_in_order is.here;
-    apart = apart_on node_of item_of (λ other. other ≡ item) [] ranks ranks [] out (remove out place) rank_absent left_taken (apart_second node_of item_of []) are.apart;
+    apart = apart_on node_of item_of (λ other. other ≡ item) [] ranks ranks [] out
+        (remove out place) rank_absent left_taken (apart_second node_of item_of []) are.apart;
   }
 
   module _ (left : Left) (of : left.item ≡ item) where
     pub left_set : HasNew item_of (λ other. other ≡ item) (left ∷ []) out (set out place left)
-    left_set = exchanged_set item_of by_item_total out (sorted_of_map item_of item_cmp out are.out_in_order) (one_each_sorted item_of out are.out_in_order) place is.left is.here item is.of left of
+    left_set = exchanged_set item_of by_item_total out (sorted_of_map item_of item_cmp out are.out_in_order)
+        (one_each_sorted item_of out are.out_in_order) place is.left is.here item is.of left of
 
     same_items : items_out (set out place left) ≡ items_out out
-    same_items = map-set item_of out place left ∙ set_same (items_out out) place left.item (slice_get-map item_of out place ∙ ap (option_map item_of) is.here ∙ ap Some (is.of ∙ sym of))
+    same_items = map-set item_of out place left ∙ set_same (items_out out) place left.item
+        (slice_get-map item_of out place ∙ ap (option_map item_of) is.here ∙ ap Some (is.of ∙ sym of))
 
     pub lists_set : AreLists ready ranks (set out place left)
     lists_set = record {
       ranked = are.ranked;
       out_in_order = subst (IsStrictlySortedBy item_cmp) (sym same_items) are.out_in_order;
-      apart = apart_on node_of item_of (λ other. other ≡ item) [] ranks ranks (left ∷ []) out (set out place left) rank_absent left_set (apart_first node_of item_of (left ∷ [])) are.apart;
+      apart = apart_on node_of item_of (λ other. other ≡ item) [] ranks ranks (left ∷ []) out
+          (set out place left) rank_absent left_set (apart_first node_of item_of (left ∷ [])) are.apart;
     }
 
 -- ---- lists of which one is changed at an item that isn't in the other
-pub lists_ranked : (ready ready_new : List Item) (ranks ranks_new : List ItemRank) (out out_new : List Left) (item : Item) (found : List ItemRank) (left : List Left) → AreLists ready ranks out
-    → AreReady ready_new ranks_new → IsStrictlySortedBy item_cmp (items_out out_new) → HasNew node_of (λ other. other ≡ item) found ranks ranks_new → HasNew item_of (λ other. other ≡ item) left out out_new
+pub lists_ranked : (ready ready_new : List Item) (ranks ranks_new : List ItemRank) (out out_new : List Left)
+    (item : Item) (found : List ItemRank) (left : List Left) → AreLists ready ranks out
+    → AreReady ready_new ranks_new → IsStrictlySortedBy item_cmp (items_out out_new)
+    → HasNew node_of (λ other. other ≡ item) found ranks ranks_new
+    → HasNew item_of (λ other. other ≡ item) left out out_new
     → AreApart node_of item_of found left → AreLists ready_new ranks_new out_new
-lists_ranked ready ready_new ranks ranks_new out out_new item found left are ranked in_order of_ranks of_out apart = record {
-  ranked = ranked;
-  out_in_order = in_order;
-  apart = apart_on node_of item_of (λ other. other ≡ item) found ranks ranks_new left out out_new of_ranks of_out apart are.apart;
-}
+lists_ranked ready ready_new ranks ranks_new out out_new item found left are ranked in_order of_ranks of_out apart =
+    record {
+      ranked = ranked;
+      out_in_order = in_order;
+      apart = apart_on node_of item_of
+          (λ other. other ≡ item) found ranks ranks_new left out out_new of_ranks of_out apart are.apart;
+    }

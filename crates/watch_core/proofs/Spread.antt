@@ -1,5 +1,6 @@
 -- What waits for a touched change, or for one that was reached.
-use Rattle.std.proofs.Common.{◌≡◌, ◌⊎◌, ◌+◌, ◌<◌, ℕ, Bool, true, false, cond, ◌||◌, None, Some, List, [], ◌∷◌, ◌++◌, Contains, map, refl, sym, ap, ◌∙◌, subst, inl, inr, arith}
+use Rattle.std.proofs.Common.{◌≡◌, ◌⊎◌, ◌+◌, ◌<◌, ℕ, Bool, true, false, cond, ◌||◌, None, Some, List, [], ◌∷◌, ◌++◌}
+use Rattle.std.proofs.Common.{Contains, map, refl, sym, ap, ◌∙◌, subst, inl, inr, arith}
 use Rattle.std.specs.BTreeMap.{get}
 use Rattle.std.specs.BTreeSet.{BTreeSet, contains}
 use Rattle.std.specs.Global.{Vec}
@@ -20,7 +21,8 @@ use Rattle.state_core.specs.State.{State, state_of}
 use Rattle.state_core.specs.Items.{IsCurrentItem}
 use Rattle.gate_rules.specs.Rules.{GateRules}
 use Rattle.graph_core.specs.Dependencies.{IsDependency}
-use Rattle.watch_core.specs.Namers.{Adds, AreAdded, HaveNamers, HoldNamers, IsNamer, IsSpreading, KeepsNamers, Namers, has_item, is_reached, pair_cmp}
+use Rattle.watch_core.specs.Namers.{Adds, AreAdded, HaveNamers, HoldNamers, IsNamer, IsSpreading, KeepsNamers, Namers}
+use Rattle.watch_core.specs.Namers.{has_item, is_reached, pair_cmp}
 use Rattle.watch_core.specs.Touched.{HoldsWhatWaits, touches}
 use Rattle.watch_core.proofs.KeptLemmas.{touched_of, touches_of}
 use Rattle.watch_core.proofs.Local.{same_current}
@@ -61,18 +63,23 @@ pub below_or_at : (i k : ℕ) → i < k + 1 → (i < k) ⊎ (i ≡ k)
 below_or_at i k less = earlier_or_same i k (omega (arith, less))
 
 -- ---- the items of one change, exchanged
-module _ (old taken new : Namers) (target : ℕ) (row : Vec Item) (removed : (q : ℕ) → get nat_cmp taken q ≡ cond (is_eq (nat_cmp target q)) None (get nat_cmp old q))
+module _ (old taken new : Namers) (target : ℕ) (row : Vec Item)
+    (removed : (q : ℕ) → get nat_cmp taken q ≡ cond (is_eq (nat_cmp target q)) None (get nat_cmp old q))
     (inserted : (q : ℕ) → get nat_cmp new q ≡ cond (is_eq (nat_cmp target q)) (Some row) (get nat_cmp taken q)) where
-  there_by : (number : ℕ) (item : Item) → get nat_cmp new number ≡ Some row → Contains row.items item → IsNamer new number item
+  there_by : (number : ℕ) (item : Item) → get nat_cmp new number ≡ Some row → Contains row.items item
+      → IsNamer new number item
   there_by number item is has = subst (λ found. Contains (items_at found) item) (sym is) has
 
-  kept_by : (carried : (item : Item) → IsNamer old target item → Contains row.items item) (number : ℕ) (item : Item) (hit : Bool) → is_eq (nat_cmp target number) ≡ hit → IsNamer old number item → IsNamer new number item
+  kept_by : (carried : (item : Item) → IsNamer old target item → Contains row.items item) (number : ℕ) (item : Item)
+      (hit : Bool) → is_eq (nat_cmp target number) ≡ hit → IsNamer old number item → IsNamer new number item
   kept_by carried number item true e has =
       let same : target ≡ number = numbers_exact.exact target number (equal_of (nat_cmp target number) e) in
-      there_by number item (inserted number ∙ ap (λ b. cond b (Some row) (get nat_cmp taken number)) e) (carried item (subst (λ n. IsNamer old n item) (sym same) has))
+      there_by number item (inserted number ∙ ap (λ b. cond b (Some row) (get nat_cmp taken number)) e)
+      (carried item (subst (λ n. IsNamer old n item) (sym same) has))
   kept_by carried number item false e has =
       let is : get nat_cmp new number ≡ get nat_cmp old number =
-      inserted number ∙ ap (λ b. cond b (Some row) (get nat_cmp taken number)) e ∙ removed number ∙ ap (λ b. cond b None (get nat_cmp old number)) e in
+      inserted number ∙ ap (λ b. cond b (Some row) (get nat_cmp taken number)) e ∙ removed number
+      ∙ ap (λ b. cond b None (get nat_cmp old number)) e in
       subst (λ found. Contains (items_at found) item) (sym is) has
 
   pub exchanged : ((item : Item) → IsNamer old target item → Contains row.items item) → KeepsNamers old new
@@ -81,23 +88,29 @@ module _ (old taken new : Namers) (target : ℕ) (row : Vec Item) (removed : (q 
 -- one item more
 pub one_more : (state : State) (item : Item) (old new : BTreeSet (ℕ × ℕ)) (before now : List ℕ)
     → ((q : ℕ × ℕ) → contains pair_cmp new q ≡ cond (is_eq (pair_cmp (item.change, item.set) q)) true (contains pair_cmp old q))
-    → contains pair_cmp new (item.change, item.set) ≡ true → ((number : ℕ) → Contains before number → Contains now number)
-    → (IsCurrentItem state item → (has_item old item ≡ true) ⊎ Contains now item.change) → Adds state (λ other. other ≡ item) old before new now
+    → contains pair_cmp new (item.change, item.set) ≡ true
+    → ((number : ℕ) → Contains before number → Contains now number)
+    → (IsCurrentItem state item → (has_item old item ≡ true) ⊎ Contains now item.change)
+    → Adds state (λ other. other ≡ item) old before new now
 one_more state item old new before now updates there stays ahead = record {
-  keeps = λ other has. grown (is_eq (pair_cmp (item.change, item.set) (other.change, other.set))) (has_item old other) (has_item new other) (updates (other.change, other.set)) has;
+  keeps = λ other has. grown (is_eq (pair_cmp (item.change, item.set) (other.change, other.set))) (has_item old other)
+      (has_item new other) (updates (other.change, other.set)) has;
   adds = λ other same. subst (λ i. has_item new i ≡ true) (sym same) there;
   stays = stays;
   ahead = λ other has current. elim (hit_or_old (is_eq (pair_cmp (item.change, item.set) (other.change, other.set))) (has_item old other) (has_item new other) (updates (other.change, other.set)) has) [
     | inl hit ↦
         let same = same_pair item other hit in
-        subst (λ i. (has_item old i ≡ true) ⊎ Contains now i.change) same (ahead (subst (IsCurrentItem state) (sym same) current))
+        subst (λ i. (has_item old i ≡ true) ⊎ Contains now i.change) same
+        (ahead (subst (IsCurrentItem state) (sym same) current))
     | inr was ↦ inl was
   ];
 }
 
 -- and then one item of a list more
-pub more : (state : State) (row : List Item) (item : Item) (old between new : BTreeSet (ℕ × ℕ)) (before middle now : List ℕ)
-    → Adds state (Contains row) old before between middle → Adds state (λ other. other ≡ item) between middle new now → Adds state (Contains (row ++ item ∷ [])) old before new now
+pub more : (state : State) (row : List Item) (item : Item) (old between new : BTreeSet (ℕ × ℕ))
+    (before middle now : List ℕ)
+    → Adds state (Contains row) old before between middle → Adds state (λ other. other ≡ item) between middle new now
+    → Adds state (Contains (row ++ item ∷ [])) old before new now
 more state row item old between new before middle now first next = record {
   keeps = λ other has. next.keeps other (first.keeps other has);
   adds = λ other here. elim (Contains-push_cases row item other here) [
@@ -114,7 +127,8 @@ more state row item old between new before middle now first next = record {
   ];
 }
 
-pub none_more : (state : State) (old : BTreeSet (ℕ × ℕ)) (before : List ℕ) → Adds state (Contains []) old before old before
+pub none_more : (state : State) (old : BTreeSet (ℕ × ℕ)) (before : List ℕ)
+    → Adds state (Contains []) old before old before
 none_more state old before = record {
   keeps = λ item has. has;
   adds = λ item none. absurd (Contains-none item none);
@@ -124,7 +138,8 @@ none_more state old before = record {
 
 -- ---- the search
 module _ (state : State) (namers : Namers) (later : List Operation) where
-  pub spreading_first : (items : BTreeSet (ℕ × ℕ)) (ahead : List ℕ) → items.keys ≡ [] → ahead ≡ map (λ (op : Operation). change_of op.deed) later → IsSpreading state namers later items ahead
+  pub spreading_first : (items : BTreeSet (ℕ × ℕ)) (ahead : List ℕ) → items.keys ≡ []
+      → ahead ≡ map (λ (op : Operation). change_of op.deed) later → IsSpreading state namers later items ahead
   spreading_first items ahead none is = record {
     touched = λ number told_so.
         let found = touched_of later number told_so in
@@ -135,15 +150,18 @@ module _ (state : State) (namers : Namers) (later : List Operation) where
     empty_has : (items : BTreeSet (ℕ × ℕ)) → items.keys ≡ [] → (other : Item) → has_item items other ≡ false
     empty_has items none other = ap (λ (keys : List (ℕ × ℕ)). has_item (record { keys = keys }) other) none
 
-  module _ (old new : BTreeSet (ℕ × ℕ)) (before now : List ℕ) (number : ℕ) (adds : Adds state (IsNamer namers number) old before new now) where
-    told : (other : ℕ) → Contains (before ++ number ∷ []) other ⊎ AreAdded namers old other → Contains now other ⊎ AreAdded namers new other
+  module _ (old new : BTreeSet (ℕ × ℕ)) (before now : List ℕ) (number : ℕ)
+      (adds : Adds state (IsNamer namers number) old before new now) where
+    told : (other : ℕ) → Contains (before ++ number ∷ []) other ⊎ AreAdded namers old other
+        → Contains now other ⊎ AreAdded namers new other
     told other (inl ahead) = elim (Contains-push_cases before number other ahead) [
       | inl earlier ↦ inl (adds.stays other earlier)
       | inr same ↦ inr (subst (AreAdded namers new) same adds.adds)
     ]
     told other (inr added) = inr (λ item names. adds.keeps item (added item names))
 
-    pub spreading_on : IsSpreading state namers later old (before ++ number ∷ []) → IsSpreading state namers later new now
+    pub spreading_on : IsSpreading state namers later old (before ++ number ∷ [])
+        → IsSpreading state namers later new now
     spreading_on is = record {
       touched = λ other told_so. told other (is.touched other told_so);
       current = λ other has current. elim (adds.ahead other has current) [
@@ -152,13 +170,16 @@ module _ (state : State) (namers : Namers) (later : List Operation) where
       ];
     }
 
-  added_all : (items : BTreeSet (ℕ × ℕ)) (number : ℕ) → Contains [] number ⊎ AreAdded namers items number → AreAdded namers items number
+  added_all : (items : BTreeSet (ℕ × ℕ)) (number : ℕ) → Contains [] number ⊎ AreAdded namers items number
+      → AreAdded namers items number
   added_all items number (inl none) = absurd (Contains-none number none)
   added_all items number (inr added) = added
 
-  pub spread_all : (items : BTreeSet (ℕ × ℕ)) → IsSpreading state namers later items [] → HoldNamers state namers later (is_reached later false items)
+  pub spread_all : (items : BTreeSet (ℕ × ℕ)) → IsSpreading state namers later items []
+      → HoldNamers state namers later (is_reached later false items)
   spread_all items is = record {
-    waiting = λ item number names told_so. or_second (touches later item.change) (has_item items item) (added_all items number (is.touched number told_so) item names);
+    waiting = λ item number names told_so. or_second (touches later item.change) (has_item items item)
+        (added_all items number (is.touched number told_so) item names);
     leading = λ item other names current reached.
         or_second (touches later item.change) (has_item items item) (elim (or_cases (touches later other.change) (has_item items other) reached) [
           | inl touched ↦ added_all items other.change (is.touched other.change touched) item names
@@ -173,16 +194,22 @@ module _ (state : State) (namers : Namers) (later : List Operation) where
   }
 
 -- what holds those that are kept as waiting holds all that wait
-pub holds_what_waits : (gate : GateRules) (journal later : List Operation) (namers : Namers) (all : Bool) (items : BTreeSet (ℕ × ℕ)) → HaveNamers gate (state_of journal) namers
-    → HoldNamers (state_of (journal ++ later)) namers later (is_reached later all items) → HoldsWhatWaits gate journal later (is_reached later all items)
+pub holds_what_waits : (gate : GateRules) (journal later : List Operation) (namers : Namers) (all : Bool)
+    (items : BTreeSet (ℕ × ℕ)) → HaveNamers gate (state_of journal) namers
+    → HoldNamers (state_of (journal ++ later)) namers later (is_reached later all items)
+    → HoldsWhatWaits gate journal later (is_reached later all items)
 holds_what_waits gate journal later namers all items have holds = record {
-  touched = λ item touched. or_first (touches later item.change) (all || has_item items item) (touches_of later item.change touched);
-  waiting = λ item number target touched. holds.waiting item number (have item number target) (touches_of later number touched);
+  touched = λ item touched. or_first (touches later item.change) (all || has_item items item)
+      (touches_of later item.change touched);
+  waiting = λ item number target touched. holds.waiting item number (have item number target)
+      (touches_of later number touched);
   leading = λ item other edge reached. by_touch item other edge reached (touches later other.change) refl;
 } where
-  by_touch : (item other : Item) → IsDependency gate (state_of journal) item other → is_reached later all items other ≡ true → (test : Bool) → touches later other.change ≡ test
+  by_touch : (item other : Item) → IsDependency gate (state_of journal) item other
+      → is_reached later all items other ≡ true → (test : Bool) → touches later other.change ≡ test
       → is_reached later all items item ≡ true
   by_touch item other edge reached true is = holds.waiting item other.change (have item other.change edge.0) is
   by_touch item other edge reached false is =
       let same = stays_same journal later other.change (λ touched. false≢true (sym is ∙ touches_of later other.change touched)) in
-      holds.leading item other (have item other.change edge.0) (same_current (state_of journal) (state_of (journal ++ later)) other same edge.1) reached
+      holds.leading item other (have item other.change edge.0)
+      (same_current (state_of journal) (state_of (journal ++ later)) other same edge.1) reached

@@ -27,7 +27,9 @@ IsBy false found kept = kept
 
 -- the new verdicts have what was found of the items that were reached, and of the others what was kept, both in order
 pub record IsBroughtUp (reached : Item → Bool) (old found new : RankedVerdicts) : Type 0 where
-  pub ranks : (rank : Rank Item) → Contains new.ranks rank ↔ IsBy (reached rank.node) (Contains found.ranks rank) (Contains old.ranks rank)
-  pub out : (left : Left) → Contains new.out left ↔ IsBy (reached left.item) (Contains found.out left) (Contains old.out left)
+  pub ranks : (rank : Rank Item)
+      → Contains new.ranks rank ↔ IsBy (reached rank.node) (Contains found.ranks rank) (Contains old.ranks rank)
+  pub out : (left : Left)
+      → Contains new.out left ↔ IsBy (reached left.item) (Contains found.out left) (Contains old.out left)
   pub rising : IsStrictlySortedBy (rank_cmp item_cmp) new.ranks
   pub out_in_order : IsStrictlySortedBy item_cmp (items_out new.out)

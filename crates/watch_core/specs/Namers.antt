@@ -46,14 +46,17 @@ row_of (Some row) = row
 abbrev pub IsInRow : Rows → ℕ → Item → Type 0
 IsInRow rows number item = Contains (row_of (lookup (λ key. is_eq (nat_cmp number key)) rows)) item
 
--- all items that wait for a change in the state stand in its row
+-- all items that wait for a change in the state are in its row
 abbrev pub HaveRows : GateRules → State → Rows → Type 0
 HaveRows gate state rows = (item : Item) (number : ℕ) → IsTarget gate state item number → IsInRow rows number item
 
--- the items hold those that wait for a touched change, and those that wait for the change of one of them that is current
+-- the items hold those that wait for a touched change, and those that wait for the change of one of them that is
+-- current
 pub record HoldNamers (state : State) (namers : Namers) (later : List Operation) (reached : Item → Bool) : Type 0 where
-  pub waiting : (item : Item) (number : ℕ) → IsNamer namers number item → touches later number ≡ true → IsOfKind reached item
-  pub leading : (item other : Item) → IsNamer namers other.change item → IsCurrentItem state other → IsOfKind reached other → IsOfKind reached item
+  pub waiting : (item : Item) (number : ℕ) → IsNamer namers number item → touches later number ≡ true
+      → IsOfKind reached item
+  pub leading : (item other : Item) → IsNamer namers other.change item → IsCurrentItem state other
+      → IsOfKind reached other → IsOfKind reached item
 
 -- ---- the items that are judged again
 abbrev pub pair_cmp : ℕ × ℕ → ℕ × ℕ → Ordering
@@ -75,14 +78,18 @@ is_reached later all items item = touches later item.change || (all || has_item 
 abbrev pub AreAdded : Namers → BTreeSet (ℕ × ℕ) → ℕ → Type 0
 AreAdded namers items number = (item : Item) → IsNamer namers number item → has_item items item ≡ true
 
--- of each touched change, and of that of each current item of the set, the change is ahead, or the set has all that wait for it
+-- of each touched change, and of that of each current item of the set, the change is ahead, or the set has all that
+-- wait for it
 pub record IsSpreading (state : State) (namers : Namers) (later : List Operation) (items : BTreeSet (ℕ × ℕ)) (ahead : List ℕ) : Type 0 where
   pub touched : (number : ℕ) → touches later number ≡ true → Contains ahead number ⊎ AreAdded namers items number
-  pub current : (other : Item) → has_item items other ≡ true → IsCurrentItem state other → Contains ahead other.change ⊎ AreAdded namers items other.change
+  pub current : (other : Item) → has_item items other ≡ true → IsCurrentItem state other
+      → Contains ahead other.change ⊎ AreAdded namers items other.change
 
--- the set has the items that it had, and these; what was ahead is ahead, and so is the change of each item that is new and current
+-- the set has the items that it had, and these; what was ahead is ahead, and so is the change of each item that is new
+-- and current
 pub record Adds (state : State) (added : Item → Type 0) (old : BTreeSet (ℕ × ℕ)) (before : List ℕ) (new : BTreeSet (ℕ × ℕ)) (now : List ℕ) : Type 0 where
   pub keeps : (item : Item) → has_item old item ≡ true → has_item new item ≡ true
   pub adds : (item : Item) → added item → has_item new item ≡ true
   pub stays : (number : ℕ) → Contains before number → Contains now number
-  pub ahead : (item : Item) → has_item new item ≡ true → IsCurrentItem state item → (has_item old item ≡ true) ⊎ Contains now item.change
+  pub ahead : (item : Item) → has_item new item ≡ true → IsCurrentItem state item
+      → (has_item old item ≡ true) ⊎ Contains now item.change

@@ -1,5 +1,6 @@
--- Lists in which what was found of some items stands in the place of what was kept of them.
-use Rattle.std.specs.Prelude.{◌≡◌, ◌↔◌, ◌⊎◌, ◌≤◌, ℕ, Bool, true, List, Contains, Some, drop, length, map, slice_get, take}
+-- Lists in which what was found of some items takes the place of what was kept of them.
+use Rattle.std.specs.Prelude.{◌≡◌, ◌↔◌, ◌⊎◌, ◌≤◌, ℕ, Bool, true, List, Contains, Some, drop, length, map, slice_get}
+use Rattle.std.specs.Prelude.{take}
 use Rattle.std.specs.declared.cmp.Ordering.{Ordering}
 use Rattle.std.specs.declared.cmp.Ordering.TheVariants.{Less}
 use Rattle.std.specs.List.Sorted.{IsStrictlySortedBy}
@@ -21,7 +22,7 @@ pub record HasNew {X : Type 0} (of : X → Item) (changed : Item → Type 0) (fo
 pub record IsOneEach {X : Type 0} (of : X → Item) (xs : List X) : Type 0 where
   pub one : (x y : X) → Contains xs x → Contains xs y → of x ≡ of y → x ≡ y
 
--- no item stands in both lists
+-- no item is in both lists
 pub record AreApart {X Y : Type 0} (of : X → Item) (by : Y → Item) (xs : List X) (ys : List Y) : Type 0 where
   pub none : (x : X) (y : Y) → Contains xs x → Contains ys y → ¬ (of x ≡ by y)
 
@@ -38,7 +39,7 @@ pub record IsLeftAt (out : List Left) (place : ℕ) (item : Item) : Type 0 where
   pub here : slice_get out place ≡ Some left
   pub of : left.item ≡ item
 
--- what stands before the place is below the key, and what stands from the place on is above
+-- what is before the place is below the key, and what is from the place on is above
 pub record IsPlaceFor {X Y : Type 0} (key_of : X → Y) (cmp : Y → Y → Ordering) (xs : List X) (key : Y) (place : ℕ) : Type 0 where
   pub within : place ≤ length xs
   pub before : (x : X) → Contains (take place xs) x → cmp (key_of x) key ≡ Less
@@ -50,23 +51,23 @@ pub record AreReady (ready : List Item) (ranks : List ItemRank) : Type 0 where
   pub rising : IsStrictlySortedBy (rank_cmp item_cmp) (map to_rank ranks)
   pub one_each : IsOneEach node_of ranks
 
--- the lists of verdicts, in order, in which each item stands once
+-- the lists of verdicts, in order, in which each item is once
 pub record AreLists (ready : List Item) (ranks : List ItemRank) (out : List Left) : Type 0 where
   pub ranked : AreReady ready ranks
   pub out_in_order : IsStrictlySortedBy item_cmp (items_out out)
   pub apart : AreApart node_of item_of ranks out
 
--- the item stands in the verdicts
+-- the item is in the verdicts
 abbrev pub IsIn : RankedVerdicts → Item → Type 0
 IsIn verdicts item = Contains (map (λ rank. rank.node) verdicts.ranks) item ⊎ Contains (items_out verdicts.out) item
 
--- each item stands once in the verdicts
+-- each item is once in the verdicts
 pub record StandOnce (verdicts : RankedVerdicts) : Type 0 where
   pub ranks : IsOneEach (λ (rank : Rank Item). rank.node) verdicts.ranks
   pub out : IsOneEach item_of verdicts.out
   pub apart : AreApart (λ (rank : Rank Item). rank.node) item_of verdicts.ranks verdicts.out
 
--- each item that is judged again, and stands in the kept verdicts, stands in those that were found
+-- each item that is judged again, and is in the kept verdicts, is in those that were found
 pub record FindsAgain (judged : Item → Bool) (kept found : RankedVerdicts) : Type 0 where
   pub finds : (item : Item) → judged item ≡ true → IsIn kept item → IsIn found item
 

@@ -19,9 +19,11 @@ pub record IsTouched (later : List Operation) (number : ℕ) : Type 0 where
 abbrev pub touches : List Operation → ℕ → Bool
 touches later number = list_any (λ op. change_of op.deed == number) later
 
--- the items hold those of the touched changes, those that waited for a touched change, known or not, before the operations came, and those that
--- waited for one of the items
+-- the items hold those of the touched changes, those that waited for a touched change, known or not, before the
+-- operations came, and those that waited for one of the items
 pub record HoldsWhatWaits (gate : GateRules) (journal later : List Operation) (reached : Item → Bool) : Type 0 where
   pub touched : (item : Item) → IsTouched later item.change → IsOfKind reached item
-  pub waiting : (item : Item) (number : ℕ) → IsTarget gate (state_of journal) item number → IsTouched later number → IsOfKind reached item
-  pub leading : (item other : Item) → IsDependency gate (state_of journal) item other → IsOfKind reached other → IsOfKind reached item
+  pub waiting : (item : Item) (number : ℕ) → IsTarget gate (state_of journal) item number → IsTouched later number
+      → IsOfKind reached item
+  pub leading : (item other : Item) → IsDependency gate (state_of journal) item other → IsOfKind reached other
+      → IsOfKind reached item

@@ -16,11 +16,12 @@ IsSame before after number = finite.get before number ≡ finite.get after numbe
 abbrev pub IsSettled : State → State → ℕ → Type 0
 IsSettled before after number = IsSame before after number ⊎ (IsMerged before number × IsMerged after number)
 
--- the part is untouched: the change of each of its items is the same in both states, each change that one of them names is the same or merged in
--- both, and no edge leads out of the part
+-- the part is untouched: the change of each of its items is the same in both states, each change that one of them names
+-- is the same or merged in both, and no edge leads out of the part
 pub record IsUntouched (gate : GateRules) (before after : State) (part : Item → Bool) : Type 0 where
   pub own : (item : Item) → IsOfKind part item → IsSame before after item.change
-  pub named : (item : Item) (number : ℕ) → IsOfKind part item → Names gate before item number → IsSettled before after number
+  pub named : (item : Item) (number : ℕ) → IsOfKind part item → Names gate before item number
+      → IsSettled before after number
   pub ends : (item other : Item) → IsOfKind part item → IsDependency gate before item other → IsOfKind part other
 
 -- the items that aren't in the part

@@ -51,26 +51,35 @@ pub record Follows (watching : Watching) (journal : List Operation) : Type 0 whe
   pub verdicts : AreVerdicts watching.gate (state_of journal) judged
   pub kept : AreKept watching.gate (state_of journal) watching.ranks watching.namers judged
 
-goes_on : (watching : Watching) (journal later : List Operation) (found : Option Judged) → IfSome found (AreOfSeen watching journal) → IfSome found (AreOfSeen watching (journal ++ later))
+goes_on : (watching : Watching) (journal later : List Operation) (found : Option Judged)
+    → IfSome found (AreOfSeen watching journal) → IfSome found (AreOfSeen watching (journal ++ later))
 goes_on watching journal later None are = tt
 goes_on watching journal later (Some judged) are = record {
   seen = omega (arith, are.seen, length-append journal later);
-  verdicts = subst (λ l. AreVerdicts watching.gate (state_of l) judged) (sym (take-append-le watching.seen journal later are.seen)) are.verdicts;
-  kept = subst (λ l. AreKept watching.gate (state_of l) watching.ranks watching.namers judged) (sym (take-append-le watching.seen journal later are.seen)) are.kept;
+  verdicts = subst (λ l. AreVerdicts watching.gate (state_of l) judged)
+      (sym (take-append-le watching.seen journal later are.seen)) are.verdicts;
+  kept = subst (λ l. AreKept watching.gate (state_of l) watching.ranks watching.namers judged)
+      (sym (take-append-le watching.seen journal later are.seen)) are.kept;
 }
 
 -- what begins a journal begins one that goes on from there
-pub Precedes-append : (watching : Watching) (journal later : List Operation) → Precedes watching journal → Precedes watching (journal ++ later)
+pub Precedes-append : (watching : Watching) (journal later : List Operation) → Precedes watching journal
+    → Precedes watching (journal ++ later)
 Precedes-append watching journal later are = goes_on watching journal later watching.verdicts are
 
-pub Precedes-extends : (watching : Watching) (journal other : List Operation) → Extends journal other → Precedes watching journal → Precedes watching other
-Precedes-extends watching journal other more are = subst (Precedes watching) (sym more.1) (Precedes-append watching journal more.0 are)
+pub Precedes-extends : (watching : Watching) (journal other : List Operation) → Extends journal other
+    → Precedes watching journal → Precedes watching other
+Precedes-extends watching journal other more are =
+    subst (Precedes watching) (sym more.1) (Precedes-append watching journal more.0 are)
 
 -- and so does the whole journal
-pub Follows-Precedes : (watching : Watching) (journal : List Operation) → Follows watching journal → Precedes watching journal
+pub Follows-Precedes : (watching : Watching) (journal : List Operation) → Follows watching journal
+    → Precedes watching journal
 Follows-Precedes watching journal is = subst (λ found. IfSome found (AreOfSeen watching journal)) (sym is.there)
     (record {
       seen = omega (arith, is.seen);
-      verdicts = subst (λ l. AreVerdicts watching.gate (state_of l) is.judged) (sym (take_all watching.seen journal (omega (arith, is.seen)))) is.verdicts;
-      kept = subst (λ l. AreKept watching.gate (state_of l) watching.ranks watching.namers is.judged) (sym (take_all watching.seen journal (omega (arith, is.seen)))) is.kept;
+      verdicts = subst (λ l. AreVerdicts watching.gate (state_of l) is.judged)
+          (sym (take_all watching.seen journal (omega (arith, is.seen)))) is.verdicts;
+      kept = subst (λ l. AreKept watching.gate (state_of l) watching.ranks watching.namers is.judged)
+          (sym (take_all watching.seen journal (omega (arith, is.seen)))) is.kept;
     })

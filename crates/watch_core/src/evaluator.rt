@@ -23,8 +23,8 @@ use std::collections::BTreeMap;
 use std::marker::Model;
 
 /// The verdicts on a replica under a gate, which are brought up to date as operations arrive. Contracts see the gate,
-/// how many arrivals were seen, the verdicts, and what is kept beside them: what each ready item is ordered by, and which
-/// items wait for each change.
+/// how many arrivals were seen, the verdicts, and what is kept beside them: what each ready item is ordered by, and
+/// which items wait for each change.
 #[derive(Drop)]
 pub struct Evaluator {
     gate: Gate,
@@ -79,9 +79,9 @@ impl Evaluator {
 
     /// Brings the verdicts up to those on a replica whose arrivals begin with those that were seen. Only the items are
     /// judged again that reach a change with a new operation, over changes that aren't merged: it costs what `evaluate`
-    /// does on these and all that they reach, and to put them into the lists of all items. Where they are many, it costs
-    /// what `evaluate` does. Where memory is refused there are no verdicts, and the next update works from scratch. Where
-    /// there are verdicts and nothing arrived, it takes no memory.
+    /// does on these and all that they reach, and to put them into the lists of all items. Where they are many, it
+    /// costs what `evaluate` does. Where memory is refused there are no verdicts, and the next update works from
+    /// scratch. Where there are verdicts and nothing arrived, it takes no memory.
     pub fn update(&mut self, replica: &Replica) -> Result<(), NoMemory>
         requires { Precedes self.old replica.now }
         ensures gate { self.new.gate ≡ self.old.gate }
@@ -162,7 +162,8 @@ impl Evaluator {
         ensures none { self.new.verdicts ≡ None }
         ensures verdicts { IfOk result (AreVerdicts self.new.gate (state_of replica.now)) }
         ensures kept { IfOk result (AreKept self.new.gate (state_of replica.now) self.new.ranks self.new.namers) }
-        ensures asked { OnOk result ((count : ℕ) → AreTouchedItems (state_of replica.now) (drop self.old.seen replica.now) count
+        ensures asked { OnOk result
+            ((count : ℕ) → AreTouchedItems (state_of replica.now) (drop self.old.seen replica.now) count
             → J.asked judge.new ≡ counted (J.asked judge.old) count) }
         ensures at_most { (count : ℕ) → AreTouchedItems (state_of replica.now) (drop self.old.seen replica.now) count
             → J.asked judge.new ≤ counted (J.asked judge.old) count }

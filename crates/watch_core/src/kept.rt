@@ -27,7 +27,8 @@ use std::collections::BTreeSet;
 /// The condition for which an item is left out, if it is for one.
 fn kept_own(out: &[Left], item: Item) -> Option<Condition>
     requires { IsStrictlySortedBy item_cmp (items_out out.now) }
-    ensures { MatchOption result ((condition : Condition) → ¬ IsOutWith out.now item condition) (IsOutWith out.now item) }
+    ensures { MatchOption result ((condition : Condition) → ¬ IsOutWith out.now item condition)
+        (IsOutWith out.now item) }
 {
     let place = place_out(out, item)?;
     match out[place].refusal {

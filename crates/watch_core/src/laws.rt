@@ -40,7 +40,7 @@ pub fn untouched_changes_stay()
         → IsMerged (state_of (journal ++ later)) number }
 {}
 
-/// A law: what is said of an item depends only on the items that it reaches. In two states in which a part of the items
+/// A law: the verdict on an item depends only on the items that it reaches. In two states in which a part of the items
 /// is untouched, each item of the part is ready in both or in neither, is left out for the same refusals, and has the
 /// same rank among the ready items.
 pub fn verdicts_are_local()
@@ -69,6 +69,7 @@ pub fn what_is_not_reached_stays()
 pub fn verdicts_are_brought_up()
     ensures { (gate : GateRules) → (before after : State) → (reached : Item → Bool)
         → IsUntouched gate before after (others reached) → (old found new : RankedVerdicts)
-        → AreRankedVerdicts gate before old → (items : List Item) → AreRankedVerdictsOn gate after items found → HoldsItems after reached items
+        → AreRankedVerdicts gate before old → (items : List Item) → AreRankedVerdictsOn gate after items found
+        → HoldsItems after reached items
         → IsBroughtUp reached old found new → AreRankedVerdicts gate after new }
 {}

@@ -19,7 +19,8 @@ pub type Namers = BTreeMap<u32, Vec<Item>>;
 /// Adds the items of a graph to those that wait for their targets.
 pub fn add_graph(namers: &mut Namers, alloc: Global, graph: &Graph) -> Result<(), NoMemory>
     ensures keeps { OnOk result (KeepsNamers namers.old namers.new) }
-    ensures names { OnOk result ((item : Item) (row : List ℕ) (number : ℕ) → StandsAt graph.now.items graph.now.targets item row
+    ensures names { OnOk result
+        ((item : Item) (row : List ℕ) (number : ℕ) → StandsAt graph.now.items graph.now.targets item row
         → Contains row number → IsNamer namers.new number item) }
 {
     for place in 0..graph.items().len() {

@@ -1,4 +1,4 @@
-//! Where items stand in the lists of verdicts.
+//! Where items are in the lists of verdicts.
 
 ghost use Rattle.std.specs.Prelude.{◌≡◌, IsTrue, MatchOption, Contains, Some, map, slice_get};
 ghost use Rattle.std.specs.Ordering.{is_lt};
@@ -14,14 +14,14 @@ ghost use Rattle.watch_core.specs.Placed.{IsLeftAt, IsPlaceFor, item_of};
 use ready_core::{ItemRank, Left};
 use state_core::Item;
 
-/// Whether an item stands before another.
+/// Whether an item comes before another.
 pub fn is_before(item: Item, other: Item) -> bool
     ensures { result ≡ is_lt (item_cmp item other) }
 {
     item.change < other.change || item.change == other.change && item.set < other.set
 }
 
-/// Whether a rank stands before another.
+/// Whether a rank comes before another.
 pub fn is_lower(rank: ItemRank, other: ItemRank) -> bool
     ensures { result ≡ is_lt (rank_cmp item_cmp (to_rank rank) (to_rank other)) }
 {
@@ -37,7 +37,8 @@ pub fn is_lower(rank: ItemRank, other: ItemRank) -> bool
 /// The place at which an item is left out, by binary search.
 pub fn place_out(out: &[Left], item: Item) -> Option<usize>
     requires { IsStrictlySortedBy item_cmp (items_out out.now) }
-    ensures { MatchOption result ((left : Left) → Contains out.now left → ¬ (left.item ≡ item)) (λ place. IsLeftAt out.now place item) }
+    ensures { MatchOption result ((left : Left) → Contains out.now left → ¬ (left.item ≡ item))
+        (λ place. IsLeftAt out.now place item) }
 {
     let place = out.partition_point(|left| is_before(left.item, item));
     let left = out.get(place)?;
@@ -77,7 +78,7 @@ pub fn place_in(items: &[Item], item: Item) -> Option<usize>
     None
 }
 
-/// Whether a rank stands at its place.
+/// Whether a rank is at its place.
 pub fn has_rank(ranks: &[ItemRank], rank: ItemRank) -> bool
     ensures { IsTrue result → Contains ranks.now rank }
 {

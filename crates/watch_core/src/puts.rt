@@ -22,7 +22,8 @@ pub fn put_ready(
 ) -> Result<(), NoMemory>
     requires { AreLists ready.old.items ranks.old.items out.old.items }
     ensures lists { OnOk result (AreLists ready.new.items ranks.new.items out.new.items) }
-    ensures ranks { OnOk result (HasNew node_of (λ item. item ≡ rank.node) (rank ∷ []) ranks.old.items ranks.new.items) }
+    ensures ranks { OnOk result
+        (HasNew node_of (λ item. item ≡ rank.node) (rank ∷ []) ranks.old.items ranks.new.items) }
     ensures out { OnOk result (HasNew item_of (λ item. item ≡ rank.node) [] out.old.items out.new.items) }
 {
     if has_rank(ranks.as_slice(), rank) {
@@ -87,7 +88,8 @@ fn insert_rank(
     requires ready { AreReady ready.old.items ranks.old.items }
     requires none { (other : ItemRank) → Contains ranks.old.items other → ¬ (other.node ≡ rank.node) }
     ensures ready { OnOk result (AreReady ready.new.items ranks.new.items) }
-    ensures ranks { OnOk result (HasNew node_of (λ item. item ≡ rank.node) (rank ∷ []) ranks.old.items ranks.new.items) }
+    ensures ranks { OnOk result
+        (HasNew node_of (λ item. item ≡ rank.node) (rank ∷ []) ranks.old.items ranks.new.items) }
 {
     let place = place_for_rank(ranks.as_slice(), rank);
     ranks.insert(place, rank)?;

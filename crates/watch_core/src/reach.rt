@@ -41,7 +41,8 @@ pub fn reach_of(
     namers: &Namers,
     later: &[Op],
 ) -> Result<Reach, NoMemory>
-    ensures { IfOk result (λ reach. HoldNamers state.now namers.now later.now (is_reached later.now reach.all reach.items)) }
+    ensures { IfOk result
+        (λ reach. HoldNamers state.now namers.now later.now (is_reached later.now reach.all reach.items)) }
 {
     let mut items = BTreeSet::new(alloc);
     let mut ahead = changes_of(alloc, later)?;

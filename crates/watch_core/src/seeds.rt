@@ -49,7 +49,8 @@ pub fn graph_of(
     touched: &BTreeSet<u32>,
 ) -> Result<Graph, NoMemory>
     ensures graph { IfOk result (IsGraphOf gate.now state.now) }
-    ensures holds { IfOk result (λ graph. HoldsItems state.now (is_again touched.now reach.now.all reach.now.items) graph.items) }
+    ensures holds { IfOk result
+        (λ graph. HoldsItems state.now (is_again touched.now reach.now.all reach.now.items) graph.items) }
 {
     let seeds = seeds_of(alloc, state, reach, touched)?;
     let part = part_with(alloc, gate, state, seeds)?;
@@ -65,7 +66,8 @@ fn seeds_of(
     touched: &BTreeSet<u32>,
 ) -> Result<Vec<Item>, NoMemory>
     ensures items { IfOk result (λ seeds. All (IsItem state.now) seeds.items) }
-    ensures holds { IfOk result (λ seeds. HoldsItems state.now (is_again touched.now reach.now.all reach.now.items) seeds.items) }
+    ensures holds { IfOk result
+        (λ seeds. HoldsItems state.now (is_again touched.now reach.now.all reach.now.items) seeds.items) }
 {
     if reach.all {
         return items_of(alloc, state);
@@ -107,7 +109,8 @@ fn add_reached(
     items: &BTreeSet<(u32, u32)>,
     seeds: &mut Vec<Item>,
 ) -> Result<(), NoMemory>
-    ensures { OnOk result (AddsItems state.now (λ item. has_item items.now item ≡ true) seeds.old.items seeds.new.items) }
+    ensures { OnOk result
+        (AddsItems state.now (λ item. has_item items.now item ≡ true) seeds.old.items seeds.new.items) }
 {
     for (change, set) in items {
         let item = Item {

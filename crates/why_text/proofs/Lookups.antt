@@ -1,5 +1,6 @@
 -- What a binary search over the items that are left out finds.
-use Rattle.std.proofs.Common.{◌≡◌, ◌≤◌, ◌<◌, ℕ, true, false, List, Contains, length, get_or, refl, sym, ap, ◌∙◌, subst, arith, Option, Some, None}
+use Rattle.std.proofs.Common.{◌≡◌, ◌≤◌, ◌<◌, ℕ, true, false, List, Contains, length, get_or, refl, sym, ap, ◌∙◌, subst}
+use Rattle.std.proofs.Common.{arith, Option, Some, None}
 use Rattle.std.specs.Prelude.{slice_get, option_map}
 use Rattle.std.specs.List.Sorted.{IsStrictlySortedBy, IsPartitionedBy, IsPartitionPoint}
 use Rattle.std.proofs.Math.ListN.{get_or-map}
@@ -18,7 +19,8 @@ use Rattle.why_text.specs.Chain.{IsOutAt}
 abbrev of_left : Left → Item
 of_left left = left.item
 
-left_of : (item : Item) (out : List Left) (place : ℕ) (found : Option Left) → slice_get out place ≡ found → option_map of_left found ≡ Some item → IsOutAt out item place
+left_of : (item : Item) (out : List Left) (place : ℕ) (found : Option Left) → slice_get out place ≡ found
+    → option_map of_left found ≡ Some item → IsOutAt out item place
 left_of item out place None here is = cc
 left_of item out place (Some left) here is = record { left = left; here = here; of = cc }
 
@@ -41,20 +43,25 @@ module _ (out : List Left) (sorted : IsStrictlySortedBy item_cmp (items_out out)
         (subst (λ x. stands_before item x ≡ true) (sym (get_or-map of_left out j d)) passes))
 
     module _ (point : ℕ) (within : point ≤ length out) (is : IsPartitionPoint (λ (left : Left). stands_before item left.item ≡ true) (λ (left : Left). stands_before item left.item ≡ false) out point) where
-      item_here : (k : ℕ) (d : Item) (less : k < length out) → get_or (items_out out) k d ≡ (get_or out k (at_below out k less).0).item
+      item_here : (k : ℕ) (d : Item) (less : k < length out)
+          → get_or (items_out out) k d ≡ (get_or out k (at_below out k less).0).item
       item_here k d less = lists.get_or-map of_left out k (at_below out k less).0 d less
 
-      by_items : IsPartitionPoint (λ (y : Item). stands_before item y ≡ true) (λ (y : Item). stands_before item y ≡ false) (items_out out) point
+      by_items : IsPartitionPoint (λ (y : Item). stands_before item y ≡ true)
+          (λ (y : Item). stands_before item y ≡ false) (items_out out) point
       by_items = (
         λ k d low less.
             let inside : k < length out = omega (arith, less, within) in
-            subst (λ x. stands_before item x ≡ true) (sym (item_here k d inside)) (is.0 k (at_below out k inside).0 low less),
+            subst (λ x. stands_before item x ≡ true) (sym (item_here k d inside))
+            (is.0 k (at_below out k inside).0 low less),
         λ k d low less.
             let inside : k < length out = omega (arith, less, length-map out of_left) in
-            subst (λ x. stands_before item x ≡ false) (sym (item_here k d inside)) (is.1 k (at_below out k inside).0 low inside),
+            subst (λ x. stands_before item x ≡ false) (sym (item_here k d inside))
+            (is.1 k (at_below out k inside).0 low inside),
       )
 
       -- the verdict on the item is at the point
       pub left_found : Contains (items_out out) item → IsOutAt out item point
       left_found there =
-          left_of item out point (slice_get out point) refl (sym (slice_get-map of_left out point) ∙ found_at (items_out out) sorted item point by_items there)
+          left_of item out point (slice_get out point) refl
+          (sym (slice_get-map of_left out point) ∙ found_at (items_out out) sorted item point by_items there)

@@ -21,7 +21,7 @@ pub record WaitsFor (state : State) (verdicts : Judged) (left next : Left) : Typ
   pub current : IsCurrentItem state next.item
   pub out : Contains verdicts.out next
 
--- each one stands so to the next one
+-- each one is so related to the next one
 abbrev pub Path : {X : Type 0} → (X → X → Type 0) → List X → Type 0
 Path R [] = Unit {0}
 Path R (x ∷ []) = Unit {0}

@@ -32,7 +32,7 @@ pub record IsOther (itself behind ahead : List Bool) (place : ℕ) : Type 0 wher
   pub is_behind : IsMarked behind place
   pub is_ahead : IsMarked ahead place
 
--- the item stands at such a place, one of the first
+-- the item is at such a place, one of the first
 pub record IsTaken (items : List Item) (itself behind ahead : List Bool) (count : ℕ) (other : Item) : Type 0 where
   pub place : ℕ
   pub before : place < count

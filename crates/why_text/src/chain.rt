@@ -20,7 +20,7 @@ pub struct Chain {
     pub cause: Left,
 }
 
-/// Whether an item stands before another.
+/// Whether an item comes before another.
 fn is_before(item: Item, other: Item) -> bool
     ensures { result ≡ stands_before other item }
 {

@@ -8,7 +8,7 @@ ghost use Rattle.gate_rules.specs.Spelling.{IsObject, SpellsGate};
 ghost use Rattle.gate_rules.specs.declared.condition.Condition.{Condition};
 ghost use Rattle.why_text.specs.Wanted.{wanted_value};
 
-/// A law: of a condition that is broken the gate file has a value, so that what it asks is always told.
+/// A law: of a condition that is broken the gate file has a value, so that what it asks is always named.
 pub fn broken_conditions_are_wanted()
     ensures { (file : List ℕ) (gate : GateRules) (members : Members) → SpellsGate file gate → IsObject file members
         → (standing : ItemStanding) (condition : Condition) → IsBroken gate standing condition

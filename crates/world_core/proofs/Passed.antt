@@ -1,5 +1,6 @@
 -- The packet law: who takes a whole packet of what its front lacked has all that the sender had.
-use Rattle.std.proofs.Common.{◌≡◌, ◌≤◌, ℕ, true, false, List, [], ◌∷◌, ◌++◌, Some, Ok, Err, take, map, length, sym, ap, subst, ◌∙◌, inl, inr, arith}
+use Rattle.std.proofs.Common.{◌≡◌, ◌≤◌, ℕ, true, false, List, [], ◌∷◌, ◌++◌, Some, Ok, Err, take, map, length, sym, ap}
+use Rattle.std.proofs.Common.{subst, ◌∙◌, inl, inr, arith}
 use Rattle.std.specs.Prelude.{IfSome}
 use Rattle.std.proofs.lemmas.Bool.{ltb-false}
 use Rattle.std.proofs.lemmas.List.{take_all}
@@ -14,7 +15,8 @@ use Rattle.world_core.specs.declared.event.Event.TheVariants.{Intake, Send, Deli
 use Rattle.world_core.specs.declared.event.Reply.TheVariants.{Took, Packet, Delivered}
 use Rattle.world_core.specs.declared.event.WorldFault.TheVariants.{NoSite}
 use Rattle.world_core.specs.Convergence.{made, NoTwins, SiteHolds, MayBecome}
-use Rattle.replica_core.specs.JournalLaws.{IsPartOf, has-all_arrived, has-append_right, has-first, has-later, same_operation_cases}
+use Rattle.replica_core.specs.JournalLaws.{IsPartOf, has-all_arrived, has-append_right, has-first, has-later}
+use Rattle.replica_core.specs.JournalLaws.{same_operation_cases}
 use Rattle.world_core.specs.Numbered.{numbered, numbered_last, numbered-replaced_same}
 use Rattle.replica_core.specs.Passing.{held_or_lacked}
 use Rattle.world_core.specs.Step.{Answer, taken_in, IsSendAt, IsDelivery, IsDeliveryOf, AtSite, Run}
@@ -24,62 +26,81 @@ use Rattle.world_core.proofs.Stamps.{GoesOn, goes_on_twice, run_goes_on, step_go
 use Rattle.world_core.proofs.Making.{some_if, one_of_twins, made_stamps}
 use Rattle.world_core.proofs.Coming.{converges}
 
-pub Run-append : {A : Type 0} (events : List (Event A)) (answers : List Answer) (more : List (Event A)) (others : List Answer) (old mid new : WorldState) → Run old events answers mid → Run mid more others new → Run old (events ++ more) (answers ++ others) new
+pub Run-append : {A : Type 0} (events : List (Event A)) (answers : List Answer) (more : List (Event A))
+    (others : List Answer) (old mid new : WorldState) → Run old events answers mid → Run mid more others new → Run old
+    (events ++ more) (answers ++ others) new
 Run-append [] [] more others old mid new h k = subst (λ w. Run w more others new) h k
-Run-append (event ∷ events) (answer ∷ answers) more others old mid new h k = (h.0, h.1, Run-append events answers more others h.0 mid new h.2 k)
+Run-append (event ∷ events) (answer ∷ answers) more others old mid new h k =
+    (h.0, h.1, Run-append events answers more others h.0 mid new h.2 k)
 Run-append [] (answer ∷ answers) more others old mid new h k = absurd h
 Run-append (event ∷ events) [] more others old mid new h k = absurd h
 
-pub made-append : {A : Type 0} (events : List (Event A)) (answers : List Answer) (more : List (Event A)) (others : List Answer) (old mid : WorldState) → Run old events answers mid → IsPartOf (made events answers) (made (events ++ more) (answers ++ others))
+pub made-append : {A : Type 0} (events : List (Event A)) (answers : List Answer) (more : List (Event A))
+    (others : List Answer) (old mid : WorldState) → Run old events answers mid → IsPartOf (made events answers)
+    (made (events ++ more) (answers ++ others))
 made-append [] [] more others old mid h op k = cc
-made-append (Intake site draft ∷ events) (Ok (Took stamp) ∷ answers) more others old mid h op k = elim (same_operation_cases (taken_in stamp (deed_of draft)) (made events answers) op k) [
-  | inl same ↦ ap (has (taken_in stamp (deed_of draft) ∷ made (events ++ more) (answers ++ others))) (sym same) ∙ has-first (taken_in stamp (deed_of draft)) (made (events ++ more) (answers ++ others))
-  | inr later ↦ has-later (taken_in stamp (deed_of draft)) (made (events ++ more) (answers ++ others)) op (made-append events answers more others h.0 mid h.2 op later)
-]
-made-append (event ∷ events) (answer ∷ answers) more others old mid h op k = made-append events answers more others h.0 mid h.2 op k
+made-append (Intake site draft ∷ events) (Ok (Took stamp) ∷ answers) more others old mid h op k =
+    elim (same_operation_cases (taken_in stamp (deed_of draft)) (made events answers) op k) [
+      | inl same ↦ ap (has (taken_in stamp (deed_of draft) ∷ made (events ++ more) (answers ++ others))) (sym same)
+          ∙ has-first (taken_in stamp (deed_of draft)) (made (events ++ more) (answers ++ others))
+      | inr later ↦ has-later (taken_in stamp (deed_of draft)) (made (events ++ more) (answers ++ others)) op
+          (made-append events answers more others h.0 mid h.2 op later)
+    ]
+made-append (event ∷ events) (answer ∷ answers) more others old mid h op k =
+    made-append events answers more others h.0 mid h.2 op k
 made-append [] (answer ∷ answers) more others old mid h op k = absurd h
 made-append (event ∷ events) [] more others old mid h op k = absurd h
 
 -- what intakes make is numbered from 1 on
-made_numbered : {A : Type 0} (events : List (Event A)) (answers : List Answer) (old new : WorldState) → Run old events answers new → (op : Operation) → has (made events answers) op ≡ true → 1 ≤ op.stamp.seq
+made_numbered : {A : Type 0} (events : List (Event A)) (answers : List Answer) (old new : WorldState)
+    → Run old events answers new → (op : Operation) → has (made events answers) op ≡ true → 1 ≤ op.stamp.seq
 made_numbered [] [] old new h op k = cc
-made_numbered (Intake site draft ∷ events) (Ok (Took stamp) ∷ answers) old new h op k = elim (same_operation_cases (taken_in stamp (deed_of draft)) (made events answers) op k) [
-  | inl same ↦
-      let seq = ap (λ (t : Timestamp). t.seq) (took_next old (Intake site draft) stamp h.0 h.1).0.next in
-      let is = ap (λ (o : Operation). o.stamp.seq) same in
-      omega (arith, seq, is)
-  | inr later ↦ made_numbered events answers h.0 new h.2 op later
-]
+made_numbered (Intake site draft ∷ events) (Ok (Took stamp) ∷ answers) old new h op k =
+    elim (same_operation_cases (taken_in stamp (deed_of draft)) (made events answers) op k) [
+      | inl same ↦
+          let seq = ap (λ (t : Timestamp). t.seq) (took_next old (Intake site draft) stamp h.0 h.1).0.next in
+          let is = ap (λ (o : Operation). o.stamp.seq) same in
+          omega (arith, seq, is)
+      | inr later ↦ made_numbered events answers h.0 new h.2 op later
+    ]
 made_numbered (event ∷ events) (answer ∷ answers) old new h op k = made_numbered events answers h.0 new h.2 op k
 made_numbered [] (answer ∷ answers) old new h op k = absurd h
 made_numbered (event ∷ events) [] old new h op k = absurd h
 
 -- a packet that says that nothing is left has all that the front lacks
-sent_whole : (sender : ℕ) (front : Reaches) (old : WorldState) (number count : ℕ) (new : WorldState) → IsSendAt sender front old (Ok (Packet number count false)) new
-    → (at : SiteState) × (numbered old.sites sender ≡ Some at) × (lacked : List Operation) × IsMissing at.journal front lacked × (numbered new.packets number ≡ Some lacked)
-sent_whole sender front old number count new h = elim (send_cases sender front old new (Ok (Packet number count false)) h) [
-  | inl refused ↦ let e : Ok (Packet number count false) ≡ Err NoSite = refused.0 in cc
-  | inr (at, found, sent) ↦
-      let few = ltb-false 256 (length sent.0) (sym sent.5) in
-      let whole : take 256 sent.0 ≡ sent.0 = take_all 256 sent.0 few in
-      let last : numbered new.packets number ≡ Some (take 256 sent.0) = ap (numbered new.packets) sent.3 ∙ ap (λ w. numbered w.packets (length w.packets)) sent.2 ∙ numbered_last old.packets (take 256 sent.0) in
-      (at, found, sent.0, sent.1, last ∙ ap Some whole)
-]
+sent_whole : (sender : ℕ) (front : Reaches) (old : WorldState) (number count : ℕ) (new : WorldState)
+    → IsSendAt sender front old (Ok (Packet number count false)) new
+    → (at : SiteState) × (numbered old.sites sender ≡ Some at) × (lacked : List Operation)
+    × IsMissing at.journal front lacked × (numbered new.packets number ≡ Some lacked)
+sent_whole sender front old number count new h =
+    elim (send_cases sender front old new (Ok (Packet number count false)) h) [
+      | inl refused ↦ let e : Ok (Packet number count false) ≡ Err NoSite = refused.0 in cc
+      | inr (at, found, sent) ↦
+          let few = ltb-false 256 (length sent.0) (sym sent.5) in
+          let whole : take 256 sent.0 ≡ sent.0 = take_all 256 sent.0 few in
+          let last : numbered new.packets number ≡ Some (take 256 sent.0) = ap (numbered new.packets) sent.3 ∙ ap (λ w. numbered w.packets (length w.packets)) sent.2 ∙ numbered_last old.packets (take 256 sent.0) in
+          (at, found, sent.0, sent.1, last ∙ ap Some whole)
+    ]
 
 -- who takes a packet has its operations
-took_packet : (receiver number : ℕ) (old : WorldState) (count : ℕ) (new : WorldState) (ops : List Operation) → numbered old.packets number ≡ Some ops → AtSite (IsDeliveryOf (numbered old.packets number)) receiver old (Ok (Delivered count)) new
+took_packet : (receiver number : ℕ) (old : WorldState) (count : ℕ) (new : WorldState) (ops : List Operation)
+    → numbered old.packets number ≡ Some ops
+    → AtSite (IsDeliveryOf (numbered old.packets number)) receiver old (Ok (Delivered count)) new
     → (after : SiteState) × (numbered new.sites receiver ≡ Some after) × IsPartOf ops after.journal
-took_packet receiver number old count new ops packet h = elim (site_cases (IsDeliveryOf (numbered old.packets number)) receiver old (Ok (Delivered count)) new h) [
-  | inl refused ↦ let e : Ok (Delivered count) ≡ Err NoSite = refused.1 in cc
-  | inr (at, after, found, done, is) ↦
-      let delivered : IsDelivery ops at (Ok (Delivered count)) after = subst (λ p. IsDeliveryOf p at (Ok (Delivered count)) after) packet done in (
-        after,
-        ap (λ w. numbered w.sites receiver) is ∙ numbered-replaced_same old.sites receiver at after found,
-        λ op k. ap (λ s. has s.journal op) delivered.0 ∙ has-all_arrived at.journal ops op ∙ has-append_right at.journal ops op k,
-      )
-]
+took_packet receiver number old count new ops packet h =
+    elim (site_cases (IsDeliveryOf (numbered old.packets number)) receiver old (Ok (Delivered count)) new h) [
+      | inl refused ↦ let e : Ok (Delivered count) ≡ Err NoSite = refused.1 in cc
+      | inr (at, after, found, done, is) ↦
+          let delivered : IsDelivery ops at (Ok (Delivered count)) after = subst (λ p. IsDeliveryOf p at (Ok (Delivered count)) after) packet done in (
+            after,
+            ap (λ w. numbered w.sites receiver) is ∙ numbered-replaced_same old.sites receiver at after found,
+            λ op k. ap (λ s. has s.journal op) delivered.0 ∙ has-all_arrived at.journal ops op
+                ∙ has-append_right at.journal ops op k,
+          )
+    ]
 
-same_start : (at mid after : SiteState) → GoesOn at mid → GoesOn mid after → after.start ≡ at.start → IsPartOf mid.journal after.journal
+same_start : (at mid after : SiteState) → GoesOn at mid → GoesOn mid after → after.start ≡ at.start
+    → IsPartOf mid.journal after.journal
 same_start at mid after first (inr (same, part)) start = part
 same_start at mid after (inl later) (inl latest) start = absurd (omega (arith, later, latest, start))
 same_start at mid after (inr (same, part)) (inl latest) start = absurd (omega (arith, same, latest, start))
@@ -88,11 +109,16 @@ from_start : (at after : SiteState) → GoesOn at after → after.start ≡ at.s
 from_start at after (inl later) start = absurd (omega (arith, later, start))
 from_start at after (inr (same, part)) start = part
 
-module _ (A : Type 0) (sites sender receiver number count new : ℕ) (front : Reaches) (moment before sent comes delivered last : WorldState) (to from : SiteState) where
-  pub passed_on : MayBecome A (new_world sites) moment → numbered moment.sites receiver ≡ Some to → IsFront to.journal front
-      → MayBecome A moment before → numbered before.sites sender ≡ Some from → IsSendAt sender front before (Ok (Packet number count false)) sent
-      → MayBecome A sent comes → AtSite (IsDeliveryOf (numbered comes.packets number)) receiver comes (Ok (Delivered new)) delivered
-      → MayBecome A delivered last → IfSome (numbered last.sites receiver) (λ at. at.start ≡ to.start → IsPartOf from.journal at.journal)
+module _ (A : Type 0) (sites sender receiver number count new : ℕ) (front : Reaches)
+    (moment before sent comes delivered last : WorldState) (to from : SiteState) where
+  pub passed_on : MayBecome A (new_world sites) moment → numbered moment.sites receiver ≡ Some to
+      → IsFront to.journal front
+      → MayBecome A moment before → numbered before.sites sender ≡ Some from
+      → IsSendAt sender front before (Ok (Packet number count false)) sent
+      → MayBecome A sent comes
+      → AtSite (IsDeliveryOf (numbered comes.packets number)) receiver comes (Ok (Delivered new)) delivered
+      → MayBecome A delivered last
+      → IfSome (numbered last.sites receiver) (λ at. at.start ≡ to.start → IsPartOf from.journal at.journal)
   passed_on start found is_front on there sends then takes rest =
       let whole = sent_whole sender front before number count sent sends in
       let packet = run_keeps then.0 then.1 sent comes then.2 number whole.2 whole.4 in

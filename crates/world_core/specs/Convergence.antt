@@ -1,5 +1,6 @@
--- The headline: whatever happens in a world, each site's journal is just what came to it, its state is the state of that, and sites to which
--- the same operations came have equal states: the strong convergence of Shapiro, Preguiça, Baquero and Zawirski (2011).
+-- The headline: whatever happens in a world, each site's journal is just what came to it, its state is the state of
+-- that, and sites to which the same operations came have equal states: the strong convergence of Shapiro, Preguiça,
+-- Baquero and Zawirski (2011).
 use Rattle.std.specs.Prelude.{◌≡◌, ◌==◌, ℕ, true, List, [], ◌∷◌, ◌++◌, IfSome, Ok, Err, take, unwrap_or, if◌then◌else◌}
 use Rattle.std.specs.List.{AllByRecursion}
 use Rattle.review_ops.specs.Draft.{deed_of}
@@ -39,18 +40,23 @@ pub record Came : Type 0 where
 abbrev pub nothing : Came
 nothing = record { here = []; saved = [] }
 
--- an event at the site: an intake brings its operation, a delivery the operations of its packet, or the first of them where memory was refused
+-- an event at the site: an intake brings its operation, a delivery the operations of its packet, or the first of them
+-- where memory was refused
 abbrev pub came_with : {A : Type 0} → List (List Operation) → Came → Event A → Answer → Came
-came_with packets came (Intake site draft) (Ok (Took stamp)) = record came { here = came.here ++ taken_in stamp (deed_of draft) ∷ [] }
-came_with packets came (Deliver packet site) (Ok (Delivered count)) = record came { here = came.here ++ packed packets packet }
-came_with packets came (Deliver packet site) (Err (NoMemory taken)) = record came { here = came.here ++ take taken (packed packets packet) }
+came_with packets came (Intake site draft) (Ok (Took stamp)) =
+    record came { here = came.here ++ taken_in stamp (deed_of draft) ∷ [] }
+came_with packets came (Deliver packet site) (Ok (Delivered count)) =
+    record came { here = came.here ++ packed packets packet }
+came_with packets came (Deliver packet site) (Err (NoMemory taken)) =
+    record came { here = came.here ++ take taken (packed packets packet) }
 came_with packets came (Save site) (Ok Saved) = record came { saved = came.here }
 came_with packets came (Restart site start) (Ok Restarted) = record came { here = came.saved }
 came_with packets came event answer = came
 
 -- a run, of which the site sees its own events alone
 abbrev pub came_on : {A : Type 0} → List (List Operation) → ℕ → Came → List (Event A) → List Answer → Came
-came_on packets site came (event ∷ events) (answer ∷ answers) = came_on packets site (if site == site_in event then came_with packets came event answer else came) events answers
+came_on packets site came (event ∷ events) (answer ∷ answers) =
+    came_on packets site (if site == site_in event then came_with packets came event answer else came) events answers
 came_on packets site came events answers = came
 
 -- what came to a site in a run from the start
@@ -84,7 +90,8 @@ pub record SiteHolds (P : Operation → Type 0) (at : SiteState) : Type 0 where
 -- each operation of each site and packet has it
 pub record WorldHolds (P : Operation → Type 0) (world : WorldState) : Type 0 where
   pub sites : (site : ℕ) → IfSome (numbered world.sites site) (SiteHolds P)
-  pub packets : (packet : ℕ) → IfSome (numbered world.packets packet) (λ ops. (op : Operation) → has ops op ≡ true → P op)
+  pub packets : (packet : ℕ)
+      → IfSome (numbered world.packets packet) (λ ops. (op : Operation) → has ops op ≡ true → P op)
 
 -- ---- the headline
 
@@ -100,7 +107,8 @@ Agree at other = IsSameSet at.journal other.journal × (state_of at.journal ≡ 
 -- what holds of each world, once these events were answered so since the start
 pub record Converges {A : Type 0} (events : List (Event A)) (answers : List Answer) (world : WorldState) : Type 0 where
   pub came : (site : ℕ) → IfSome (numbered world.sites site) (IsWhatCame (came_to world.packets site events answers))
-  pub agree : (site other : ℕ) → IsSameSet (came_to world.packets site events answers) (came_to world.packets other events answers)
+  pub agree : (site other : ℕ)
+      → IsSameSet (came_to world.packets site events answers) (came_to world.packets other events answers)
       → IfSome (numbered world.sites site) (λ at. IfSome (numbered world.sites other) (Agree at))
   pub stamps : NoTwins (stamps_of answers)
   pub made : WorldHolds (λ op. has (made events answers) op ≡ true) world
@@ -122,7 +130,8 @@ HasConverged A world = ∥ ((history : History A world) × Converges history.eve
 
 -- the same of events that go on where others left the world
 abbrev pub ConvergesOn : {A : Type 0} → WorldState → List (Event A) → List Answer → WorldState → Type 0
-ConvergesOn {A} old events answers new = (sites : ℕ) (earlier : List (Event A)) (before : List Answer) → Run (new_world sites) earlier before old → Converges (earlier ++ events) (before ++ answers) new
+ConvergesOn {A} old events answers new = (sites : ℕ) (earlier : List (Event A)) (before : List Answer)
+    → Run (new_world sites) earlier before old → Converges (earlier ++ events) (before ++ answers) new
 
 -- ---- passing on
 

@@ -1,7 +1,8 @@
 -- How a refusal of the world is printed.
 use Rattle.std.specs.Prelude.{ℕ, List, codes}
 use Rattle.world_core.specs.declared.event.WorldFault.{WorldFault}
-use Rattle.world_core.specs.declared.event.WorldFault.TheVariants.{NoSite, NoPacket, StartUsed, ClockSpent, BadBody, NoMemory}
+use Rattle.world_core.specs.declared.event.WorldFault.TheVariants.{NoSite, NoPacket, StartUsed, ClockSpent, BadBody}
+use Rattle.world_core.specs.declared.event.WorldFault.TheVariants.{NoMemory}
 
 abbrev pub number_of : WorldFault → ℕ
 number_of NoSite = 1

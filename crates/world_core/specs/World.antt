@@ -3,13 +3,15 @@ use Rattle.std.specs.Prelude.{ℕ, List, [], replicate}
 use Rattle.review_ops.specs.Operation.{Operation}
 use Rattle.world_core.specs.Numbered.{replaced}
 
--- a site: the operations that it has and those that it saved, each set in the order of arrival, and the number of its run
+-- a site: the operations that it has and those that it saved, each set in the order of arrival, and the number of its
+-- run
 pub record SiteState : Type 0 where
   pub journal : List Operation
   pub saved : List Operation
   pub start : ℕ
 
--- the sites, numbered from 1 on, and every packet that was ever sent, likewise: a packet may come to any site, at any time, again, or never
+-- the sites, numbered from 1 on, and every packet that was ever sent, likewise: a packet may come to any site, at any
+-- time, again, or never
 pub record WorldState : Type 0 where
   pub sites : List SiteState
   pub packets : List (List Operation)

@@ -11,18 +11,19 @@ ghost use Rattle.world_core.specs.World.{SiteState, WorldState, new_world};
 use super::event::Reply;
 use std::alloc::Allocator;
 
-/// Worlds converge: for every list of intakes, sends, deliveries, saves and restarts, whatever was lost, came again or in another order, and
-/// whatever memory was refused, each site's journal is just what came to it, its state is the state of that, and sites to which the same
-/// operations came have equal states. No two stamps are of one site, start and sequence number, and every operation of a site or a packet is one
-/// that an intake made.
+/// Worlds converge: for every list of intakes, sends, deliveries, saves and restarts, whatever was lost, came again or
+/// in another order, and whatever memory was refused, each site's journal is just what came to it, its state is the
+/// state of that, and sites to which the same operations came have equal states. No two stamps are of one site, start
+/// and sequence number, and every operation of a site or a packet is one that an intake made.
 pub fn worlds_converge<A: Allocator + Copy>()
     ensures { (sites : ℕ) (events : List (Event A)) (answers : List Answer) (world : WorldState)
         → Run (new_world sites) events answers world → Converges events answers world }
 {}
 
-/// Packets pass on what a site lacks: where a site sends what the front of another lacked at some moment, the packet says that nothing is
-/// left, and the other takes the whole of it, then the other has from there on all that the sender had when it sent, as long as it runs under
-/// the start that it had at that moment. It may restart before or after, and anything else may happen between.
+/// Packets pass on what a site lacks: where a site sends what the front of another lacked at some moment, the packet
+/// says that nothing is left, and the other takes the whole of it, then the other has from there on all that the sender
+/// had when it sent, as long as it runs under the start that it had at that moment. It may restart before or after, and
+/// anything else may happen between.
 pub fn packets_pass_on_what_is_lacked<A: Allocator + Copy>()
     ensures { (sites sender receiver number count new : ℕ) (front : Reaches)
         (moment before sent comes delivered last : WorldState) (to from : SiteState)

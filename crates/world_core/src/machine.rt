@@ -17,8 +17,8 @@ use std::marker::Model;
 /// How many operations a packet has at most.
 const PACKET_LIMIT: usize = 256;
 
-/// Sites that hold replicas, and the packets that they have sent. A packet stays for good: one that is never delivered is lost, one delivered
-/// twice is repeated. Contracts see the sites and the packets as lists.
+/// Sites that hold replicas, and the packets that they have sent. A packet stays for good: one that is never delivered
+/// is lost, one delivered twice is repeated. Contracts see the sites and the packets as lists.
 #[derive(Drop)]
 pub struct Machine<A: Allocator + Copy = Global> {
     sites: Vec<Site<A>, A>,
@@ -149,7 +149,7 @@ impl<A: Allocator + Copy> Machine<A> {
     }
 }
 
-/// Where the thing of this number stands among so many, if there is one.
+/// Where the thing of this number is among so many, if there is one.
 fn place_of(number: u64, count: usize) -> Option<usize>
     ensures { MatchOption result ((number ≡ 0) ⊎ (count < number)) (λ place. (number ≡ place + 1) × (place < count)) }
 {

@@ -11,8 +11,8 @@ use review_ops::{Body, Draft, Op};
 use std::alloc::{Allocator, Global};
 use std::marker::Model;
 
-/// A site: its replica, what it saved last, and the number of its run. A journal only grows between restarts, so what was saved is the first
-/// so many of its arrivals, and only their number is kept.
+/// A site: its replica, what it saved last, and the number of its run. A journal only grows between restarts, so what
+/// was saved is the first so many of its arrivals, and only their number is kept.
 #[derive(Drop)]
 pub struct Site<A: Allocator + Copy = Global> {
     replica: Replica<A>,
@@ -95,8 +95,8 @@ impl<A: Allocator + Copy> Site<A> {
         self.saved = self.replica.arrivals();
     }
 
-    /// Goes back to what was saved last, under this start. In constant time where nothing came since, else in O(n log n) for n saved operations
-    /// and their bytes.
+    /// Goes back to what was saved last, under this start. In constant time where nothing came since, else in O(n log
+    /// n) for n saved operations and their bytes.
     pub fn restart(&mut self, start: u32) -> Result<Reply, WorldFault>
         ensures { IsRestart start self.old result self.new }
     {

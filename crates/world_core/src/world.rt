@@ -14,9 +14,9 @@ use review_ops::Op;
 use std::alloc::{Allocator, Global};
 use std::marker::Model;
 
-/// Sites that hold replicas, and the packets that they have sent. A packet stays for good: one that is never delivered is lost, one delivered
-/// twice is repeated. Contracts see the sites and the packets as lists. Each world came about by events alone, since it began with empty
-/// sites: so it converges, as `converges` says.
+/// Sites that hold replicas, and the packets that they have sent. A packet stays for good: one that is never delivered
+/// is lost, one delivered twice is repeated. Contracts see the sites and the packets as lists. Each world came about by
+/// events alone, since it began with empty sites: so it converges, as `converges` says.
 #[derive(Drop)]
 pub struct World<A: Allocator + Copy = Global> {
     alloc: A,
@@ -43,9 +43,10 @@ impl<A: Allocator + Copy> World<A> {
         Ok(World { alloc, machine })
     }
 
-    /// Worlds converge: some run of events led from empty sites to this world, and in it each site's journal is just what came to it, its state
-    /// is the state of that, sites to which the same operations came have equal states, no two stamps are of one site, start and sequence
-    /// number, and every operation is one that an intake made. It does nothing.
+    /// Worlds converge: some run of events led from empty sites to this world, and in it each site's journal is just
+    /// what came to it, its state is the state of that, sites to which the same operations came have equal states, no
+    /// two stamps are of one site, start and sequence number, and every operation is one that an intake made. It does
+    /// nothing.
     pub fn converges(&self)
         ensures { HasConverged A self.now }
     {
@@ -74,8 +75,9 @@ impl<A: Allocator + Copy> World<A> {
         self.machine.step(event)
     }
 
-    /// Lets events happen in order, and answers what each answered. Want of memory for the answers comes before the first event, and changes
-    /// nothing. Whatever run of events led to the world, the world converges on that run and these events.
+    /// Lets events happen in order, and answers what each answered. Want of memory for the answers comes before the
+    /// first event, and changes nothing. Whatever run of events led to the world, the world converges on that run and
+    /// these events.
     pub fn run(
         &mut self,
         events: Vec<Event<A>, A>,

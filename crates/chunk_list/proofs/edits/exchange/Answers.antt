@@ -28,6 +28,7 @@ returns-clause-rest g c =
     let inside : spot.chunk < length chunks = omega (arith, c.if-spot-len.false, c.len.ensures, c.args.chunks.now.ok.0) in
     let spot_inside = subst (λ l. IsInside (λ c. c.items) l spot.chunk spot.index) c.as_slice.ensures.value c.first_failing-spot.ensures.inside in
     let spot_rank = subst (λ l. place_of (λ c. c.items) l spot.chunk spot.index ≡ rank test (flat_map (λ c. c.items) l)) c.as_slice.ensures.value c.first_failing-spot.ensures.rank in
-    replaced (λ c. c.items) chunks spot.chunk found inside spot.index c.args.item _ (index_inside (λ c. c.items) chunks spot.chunk spot.index found inside spot_inside)
+    replaced (λ c. c.items) chunks spot.chunk found inside spot.index c.args.item _
+    (index_inside (λ c. c.items) chunks spot.chunk spot.index found inside spot_inside)
     (ap (set found.items spot.index) c.replace.ensures.after ∙ ap (λ v. set v.items spot.index c.args.item) c.index_mut-chunk.ensures.value)
     ∙ ap (λ n. set (flat_map (λ c. c.items) chunks) n c.args.item) spot_rank

@@ -1,4 +1,5 @@
-use Rattle.std.proofs.Common.{◌≡◌, ◌∙◌, ◌<◌, ◌≤◌, ◌+◌, ◌++◌, suc, length, get_or, set, drop, ap, subst, sym, arith, add-one}
+use Rattle.std.proofs.Common.{◌≡◌, ◌∙◌, ◌<◌, ◌≤◌, ◌+◌, ◌++◌, suc, length, get_or, set, drop, ap, subst, sym, arith}
+use Rattle.std.proofs.Common.{add-one}
 use Rattle.std.specs.List.{All, flat_map, insert, remove}
 use Rattle.std.proofs.lemmas.List.{take-append-drop, length-take-le, length-drop}
 use Rattle.std.proofs.lemmas.List.Edits.{get_or-insert_below}
@@ -44,8 +45,10 @@ returns-in-Err-clause-filled g c =
     let found = c.index_mut-chunk.result.now in
     let here : found ≡ get_or chunks index found =
     c.index_mut-chunk.ensures.value ∙ ap (λ l. get_or l index found) c.in_ok-insert.ensures.items ∙ get_or-insert_below chunks (index + 1) c.new.result found index (omega arith) (omega (arith, c.requires.inside)) in
-    let back = c.remove-none.ensures.items ∙ ap (λ v. remove (set c.insert.new.self.items index v) (index + 1)) (c.in-Err.ensures.err ∙ here)
-    ∙ ap (λ l. remove (set l index (get_or chunks index found)) (index + 1)) (c.in_ok-insert.ensures.items ∙ ap (λ n. insert chunks n c.new.result) (add-one index))
+    let back = c.remove-none.ensures.items
+    ∙ ap (λ v. remove (set c.insert.new.self.items index v) (index + 1)) (c.in-Err.ensures.err ∙ here)
+    ∙ ap (λ l. remove (set l index (get_or chunks index found)) (index + 1))
+    (c.in_ok-insert.ensures.items ∙ ap (λ n. insert chunks n c.new.result) (add-one index))
     ∙ ap (remove (set (insert chunks (suc index) c.new.result) index (get_or chunks index found))) (add-one index)
     ∙ undone (λ v. v.items) chunks index c.new.result found c.requires.inside in
     subst (All (λ v. 0 < length v.items)) (sym back) c.requires.filled

@@ -29,7 +29,8 @@ returns-then-not-is_empty-clause-rest g c =
     let inside : spot.chunk < length chunks = omega (arith, c.if-spot-len.false, c.len.ensures, c.args.chunks.now.ok.0) in
     let spot_inside = subst (λ l. IsInside (λ c. c.items) l spot.chunk spot.index) c.as_slice.ensures.value c.first_failing-spot.ensures.inside in
     let spot_rank = subst (λ l. place_of (λ c. c.items) l spot.chunk spot.index ≡ rank test (flat_map (λ c. c.items) l)) c.as_slice.ensures.value c.first_failing-spot.ensures.rank in
-    removed (λ c. c.items) chunks spot.chunk found inside spot.index c.remove-item.new.self (index_inside (λ c. c.items) chunks spot.chunk spot.index found inside spot_inside)
+    removed (λ c. c.items) chunks spot.chunk found inside spot.index c.remove-item.new.self
+    (index_inside (λ c. c.items) chunks spot.chunk spot.index found inside spot_inside)
     (c.remove-item.ensures.items ∙ ap (λ v. remove v.items spot.index) c.index_mut-chunk.ensures.value)
     ∙ ap (remove (flat_map (λ c. c.items) chunks)) spot_rank
 
@@ -58,6 +59,7 @@ returns-clause-rest g c =
     let none : length new.items ≡ 0 = omega (arith, eqb-true _ _ (sym c.is_empty.ensures ∙ c.if-not-is_empty.false), new.ok.0) in
     ap (flat_map (λ c. c.items)) c.remove-none.ensures.items
     ∙ emptied (λ c. c.items) chunks spot.chunk new inside (nil_from_length new.items none)
-    ∙ removed (λ c. c.items) chunks spot.chunk found inside spot.index new (index_inside (λ c. c.items) chunks spot.chunk spot.index found inside spot_inside)
+    ∙ removed (λ c. c.items) chunks spot.chunk found inside spot.index new
+    (index_inside (λ c. c.items) chunks spot.chunk spot.index found inside spot_inside)
     (c.remove-item.ensures.items ∙ ap (λ v. remove v.items spot.index) c.index_mut-chunk.ensures.value)
     ∙ ap (remove (flat_map (λ c. c.items) chunks)) spot_rank

@@ -46,4 +46,5 @@ pub returns-clause-rank : goal.returns-clause-rank
 returns-clause-rank g c =
     let test = g.P.Probe.passes c.args.probe.now in
     last_rank (λ c. c.items) test c.args.chunks.now c.in-Some.last.now c.requires.filled c.requires.parted c.in-Some.ensures.value
-    (ap (last_passes test) (sym c.as_slice.ensures.value) ∙ sym c.last_passes.ensures ∙ c.if-last_passes.true) (length c.args.chunks.now) refl
+    (ap (last_passes test) (sym c.as_slice.ensures.value) ∙ sym c.last_passes.ensures ∙ c.if-last_passes.true)
+    (length c.args.chunks.now) refl

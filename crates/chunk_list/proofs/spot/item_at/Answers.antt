@@ -11,4 +11,5 @@ returns g c =
     let look = c.in_ok-chunk.ensures.lookup in
     copied_at (λ (b : Bor g.row.T.Denot). b.now) c.as_slice.result.now c.args.spot.index c.get-2.result c.get-2.ensures.lookup
     ∙ ap (λ l. slice_get l c.args.spot.index) c.as_slice.ensures.value
-    ∙ item_there (λ c. c.items) chunks c.args.spot.chunk c.args.spot.index c.in_ok-chunk.chunk.now look.3.0 look.1 c.requires
+    ∙ item_there
+    (λ c. c.items) chunks c.args.spot.chunk c.args.spot.index c.in_ok-chunk.chunk.now look.3.0 look.1 c.requires

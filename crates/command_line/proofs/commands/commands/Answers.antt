@@ -9,4 +9,5 @@ returns c =
     let five = subcommand_added _ why_app four c.in_ok-why_command.ensures c.in_ok-explaining.ensures in
     let six = subcommand_added _ graph_app five c.in_ok-graph_command.ensures c.in_ok-drawing.ensures in
     let seven = subcommand_added _ recover_app six c.in_ok-recover_command.ensures c.in_ok-recovering.ensures in
-    IfOk-weaker c.subcommand-5.result _ _ (λ r adds. subcommand_added _ events_app seven c.events_command.ensures adds) c.subcommand-5.ensures
+    IfOk-weaker c.subcommand-5.result _ _
+    (λ r adds. subcommand_added _ events_app seven c.events_command.ensures adds) c.subcommand-5.ensures

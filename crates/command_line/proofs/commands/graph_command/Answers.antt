@@ -10,4 +10,5 @@ returns c =
     let bare : IsApp (new_app (codes "graph")) c.about.result = search rules in
     let one = arg_added _ (needed (codes "GATE")) bare c.file-gate.ensures c.in_ok-arg.ensures in
     let two = arg_added _ (needed (codes "SNAPSHOT")) one c.file-snapshot.ensures c.in_ok-arg-2.ensures in
-    IfOk-weaker c.arg-3.result _ _ (λ r adds. arg_added _ around_rule two c.around_option-around.ensures adds) c.arg-3.ensures
+    IfOk-weaker c.arg-3.result _ _
+    (λ r adds. arg_added _ around_rule two c.around_option-around.ensures adds) c.arg-3.ensures

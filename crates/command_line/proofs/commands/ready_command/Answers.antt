@@ -9,4 +9,5 @@ pub returns : goal.returns
 returns c =
     let bare : IsApp (new_app (codes "ready")) c.about.result = search rules in
     let one = arg_added _ (needed (codes "GATE")) bare c.file-gate.ensures c.in_ok-arg.ensures in
-    IfOk-weaker c.arg-2.result _ _ (λ r adds. arg_added _ (needed (codes "SNAPSHOT")) one c.file-snapshot.ensures adds) c.arg-2.ensures
+    IfOk-weaker c.arg-2.result _ _
+    (λ r adds. arg_added _ (needed (codes "SNAPSHOT")) one c.file-snapshot.ensures adds) c.arg-2.ensures

@@ -9,4 +9,5 @@ pub returns : goal.returns
 returns c =
     let bare : IsApp (new_app (codes "simulate")) c.about.result = search rules in
     let one = arg_added _ (needed (codes "SCRIPT")) bare c.file-script.ensures c.in_ok-arg.ensures in
-    IfOk-weaker c.arg-2.result _ _ (λ r adds. arg_added _ (new_rule (codes "GATE")) one c.gate_for_reports.ensures adds) c.arg-2.ensures
+    IfOk-weaker c.arg-2.result _ _
+    (λ r adds. arg_added _ (new_rule (codes "GATE")) one c.gate_for_reports.ensures adds) c.arg-2.ensures

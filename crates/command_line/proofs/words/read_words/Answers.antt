@@ -21,7 +21,8 @@ returns-in-Ok-try_get_matches_from g c =
     let app : app_of c.in-Ok.command ≡ program = c.in-Ok.ensures.0 in
     let matches = c.in-Ok-try_get_matches_from.ensures.matches (ap is_simple app ∙ simple) in
     let faultless = sym (ap (λ a. fault_of a words) app) ∙ c.in-Ok-try_get_matches_from.ensures.kinds (ap is_simple_and_free app ∙ free) in
-    asks_matched words _ c.command_in.result faultless (matches.1 ∙ ap (λ a. subcommand_of a words) app) c.command_in.ensures
+    asks_matched words _ c.command_in.result faultless
+    (matches.1 ∙ ap (λ a. subcommand_of a words) app) c.command_in.ensures
 
 pub returns-in-Err : goal.returns-in-Err
 returns-in-Err g c =

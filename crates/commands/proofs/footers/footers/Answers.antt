@@ -24,7 +24,9 @@ returns-in_default g c =
       first.0 ∷ second.0 ∷ [],
       g.C.Console.state c.read_message.new.console,
       both_had (input gate_file c.args.gate.now) (input message_file c.args.message.now)
-          (λ text. SpellsGate text c.in_ok-rules.rules) (λ text spells. (c.in_ok-rules.rules, spells)) (λ text. text ≡ string_bytes c.in_ok-message.message) (λ text is. subst IsUtf8 (sym (is ∙ text_is)) c.as_str.utf8) _ _ _ first second,
+          (λ text. SpellsGate text c.in_ok-rules.rules) (λ text spells. (c.in_ok-rules.rules, spells))
+          (λ text. text ≡ string_bytes c.in_ok-message.message)
+          (λ text is. subst IsUtf8 (sym (is ∙ text_is)) c.as_str.utf8) _ _ _ first second,
       stops (AreFooterLines first.0 second.0 c.args.change) _,
     )
 
@@ -38,14 +40,18 @@ returns g c =
       first.0 ∷ second.0 ∷ [],
       g.C.Console.state c.read_message.new.console,
       both_had (input gate_file c.args.gate.now) (input message_file c.args.message.now)
-          (λ text. SpellsGate text c.in_ok-rules.rules) (λ text spells. (c.in_ok-rules.rules, spells)) (λ text. text ≡ string_bytes c.in_ok-message.message) (λ text is. subst IsUtf8 (sym (is ∙ text_is)) c.as_str.utf8) _ _ _ first second,
-      finishes (IsWhole (AreFooterLines first.0 second.0 c.args.change) ⊥) (footers_text found.0 found.1) _ _ c.print.result
+          (λ text. SpellsGate text c.in_ok-rules.rules) (λ text spells. (c.in_ok-rules.rules, spells))
+          (λ text. text ≡ string_bytes c.in_ok-message.message)
+          (λ text is. subst IsUtf8 (sym (is ∙ text_is)) c.as_str.utf8) _ _ _ first second,
+      finishes (IsWhole (AreFooterLines first.0 second.0 c.args.change) ⊥)
+          (footers_text found.0 found.1) _ _ c.print.result
           (record {
             rules = c.in_ok-rules.rules;
             spelled = first.2;
             needs = found.0;
             ignored = found.1;
-            footers = subst (λ text. AreFooters c.in_ok-rules.rules.bases c.args.change text found.0 found.1) (sym (second.2 ∙ text_is)) found.2;
+            footers = subst (λ text. AreFooters c.in_ok-rules.rules.bases c.args.change text found.0 found.1)
+                (sym (second.2 ∙ text_is)) found.2;
             text = refl;
           })
           (subst (λ text. Prints text (g.C.Console.state c.read_message.new.console) (g.C.Console.state c.print.new.self) c.print.result) (c.as_slice.ensures.value ∙ found.3) c.print.ensures),

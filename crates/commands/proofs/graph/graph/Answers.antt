@@ -25,7 +25,8 @@ returns-in-Ok g c =
     inr (
       first.0 ∷ second.2.0 ∷ [],
       g.C.Console.state c.read_snapshot.new.console,
-      record_had c.args.gate.now c.args.snapshot.now rules (λ text. SpellsGate text rules) (λ text spells. spells) second.0 _ _ _ first second.2,
+      record_had c.args.gate.now c.args.snapshot.now rules (λ text. SpellsGate text rules)
+          (λ text spells. spells) second.0 _ _ _ first second.2,
       finishes (IsWhole (IsOf first.0 second.2.0 (IsPicture c.args.around)) (Lacks second.2.0 (HasAround c.args.around))) c.as_bytes.result.now _ _ c.print.result
           (record {
             rules = rules;
@@ -34,7 +35,8 @@ returns-in-Ok g c =
             says = second.2.2;
             so = (
               subst (HasAround c.args.around) state c.in-Ok.ensures.known,
-              subst (IsGraphText rules (state_of (all_arrived [] second.0)) c.args.around) (sym c.as_bytes.ensures.value)
+              subst (IsGraphText rules (state_of (all_arrived [] second.0)) c.args.around)
+                  (sym c.as_bytes.ensures.value)
                   (subst (λ s. IsGraphText rules s c.args.around (string_bytes c.in-Ok.text)) state c.in-Ok.ensures.drawn),
             );
           })
@@ -50,7 +52,8 @@ returns g c =
     inr (
       first.0 ∷ second.2.0 ∷ [],
       g.C.Console.state c.read_snapshot.new.console,
-      record_had c.args.gate.now c.args.snapshot.now rules (λ text. SpellsGate text rules) (λ text spells. spells) second.0 _ _ _ first second.2,
+      record_had c.args.gate.now c.args.snapshot.now rules (λ text. SpellsGate text rules)
+          (λ text spells. spells) second.0 _ _ _ first second.2,
       inl (
         [],
         not_there (IsOf first.0 second.2.0 (IsPicture c.args.around)) second.2.0 (HasAround c.args.around) c.in-Err.refusal second.0 c.state.result.now second.2.2 state c.in-Err.ensures.refused,

@@ -24,7 +24,8 @@ returns-in_default g c =
     inr (
       first.0 ∷ second.2.0 ∷ [],
       g.C.Console.state c.read_snapshot.new.console,
-      record_had c.args.gate.now c.args.snapshot.now rules (λ text. SpellsGate text rules) (λ text spells. spells) second.0 _ _ _ first second.2,
+      record_had c.args.gate.now c.args.snapshot.now rules (λ text. SpellsGate text rules)
+          (λ text spells. spells) second.0 _ _ _ first second.2,
       stops (IsOf first.0 second.2.0 IsReport) _,
     )
 
@@ -37,8 +38,10 @@ returns g c =
     inr (
       first.0 ∷ second.2.0 ∷ [],
       g.C.Console.state c.read_snapshot.new.console,
-      record_had c.args.gate.now c.args.snapshot.now rules (λ text. SpellsGate text rules) (λ text spells. spells) second.0 _ _ _ first second.2,
-      finishes (IsWhole (IsOf first.0 second.2.0 IsReport) ⊥) (report_of c.in-Ok.verdicts) _ _ c.print_report-printed.result
+      record_had c.args.gate.now c.args.snapshot.now rules (λ text. SpellsGate text rules)
+          (λ text spells. spells) second.0 _ _ _ first second.2,
+      finishes (IsWhole (IsOf first.0 second.2.0 IsReport) ⊥)
+          (report_of c.in-Ok.verdicts) _ _ c.print_report-printed.result
           (record {
             rules = rules;
             spelled = first.2;

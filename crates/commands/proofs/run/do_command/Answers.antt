@@ -1,5 +1,6 @@
 use Rattle.std.proofs.Common.{inl, inr, refl, []}
-use Rattle.command_line.specs.declared.words.Command.TheVariants.{Footers, Help, Merge, NoMemory, Ready, Simulate, Usage, Why}
+use Rattle.command_line.specs.declared.words.Command.TheVariants.{Footers, Help, Merge, NoMemory, Ready, Simulate}
+use Rattle.command_line.specs.declared.words.Command.TheVariants.{Usage, Why}
 use Rattle.commands.specs.Ending.{IsAnswer}
 use Rattle.commands.proofs.HowItEnds.{finishes, nothing_printed}
 use Rattle.commands.proofs.run.do_command.Goals as goal
@@ -28,7 +29,8 @@ returns-in-Help g c =
       [],
       g.C.Console.state c.args.console.now,
       refl,
-      finishes (IsAnswer (Help c.in-Help.text) []) c.as_bytes.result.now _ _ c.print.result (c.as_bytes.ensures.value, refl) c.print.ensures,
+      finishes (IsAnswer (Help c.in-Help.text) []) c.as_bytes.result.now _ _ c.print.result
+          (c.as_bytes.ensures.value, refl) c.print.ensures,
     ))
 
 pub returns-in-Usage : goal.returns-in-Usage

@@ -3,7 +3,8 @@ use Rattle.commands.specs.Running.{counts}
 use Rattle.commands.proofs.SameEnds.{ends-kept}
 use Rattle.commands.proofs.run.run_command.Goals as goal
 
-same_counts : (printed printed' : Option (List ℕ)) (input input' files files' output output' : ℕ) → printed ≡ printed' → input ≡ input' → files ≡ files' → output ≡ output'
+same_counts : (printed printed' : Option (List ℕ)) (input input' files files' output output' : ℕ) → printed ≡ printed'
+    → input ≡ input' → files ≡ files' → output ≡ output'
     → counts printed input files output ≡ counts printed' input' files' output'
 same_counts printed printed' input input' files files' output output' p i f o =
     ap (λ x. counts x input files output) p ∙ ap (λ x. counts printed' x files output) i
@@ -23,5 +24,6 @@ returns g c =
       named = refl;
       begins = refl;
       ends = c.do_command.ensures;
-      leaves = same_counts _ _ _ _ _ _ _ _ (search (rules, of_output)) (search (rules, of_input)) (search (rules, of_files)) (search (rules, of_output));
+      leaves = same_counts _ _ _ _ _ _ _ _ (search (rules, of_output)) (search (rules, of_input))
+          (search (rules, of_files)) (search (rules, of_output));
     }

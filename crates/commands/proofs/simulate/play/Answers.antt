@@ -21,7 +21,8 @@ loop-step-preserved-in_ok-print g c =
     let mid = g.C.Console.state c.loop-step.console in
     let now = g.C.Console.state c.print.new.self in
     let plays = subst (λ text. PlaysStep c.loop-step.world c.in-Some.step text c.play_step.new.world) (sym c.as_bytes.ensures) c.in-Ok-play_step.ensures in
-    goes_on c.args.script.sites c.args.script.steps.items (into_iter_items c.loop-step.step-iterator) c.loop-step.world (g.C.Console.state c.args.console.now) mid c.loop-step.invariant
+    goes_on c.args.script.sites c.args.script.steps.items (into_iter_items c.loop-step.step-iterator) c.loop-step.world
+    (g.C.Console.state c.args.console.now) mid c.loop-step.invariant
     c.in-Some.step (into_iter_items c.next.new.self) c.as_bytes.result.now c.play_step.new.world now c.in-Some.ensures.steps.0 plays (whole_of c.as_bytes.result.now mid now _ c.in_ok-print.ensures)
 
 pub loop-step-preserved : goal.loop-step-preserved
@@ -29,5 +30,6 @@ loop-step-preserved g c =
     let mid = g.C.Console.state c.loop-step.console in
     let now = g.C.Console.state c.print.new.self in
     let plays = subst (λ text. PlaysStep c.loop-step.world c.in-Some.step text c.play_step.new.world) (sym c.as_bytes.ensures) c.in-Ok-play_step.ensures in
-    goes_on c.args.script.sites c.args.script.steps.items (into_iter_items c.loop-step.step-iterator) c.loop-step.world (g.C.Console.state c.args.console.now) mid c.loop-step.invariant
+    goes_on c.args.script.sites c.args.script.steps.items (into_iter_items c.loop-step.step-iterator) c.loop-step.world
+    (g.C.Console.state c.args.console.now) mid c.loop-step.invariant
     c.in-Some.step (into_iter_items c.next.new.self) c.as_bytes.result.now c.play_step.new.world now c.in-Some.ensures.steps.0 plays (whole_of c.as_bytes.result.now mid now _ c.in_ok-print.ensures)

@@ -9,7 +9,8 @@ use Rattle.commands.proofs.simulate.simulate.Goals as goal
 pub returns-in_err-rules : goal.returns-in_err-rules
 returns-in_err-rules g c =
     let p = err_from_is_err_and c.from_residual-in_err-rules.result c.from_residual-in_err-rules.ensures.1 in
-    rw (p.1, p.2) (inl (gate_refused c.args.script c.args.gate _ _ _ _ _ c.in_ok-text.ensures.had c.in_err-rules.ensures.refused))
+    rw (p.1, p.2)
+    (inl (gate_refused c.args.script c.args.gate _ _ _ _ _ c.in_ok-text.ensures.had c.in_err-rules.ensures.refused))
 
 pub returns : goal.returns
 returns g c =

@@ -29,7 +29,9 @@ returns-in-Ok g c =
     inr (
       first.0 ∷ second.2.0 ∷ [],
       g.C.Console.state c.read_snapshot.new.console,
-      record_had c.args.gate.now c.args.snapshot.now file.rules (λ text. SpellsGate text file.rules × (text ≡ file.text.items)) (λ text is. is.0) second.0 _ _ _ first second.2,
+      record_had c.args.gate.now c.args.snapshot.now file.rules
+          (λ text. SpellsGate text file.rules × (text ≡ file.text.items))
+          (λ text is. is.0) second.0 _ _ _ first second.2,
       finishes (IsWhole (IsOf first.0 second.2.0 (IsReason first.0 c.args.change c.args.set)) (Lacks second.2.0 (HasItem c.args.change c.args.set))) c.as_bytes.result.now _ _ c.print.result
           (record {
             rules = file.rules;
@@ -37,7 +39,8 @@ returns-in-Ok g c =
             ops = second.0;
             says = second.2.2;
             so =
-                subst (IsReason first.0 c.args.change c.args.set file.rules (state_of (all_arrived [] second.0))) (sym c.as_bytes.ensures.value)
+                subst (IsReason first.0 c.args.change c.args.set file.rules (state_of (all_arrived [] second.0)))
+                (sym c.as_bytes.ensures.value)
                 (subst (λ s. IsReason first.0 c.args.change c.args.set file.rules s (string_bytes c.in-Ok.text)) state
                 (subst (λ t. IsReason t c.args.change c.args.set file.rules c.state.result.now (string_bytes c.in-Ok.text)) (sym first.2.1) c.in-Ok.ensures.reason));
           })
@@ -45,7 +48,8 @@ returns-in-Ok g c =
     )
 
 -- there is no such item, or memory was refused
-no_item : (change : ℕ) (set : Option ℕ) (state : State) (refusal : Refusal) → ((refusal ≡ NoItem) × ((item : Item) → ¬ IsAsked state change set item)) ⊎ (refusal ≡ Memory)
+no_item : (change : ℕ) (set : Option ℕ) (state : State) (refusal : Refusal)
+    → ((refusal ≡ NoItem) × ((item : Item) → ¬ IsAsked state change set item)) ⊎ (refusal ≡ Memory)
     → ((refusal ≡ NoItem) × ¬ HasItem change set state) ⊎ (refusal ≡ Memory)
 no_item change set state refusal (inl none) = inl (none.0, λ has. none.1 has.0 has.1)
 no_item change set state refusal (inr memory) = inr memory
@@ -59,10 +63,13 @@ returns g c =
     inr (
       first.0 ∷ second.2.0 ∷ [],
       g.C.Console.state c.read_snapshot.new.console,
-      record_had c.args.gate.now c.args.snapshot.now file.rules (λ text. SpellsGate text file.rules × (text ≡ file.text.items)) (λ text is. is.0) second.0 _ _ _ first second.2,
+      record_had c.args.gate.now c.args.snapshot.now file.rules
+          (λ text. SpellsGate text file.rules × (text ≡ file.text.items))
+          (λ text is. is.0) second.0 _ _ _ first second.2,
       inl (
         [],
-        not_there (IsOf first.0 second.2.0 (IsReason first.0 c.args.change c.args.set)) second.2.0 (HasItem c.args.change c.args.set) c.in-Err.refusal second.0 c.state.result.now second.2.2 state
+        not_there (IsOf first.0 second.2.0 (IsReason first.0 c.args.change c.args.set)) second.2.0
+            (HasItem c.args.change c.args.set) c.in-Err.refusal second.0 c.state.result.now second.2.2 state
             (no_item c.args.change c.args.set c.state.result.now c.in-Err.refusal c.in-Err.ensures.refused),
         nothing_printed (g.C.Console.state c.read_snapshot.new.console),
       ),

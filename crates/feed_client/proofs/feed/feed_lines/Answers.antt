@@ -20,11 +20,13 @@ returns-in_default g c = (
 pub loop-number-preserved : goal.loop-number-preserved
 loop-number-preserved g c =
     let so_far = c.loop-number.invariant in
-    let step = step_on g.T.Intake.replies c.loop-number.reader.limit c.args.limit (c.loop-number.number + 1) _ _ c.in_ok-next_line.field-0 so_far.3
+    let step = step_on g.T.Intake.replies c.loop-number.reader.limit c.args.limit
+    (c.loop-number.number + 1) _ _ c.in_ok-next_line.field-0 so_far.3
     c.if-not-branch.false c.in_ok-next_line.ensures.step in (
       so_far.0 ++ step.0 ∷ [],
       omega (arith, so_far.1, length-append so_far.0 (step.0 ∷ [])),
-      turns_push g.T.Intake.replies c.args.limit 1 (c.loop-number.number + 1) so_far.0 _ _ _ step.0 (omega (arith, so_far.1)) so_far.2 step.1,
+      turns_push g.T.Intake.replies c.args.limit 1 (c.loop-number.number + 1) so_far.0 _ _ _ step.0
+          (omega (arith, so_far.1)) so_far.2 step.1,
       c.in_ok-next_line.ensures.limit ∙ so_far.3,
     )
 
@@ -32,7 +34,8 @@ pub returns-in_err-next_line : goal.returns-in_err-next_line
 returns-in_err-next_line g c =
     let p = err_from_is_err_and c.from_residual.result c.from_residual.ensures.1 in
     let so_far = c.loop-number.invariant in
-    let stops = step_off g.T.Intake.replies c.loop-number.reader.limit c.args.limit (c.loop-number.number + 1) (length so_far.0 + 1) _ _
+    let stops = step_off g.T.Intake.replies c.loop-number.reader.limit c.args.limit (c.loop-number.number + 1)
+    (length so_far.0 + 1) _ _
     c.in_err-next_line.field-0.0 so_far.3 (omega (arith, so_far.1)) c.in_err-next_line.ensures.step in
     rw (p.1, p.2) (
       c.next_line.new.reader.held,
@@ -43,7 +46,8 @@ returns-in_err-next_line g c =
 pub returns-then-not-branch : goal.returns-then-not-branch
 returns-then-not-branch g c =
     let so_far = c.loop-number.invariant in
-    let stops = step_end g.T.Intake.replies c.loop-number.reader.limit (c.loop-number.number + 1) (length so_far.0 + 1) _ _
+    let stops = step_end g.T.Intake.replies c.loop-number.reader.limit (c.loop-number.number + 1)
+    (length so_far.0 + 1) _ _
     c.in_ok-next_line.field-0 c.if-not-branch.true (omega (arith, so_far.1)) c.in_ok-next_line.ensures.step in (
       c.next_line.new.reader.held,
       c.next_line.new.known,
@@ -55,5 +59,11 @@ returns g c =
     let so_far = c.loop-number.invariant in (
       c.loop-number.reader.held,
       c.loop-number.known,
-      record { turns = so_far.0; few = omega (arith, so_far.1); mid = _; lines = so_far.2; ended = inr (refl, omega (arith, so_far.1), refl) },
+      record {
+        turns = so_far.0;
+        few = omega (arith, so_far.1);
+        mid = _;
+        lines = so_far.2;
+        ended = inr (refl, omega (arith, so_far.1), refl);
+      },
     )

@@ -7,7 +7,8 @@ use Rattle.feed_client.proofs.feed.feed_lines.Given as goal
 abbrev pub invariant-loop-number : goal.invariant-loop-number
 invariant-loop-number g l =
     let old : Standing _ = record {
-      source = record { left = g.S.Source.left l.initial.source; failed = g.S.Source.failed l.initial.source; held = [] };
+      source =
+          record { left = g.S.Source.left l.initial.source; failed = g.S.Source.failed l.initial.source; held = [] };
       known = [];
       place = record { site = l.initial.site; state = l.initial.state };
       errors = record { taken = g.E.Drain.taken l.initial.errors; failed = g.E.Drain.failed l.initial.errors };
@@ -18,4 +19,5 @@ invariant-loop-number g l =
       place = record { site = l.site; state = l.state };
       errors = record { taken = g.E.Drain.taken l.errors; failed = g.E.Drain.failed l.errors };
     } in
-    (turns : List Turn) × (length turns ≡ l.number) × Turns g.T.Intake.replies l.limit 1 old turns now × (l.reader.limit ≡ l.limit)
+    (turns : List Turn) × (length turns ≡ l.number) × Turns g.T.Intake.replies l.limit 1 old turns now
+    × (l.reader.limit ≡ l.limit)

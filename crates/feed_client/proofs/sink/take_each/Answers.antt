@@ -9,8 +9,10 @@ pub loop-op-preserved : goal.loop-op-preserved
 loop-op-preserved c =
     let before = c.loop-op.yielded in
     let op = c.in-Some.op in (
-      c.in_ok-take.ensures.ok.0 ∙ ap (λ journal. arrived journal op) c.loop-op.invariant.0 ∙ sym (all_arrived-push c.args.replica.now before op),
-      c.loop-op.invariant.1 ∙ ap (λ rest. before ++ rest) c.in-Some.ensures.steps.0 ∙ sym (append_assoc before (op ∷ []) c.next.new.self.rest.items),
+      c.in_ok-take.ensures.ok.0 ∙ ap (λ journal. arrived journal op) c.loop-op.invariant.0
+          ∙ sym (all_arrived-push c.args.replica.now before op),
+      c.loop-op.invariant.1 ∙ ap (λ rest. before ++ rest) c.in-Some.ensures.steps.0
+          ∙ sym (append_assoc before (op ∷ []) c.next.new.self.rest.items),
     )
 
 pub returns-in_err-take-clause-err : goal.returns-in_err-take-clause-err

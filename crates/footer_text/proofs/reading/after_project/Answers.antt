@@ -28,10 +28,12 @@ returns-clause-project c =
     let cut = rsplit_parts 43 c.args.text.now (Some (c.in_ok-before.before, c.in_ok-before.after)) c.in_ok-before.ensures.cases (lit< tt) in
     let slash = strip_suffix_char 47 c.in_ok-before.before.now (Some c.in_ok-project.project) c.in_ok-project.ensures.cases (lit< tt) in
     let some : c.in_ok-project.project.now ≢ [] = search rules in
-    project_found _ _ _ cut.0 c.in_ok-project.project.now _ some slash (strip_prefix_char 47 c.in_ok-before.after.now _ c.strip_prefix.ensures.cases (lit< tt))
+    project_found _ _ _ cut.0 c.in_ok-project.project.now _ some slash
+    (strip_prefix_char 47 c.in_ok-before.after.now _ c.strip_prefix.ensures.cases (lit< tt))
 
 pub returns-clause-only : goal.returns-clause-only
 returns-clause-only c project number some lacks e =
     let cut = rsplit_parts 43 c.args.text.now (Some (c.in_ok-before.before, c.in_ok-before.after)) c.in_ok-before.ensures.cases (lit< tt) in
     let parts = project_parts _ _ _ cut.0 cut.1 project number lacks e in
-    number_found _ number _ parts.1 (strip_prefix_char 47 c.in_ok-before.after.now _ c.strip_prefix.ensures.cases (lit< tt))
+    number_found _ number _ parts.1
+    (strip_prefix_char 47 c.in_ok-before.after.now _ c.strip_prefix.ensures.cases (lit< tt))

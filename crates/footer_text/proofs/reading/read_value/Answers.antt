@@ -6,7 +6,8 @@ use Rattle.footer_text.proofs.reading.read_value.Goals as goal
 pub returns-in_err-after_form : goal.returns-in_err-after_form
 returns-in_err-after_form c =
     let begins = strip_prefix_text c.args.base.now c.args.value.now (Some c.in_ok-strip_prefix.field-0) c.in_ok-strip_prefix.ensures.cases in
-    rw c.from_residual-in_err-after_form.ensures (no_form _ _ _ begins (record { form = tt; only = c.in_err-after_form.ensures.only }))
+    rw c.from_residual-in_err-after_form.ensures
+    (no_form _ _ _ begins (record { form = tt; only = c.in_err-after_form.ensures.only }))
 
 pub returns : goal.returns
 returns c =

@@ -7,7 +7,8 @@ use Rattle.gate_rules.proofs.build.lent_texts.Goals as goal
 
 pub loop-value-preserved-in_default : goal.loop-value-preserved-in_default
 loop-value-preserved-in_default c =
-    c.loop-value.invariant ∙ sym (filtered_less as_str c.args.values.now c.loop-value.value-index c.value-item.result c.loop-value-test.true
+    c.loop-value.invariant ∙ sym
+    (filtered_less as_str c.args.values.now c.loop-value.value-index c.value-item.result c.loop-value-test.true
     (ap (λ v. as_str (view v)) (sym c.value-item.is) ∙ sym c.in_default.ensures))
 
 pub loop-value-preserved : goal.loop-value-preserved

@@ -5,4 +5,5 @@ use Rattle.gate_rules.proofs.own.is_among.Given as goal
 
 -- it is left to test the rest
 abbrev pub invariant-loop-text : goal.invariant-loop-text
-invariant-loop-text l = some (bytes_eq l.status) (map string_bytes l.texts) ≡ some (bytes_eq l.status) (map string_bytes (drop l.text-index l.texts))
+invariant-loop-text l = some (bytes_eq l.status) (map string_bytes l.texts)
+    ≡ some (bytes_eq l.status) (map string_bytes (drop l.text-index l.texts))

@@ -15,7 +15,8 @@ returns-in-Ok-text_of g c =
     let more = c.in-Ok-missing.missing.more in (
       replied (lacked ops more),
       (lacks c.in-Ok.front, (c.args.text.now, refl, c.in-Ok.ensures.spelled), c.in-Ok-missing.ensures.given),
-      sends_as (replied (lacked ops more)) c.as_slice.result.now _ _ _ _ _ (sym c.in-Ok-text_of.ensures ∙ sym c.as_slice.ensures.value) refl c.go_on_bytes.ensures,
+      sends_as (replied (lacked ops more)) c.as_slice.result.now _ _ _ _ _
+          (sym c.in-Ok-text_of.ensures ∙ sym c.as_slice.ensures.value) refl c.go_on_bytes.ensures,
     )
 
 pub returns-in-Ok-missing : goal.returns-in-Ok-missing
@@ -29,5 +30,6 @@ pub returns : goal.returns
 returns g c = (
   replied (refused c.in-Err-missing.fault),
   (lacks c.in-Ok.front, (c.args.text.now, refl, c.in-Ok.ensures.spelled), c.in-Err-missing.ensures.given),
-  sends_as (replied (refused c.in-Err-missing.fault)) c.refusal_line.result.now _ _ _ _ _ (sym c.refusal_line.ensures) refl c.go_on-in-Err-missing.ensures,
+  sends_as (replied (refused c.in-Err-missing.fault)) c.refusal_line.result.now _ _ _ _ _
+      (sym c.refusal_line.ensures) refl c.go_on-in-Err-missing.ensures,
 )

@@ -19,8 +19,10 @@ pub returns-in-Ok : goal.returns-in-Ok
 returns-in-Ok g c = (
   no_memory,
   inr (looks, looked c.in-Ok.replica, refl, tt, c.in-Ok.ensures.given),
-  sent_after no_memory_line (g.D.Drain.taken c.args.drain.now) (g.D.Drain.taken c.write_state.new.drain) (g.D.Drain.taken c.go_on.new.drain)
-      (g.D.Drain.failed c.args.drain.now) (g.D.Drain.failed c.write_state.new.drain) (g.D.Drain.failed c.go_on.new.drain) c.go_on.result
+  sent_after no_memory_line (g.D.Drain.taken c.args.drain.now) (g.D.Drain.taken c.write_state.new.drain)
+      (g.D.Drain.taken c.go_on.new.drain)
+      (g.D.Drain.failed c.args.drain.now) (g.D.Drain.failed c.write_state.new.drain)
+      (g.D.Drain.failed c.go_on.new.drain) c.go_on.result
       c.in-Err-NoMemory.field-0 c.in-Err-NoMemory.field-0-is c.in-Err-NoMemory.ensures.unwritten c.in-Err-NoMemory.ensures.counted c.go_on.ensures,
 )
 

@@ -18,5 +18,6 @@ pub returns-in-Err-intake : goal.returns-in-Err-intake
 returns-in-Err-intake g c = (
   replied (refused c.in-Err-intake.fault),
   (takes_in (deed_of c.in-Ok.draft), (c.args.text.now, refl, c.in-Ok.ensures.spelled), c.in-Err-intake.ensures),
-  sends_as (replied (refused c.in-Err-intake.fault)) c.refusal_line.result.now _ _ _ _ _ (sym c.refusal_line.ensures) refl c.go_on-in-Err-intake.ensures,
+  sends_as (replied (refused c.in-Err-intake.fault)) c.refusal_line.result.now _ _ _ _ _
+      (sym c.refusal_line.ensures) refl c.go_on-in-Err-intake.ensures,
 )

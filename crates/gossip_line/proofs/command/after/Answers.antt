@@ -8,4 +8,5 @@ pub returns-else-eq-clause-none : goal.returns-else-eq-clause-none
 returns-else-eq-clause-none c = λ begins.
     let word = c.args.word.now in
     false≢true (sym c.if-eq.false ∙ c.eq.ensures
-    ∙ same_texts c.split_at.result.0.now word (c.split_at.ensures.front ∙ ap (take (length word)) begins.1 ∙ take-append_seam word begins.0))
+    ∙ same_texts c.split_at.result.0.now word
+    (c.split_at.ensures.front ∙ ap (take (length word)) begins.1 ∙ take-append_seam word begins.0))

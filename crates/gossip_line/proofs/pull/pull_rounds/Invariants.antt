@@ -5,7 +5,7 @@ use Rattle.gossip_line.specs.Pull.{IsPull, Round}
 use Rattle.gossip_line.specs.Session.{Moment}
 use Rattle.gossip_line.proofs.pull.pull_rounds.Given as goal
 
--- so many rounds were whole, and each said that others are left
+-- so many rounds were whole, and each reported that others are left
 abbrev pub invariant-loop-round : goal.invariant-loop-round
 invariant-loop-round g l =
     let before : Moment g.row.K.Denot = record {
@@ -22,5 +22,6 @@ invariant-loop-round g l =
       unread = g.S.Source.failed l.source;
       unwritten = g.D.Drain.failed l.drain;
     } in
-    (greeting : List ℕ) × (rounds : List Round) × IsPull g.K.Sink.sinks l.limit before now greeting rounds l.reader.held × AllMore rounds × (length rounds ≡ l.round)
+    (greeting : List ℕ) × (rounds : List Round) × IsPull g.K.Sink.sinks l.limit before now greeting rounds l.reader.held
+    × AllMore rounds × (length rounds ≡ l.round)
     × (l.taken ≡ sum_by (λ (r : Round). length r.lines) rounds) × (l.taken ≤ 256 * l.round) × (l.reader.limit ≡ l.limit)

@@ -1,16 +1,19 @@
-use Rattle.std.proofs.Common.{◌++◌, ◌∷◌, [], ◌∙◌, refl, sym, ap, subst, arith, length, length-append, append-nil, inl, inr, Err}
+use Rattle.std.proofs.Common.{◌++◌, ◌∷◌, [], ◌∙◌, refl, sym, ap, subst, arith, length, length-append, append-nil, inl}
+use Rattle.std.proofs.Common.{inr, Err}
 use Rattle.std.proofs.KnownBytes.{Consumes-nil, Consumes-trans}
 use Rattle.std.proofs.lemmas.List.{length-map}
 use Rattle.std.proofs.lemmas.Result.{err_from_is_err_and}
 use Rattle.byte_ends.specs.Lines.{as_line}
-use Rattle.gossip_line.proofs.Pulling.{awaits_breaks, bytes_with, goes_further, operations_with, ops_with, read_further, unsaid_breaks}
+use Rattle.gossip_line.proofs.Pulling.{awaits_breaks, bytes_with, goes_further, operations_with, ops_with, read_further}
+use Rattle.gossip_line.proofs.Pulling.{unsaid_breaks}
 use Rattle.gossip_line.specs.Pull.{OperationLine, SaysOperation, bytes_in}
 use Rattle.line_reader.specs.Lines.{BeginsWithLine}
 use Rattle.gossip_line.specs.Session.{IsPiece}
 use Rattle.gossip_line.proofs.pull.read_answer.Goals as goal
 
 pub lines-init : goal.lines-init
-lines-init g c = ([], [], Consumes-nil _, tt, c.new-ops.ensures.items, omega arith, append-nil c.args.reader.now.held, refl, refl)
+lines-init g c =
+    ([], [], Consumes-nil _, tt, c.new-ops.ensures.items, omega arith, append-nil c.args.reader.now.held, refl, refl)
 
 pub returns-in_err-await_line-clause-reads : goal.returns-in_err-await_line-clause-reads
 returns-in_err-await_line-clause-reads g c =
@@ -46,7 +49,8 @@ returns-in-Some-clause-reads g c =
           says = sym now.2.2 ∙ sym c.line.ensures ∙ c.in-Some.ensures.some;
         },
         before.4,
-        read_further c.args.reader.now.held before.1 (bytes_in before.0) c.lines.reader.held now.0 (as_line now.2.0) c.await_line.new.reader.held before.6 now.2.1.whole,
+        read_further c.args.reader.now.held before.1 (bytes_in before.0) c.lines.reader.held now.0
+            (as_line now.2.0) c.await_line.new.reader.held before.6 now.2.1.whole,
       ),
     )
 
@@ -83,10 +87,12 @@ lines-preserved g c =
       before.0 ++ line ∷ [],
       before.1 ++ now.0,
       Consumes-trans _ _ _ before.1 now.0 before.2 now.1,
-      operations_with before.0 line c.args.reader.now.limit before.3 (subst (λ l. IsPiece l now.2.0) before.7 (record { plain = now.2.1.plain; short = now.2.1.short })) says,
+      operations_with before.0 line c.args.reader.now.limit before.3
+          (subst (λ l. IsPiece l now.2.0) before.7 (record { plain = now.2.1.plain; short = now.2.1.short })) says,
       added.2 ∙ ap (λ l. l ++ added.0 ∷ []) before.4 ∙ sym (ops_with before.0 line),
       omega (arith, before.5, length-append before.0 (line ∷ []), ap length before.4, length-map before.0 (λ (l : OperationLine). l.op), c.lines.ops.ok.0, c.len.ensures, c.if-len-eq-ANSWER_LIMIT.false),
-      read_further c.args.reader.now.held before.1 (bytes_in before.0) c.lines.reader.held now.0 (as_line now.2.0) c.await_line.new.reader.held before.6 now.2.1.whole
+      read_further c.args.reader.now.held before.1 (bytes_in before.0) c.lines.reader.held now.0
+          (as_line now.2.0) c.await_line.new.reader.held before.6 now.2.1.whole
           ∙ ap (λ l. l ++ c.await_line.new.reader.held) (sym (bytes_with before.0 line)),
       c.await_line.ensures.limit ∙ before.7,
       c.in_ok-await_line.ensures.counted ∙ before.8,

@@ -6,7 +6,8 @@ use Rattle.gossip_line.proofs.pull.read_answer.Given as goal
 -- the lines so far are operations, and what came past them is held
 abbrev pub invariant-lines : goal.invariant-lines
 invariant-lines g l =
-    (lines : List OperationLine) × (came : List ℕ) × Consumes (g.S.Source.left l.initial.source) (g.S.Source.left l.source) came
+    (lines : List OperationLine) × (came : List ℕ)
+    × Consumes (g.S.Source.left l.initial.source) (g.S.Source.left l.source) came
     × AreOperations l.initial.reader.limit lines × (l.ops.items ≡ ops_in lines) × (length lines ≤ 256)
     × (l.initial.reader.held ++ came ≡ bytes_in lines ++ l.reader.held)
     × (l.reader.limit ≡ l.initial.reader.limit) × (g.S.Source.failed l.source ≡ g.S.Source.failed l.initial.source)

@@ -19,4 +19,5 @@ invariant-loop-number g l =
       unread = g.S.Source.failed l.source;
       unwritten = g.D.Drain.failed l.drain;
     } in
-    (turns : List Turn) × (length turns ≡ l.number) × IsTalk g.P.Port.gives l.limit before now turns l.reader.held × (l.reader.limit ≡ l.limit)
+    (turns : List Turn) × (length turns ≡ l.number) × IsTalk g.P.Port.gives l.limit before now turns l.reader.held
+    × (l.reader.limit ≡ l.limit)

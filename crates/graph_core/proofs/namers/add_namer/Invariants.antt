@@ -7,4 +7,5 @@ use Rattle.graph_core.proofs.namers.add_namer.Given as goal
 
 abbrev pub invariant-loop-target : goal.invariant-loop-target
 invariant-loop-target l = (number : ℕ) → items_at (get nat_cmp l.namers number)
-    ≡ cond (has (take l.target-index l.targets) number) (items_at (get nat_cmp l.fn.namers number) ++ l.item ∷ []) (items_at (get nat_cmp l.fn.namers number))
+    ≡ cond (has (take l.target-index l.targets) number) (items_at (get nat_cmp l.fn.namers number) ++ l.item ∷ [])
+    (items_at (get nat_cmp l.fn.namers number))

@@ -11,7 +11,8 @@ pub loop-number-preserved : goal.loop-number-preserved
 loop-number-preserved c =
     let numbers = c.deref-number-items.result.now in
     let index = c.loop-number.number-index in
-    subst (λ l. AddsCurrent c.args.state.now l c.args.ahead.now.items c.add_current.new.ahead.items) (sym (take_more numbers index 0 (omega arith)))
+    subst (λ l. AddsCurrent c.args.state.now l c.args.ahead.now.items c.add_current.new.ahead.items)
+    (sym (take_more numbers index 0 (omega arith)))
     (adds_more c.args.state.now (take index numbers) (get_or numbers index 0) c.args.ahead.now.items c.loop-number.ahead.items c.add_current.new.ahead.items c.loop-number.invariant c.in_ok-add_current.ensures)
 
 pub returns : goal.returns

@@ -21,16 +21,19 @@ loop-preserved c =
 
 pub returns-in_default-clause-part : goal.returns-in_default-clause-part
 returns-in_default-clause-part c =
-    handed_is_part c.args.gate.now c.args.state.now c.args.items.items c.loop.found c.loop.ahead.items c.loop.invariant (omega (arith, c.in_default.ensures.cases.0, c.loop.ahead.ok.0))
+    handed_is_part c.args.gate.now c.args.state.now c.args.items.items c.loop.found c.loop.ahead.items c.loop.invariant
+    (omega (arith, c.in_default.ensures.cases.0, c.loop.ahead.ok.0))
     (λ part. part.items) c.listed.result c.listed.ensures.in_order c.listed.ensures.each
 
 pub returns-in_default-clause-items : goal.returns-in_default-clause-items
 returns-in_default-clause-items c =
-    handed_has c.args.gate.now c.args.state.now c.args.items.items c.loop.found c.loop.ahead.items c.loop.invariant (omega (arith, c.in_default.ensures.cases.0, c.loop.ahead.ok.0))
+    handed_has c.args.gate.now c.args.state.now c.args.items.items c.loop.found c.loop.ahead.items c.loop.invariant
+    (omega (arith, c.in_default.ensures.cases.0, c.loop.ahead.ok.0))
     (λ part. part.items) c.listed.result c.listed.ensures.each
 
 pub returns-clause-part : goal.returns-clause-part
-returns-clause-part c = IfOk-weaker c.items_of.result _ _ (λ part are. whole_is_part c.args.gate.now c.args.state.now part.items are) c.items_of.ensures
+returns-clause-part c = IfOk-weaker c.items_of.result _ _
+    (λ part are. whole_is_part c.args.gate.now c.args.state.now part.items are) c.items_of.ensures
 
 pub returns-clause-items : goal.returns-clause-items
 returns-clause-items c =

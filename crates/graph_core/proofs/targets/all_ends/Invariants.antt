@@ -4,4 +4,5 @@ use Rattle.graph_core.specs.Listed.{ArePlaces}
 use Rattle.graph_core.proofs.targets.all_ends.Given as goal
 
 abbrev pub invariant-loop-row : goal.invariant-loop-row
-invariant-loop-row l = AllZip (λ row places. ArePlaces l.items row.items places.items) (take l.row-index l.rows) l.ends.items
+invariant-loop-row l =
+    AllZip (λ row places. ArePlaces l.items row.items places.items) (take l.row-index l.rows) l.ends.items

@@ -22,14 +22,16 @@ returns c =
     let none : Item = record { change = 0; set = 0 } in
     let less : place < length c.items.result.now = omega (arith, c.requires.place, ap length c.items.ensures) in
     record {
-      item = subst (λ l. slice_get l place ≡ Some (get_or c.items.result.now place none)) c.items.ensures (slice_get-get_or c.items.result.now place none less);
+      item = subst (λ l. slice_get l place ≡ Some (get_or c.items.result.now place none)) c.items.ensures
+          (slice_get-get_or c.items.result.now place none less);
       refusal = c.refusal_of.ensures;
       cycle = c.cycle_at.ensures;
       needs = record {
         places = c.in_ok-ends.ends.items;
         kept = subst (λ l. AreKept (Contains l) (IsShown c.args.state.now graph.items c.args.near.now.ahead.items c.args.near.now.behind.items) c.in_ok-ends.ends.items)
             (c.ends.ensures.row ∙ ap (λ g. ends_of g place) c.digraph.ensures.ends) c.in_ok-ends.ensures;
-        needs_are = c.in_ok-needs.ensures ∙ ap (λ l. map (item_at l) c.as_slice.result.now) c.items-2.ensures ∙ ap (map (item_at graph.items)) c.as_slice.ensures.value;
+        needs_are = c.in_ok-needs.ensures ∙ ap (λ l. map (item_at l) c.as_slice.result.now) c.items-2.ensures
+            ∙ ap (map (item_at graph.items)) c.as_slice.ensures.value;
       };
       unknown = c.in_ok-unknown.ensures;
     }

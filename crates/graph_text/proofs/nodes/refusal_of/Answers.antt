@@ -1,4 +1,5 @@
-use Rattle.std.proofs.Common.{rules, ◌≡◌, ◌==◌, ◌&&◌, ℕ, Bool, true, not, Contains, List, length, get_or, ap, ap₂, sym, eq-eqb, ◌∙◌, arith}
+use Rattle.std.proofs.Common.{rules, ◌≡◌, ◌==◌, ◌&&◌, ℕ, Bool, true, not, Contains, List, length, get_or, ap, ap₂, sym}
+use Rattle.std.proofs.Common.{eq-eqb, ◌∙◌, arith}
 use Rattle.std.proofs.lemmas.Bool.{false≢true}
 use Rattle.state_core.specs.declared.item.Item.{Item}
 use Rattle.std.proofs.lemmas.List.Sorted.{IsPartitionPoint-from_clause}
@@ -11,7 +12,8 @@ use Rattle.why_text.proofs.Lookups.{lefts_partitioned, left_found}
 use Rattle.graph_text.proofs.nodes.refusal_of.Goals as goal
 
 not_unequal : (m n p q : ℕ) → m ≡ n → p ≡ q → true ≡ not ((m == n) && (p == q)) → ⊥
-not_unequal m n p q e f test = false≢true (sym (test ∙ ap not (ap₂ (λ (a : Bool) (b : Bool). a && b) (eq-eqb m n e) (eq-eqb p q f))))
+not_unequal m n p q e f test =
+    false≢true (sym (test ∙ ap not (ap₂ (λ (a : Bool) (b : Bool). a && b) (eq-eqb m n e) (eq-eqb p q f))))
 
 pub returns-then-place-out : goal.returns-then-place-out
 returns-then-place-out c = λ has.

@@ -5,4 +5,5 @@ use Rattle.graph_text.proofs.nodes.unknown_among.Given as goal
 
 -- those of the changes so far of which no patch set is known
 abbrev pub invariant-loop-target : goal.invariant-loop-target
-invariant-loop-target l = AreKept (Contains (take l.target-index l.targets)) (λ number. ¬ IsKnown l.state number) l.unknown.items
+invariant-loop-target l =
+    AreKept (Contains (take l.target-index l.targets)) (λ number. ¬ IsKnown l.state number) l.unknown.items

@@ -1,4 +1,5 @@
-use Rattle.std.proofs.Common.{rules, ◌≡◌, ◌<◌, [], Bool, true, false, Contains, cond, get_or, length, sym, ◌∙◌, subst, arith}
+use Rattle.std.proofs.Common.{rules, ◌≡◌, ◌<◌, [], Bool, true, false, Contains, cond, get_or, length, sym, ◌∙◌, subst}
+use Rattle.std.proofs.Common.{arith}
 use Rattle.std.proofs.lemmas.List.{get_or_default}
 use Rattle.std.proofs.lemmas.Result.{IfOk-weaker}
 use Rattle.walk_core.specs.Digraphs.{ends_of}
@@ -10,7 +11,8 @@ pub returns-then-not-index : goal.returns-then-not-index
 returns-then-not-index c =
     let graph = c.args.graph.now in
     let off : flag_at c.args.near.now.ahead.items c.args.place ≡ false = search rules in
-    IfOk-weaker c.unknown_among.result (λ unknown. AreKept (Contains []) (λ number. ¬ IsKnown c.args.state.now number) unknown.items)
+    IfOk-weaker c.unknown_among.result
+    (λ unknown. AreKept (Contains []) (λ number. ¬ IsKnown c.args.state.now number) unknown.items)
     (λ unknown. AreUnknownAt c.args.state.now graph c.args.near.now.ahead.items c.args.place unknown.items)
     (λ unknown are. subst (λ b. AreKept (Contains (cond b (ends_of graph.targets c.args.place) [])) (λ number. ¬ IsKnown c.args.state.now number) unknown.items) (sym off) are)
     c.unknown_among.ensures

@@ -24,7 +24,9 @@ returns c =
     let state = c.args.state.now in
     let nodes = c.in_ok-nodes.nodes.items in
     let unknown = c.in_ok-unknown.unknown.items in
-    IfOk-weaker c.text_of.result (λ text. string_bytes text ≡ graph_lines c.as_slice-2.result.now c.as_slice-3.result.now) (λ text. IsGraphText gate state c.args.around (string_bytes text))
+    IfOk-weaker c.text_of.result
+    (λ text. string_bytes text ≡ graph_lines c.as_slice-2.result.now c.as_slice-3.result.now)
+    (λ text. IsGraphText gate state c.args.around (string_bytes text))
     (λ text lines. record {
       verdicts = c.in_ok-verdicts.verdicts;
       judged = c.in_ok-verdicts.ensures;
@@ -32,6 +34,7 @@ returns c =
       drawn = nodes_drawn gate state c.in_ok-graph.graph c.in_ok-graph.ensures.graph c.in_ok-graph.ensures.whole c.args.around _ _ c.in_ok-near.ensures.ahead c.in_ok-near.ensures.behind c.in_ok-verdicts.verdicts c.in_ok-verdicts.ensures nodes c.in_ok-nodes.ensures;
       unknown = unknown;
       all_unknown = subst (λ (l : List Node). AreAllUnknown l unknown) c.as_slice.ensures.value c.in_ok-unknown.ensures;
-      lines = lines ∙ ap (λ l. graph_lines l c.as_slice-3.result.now) c.as_slice-2.ensures.value ∙ ap (graph_lines nodes) c.as_slice-3.ensures.value;
+      lines = lines ∙ ap (λ l. graph_lines l c.as_slice-3.result.now) c.as_slice-2.ensures.value
+          ∙ ap (graph_lines nodes) c.as_slice-3.ensures.value;
     })
     c.text_of.ensures

@@ -3,4 +3,5 @@ use Rattle.graph_text.specs.Lines.{unknown_line}
 use Rattle.graph_text.proofs.text.add_unknown.Given as goal
 
 abbrev pub invariant-loop-change : goal.invariant-loop-change
-invariant-loop-change l = string_bytes l.text ≡ string_bytes l.initial.text ++ flat_map unknown_line (take l.change-index l.unknown)
+invariant-loop-change l =
+    string_bytes l.text ≡ string_bytes l.initial.text ++ flat_map unknown_line (take l.change-index l.unknown)

@@ -8,8 +8,10 @@ use Rattle.op_text.proofs.Taken.{IsSome-taken, text-taken, IsSome-text}
 use Rattle.op_text.proofs.read.take_text.Goals as goal
 use Rattle.op_text.proofs.read.take_text.Goals.{After-remove}
 
-taken_is : (c : After-remove) → option_map view c.remove.result ≡ found_at c.args.field (members_view c.args.members.now.entries)
-taken_is c = ap (option_map view) c.remove.ensures.value ∙ view-lookup c.key.result.now c.args.members.now.entries ∙ ap (λ k. get_member k (members_view c.args.members.now.entries)) c.key.ensures
+taken_is : (c : After-remove)
+    → option_map view c.remove.result ≡ found_at c.args.field (members_view c.args.members.now.entries)
+taken_is c = ap (option_map view) c.remove.ensures.value ∙ view-lookup c.key.result.now c.args.members.now.entries
+    ∙ ap (λ k. get_member k (members_view c.args.members.now.entries)) c.key.ensures
 
 pub unwrap-value-requires : goal.unwrap-value-requires
 unwrap-value-requires c = IsSome-taken c.remove.result _ (taken_is c) c.requires
@@ -20,8 +22,11 @@ unwrap-requires c =
 
 pub returns-clause-text : goal.returns-clause-text
 returns-clause-text c =
-    text-taken c.remove.result _ c.unwrap-value.result (taken_is (goal.at.returns-clause-text c).After-remove) c.unwrap-value.ensures ∙ sym c.into_text.ensures ∙ ap (option_map string_bytes) c.unwrap.ensures
+    text-taken c.remove.result _ c.unwrap-value.result
+    (taken_is (goal.at.returns-clause-text c).After-remove) c.unwrap-value.ensures ∙ sym c.into_text.ensures ∙ ap
+    (option_map string_bytes) c.unwrap.ensures
 
 pub returns-clause-others : goal.returns-clause-others
 returns-clause-others c = λ key other.
-    ap (λ es. get_member key (members_view es)) c.remove.ensures.entries ∙ get_member-remove_entry key c.key.result.now c.args.members.now.entries (λ same. other (same ∙ c.key.ensures))
+    ap (λ es. get_member key (members_view es)) c.remove.ensures.entries
+    ∙ get_member-remove_entry key c.key.result.now c.args.members.now.entries (λ same. other (same ∙ c.key.ensures))

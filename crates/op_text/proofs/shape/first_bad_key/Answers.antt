@@ -3,7 +3,8 @@ use Rattle.std.specs.Cmp.Lexicographic.{slice_cmp}
 use Rattle.std.specs.Ordering.{nat_cmp}
 use Rattle.serde_json.specs.View.{members_view}
 use Rattle.op_text.specs.Shape.{IsFirstBadKey}
-use Rattle.op_text.proofs.BadKeys.{FitsBelow, FitsBelow-less, KnownBelow, KnownBelow-not_less, Less-is_lt, misfit_is_first, stranger_is_first}
+use Rattle.op_text.proofs.BadKeys.{FitsBelow, FitsBelow-less, KnownBelow, KnownBelow-not_less, Less-is_lt}
+use Rattle.op_text.proofs.BadKeys.{misfit_is_first, stranger_is_first}
 use Rattle.op_text.proofs.shape.first_bad_key.Goals as goal
 
 -- the stranger is less than the misfit

@@ -6,7 +6,7 @@ use Rattle.op_text.specs.Text.{all_fields}
 use Rattle.op_text.proofs.Fields.{place_of, field_at, place_at, place_below}
 use Rattle.op_text.proofs.shape.first_misfit.Goals as goal
 
--- a field with a lesser key stands before
+-- a field with a lesser key comes before
 pub returns-then-not-fits-clause-first : goal.returns-then-not-fits-clause-first
 returns-then-not-fits-clause-first c = λ other less.
     let below : place_of other < place_of (get_or all_fields c.loop-field.field-index Change) = place_below other (get_or all_fields c.loop-field.field-index Change) less in

@@ -1,4 +1,5 @@
-use Rattle.std.proofs.Common.{◌≡◌, ◌≢◌, ◌++◌, ℕ, List, map, Option, Some, None, true, not, is_some, MatchOption, subst, sym, ◌∙◌, ap, append_assoc, append-nil}
+use Rattle.std.proofs.Common.{◌≡◌, ◌≢◌, ◌++◌, ℕ, List, map, Option, Some, None, true, not, is_some, MatchOption, subst}
+use Rattle.std.proofs.Common.{sym, ◌∙◌, ap, append_assoc, append-nil}
 use Rattle.std.proofs.lemmas.List.{map-append}
 use Rattle.std.proofs.lemmas.Bool.{false≢true}
 use Rattle.std.proofs.lemmas.Map.Iter.{rest_more, rest_all}
@@ -10,7 +11,9 @@ use Rattle.op_text.specs.Shape.{IsFieldKey}
 use Rattle.op_text.proofs.Entries.{AreFieldKeys-push, key_found, named_before, named_all}
 use Rattle.op_text.proofs.shape.first_stranger.Goals as goal
 
-IsFieldKey-from_named : (found : Option Field) (text : List ℕ) → MatchOption found ((field : Field) → key_of field ≢ text) (λ field. key_of field ≡ text) → is_some found ≡ true → IsFieldKey text
+IsFieldKey-from_named : (found : Option Field) (text : List ℕ)
+    → MatchOption found ((field : Field) → key_of field ≢ text) (λ field. key_of field ≡ text) → is_some found ≡ true
+    → IsFieldKey text
 IsFieldKey-from_named None text h some = absurd (false≢true some)
 IsFieldKey-from_named (Some field) text h some = (field, h)
 
@@ -18,7 +21,8 @@ pub returns-then-is_none-clause-present : goal.returns-then-is_none-clause-prese
 returns-then-is_none-clause-present c =
     let turn = rest_more deref c.loop-key.key-iterator c.next.new.self c.next.result c.in-Some.key c.in-Some.is c.next.ensures.steps in
     let split = subst (λ rest. map deref c.loop-key.yielded ++ rest ≡ keys c.args.members.now) turn c.loop-key.invariant.so_far in
-    rw c.as_str-then-is_none.ensures.value (key_found c.args.members.now.entries (map deref c.loop-key.yielded) c.next.new.self c.in-Some.key.now split)
+    rw c.as_str-then-is_none.ensures.value
+    (key_found c.args.members.now.entries (map deref c.loop-key.yielded) c.next.new.self c.in-Some.key.now split)
 
 pub returns-then-is_none-clause-first : goal.returns-then-is_none-clause-first
 returns-then-is_none-clause-first c =
@@ -43,4 +47,5 @@ pub returns-clause-none : goal.returns-clause-none
 returns-clause-none c =
     let over = rest_all deref c.loop-key.key-iterator c.next.new.self c.next.result c.in-None.is c.next.ensures.steps in
     let all = subst (λ rest. map deref c.loop-key.yielded ++ rest ≡ keys c.args.members.now) over c.loop-key.invariant.so_far in
-    named_all c.args.members.now.entries (map deref c.loop-key.yielded) (sym (append-nil (map deref c.loop-key.yielded)) ∙ all) c.loop-key.invariant.named
+    named_all c.args.members.now.entries (map deref c.loop-key.yielded)
+    (sym (append-nil (map deref c.loop-key.yielded)) ∙ all) c.loop-key.invariant.named

@@ -15,5 +15,6 @@ loop-field-preserved c =
     let step = rw c.draft-draft.ensures.value at c.in_ok-write_field.ensures.tokens in
     record {
       before = c.write_field.ensures.before ∙ c.loop-field.invariant.before;
-      tokens = step ∙ ap (λ ts. ts ++ member_tokens (key_of field) (values field)) c.loop-field.invariant.tokens ∙ ap (λ ts. begin_object ∷ ts) (sym more);
+      tokens = step ∙ ap (λ ts. ts ++ member_tokens (key_of field) (values field)) c.loop-field.invariant.tokens
+          ∙ ap (λ ts. begin_object ∷ ts) (sym more);
     }

@@ -4,7 +4,8 @@ use Rattle.op_text.proofs.Spelled.{body_spelled, both_facts, printed_body}
 use Rattle.op_text.proofs.write.write_body.Goals as goal
 
 pub returns-clause-text : goal.returns-clause-text
-returns-clause-text c = IfOk-weaker c.object_text.result _ _ (λ text printed. printed ∙ printed_body c.args.body.now) c.object_text.ensures.printed
+returns-clause-text c = IfOk-weaker c.object_text.result _ _
+    (λ text printed. printed ∙ printed_body c.args.body.now) c.object_text.ensures.printed
 
 pub returns-clause-spells : goal.returns-clause-spells
 returns-clause-spells c =

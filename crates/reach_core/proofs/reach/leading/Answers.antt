@@ -9,7 +9,8 @@ returns g c =
     let graph = c.args.graph.now in
     let marked = c.args.marked.now in
     let distances = c.in_ok-distances.distances.items in
-    IfOk-weaker c.are_there.result (λ flags. flags.items ≡ map is_some c.as_slice.result.now) (λ flags. AreLeading graph marked flags.items)
+    IfOk-weaker c.are_there.result (λ flags. flags.items ≡ map is_some c.as_slice.result.now)
+    (λ flags. AreLeading graph marked flags.items)
     (λ flags are. subst (AreLeading graph marked) (sym (are ∙ ap (map is_some) c.as_slice.ensures.value))
     (AreLeading-distances graph marked distances c.requires c.in_ok-distances.ensures))
     c.are_there.ensures

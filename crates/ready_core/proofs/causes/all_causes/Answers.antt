@@ -36,4 +36,5 @@ returns c =
     let state = c.args.state.now in
     let items = c.args.graph.now.items in
     let end : length items ≤ c.loop-place.place = omega (arith, length-AllZip (IsOwn gate state) items c.args.owns.now c.requires.owns) in
-    subst (λ l. AllZip (IsCauseOf gate state) l c.loop-place.causes.items) (take_all c.loop-place.place items end) c.loop-place.invariant
+    subst (λ l. AllZip (IsCauseOf gate state) l c.loop-place.causes.items)
+    (take_all c.loop-place.place items end) c.loop-place.invariant

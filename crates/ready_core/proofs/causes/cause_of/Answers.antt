@@ -5,7 +5,8 @@ use Rattle.ready_core.proofs.Causing.{targets_here, eligible_here, least_here}
 use Rattle.ready_core.proofs.causes.cause_of.Goals as goal
 
 pub returns-in-Some : goal.returns-in-Some
-returns-in-Some c = λ item here. (subst (IsOwn c.args.gate.now c.args.state.now item) c.in-Some.is (c.requires.own item here), refl)
+returns-in-Some c =
+    λ item here. (subst (IsOwn c.args.gate.now c.args.state.now item) c.in-Some.is (c.requires.own item here), refl)
 
 pub returns-then-is_barred : goal.returns-then-is_barred
 returns-then-is_barred c = λ item here.
@@ -22,7 +23,8 @@ returns-in_default-first_unknown c = λ item here.
     let gate = c.args.gate.now in
     let state = c.args.state.now in
     eligible_here gate state c.args.graph.now c.requires.graph c.args.place item here c.targets_at.result.now c.targets_at.ensures
-    (subst (IsOwn gate state item) c.in_default.is (c.requires.own item here)) (c.if-is_barred.ensures state item c.requires.graph here) c.in_default-first_unknown.ensures
+    (subst (IsOwn gate state item) c.in_default.is (c.requires.own item here))
+    (c.if-is_barred.ensures state item c.requires.graph here) c.in_default-first_unknown.ensures
 
 pub returns : goal.returns
 returns c = λ item here.

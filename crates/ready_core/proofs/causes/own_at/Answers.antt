@@ -8,7 +8,8 @@ use Rattle.ready_core.proofs.causes.own_at.Goals as goal
 
 pub returns-then-is_among_its_own : goal.returns-then-is_among_its_own
 returns-then-is_among_its_own c =
-    own_as_before c.args.gate.now c.args.state.now c.args.items.now c.requires.items c.args.place (c.is_among_its_own.ensures c.if-is_among_its_own.true) c.args.before c.requires.before
+    own_as_before c.args.gate.now c.args.state.now c.args.items.now c.requires.items c.args.place
+    (c.is_among_its_own.ensures c.if-is_among_its_own.true) c.args.before c.requires.before
 
 pub own-requires : goal.own-requires
 own-requires c =
@@ -18,4 +19,5 @@ own-requires c =
 pub returns : goal.returns
 returns c = λ item here.
     let no_item : Item = record { change = 0; set = 0 } in
-    subst (λ i. IsOwn c.args.gate.now c.args.state.now i c.own.result) (get_or_from_slice_get c.args.items.now c.args.place item no_item here) c.own.ensures
+    subst (λ i. IsOwn c.args.gate.now c.args.state.now i c.own.result)
+    (get_or_from_slice_get c.args.items.now c.args.place item no_item here) c.own.ensures

@@ -15,5 +15,6 @@ loop-place-preserved c =
       owns = rw c.in_ok-push.ensures.items
           (AllZip-more (IsOwn c.args.gate.now c.args.state.now) items c.loop-place.owns.items c.loop-place.place no_item c.own_at-own.result (omega arith)
           c.loop-place.invariant.owns (c.own_at-own.ensures (get_or items c.loop-place.place no_item) here));
-      own = λ earlier item follows at. c.own_at-own.ensures item (subst (λ place. IsAt items place item) (omega (arith, follows)) at);
+      own = λ earlier item follows at. c.own_at-own.ensures item
+          (subst (λ place. IsAt items place item) (omega (arith, follows)) at);
     }

@@ -5,7 +5,8 @@ use Rattle.ready_core.proofs.Judging.{judged_nothing, judged_ready, judged_out}
 use Rattle.ready_core.proofs.judge.by_place.Goals as goal
 
 pub loop-place-init : goal.loop-place-init
-loop-place-init c = λ gate state is of. rw (c.new-ready.ensures.items, c.new-out.ensures.items) (judged_nothing gate state c.args.graph.now.items)
+loop-place-init c = λ gate state is of. rw (c.new-ready.ensures.items, c.new-out.ensures.items)
+    (judged_nothing gate state c.args.graph.now.items)
 
 pub loop-place-preserved-in_default : goal.loop-place-preserved-in_default
 loop-place-preserved-in_default c = λ gate state is of.
@@ -18,7 +19,8 @@ loop-place-preserved-in_default c = λ gate state is of.
 
 pub refusal_of-refusal-requires-clause-rank : goal.refusal_of-refusal-requires-clause-rank
 refusal_of-refusal-requires-clause-rank c =
-    read_at c.args.ranks.now c.loop-place.place (Some c.in-Some.rank) (omega (arith, c.requires.distances.nodes, c.requires.nodes, ap length c.items-items.ensures)) c.in-Some.is
+    read_at c.args.ranks.now c.loop-place.place (Some c.in-Some.rank)
+    (omega (arith, c.requires.distances.nodes, c.requires.nodes, ap length c.items-items.ensures)) c.in-Some.is
 
 pub loop-place-preserved : goal.loop-place-preserved
 loop-place-preserved c = λ gate state is of.

@@ -5,7 +5,8 @@ use Rattle.ready_core.specs.WholeLaws.{on_all_items}
 use Rattle.ready_core.proofs.judge.evaluate.Goals as goal
 
 pub own_conditions-requires : goal.own_conditions-requires
-own_conditions-requires c = subst (ArePart c.args.gate.now c.args.state.now) (sym c.items.ensures) c.in_ok-graph.ensures.graph.items
+own_conditions-requires c =
+    subst (ArePart c.args.gate.now c.args.state.now) (sym c.items.ensures) c.in_ok-graph.ensures.graph.items
 
 pub verdicts_on-requires-clause-owns : goal.verdicts_on-requires-clause-owns
 verdicts_on-requires-clause-owns c =

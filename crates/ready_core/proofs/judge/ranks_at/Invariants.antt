@@ -5,4 +5,5 @@ use Rattle.ready_core.specs.Causes.{rank_at}
 use Rattle.ready_core.proofs.judge.ranks_at.Given as goal
 
 abbrev pub invariant-loop-place : goal.invariant-loop-place
-invariant-loop-place l = map to_rank l.found.items ≡ map (rank_at l.items) (map to_node_rank (take l.place-index l.places))
+invariant-loop-place l =
+    map to_rank l.found.items ≡ map (rank_at l.items) (map to_node_rank (take l.place-index l.places))

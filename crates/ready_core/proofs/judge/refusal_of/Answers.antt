@@ -2,7 +2,8 @@ use Rattle.std.proofs.Common.{◌≡◌, ◌∙◌, None, Some, sym, ap, subst, 
 use Rattle.std.specs.Prelude.{slice_get}
 use Rattle.std.proofs.lemmas.Option.{slice_get-get_or}
 use Rattle.walk_core.specs.Digraphs.{ends_of}
-use Rattle.ready_core.proofs.Ranking.{rank_above, refused_by_cause, refused_by_nearest, is_found, nearest_of, nearest_within}
+use Rattle.ready_core.proofs.Ranking.{rank_above, refused_by_cause, refused_by_nearest, is_found, nearest_of}
+use Rattle.ready_core.proofs.Ranking.{nearest_within}
 use Rattle.ready_core.proofs.judge.refusal_of.Goals as goal
 
 pub returns-in-Some : goal.returns-in-Some
@@ -34,5 +35,6 @@ returns c = λ gate state item is of here.
     let nearest = nearest_of c.args.ranks.now c.ends.result.now _ c.nearest.result c.unwrap-end.result c.unwrap-end.ensures c.nearest.ensures in
     let within = nearest_within c.args.ranks.now c.ends.result.now _ c.unwrap-end.result (length c.digraph.result.now) nearest c.ends.ensures.within in
     refused_by_nearest gate state c.args.graph.now c.args.causes.now c.args.ranks.now is of c.requires.searched c.args.place item c.args.rank c.unwrap-end.result c.change_at.result c.ends.result.now here c.requires.rank none
-    (c.ends.ensures.row ∙ ap (λ graph. ends_of graph c.args.place) c.digraph.ensures.ends) nearest (omega (arith, within, ap length c.digraph.ensures.ends, c.digraph.ensures.nodes))
+    (c.ends.ensures.row ∙ ap (λ graph. ends_of graph c.args.place) c.digraph.ensures.ends) nearest
+    (omega (arith, within, ap length c.digraph.ensures.ends, c.digraph.ensures.nodes))
     (λ next there. c.change_at.ensures next (subst (λ l. slice_get l c.unwrap-end.result ≡ Some next) (sym c.items.ensures) there))

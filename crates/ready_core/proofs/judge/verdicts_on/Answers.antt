@@ -7,5 +7,6 @@ use Rattle.ready_core.proofs.judge.verdicts_on.Goals as goal
 pub returns : goal.returns
 returns c =
     let are = c.in_ok-ranked.ensures.verdicts in
-    IfOk-weaker c.into_verdicts.result (λ verdicts. verdicts ≡ judged c.in_ok-ranked.ranked) (AreVerdictsOn c.args.gate.now c.args.state.now c.args.graph.now.items)
+    IfOk-weaker c.into_verdicts.result (λ verdicts. verdicts ≡ judged c.in_ok-ranked.ranked)
+    (AreVerdictsOn c.args.gate.now c.args.state.now c.args.graph.now.items)
     (λ verdicts same. subst (AreVerdictsOn c.args.gate.now c.args.state.now c.args.graph.now.items) (sym same) are.verdicts) c.into_verdicts.ensures

@@ -9,7 +9,9 @@ either true = inl refl
 either false = inr false≢true
 
 pub returns-clause-closed : goal.returns-clause-closed
-returns-clause-closed g c = λ ends eligible nodes set held are. IsClosed-AreSafe {E = IsEdge ends} {IsEligible = IsOfKind eligible} held (λ x there. either (eligible x)) are
+returns-clause-closed g c = λ ends eligible nodes set held are. IsClosed-AreSafe {E = IsEdge ends}
+    {IsEligible = IsOfKind eligible} held (λ x there. either (eligible x)) are
 
 pub returns-clause-union : goal.returns-clause-union
-returns-clause-union g c = λ ends eligible nodes set held are x there. IsInClosedSet-AreSafe {E = IsEdge ends} {IsEligible = IsOfKind eligible} held (λ x there. either (eligible x)) are x there
+returns-clause-union g c = λ ends eligible nodes set held are x there. IsInClosedSet-AreSafe {E = IsEdge ends}
+    {IsEligible = IsOfKind eligible} held (λ x there. either (eligible x)) are x there

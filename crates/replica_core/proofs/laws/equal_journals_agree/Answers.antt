@@ -14,7 +14,9 @@ pub returns-clause-front : goal.returns-clause-front
 returns-clause-front c = λ xs ys f g same is also. IsFront-unique ys f g (IsFront-same xs ys f same is) also
 
 pub returns-clause-missing : goal.returns-clause-missing
-returns-clause-missing c = λ xs ys front ops others same is also. IsMissing-unique ys front ops others (IsMissing-same xs ys front ops same is) also
+returns-clause-missing c = λ xs ys front ops others same is also. IsMissing-unique ys front ops others
+    (IsMissing-same xs ys front ops same is) also
 
 pub returns-clause-order : goal.returns-clause-order
-returns-clause-order c = λ xs ys ops others same is also. IsInOrder-unique operations_exact ys ops others (IsInOrder-same operations_exact xs ys ops same is) also
+returns-clause-order c = λ xs ys ops others same is also. IsInOrder-unique operations_exact ys ops others
+    (IsInOrder-same operations_exact xs ys ops same is) also

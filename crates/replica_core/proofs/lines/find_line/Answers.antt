@@ -4,7 +4,8 @@ use Rattle.std.specs.Ordering.{is_eq}
 use Rattle.std.specs.List.{Contains}
 use Rattle.replica_core.specs.Front.{row_order}
 use Rattle.replica_core.specs.Lines.{row_of, rows_of}
-use Rattle.replica_core.proofs.LineLists.{lines_parted, found_at, not_where_none, not_where_other, equal_rows, unequal_rows}
+use Rattle.replica_core.proofs.LineLists.{lines_parted, found_at, not_where_none, not_where_other, equal_rows}
+use Rattle.replica_core.proofs.LineLists.{unequal_rows}
 use Rattle.replica_core.proofs.lines.find_line.Goals as goal
 
 pub first_failing-requires : goal.first_failing-requires

@@ -12,7 +12,8 @@ pub insert-requires : goal.insert-requires
 insert-requires g c = lines_parted c.args.lines.now c.requires (c.args.row.site, c.args.row.start)
 
 pub returns-in-Some-clause-ok : goal.returns-in-Some-clause-ok
-returns-in-Some-clause-ok g c = contains_row c.args.lines.now c.in-Some.field-0.now c.in-Some.ensures.0 (c.args.row.site, c.args.row.start) c.in-Some.ensures.1
+returns-in-Some-clause-ok g c = contains_row c.args.lines.now c.in-Some.field-0.now c.in-Some.ensures.0
+    (c.args.row.site, c.args.row.start) c.in-Some.ensures.1
 
 pub returns-in-None-clause-ok : goal.returns-in-None-clause-ok
 returns-in-None-clause-ok g c =

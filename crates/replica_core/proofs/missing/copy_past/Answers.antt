@@ -12,7 +12,8 @@ pub loop-place-init : goal.loop-place-init
 loop-place-init g c =
     let journal = c.args.arrivals.now in
     record {
-      whole = ap (λ l. c.args.copies.now.items ++ l) (ap (ops_at journal) c.into_iter-place-iterator.ensures.into_iter_gives ∙ c.past-place-items.ensures.ops);
+      whole = ap (λ l. c.args.copies.now.items ++ l)
+          (ap (ops_at journal) c.into_iter-place-iterator.ensures.into_iter_gives ∙ c.past-place-items.ensures.ops);
       inside = All-same (λ place. place < length journal) c.into_iter-place-iterator.result c.past-place-items.result c.into_iter-place-iterator.ensures.into_iter_gives c.past-place-items.ensures.inside;
       room = c.requires.room;
     }
@@ -23,14 +24,16 @@ returns-then-len-limit g c =
     let copies = c.loop-place.copies.items in
     let place = c.in-Some.place.now in
     let rest = c.next.new.self in
-    one_left copies (c.args.copies.now.items ++ ops_past c.args.reach (ops_of journal c.args.line.now)) (ops_at journal rest) (op_at journal place) c.args.limit
+    one_left copies (c.args.copies.now.items ++ ops_past c.args.reach (ops_of journal c.args.line.now))
+    (ops_at journal rest) (op_at journal place) c.args.limit
     (omega (arith, c.if-len-limit.true, c.len.ensures, c.loop-place.copies.ok.0))
     (ap (λ l. copies ++ ops_at journal l) (sym c.in-Some.ensures.steps) ∙ c.loop-place.invariant.whole)
 
 pub bounds-arrivals-place : goal.bounds-arrivals-place
 bounds-arrivals-place g c =
     let journal = c.args.arrivals.now in
-    All-head (λ place. place < length journal) c.in-Some.place.now c.next.new.self (subst (All (λ place. place < length journal)) c.in-Some.ensures.steps c.loop-place.invariant.inside)
+    All-head (λ place. place < length journal) c.in-Some.place.now c.next.new.self
+    (subst (All (λ place. place < length journal)) c.in-Some.ensures.steps c.loop-place.invariant.inside)
 
 pub loop-place-preserved : goal.loop-place-preserved
 loop-place-preserved g c =
@@ -43,7 +46,9 @@ loop-place-preserved g c =
     let op : c.in_ok-copy.field-0 ≡ op_at journal place = c.in_ok-copy.ensures ∙ c.index-arrivals-place.is ∙ get_or_default journal place c.index-arrivals-place.result _ low in
     let grown : c.push.new.self.items ≡ copies ++ op_at journal place ∷ [] = c.in_ok-push.ensures.items ∙ ap (λ o. copies ++ o ∷ []) op in
     record {
-      whole = ap (λ l. l ++ ops_at journal rest) grown ∙ append_assoc copies (op_at journal place ∷ []) (ops_at journal rest) ∙ ap (λ l. copies ++ ops_at journal l) (sym c.in-Some.ensures.steps) ∙ c.loop-place.invariant.whole;
+      whole = ap (λ l. l ++ ops_at journal rest) grown
+          ∙ append_assoc copies (op_at journal place ∷ []) (ops_at journal rest)
+          ∙ ap (λ l. copies ++ ops_at journal l) (sym c.in-Some.ensures.steps) ∙ c.loop-place.invariant.whole;
       inside = All-tail (λ p. p < length journal) place rest inside;
       room = omega (arith, ap length grown, length_push copies (op_at journal place), c.loop-place.invariant.room, c.if-len-limit.false, c.len.ensures, c.loop-place.copies.ok.0);
     }

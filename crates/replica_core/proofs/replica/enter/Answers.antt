@@ -15,7 +15,8 @@ use Rattle.replica_core.proofs.replica.enter.Goals as goal
 
 pub insert-requires : goal.insert-requires
 insert-requires g c =
-    placed_parts c.args.arrivals.now c.args.line.now c.requires (is_below c.args.op.now) (λ x y of_x of_y. below_falls c.args.op.now x y) c.line.inside.places (ap (λ l. l.places) c.line.view_is)
+    placed_parts c.args.arrivals.now c.args.line.now c.requires (is_below c.args.op.now)
+    (λ x y of_x of_y. below_falls c.args.op.now x y) c.line.inside.places (ap (λ l. l.places) c.line.view_is)
 
 pub remove-place-requires : goal.remove-place-requires
 remove-place-requires g c =
@@ -37,7 +38,8 @@ returns-then-is_err-clause-err g c =
     let fails : test (length c.args.arrivals.now) ≡ false = ap (is_some_passing (is_below op)) (slice_get_past journal (length c.args.arrivals.now) (omega arith)) in
     let back : c.remove-place.new.self ≡ places =
     c.remove-place.ensures.rest ∙ ap (λ l. remove l (rank test l)) c.in_ok-insert.ensures.ok
-    ∙ ap (remove (insert places (rank test places) (length c.args.arrivals.now))) (rank-inserted test places (length c.args.arrivals.now) fails)
+    ∙ ap (remove (insert places (rank test places) (length c.args.arrivals.now)))
+    (rank-inserted test places (length c.args.arrivals.now) fails)
     ∙ remove-inserted places (rank test places) (length c.args.arrivals.now) (rank-le test places) in
     (ap (λ p. record { site = inside.row.site; start = inside.row.start; places = p; reach = inside.reach }) back ∙ c.line.view_is, at_err c.take.result c.is_err.result c.is_err.ensures.value c.if-is_err.true c.take.ensures.err)
 
@@ -51,7 +53,8 @@ returns-clause-ok g c =
     let are = ap (λ l. l.places) c.line.view_is in
     let index = rank (is_below op) (ops_of journal line) in
     let added : c.insert.new.self ≡ insert line.places index (length journal) =
-    c.in_ok-insert.ensures.ok ∙ ap (λ n. insert inside.places n (length journal)) (placed_rank journal line c.requires (is_below op) (λ x y of_x of_y. below_falls op x y) inside.places are)
+    c.in_ok-insert.ensures.ok ∙ ap (λ n. insert inside.places n (length journal))
+    (placed_rank journal line c.requires (is_below op) (λ x y of_x of_y. below_falls op x y) inside.places are)
     ∙ ap (λ l. insert l index (length journal)) are in (
       ap (λ p. record { site = inside.row.site; start = inside.row.start; places = p; reach = inside.reach }) added
           ∙ ap (λ (l : RowLine). record { site = l.site; start = l.start; places = insert line.places index (length journal); reach = l.reach }) c.line.view_is,

@@ -26,10 +26,12 @@ returns-then-has-clause-ok g c =
     )
 
 pub enter-requires : goal.enter-requires
-enter-requires g c = subst (λ j. IsFiled j c.args.line.now) (sym (c.as_slice-2.ensures.value ∙ c.in_ok-try_reserve.ensures.items)) c.requires.line.filed
+enter-requires g c = subst (λ j. IsFiled j c.args.line.now)
+    (sym (c.as_slice-2.ensures.value ∙ c.in_ok-try_reserve.ensures.items)) c.requires.line.filed
 
 pub returns-in_err-enter-clause-err : goal.returns-in_err-enter-clause-err
-returns-in_err-enter-clause-err g c = on_err_always c.from_residual-in_err-enter.result (c.in_ok-try_reserve.ensures.items, c.in_err-enter.ensures.err.0, c.in_err-enter.ensures.err.1)
+returns-in_err-enter-clause-err g c = on_err_always c.from_residual-in_err-enter.result
+    (c.in_ok-try_reserve.ensures.items, c.in_err-enter.ensures.err.0, c.in_err-enter.ensures.err.1)
 
 pub climbed-line-inside-requires-clause-filed : goal.climbed-line-inside-requires-clause-filed
 climbed-line-inside-requires-clause-filed g c =
@@ -65,7 +67,8 @@ returns-clause-ok g c =
       ap taken_of (sym new),
       after ∙ ap (λ t. cond t journal (journal ++ op ∷ [])) (sym new),
       record {
-        filed = filed_new journal line c.requires.line.filed op c.requires.row (rank (is_below op) (ops_of journal line)) refl absent
+        filed = filed_new journal line c.requires.line.filed op c.requires.row
+            (rank (is_below op) (ops_of journal line)) refl absent
             c.push.new.self.items (record { site = inside.row.site; start = inside.row.start; places = inside.places; reach = c.climbed-line-inside.result })
             after (ap (λ l. l.site) is) (ap (λ l. l.start) is) (ap (λ l. l.places) is);
         reach = subst (λ j. IsGapless (holds j inside.row.site inside.row.start) c.climbed-line-inside.result) c.as_slice-3.ensures.value

@@ -16,7 +16,8 @@ unreachable-requires g c =
     let lines = c.args.lines.now in
     let row : ℕ × ℕ = (c.args.op.stamp.site, c.args.op.stamp.start) in
     let own : row_of c.new.result ≡ row = ap row_of c.new.ensures ∙ ap (λ r. (r.site, r.start)) c.row_of.ensures in
-    never_none lines c.requires.lines.sorted row c.requires.row (sym c.in_default.is ∙ c.exchange.ensures.found ∙ ap (λ r. slice_get lines (line_rank lines r)) own)
+    never_none lines c.requires.lines.sorted row c.requires.row
+    (sym c.in_default.is ∙ c.exchange.ensures.found ∙ ap (λ r. slice_get lines (line_rank lines r)) own)
 
 pub file-taken-requires-clause-line : goal.file-taken-requires-clause-line
 file-taken-requires-clause-line g c =
@@ -31,14 +32,16 @@ file-taken-requires-clause-row g c =
     let lines = c.args.lines.now in
     let row : ℕ × ℕ = (c.args.op.stamp.site, c.args.op.stamp.start) in
     let own : row_of c.new.result ≡ row = ap row_of c.new.ensures ∙ ap (λ r. (r.site, r.start)) c.row_of.ensures in
-    out_row lines c.requires.lines.sorted row c.requires.row c.in-Some.line (c.in-Some.ensures.found ∙ ap (λ r. slice_get lines (line_rank lines r)) own)
+    out_row lines c.requires.lines.sorted row c.requires.row c.in-Some.line
+    (c.in-Some.ensures.found ∙ ap (λ r. slice_get lines (line_rank lines r)) own)
 
 pub exchange-empty-requires : goal.exchange-empty-requires
 exchange-empty-requires g c =
     let lines = c.args.lines.now in
     let row : ℕ × ℕ = (c.args.op.stamp.site, c.args.op.stamp.start) in
     let own : row_of c.new.result ≡ row = ap row_of c.new.ensures ∙ ap (λ r. (r.site, r.start)) c.row_of.ensures in
-    still_sorted lines c.requires.lines.sorted row c.requires.row c.new.result own c.exchange.new.lines (c.in-Some.ensures.lines ∙ ap (λ r. set lines (line_rank lines r) c.new.result) own)
+    still_sorted lines c.requires.lines.sorted row c.requires.row c.new.result own c.exchange.new.lines
+    (c.in-Some.ensures.lines ∙ ap (λ r. set lines (line_rank lines r) c.new.result) own)
 
 pub returns-clause-ok : goal.returns-clause-ok
 returns-clause-ok g c =

@@ -6,6 +6,7 @@ use Rattle.report_text.proofs.report.write_out.Given as goal
 -- the lines so far have passed, and no call failed
 abbrev pub invariant-loop-left : goal.invariant-loop-left
 invariant-loop-left g l = record {
-  passes : Passes (g.D.Drain.taken l.initial.drain) l.initial.page.bytes (g.D.Drain.taken l.drain) l.page.bytes (flat_map out_line (take l.left-index l.out));
+  passes : Passes (g.D.Drain.taken l.initial.drain) l.initial.page.bytes (g.D.Drain.taken l.drain) l.page.bytes
+      (flat_map out_line (take l.left-index l.out));
   none_failed : g.D.Drain.failed l.drain ≡ g.D.Drain.failed l.initial.drain;
 }

@@ -12,4 +12,5 @@ returns g c =
     let parent : string_bytes c.write_parent.new.text ≡ string_bytes c.write.new.self ++ parent_part c.args.register.now.1.parent = search rules in
     let second = part_more (string_bytes c.args.text.now) head (string_bytes c.write.new.self) (string_bytes c.write_parent.new.text) (parent_part c.args.register.now.1.parent) first parent in
     let end : string_bytes c.push_str.new.self ≡ string_bytes c.write_parent.new.text ++ codes "\n" = search rules in
-    part_more (string_bytes c.args.text.now) (head ++ parent_part c.args.register.now.1.parent ∷ []) (string_bytes c.write_parent.new.text) (string_bytes c.push_str.new.self) (codes "\n") second end
+    part_more (string_bytes c.args.text.now) (head ++ parent_part c.args.register.now.1.parent ∷ [])
+    (string_bytes c.write_parent.new.text) (string_bytes c.push_str.new.self) (codes "\n") second end

@@ -12,10 +12,15 @@ loop-set-init g c = ap (λ l. string_bytes c.args.text.now ++ flat_map (set_line
 
 pub loop-set-preserved : goal.loop-set-preserved
 loop-set-preserved g c =
-    lines_more (set_line c.args.number) (string_bytes c.args.text.now ++ flat_map (set_line c.args.number) (entries (sets_shown c.args.sets.now))) (string_bytes c.loop-set.text) (string_bytes c.write_set.new.text) (c.in-Some.set.now, (c.in-Some.register.now.0, patch_of c.in-Some.register.now.1)) _ _
+    lines_more (set_line c.args.number)
+    (string_bytes c.args.text.now ++ flat_map (set_line c.args.number) (entries (sets_shown c.args.sets.now)))
+    (string_bytes c.loop-set.text) (string_bytes c.write_set.new.text)
+    (c.in-Some.set.now, (c.in-Some.register.now.0, patch_of c.in-Some.register.now.1)) _ _
     (ap (map (λ pair. (pair.0, (pair.1.0, patch_of pair.1.1)))) (rest_more deref_pair _ _ _ _ c.in-Some.is c.next.ensures.steps)) c.in_ok-write_set.ensures c.loop-set.invariant
 
 pub returns : goal.returns
 returns g c =
-    lines_done (set_line c.args.number) (string_bytes c.args.text.now ++ flat_map (set_line c.args.number) (entries (sets_shown c.args.sets.now))) (string_bytes c.loop-set.text) _
+    lines_done (set_line c.args.number)
+    (string_bytes c.args.text.now ++ flat_map (set_line c.args.number) (entries (sets_shown c.args.sets.now)))
+    (string_bytes c.loop-set.text) _
     (ap (map (λ pair. (pair.0, (pair.1.0, patch_of pair.1.1)))) (rest_all deref_pair _ _ _ c.in-None.is c.next.ensures.steps)) c.loop-set.invariant

@@ -7,4 +7,5 @@ use Rattle.script_play.proofs.play.front_at.Goals as goal
 pub returns-in-Some : goal.returns-in-Some
 returns-in-Some c =
     let text = bytes_of c.front_line.result in
-    at_site (λ journal. ShowsFront journal text) (text ≡ no_site) (numbered c.args.world.now.sites c.args.site) c.in-Some.replica.now c.in-Some.ensures c.front_line.ensures
+    at_site (λ journal. ShowsFront journal text) (text ≡ no_site)
+    (numbered c.args.world.now.sites c.args.site) c.in-Some.replica.now c.in-Some.ensures c.front_line.ensures

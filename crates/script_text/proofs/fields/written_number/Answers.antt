@@ -19,6 +19,7 @@ pub returns-clause-found : goal.returns-clause-found
 returns-clause-found c =
     let field = c.args.field.now in
     let i = c.loop-byte.byte-index in (
-      All-from_get_or (λ byte. IsTrue (is_ascii_digit byte)) field 0 (λ k h. c.loop-byte.invariant.digits k (omega arith)),
+      All-from_get_or (λ byte. IsTrue (is_ascii_digit byte)) field 0
+          (λ k h. c.loop-byte.invariant.digits k (omega arith)),
       c.loop-byte.invariant.value ∙ ap written_number (take_all i field (omega arith)),
     )

@@ -8,7 +8,8 @@ use Rattle.script_text.proofs.script.read_script.Given as goal
 abbrev pub invariant-loop-number : goal.invariant-loop-number
 invariant-loop-number l =
     record {
-      told : (steps : List Step) (bad : Option ℕ) → SaySteps (option_copied l.gate) l.lines steps bad → SaySteps (option_copied l.gate) l.initial.lines (l.script.steps.items ++ steps) bad;
+      told : (steps : List Step) (bad : Option ℕ) → SaySteps (option_copied l.gate) l.lines steps bad
+          → SaySteps (option_copied l.gate) l.initial.lines (l.script.steps.items ++ steps) bad;
       sites : l.script.sites ≡ l.initial.script.sites;
       none : l.script.bad_line ≡ None;
     }

@@ -3,7 +3,8 @@ use Rattle.script_text.proofs.Saying.{no_send, send_unread, send_read, no_send_t
 use Rattle.script_text.proofs.script.read_send.Goals as goal
 
 pub returns-in_default-clause-only : goal.returns-in_default-clause-only
-returns-in_default-clause-only c gate step said = absurd (no_send gate c.args.fields.now c.in_default.ensures.none step said)
+returns-in_default-clause-only c gate step said =
+    absurd (no_send gate c.args.fields.now c.in_default.ensures.none step said)
 
 pub returns-in_err-receiver-clause-only : goal.returns-in_err-receiver-clause-only
 returns-in_err-receiver-clause-only c gate step said =

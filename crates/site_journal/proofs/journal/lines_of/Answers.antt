@@ -16,7 +16,9 @@ loop-op-preserved c =
     }
 
 pub returns-clause-sound : goal.returns-clause-sound
-returns-clause-sound c = subst AreSound (take_all c.loop-op.op-index c.args.ops.now c.loop-op-test.false) c.loop-op.invariant.sound
+returns-clause-sound c =
+    subst AreSound (take_all c.loop-op.op-index c.args.ops.now c.loop-op-test.false) c.loop-op.invariant.sound
 
 pub returns-clause-short : goal.returns-clause-short
-returns-clause-short c = subst AreShort (take_all c.loop-op.op-index c.args.ops.now c.loop-op-test.false) c.loop-op.invariant.short
+returns-clause-short c =
+    subst AreShort (take_all c.loop-op.op-index c.args.ops.now c.loop-op-test.false) c.loop-op.invariant.short

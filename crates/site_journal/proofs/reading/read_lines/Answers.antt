@@ -1,4 +1,5 @@
-use Rattle.std.proofs.Common.{◌≤◌, ◌<◌, [], refl, sym, subst, ap, ◌∙◌, ◌++◌, arith, append_assoc, append-nil, length, length-append}
+use Rattle.std.proofs.Common.{◌≤◌, ◌<◌, [], refl, sym, subst, ap, ◌∙◌, ◌++◌, arith, append_assoc, append-nil, length}
+use Rattle.std.proofs.Common.{length-append}
 use Rattle.std.proofs.KnownBytes.{Consumes-nil, Consumes-trans, Consumes-whole}
 use Rattle.std.proofs.lemmas.Result.{err_from_is_err_and}
 use Rattle.site_journal.specs.Text.{header_line}
@@ -12,7 +13,8 @@ loop-seen-init g c = record {
   came = [];
   read = Consumes-nil (g.F.Feed.left c.args.feed.now);
   seen = sym (ap length (append-nil header_line) ∙ header_length);
-  has = subst (λ l. HasRead l c.new-reading.result.replica c.new-reading.result.held.items c.new-reading.result.next) (sym (append-nil header_line)) c.new-reading.ensures;
+  has = subst (λ l. HasRead l c.new-reading.result.replica c.new-reading.result.held.items c.new-reading.result.next)
+      (sym (append-nil header_line)) c.new-reading.ensures;
   some = refl;
   same = refl;
   counted = refl;
@@ -25,7 +27,9 @@ loop-seen-preserved g c =
       came = before.came ++ read.0;
       read = Consumes-trans _ _ _ before.came read.0 before.read read.2;
       seen = omega (arith, before.seen, read.1, length-append header_line (before.came ++ read.0), length-append header_line before.came, length-append before.came read.0);
-      has = subst (λ l. HasRead l c.read_block.new.self.replica c.read_block.new.self.held.items c.read_block.new.self.next) (append_assoc header_line before.came read.0) (read.3 (header_line ++ before.came) before.has);
+      has = subst
+          (λ l. HasRead l c.read_block.new.self.replica c.read_block.new.self.held.items c.read_block.new.self.next)
+          (append_assoc header_line before.came read.0) (read.3 (header_line ++ before.came) before.has);
       some = before.some;
       same = c.in_ok-count.ensures.same ∙ before.same;
       counted = c.in_ok-count.ensures.counted ∙ before.counted;
@@ -37,7 +41,8 @@ returns-in_err-count-clause-refused g c =
     let p = err_from_is_err_and c.from_residual-in_err-count.result c.from_residual-in_err-count.ensures.1 in
     rw (p.1, p.2) (
     after_front (g.F.Feed.left c.args.feed.now) (g.F.Feed.left c.loop-seen.feed) before.came
-    (λ text. IsRefusal (header_line ++ text) c.in_err-count.field-0.0) (λ more. IsRefusal ((header_line ++ before.came) ++ more) c.in_err-count.field-0.0) before.read
+    (λ text. IsRefusal (header_line ++ text) c.in_err-count.field-0.0)
+    (λ more. IsRefusal ((header_line ++ before.came) ++ more) c.in_err-count.field-0.0) before.read
     (λ later h. subst (λ l. IsRefusal l c.in_err-count.field-0.0) (append_assoc header_line before.came later) h)
     (c.in_err-count.ensures.refused (header_line ++ before.came) before.has)
     )
@@ -55,7 +60,8 @@ returns-in-0-clause-found g c =
     let before = c.loop-seen.invariant in
     let read = c.in_ok-count.ensures.read in
     let some : 0 < length c.as_mut_slice.result.now = omega (arith, c.as_mut_slice.ensures.len, before.some, c.in_ok-piece.ensures.len) in
-    Consumes-whole (g.F.Feed.left c.args.feed.now) (g.F.Feed.left c.read_block.new.feed) (before.came ++ read.0) (λ text. IsFound (header_line ++ text) c.found.result)
+    Consumes-whole (g.F.Feed.left c.args.feed.now) (g.F.Feed.left c.read_block.new.feed) (before.came ++ read.0)
+    (λ text. IsFound (header_line ++ text) c.found.result)
     (Consumes-trans _ _ _ before.came read.0 before.read read.2)
     (c.in_ok-count.ensures.end c.in-0.is some)
     (c.found.ensures (header_line ++ (before.came ++ read.0))
@@ -65,5 +71,6 @@ returns-in-0-clause-found g c =
 pub returns-clause-refused : goal.returns-clause-refused
 returns-clause-refused g c =
     let before = c.loop-seen.invariant in
-    with_front (g.F.Feed.left c.args.feed.now) (g.F.Feed.left c.loop-seen.feed) before.came (λ text. most_text < length (header_line ++ text)) before.read
+    with_front (g.F.Feed.left c.args.feed.now) (g.F.Feed.left c.loop-seen.feed) before.came
+    (λ text. most_text < length (header_line ++ text)) before.read
     (λ later. omega (arith, before.seen, c.loop-seen-test.false, length-append header_line (before.came ++ later), length-append header_line before.came, length-append before.came later))

@@ -14,7 +14,9 @@ judged-requires g c = omega (arith, c.as_slice.ensures.len, c.in_ok-head.ensures
 pub returns-in-Whole-clause-found : goal.returns-in-Whole-clause-found
 returns-in-Whole-clause-found g c =
     let is = sym c.as_slice.ensures.value ∙ c.in-Whole.ensures in
-    IfOk-weaker c.read_lines.result (λ found. IfSome (g.F.Feed.left c.read_head.new.feed) (λ text. IsFound (header_line ++ text) found)) (λ found. IfSome (g.F.Feed.left c.args.feed.now) (λ text. IsFound text found))
+    IfOk-weaker c.read_lines.result
+    (λ found. IfSome (g.F.Feed.left c.read_head.new.feed) (λ text. IsFound (header_line ++ text) found))
+    (λ found. IfSome (g.F.Feed.left c.args.feed.now) (λ text. IsFound text found))
     (λ found. after_front (g.F.Feed.left c.args.feed.now) (g.F.Feed.left c.read_head.new.feed) c.in_ok-head.head.items (λ text. IsFound text found) (λ text. IsFound (header_line ++ text) found)
     c.in_ok-head.ensures.came (λ later k. subst (λ l. IsFound (l ++ later) found) (sym is) k))
     c.read_lines.ensures.found
@@ -22,7 +24,9 @@ returns-in-Whole-clause-found g c =
 pub returns-in-Whole-clause-refused : goal.returns-in-Whole-clause-refused
 returns-in-Whole-clause-refused g c =
     let is = sym c.as_slice.ensures.value ∙ c.in-Whole.ensures in
-    IfErr-weaker c.read_lines.result (λ fault. IfSome (g.F.Feed.left c.read_head.new.feed) (λ text. IsRefusal (header_line ++ text) fault)) (λ fault. IfSome (g.F.Feed.left c.args.feed.now) (λ text. IsRefusal text fault))
+    IfErr-weaker c.read_lines.result
+    (λ fault. IfSome (g.F.Feed.left c.read_head.new.feed) (λ text. IsRefusal (header_line ++ text) fault))
+    (λ fault. IfSome (g.F.Feed.left c.args.feed.now) (λ text. IsRefusal text fault))
     (λ fault. after_front (g.F.Feed.left c.args.feed.now) (g.F.Feed.left c.read_head.new.feed) c.in_ok-head.head.items (λ text. IsRefusal text fault) (λ text. IsRefusal (header_line ++ text) fault)
     c.in_ok-head.ensures.came (λ later k. subst (λ l. IsRefusal (l ++ later) fault) (sym is) k))
     c.read_lines.ensures.refused
@@ -31,13 +35,15 @@ pub returns-in-Front-clause-found : goal.returns-in-Front-clause-found
 returns-in-Front-clause-found g c =
     let few = c.in-Front.ensures.1 in
     let short : vec_len c.in_ok-head.head < 13 = omega (arith, few, header_length, c.as_slice.ensures.len) in
-    Consumes-whole (g.F.Feed.left c.args.feed.now) (g.F.Feed.left c.read_head.new.feed) c.in_ok-head.head.items (λ text. IsFresh text × (length c.as_slice-in-Front.result.now ≡ length text))
+    Consumes-whole (g.F.Feed.left c.args.feed.now) (g.F.Feed.left c.read_head.new.feed) c.in_ok-head.head.items
+    (λ text. IsFresh text × (length c.as_slice-in-Front.result.now ≡ length text))
     c.in_ok-head.ensures.came (c.in_ok-head.ensures.end short)
     (subst IsFresh c.as_slice.ensures.value c.in-Front.ensures, ap length c.as_slice-in-Front.ensures.value)
 
 pub returns-clause-refused : goal.returns-clause-refused
 returns-clause-refused g c =
-    bad_header (g.F.Feed.left c.args.feed.now) (g.F.Feed.left c.read_head.new.feed) c.in_ok-head.head.items c.in_ok-head.ensures.came
+    bad_header (g.F.Feed.left c.args.feed.now)
+    (g.F.Feed.left c.read_head.new.feed) c.in_ok-head.head.items c.in_ok-head.ensures.came
     (omega (arith, ap length c.as_slice.ensures.value, c.as_slice.ensures.len, c.in_ok-head.ensures.most))
     (λ p. c.in-Other.ensures (p.0, p.1 ∙ ap (λ l. l ++ p.0) (sym c.as_slice.ensures.value)))
 

@@ -8,5 +8,6 @@ pub shown_by-requires-clause-goes_on : goal.shown_by-requires-clause-goes_on
 shown_by-requires-clause-goes_on g c =
     let shown = c.in_ok-show.show.desk.shown.value.sight.seen in
     let same : c.in_ok-next.next.sight.seen ≡ shown =
-    ap (λ s. s.seen) c.in_ok-next.ensures ∙ sym (ap (λ v. v.sight.seen) c.in_ok-show.ensures.0 ∙ ap (λ s. s.seen) c.in_ok-first.ensures) in
+    ap (λ s. s.seen) c.in_ok-next.ensures
+    ∙ sym (ap (λ v. v.sight.seen) c.in_ok-show.ensures.0 ∙ ap (λ s. s.seen) c.in_ok-first.ensures) in
     subst (λ s. Goes shown s) (sym same) (goes_self shown)

@@ -4,7 +4,8 @@ use Rattle.snapshot_text.proofs.end_line.number.Goals as goal
 
 pub returns-then-not-is_ascii_digit : goal.returns-then-not-is_ascii_digit
 returns-then-not-is_ascii_digit c =
-    no_numeral c.args.digits.now c.loop-digit.digit-index c.loop-digit-test.true (sym c.is_ascii_digit.ensures.value ∙ c.if-not-is_ascii_digit.true)
+    no_numeral c.args.digits.now c.loop-digit.digit-index c.loop-digit-test.true
+    (sym c.is_ascii_digit.ensures.value ∙ c.if-not-is_ascii_digit.true)
 
 pub overflow_mul-number : goal.overflow_mul-number
 overflow_mul-number c =

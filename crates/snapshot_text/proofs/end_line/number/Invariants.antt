@@ -4,4 +4,5 @@ use Rattle.snapshot_text.proofs.end_line.number.Given as goal
 
 -- the bytes so far are digits that write the number
 abbrev pub invariant-loop-digit : goal.invariant-loop-digit
-invariant-loop-digit l = AllDigits 10 (take l.digit-index l.digits) × (digits_value 10 (take l.digit-index l.digits) ≡ l.number)
+invariant-loop-digit l =
+    AllDigits 10 (take l.digit-index l.digits) × (digits_value 10 (take l.digit-index l.digits) ≡ l.number)

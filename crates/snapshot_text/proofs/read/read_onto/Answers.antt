@@ -1,12 +1,14 @@
 use Rattle.std.proofs.Common.{◌+◌, length, sym, ap, ◌∙◌, subst, arith}
 use Rattle.std.proofs.lemmas.Result.{err_from_is_err_and}
 use Rattle.byte_ends.specs.Lines.{lines_of}
-use Rattle.snapshot_text.proofs.Reading.{Reading, Reading-start, Reading-more, Reading-whole, Reading-no_bad_end, Reading-nothing, Reading-no_bad_line, BeginsWith-length}
+use Rattle.snapshot_text.proofs.Reading.{Reading, Reading-start, Reading-more, Reading-whole, Reading-no_bad_end}
+use Rattle.snapshot_text.proofs.Reading.{Reading-nothing, Reading-no_bad_line, BeginsWith-length}
 use Rattle.snapshot_text.proofs.read.read_onto.Goals as goal
 
 pub loop-line-init : goal.loop-line-init
 loop-line-init c =
-    Reading-start c.args.replica c.in-Some.first.now (sym c.new-lines.ensures.lines ∙ c.in-Some.ensures) (c.is_header.ensures.0 c.if-not-is_header.false)
+    Reading-start c.args.replica c.in-Some.first.now (sym c.new-lines.ensures.lines ∙ c.in-Some.ensures)
+    (c.is_header.ensures.0 c.if-not-is_header.false)
 
 pub returns-in_err-judge_end-clause-only : goal.returns-in_err-judge_end-clause-only
 returns-in_err-judge_end-clause-only c = λ ops says.

@@ -7,7 +7,8 @@ use Rattle.snapshot_text.proofs.read.read_snapshot.Goals as goal
 
 pub returns-clause-err : goal.returns-clause-err
 returns-clause-err g c =
-    IfErr-weaker c.snapshot_of.result (λ fault. IsRefusal c.deref.result.now fault × IsOfText fault) (λ fault. IfSome (g.S.Source.left c.args.source.now) (λ text. IsRefusal text fault))
+    IfErr-weaker c.snapshot_of.result (λ fault. IsRefusal c.deref.result.now fault × IsOfText fault)
+    (λ fault. IfSome (g.S.Source.left c.args.source.now) (λ text. IsRefusal text fault))
     (known_refusal (g.S.Source.left c.args.source.now) c.deref.result.now
     (subst (λ bytes. IfSome (g.S.Source.left c.args.source.now) (λ text. bytes ≡ text)) (sym c.deref.ensures.value) c.in_ok-text.ensures.ok))
     c.snapshot_of.ensures.err

@@ -8,6 +8,7 @@ use Rattle.snapshot_text.proofs.write.text_of.Given as goal
 -- the header and the lines of the operations so far, each of which is sound
 abbrev pub invariant-loop-op : goal.invariant-loop-op
 invariant-loop-op l = record {
-  written : l.text.items ≡ as_line (codes "reviewgate 2") ++ operation_lines (map (λ op. op.now) (take l.op-index l.ops));
+  written : l.text.items
+      ≡ as_line (codes "reviewgate 2") ++ operation_lines (map (λ op. op.now) (take l.op-index l.ops));
   sound : AreSound (map (λ op. op.now) (take l.op-index l.ops));
 }

@@ -8,7 +8,8 @@ use Rattle.walk_core.proofs.component.spread.Goals as goal
 
 pub loop-node-init : goal.loop-node-init
 loop-node-init g c = record {
-  spreading = rw (c.new-found.ensures.items, c.in_ok-ahead.ensures.items) (spreading_starts _ _ _ _ _ _ c.steps.ensures.row);
+  spreading =
+      rw (c.new-found.ensures.items, c.in_ok-ahead.ensures.items) (spreading_starts _ _ _ _ _ _ c.steps.ensures.row);
   within = rw c.in_ok-ahead.ensures.items c.steps.ensures.within;
 }
 
@@ -39,7 +40,8 @@ loop-node-preserved-in-Continue-branch-3 g c =
     record {
       spreading = rw (c.found.ensures, c.in_ok-push.ensures.items, c.in_ok-extend_from_slice.ensures.items)
           (spreading_takes _ _ _ _ _ _ _ _ _ old (sought_found way) within is _ c.steps-then-eq.ensures.row);
-      within = rw c.in_ok-extend_from_slice.ensures.items (All-append (λ x. x < size) _ _ taken.1 c.steps-then-eq.ensures.within);
+      within = rw c.in_ok-extend_from_slice.ensures.items
+          (All-append (λ x. x < size) _ _ taken.1 c.steps-then-eq.ensures.within);
     }
 
 pub loop-node-preserved : goal.loop-node-preserved

@@ -7,7 +7,8 @@ use Rattle.walk_core.proofs.component.spread.Given as goal
 
 abbrev pub invariant-loop-node : goal.invariant-loop-node
 invariant-loop-node g l = record {
-  spreading : IsSpreading (IsStep l.graph l.way) (sought_place l.way) (found_place l.way) l.start l.initial.places.items l.places.items l.found.items l.ahead.items;
+  spreading : IsSpreading (IsStep l.graph l.way) (sought_place l.way)
+      (found_place l.way) l.start l.initial.places.items l.places.items l.found.items l.ahead.items;
   within : All (λ x. x < length l.graph) l.ahead.items;
 }
 

@@ -7,7 +7,8 @@ pub mark_block-requires-clause-targets : goal.mark_block-requires-clause-targets
 mark_block-requires-clause-targets g c = λ target here. c.requires.nodes.within target (c.requires.targets target here)
 
 pub take_counts-requires-clause-nodes : goal.take_counts-requires-clause-nodes
-take_counts-requires-clause-nodes g c = λ x here. let within = c.requires.nodes.within x here in omega (arith, within, c.requires.firsts.size)
+take_counts-requires-clause-nodes g c = λ x here. let within = c.requires.nodes.within x here in omega
+    (arith, within, c.requires.firsts.size)
 
 pub take_counts-requires-clause-firsts : goal.take_counts-requires-clause-firsts
 take_counts-requires-clause-firsts g c = λ x here.
@@ -16,12 +17,15 @@ take_counts-requires-clause-firsts g c = λ x here.
 
 pub returns-clause-bare : goal.returns-clause-bare
 returns-clause-bare g c = taken_bare c.args.graph.now c.args.firsts.now c.args.nodes.now c.args.block.now _ _ _ _ _ c.requires.firsts c.requires.nodes c.requires.few
-    c.mark_block.ensures.marked c.pass_all.ensures (c.pass_all.ensures.size ∙ c.mark_block.ensures.rows) c.take_counts.ensures c.requires.targets
+    c.mark_block.ensures.marked c.pass_all.ensures
+    (c.pass_all.ensures.size ∙ c.mark_block.ensures.rows) c.take_counts.ensures c.requires.targets
 
 pub returns-clause-each : goal.returns-clause-each
 returns-clause-each g c = counts_block c.args.graph.now c.args.firsts.now c.args.nodes.now c.args.block.now _ _ _ _ _ c.requires.firsts c.requires.nodes c.requires.few
-    c.mark_block.ensures.marked c.pass_all.ensures (c.pass_all.ensures.size ∙ c.mark_block.ensures.rows) c.take_counts.ensures
+    c.mark_block.ensures.marked c.pass_all.ensures
+    (c.pass_all.ensures.size ∙ c.mark_block.ensures.rows) c.take_counts.ensures
 
 pub returns-clause-elsewhere : goal.returns-clause-elsewhere
 returns-clause-elsewhere g c = counts_elsewhere c.args.graph.now c.args.firsts.now c.args.nodes.now c.args.block.now _ _ _ _ _ c.requires.firsts c.requires.nodes c.requires.few
-    c.mark_block.ensures.marked c.pass_all.ensures (c.pass_all.ensures.size ∙ c.mark_block.ensures.rows) c.take_counts.ensures
+    c.mark_block.ensures.marked c.pass_all.ensures
+    (c.pass_all.ensures.size ∙ c.mark_block.ensures.rows) c.take_counts.ensures

@@ -10,12 +10,14 @@ loop-start-init g c = record {
   rows = c.requires.rows;
   bare = c.requires.bare;
   counts = c.requires.counts;
-  each = λ x here. subst (LeadsToCount c.args.graph.now [] x) (sym (c.requires.zero x here)) (count_none c.args.graph.now x);
+  each = λ x here. subst (LeadsToCount c.args.graph.now [] x) (sym (c.requires.zero x here))
+      (count_none c.args.graph.now x);
   elsewhere = λ row. inr refl;
 }
 
 pub count_block-requires-clause-targets : goal.count_block-requires-clause-targets
-count_block-requires-clause-targets g c = λ target here. c.requires.targets target (block_within c.loop-start.start _ c.args.targets.now target here)
+count_block-requires-clause-targets g c =
+    λ target here. c.requires.targets target (block_within c.loop-start.start _ c.args.targets.now target here)
 
 pub loop-start-preserved : goal.loop-start-preserved
 loop-start-preserved g c =
@@ -37,4 +39,5 @@ loop-start-preserved g c =
     }
 
 pub returns-clause-each : goal.returns-clause-each
-returns-clause-each g c = rw (take_all c.loop-start.start c.args.targets.now c.loop-start-test.false) at c.loop-start.invariant.each
+returns-clause-each g c =
+    rw (take_all c.loop-start.start c.args.targets.now c.loop-start-test.false) at c.loop-start.invariant.each

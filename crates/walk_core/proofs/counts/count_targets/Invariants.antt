@@ -10,7 +10,8 @@ invariant-loop-start g l = record {
   rows : length l.rows.items ≡ length l.graph;
   bare : AreBare l.rows.items;
   counts : length l.counts.items ≡ length l.graph;
-  each : (x : ℕ) → Contains l.nodes x → LeadsToCount l.graph (take l.start l.targets) x (slice_index l.counts.items (slice_index l.firsts x));
+  each : (x : ℕ) → Contains l.nodes x
+      → LeadsToCount l.graph (take l.start l.targets) x (slice_index l.counts.items (slice_index l.firsts x));
   elsewhere : AreCountsElsewhere l.firsts l.nodes l.initial.counts.items l.counts.items;
 }
 

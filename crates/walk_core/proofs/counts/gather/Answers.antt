@@ -24,7 +24,8 @@ loop-end-preserved g c =
     let inside = c.ends-end-items.ensures.within c.loop-end.end-index 0 c.loop-end-test.true in
     let within = first_within c.args.graph.now c.args.firsts.now c.requires.firsts _ inside in
     let here : slice_index c.args.firsts.now end < length rows = omega (arith, within, c.requires.rows) in
-    gathered_more rows c.args.firsts.now _ _ _ _ ends c.loop-end.end-index end c.loop-end-test.true (get_or_default ends c.loop-end.end-index 0 _ c.loop-end-test.true)
+    gathered_more rows c.args.firsts.now _ _ _ _ ends c.loop-end.end-index end c.loop-end-test.true
+    (get_or_default ends c.loop-end.end-index 0 _ c.loop-end-test.true)
     (row_read rows (slice_index c.args.firsts.now end) c.index-in-loop-end.result.now here c.index-in-loop-end.ensures) c.joined-marks.ensures c.loop-end.invariant
 
 pub returns-then-eq : goal.returns-then-eq
@@ -36,7 +37,8 @@ returns-then-eq g c =
     let within : row < length rows = omega (arith, first, c.requires.rows) in
     let gathered = rw (take_all c.loop-end.end-index ends c.loop-end-test.false) at c.loop-end.invariant in
     passes_none c.args.graph.now c.args.firsts.now c.args.node rows c.requires.firsts c.requires.node within c.index.result.now c.loop-end.marks
-    (row_read rows row c.index.result.now within c.index.ensures) c.index.ensures ends (λ y here. rw c.ends-end-items.ensures.row at here) (λ y edge. rw c.ends-end-items.ensures.row edge)
+    (row_read rows row c.index.result.now within c.index.ensures) c.index.ensures ends
+    (λ y here. rw c.ends-end-items.ensures.row at here) (λ y edge. rw c.ends-end-items.ensures.row edge)
     (λ y here. All-contains (λ e. e < length c.args.graph.now) ends y c.ends-end-items.ensures.within here) gathered
     (same_text _ _ (sym c.if-eq.true ∙ c.eq.ensures))
 
@@ -54,6 +56,7 @@ returns g c =
     let within : row < length rows = omega (arith, first, c.requires.rows) in
     let gathered = rw (take_all c.loop-end.end-index ends c.loop-end-test.false) at c.loop-end.invariant in
     passes_new c.args.graph.now c.args.firsts.now c.args.node rows c.requires.firsts c.requires.node within c.index.result.now c.loop-end.marks
-    (row_read rows row c.index.result.now within c.index.ensures) c.index.ensures ends (λ y here. rw c.ends-end-items.ensures.row at here) (λ y edge. rw c.ends-end-items.ensures.row edge)
+    (row_read rows row c.index.result.now within c.index.ensures) c.index.ensures ends
+    (λ y here. rw c.ends-end-items.ensures.row at here) (λ y edge. rw c.ends-end-items.ensures.row edge)
     (λ y here. All-contains (λ e. e < length c.args.graph.now) ends y c.ends-end-items.ensures.within here) gathered
     (words_differ _ _ _ c.eq.ensures c.if-eq.false)

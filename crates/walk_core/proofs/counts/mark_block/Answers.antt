@@ -27,7 +27,8 @@ loop-target-preserved g c =
     let first = first_within c.args.graph.now c.args.firsts.now c.requires.firsts _ is_node in
     let within : row < length rows = omega (arith, first, c.loop-target.invariant.size) in
     marked_more c.args.graph.now c.args.firsts.now c.args.block.now rows c.loop-target.target c.requires.firsts c.loop-target.invariant c.loop-target-test.true is_node
-    c.index_mut.result.now c.put.new.self (row_read rows row c.index_mut.result.now within c.index_mut.ensures.value) c.put.ensures
+    c.index_mut.result.now c.put.new.self
+    (row_read rows row c.index_mut.result.now within c.index_mut.ensures.value) c.put.ensures
 
 pub offset_bounds-firsts-node : goal.offset_bounds-firsts-node
 offset_bounds-firsts-node g c =

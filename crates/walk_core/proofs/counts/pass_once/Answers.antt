@@ -17,11 +17,15 @@ second true b p = refl
 second false b p = p
 
 pub gather-changes-requires-clause-node : goal.gather-changes-requires-clause-node
-gather-changes-requires-clause-node g c = c.requires.nodes.within _ (Contains-get_or c.args.nodes.now c.loop-node.node-index 0 c.loop-node-test.true)
+gather-changes-requires-clause-node g c =
+    c.requires.nodes.within _ (Contains-get_or c.args.nodes.now c.loop-node.node-index 0 c.loop-node-test.true)
 
 pub loop-node-preserved : goal.loop-node-preserved
 loop-node-preserved g c =
     let nodes = c.args.nodes.now in
-    passes_more c.args.graph.now c.args.firsts.now nodes c.loop-node.node-index (slice_index nodes c.loop-node.node-index) c.loop-node-test.true (get_or_default nodes c.loop-node.node-index 0 _ c.loop-node-test.true)
+    passes_more c.args.graph.now c.args.firsts.now nodes c.loop-node.node-index
+    (slice_index nodes c.loop-node.node-index) c.loop-node-test.true
+    (get_or_default nodes c.loop-node.node-index 0 _ c.loop-node-test.true)
     _ _ _ c.loop-node.changes c.gather-changes.result _ c.loop-node.invariant c.gather-changes.ensures
-    (neither c.loop-node.changes c.gather-changes.result) (first c.loop-node.changes c.gather-changes.result) (second c.loop-node.changes c.gather-changes.result)
+    (neither c.loop-node.changes c.gather-changes.result) (first c.loop-node.changes c.gather-changes.result)
+    (second c.loop-node.changes c.gather-changes.result)

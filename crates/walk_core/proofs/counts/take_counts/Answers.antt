@@ -9,7 +9,8 @@ pub loop-node-init : goal.loop-node-init
 loop-node-init g c = takes_none c.args.firsts.now _ _
 
 pub bounds-firsts-node : goal.bounds-firsts-node
-bounds-firsts-node g c = c.requires.nodes _ (Contains-get_or c.args.nodes.now c.loop-node.node-index 0 c.loop-node-test.true)
+bounds-firsts-node g c =
+    c.requires.nodes _ (Contains-get_or c.args.nodes.now c.loop-node.node-index 0 c.loop-node-test.true)
 
 pub offset_bounds-firsts-node : goal.offset_bounds-firsts-node
 offset_bounds-firsts-node g c =
@@ -27,6 +28,8 @@ loop-node-preserved g c =
     let within : row < length rows = omega (arith, first, takes.size) in
     let inside : row < length c.loop-node.counts.items = omega (arith, first, takes.counts_size, c.requires.sized) in
     let old = c.index.ensures ∙ get_or_default c.loop-node.counts.items row _ 0 inside in
-    takes_more c.args.firsts.now nodes c.loop-node.node-index node c.loop-node-test.true (get_or_default nodes c.loop-node.node-index 0 _ c.loop-node-test.true) _ rows _ _ takes within inside
-    c.index-in-loop-node.result.now c.none.result (row_read rows row c.index-in-loop-node.result.now within c.index-in-loop-node.ensures) c.none.ensures
+    takes_more c.args.firsts.now nodes c.loop-node.node-index node c.loop-node-test.true
+    (get_or_default nodes c.loop-node.node-index 0 _ c.loop-node-test.true) _ rows _ _ takes within inside
+    c.index-in-loop-node.result.now c.none.result
+    (row_read rows row c.index-in-loop-node.result.now within c.index-in-loop-node.ensures) c.none.ensures
     c.saturating_add.result (omega (arith, c.saturating_add.ensures, c.count.ensures, old))

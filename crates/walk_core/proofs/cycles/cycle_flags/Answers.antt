@@ -9,5 +9,6 @@ pub returns : goal.returns
 returns g c =
     let found = c.in_ok-components.ensures in
     let marked = are_on_cycles c.args.graph.now _ found.settled found.none in
-    IfOk-weaker c.flags_of.result (λ flags. flags.items ≡ map is_on_cycle c.as_slice.result.now) (λ flags. AreOnCycles c.args.graph.now flags.items)
+    IfOk-weaker c.flags_of.result (λ flags. flags.items ≡ map is_on_cycle c.as_slice.result.now)
+    (λ flags. AreOnCycles c.args.graph.now flags.items)
     (λ flags are. rw (are, c.as_slice.ensures.value) marked) c.flags_of.ensures

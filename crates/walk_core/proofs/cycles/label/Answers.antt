@@ -16,5 +16,6 @@ pub loop-node-preserved : goal.loop-node-preserved
 loop-node-preserved g c =
     let within = c.requires _ (Contains-get_or c.args.nodes.now c.loop-node.node-index 0 c.loop-node-test.true) in
     let inside : slice_index c.args.nodes.now c.loop-node.node-index < length c.loop-node.firsts.items = omega (arith, within, c.loop-node.invariant.size) in
-    labelled_more c.args.nodes.now c.loop-node.node-index (slice_index c.args.nodes.now c.loop-node.node-index) c.args.first _ _ c.loop-node-test.true
+    labelled_more c.args.nodes.now c.loop-node.node-index
+    (slice_index c.args.nodes.now c.loop-node.node-index) c.args.first _ _ c.loop-node-test.true
     (get_or_default c.args.nodes.now c.loop-node.node-index 0 _ c.loop-node-test.true) inside c.loop-node.invariant

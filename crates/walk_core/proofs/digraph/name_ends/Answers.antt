@@ -5,7 +5,8 @@ use Rattle.walk_core.proofs.digraph.name_ends.Goals as goal
 
 pub loop-end-preserved : goal.loop-end-preserved
 loop-end-preserved g c =
-    Named-more c.args.ends.now c.args.node _ c.loop-end.end-index (slice_index c.args.ends.now c.loop-end.end-index) _ _ c.loop-end-test.true
+    Named-more c.args.ends.now c.args.node _ c.loop-end.end-index
+    (slice_index c.args.ends.now c.loop-end.end-index) _ _ c.loop-end-test.true
     (get_or_default c.args.ends.now c.loop-end.end-index 0 _ c.loop-end-test.true)
     c.loop-end.invariant c.in_ok-add_edge.ensures
 

@@ -4,4 +4,5 @@ use Rattle.walk_core.specs.Digraphs.{AddsEdges}
 use Rattle.walk_core.proofs.digraph.name_ends.Given as goal
 
 abbrev pub invariant-loop-end : goal.invariant-loop-end
-invariant-loop-end g l = AddsEdges (map (λ row. row.items) l.initial.namers.items) (λ x y. Contains (take l.end-index l.ends) x × (y ≡ l.node)) (map (λ row. row.items) l.namers.items)
+invariant-loop-end g l = AddsEdges (map (λ row. row.items) l.initial.namers.items)
+    (λ x y. Contains (take l.end-index l.ends) x × (y ≡ l.node)) (map (λ row. row.items) l.namers.items)

@@ -3,7 +3,8 @@ use Rattle.std.specs.List.{All}
 use Rattle.std.proofs.lemmas.Bool.{eqb-true, eqb-false}
 use Rattle.walk_core.specs.Digraphs.{IsMarked}
 use Rattle.walk_core.specs.Levels.{Discovers, LeadsInto}
-use Rattle.walk_core.proofs.LevelLemmas.{AreKnownTo-first, IsLevel-first, first_fits, AreKnownTo-next, IsLevel-next, next_fits, AreDistances-done, level_within}
+use Rattle.walk_core.proofs.LevelLemmas.{AreKnownTo-first, IsLevel-first, first_fits, AreKnownTo-next, IsLevel-next}
+use Rattle.walk_core.proofs.LevelLemmas.{next_fits, AreDistances-done, level_within}
 use Rattle.walk_core.proofs.distances.distances_to.Goals as goal
 
 pub loop-alloc-init : goal.loop-alloc-init

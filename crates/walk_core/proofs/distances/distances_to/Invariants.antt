@@ -3,7 +3,9 @@ use Rattle.walk_core.specs.Levels.{AreKnownTo, IsLevel, unreached}
 use Rattle.walk_core.proofs.distances.distances_to.Given as goal
 
 abbrev pub invariant-loop-alloc : goal.invariant-loop-alloc
-invariant-loop-alloc g l = AreKnownTo l.graph l.marked l.distance l.search.distances.items × IsLevel l.search.distances.items l.distance l.search.level.items × (l.distance + (length l.search.level.items + unreached l.search.distances.items) ≤ length l.graph)
+invariant-loop-alloc g l = AreKnownTo l.graph l.marked l.distance l.search.distances.items
+    × IsLevel l.search.distances.items l.distance l.search.level.items
+    × (l.distance + (length l.search.level.items + unreached l.search.distances.items) ≤ length l.graph)
 
 abbrev pub decreases-loop-alloc : goal.decreases-loop-alloc
 decreases-loop-alloc g l = length l.search.level.items + unreached l.search.distances.items

@@ -2,7 +2,8 @@ use Rattle.std.proofs.Common.{◌<◌, length, arith, ◌∙◌, ◌^◌}
 use Rattle.std.proofs.lemmas.List.{length-set}
 use Rattle.std.proofs.lemmas.List.Elements.{All-append, All-push}
 use Rattle.walk_core.specs.declared.finish.Task.TheVariants.{Leave}
-use Rattle.walk_core.proofs.Tasks.{node_of, taken_task, entered_within, range_is_all, range_within, all_and_one, fewer_left}
+use Rattle.walk_core.proofs.Tasks.{node_of, taken_task, entered_within, range_is_all, range_within, all_and_one}
+use Rattle.walk_core.proofs.Tasks.{fewer_left}
 use Rattle.walk_core.proofs.finish.finishing_order.Goals as goal
 
 pub loop-task-init : goal.loop-task-init
@@ -11,7 +12,8 @@ loop-task-init g c =
     let nodes = rw c.len.ensures at c.in_ok-order.ensures in
     record {
       all = rw nodes (range_is_all size);
-      within = rw (c.in_ok-enter_all.ensures, c.new-tasks.ensures.items, c.as_slice.ensures.value, nodes) (entered_within size _ (range_within size));
+      within = rw (c.in_ok-enter_all.ensures, c.new-tasks.ensures.items, c.as_slice.ensures.value, nodes)
+          (entered_within size _ (range_within size));
       size = omega (arith, c.in_ok-entered.ensures.len, c.len-2.ensures, c.in_ok-entered.entered.ok);
     }
 
@@ -43,6 +45,7 @@ loop-task-preserved-in-Continue-branch-6 g c =
     let pushed = All-push (λ t. node_of t < size) c.pop.new.self.items (Leave c.in-Enter.node) taken.1 (rw c.in-Enter.is at taken.0) in
     record {
       all = c.loop-task.invariant.all;
-      within = rw (c.in_ok-enter_all-in-Enter.ensures, c.in_ok-push-in-Enter.ensures.items) (All-append (λ t. node_of t < size) _ _ pushed (entered_within size _ c.ends.ensures.within));
+      within = rw (c.in_ok-enter_all-in-Enter.ensures, c.in_ok-push-in-Enter.ensures.items)
+          (All-append (λ t. node_of t < size) _ _ pushed (entered_within size _ c.ends.ensures.within));
       size = length-set _ _ _ ∙ c.loop-task.invariant.size;
     }

@@ -1,4 +1,5 @@
-use Rattle.walk_core.specs.Edges.{AreDistances-once, AreDistances-zero, AreDistances-next, AreDistances-edge, AreDistances-before}
+use Rattle.walk_core.specs.Edges.{AreDistances-once, AreDistances-zero, AreDistances-next, AreDistances-edge}
+use Rattle.walk_core.specs.Edges.{AreDistances-before}
 use Rattle.walk_core.proofs.laws.distances_along_edges.Goals as goal
 
 pub returns-clause-once : goal.returns-clause-once

@@ -3,7 +3,8 @@ use Rattle.std.proofs.lemmas.List.Elements.{Contains-get_or}
 use Rattle.walk_core.proofs.leads.have_sums.Goals as goal
 
 pub bounds-firsts-node : goal.bounds-firsts-node
-bounds-firsts-node c = c.requires.nodes _ (Contains-get_or c.args.nodes.now c.loop-node.node-index 0 c.loop-node-test.true)
+bounds-firsts-node c =
+    c.requires.nodes _ (Contains-get_or c.args.nodes.now c.loop-node.node-index 0 c.loop-node-test.true)
 
 pub offset_bounds-firsts-node : goal.offset_bounds-firsts-node
 offset_bounds-firsts-node c =

@@ -5,11 +5,13 @@ use Rattle.walk_core.specs.Regions.{AreGrouped}
 use Rattle.walk_core.proofs.EdgeLemmas.{ends_of-read}
 use Rattle.walk_core.proofs.Gathering.{first_within}
 use Rattle.walk_core.proofs.Blocks.{bare_rows}
-use Rattle.walk_core.proofs.Regional.{counted_none, region_holds, region_targets, region_order, region_zero, region_skips, region_counts, regions_counted}
+use Rattle.walk_core.proofs.Regional.{counted_none, region_holds, region_targets, region_order, region_zero}
+use Rattle.walk_core.proofs.Regional.{region_skips, region_counts, regions_counted}
 use Rattle.walk_core.proofs.leads.other_counts.Goals as goal
 
 pub have_sums-requires-clause-nodes : goal.have_sums-requires-clause-nodes
-have_sums-requires-clause-nodes g c = λ x here. let within = c.requires.nodes.within x here in omega (arith, within, c.requires.firsts.size)
+have_sums-requires-clause-nodes g c = λ x here. let within = c.requires.nodes.within x here in omega
+    (arith, within, c.requires.firsts.size)
 
 pub have_sums-requires-clause-firsts : goal.have_sums-requires-clause-firsts
 have_sums-requires-clause-firsts g c = λ x here.
@@ -38,7 +40,8 @@ loop-label-init g c =
       counts = omega (arith, c.in_ok-counts.ensures.len, c.len.ensures, c.in_ok-counts.counts.ok);
       counted = counted_none c.args.graph.now c.args.firsts.now c.args.nodes.now c.args.targets.now c.args.sums.now c.in_ok-labels.labels.items _ (λ x here.
           let first = first_within c.args.graph.now c.args.firsts.now c.requires.firsts x (c.requires.nodes.within x here) in
-          ap (λ items. slice_index items (slice_index c.args.firsts.now x)) zeros ∙ get_or-replicate {A = ℕ} c.len.result _ 0 0 (omega (arith, first, c.len.ensures)));
+          ap (λ items. slice_index items (slice_index c.args.firsts.now x)) zeros
+          ∙ get_or-replicate {A = ℕ} c.len.result _ 0 0 (omega (arith, first, c.len.ensures)));
     }
 
 pub have_sums-requires-in-loop-label-clause-nodes : goal.have_sums-requires-in-loop-label-clause-nodes
@@ -187,5 +190,6 @@ pub returns : goal.returns
 returns g c = (
   c.loop-label.invariant.counts,
   regions_counted c.args.graph.now c.args.firsts.now c.requires.firsts c.args.kept.now c.args.nodes.now c.args.targets.now c.requires.nodes c.requires.are_kept c.requires.targets c.requires.in_order
-      c.in_ok-labels.labels.items c.in_ok-labels.ensures c.args.sums.now _ c.loop-label.label (omega (arith, c.loop-label-test.false, c.len-label-end.ensures)) c.loop-label.invariant.counted,
+      c.in_ok-labels.labels.items c.in_ok-labels.ensures c.args.sums.now _ c.loop-label.label
+      (omega (arith, c.loop-label-test.false, c.len-label-end.ensures)) c.loop-label.invariant.counted,
 )

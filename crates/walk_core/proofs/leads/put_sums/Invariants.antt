@@ -6,6 +6,7 @@ use Rattle.walk_core.proofs.leads.put_sums.Given as goal
 abbrev pub invariant-loop-node : goal.invariant-loop-node
 invariant-loop-node g l = record {
   size : length l.counts.items ≡ length l.initial.counts.items;
-  put : (x : ℕ) → x < l.node → slice_index l.counts.items x ≡ unwrap_or (option_at l.sums x) (slice_index l.initial.counts.items x);
+  put : (x : ℕ) → x < l.node
+      → slice_index l.counts.items x ≡ unwrap_or (option_at l.sums x) (slice_index l.initial.counts.items x);
   left : (x : ℕ) → l.node ≤ x → slice_index l.counts.items x ≡ slice_index l.initial.counts.items x;
 }

@@ -7,7 +7,8 @@ use Rattle.walk_core.proofs.ranks.kept_from_last.Goals as goal
 pub loop-left-init : goal.loop-left-init
 loop-left-init g c = record {
   within = omega arith;
-  keeps = rw c.new-found.ensures.items (keeps_none c.args.kept.now c.args.nodes.now _ (drop_all _ c.args.nodes.now (omega arith)));
+  keeps = rw c.new-found.ensures.items
+      (keeps_none c.args.kept.now c.args.nodes.now _ (drop_all _ c.args.nodes.now (omega arith)));
 }
 
 pub bounds-kept-nodes : goal.bounds-kept-nodes
@@ -20,7 +21,9 @@ loop-left-preserved-then-not-kept-nodes g c =
     let inside = (c.requires _).0 (Contains-get_or nodes (c.loop-left.left - 1) 0 here) in
     record {
       within = omega (arith, c.loop-left.invariant.within);
-      keeps = keeps_skips c.args.kept.now nodes _ c.loop-left.left (slice_index nodes (c.loop-left.left - 1)) c.loop-left-test.true c.loop-left.invariant.within (get_or_default nodes (c.loop-left.left - 1) 0 _ here) c.loop-left.invariant.keeps
+      keeps = keeps_skips c.args.kept.now nodes _ c.loop-left.left
+          (slice_index nodes (c.loop-left.left - 1)) c.loop-left-test.true c.loop-left.invariant.within
+          (get_or_default nodes (c.loop-left.left - 1) 0 _ here) c.loop-left.invariant.keeps
           (unmarked_of _ _ _ inside c.if-not-kept-nodes.true);
     }
 
@@ -36,4 +39,5 @@ loop-left-preserved g c =
     }
 
 pub returns : goal.returns
-returns g c = keeps_all c.args.kept.now c.args.nodes.now _ c.loop-left.left (omega (arith, c.loop-left-test.false)) c.loop-left.invariant.keeps c.requires
+returns g c = keeps_all c.args.kept.now c.args.nodes.now _ c.loop-left.left
+    (omega (arith, c.loop-left-test.false)) c.loop-left.invariant.keeps c.requires

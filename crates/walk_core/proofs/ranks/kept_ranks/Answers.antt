@@ -17,7 +17,8 @@ pub lead_counts-requires-clause-nodes : goal.lead_counts-requires-clause-nodes
 lead_counts-requires-clause-nodes g c =
     let kept = c.in_ok-nodes.ensures in
     rw c.as_slice-2.ensures.value (record {
-      within = λ x here. let within = slice_get_within c.args.kept.now x _ ((kept x).0 here) in omega (arith, within, c.requires.sized);
+      within = λ x here. let within = slice_get_within c.args.kept.now x _ ((kept x).0 here) in omega
+          (arith, within, c.requires.sized);
       ends = λ x y here edge. (kept y).1 (c.requires.closed x y ((kept x).0 here) edge);
     })
 
@@ -53,4 +54,5 @@ returns g c =
     let counted = rw (c.as_slice-2.ensures.value, c.as_slice-3.ensures.value) at c.in_ok-counts.ensures.1 in
     let moved = rw (c.in_ok-ranks.ensures, c.as_slice-4.ensures.value, c.as_slice-5.ensures.value) at c.sort_unstable.ensures.permutation in
     ranks_in_order c.args.graph.now c.args.kept.now c.as_slice-firsts.result.now c.in_ok-counts.counts.items c.in_ok-targets.targets.items c.sort_unstable.new.self.items firsts kept
-    c.in_ok-targets.ensures.in_order marked_within (λ x here. counted x ((c.in_ok-nodes.ensures x).1 ((kept x).0 here))) moved c.sort_unstable.ensures.sorted
+    c.in_ok-targets.ensures.in_order marked_within
+    (λ x here. counted x ((c.in_ok-nodes.ensures x).1 ((kept x).0 here))) moved c.sort_unstable.ensures.sorted

@@ -1,4 +1,5 @@
-use Rattle.std.proofs.Common.{◌≡◌, ◌<◌, ◌++◌, ◌∷◌, [], Some, Vec, ℕ, length, map, set, slice_index, refl, ap, sym, ◌∙◌, subst, arith}
+use Rattle.std.proofs.Common.{◌≡◌, ◌<◌, ◌++◌, ◌∷◌, [], Some, Vec, ℕ, length, map, set, slice_index, refl, ap, sym, ◌∙◌}
+use Rattle.std.proofs.Common.{subst, arith}
 use Rattle.std.proofs.lemmas.List.{get_or_default, length-map, map-set}
 use Rattle.std.proofs.lemmas.List.Elements.{Contains-get_or}
 use Rattle.walk_core.specs.Regions.{AreGrouped, label_of}
@@ -33,7 +34,8 @@ loop-node-preserved g c =
     let named_within = c.requires.within node label named in
     let inside : label < length (map items rows) = omega (arith, named_within, c.loop-node.invariant.size) in
     let within : label < length rows = omega (arith, inside, length-map rows items) in
-    let more = grouped_takes c.args.labels.now nodes c.loop-node.node-index node c.loop-node-test.true (get_or_default nodes c.loop-node.node-index 0 _ c.loop-node-test.true)
+    let more = grouped_takes c.args.labels.now nodes c.loop-node.node-index node c.loop-node-test.true
+    (get_or_default nodes c.loop-node.node-index 0 _ c.loop-node-test.true)
     (map items rows) c.loop-node.invariant label named inside was.items (ends_of-read items rows label was within c.index_mut.ensures.value) in
     let written : map items (set rows label c.push.new.self) ≡ set (map items rows) label (was.items ++ node ∷ []) =
     map-set items rows label c.push.new.self ∙ ap (set (map items rows) label) c.in_ok-push.ensures.items in
@@ -47,5 +49,6 @@ loop-node-preserved-in_default g c =
     let items = λ (row : Vec ℕ g.row.A.Denot). row.items in
     let nodes = c.args.nodes.now in
     let node = slice_index nodes c.loop-node.node-index in
-    grouped_skips c.args.labels.now nodes c.loop-node.node-index node c.loop-node-test.true (get_or_default nodes c.loop-node.node-index 0 _ c.loop-node-test.true)
+    grouped_skips c.args.labels.now nodes c.loop-node.node-index node c.loop-node-test.true
+    (get_or_default nodes c.loop-node.node-index 0 _ c.loop-node-test.true)
     (map items c.loop-node.rows.items) c.loop-node.invariant c.in_default.is

@@ -5,7 +5,8 @@ use Rattle.std.proofs.lemmas.List.Elements.{All-append, All-from_recursion}
 use Rattle.lattice_core.specs.MemberLaws.{Contains-first}
 use Rattle.walk_core.specs.Regions.{Waits}
 use Rattle.walk_core.proofs.Spreading.{taken_within}
-use Rattle.walk_core.proofs.Labels.{IsLabelling, fewer_unlabelled, labelled_all, labelling_starts, labelling_passes, labelling_takes}
+use Rattle.walk_core.proofs.Labels.{IsLabelling, fewer_unlabelled, labelled_all, labelling_starts, labelling_passes}
+use Rattle.walk_core.proofs.Labels.{labelling_takes}
 use Rattle.walk_core.proofs.regions.label_region.Goals as goal
 
 pub loop-node-init : goal.loop-node-init
@@ -38,8 +39,10 @@ loop-node-preserved-in-Continue-branch-3 g c =
     let within : node < length labels = omega (arith, taken.0, c.loop-node.invariant.labelling.size, c.requires.labels) in
     let waits : Waits c.args.kept.now labels node = rw c.as_slice.ensures.value at c.if-waits.ensures in
     rw (c.in_ok-extend_from_slice-2.ensures.items, c.in_ok-extend_from_slice.ensures.items) (record {
-      labelling = labelling_takes _ _ _ _ _ _ _ old within waits _ _ (λ y edge. rw c.ends.ensures.row edge) (λ y edge. (c.namers.ensures.row y).1 edge);
-      within = All-append (λ x. x < size) _ _ (All-append (λ x. x < size) _ _ taken.1 c.ends.ensures.within) c.namers.ensures.within;
+      labelling = labelling_takes _ _ _ _ _ _ _ old within waits _ _ (λ y edge. rw c.ends.ensures.row edge)
+          (λ y edge. (c.namers.ensures.row y).1 edge);
+      within = All-append (λ x. x < size) _ _
+          (All-append (λ x. x < size) _ _ taken.1 c.ends.ensures.within) c.namers.ensures.within;
     })
 
 pub loop-node-preserved : goal.loop-node-preserved

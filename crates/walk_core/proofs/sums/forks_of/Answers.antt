@@ -6,7 +6,8 @@ use Rattle.walk_core.proofs.Exits.{forks_none, forks_keep, forks_mark}
 use Rattle.walk_core.proofs.sums.forks_of.Goals as goal
 
 pub loop-node-init : goal.loop-node-init
-loop-node-init g c = forks_none c.args.graph.now c.args.firsts.now c.args.nexts.now _ (omega (arith, c.in_ok-forks.ensures.len, c.len.ensures, c.in_ok-forks.forks.ok.0))
+loop-node-init g c = forks_none c.args.graph.now c.args.firsts.now c.args.nexts.now _
+    (omega (arith, c.in_ok-forks.ensures.len, c.len.ensures, c.in_ok-forks.forks.ok.0))
 
 pub bounds-firsts-node : goal.bounds-firsts-node
 bounds-firsts-node g c =
@@ -41,8 +42,10 @@ leads_elsewhere-requires g c = λ x here.
 pub loop-node-preserved-then-not-leads_elsewhere : goal.loop-node-preserved-then-not-leads_elsewhere
 loop-node-preserved-then-not-leads_elsewhere g c =
     let nodes = c.args.nodes.now in
-    forks_keep c.args.graph.now c.args.firsts.now c.args.nexts.now nodes c.loop-node.node-index (slice_index nodes c.loop-node.node-index) c.loop-node-test.true
-    (get_or_default nodes c.loop-node.node-index 0 _ c.loop-node-test.true) _ c.loop-node.invariant (λ y edge. c.if-not-leads_elsewhere.ensures y (rw c.ends.ensures.row edge))
+    forks_keep c.args.graph.now c.args.firsts.now c.args.nexts.now nodes c.loop-node.node-index
+    (slice_index nodes c.loop-node.node-index) c.loop-node-test.true
+    (get_or_default nodes c.loop-node.node-index 0 _ c.loop-node-test.true) _ c.loop-node.invariant
+    (λ y edge. c.if-not-leads_elsewhere.ensures y (rw c.ends.ensures.row edge))
 
 pub index_mut-requires : goal.index_mut-requires
 index_mut-requires g c =
@@ -55,5 +58,7 @@ loop-node-preserved g c =
     let nodes = c.args.nodes.now in
     let inside = c.requires.nodes _ (Contains-get_or nodes c.loop-node.node-index 0 c.loop-node-test.true) in
     let within = first_within c.args.graph.now c.args.firsts.now c.requires.firsts _ inside in
-    forks_mark c.args.graph.now c.args.firsts.now c.args.nexts.now nodes c.loop-node.node-index (slice_index nodes c.loop-node.node-index) c.loop-node-test.true
-    (get_or_default nodes c.loop-node.node-index 0 _ c.loop-node-test.true) _ c.loop-node.invariant (omega (arith, within, c.loop-node.invariant.size))
+    forks_mark c.args.graph.now c.args.firsts.now c.args.nexts.now nodes c.loop-node.node-index
+    (slice_index nodes c.loop-node.node-index) c.loop-node-test.true
+    (get_or_default nodes c.loop-node.node-index 0 _ c.loop-node-test.true) _ c.loop-node.invariant
+    (omega (arith, within, c.loop-node.invariant.size))

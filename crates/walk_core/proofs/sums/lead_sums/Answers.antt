@@ -13,7 +13,8 @@ use Rattle.walk_core.proofs.sums.lead_sums.Goals as goal
 
 pub sizes_of-requires-clause-nodes : goal.sizes_of-requires-clause-nodes
 sizes_of-requires-clause-nodes g c = λ x here.
-    let within = c.requires.nodes.within x ((c.requires.targets x).0 here) in omega (arith, within, c.requires.firsts.size)
+    let within = c.requires.nodes.within x ((c.requires.targets x).0 here) in omega
+    (arith, within, c.requires.firsts.size)
 
 pub sizes_of-requires-clause-firsts : goal.sizes_of-requires-clause-firsts
 sizes_of-requires-clause-firsts g c = λ x here.

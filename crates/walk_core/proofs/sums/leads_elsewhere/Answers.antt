@@ -16,7 +16,8 @@ offset_bounds-firsts-end c =
 pub loop-end-preserved : goal.loop-end-preserved
 loop-end-preserved c =
     let ends = c.args.ends.now in
-    each_more (IsHereOrNext c.args.firsts.now c.args.first c.args.next) ends c.loop-end.end-index (slice_index ends c.loop-end.end-index) c.loop-end-test.true
+    each_more (IsHereOrNext c.args.firsts.now c.args.first c.args.next) ends c.loop-end.end-index
+    (slice_index ends c.loop-end.end-index) c.loop-end-test.true
     (get_or_default ends c.loop-end.end-index 0 _ c.loop-end-test.true) c.loop-end.invariant c.if-is_elsewhere.ensures
 
 pub returns : goal.returns

@@ -37,5 +37,6 @@ pub loop-node-preserved : goal.loop-node-preserved
 loop-node-preserved g c =
     let node = slice_index c.args.nodes.now c.loop-node.node-index in
     let inside = c.requires.nodes node (Contains-get_or c.args.nodes.now c.loop-node.node-index 0 c.loop-node-test.true) in
-    nexts_more c.args.graph.now c.args.firsts.now c.requires.firsts node inside c.ends.result.now (λ y here. rw c.ends.ensures.row at here)
+    nexts_more c.args.graph.now c.args.firsts.now c.requires.firsts node inside c.ends.result.now
+    (λ y here. rw c.ends.ensures.row at here)
     (λ y here. All-contains (λ e. e < length c.args.graph.now) c.ends.result.now y c.ends.ensures.within here) _ c.in-Some.next c.loop-node.invariant c.in-Some.ensures

@@ -14,7 +14,8 @@ loop-node-init g c =
     }
 
 pub bounds-firsts-node : goal.bounds-firsts-node
-bounds-firsts-node g c = c.requires.nodes _ (Contains-get_or c.args.nodes.now c.loop-node.node-index 0 c.loop-node-test.true)
+bounds-firsts-node g c =
+    c.requires.nodes _ (Contains-get_or c.args.nodes.now c.loop-node.node-index 0 c.loop-node-test.true)
 
 pub offset_bounds-firsts-node : goal.offset_bounds-firsts-node
 offset_bounds-firsts-node g c =
@@ -50,5 +51,6 @@ loop-node-preserved g c =
     let more = sizes_more firsts nodes c.loop-node.node-index node c.loop-node-test.true (get_or_default nodes c.loop-node.node-index 0 _ c.loop-node-test.true) c.requires.in_order sizes within c.loop-node.invariant.each in
     record {
       size = length-set sizes first (count + 1) ∙ c.loop-node.invariant.size;
-      each = subst (λ n. AreSizes firsts (take (c.loop-node.node-index + 1) nodes) (set sizes first (n + 1))) (sym read) more;
+      each = subst (λ n. AreSizes firsts (take (c.loop-node.node-index + 1) nodes) (set sizes first (n + 1)))
+          (sym read) more;
     }

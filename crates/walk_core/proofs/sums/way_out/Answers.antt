@@ -15,7 +15,8 @@ offset_bounds-firsts-end c =
 pub loop-end-preserved : goal.loop-end-preserved
 loop-end-preserved c =
     let ends = c.args.ends.now in
-    each_more (λ x. slice_index c.args.firsts.now x ≡ c.args.first) ends c.loop-end.end-index (slice_index ends c.loop-end.end-index) c.loop-end-test.true
+    each_more (λ x. slice_index c.args.firsts.now x ≡ c.args.first) ends c.loop-end.end-index
+    (slice_index ends c.loop-end.end-index) c.loop-end-test.true
     (get_or_default ends c.loop-end.end-index 0 _ c.loop-end-test.true) c.loop-end.invariant c.if-to-first.false
 
 pub returns : goal.returns

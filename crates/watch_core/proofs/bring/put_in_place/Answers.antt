@@ -20,7 +20,9 @@ returns-then-reach-clause-up c =
     let again = is_again c.args.touched.now c.args.reach.now.all c.args.reach.now.items in
     let kept : RankedVerdicts = record { ranks = map to_rank c.args.ranks.now.items; out = c.args.kept.out } in
     let new_ranks = map to_rank c.taken_whole.new.ranks.items in
-    both_if c.taken_whole.result (λ verdicts. new_ranks ≡ c.args.found.ranks) (λ verdicts. verdicts.out ≡ c.args.found.out) (λ verdicts. IsBroughtUp again kept c.args.found (record { ranks = new_ranks; out = verdicts.out }))
+    both_if c.taken_whole.result (λ verdicts. new_ranks ≡ c.args.found.ranks)
+    (λ verdicts. verdicts.out ≡ c.args.found.out)
+    (λ verdicts. IsBroughtUp again kept c.args.found (record { ranks = new_ranks; out = verdicts.out }))
     (λ verdicts same_ranks same_out.
     renewed_whole again kept c.args.found new_ranks verdicts.out (again_all c.args.touched.now c.args.reach.now.all c.args.reach.now.items c.if-reach.true) same_ranks same_out c.requires.rising c.requires.out_in_order)
     c.taken_whole.ensures.ranks c.taken_whole.ensures.out

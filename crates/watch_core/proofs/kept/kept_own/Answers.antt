@@ -7,7 +7,8 @@ use Rattle.watch_core.proofs.Exchange.{one_each_sorted}
 use Rattle.watch_core.proofs.kept.kept_own.Goals as goal
 
 pub returns-in_err-place : goal.returns-in_err-place
-returns-in_err-place c = rw c.from_residual.ensures (λ condition is_out. c.in_err-place.ensures is_out.left is_out.there is_out.of)
+returns-in_err-place c =
+    rw c.from_residual.ensures (λ condition is_out. c.in_err-place.ensures is_out.left is_out.there is_out.of)
 
 pub returns-in-Own : goal.returns-in-Own
 returns-in-Own c =

@@ -22,7 +22,8 @@ returns-in_err-push-clause-at_most g c =
     let is = is_of_touched (drop c.args.seen c.args.replica.now) in
     let start = g.J.Judge.asked c.args.judge.now in
     let more = length-filter_more is items c.loop-item.item-index no_item (omega arith) in
-    let asked = counted_step start (g.J.Judge.asked c.loop-item.judge) (g.J.Judge.asked c.own_of.new.judge) (length (filter is (take c.loop-item.item-index items)))
+    let asked = counted_step start (g.J.Judge.asked c.loop-item.judge) (g.J.Judge.asked c.own_of.new.judge)
+    (length (filter is (take c.loop-item.item-index items)))
     (is (get_or items c.loop-item.item-index no_item)) (length (filter is (take (c.loop-item.item-index + 1) items))) c.loop-item.invariant.asked c.own_of.ensures.asked more in
     subst (λ n. n ≤ counted start (length (filter is items))) (sym asked)
     (counted_below start (length (filter is (take (c.loop-item.item-index + 1) items))) (length (filter is items)) (filter_taken is (c.loop-item.item-index + 1) items))
@@ -37,6 +38,7 @@ loop-item-preserved g c =
       owns = rw c.in_ok-push.ensures.items
           (AllZip-more (IsOwn c.args.gate.now (state_of c.args.replica.now)) items c.loop-item.owns.items c.loop-item.item-index no_item c.own_of.result (omega arith)
           c.loop-item.invariant.owns c.own_of.ensures.own);
-      asked = counted_step (g.J.Judge.asked c.args.judge.now) (g.J.Judge.asked c.loop-item.judge) (g.J.Judge.asked c.own_of.new.judge) (length (filter is (take c.loop-item.item-index items)))
+      asked = counted_step (g.J.Judge.asked c.args.judge.now) (g.J.Judge.asked c.loop-item.judge)
+          (g.J.Judge.asked c.own_of.new.judge) (length (filter is (take c.loop-item.item-index items)))
           (is (get_or items c.loop-item.item-index no_item)) (length (filter is (take (c.loop-item.item-index + 1) items))) c.loop-item.invariant.asked c.own_of.ensures.asked more;
     }

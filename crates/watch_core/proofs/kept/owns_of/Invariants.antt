@@ -8,5 +8,6 @@ use Rattle.watch_core.proofs.kept.owns_of.Given as goal
 abbrev pub invariant-loop-item : goal.invariant-loop-item
 invariant-loop-item g l = record {
   owns : AreOwns l.gate (state_of l.replica) (take l.item-index l.items) l.owns.items;
-  asked : g.J.Judge.asked l.judge ≡ counted (g.J.Judge.asked l.initial.judge) (length (filter (is_of_touched (drop l.seen l.replica)) (take l.item-index l.items)));
+  asked : g.J.Judge.asked l.judge ≡ counted (g.J.Judge.asked l.initial.judge)
+      (length (filter (is_of_touched (drop l.seen l.replica)) (take l.item-index l.items)));
 }

@@ -10,7 +10,8 @@ loop-target-preserved c =
     let targets = c.args.targets.now in
     let index = c.loop-target.target-index in
     record {
-      keeps = λ number item has. c.in_ok-add_at.ensures.keeps number item (c.loop-target.invariant.keeps number item has);
+      keeps =
+          λ number item has. c.in_ok-add_at.ensures.keeps number item (c.loop-target.invariant.keeps number item has);
       names = λ number here. elim (Contains-push_cases (take index targets) (get_or targets index 0) number (subst (λ l. Contains l number) (take_more targets index 0 (omega arith)) here)) [
         | inl earlier ↦ c.in_ok-add_at.ensures.keeps number c.args.item (c.loop-target.invariant.names number earlier)
         | inr same ↦ subst (λ n. IsNamer c.add_at.new.namers n c.args.item) same c.in_ok-add_at.ensures.names

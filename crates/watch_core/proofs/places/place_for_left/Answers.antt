@@ -11,4 +11,5 @@ returns c =
     let out = c.args.out.now in
     let item = c.args.item in
     let point = IsPartitionPoint-from_clause (comes_before item_of item_cmp item) out _ c.partition_point.ensures.partitioned (partitioned item_of items_order out c.requires.in_order item) (λ a r f' called. search rules) in
-    place_for item_of items_order out c.requires.in_order item c.partition_point.result point (search rules) c.requires.none
+    place_for item_of items_order out c.requires.in_order item c.partition_point.result point
+    (search rules) c.requires.none

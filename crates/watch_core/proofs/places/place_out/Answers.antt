@@ -31,7 +31,8 @@ returns-then-ne c =
     let here = slice_get_read out (length out) c.partition_point-place.result left refl look.3.0 look.1 in
     λ other has of.
     let there = at_point item_of items_order out c.requires item c.partition_point-place.result point other has of in
-    apart left.item item c.ne.result c.ne.ensures c.if-ne.true (ap (λ (l : Left). l.item) (one_item out c.partition_point-place.result left other here there) ∙ of)
+    apart left.item item c.ne.result c.ne.ensures c.if-ne.true
+    (ap (λ (l : Left). l.item) (one_item out c.partition_point-place.result left other here there) ∙ of)
 
 pub returns : goal.returns
 returns c =

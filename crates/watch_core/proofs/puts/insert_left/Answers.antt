@@ -7,7 +7,8 @@ use Rattle.watch_core.proofs.Exchange.{exchanged_insert}
 use Rattle.watch_core.proofs.puts.insert_left.Goals as goal
 
 pub place_for_left-place-requires-clause-none : goal.place_for_left-place-requires-clause-none
-place_for_left-place-requires-clause-none c = λ left has. c.requires.none left (subst (λ l. Contains l left) c.as_slice.ensures.value has)
+place_for_left-place-requires-clause-none c =
+    λ left has. c.requires.none left (subst (λ l. Contains l left) c.as_slice.ensures.value has)
 
 pub returns-clause-in_order : goal.returns-clause-in_order
 returns-clause-in_order c =

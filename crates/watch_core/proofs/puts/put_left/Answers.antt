@@ -8,14 +8,16 @@ use Rattle.watch_core.proofs.Putting.{apart_first, both_ok, left_set, left_withi
 use Rattle.watch_core.proofs.puts.put_left.Goals as goal
 
 pub insert_left-requires-clause-none : goal.insert_left-requires-clause-none
-insert_left-requires-clause-none c = λ other has. c.in_default.ensures other (subst (λ l. Contains l other) (sym c.as_slice.ensures.value) has)
+insert_left-requires-clause-none c =
+    λ other has. c.in_default.ensures other (subst (λ l. Contains l other) (sym c.as_slice.ensures.value) has)
 
 pub returns-in_default-clause-lists : goal.returns-in_default-clause-lists
 returns-in_default-clause-lists c =
     let item = c.args.left.item in
     let out = c.args.out.now.items in
     let new = c.insert_left.new.out.items in
-    both_ok c.insert_left.result (IsStrictlySortedBy item_cmp (items_out new)) (HasNew item_of (λ other. other ≡ item) (c.args.left ∷ []) out new)
+    both_ok c.insert_left.result (IsStrictlySortedBy item_cmp (items_out new))
+    (HasNew item_of (λ other. other ≡ item) (c.args.left ∷ []) out new)
     (AreLists c.take_ready.new.ready.items c.take_ready.new.ranks.items new)
     (λ in_order put.
     lists_ranked c.args.ready.now.items c.take_ready.new.ready.items c.args.ranks.now.items c.take_ready.new.ranks.items out new item [] (c.args.left ∷ []) c.requires c.take_ready.ensures.ready in_order

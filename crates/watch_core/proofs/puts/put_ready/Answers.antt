@@ -11,7 +11,8 @@ returns-then-has_rank-clause-out c =
     (λ left has same. c.requires.apart.none c.args.rank left (subst (λ l. Contains l c.args.rank) c.as_slice.ensures.value (c.has_rank.ensures c.if-has_rank.true)) has (sym same))
 
 pub insert_rank-requires-clause-none : goal.insert_rank-requires-clause-none
-insert_rank-requires-clause-none c = none_left node_of c.args.rank.node c.args.ranks.now.items c.take_item.new.ranks.items c.take_item.ensures.ranks
+insert_rank-requires-clause-none c =
+    none_left node_of c.args.rank.node c.args.ranks.now.items c.take_item.new.ranks.items c.take_item.ensures.ranks
 
 pub returns-clause-lists : goal.returns-clause-lists
 returns-clause-lists c =
@@ -20,10 +21,13 @@ returns-clause-lists c =
     let out = c.take_item.new.out.items in
     let ready_new = c.insert_rank.new.ready.items in
     let ranks_new = c.insert_rank.new.ranks.items in
-    both_ok c.insert_rank.result (AreReady ready_new ranks_new) (HasNew node_of (λ other. other ≡ item) (c.args.rank ∷ []) ranks ranks_new) (AreLists ready_new ranks_new out)
+    both_ok c.insert_rank.result (AreReady ready_new ranks_new)
+    (HasNew node_of (λ other. other ≡ item) (c.args.rank ∷ []) ranks ranks_new) (AreLists ready_new ranks_new out)
     (λ ranked put.
-    lists_ranked c.take_item.new.ready.items ready_new ranks ranks_new out out item (c.args.rank ∷ []) [] c.take_item.ensures.lists ranked c.take_item.ensures.lists.out_in_order put
-    (HasNew-absent item_of item out (none_left item_of item c.args.out.now.items out c.take_item.ensures.out)) (apart_second node_of item_of (c.args.rank ∷ [])))
+    lists_ranked c.take_item.new.ready.items ready_new ranks ranks_new out out item
+    (c.args.rank ∷ []) [] c.take_item.ensures.lists ranked c.take_item.ensures.lists.out_in_order put
+    (HasNew-absent item_of item out (none_left item_of item c.args.out.now.items out c.take_item.ensures.out))
+    (apart_second node_of item_of (c.args.rank ∷ [])))
     c.insert_rank.ensures.ready c.insert_rank.ensures.ranks
 
 pub returns-clause-ranks : goal.returns-clause-ranks

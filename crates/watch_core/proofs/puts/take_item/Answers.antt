@@ -1,7 +1,8 @@
 use Rattle.std.proofs.Common.{[], Contains, List, arith, subst, sym}
 use Rattle.ready_core.specs.declared.verdicts.Left.{Left}
 use Rattle.watch_core.specs.Placed.{IsLeftAt, item_of, node_of}
-use Rattle.watch_core.proofs.Putting.{HasNew-absent, apart_first, left_taken, left_within, lists_ranked, lists_taken, rank_absent}
+use Rattle.watch_core.proofs.Putting.{HasNew-absent, apart_first, left_taken, left_within, lists_ranked, lists_taken}
+use Rattle.watch_core.proofs.Putting.{rank_absent}
 use Rattle.watch_core.proofs.puts.take_item.Goals as goal
 
 pub returns-in_default-clause-lists : goal.returns-in_default-clause-lists
@@ -14,7 +15,8 @@ returns-in_default-clause-lists c =
 
 pub returns-in_default-clause-out : goal.returns-in_default-clause-out
 returns-in_default-clause-out c =
-    HasNew-absent item_of c.args.item c.args.out.now.items (λ other has. c.in_default.ensures other (subst (λ l. Contains l other) (sym c.as_slice.ensures.value) has))
+    HasNew-absent item_of c.args.item c.args.out.now.items
+    (λ other has. c.in_default.ensures other (subst (λ l. Contains l other) (sym c.as_slice.ensures.value) has))
 
 pub remove-requires : goal.remove-requires
 remove-requires c =

@@ -12,5 +12,6 @@ returns-then-not-is_item c =
 
 pub returns : goal.returns
 returns c =
-    subst (AddsItems c.args.state.now (λ other. other ≡ c.args.item) c.args.seeds.now.items) (sym c.in_ok-push.ensures.items)
+    subst (AddsItems c.args.state.now (λ other. other ≡ c.args.item) c.args.seeds.now.items)
+    (sym c.in_ok-push.ensures.items)
     (adds_one c.args.state.now c.args.item c.args.seeds.now.items (c.is_item.ensures.0 c.if-not-is_item.false))

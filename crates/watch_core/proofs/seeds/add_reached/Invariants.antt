@@ -5,4 +5,5 @@ use Rattle.watch_core.proofs.seeds.add_reached.Given as goal
 
 abbrev pub invariant-loop-change : goal.invariant-loop-change
 invariant-loop-change l =
-    AddsBut l.state (λ item. has_item l.items item ≡ true) (λ item. Contains l.change-iterator (item.change, item.set)) l.initial.seeds.items l.seeds.items
+    AddsBut l.state (λ item. has_item l.items item ≡ true)
+    (λ item. Contains l.change-iterator (item.change, item.set)) l.initial.seeds.items l.seeds.items

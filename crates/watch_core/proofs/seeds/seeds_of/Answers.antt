@@ -13,7 +13,8 @@ pub returns-then-reach-clause-items : goal.returns-then-reach-clause-items
 returns-then-reach-clause-items c = IfOk-weaker c.items_of.result _ _ (λ seeds are k d within. (are.each (get_or seeds.items k d)).0 (Contains-get_or seeds.items k d within)) c.items_of.ensures
 
 pub returns-then-reach-clause-holds : goal.returns-then-reach-clause-holds
-returns-then-reach-clause-holds c = IfOk-weaker c.items_of.result _ _ (λ seeds are item is again. (are.each item).1 is) c.items_of.ensures
+returns-then-reach-clause-holds c =
+    IfOk-weaker c.items_of.result _ _ (λ seeds are item is again. (are.each item).1 is) c.items_of.ensures
 
 pub returns-clause-items : goal.returns-clause-items
 returns-clause-items c = λ k d within.

@@ -11,8 +11,10 @@ loop-left-preserved c =
     let pushed = c.in_ok-push.ensures.items in
     let waiting = c.loop-left.waiting.items in
     record {
-      begins = ap (λ (l : List Left). slice_get (l ++ next ∷ []) 0) pushed ∙ first-push waiting c.loop-left.left next ∙ c.loop-left.invariant.begins;
-      path = subst (λ (l : List Left). Path (WaitsFor c.args.state.now c.args.verdicts.now) (l ++ next ∷ [])) (sym pushed)
+      begins = ap (λ (l : List Left). slice_get (l ++ next ∷ []) 0) pushed ∙ first-push waiting c.loop-left.left next
+          ∙ c.loop-left.invariant.begins;
+      path =
+          subst (λ (l : List Left). Path (WaitsFor c.args.state.now c.args.verdicts.now) (l ++ next ∷ [])) (sym pushed)
           (Path-push (WaitsFor c.args.state.now c.args.verdicts.now) waiting c.loop-left.left next c.loop-left.invariant.path c.step_after-left.ensures.next);
       out = c.step_after-left.ensures.next.out;
       steps = omega (arith, ap length pushed, length-append waiting (c.loop-left.left ∷ []), c.step_after-left.ensures.rank, c.loop-left.invariant.steps);

@@ -20,9 +20,11 @@ loop-place-preserved c =
     let next = get_or items place (record { change = 0; set = 0 }) in
     elim c.if-is_other.branch [
       | then-is_other+in_ok-push w ↦
-          taken_more items itself behind ahead c.requires.in_order place others c.loop-place.invariant next (slice_get-get_or items place _ c.loop-place-test.true) w.if-is_other.ensures
+          taken_more items itself behind ahead c.requires.in_order place others c.loop-place.invariant next
+          (slice_get-get_or items place _ c.loop-place-test.true) w.if-is_other.ensures
           c.if-is_other.others.items (ap (λ (v : Vec Item Global). v.items) w.others-is ∙ w.in_ok-push.ensures.items)
       | else-is_other w ↦
-          subst (AreTaken items itself behind ahead (place + 1)) (sym (ap (λ (v : Vec Item Global). v.items) w.others-is))
+          subst (AreTaken items itself behind ahead (place + 1))
+          (sym (ap (λ (v : Vec Item Global). v.items) w.others-is))
           (taken_less items itself behind ahead c.requires.in_order place others c.loop-place.invariant w.if-is_other.ensures)
     ]

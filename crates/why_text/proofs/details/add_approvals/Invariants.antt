@@ -8,5 +8,6 @@ abbrev pub invariant-loop-approval : goal.invariant-loop-approval
 invariant-loop-approval l = record {
   can_next : (goal.iterator-loop-approval).can_next l.approval-iterator;
   is_finite : (goal.iterator-loop-approval).is_finite l.approval-iterator;
-  lines : string_bytes l.text ++ flat_map approval_line l.approval-iterator ≡ string_bytes l.initial.text ++ flat_map approval_line (approvals_of l.change l.set);
+  lines : string_bytes l.text ++ flat_map approval_line l.approval-iterator
+      ≡ string_bytes l.initial.text ++ flat_map approval_line (approvals_of l.change l.set);
 }

@@ -4,4 +4,5 @@ use Rattle.why_text.proofs.Values.{numbered_at}
 use Rattle.why_text.proofs.wanted.numbered.Goals as goal
 
 pub returns : goal.returns
-returns c = numbered_at view c.args.values.now c.args.number c.index-values-number.result (λ none. omega (arith, none, c.if-number-eq0.false)) (omega arith) c.index-values-number.is
+returns c = numbered_at view c.args.values.now c.args.number c.index-values-number.result
+    (λ none. omega (arith, none, c.if-number-eq0.false)) (omega arith) c.index-values-number.is

@@ -3,7 +3,8 @@ use Rattle.ready_core.specs.declared.verdicts.Left.{Left}
 use Rattle.why_text.proofs.why.left_text.Goals as goal
 
 pub chain_from-requires-clause-leads : goal.chain_from-requires-clause-leads
-chain_from-requires-clause-leads c = c.dependencies_lead_to_a_cause.ensures.leads c.args.gate.now c.args.state.now c.args.verdicts.now c.requires.judged
+chain_from-requires-clause-leads c =
+    c.dependencies_lead_to_a_cause.ensures.leads c.args.gate.now c.args.state.now c.args.verdicts.now c.requires.judged
 
 pub details_of-requires-clause-there : goal.details_of-requires-clause-there
 details_of-requires-clause-there c =

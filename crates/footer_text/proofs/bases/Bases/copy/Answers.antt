@@ -7,4 +7,5 @@ pub returns : goal.returns
 returns g c = map-copies string_bytes _ _ c.in_ok-texts.ensures.cases.0 ∙ c.self.view_is
 
 pub invariant_of-result : goal.invariant_of-result
-invariant_of-result g c = subst AreBases (sym (map-copies string_bytes _ _ c.in_ok-texts.ensures.cases.0)) c.self.invariant
+invariant_of-result g c =
+    subst AreBases (sym (map-copies string_bytes _ _ c.in_ok-texts.ensures.cases.0)) c.self.invariant

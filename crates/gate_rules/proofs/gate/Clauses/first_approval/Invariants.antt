@@ -5,4 +5,5 @@ use Rattle.gate_rules.proofs.gate.Clauses.first_approval.Given as goal
 
 -- no approval so far compares as wanted
 abbrev pub invariant-loop-place : goal.invariant-loop-place
-invariant-loop-place l = (number : ℕ) → number < l.place + 1 → compared l.fn.self l.fn.standing (Approval number) ≢ Some l.fn.wanted
+invariant-loop-place l =
+    (number : ℕ) → number < l.place + 1 → compared l.fn.self l.fn.standing (Approval number) ≢ Some l.fn.wanted

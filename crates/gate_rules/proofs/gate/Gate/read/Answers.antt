@@ -2,4 +2,5 @@ use Rattle.gate_rules.proofs.Spelled.{gate_is_read}
 use Rattle.gate_rules.proofs.gate.Gate.read.Goals as goal
 
 pub returns-clause-only : goal.returns-clause-only
-returns-clause-only c = gate_is_read (λ gate. gate) c.args.bytes.now c.read_gate.result c.read_gate.ensures.spelled c.read_gate.ensures.refused
+returns-clause-only c = gate_is_read
+    (λ gate. gate) c.args.bytes.now c.read_gate.result c.read_gate.ensures.spelled c.read_gate.ensures.refused

@@ -17,7 +17,8 @@ in_row row = row.items
 
 pub all_targets-requires : goal.all_targets-requires
 all_targets-requires c =
-    subst (All (IsItem c.args.state.now)) (sym c.as_slice.ensures.value) (part_are_items c.args.gate.now c.args.state.now c.args.items.items c.requires)
+    subst (All (IsItem c.args.state.now)) (sym c.as_slice.ensures.value)
+    (part_are_items c.args.gate.now c.args.state.now c.args.items.items c.requires)
 
 pub all_ends-requires-clause-increasing : goal.all_ends-requires-clause-increasing
 all_ends-requires-clause-increasing c =

@@ -15,7 +15,8 @@ returns-then-pass_held-2-clause-passes g c =
       (
         (c.args.self.now.held ++ before.came) ++ passed.0,
         plain_both (c.args.self.now.held ++ before.came) passed.0 before.plain passed.1,
-        line_later c.args.self.now.held before.came read.0 passed.0 c.pass_held-in-loop-block.new.self.held (came ∙ passed.2),
+        line_later c.args.self.now.held before.came read.0 passed.0 c.pass_held-in-loop-block.new.self.held
+            (came ∙ passed.2),
       ),
     )
 

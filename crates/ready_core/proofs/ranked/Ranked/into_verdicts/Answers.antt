@@ -10,5 +10,7 @@ use Rattle.ready_core.proofs.ranked.Ranked.into_verdicts.Goals as goal
 pub returns : goal.returns
 returns c =
     let ready : c.in_ok-ready.ready.items ≡ map (λ (rank : Rank Item). rank.node) (map to_rank c.self.inside.ranks.items) =
-    c.in_ok-ready.ensures ∙ ap (map (λ (rank : ItemRank). rank.node)) c.as_slice.ensures.value ∙ items_again c.self.inside.ranks.items in
-    c.new.ensures ∙ ap (λ (l : List Item). record { ready = l; out = c.self.inside.out.items }) ready ∙ ap judged c.self.view_is
+    c.in_ok-ready.ensures ∙ ap (map (λ (rank : ItemRank). rank.node)) c.as_slice.ensures.value
+    ∙ items_again c.self.inside.ranks.items in
+    c.new.ensures ∙ ap (λ (l : List Item). record { ready = l; out = c.self.inside.out.items }) ready
+    ∙ ap judged c.self.view_is

@@ -7,7 +7,8 @@ use Rattle.replica_core.proofs.Greatest.{held_last, holds_of}
 use Rattle.replica_core.proofs.line.Line.follows.Goals as goal
 
 pub returns-then-last-seq : goal.returns-then-last-seq
-returns-then-last-seq g c = held_last c.args.arrivals.now c.args.self.now c.requires.filed c.last_seq-last.result (c.args.seq + 1) (omega arith) c.last_seq-last.ensures c.if-last-seq.true
+returns-then-last-seq g c = held_last c.args.arrivals.now c.args.self.now c.requires.filed c.last_seq-last.result
+    (c.args.seq + 1) (omega arith) c.last_seq-last.ensures c.if-last-seq.true
 
 pub returns-in-Some : goal.returns-in-Some
 returns-in-Some g c =

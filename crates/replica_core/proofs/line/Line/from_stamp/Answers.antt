@@ -15,7 +15,8 @@ pub first_failing-requires : goal.first_failing-requires
 first_failing-requires g c =
     let line = c.args.self.now in
     let op = c.args.stamp in
-    placed_parts c.args.arrivals.now line c.requires (is_before op) (before_falls line.site line.start op) c.self.inside.places (ap (λ l. l.places) c.self.view_is)
+    placed_parts c.args.arrivals.now line c.requires (is_before op)
+    (before_falls line.site line.start op) c.self.inside.places (ap (λ l. l.places) c.self.view_is)
 
 pub returns-in_err-place : goal.returns-in_err-place
 returns-in_err-place g c =
@@ -24,8 +25,10 @@ returns-in_err-place g c =
     let op = c.args.stamp in
     let places = c.self.inside.places in
     let are = ap (λ l. l.places) c.self.view_is in
-    ap option_copied c.from_residual.ensures ∙ placed_none journal line c.requires places are (rank (passes_at (is_before op) journal) places) c.in_err-place.ensures
-    ∙ ap (slice_get (ops_of journal line)) (placed_rank journal line c.requires (is_before op) (before_falls line.site line.start op) places are)
+    ap option_copied c.from_residual.ensures ∙ placed_none journal line c.requires places are
+    (rank (passes_at (is_before op) journal) places) c.in_err-place.ensures
+    ∙ ap (slice_get (ops_of journal line))
+    (placed_rank journal line c.requires (is_before op) (before_falls line.site line.start op) places are)
 
 pub returns : goal.returns
 returns g c =
@@ -37,4 +40,5 @@ returns g c =
     let place = c.in_ok-place.field-0 in
     copied_at (λ (b : Bor Operation). b.now) journal place.now c.get.result c.get.ensures.lookup
     ∙ sym (placed_op journal line c.requires places are (rank (passes_at (is_before op) journal) places) place.now c.in_ok-place.ensures)
-    ∙ ap (slice_get (ops_of journal line)) (placed_rank journal line c.requires (is_before op) (before_falls line.site line.start op) places are)
+    ∙ ap (slice_get (ops_of journal line))
+    (placed_rank journal line c.requires (is_before op) (before_falls line.site line.start op) places are)

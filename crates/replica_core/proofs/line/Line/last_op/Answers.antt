@@ -15,7 +15,8 @@ returns-in_err-place g c =
     let line = c.args.self.now in
     let places = c.self.inside.places in
     let are = ap (λ l. l.places) c.self.view_is in
-    ap option_copied c.from_residual.ensures ∙ placed_none journal line c.requires places are (length places - 1) c.in_err-place.ensures
+    ap option_copied c.from_residual.ensures
+    ∙ placed_none journal line c.requires places are (length places - 1) c.in_err-place.ensures
     ∙ ap (λ n. slice_get (ops_of journal line) (n - 1)) (ap length are ∙ sym (length-map line.places (op_at journal)))
 
 pub returns : goal.returns

@@ -9,7 +9,8 @@ returns-then-is_err g c =
       reverse turned,
       in_order c.args.other c.other.inside.arrivals.items c.sort_unstable.new.self.items turned c.other.view_is c.other.invariant.apart c.sort_unstable.ensures.permutation c.sort_unstable.ensures.sorted (ap reverse c.reverse.ensures.items ∙ reverse-reverse c.sort_unstable.new.self.items),
       (
-        at_err c.take.result c.is_err.result c.is_err.ensures.value c.if-is_err.true c.take.ensures.err ∙ c.loop-op.invariant.done,
+        at_err c.take.result c.is_err.result c.is_err.ensures.value c.if-is_err.true c.take.ensures.err
+            ∙ c.loop-op.invariant.done,
         one_was_left c.args.self.now (reverse turned) c.loop-op.taken c.loop-op.arrivals.items c.pop.new.self.items c.in-Some.op c.in-Some.ensures.items c.loop-op.invariant.left,
       ),
     )

@@ -13,7 +13,8 @@ pub has-requires : goal.has-requires
 has-requires g c =
     let journal = c.self.inside.arrivals.items in
     let line = c.in-Some.line.now in
-    subst (λ j. IsFiled j line) (sym c.as_slice.ensures.value) (line_in journal c.self.inside.lines c.self.invariant.lines line c.in-Some.ensures.0).filed
+    subst (λ j. IsFiled j line) (sym c.as_slice.ensures.value)
+    (line_in journal c.self.inside.lines c.self.invariant.lines line c.in-Some.ensures.0).filed
 
 pub returns-in-Some : goal.returns-in-Some
 returns-in-Some g c =
@@ -21,7 +22,9 @@ returns-in-Some g c =
     let line = c.in-Some.line.now in
     let op = c.args.op.now in
     c.has.ensures ∙ ap (λ j. has (ops_of j line) op) c.as_slice.ensures.value
-    ∙ has_row journal line (line_in journal c.self.inside.lines c.self.invariant.lines line c.in-Some.ensures.0).filed op (c.in-Some.ensures.1 ∙ ap (λ row. (row.site, row.start)) c.row_of.ensures)
+    ∙ has_row journal line
+    (line_in journal c.self.inside.lines c.self.invariant.lines line c.in-Some.ensures.0).filed op
+    (c.in-Some.ensures.1 ∙ ap (λ row. (row.site, row.start)) c.row_of.ensures)
     ∙ ap (λ j. has j op) c.self.view_is
 
 pub returns-in-None : goal.returns-in-None

@@ -11,7 +11,8 @@ find_line-requires g c = c.self.invariant.lines.sorted
 pub last_seq-requires : goal.last_seq-requires
 last_seq-requires g c =
     let line = c.in-Some.line.now in
-    subst (λ j. IsFiled j line) (sym c.as_slice.ensures.value) (line_in c.self.inside.arrivals.items c.self.inside.lines c.self.invariant.lines line c.in-Some.ensures.0).filed
+    subst (λ j. IsFiled j line) (sym c.as_slice.ensures.value)
+    (line_in c.self.inside.arrivals.items c.self.inside.lines c.self.invariant.lines line c.in-Some.ensures.0).filed
 
 pub returns-in-Some : goal.returns-in-Some
 returns-in-Some g c =

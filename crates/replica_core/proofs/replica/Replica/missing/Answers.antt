@@ -16,7 +16,8 @@ loop-line-init g c =
     let lines = c.self.inside.lines in
     let are = c.into_iter-line-iterator.ensures.into_iter_gives ∙ c.iter-line-items.ensures in
     record {
-      whole = ap (λ l. l ++ lacked journal c.args.front.now c.into_iter-line-iterator.result) c.new-ops.ensures.items ∙ ap (lacked journal c.args.front.now) are;
+      whole = ap (λ l. l ++ lacked journal c.args.front.now c.into_iter-line-iterator.result) c.new-ops.ensures.items
+          ∙ ap (lacked journal c.args.front.now) are;
       each = All-same (IsLine journal) c.into_iter-line-iterator.result lines are c.self.invariant.lines.each;
       room = omega (arith, ap length c.new-ops.ensures.items);
     }
@@ -38,11 +39,13 @@ returns-then-branch g c =
     let added = ops_past c.reach-reach.result (ops_of c.as_slice.result.now line) in
     let reach = c.reach-reach.ensures ∙ ap (λ row. reach_of front row.site row.start) c.row.ensures in
     let is = ap (λ n. ops_past n (ops_of c.as_slice.result.now line)) reach ∙ ap (λ j. past j front line) c.as_slice.ensures.value in
-    let parts = stopped ops added (lacked journal front rest) (lacked journal front lines) c.copy_past.new.copies.items c.args.limit c.in_ok-copy_past.field-0
+    let parts = stopped ops added (lacked journal front rest)
+    (lacked journal front lines) c.copy_past.new.copies.items c.args.limit c.in_ok-copy_past.field-0
     (ap (λ l. ops ++ (l ++ lacked journal front rest)) is ∙ ap (λ l. ops ++ lacked journal front l) (sym c.in-Some.ensures.steps) ∙ c.loop-line.invariant.whole)
     c.in_ok-copy_past.ensures.0 c.in_ok-copy_past.ensures.1 c.if-branch.true in (
       lacked journal front lines,
-      subst (λ j. IsMissing j front (lacked journal front lines)) c.self.view_is (IsMissing-lines journal front lines c.self.invariant.lines),
+      subst (λ j. IsMissing j front (lacked journal front lines)) c.self.view_is
+          (IsMissing-lines journal front lines c.self.invariant.lines),
       parts.0,
       parts.1,
     )
@@ -58,12 +61,14 @@ loop-line-preserved g c =
     let added = ops_past c.reach-reach.result (ops_of c.as_slice.result.now line) in
     let reach = c.reach-reach.ensures ∙ ap (λ row. reach_of front row.site row.start) c.row.ensures in
     let is = ap (λ n. ops_past n (ops_of c.as_slice.result.now line)) reach ∙ ap (λ j. past j front line) c.as_slice.ensures.value in
-    let parts = gone_on ops added (lacked journal front rest) (lacked journal front lines) c.copy_past.new.copies.items c.args.limit c.in_ok-copy_past.field-0
+    let parts = gone_on ops added (lacked journal front rest)
+    (lacked journal front lines) c.copy_past.new.copies.items c.args.limit c.in_ok-copy_past.field-0
     (ap (λ l. ops ++ (l ++ lacked journal front rest)) is ∙ ap (λ l. ops ++ lacked journal front l) (sym c.in-Some.ensures.steps) ∙ c.loop-line.invariant.whole)
     c.in_ok-copy_past.ensures.0 c.in_ok-copy_past.ensures.1 c.if-branch.false in
     record {
       whole = parts.0;
-      each = All-tail (IsLine journal) line rest (subst (All (IsLine journal)) c.in-Some.ensures.steps c.loop-line.invariant.each);
+      each = All-tail (IsLine journal) line rest
+          (subst (All (IsLine journal)) c.in-Some.ensures.steps c.loop-line.invariant.each);
       room = parts.1;
     }
 
@@ -76,7 +81,8 @@ returns g c =
     let all : ops ≡ lacked journal front lines = sym (append-nil ops) ∙ ap (λ l. ops ++ lacked journal front l) (sym c.in-None.ensures.steps.0) ∙ c.loop-line.invariant.whole in
     let parts = nothing_left (lacked journal front lines) c.args.limit (subst (λ (l : List Operation). length l ≤ c.args.limit) all c.loop-line.invariant.room) in (
       lacked journal front lines,
-      subst (λ j. IsMissing j front (lacked journal front lines)) c.self.view_is (IsMissing-lines journal front lines c.self.invariant.lines),
+      subst (λ j. IsMissing j front (lacked journal front lines)) c.self.view_is
+          (IsMissing-lines journal front lines c.self.invariant.lines),
       all ∙ parts.0,
       parts.1,
     )

@@ -10,7 +10,12 @@ open_line-requires g c = c.self.invariant.lines.sorted
 pub invariant_of-self : goal.invariant_of-self
 invariant_of-self g c =
     let kept = c.self.invariant in
-    record { joined = kept.joined; apart = kept.apart; lines = c.open_line.ensures.kept c.self.inside.arrivals.items kept.lines; latest = kept.latest }
+    record {
+      joined = kept.joined;
+      apart = kept.apart;
+      lines = c.open_line.ensures.kept c.self.inside.arrivals.items kept.lines;
+      latest = kept.latest;
+    }
 
 pub file_in-requires-clause-lines : goal.file_in-requires-clause-lines
 file_in-requires-clause-lines g c = c.open_line.ensures.kept c.self.inside.arrivals.items c.self.invariant.lines

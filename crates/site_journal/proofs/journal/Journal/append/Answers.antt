@@ -1,7 +1,8 @@
 use Rattle.std.proofs.Common.{◌≡◌, ◌∙◌, ◌++◌, false, true, ap, arith, length, length-append}
 use Rattle.std.proofs.lemmas.Result.{err_from_is_err_and}
 use Rattle.site_journal.specs.Tape.{IsSettled}
-use Rattle.site_journal.proofs.Keeping.{not_true, same_survives, undone_survives, kept_survives, doubtful_survives, some_after}
+use Rattle.site_journal.proofs.Keeping.{not_true, same_survives, undone_survives, kept_survives, doubtful_survives}
+use Rattle.site_journal.proofs.Keeping.{some_after}
 use Rattle.site_journal.proofs.journal.Journal.append.Goals as goal
 
 pub returns-in_err-lines-clause-any_crash : goal.returns-in_err-lines-clause-any_crash
@@ -10,7 +11,8 @@ returns-in_err-lines-clause-any_crash g c = λ before holding.
     rw p.1 (same_survives before c.args.ops.now (false ≡ true) not_true c.args.self.now.image holding.holds)
 
 pub returns-in_default-clause-any_crash : goal.returns-in_default-clause-any_crash
-returns-in_default-clause-any_crash g c = λ before holding. same_survives before c.args.ops.now (false ≡ true) not_true c.args.self.now.image holding.holds
+returns-in_default-clause-any_crash g c =
+    λ before holding. same_survives before c.args.ops.now (false ≡ true) not_true c.args.self.now.image holding.holds
 
 pub invariant_of-self : goal.invariant_of-self
 invariant_of-self g c = λ sound.
@@ -26,16 +28,19 @@ returns-in-Kept-clause-any_crash g c = λ before holding.
     kept_survives before c.args.ops.now
     (λ text says. c.journals_say_their_operations.ensures.more text before c.args.ops.now says c.in_ok-lines.ensures.sound c.in_ok-lines.ensures.short)
     (true ≡ true) c.as_slice.result.now (c.as_slice.ensures.value ∙ c.in_ok-lines.ensures.lines)
-    c.args.self.now.image (g.T.Feed.image c.self.inside.tape) (g.T.Feed.image c.write_lines.new.tape) (ap (λ b. b.image) c.self.view_is) holding.holds c.in-Kept.ensures.written
+    c.args.self.now.image (g.T.Feed.image c.self.inside.tape) (g.T.Feed.image c.write_lines.new.tape)
+    (ap (λ b. b.image) c.self.view_is) holding.holds c.in-Kept.ensures.written
 
 pub returns-in-Undone-clause-any_crash : goal.returns-in-Undone-clause-any_crash
 returns-in-Undone-clause-any_crash g c = λ before holding.
     undone_survives before c.args.ops.now (false ≡ true) not_true
-    c.args.self.now.image (g.T.Feed.image c.self.inside.tape) (g.T.Feed.image c.write_lines.new.tape) (ap (λ b. b.image) c.self.view_is) holding.holds c.in-Undone.ensures.written
+    c.args.self.now.image (g.T.Feed.image c.self.inside.tape) (g.T.Feed.image c.write_lines.new.tape)
+    (ap (λ b. b.image) c.self.view_is) holding.holds c.in-Undone.ensures.written
 
 pub returns-clause-any_crash : goal.returns-clause-any_crash
 returns-clause-any_crash g c = λ before holding.
     doubtful_survives before c.args.ops.now
     (λ text left says least most. c.crashes_lose_nothing_acknowledged.ensures.lines text left before c.args.ops.now says c.in_ok-lines.ensures.sound c.in_ok-lines.ensures.short least most)
     (false ≡ true) not_true c.as_slice.result.now (c.as_slice.ensures.value ∙ c.in_ok-lines.ensures.lines)
-    c.args.self.now.image (g.T.Feed.image c.self.inside.tape) (g.T.Feed.image c.write_lines.new.tape) (ap (λ b. b.image) c.self.view_is) holding.holds c.in-Doubtful.ensures.written
+    c.args.self.now.image (g.T.Feed.image c.self.inside.tape) (g.T.Feed.image c.write_lines.new.tape)
+    (ap (λ b. b.image) c.self.view_is) holding.holds c.in-Doubtful.ensures.written

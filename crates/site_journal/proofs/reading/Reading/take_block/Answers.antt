@@ -7,7 +7,8 @@ use Rattle.site_journal.proofs.Steps.{goes_start, goes_on, goes_out, goes_wrong,
 use Rattle.site_journal.proofs.reading.Reading.take_block.Goals as goal
 
 pub loop-at-init : goal.loop-at-init
-loop-at-init c = goes_start (λ came. HasRead came c.args.self.now.replica c.args.self.now.held.items c.args.self.now.next) c.args.block.now
+loop-at-init c = goes_start
+    (λ came. HasRead came c.args.self.now.replica c.args.self.now.held.items c.args.self.now.next) c.args.block.now
 
 pub returns-in_err-take_piece-clause-err : goal.returns-in_err-take_piece-clause-err
 returns-in_err-take_piece-clause-err c =
@@ -16,7 +17,8 @@ returns-in_err-take_piece-clause-err c =
     (λ came. HasRead came c.args.self.now.replica c.args.self.now.held.items c.args.self.now.next)
     (λ came. HasRead came c.loop-at.self.replica c.loop-at.self.held.items c.loop-at.self.next)
     (λ t. IsRefusal t c.in_err-take_piece.field-0.0)
-    c.args.block.now c.loop-at.rest.now (as_line c.split_at.result.0.now) (drop (c.in-Some.at + 1) c.loop-at.rest.now) c.loop-at.invariant
+    c.args.block.now c.loop-at.rest.now (as_line c.split_at.result.0.now)
+    (drop (c.in-Some.at + 1) c.loop-at.rest.now) c.loop-at.invariant
     (line_first c.loop-at.rest.now c.split_at.result.0.now (drop (c.in-Some.at + 1) c.loop-at.rest.now) c.in-Some.at c.split_at.ensures.front refl c.in-Some.ensures)
     c.in_err-take_piece.ensures.err)
 
@@ -49,5 +51,6 @@ returns-clause-err c =
     (λ came. HasRead came c.args.self.now.replica c.args.self.now.held.items c.args.self.now.next)
     (λ came. HasRead came c.loop-at.self.replica c.loop-at.self.held.items c.loop-at.self.next)
     (λ t. IsRefusal t fault)
-    c.args.block.now c.loop-at.rest.now c.loop-at.rest.now [] c.loop-at.invariant (sym (append-nil c.loop-at.rest.now)) fails)
+    c.args.block.now c.loop-at.rest.now c.loop-at.rest.now [] c.loop-at.invariant
+    (sym (append-nil c.loop-at.rest.now)) fails)
     c.hold.ensures.err

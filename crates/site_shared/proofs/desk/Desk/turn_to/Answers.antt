@@ -32,9 +32,12 @@ invariant_of-self g c =
       shown = c.replace_with.ensures.1 ∙ (ap (λ s. s.seen) c.again.ensures ∙ ap (λ s. s.seen) (sym sight));
       settled = c.replace_with.ensures.0;
       spares = subst (λ j. AreSpares j c.put_aside.new.self) (sym journal) (
-        subst (λ o. IfSome o (λ s. IsFrontPart (arc_value s) more)) (sym c.put_aside.ensures.0) (subst (λ j. IsFrontPart j more) (sym old_replica) (front_part (arrive before.log) held)),
-        subst (λ o. IfSome o (λ s. IsFrontPart (arc_value s) more)) (sym c.put_aside.ensures.1) (spare_on (λ s. arc_value s) desk.spares.previous (arrive before.log) held c.self.invariant.spares.0),
+        subst (λ o. IfSome o (λ s. IsFrontPart (arc_value s) more)) (sym c.put_aside.ensures.0)
+            (subst (λ j. IsFrontPart j more) (sym old_replica) (front_part (arrive before.log) held)),
+        subst (λ o. IfSome o (λ s. IsFrontPart (arc_value s) more)) (sym c.put_aside.ensures.1)
+            (spare_on (λ s. arc_value s) desk.spares.previous (arrive before.log) held c.self.invariant.spares.0),
       );
       next = subst (λ j. IfSome desk.next (λ n. n ≡ j)) (sym journal ∙ ap (all_arrived (arrive after.sight.seen.log)) (sym c.clear.ensures.items)) c.self.invariant.next;
-      opened = let e : length after.sight.seen.log ≡ length (before.log ++ held ∷ []) = ap length log in omega (arith, e, length-append before.log (held ∷ []));
+      opened = let e : length after.sight.seen.log ≡ length (before.log ++ held ∷ []) = ap length log in omega
+          (arith, e, length-append before.log (held ∷ []));
     }

@@ -11,4 +11,5 @@ returns c =
     let its = c.args.other.now.seen.log in
     let both = c.learn.new.self.log in
     let this : IsPrefix mine both = subst (λ (l : List (List Operation)). IsPrefix l both) (ap (λ s. s.log) c.again-both.ensures) c.learn.ensures.2 in
-    rw (c.args.other.now.counted, c.args.self.now.counted) (prefix_either its mine both c.learn.ensures.3 this (nat_le (length its) (length mine)) refl)
+    rw (c.args.other.now.counted, c.args.self.now.counted)
+    (prefix_either its mine both c.learn.ensures.3 this (nat_le (length its) (length mine)) refl)

@@ -14,7 +14,8 @@ returns-clause-later c =
     let later = c.enter.ensures.later in
     let mine : c.again-before.result.seen.log ≡ old.seen = ap (λ (s : Sight). s.seen.log) c.again-before.ensures ∙ ap (λ (w : Outlook). w.seen) c.self.view_is in
     let book : longer.book ≡ old.book = elim c.longer.ensures.one as (λ _. longer.book ≡ old.book) [
-      | inl e ↦ ap (λ (s : Sight). s.seen.book) (e ∙ c.again-before.ensures) ∙ ap (λ (w : Outlook). w.book) c.self.view_is
+      | inl e ↦ ap (λ (s : Sight). s.seen.book) (e ∙ c.again-before.ensures)
+          ∙ ap (λ (w : Outlook). w.book) c.self.view_is
       | inr e ↦ ap (λ (s : Sight). s.seen.book) e ∙ c.requires
     ] in
     let this : IsPrefix old.seen longer.log = subst (λ (l : List (List Operation)). IsPrefix l longer.log) mine c.longer.ensures.this in

@@ -1,4 +1,4 @@
--- A window that knows nothing may come, and is told all that the desk knows.
+-- A window that knows nothing may come, and is shown all that the desk knows.
 use Rattle.site_shared.proofs.Shows.{admits, forks, merges}
 use Rattle.site_shared.proofs.window.Window.new.Goals as goal
 

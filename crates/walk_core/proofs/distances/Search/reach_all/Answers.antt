@@ -10,6 +10,7 @@ pub loop-node-preserved : goal.loop-node-preserved
 loop-node-preserved g c =
     let nodes = c.args.nodes.now in
     let i = c.loop-node.node-index in
-    Discovers-then (Contains (take i nodes)) (λ x. x ≡ slice_index nodes i) (Contains (take (i + 1) nodes)) c.args.distance _ _ _ _ _ _
+    Discovers-then (Contains (take i nodes)) (λ x. x ≡ slice_index nodes i)
+    (Contains (take (i + 1) nodes)) c.args.distance _ _ _ _ _ _
     (λ x. Contains-more nodes i x (slice_index nodes i) c.loop-node-test.true (get_or_default nodes i 0 _ c.loop-node-test.true))
     c.loop-node.invariant c.in_ok-reach.ensures

@@ -16,7 +16,8 @@ use Rattle.watch_core.specs.Namers.{HoldNamers, is_again, is_reached, rows_of}
 use Rattle.watch_core.specs.Placed.{AreLists, FindsAgain}
 use Rattle.watch_core.specs.Touched.{touches}
 use Rattle.watch_core.specs.Watching.{AreKept, AreOfSeen, Watching}
-use Rattle.watch_core.proofs.Following.{again_reached, count_again, finds, found_once, held_wide, kept_on, lists_kept, namers_follow, ranked_follow}
+use Rattle.watch_core.proofs.Following.{again_reached, count_again, finds, found_once, held_wide, kept_on, lists_kept}
+use Rattle.watch_core.proofs.Following.{namers_follow, ranked_follow}
 use Rattle.watch_core.proofs.Outcomes.{both_if, ok_done}
 use Rattle.watch_core.proofs.evaluator.Evaluator.brought_up.Goals as goal
 
@@ -40,7 +41,8 @@ returns-in_err-owns-clause-at_most g c = λ count counts.
     let same : seen ≡ c.args.self.now.seen = ap (λ (w : Watching). w.seen) c.self.view_is in
     let touched_too : AreTouchedItems state later count = subst (λ n. AreTouchedItems state (drop n journal) count) (sym same) counts in
     let size : length (filter (is_of_touched later) c.items.result.now) ≡ count =
-    ap (λ l. length (filter (is_of_touched later) l)) c.items.ensures ∙ count_again gate state graph later all more is has count touched_too in
+    ap (λ l. length (filter (is_of_touched later) l)) c.items.ensures
+    ∙ count_again gate state graph later all more is has count touched_too in
     subst (λ n. g.J.Judge.asked c.owns_of.new.judge ≤ counted (g.J.Judge.asked c.args.judge.now) n) size c.owns_of.ensures.at_most
 
 pub returns-in_err-found-clause-at_most : goal.returns-in_err-found-clause-at_most
@@ -63,7 +65,8 @@ returns-in_err-found-clause-at_most g c = λ count counts.
     let same : seen ≡ c.args.self.now.seen = ap (λ (w : Watching). w.seen) c.self.view_is in
     let touched_too : AreTouchedItems state later count = subst (λ n. AreTouchedItems state (drop n journal) count) (sym same) counts in
     let size : length (filter (is_of_touched later) c.items.result.now) ≡ count =
-    ap (λ l. length (filter (is_of_touched later) l)) c.items.ensures ∙ count_again gate state graph later all more is has count touched_too in
+    ap (λ l. length (filter (is_of_touched later) l)) c.items.ensures
+    ∙ count_again gate state graph later all more is has count touched_too in
     subst (λ n. g.J.Judge.asked c.owns_of.new.judge ≤ counted (g.J.Judge.asked c.args.judge.now) n) size c.owns_of.ensures.at_most
 
 pub returns-in_err-add_graph-clause-at_most : goal.returns-in_err-add_graph-clause-at_most
@@ -86,7 +89,8 @@ returns-in_err-add_graph-clause-at_most g c = λ count counts.
     let same : seen ≡ c.args.self.now.seen = ap (λ (w : Watching). w.seen) c.self.view_is in
     let touched_too : AreTouchedItems state later count = subst (λ n. AreTouchedItems state (drop n journal) count) (sym same) counts in
     let size : length (filter (is_of_touched later) c.items.result.now) ≡ count =
-    ap (λ l. length (filter (is_of_touched later) l)) c.items.ensures ∙ count_again gate state graph later all more is has count touched_too in
+    ap (λ l. length (filter (is_of_touched later) l)) c.items.ensures
+    ∙ count_again gate state graph later all more is has count touched_too in
     subst (λ n. g.J.Judge.asked c.owns_of.new.judge ≤ counted (g.J.Judge.asked c.args.judge.now) n) size c.owns_of.ensures.at_most
 
 pub returns-clause-at_most : goal.returns-clause-at_most
@@ -109,7 +113,8 @@ returns-clause-at_most g c = λ count counts.
     let same : seen ≡ c.args.self.now.seen = ap (λ (w : Watching). w.seen) c.self.view_is in
     let touched_too : AreTouchedItems state later count = subst (λ n. AreTouchedItems state (drop n journal) count) (sym same) counts in
     let size : length (filter (is_of_touched later) c.items.result.now) ≡ count =
-    ap (λ l. length (filter (is_of_touched later) l)) c.items.ensures ∙ count_again gate state graph later all more is has count touched_too in
+    ap (λ l. length (filter (is_of_touched later) l)) c.items.ensures
+    ∙ count_again gate state graph later all more is has count touched_too in
     subst (λ n. g.J.Judge.asked c.owns_of.new.judge ≤ counted (g.J.Judge.asked c.args.judge.now) n) size c.owns_of.ensures.at_most
 
 pub owns_of-requires-clause-touched : goal.owns_of-requires-clause-touched
@@ -125,7 +130,8 @@ put_in_place-requires-clause-lists g c =
     let ranks = map to_rank c.self.inside.ranks.items in
     let namers = c.self.inside.namers in
     let were = subst (λ (w : Watching). AreOfSeen w journal kept) (sym c.self.view_is) c.requires.kept in
-    lists_kept c.self.inside.gate (state_of (take c.self.inside.seen journal)) kept were.verdicts (rows_of namers) c.self.inside.ranks.items were.kept
+    lists_kept c.self.inside.gate (state_of (take c.self.inside.seen journal)) kept were.verdicts
+    (rows_of namers) c.self.inside.ranks.items were.kept
 
 pub put_in_place-requires-clause-once : goal.put_in_place-requires-clause-once
 put_in_place-requires-clause-once g c = found_once c.self.inside.gate c.state-state.result.now c.in_ok-graph.graph.items c.in_ok-found.found c.in_ok-found.ensures.verdicts
@@ -157,7 +163,8 @@ put_in_place-requires-clause-finds g c =
     let holds = held_wide state namers later near.all all near.items more c.in_ok-reach.ensures.items c.in_ok-reach.ensures.all nearly in
     let found = c.in_ok-found.found in
     let are = subst (λ s. AreRankedVerdictsOn gate s graph.items found) c.state-state.ensures c.in_ok-found.ensures.verdicts in
-    subst (λ f. FindsAgain f (record { ranks = ranks; out = kept.out }) found) (sym again) (finds gate journal seen kept ranks namers were.verdicts were.kept all more holds graph is has found are)
+    subst (λ f. FindsAgain f (record { ranks = ranks; out = kept.out }) found) (sym again)
+    (finds gate journal seen kept ranks namers were.verdicts were.kept all more holds graph is has found are)
 
 pub returns-clause-verdicts : goal.returns-clause-verdicts
 returns-clause-verdicts g c =
@@ -257,6 +264,7 @@ returns-clause-asked g c =
     let same : seen ≡ c.args.self.now.seen = ap (λ (w : Watching). w.seen) c.self.view_is in
     let touched_too : AreTouchedItems state later count = subst (λ n. AreTouchedItems state (drop n journal) count) (sym same) counts in
     let size : length (filter (is_of_touched later) c.items.result.now) ≡ count =
-    ap (λ l. length (filter (is_of_touched later) l)) c.items.ensures ∙ count_again gate state graph later all more is has count touched_too in
+    ap (λ l. length (filter (is_of_touched later) l)) c.items.ensures
+    ∙ count_again gate state graph later all more is has count touched_too in
     subst (λ n. g.J.Judge.asked c.owns_of.new.judge ≡ counted (g.J.Judge.asked c.args.judge.now) n) size c.in_ok-owns.ensures.asked)
     (ok_done c.put_in_place.result)

@@ -18,7 +18,10 @@ pub returns : goal.returns
 returns g c =
     let within : c.in-Some.place < length c.self.inside.sites.items = omega (arith, c.in-Some.ensures.1, c.len.ensures, c.self.inside.sites.ok.0) in
     let within_packets : c.in-Some-place_of.packet < length c.self.inside.packets.items = omega (arith, c.in-Some-place_of.ensures.1, c.len-2.ensures, c.self.inside.packets.ok.0) in
-    let after : WorldState = record { sites = slice_set c.self.inside.sites.items c.in-Some.place c.deliver.new.self; packets = map (λ packet. packet.items) c.self.inside.packets.items } in
+    let after : WorldState = record {
+      sites = slice_set c.self.inside.sites.items c.in-Some.place c.deliver.new.self;
+      packets = map (λ packet. packet.items) c.self.inside.packets.items;
+    } in
     subst (λ w. AtSite (IsDeliveryOf (numbered w.packets c.args.packet)) c.args.site w c.deliver.result after) c.self.view_is
     (delivery_of_one (λ packet. packet.items) c.self.inside.sites.items c.self.inside.packets.items c.args.site c.in-Some.place c.in-Some-place_of.packet c.args.packet
     c.index_mut-at.result.now c.deliver.new.self c.index.result.now c.as_slice.result.now c.deliver.result

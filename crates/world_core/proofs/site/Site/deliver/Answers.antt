@@ -14,7 +14,8 @@ invariant_of-self g c =
     let journal = c.self.inside.replica in
     elim c.match-take_copies.branch [
       | in-Ok w ↦ still_within c.self.inside.saved journal c.args.ops.now c.take_copies.new.replica c.self.invariant w.in-Ok.ensures
-      | in-Err w ↦ still_within c.self.inside.saved journal (take w.in-Err.partly.taken c.args.ops.now) c.take_copies.new.replica c.self.invariant w.in-Err.ensures.1
+      | in-Err w ↦ still_within c.self.inside.saved journal
+          (take w.in-Err.partly.taken c.args.ops.now) c.take_copies.new.replica c.self.invariant w.in-Err.ensures.1
     ]
 
 pub returns : goal.returns

@@ -26,5 +26,6 @@ returns-clause-converges g c = λ sites earlier before was.
 
 pub returns-clause-run : goal.returns-clause-run
 returns-clause-run g c =
-    all_done c.args.self.now c.args.events.items c.loop-event.answers.items c.loop-event.self (into_iter_items c.loop-event.event-iterator)
+    all_done c.args.self.now c.args.events.items c.loop-event.answers.items c.loop-event.self
+    (into_iter_items c.loop-event.event-iterator)
     (nil_from_length (into_iter_items c.loop-event.event-iterator) (omega (arith, c.loop-event.event-iterator.rest.ok.0, c.in-None.ensures.steps.0))) c.loop-event.invariant.goes

@@ -7,7 +7,8 @@ use Rattle.world_core.proofs.Passed.{Run-append}
 use Rattle.world_core.proofs.world.World.step.Goals as goal
 
 pub invariant_of-self : goal.invariant_of-self
-invariant_of-self g c = goes_on c.self.inside.machine c.args.event c.step.result c.step.new.self c.step.ensures c.self.invariant
+invariant_of-self g c =
+    goes_on c.self.inside.machine c.args.event c.step.result c.step.new.self c.step.ensures c.self.invariant
 
 pub returns-clause-converges : goal.returns-clause-converges
 returns-clause-converges g c = λ sites earlier before was.

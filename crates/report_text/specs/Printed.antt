@@ -1,4 +1,4 @@
--- What the text of a report tells of its verdicts.
+-- Which part of its verdicts the text of a report holds.
 use Rattle.std.specs.Prelude.{◌<◌, ◌^◌}
 use Rattle.std.specs.List.{AllByRecursion}
 use Rattle.state_core.specs.declared.item.Item.{Item}
@@ -9,9 +9,9 @@ use Rattle.ready_core.specs.declared.verdicts.Refusal.{Refusal}
 use Rattle.ready_core.specs.declared.verdicts.Refusal.TheVariants.{Own, Cycle, Unknown, Dependency}
 use Rattle.ready_core.specs.Verdicts.{Judged}
 
--- an item that is left out is told with its refusal, and without its rank
-abbrev pub told : Left → Item × Refusal
-told left = (left.item, left.refusal)
+-- an item that is left out is printed with its refusal, and without its rank
+abbrev pub printed : Left → Item × Refusal
+printed left = (left.item, left.refusal)
 
 -- ---- every number has at most 64 bits, as those of verdicts have
 

@@ -2,7 +2,7 @@
 
 ghost use Rattle.std.specs.Prelude.{◌≡◌, ◌↔◌, IsTrue, IfOk, string_bytes};
 ghost use Rattle.change_core.specs.Views.{status_of};
-ghost use Rattle.event_filter.specs.Said.{HasPatch, IsSaid, Says, score_at};
+ghost use Rattle.event_filter.specs.Recorded.{HasPatch, IsRecorded, Records, score_at};
 ghost use Rattle.review_ops.specs.Draft.{deed_of};
 
 use change_core::{ChangeState, Status, VoteSlot};
@@ -11,11 +11,12 @@ use review_ops::{Body, Draft};
 use state_core::State;
 use std::alloc::Allocator;
 
-/// Whether a record says already what a body says: the patch set has the same message and parent, the vote of the same voter on the same label has the
-/// same value, or the change has the same status. A withdrawn vote and one of 0 are none. Of a change that no operation is on, the status is NEW.
-/// Refused is only memory, for the key of a vote. It costs O(log n) for n changes, patch sets and votes, and the length of the body's texts.
-pub fn is_said<A: Allocator + Copy>(state: &State<A>, body: &Body<A>) -> Result<bool, NoMemory>
-    ensures { IfOk result (λ said. IsTrue said ↔ IsSaid state.now body.now) }
+/// Whether a record says already what a body says: the patch set has the same message and parent, the vote of the same
+/// voter on the same label has the same value, or the change has the same status. A withdrawn vote and one of 0 are
+/// none. Of a change that no operation is on, the status is NEW. Refused is only memory, for the key of a vote. It
+/// costs O(log n) for n changes, patch sets and votes, and the length of the body's texts.
+pub fn is_recorded<A: Allocator + Copy>(state: &State<A>, body: &Body<A>) -> Result<bool, NoMemory>
+    ensures { IfOk result (λ said. IsTrue said ↔ IsRecorded state.now body.now) }
 {
     match state.change(body.change()) {
         Some(change) => says(change, body.draft()),
@@ -25,7 +26,7 @@ pub fn is_said<A: Allocator + Copy>(state: &State<A>, body: &Body<A>) -> Result<
 
 /// Whether a change has what a draft says.
 fn says<A: Allocator + Copy>(change: &ChangeState<A>, draft: &Draft<A>) -> Result<bool, NoMemory>
-    ensures { IfOk result (λ said. IsTrue said ↔ Says change.now (deed_of draft.now)) }
+    ensures { IfOk result (λ said. IsTrue said ↔ Records change.now (deed_of draft.now)) }
 {
     match draft {
         Draft::PatchSet {

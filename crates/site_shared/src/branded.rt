@@ -18,29 +18,29 @@ impl Naming for Brand {
 
 /// A receipt of the opening that its type names, so that a window of that opening may learn it wherever it came from.
 #[derive(Drop)]
-pub struct Told<J: Naming> {
+pub struct BrandedReceipt<J: Naming> {
     receipt: Receipt,
     of: PhantomData<J>,
 }
 
-impl<J: Naming> Model for Told<J> {
+impl<J: Naming> Model for BrandedReceipt<J> {
     ghost use Rattle.std.specs.Prelude.{◌≡◌};
     ghost use Rattle.site_shared.specs.Accounts.{Extent};
 
     ghost Value = { Extent };
 
-    ghost view = { λ told. told.receipt };
+    ghost view = { λ branded. branded.receipt };
 
-    ghost invariant = { λ told. told.receipt.book ≡ J.book };
+    ghost invariant = { λ branded. branded.receipt.book ≡ J.book };
 }
 
-impl<J: Naming> Told<J> {
+impl<J: Naming> BrandedReceipt<J> {
     /// A message with a receipt of the opening.
-    pub fn new(receipt: Receipt) -> Told<J>
+    pub fn new(receipt: Receipt) -> BrandedReceipt<J>
         requires { receipt.book ≡ J.book }
         ensures { result ≡ receipt }
     {
-        Told {
+        BrandedReceipt {
             receipt,
             of: PhantomData,
         }
