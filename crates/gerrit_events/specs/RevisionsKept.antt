@@ -1,6 +1,6 @@
--- How the revisions that are known are kept: in the order of their ages, and in the order of their texts.
+-- How the revisions that are known are kept: in the order of their ages, and by the hashes of their texts.
 use Rattle.std.specs.Prelude.{◌≡◌, ℕ, ◌≤◌, List, [], ◌∷◌, length, None, String, string_bytes}
-use Rattle.std.specs.BTreeMap.{BTreeMap, get_by_text}
+use Rattle.std.specs.HashMap.{HashMap, get_by_text}
 use Rattle.std.specs.declared.alloc.Global.{Global}
 use Rattle.gerrit_events.specs.declared.known.Seen.{Seen}
 use Rattle.gerrit_events.specs.Revisions.{Revision, place_of, most_revisions}
@@ -14,10 +14,10 @@ AreApart [] = Unit {0}
 AreApart (seen ∷ known) = (place_of known seen.0 ≡ None) × AreApart known
 
 -- the map has just what is known
-pub record Agree (places : BTreeMap (String Global) (ℕ × ℕ)) (known : List Revision) : Type 0 where
+pub record Agree {S : Type 0} (places : HashMap (String Global) (ℕ × ℕ) S) (known : List Revision) : Type 0 where
   pub same : (revision : List ℕ) → get_by_text places revision ≡ place_of known revision
   pub apart : AreApart known
 
-pub record AreKept (places : BTreeMap (String Global) (ℕ × ℕ)) (known : List Revision) : Type 0 where
+pub record AreKept {S : Type 0} (places : HashMap (String Global) (ℕ × ℕ) S) (known : List Revision) : Type 0 where
   pub agree : Agree places known
   pub few : length known ≤ most_revisions

@@ -58,8 +58,7 @@ impl<'k, 'v, 'a> Event<'k, 'v, 'a> {
         }
     }
 
-    /// What the line claims, in order. It costs the length of the line, and for each parent the logarithm of what is
-    /// known.
+    /// What the line claims, in order. It costs O(n) for n bytes of the line, and a look-up for each parent.
     pub fn claims(&self) -> Result<Vec<Claim>, NoMemory>
         ensures { IfOk result (λ claims. claims.items
             ≡ claims_by self.now.known.now self.now.line.kind (data_in self.now.line.value.now)) }

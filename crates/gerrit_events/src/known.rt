@@ -7,7 +7,7 @@ ghost use Rattle.gerrit_events.specs.RevisionsKept.{seen_shown, Agree};
 use json::Scratch;
 use lattice_core::NoMemory;
 use std::alloc::Global;
-use std::collections::{BTreeMap, VecDeque};
+use std::collections::{HashMap, VecDeque};
 use std::marker::Model;
 
 /// How many revisions are kept.
@@ -49,7 +49,7 @@ impl Known {
         }
     }
 
-    /// The change and the patch set of a revision, where it is known. It costs the logarithm of what is known.
+    /// The change and the patch set of a revision, where it is known. It is looked up by its hash.
     pub fn place_of(&self, revision: &str) -> Option<(u32, u32)>
         ensures { result ≡ place_of self.now revision.now }
     {
@@ -57,7 +57,7 @@ impl Known {
     }
 
     /// Learns of a revision. One that is known stays as it is; where they are too many the oldest is forgotten. Where
-    /// memory is refused nothing changes. It costs the logarithm of what is known.
+    /// memory is refused nothing changes. It is looked up by its hash.
     pub fn learn(&mut self, revision: &str, change: u32, set: u32) -> Result<(), NoMemory>
         ensures ok { OnOk result (self.new ≡ with_revision self.old (revision.now, (change, set))) }
         ensures err { OnErr result (self.new ≡ self.old) }
@@ -66,13 +66,13 @@ impl Known {
     }
 }
 
-/// Of at most 100,000 revisions the change and the patch set. The oldest one is forgotten first. Contracts see the list
-/// of them, the oldest first.
+/// Of at most 100,000 revisions the change and the patch set, by the hashes of their texts. The oldest one is forgotten
+/// first. Contracts see the list of them, the oldest first.
 #[derive(Drop)]
 pub struct Revisions {
     alloc: Global,
     ages: VecDeque<Seen>,
-    places: BTreeMap<String, (u32, u32)>,
+    places: HashMap<String, (u32, u32)>,
 }
 
 impl Model for Revisions {
@@ -95,7 +95,7 @@ impl Revisions {
         Revisions {
             alloc,
             ages: VecDeque::new(alloc),
-            places: BTreeMap::new(alloc),
+            places: HashMap::new(alloc),
         }
     }
 
@@ -132,7 +132,7 @@ impl Revisions {
 fn add_seen(
     alloc: Global,
     ages: &mut VecDeque<Seen>,
-    places: &mut BTreeMap<String, (u32, u32)>,
+    places: &mut HashMap<String, (u32, u32)>,
     revision: &str,
     place: (u32, u32),
 ) -> Result<(), NoMemory>
@@ -157,7 +157,7 @@ fn add_seen(
 }
 
 /// Forgets the oldest revision.
-fn forget_oldest(ages: &mut VecDeque<Seen>, places: &mut BTreeMap<String, (u32, u32)>)
+fn forget_oldest(ages: &mut VecDeque<Seen>, places: &mut HashMap<String, (u32, u32)>)
     requires { Agree places.old (map seen_shown ages.old.items) }
     ensures agree { Agree places.new (map seen_shown ages.new.items) }
     ensures rest { map seen_shown ages.new.items ≡ drop 1 (map seen_shown ages.old.items) }

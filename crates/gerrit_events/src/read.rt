@@ -25,8 +25,7 @@ use std::alloc::Global;
 use std::str;
 
 /// What is found in a line, in order: the bodies that it brings, and what of it is refused. Where memory is refused
-/// nothing is learned. It costs O(n) for n bytes of the line, and for each parent that it names the logarithm of what
-/// is known.
+/// nothing is learned. It costs O(n) for n bytes of the line, and a look-up for each parent that it names.
 pub fn read_event(alloc: Global, known: &mut Known, line: &[u8]) -> Result<Vec<Finding>, NoMemory>
     ensures read { IfOk result (λ findings. Reads known.old line.now findings.items known.new) }
     ensures kept { OnErr result (known.new ≡ known.old) }
