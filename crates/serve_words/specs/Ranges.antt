@@ -1,5 +1,5 @@
 -- The ranges of what `serve` is run with. The options are the project's own.
-use Rattle.std.specs.Prelude.{ℕ, ◌≡◌, ◌≤◌, All, IfSome, None}
+use Rattle.std.specs.Prelude.{◌≡◌, ◌≤◌, All, IfSome, None}
 use Rattle.serve_words.specs.declared.words.Serving.{Serving}
 use Rattle.serve_words.specs.declared.words.ServeWords.{ServeWords}
 use Rattle.serve_words.specs.declared.words.ServeWords.TheVariants.{Serve, Help, Usage, NoMemory}

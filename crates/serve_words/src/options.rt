@@ -3,8 +3,82 @@
 use clap::{Arg, ArgAction, Command};
 use std::alloc::{AllocError, Global};
 
+/// An option with a value, and what `--help` prints of both.
+struct Valued {
+    name: &'static str,
+    value: &'static str,
+    help: &'static str,
+}
+
+/// The options whose values are numbers, but `--site`, which is required.
+const NUMBERS: [Valued; 6] = [
+    Valued {
+        name: "start",
+        value: "N",
+        help: "The start, above every start that the site ever ran under; with --journal it may be left out",
+    },
+    Valued {
+        name: "port",
+        value: "P",
+        help: "The port on 127.0.0.1; 0, the default, chooses one",
+    },
+    Valued {
+        name: "workers",
+        value: "N",
+        help: "How many sessions side by side, 1 to 6; 2 by default",
+    },
+    Valued {
+        name: "pause",
+        value: "MS",
+        help: "Between two rounds of pulls; 1000 by default",
+    },
+    Valued {
+        name: "sessions",
+        value: "N",
+        help: "Ends after so many sessions; 0, the default, is without end",
+    },
+    Valued {
+        name: "idle",
+        value: "MS",
+        help: "How long a session may be silent; 0, the default, is without end",
+    },
+];
+
+/// The options whose values are the names of files.
+const FILES: [Valued; 3] = [
+    Valued {
+        name: "load",
+        value: "FILE",
+        help: "The snapshot to begin with",
+    },
+    Valued {
+        name: "save",
+        value: "FILE",
+        help: "The snapshot that is written at the end",
+    },
+    Valued {
+        name: "journal",
+        value: "FILE",
+        help: "The journal that keeps what is taken in",
+    },
+];
+
 /// `serve GATE [PEER].. --site N [..]`
 pub fn serve_command<'a>(alloc: Global) -> Result<Command<'a>, AllocError> {
+    let site = option(alloc, "site", "N", "The site's number, from 1 to 65535").required(true);
+    let named = bare_command(alloc)?.arg(site)?;
+    let numbered = with_options(alloc, named, &NUMBERS)?;
+    let ending = numbered.arg(
+        Arg::new(alloc, "until-input-ends")
+            .long("until-input-ends")
+            .action(ArgAction::SetTrue)
+            .help("Ends in order with standard input, or at its line stop"),
+    )?;
+    with_options(alloc, ending, &FILES)
+}
+
+/// The command with what has no name, a gate and peers.
+fn bare_command<'a>(alloc: Global) -> Result<Command<'a>, AllocError> {
     Command::new(alloc, "serve")
         .bin_name("reviewgate serve")?
         .about(
@@ -20,63 +94,20 @@ pub fn serve_command<'a>(alloc: Global) -> Result<Command<'a>, AllocError> {
             Arg::new(alloc, "PEER")
                 .action(ArgAction::Append)
                 .help("The ports on 127.0.0.1 that it pulls from"),
-        )?
-        .arg(option(alloc, "site", "N", "The site's number, from 1 to 65535").required(true))?
-        .arg(option(
-            alloc,
-            "start",
-            "N",
-            "The start, above every start that the site ever ran under; with --journal it may be left out",
-        ))?
-        .arg(option(
-            alloc,
-            "port",
-            "P",
-            "The port on 127.0.0.1; 0, the default, chooses one",
-        ))?
-        .arg(option(
-            alloc,
-            "workers",
-            "N",
-            "How many sessions side by side, 1 to 6; 2 by default",
-        ))?
-        .arg(option(
-            alloc,
-            "pause",
-            "MS",
-            "Between two rounds of pulls; 1000 by default",
-        ))?
-        .arg(option(
-            alloc,
-            "sessions",
-            "N",
-            "Ends after so many sessions; 0, the default, is without end",
-        ))?
-        .arg(option(
-            alloc,
-            "idle",
-            "MS",
-            "How long a session may be silent; 0, the default, is without end",
-        ))?
-        .arg(
-            Arg::new(alloc, "until-input-ends")
-                .long("until-input-ends")
-                .action(ArgAction::SetTrue)
-                .help("Ends in order with standard input, or at its line stop"),
-        )?
-        .arg(option(alloc, "load", "FILE", "The snapshot to begin with"))?
-        .arg(option(
-            alloc,
-            "save",
-            "FILE",
-            "The snapshot that is written at the end",
-        ))?
-        .arg(option(
-            alloc,
-            "journal",
-            "FILE",
-            "The journal that keeps what is taken in",
-        ))
+        )
+}
+
+/// A command with these options besides.
+fn with_options<'a>(
+    alloc: Global,
+    command: Command<'a>,
+    options: &[Valued],
+) -> Result<Command<'a>, AllocError> {
+    let mut command = command;
+    for valued in options {
+        command = command.arg(option(alloc, valued.name, valued.value, valued.help))?;
+    }
+    Ok(command)
 }
 
 /// An option with a value.
