@@ -2,7 +2,7 @@
 use Rattle.std.proofs.Common.{◌≡◌, ◌⊎◌, ◌||◌, ℕ, Bool, true, false, cond, List, [], ◌∷◌, ◌++◌, Contains, Err, None, Ok}
 use Rattle.std.proofs.Common.{Option, Result, Some, filter, length, map, take, drop, refl, sym, ap, ◌∙◌, subst, inl}
 use Rattle.std.proofs.Common.{inr}
-use Rattle.std.specs.Prelude.{IfOk, IsSome, OnOk, option_and_then, option_map}
+use Rattle.std.specs.Prelude.{IfOk, IsSome, option_and_then, option_map}
 use Rattle.std.specs.Global.{Vec}
 use Rattle.std.specs.Map.{lookup}
 use Rattle.std.specs.FinMap as finite
@@ -44,6 +44,8 @@ use Rattle.watch_core.specs.Placed.{AreLists, FindsAgain, IsIn, IsOneEach, Stand
 use Rattle.watch_core.specs.Touched.{HoldsWhatWaits, touches}
 use Rattle.watch_core.specs.Untouched.{IsUntouched, others}
 use Rattle.watch_core.specs.Watching.{AreKept}
+use Rattle.watch_core.specs.Again.{HasWaiting, IsAgain}
+use Rattle.watch_core.specs.declared.again.Again.{Again}
 use Rattle.watch_core.specs.Asked.{AreTouchedItems}
 use Rattle.watch_core.specs.KeptOwns.{is_of_touched}
 use Rattle.watch_core.proofs.Bringing.{brought_up, either}
@@ -312,3 +314,49 @@ ranked_all gate state items found whole are ranks out same_ranks same_out =
     } in
     subst (AreRankedVerdicts gate state) same
     (record { verdicts = on_all_items gate state items (judged found) whole are.verdicts; ranks = are.ranks })
+
+-- ---- what is found of the items that are judged again, in the place of what was kept of them
+module _ (gate : GateRules) (journal : List Operation) (seen : ℕ) (kept : Judged) (ranks : List ItemRank)
+    (namers : Namers) (verdicts : AreVerdicts gate (state_of (take seen journal)) kept)
+    (keeps : AreKept gate (state_of (take seen journal)) (map to_rank ranks) (rows_of namers) kept) (again : Again)
+    (is : IsAgain gate journal seen again) (waiting : HasWaiting journal seen namers again) (found : RankedVerdicts)
+    (are : AreRankedVerdictsOn gate (state_of journal) again.graph.items found) where
+  abbrev is_judged : Item → Bool
+  is_judged = is_again again.touched again.reach.all again.reach.items
+
+  abbrev was : RankedVerdicts
+  was = record { ranks = map to_rank ranks; out = kept.out }
+
+  same_items : is_judged ≡ is_reached (drop seen journal) again.reach.all again.reach.items
+  same_items = again_reached again.touched (drop seen journal) again.reach.all again.reach.items is.touched
+
+  pub finds_again : FindsAgain is_judged was found
+  finds_again = subst (λ f. FindsAgain f was found) (sym same_items)
+      (finds gate journal seen kept (map to_rank ranks) namers verdicts keeps again.reach.all again.reach.items
+      waiting again.graph is.graph is.holds found are)
+
+  module _ (new : Namers) (keeps_namers : KeepsNamers namers new)
+      (names : (item : Item) (row : List ℕ) (number : ℕ) → StandsAt again.graph.items again.graph.targets item row
+      → Contains row number → IsNamer new number item) (new_ranks : List ItemRank) where
+    followed : (listed : Judged) → AreLists listed.ready new_ranks listed.out
+        → IsBroughtUp is_judged was found (record { ranks = map to_rank new_ranks; out = listed.out })
+        → AreVerdicts gate (state_of journal) listed
+        × AreKept gate (state_of journal) (map to_rank new_ranks) (rows_of new) listed
+    followed listed lists up =
+        let brought : RankedVerdicts = record { ranks = map to_rank new_ranks; out = listed.out } in
+        kept_on gate (state_of journal) listed new_ranks new
+        (ranked_follow gate journal seen kept (map to_rank ranks) namers verdicts keeps again.reach.all
+        again.reach.items waiting again.graph is.graph is.holds found are brought
+        (subst (λ f. IsBroughtUp f was found brought) same_items up)) lists.ranked.nodes lists.ranked.rising
+        (namers_follow gate journal seen kept (map to_rank ranks) namers verdicts keeps again.reach.all
+        again.reach.items waiting again.graph is.graph is.holds new names keeps_namers)
+
+    -- where all is in its place, the verdicts are those of the state, and so is what is kept beside them
+    pub all_follow : {E : Type 0} (put : Result Judged E)
+        → IfOk put (λ listed. AreLists listed.ready new_ranks listed.out)
+        → IfOk put (λ listed. IsBroughtUp is_judged was found
+        (record { ranks = map to_rank new_ranks; out = listed.out }))
+        → IfOk put (AreVerdicts gate (state_of journal))
+        × IfOk put (AreKept gate (state_of journal) (map to_rank new_ranks) (rows_of new))
+    all_follow (Ok listed) lists up = followed listed lists up
+    all_follow (Err fault) lists up = (lists, lists)

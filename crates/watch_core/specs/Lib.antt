@@ -7,3 +7,4 @@ pub mod KeptOwns
 pub mod Namers
 pub mod Placed
 pub mod Seeds
+pub mod Again

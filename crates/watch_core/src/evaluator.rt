@@ -7,13 +7,10 @@ ghost use Rattle.ready_core.specs.Verdicts.{AreVerdicts};
 ghost use Rattle.watch_core.specs.Asked.{AreTouchedItems, counted};
 ghost use Rattle.watch_core.specs.Watching.{AreKept, AreOfSeen, Follows, Precedes};
 
+use super::again::Again;
 use super::bring::put_in_place;
 use super::judge::{GateJudge, Judge};
-use super::kept::owns_of;
 use super::namers::{Namers, add_graph};
-use super::reach::reach_of;
-use super::seeds::{graph_of, widened};
-use super::touched::touched_changes;
 use gate_rules::Gate;
 use graph_core::Graph;
 use lattice_core::NoMemory;
@@ -169,23 +166,18 @@ impl Evaluator {
             → J.asked judge.new ≤ counted (J.asked judge.old) count }
     {
         let alloc = replica.allocator();
+        let again = Again::of(alloc, &self.gate, self.seen, &self.namers, replica)?;
+        let owns = again.owns(&self.gate, self.seen, replica, &kept, judge)?;
         let state = replica.state();
-        let later = &replica.as_slice()[self.seen..];
-        let touched = touched_changes(alloc, later)?;
-        let near = reach_of(alloc, state, &self.namers, later)?;
-        let reach = widened(alloc, state, near, &touched)?;
-        let graph = graph_of(alloc, &self.gate, state, &reach, &touched)?;
-        let owns = owns_of(
-            &self.gate,
-            self.seen,
-            replica,
-            graph.items(),
-            &touched,
-            &kept,
-            judge,
-        )?;
-        let found = ranked_on(alloc, state, &self.gate, &graph, owns.as_slice())?;
-        add_graph(&mut self.namers, alloc, &graph)?;
-        put_in_place(alloc, &reach, &touched, kept, &mut self.ranks, found)
+        let found = ranked_on(alloc, state, &self.gate, &again.graph, owns.as_slice())?;
+        add_graph(&mut self.namers, alloc, &again.graph)?;
+        put_in_place(
+            alloc,
+            &again.reach,
+            &again.touched,
+            kept,
+            &mut self.ranks,
+            found,
+        )
     }
 }

@@ -16,6 +16,7 @@
 //! ```
 #![tactic(auto)]
 
+mod again;
 mod bring;
 mod evaluator;
 mod judge;
