@@ -1,7 +1,8 @@
 -- How a session ends.
-use Rattle.std.proofs.Common.{◌≡◌, ◌++◌, ℕ, Bool, true, false, List, Option, Result, Ok, Err, refl, sym, subst, inl}
-use Rattle.std.proofs.Common.{inr}
+use Rattle.std.proofs.Common.{◌≡◌, ◌++◌, ◌≤◌, ℕ, Bool, true, false, List, Option, Result, Ok, Err, refl, sym, subst}
+use Rattle.std.proofs.Common.{inl, inr, length}
 use Rattle.std.specs.Prelude.{◌⊎◌}
+use Rattle.std.specs.Io.KnownBytes.{Consumes}
 use Rattle.byte_ends.specs.Lines.{without_cr}
 use Rattle.byte_ends.specs.ReadAll.{CountsFault}
 use Rattle.byte_ends.specs.declared.faults.BytesFault.{BytesFault}
@@ -9,8 +10,9 @@ use Rattle.byte_ends.specs.declared.faults.BytesFault.TheVariants as bytes
 use Rattle.line_reader.specs.Lines.{BeginsWithLine, Hands, IsTooLong, IsUnfinished, Reading}
 use Rattle.site_port.specs.Ports.{Call, Reply}
 use Rattle.gossip_line.specs.Answers.{IsCutShort, IsWritten, Sends}
-use Rattle.gossip_line.specs.Session.{CountsReads, Ends, EndsUnread, IsCut, IsLast, IsSent, Moment, Turn, is_none_yet}
-use Rattle.gossip_line.specs.Texts.{Answer, greeting, bad_version, replied, no_memory, bad_command, bad_text, farewell}
+use Rattle.gossip_line.specs.Session.{CountsReads, Ends, EndsUnread, IsCut, IsLast, IsSent, IsTalk, Moment}
+use Rattle.gossip_line.specs.Session.{Session, Turn, is_none_yet}
+use Rattle.gossip_line.specs.Texts.{Answer, bad_version, farewell}
 use Rattle.gossip_line.specs.Texts.{answer_text, long_line, next_of}
 use Rattle.gossip_line.specs.declared.fault.LineFault.{LineFault}
 use Rattle.gossip_line.specs.declared.fault.LineFault.TheVariants as line
@@ -36,13 +38,7 @@ pub sends_cases : {T : Type 0} (text : List ℕ) (wanted : Result T LineFault) (
     → ((result ≡ wanted) × IsWritten text taken later failed failures)
     ⊎ ((result ≡ Err line.WriteFault) × IsCutShort text taken later failed failures)
 sends_cases text wanted taken later failed failures (Err line.WriteFault) h = inr (refl, h)
-sends_cases text wanted taken later failed failures (Err line.LongLine) h = inl h
-sends_cases text wanted taken later failed failures (Err line.BadVersion) h = inl h
-sends_cases text wanted taken later failed failures (Err line.ReadFault) h = inl h
-sends_cases text wanted taken later failed failures (Err line.NoMemory) h = inl h
-sends_cases text wanted taken later failed failures (Err line.BadAnswer) h = inl h
-sends_cases text wanted taken later failed failures (Err line.Closed) h = inl h
-sends_cases text wanted taken later failed failures (Ok value) h = inl h
+sends_cases text wanted taken later failed failures result h = inl h
 
 abbrev failed_by : LineFault → Result Bool LineFault
 failed_by fault = Err fault
@@ -50,22 +46,12 @@ failed_by fault = Err fault
 -- which answers end a session, and which don't
 ends_badly : (answer : Answer) (fault : LineFault) → Err fault ≡ next_of answer
     → (answer ≡ bad_version) × (fault ≡ line.BadVersion)
-ends_badly greeting fault e = cc
 ends_badly bad_version fault e = (refl, cc)
-ends_badly (replied reply) fault e = cc
-ends_badly no_memory fault e = cc
-ends_badly bad_command fault e = cc
-ends_badly bad_text fault e = cc
-ends_badly farewell fault e = cc
+ends_badly answer fault e = cc
 
 ends_well : (answer : Answer) (more : Bool) → more ≡ false → Ok more ≡ next_of answer → answer ≡ farewell
-ends_well greeting more is e = cc
-ends_well bad_version more is e = cc
-ends_well (replied reply) more is e = cc
-ends_well no_memory more is e = cc
-ends_well bad_command more is e = cc
-ends_well bad_text more is e = cc
 ends_well farewell more is e = refl
+ends_well answer more is e = cc
 
 module _ {P : Type 0} (gives : P → Call → Reply → P → Type 0) (limit most : ℕ) (turns : List Turn) (mid : Moment P)
     (rest : List ℕ) (after : Moment P) where
@@ -91,17 +77,19 @@ module _ {P : Type 0} (gives : P → Call → Reply → P → Type 0) (limit mos
       → IsLast gives limit (is_none_yet turns) mid.port rest answer after.port → after.unread ≡ mid.unread
       → Sends (answer_text answer) (next_of answer) mid.taken after.taken mid.unwritten after.unwritten (Err fault)
       → IsEnd (Err fault)
-  answered_fault answer fault last none h = after_fault answer fault last none (sends_cases (answer_text answer) (next_of answer) mid.taken after.taken mid.unwritten after.unwritten (Err fault) h)
+  answered_fault answer fault last none h =
+      let cases = sends_cases (answer_text answer) (next_of answer) mid.taken after.taken mid.unwritten after.unwritten
+      (Err fault) h in
+      after_fault answer fault last none cases
 
   pub answered_last : (answer : Answer) (more : Bool) → more ≡ false
       → IsLast gives limit (is_none_yet turns) mid.port rest answer after.port → after.unread ≡ mid.unread
       → (Ok more ≡ next_of answer) × IsSent gives (answer_text answer) mid after → IsEnd (Ok tt)
   answered_last answer more is last none h =
       let which = ends_well answer more is h.0 in
-      record {
-        ended = inr (subst (λ a. IsLast gives limit (is_none_yet turns) mid.port rest a after.port) which last, subst (λ a. IsSent gives (answer_text a) mid after) which h.1);
-        counted = none;
-      }
+      let last_is = subst (λ a. IsLast gives limit (is_none_yet turns) mid.port rest a after.port) which last in
+      let said_is = subst (λ a. IsSent gives (answer_text a) mid after) which h.1 in
+      record { ended = inr (last_is, said_is); counted = none }
 
   after_long : (result : Result (Unit {0}) LineFault) → IsTooLong limit rest → after.port ≡ mid.port
       → after.unread ≡ mid.unread
@@ -125,3 +113,21 @@ module _ {P : Type 0} (gives : P → Call → Reply → P → Type 0) (limit mos
       subst IsEnd (sym h.0) (record { ended = ((same, h.1, h.2), inl one); counted = tt })
   unread_end bytes.NoMemory old new came result is whole same hands none h =
       subst IsEnd (sym h.0) (record { ended = (same, h.1, h.2); counted = none })
+
+module _ {P : Type 0} {gives : P → Call → Reply → P → Type 0} {limit most : ℕ} {before mid after : Moment P}
+    {turns : List Turn} {held : List ℕ} {result : Result (Unit {0}) LineFault} where
+  -- a session whose turns went on, and that then ends so
+  pub session_ends : (last : List ℕ) → IsTalk gives limit before mid turns held → length turns ≤ most
+      → Consumes mid.left after.left last → IsEnd gives limit most turns mid (held ++ last) after result
+      → Session gives limit most before after result
+  session_ends last talk few read finish = record {
+    turns = turns;
+    mid = mid;
+    held = held;
+    last = last;
+    talk = talk;
+    few = few;
+    came = read;
+    ended = finish.ended;
+    counted = finish.counted;
+  }

@@ -4,3 +4,5 @@ pub mod Talking
 pub mod Words
 pub mod Pulling
 pub mod PassingOn
+pub mod Moments
+pub mod OneAnswer

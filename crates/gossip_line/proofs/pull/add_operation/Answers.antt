@@ -1,4 +1,4 @@
-use Rattle.gossip_line.proofs.Pulling.{unspelled_unsaid}
+use Rattle.gossip_line.proofs.OneAnswer.{unspelled_unsaid}
 use Rattle.gossip_line.proofs.pull.add_operation.Goals as goal
 
 pub returns-in-Err-clause-err : goal.returns-in-Err-clause-err

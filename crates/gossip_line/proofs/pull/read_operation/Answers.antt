@@ -1,4 +1,4 @@
-use Rattle.gossip_line.proofs.Pulling.{unread_unspelled}
+use Rattle.gossip_line.proofs.OneAnswer.{unread_unspelled}
 use Rattle.gossip_line.proofs.pull.read_operation.Goals as goal
 
 pub returns-in-Err-clause-err : goal.returns-in-Err-clause-err
