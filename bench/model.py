@@ -275,7 +275,9 @@ class State:
 
     def approvals(self, change: int) -> list:
         now = self.current.get(change)
-        found = [(slot[2], slot[3], value) for slot, (_, value) in self.votes.items() if slot[:2] == (change, now) and value]
+        found = [
+            (slot[2], slot[3], value) for slot, (_, value) in self.votes.items() if slot[:2] == (change, now) and value
+        ]
         return sorted(found)
 
     def text(self) -> bytes:
@@ -285,11 +287,17 @@ class State:
             if change in self.lives:
                 stamp, is_restored = self.lives[change]
                 lines.append(f"life {change} {'restored' if is_restored else 'abandoned'} {stamp_text(stamp)}".encode())
-            for (_, number), (stamp, (message, parent)) in sorted(item for item in self.sets.items() if item[0][0] == change):
+            for (_, number), (stamp, (message, parent)) in sorted(
+                item for item in self.sets.items() if item[0][0] == change
+            ):
                 line = f"set {change},{number} {stamp_text(stamp)} ".encode() + compact(message.decode())
                 lines.append(line + (b"" if parent < 0 else f" parent {parent}".encode()))
-            for (_, number, label, voter), (stamp, value) in sorted(item for item in self.votes.items() if item[0][0] == change):
-                lines.append(b"vote %d,%d %s %s %d %s" % (change, number, label, voter, value, stamp_text(stamp).encode()))
+            for (_, number, label, voter), (stamp, value) in sorted(
+                item for item in self.votes.items() if item[0][0] == change
+            ):
+                lines.append(
+                    b"vote %d,%d %s %s %d %s" % (change, number, label, voter, value, stamp_text(stamp).encode())
+                )
         return b"".join(line + b"\n" for line in lines + [b"end %d" % len(self.changes)])
 
 
@@ -342,8 +350,11 @@ class Gate:
 
     @staticmethod
     def are_bases(value) -> bool:
-        return isinstance(value, list) and 1 <= len(value) <= 8 and all(
-            isinstance(base, str) and re.fullmatch(rb"[\x21-\x7e]{0,255}/", base.encode()) for base in value)
+        return (
+            isinstance(value, list)
+            and 1 <= len(value) <= 8
+            and all(isinstance(base, str) and re.fullmatch(rb"[\x21-\x7e]{0,255}/", base.encode()) for base in value)
+        )
 
     def walk_side(self, side: dict) -> None:
         for key in sorted(side, key=str.encode):
@@ -396,7 +407,9 @@ class Gate:
                 holds.append(("status", state.status(change) in (names if isinstance(names, list) else [names])))
             patterns = conditions.get("approval", [])
             for place, pattern in enumerate(patterns if isinstance(patterns, list) else [patterns], 1):
-                holds.append((f"approval {place}", any(takes(pattern, approval) for approval in state.approvals(change))))
+                holds.append(
+                    (f"approval {place}", any(takes(pattern, approval) for approval in state.approvals(change)))
+                )
             for words, is_so in holds:
                 if is_so != (side == "require"):
                     return f"{side} {words}"
@@ -429,9 +442,13 @@ def number_of(text: bytes) -> int | None:
 def read_under(base: bytes, value: bytes) -> int | None:
     if not value.startswith(base):
         return None
-    rest = value[len(base):]
+    rest = value[len(base) :]
     project, mark, last = rest[2:].rpartition(b"/+/")
-    forms = [rest] + [rest[4:]] * rest.startswith(b"#/c/") + [last] * (rest.startswith(b"c/") and bool(mark) and bool(project))
+    forms = (
+        [rest]
+        + [rest[4:]] * rest.startswith(b"#/c/")
+        + [last] * (rest.startswith(b"c/") and bool(mark) and bool(project))
+    )
     return next((number for form in forms if (number := number_of(form))), None)
 
 
@@ -461,7 +478,8 @@ class Judged:
         self.state, self.items = state, sorted(state.sets)
         self.targets = {item: self.targets_of(gate, item) for item in self.items}
         self.ends = {
-            item: [(c, state.current[c]) for c in self.targets[item] if c in state.current] for item in self.items}
+            item: [(c, state.current[c]) for c in self.targets[item] if c in state.current] for item in self.items
+        }
         self.reach = {item: self.reached(item, self.items) for item in self.items}
         first = {item: self.first_cause(gate, item) for item in self.items}
         ready = {item for item in self.items if first[item] is None}
@@ -485,7 +503,9 @@ class Judged:
 
     def targets_of(self, gate: Gate, item) -> list:
         message, parent = self.state.sets[item][1]
-        names = set(footers(gate.bases, item[0], message)[0]) | ({parent} if parent > 0 and parent != item[0] else set())
+        names = set(footers(gate.bases, item[0], message)[0]) | (
+            {parent} if parent > 0 and parent != item[0] else set()
+        )
         return sorted(name for name in names if name not in self.state.merged)
 
     def reached(self, item, within) -> set:
@@ -507,10 +527,16 @@ class Judged:
 
     def place(self, item, ready):
         reached = self.reached(item, ready) | {item}
-        return (len(reached), min(other for other in reached if other == item or item in self.reached(other, ready)), item)
+        return (
+            len(reached),
+            min(other for other in reached if other == item or item in self.reached(other, ready)),
+            item,
+        )
 
     def text(self) -> bytes:
-        lines = [f"ready {c},{p}" for c, p in self.ready] + [f"out {c},{p} {self.out[c, p]}" for c, p in sorted(self.out)]
+        lines = [f"ready {c},{p}" for c, p in self.ready] + [
+            f"out {c},{p} {self.out[c, p]}" for c, p in sorted(self.out)
+        ]
         return "".join(line + "\n" for line in lines + [f"end {len(self.ready)} {len(self.out)}"]).encode()
 
 
@@ -761,7 +787,12 @@ class Session:
 
 MISSING, DROPPED = object(), object()
 VOTED = {"comment-added": "author", "vote-deleted": "reviewer", "reviewer-deleted": "reviewer"}
-TURNS = {"change-abandoned": "abandon", "change-deleted": "abandon", "change-restored": "restore", "change-merged": "merged"}
+TURNS = {
+    "change-abandoned": "abandon",
+    "change-deleted": "abandon",
+    "change-restored": "restore",
+    "change-merged": "merged",
+}
 STATUSES = {"NEW": "restore", "ABANDONED": "abandon", "MERGED": "merged"}
 BODY_KEYS = {"BadLabel": "type", "BadVoter": "username", "LongMessage": "commitMessage"}
 

@@ -14,7 +14,10 @@ impl Session {
     fn open(port: u16) -> Session {
         let writer = TcpStream::connect(("127.0.0.1", port)).expect("a site");
         writer.set_nodelay(true).expect("no delay");
-        let mut session = Session { reader: BufReader::new(writer.try_clone().expect("a handle")), writer };
+        let mut session = Session {
+            reader: BufReader::new(writer.try_clone().expect("a handle")),
+            writer,
+        };
         assert_eq!(session.ask("hello 2\n"), "hello 2\n");
         session
     }
@@ -98,7 +101,10 @@ fn main() {
     let words: Vec<String> = env::args().skip(1).collect();
     let number = |place: usize| words[place].parse::<u32>().expect("a number");
     match words[0].as_str() {
-        "takes" => println!("{:.0}", takes(number(1) as u16, number(2), u64::from(number(3)), number(4))),
+        "takes" => println!(
+            "{:.0}",
+            takes(number(1) as u16, number(2), u64::from(number(3)), number(4))
+        ),
         "fill" => {
             let mut session = Session::open(number(1) as u16);
             (1..=number(2)).for_each(|change| session.take(change));
