@@ -109,13 +109,28 @@ fn assert_same(rt: &impl Abort, joined: &ChangeState, state: &ChangeState) {
     assert!(rt; joined.same(state) && joined.covers(state));
 }
 
+/// Takes an operation, which gives the state that its effect gave by a join.
+fn take_as_joined(
+    rt: &impl Abort,
+    state: &mut ChangeState,
+    op: &Op,
+    joined: &ChangeState,
+) -> Result<(), Fail> {
+    state.take(op)?;
+    assert_same(rt, joined, state);
+    Ok(())
+}
+
 /// Takes an operation. Its effect, joined with what was taken before, is the same state.
+fn take_op(rt: &impl Abort, alloc: Global, state: &mut ChangeState, op: &Op) -> Result<(), Fail> {
+    let joined = joined(alloc, state, op)?;
+    take_as_joined(rt, state, op, &joined)
+}
+
+/// Takes the operation of a step.
 fn take(rt: &impl Abort, alloc: Global, state: &mut ChangeState, step: Step) -> Result<(), Fail> {
     let op = op_of(alloc, step)?;
-    let joined = joined(alloc, state, &op)?;
-    state.take(&op)?;
-    assert_same(rt, &joined, state);
-    Ok(())
+    take_op(rt, alloc, state, &op)
 }
 
 /// The state of the operations, which are taken in their order.
@@ -152,34 +167,46 @@ fn votes_text(alloc: Global, state: &ChangeState, set: u32) -> Result<String, Fa
     Ok(text)
 }
 
-/// A patch set has these approvals.
+/// The approvals of a patch set in the state of the operations.
+fn approvals_of(rt: &impl Abort, alloc: Global, steps: &[Step], set: u32) -> Result<String, Fail> {
+    let state = state_of(rt, alloc, steps)?;
+    approvals_text(alloc, &state, set)
+}
+
+/// The votes on a patch set in the state of the operations.
+fn votes_of(rt: &impl Abort, alloc: Global, steps: &[Step], set: u32) -> Result<String, Fail> {
+    let state = state_of(rt, alloc, steps)?;
+    votes_text(alloc, &state, set)
+}
+
+/// In the state of the operations a patch set has these approvals.
 fn assert_approvals(
     rt: &impl Abort,
     alloc: Global,
-    state: &ChangeState,
+    steps: &[Step],
     set: u32,
     wanted: &str,
 ) -> Result<(), Fail> {
-    let text = approvals_text(alloc, state, set)?;
+    let text = approvals_of(rt, alloc, steps, set)?;
     assert_eq!(rt; text.as_str(), wanted);
     Ok(())
 }
 
-/// A patch set has these votes.
+/// In the state of the operations a patch set has these votes.
 fn assert_votes(
     rt: &impl Abort,
     alloc: Global,
-    state: &ChangeState,
+    steps: &[Step],
     set: u32,
     wanted: &str,
 ) -> Result<(), Fail> {
-    let text = votes_text(alloc, state, set)?;
+    let text = votes_of(rt, alloc, steps, set)?;
     assert_eq!(rt; text.as_str(), wanted);
     Ok(())
 }
 
 /// A withdrawn vote, a newer one, and one that is older than both.
-const NEWEST: [Step; 3] = [
+const NEWEST: &[Step] = &[
     Step::Withdraw(4, 1),
     Step::Vote(5, 1, "Workflow", "ann", 1),
     Step::Vote(3, 1, "Workflow", "ann", 2),
@@ -187,9 +214,8 @@ const NEWEST: [Step; 3] = [
 
 #[test]
 fn the_newest_vote_counts(rt: HostRuntime) -> Result<(), Fail> {
-    let state = state_of(&rt, rt.alloc(), &NEWEST)?;
-    assert_approvals(&rt, rt.alloc(), &state, 1, "workflow ann 1\n")?;
-    assert_votes(&rt, rt.alloc(), &state, 1, "workflow ann 1 5,1,1,5\n")
+    assert_approvals(&rt, rt.alloc(), NEWEST, 1, "workflow ann 1\n")?;
+    assert_votes(&rt, rt.alloc(), NEWEST, 1, "workflow ann 1 5,1,1,5\n")
 }
 
 /// The effect of one operation.
@@ -198,66 +224,90 @@ fn effect_of(alloc: Global, step: Step) -> Result<ChangeState, Fail> {
     Ok(ChangeState::effect(alloc, &op)?)
 }
 
-/// This patch set is current, if there is one.
-fn assert_current(rt: &impl Abort, state: &ChangeState, wanted: Option<u32>) {
-    assert_eq!(rt; state.current(), wanted);
-}
-
-/// A patch set has this message, if it is known.
-fn assert_message(rt: &impl Abort, state: &ChangeState, set: u32, wanted: Option<&str>) {
-    assert_eq!(rt; state.message(set), wanted);
+/// Of the patch sets 1 and 2 the first is known, with its message, and current.
+fn assert_first_known(rt: &impl Abort, state: &ChangeState) {
+    assert!(rt; state.has_set(1) && !state.has_set(2));
+    assert_eq!(rt;
+        (state.message(1), state.message(2)),
+        (Some("Add x\n"), None)
+    );
+    assert_eq!(rt; state.current(), Some(1));
 }
 
 #[test]
 fn one_patch_set_is_known(rt: HostRuntime) -> Result<(), Fail> {
     let state = effect_of(rt.alloc(), Step::PatchSet(1, 1, None))?;
-    assert!(rt; state.has_set(1) && !state.has_set(2));
-    assert_message(&rt, &state, 1, Some("Add x\n"));
-    assert_message(&rt, &state, 2, None);
-    assert_current(&rt, &state, Some(1));
+    assert_first_known(&rt, &state);
     Ok(())
 }
 
+/// What a state says of its patch sets: the current one, how many are known, and the parents of the second, third and
+/// fourth.
+#[derive(Clone, Copy, Debug, PartialEq)]
+struct Sets {
+    current: Option<u32>,
+    known: usize,
+    parents: (Option<u32>, Option<u32>, Option<u32>),
+}
+
+/// What the state of the operations says of its patch sets.
+fn sets_of(rt: &impl Abort, alloc: Global, steps: &[Step]) -> Result<Sets, Fail> {
+    let state = state_of(rt, alloc, steps)?;
+    Ok(Sets {
+        current: state.current(),
+        known: state.sets().len(),
+        parents: (state.parent(2), state.parent(3), state.parent(4)),
+    })
+}
+
 /// Two votes of one voter at one stamp.
-const TIE: [Step; 2] = [
+const TIE: &[Step] = &[
     Step::Vote(3, 1, "Workflow", "ann", 2),
     Step::Vote(3, 1, "Workflow", "ann", -1),
 ];
 
 #[test]
 fn the_greater_of_two_votes_at_one_stamp_counts(rt: HostRuntime) -> Result<(), Fail> {
-    let state = state_of(&rt, rt.alloc(), &TIE)?;
-    assert_votes(&rt, rt.alloc(), &state, 1, "workflow ann 2 3,1,1,3\n")?;
-    assert_current(&rt, &state, None);
+    assert_votes(&rt, rt.alloc(), TIE, 1, "workflow ann 2 3,1,1,3\n")?;
+    assert_eq!(rt; sets_of(&rt, rt.alloc(), TIE)?.current, None);
     Ok(())
 }
 
 /// A vote, and another of 0 at a later stamp.
-const ZERO: [Step; 2] = [
+const ZERO: &[Step] = &[
     Step::Vote(5, 1, "Workflow", "ann", 1),
     Step::Vote(6, 1, "Workflow", "ann", 0),
 ];
 
 #[test]
 fn a_vote_of_0_is_no_approval(rt: HostRuntime) -> Result<(), Fail> {
-    let state = state_of(&rt, rt.alloc(), &ZERO)?;
-    assert_approvals(&rt, rt.alloc(), &state, 1, "")?;
-    assert_votes(&rt, rt.alloc(), &state, 1, "workflow ann 0 6,1,1,6\n")
+    assert_approvals(&rt, rt.alloc(), ZERO, 1, "")?;
+    assert_votes(&rt, rt.alloc(), ZERO, 1, "workflow ann 0 6,1,1,6\n")
 }
 
 /// The same vote, withdrawn at the later stamp.
-const WITHDRAWN: [Step; 2] = [Step::Vote(5, 1, "Workflow", "ann", 1), Step::Withdraw(6, 1)];
+const WITHDRAWN: &[Step] = &[Step::Vote(5, 1, "Workflow", "ann", 1), Step::Withdraw(6, 1)];
 
-#[test]
-fn a_vote_of_0_is_a_withdrawn_one(rt: HostRuntime) -> Result<(), Fail> {
-    let zero = state_of(&rt, rt.alloc(), &ZERO)?;
-    let withdrawn = state_of(&rt, rt.alloc(), &WITHDRAWN)?;
-    assert_same(&rt, &zero, &withdrawn);
+/// The state is that of the operations.
+fn assert_state(
+    rt: &impl Abort,
+    alloc: Global,
+    state: &ChangeState,
+    steps: &[Step],
+) -> Result<(), Fail> {
+    let wanted = state_of(rt, alloc, steps)?;
+    assert_same(rt, state, &wanted);
     Ok(())
 }
 
+#[test]
+fn a_vote_of_0_is_a_withdrawn_one(rt: HostRuntime) -> Result<(), Fail> {
+    let zero = state_of(&rt, rt.alloc(), ZERO)?;
+    assert_state(&rt, rt.alloc(), &zero, WITHDRAWN)
+}
+
 /// Votes on one patch set, and then another patch set.
-const TWO_SETS: [Step; 4] = [
+const TWO_SETS: &[Step] = &[
     Step::Vote(2, 1, "Workflow", "ann", 1),
     Step::Vote(3, 1, "Verified", "zuul", 1),
     Step::Vote(4, 1, "Verified", "bob", -1),
@@ -266,19 +316,18 @@ const TWO_SETS: [Step; 4] = [
 
 #[test]
 fn votes_stay_with_their_patch_set(rt: HostRuntime) -> Result<(), Fail> {
-    let state = state_of(&rt, rt.alloc(), &TWO_SETS)?;
-    assert_approvals(&rt, rt.alloc(), &state, 3, "")?;
+    assert_approvals(&rt, rt.alloc(), TWO_SETS, 3, "")?;
     assert_approvals(
         &rt,
         rt.alloc(),
-        &state,
+        TWO_SETS,
         1,
         "verified bob -1\nverified zuul 1\nworkflow ann 1\n",
     )
 }
 
 /// Votes on two patch sets side by side, and on the last that there could be.
-const NEIGHBOURS: [Step; 3] = [
+const NEIGHBOURS: &[Step] = &[
     Step::Vote(3, 1, "Workflow", "zuul", 1),
     Step::Vote(4, 2, "-", "!", 2),
     Step::Vote(5, u32::MAX, "Workflow", "ann", -1),
@@ -286,70 +335,73 @@ const NEIGHBOURS: [Step; 3] = [
 
 #[test]
 fn votes_on_neighbours_stay_apart(rt: HostRuntime) -> Result<(), Fail> {
-    let state = state_of(&rt, rt.alloc(), &NEIGHBOURS)?;
-    assert_approvals(&rt, rt.alloc(), &state, 1, "workflow zuul 1\n")?;
-    assert_approvals(&rt, rt.alloc(), &state, 2, "- ! 2\n")?;
-    assert_approvals(&rt, rt.alloc(), &state, u32::MAX, "workflow ann -1\n")
+    assert_approvals(&rt, rt.alloc(), NEIGHBOURS, 1, "workflow zuul 1\n")?;
+    assert_approvals(&rt, rt.alloc(), NEIGHBOURS, 2, "- ! 2\n")?;
+    assert_approvals(&rt, rt.alloc(), NEIGHBOURS, u32::MAX, "workflow ann -1\n")
 }
 
 /// A patch set, and a later one with a lower number.
-const SETS: [Step; 2] = [Step::PatchSet(5, 3, Some(7)), Step::PatchSet(6, 2, None)];
+const SETS: &[Step] = &[Step::PatchSet(5, 3, Some(7)), Step::PatchSet(6, 2, None)];
 
 #[test]
 fn the_greatest_known_patch_set_is_current(rt: HostRuntime) -> Result<(), Fail> {
-    let state = state_of(&rt, rt.alloc(), &SETS)?;
-    assert_current(&rt, &state, Some(3));
-    assert_eq!(rt; state.parent(3), Some(7));
-    assert!(rt; state.parent(2).is_none() && state.parent(4).is_none());
-    assert!(rt; state.sets().len() == 2);
+    let wanted = Sets {
+        current: Some(3),
+        known: 2,
+        parents: (None, Some(7), None),
+    };
+    assert_eq!(rt; sets_of(&rt, rt.alloc(), SETS)?, wanted);
     Ok(())
 }
 
 /// Votes on two patch sets, of which the greater comes first.
-const VOTED: [Step; 3] = [
+const VOTED: &[Step] = &[
     Step::Withdraw(7, 12),
     Step::Vote(8, 2, "Workflow", "ann", 1),
     Step::Vote(9, 2, "Workflow", "bob", 1),
 ];
 
+/// The first three patch sets with votes in the order in which they come, and how many votes there are.
+fn voted_in(state: &ChangeState) -> ([Option<u32>; 3], usize) {
+    let mut voted = state.voted();
+    let sets = [voted.next(), voted.next(), voted.next()];
+    (sets, state.all_votes().len())
+}
+
 #[test]
 fn voted_patch_sets_come_once_in_order(rt: HostRuntime) -> Result<(), Fail> {
-    let state = state_of(&rt, rt.alloc(), &VOTED)?;
-    let voted: Vec<u32> = state.voted().collect(rt.alloc())?;
-    assert_eq!(rt; voted.as_slice(), [2, 12].as_slice());
-    assert!(rt; state.all_votes().len() == 3);
+    let state = state_of(&rt, rt.alloc(), VOTED)?;
+    let (sets, votes) = voted_in(&state);
+    assert!(rt; sets == [Some(2), Some(12), None] && votes == 3);
     Ok(())
 }
 
-/// The change has this status.
-fn assert_status(rt: &impl Abort, state: &ChangeState, wanted: Status) {
-    assert_eq!(rt; state.status(), wanted);
+/// What a state says of the change's life: its status, whether it is open, and the newest abandon or restore.
+type Lived = (Status, bool, Option<(Stamp, Life)>);
+
+/// What the state of the operations says of the change's life.
+fn lived(rt: &impl Abort, alloc: Global, steps: &[Step]) -> Result<Lived, Fail> {
+    let state = state_of(rt, alloc, steps)?;
+    Ok((state.status(), state.is_open(), state.life()))
 }
 
 #[test]
 fn an_abandoned_change_says_so(rt: HostRuntime) -> Result<(), Fail> {
-    let state = state_of(&rt, rt.alloc(), &[Step::Abandon(1)])?;
-    assert_status(&rt, &state, Status::Abandoned);
-    assert_eq!(rt; state.status().name(), "ABANDONED");
+    let (status, _, _) = lived(&rt, rt.alloc(), &[Step::Abandon(1)])?;
+    assert_eq!(rt; (status, status.name()), (Status::Abandoned, "ABANDONED"));
     Ok(())
-}
-
-/// The newest abandon or restore is a restore with this stamp.
-fn assert_restored(rt: &impl Abort, state: &ChangeState, stamp: Stamp) {
-    assert_eq!(rt; state.life(), Some((stamp, Life::Restored)));
 }
 
 #[test]
 fn a_restored_change_is_open(rt: HostRuntime) -> Result<(), Fail> {
     let second = Stamp::new(2, 1, 1, 2).ok_or("a stamp")?;
-    let state = state_of(&rt, rt.alloc(), &[Step::Abandon(1), Step::Restore(2)])?;
-    assert!(rt; state.is_open());
-    assert_restored(&rt, &state, second);
+    let (_, is_open, life) = lived(&rt, rt.alloc(), &[Step::Abandon(1), Step::Restore(2)])?;
+    assert!(rt; is_open && life == Some((second, Life::Restored)));
     Ok(())
 }
 
 /// A change that is abandoned, restored and merged, and then restored again.
-const MERGED: [Step; 4] = [
+const MERGED: &[Step] = &[
     Step::Abandon(1),
     Step::Restore(2),
     Step::Merged(3),
@@ -358,9 +410,8 @@ const MERGED: [Step; 4] = [
 
 #[test]
 fn merged_is_final(rt: HostRuntime) -> Result<(), Fail> {
-    let state = state_of(&rt, rt.alloc(), &MERGED)?;
-    assert_status(&rt, &state, Status::Merged);
-    assert!(rt; !state.is_open());
+    let (status, is_open, _) = lived(&rt, rt.alloc(), MERGED)?;
+    assert!(rt; status == Status::Merged && !is_open);
     Ok(())
 }
 
@@ -381,6 +432,14 @@ fn known(heap: &LocalHeap, first: u32, count: u32) -> Option<State<'_>> {
     Some(state)
 }
 
+/// Whether the state is that of the patch sets from `first` on, as many as `count`.
+fn is_known<'a>(ample: &'a LocalHeap, state: &State<'a>, first: u32, count: u32) -> bool {
+    match known(ample, first, count) {
+        Some(known) => state.same(&known),
+        None => false,
+    }
+}
+
 /// Takes a vote, where the heap suffices for the operation. Answers whether memory was refused.
 fn take_vote<'a>(heap: &'a LocalHeap, state: &mut State<'a>) -> Option<bool> {
     let op = vote(heap, 2, 1, "Workflow", "ann", 1)?;
@@ -396,100 +455,140 @@ fn voted(heap: &LocalHeap) -> Option<State<'_>> {
     }
 }
 
-/// The states are the same, or they aren't.
-fn assert_is<'a>(rt: &impl Abort, state: &State<'a>, other: &State<'a>, same: bool) {
-    assert!(rt; state.same(other) == same);
+/// Whether the state is that of three patch sets and a vote.
+fn is_voted<'a>(ample: &'a LocalHeap, state: &State<'a>) -> bool {
+    match voted(ample) {
+        Some(voted) => state.same(&voted),
+        None => false,
+    }
 }
 
-/// The state covers another one.
-fn assert_covers<'a>(rt: &impl Abort, state: &State<'a>, other: &State<'a>) {
-    assert!(rt; state.covers(other));
-}
-
-/// The state is just that of the three patch sets where a vote was refused, and else that with the vote.
-fn assert_taken<'a>(
-    rt: &impl Abort,
-    ample: &'a LocalHeap,
-    state: &State<'a>,
-    refused: bool,
-) -> Option<()> {
-    assert_is(rt, state, &known(ample, 1, 3)?, refused);
-    assert_is(rt, state, &voted(ample)?, !refused);
-    Some(())
+/// Takes a vote into a state of a heap that may be too small for it. Answers whether memory was refused, and whether
+/// the state is then that of the three patch sets, and that with the vote.
+fn take_in<'a>(ample: &'a LocalHeap, tight: &'a LocalHeap) -> Option<(bool, bool, bool)> {
+    let mut state = known(tight, 1, 3)?;
+    let refused = take_vote(tight, &mut state)?;
+    Some((
+        refused,
+        is_known(ample, &state, 1, 3),
+        is_voted(ample, &state),
+    ))
 }
 
 /// Takes a vote into a state of a heap that may be too small for it. Answers whether memory was refused: then nothing
 /// changed.
 fn refuses_take<'a>(rt: &impl Abort, ample: &'a LocalHeap, tight: &'a LocalHeap) -> Option<bool> {
-    let mut state = known(tight, 1, 3)?;
-    let refused = take_vote(tight, &mut state)?;
-    assert_taken(rt, ample, &state, refused)?;
+    let (refused, is_bare, is_voted) = take_in(ample, tight)?;
+    assert_eq!(rt; (is_bare, is_voted), (refused, !refused));
     Some(refused)
 }
 
-/// The effect of a patch set in a heap that suffices for the operation: none where memory was refused for the effect.
-fn effect_in(heap: &LocalHeap) -> Option<Option<State<'_>>> {
-    let op = patch_set(heap, 1, 7, None)?;
-    Some(ChangeState::effect(heap, &op).ok())
+/// Whether the effect of an operation is the state of its patch set: nothing where memory was refused for it.
+fn is_effect_known<'a>(
+    ample: &'a LocalHeap,
+    tight: &'a LocalHeap,
+    op: &Op<&'a LocalHeap>,
+) -> Option<bool> {
+    match ChangeState::effect(tight, op) {
+        Ok(state) => Some(is_known(ample, &state, 7, 1)),
+        Err(_) => None,
+    }
 }
 
-/// The state is that of the one patch set.
-fn assert_effect<'a>(rt: &impl Abort, ample: &'a LocalHeap, state: &State<'a>) -> Option<()> {
-    let whole = known(ample, 7, 1)?;
-    assert_is(rt, state, &whole, true);
-    Some(())
+/// The same of the operation of a patch set, where the heap suffices for the operation.
+fn effect_in<'a>(ample: &'a LocalHeap, tight: &'a LocalHeap) -> Option<Option<bool>> {
+    let op = patch_set(tight, 1, 7, None)?;
+    Some(is_effect_known(ample, tight, &op))
 }
 
 /// The state of one patch set in a heap that may be too small for it. Answers whether memory was refused.
 fn refuses_effect<'a>(rt: &impl Abort, ample: &'a LocalHeap, tight: &'a LocalHeap) -> Option<bool> {
-    let Some(state) = effect_in(tight)? else {
-        return Some(true);
-    };
-    assert_effect(rt, ample, &state)?;
-    Some(false)
+    let is_same = effect_in(ample, tight)?;
+    assert!(rt; is_same != Some(false));
+    Some(is_same.is_none())
 }
 
-/// The state lies between the old one and the join, and is the join just where memory sufficed.
-fn assert_joined<'a>(
-    rt: &impl Abort,
-    ample: &'a LocalHeap,
-    state: &State<'a>,
-    refused: bool,
-) -> Option<()> {
-    assert_covers(rt, state, &known(ample, 1, 4)?);
-    let high = known(ample, 1, 24)?;
-    assert_covers(rt, &high, state);
-    assert_is(rt, state, &high, !refused);
-    Some(())
-}
-
-/// Joins other patch sets into those of a heap that may be too small for them. Answers whether memory was refused: then
-/// the state lies between the old one and the join.
-fn refuses_join<'a>(rt: &impl Abort, ample: &'a LocalHeap, tight: &'a LocalHeap) -> Option<bool> {
-    let mut state = known(tight, 1, 4)?;
-    let refused = state.join(known(ample, 3, 22)?).is_err();
-    assert_joined(rt, ample, &state, refused)?;
-    Some(refused)
-}
-
-/// Whether memory was refused for a copy of a state, which else is the same. The state stays as it was.
-fn refuses_copy_of<'a>(rt: &impl Abort, state: &State<'a>, same: &State<'a>) -> bool {
-    let copy = state.copy();
-    assert!(rt; state.same(same));
-    match copy {
-        Ok(copy) => {
-            assert!(rt; copy.same(same));
-            false
-        }
-        Err(_) => true,
+/// Whether the state covers that of the patch sets before the join.
+fn covers_old<'a>(ample: &'a LocalHeap, state: &State<'a>) -> bool {
+    match known(ample, 1, 4) {
+        Some(old) => state.covers(&old),
+        None => false,
     }
 }
 
-/// Copies patch sets that lie in a heap that may be too small for the copy. Answers whether memory was refused.
-fn refuses_copy<'a>(rt: &impl Abort, ample: &'a LocalHeap, tight: &'a LocalHeap) -> Option<bool> {
+/// Whether the join covers the state.
+fn is_covered<'a>(ample: &'a LocalHeap, state: &State<'a>) -> bool {
+    match known(ample, 1, 24) {
+        Some(join) => join.covers(state),
+        None => false,
+    }
+}
+
+/// Joins other patch sets into the state. Answers whether memory was refused.
+fn join_others<'a>(ample: &'a LocalHeap, state: &mut State<'a>) -> Option<bool> {
+    let others = known(ample, 3, 22)?;
+    Some(state.join(others).is_err())
+}
+
+/// What a join left.
+#[derive(Clone, Copy)]
+struct AfterJoin {
+    refused: bool,
+    covers_old: bool,
+    is_covered: bool,
+    is_join: bool,
+}
+
+/// Joins other patch sets into those of a heap that may be too small for them.
+fn join_in<'a>(ample: &'a LocalHeap, tight: &'a LocalHeap) -> Option<AfterJoin> {
+    let mut state = known(tight, 1, 4)?;
+    let refused = join_others(ample, &mut state)?;
+    Some(AfterJoin {
+        refused,
+        covers_old: covers_old(ample, &state),
+        is_covered: is_covered(ample, &state),
+        is_join: is_known(ample, &state, 1, 24),
+    })
+}
+
+/// Joins other patch sets into those of a heap that may be too small for them. Answers whether memory was refused. The
+/// state lies between the old one and the join, and is the join just where memory sufficed.
+fn refuses_join<'a>(rt: &impl Abort, ample: &'a LocalHeap, tight: &'a LocalHeap) -> Option<bool> {
+    let joined = join_in(ample, tight)?;
+    assert!(rt; joined.covers_old && joined.is_covered);
+    assert!(rt; joined.is_join != joined.refused);
+    Some(joined.refused)
+}
+
+/// Copies a state. Answers whether it is still the same as another one, and whether its copy is: nothing where memory
+/// was refused for the copy.
+fn copied_as<'a>(state: &State<'a>, same: &State<'a>) -> (bool, Option<bool>) {
+    let copy = state.copy();
+    let is_kept = state.same(same);
+    match copy {
+        Ok(copy) => (is_kept, Some(copy.same(same))),
+        Err(_) => (is_kept, None),
+    }
+}
+
+/// The same of the state of four patch sets, beside such a state in an ample heap.
+fn copied<'a>(ample: &'a LocalHeap, state: &State<'a>) -> Option<(bool, Option<bool>)> {
     let same = known(ample, 1, 4)?;
+    Some(copied_as(state, &same))
+}
+
+/// The same of the state of four patch sets, where the heap suffices for it.
+fn copied_in<'a>(ample: &'a LocalHeap, tight: &'a LocalHeap) -> Option<(bool, Option<bool>)> {
     let state = known(tight, 1, 4)?;
-    Some(refuses_copy_of(rt, &state, &same))
+    copied(ample, &state)
+}
+
+/// Copies patch sets that lie in a heap that may be too small for the copy. Answers whether memory was refused. The
+/// state stays as it was.
+fn refuses_copy<'a>(rt: &impl Abort, ample: &'a LocalHeap, tight: &'a LocalHeap) -> Option<bool> {
+    let (is_kept, is_same) = copied_in(ample, tight)?;
+    assert!(rt; is_kept && is_same != Some(false));
+    Some(is_same.is_none())
 }
 
 /// Whether a call was refused memory, and whether it was answered.
@@ -539,28 +638,40 @@ fn refused_calls_leave_the_stated_state(rt: HostRuntime) -> Result<(), Fail> {
     Ok(())
 }
 
-/// Takes a commit in a heap that may be too small for it. Where it suffices, it suffices for an earlier one too, which
-/// loses. Answers whether memory was refused.
-fn assert_loser_is_taken<'a>(
-    rt: &impl Abort,
-    ample: &'a LocalHeap,
-    tight: &'a LocalHeap,
-) -> Option<bool> {
+/// Takes a commit with this time, where the heap suffices for the operation. Answers whether memory was refused.
+fn refuses_commit<'a>(heap: &'a LocalHeap, state: &mut State<'a>, time: u64) -> Option<bool> {
+    let op = patch_set(heap, time, 1, None)?;
+    Some(state.take(&op).is_err())
+}
+
+/// Takes a commit in a heap that may be too small for it, and then an earlier one, which loses. Answers of each whether
+/// memory was refused.
+fn take_commits<'a>(ample: &'a LocalHeap, tight: &'a LocalHeap) -> (Option<bool>, Option<bool>) {
     let mut state = ChangeState::new(tight);
-    let later = patch_set(ample, 2, 1, None)?;
-    let earlier = patch_set(ample, 1, 1, None)?;
-    let refused = state.take(&later).is_err();
-    assert!(rt; refused || state.take(&earlier).is_ok());
-    Some(refused)
+    let later = refuses_commit(ample, &mut state, 2);
+    let earlier = refuses_commit(ample, &mut state, 1);
+    (later, earlier)
+}
+
+/// Where a heap of this size suffices for a commit, it suffices for an earlier one too, which loses. Answers whether
+/// memory was refused.
+fn assert_loser_is_taken(
+    rt: &impl Abort,
+    alloc: Global,
+    size: usize,
+) -> Result<Option<bool>, Fail> {
+    let ample = LocalHeap::new(alloc, 4096)?;
+    let tight = LocalHeap::new(alloc, size)?;
+    let (later, earlier) = take_commits(&ample, &tight);
+    assert!(rt; later == Some(true) || earlier == Some(false));
+    Ok(later)
 }
 
 #[test]
 fn a_commit_that_loses_takes_no_memory(rt: HostRuntime) -> Result<(), Fail> {
     let mut seen = Seen::new();
     for steps in 0..128usize {
-        let ample = LocalHeap::new(rt.alloc(), 4096)?;
-        let tight = LocalHeap::new(rt.alloc(), steps * 16)?;
-        seen.add(assert_loser_is_taken(&rt, &ample, &tight));
+        seen.add(assert_loser_is_taken(&rt, rt.alloc(), steps * 16)?);
     }
     assert!(rt; seen.is_both());
     Ok(())

@@ -39,11 +39,16 @@ impl Plain {
     }
 
     pub fn has(&self, op: &Op) -> bool {
-        self.ops.iter().any(|arrived| arrived == op)
+        self.ops.contains(op)
     }
 
     pub fn has_stamp(&self, stamp: Stamp) -> bool {
-        self.ops.iter().any(|arrived| arrived.stamp() == stamp)
+        for op in &self.ops {
+            if op.stamp() == stamp {
+                return true;
+            }
+        }
+        false
     }
 
     /// The time and the sequence number of the next stamp, unless one is spent.
@@ -73,9 +78,12 @@ impl Plain {
     }
 
     fn holds(&self, row: Row, seq: u64) -> bool {
-        self.ops
-            .iter()
-            .any(|op| row_of(op) == row && op.stamp().seq() == seq)
+        for op in &self.ops {
+            if row_of(op) == row && op.stamp().seq() == seq {
+                return true;
+            }
+        }
+        false
     }
 
     /// Copies of the operations past a front, in order.
@@ -86,12 +94,12 @@ impl Plain {
                 lacked.push(op.copy()?)?;
             }
         }
-        lacked.sort_unstable_by(|a, b| compare(a, b));
+        lacked.sort_unstable_by(compare);
         Ok(lacked)
     }
 }
 
-pub fn row_of(op: &Op) -> Row {
+fn row_of(op: &Op) -> Row {
     let stamp = op.stamp();
     Row {
         site: stamp.site(),

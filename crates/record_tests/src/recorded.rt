@@ -25,135 +25,194 @@ fn text<A: Allocator>(alloc: A, text: &str) -> Option<String<A>> {
     String::from_str(alloc, text).ok()
 }
 
-fn draft_of<A: Allocator + Copy>(alloc: A, deed: Deed) -> Option<Draft<A>> {
-    Some(match deed {
-        Deed::PatchSet(set, message, parent) => Draft::PatchSet {
-            change: 7,
-            set,
-            message: text(alloc, message)?,
-            parent,
-        },
-        Deed::Vote(set, voter, value) => Draft::Vote {
-            change: 7,
-            set,
-            label: text(alloc, "verified")?,
-            voter: text(alloc, voter)?,
-            value,
-        },
-        Deed::Withdraw(set, voter) => Draft::Withdraw {
-            change: 7,
-            set,
-            label: text(alloc, "verified")?,
-            voter: text(alloc, voter)?,
-        },
-        Deed::Abandon => Draft::Abandon { change: 7 },
-        Deed::Restore => Draft::Restore { change: 7 },
-        Deed::Merged => Draft::Merged { change: 7 },
+/// A patch set, where memory suffices for it.
+fn patch_set<A: Allocator + Copy>(
+    alloc: A,
+    set: u32,
+    message: &str,
+    parent: Option<u32>,
+) -> Option<Draft<A>> {
+    let message = text(alloc, message)?;
+    Some(Draft::PatchSet {
+        change: 7,
+        set,
+        message,
+        parent,
     })
+}
+
+/// A vote, where memory suffices for it.
+fn vote<A: Allocator + Copy>(alloc: A, set: u32, voter: &str, value: i8) -> Option<Draft<A>> {
+    let label = text(alloc, "verified")?;
+    let voter = text(alloc, voter)?;
+    Some(Draft::Vote {
+        change: 7,
+        set,
+        label,
+        voter,
+        value,
+    })
+}
+
+/// The withdrawal of a vote, where memory suffices for it.
+fn withdrawal<A: Allocator + Copy>(alloc: A, set: u32, voter: &str) -> Option<Draft<A>> {
+    let label = text(alloc, "verified")?;
+    let voter = text(alloc, voter)?;
+    Some(Draft::Withdraw {
+        change: 7,
+        set,
+        label,
+        voter,
+    })
+}
+
+/// What a deed says, where memory suffices for it.
+fn draft_of<A: Allocator + Copy>(alloc: A, deed: Deed) -> Option<Draft<A>> {
+    match deed {
+        Deed::PatchSet(set, message, parent) => patch_set(alloc, set, message, parent),
+        Deed::Vote(set, voter, value) => vote(alloc, set, voter, value),
+        Deed::Withdraw(set, voter) => withdrawal(alloc, set, voter),
+        Deed::Abandon => Some(Draft::Abandon { change: 7 }),
+        Deed::Restore => Some(Draft::Restore { change: 7 }),
+        Deed::Merged => Some(Draft::Merged { change: 7 }),
+    }
 }
 
 fn body_of<A: Allocator + Copy>(alloc: A, deed: Deed) -> Option<Body<A>> {
     Body::checked(draft_of(alloc, deed)?).ok()
 }
 
+/// The operation of a deed, with the time and sequence number `time`, of site 1 under start 1.
+fn op_of<A: Allocator + Copy>(alloc: A, time: u64, deed: Deed) -> Option<Op<A>> {
+    let stamp = Stamp::new(time, 1, 1, time)?;
+    Some(Op::new(stamp, body_of(alloc, deed)?))
+}
+
+/// Takes the operation of a deed, where memory suffices for it.
+fn take<A: Allocator + Copy>(alloc: A, state: &mut State<A>, time: u64, deed: Deed) -> Option<()> {
+    let op = op_of(alloc, time, deed)?;
+    state.take(&op).ok()
+}
+
 /// The state of deeds, one after the other.
 fn state_of<A: Allocator + Copy>(alloc: A, deeds: &[Deed]) -> Option<State<A>> {
     let mut state = State::new(alloc);
     for (time, deed) in (1u64..).zip(deeds) {
-        let stamp = Stamp::new(time, 1, 1, time)?;
-        state.take(&Op::new(stamp, body_of(alloc, *deed)?)).ok()?;
+        take(alloc, &mut state, time, *deed)?;
     }
     Some(state)
 }
 
-/// Whether a record of these deeds says another already.
-fn says(alloc: Global, record: &[Deed], deed: Deed) -> Result<bool, Fail> {
-    let state = state_of(alloc, record).ok_or("memory")?;
-    let body = body_of(alloc, deed).ok_or("memory")?;
-    Ok(is_recorded(&state, &body)?)
+/// Whether a record of these deeds says another already, where memory suffices to hold both and to look for it.
+fn says<A: Allocator + Copy>(alloc: A, record: &[Deed], deed: Deed) -> Option<bool> {
+    let state = state_of(alloc, record)?;
+    let body = body_of(alloc, deed)?;
+    is_recorded(&state, &body).ok()
+}
+
+/// A record, a deed, and whether the record says it already.
+type Case = (&'static [Deed], Deed, bool);
+
+/// The record of a case says its deed just where it is to say it.
+fn assert_case(rt: &impl Abort, alloc: Global, number: u64, case: Case) {
+    let (record, deed, wanted) = case;
+    assert_eq!(rt; says(alloc, record, deed), Some(wanted), "case {number}");
+}
+
+/// Records say those of the deeds that they are to say, and no others.
+fn assert_said(rt: &impl Abort, alloc: Global, cases: &[Case]) {
+    for (number, case) in (1u64..).zip(cases) {
+        assert_case(rt, alloc, number, *case);
+    }
 }
 
 const FIRST: Deed = Deed::PatchSet(1, "m", Some(5));
 
+/// Patch sets with other numbers, messages and parents.
+const PATCH_SETS: [Case; 7] = [
+    (&[], FIRST, false),
+    (&[FIRST], FIRST, true),
+    (&[FIRST], Deed::PatchSet(1, "n", Some(5)), false),
+    (&[FIRST], Deed::PatchSet(1, "m", Some(6)), false),
+    (&[FIRST], Deed::PatchSet(1, "m", None), false),
+    (&[FIRST], Deed::PatchSet(2, "m", Some(5)), false),
+    (&[Deed::PatchSet(1, "n", None), FIRST], FIRST, true),
+];
+
+#[test]
+fn a_patch_set_is_recorded_with_its_message_and_parent(rt: HostRuntime) {
+    assert_said(&rt, rt.alloc(), &PATCH_SETS);
+}
+
 const APPROVED: Deed = Deed::Vote(1, "zuul", 1);
 
-#[test]
-fn a_patch_set_is_recorded_with_its_message_and_parent(rt: HostRuntime) -> Result<(), Fail> {
-    let alloc = rt.alloc();
-    assert!(rt; !says(alloc, &[], FIRST)?);
-    assert!(rt; says(alloc, &[FIRST], FIRST)?);
-    assert!(rt; !says(alloc, &[FIRST], Deed::PatchSet(1, "n", Some(5)))?);
-    assert!(rt; !says(alloc, &[FIRST], Deed::PatchSet(1, "m", Some(6)))?);
-    assert!(rt; !says(alloc, &[FIRST], Deed::PatchSet(1, "m", None))?);
-    assert!(rt; !says(alloc, &[FIRST], Deed::PatchSet(2, "m", Some(5)))?);
-    assert!(rt; says(alloc, &[Deed::PatchSet(1, "n", None), FIRST], FIRST)?);
-    Ok(())
-}
+const WITHDRAWN: Deed = Deed::Withdraw(1, "zuul");
+
+/// Votes with other values, on other patch sets and of other voters.
+const VOTES: [Case; 8] = [
+    (&[], APPROVED, false),
+    (&[APPROVED], APPROVED, true),
+    (&[APPROVED], Deed::Vote(1, "zuul", 2), false),
+    (&[APPROVED], Deed::Vote(1, "anna", 1), false),
+    (&[APPROVED], Deed::Vote(2, "zuul", 1), false),
+    (&[APPROVED, WITHDRAWN], APPROVED, false),
+    (&[APPROVED], WITHDRAWN, false),
+    (&[APPROVED], Deed::Vote(1, "zuul", 0), false),
+];
 
 #[test]
-fn a_vote_is_recorded_with_its_value(rt: HostRuntime) -> Result<(), Fail> {
-    let alloc = rt.alloc();
-    assert!(rt; !says(alloc, &[], APPROVED)?);
-    assert!(rt; says(alloc, &[APPROVED], APPROVED)?);
-    assert!(rt; !says(alloc, &[APPROVED], Deed::Vote(1, "zuul", 2))?);
-    assert!(rt; !says(alloc, &[APPROVED], Deed::Vote(1, "anna", 1))?);
-    assert!(rt; !says(alloc, &[APPROVED], Deed::Vote(2, "zuul", 1))?);
-    assert!(rt; !says(alloc, &[APPROVED, Deed::Withdraw(1, "zuul")], APPROVED)?);
-    assert!(rt; !says(alloc, &[APPROVED], Deed::Withdraw(1, "zuul"))?);
-    assert!(rt; !says(alloc, &[APPROVED], Deed::Vote(1, "zuul", 0))?);
-    Ok(())
+fn a_vote_is_recorded_with_its_value(rt: HostRuntime) {
+    assert_said(&rt, rt.alloc(), &VOTES);
 }
 
-#[test]
-fn a_withdrawn_vote_is_none(rt: HostRuntime) -> Result<(), Fail> {
-    let alloc = rt.alloc();
-    let withdrawn = Deed::Withdraw(1, "zuul");
-    assert!(rt; says(alloc, &[], withdrawn)?);
-    assert!(rt; says(alloc, &[], Deed::Vote(1, "zuul", 0))?);
-    assert!(rt; says(alloc, &[FIRST], withdrawn)?);
-    assert!(rt; says(alloc, &[APPROVED], Deed::Withdraw(1, "anna"))?);
-    assert!(rt; says(alloc, &[APPROVED, withdrawn], withdrawn)?);
-    assert!(rt; says(alloc, &[APPROVED, withdrawn], Deed::Vote(1, "zuul", 0))?);
-    assert!(rt; says(alloc, &[APPROVED, Deed::Vote(1, "zuul", 0)], withdrawn)?);
-    Ok(())
-}
+/// Withdrawals and votes of 0, where there is no vote of that voter.
+const WITHDRAWALS: [Case; 7] = [
+    (&[], WITHDRAWN, true),
+    (&[], Deed::Vote(1, "zuul", 0), true),
+    (&[FIRST], WITHDRAWN, true),
+    (&[APPROVED], Deed::Withdraw(1, "anna"), true),
+    (&[APPROVED, WITHDRAWN], WITHDRAWN, true),
+    (&[APPROVED, WITHDRAWN], Deed::Vote(1, "zuul", 0), true),
+    (&[APPROVED, Deed::Vote(1, "zuul", 0)], WITHDRAWN, true),
+];
 
 #[test]
-fn a_status_is_recorded(rt: HostRuntime) -> Result<(), Fail> {
-    let alloc = rt.alloc();
-    assert!(rt; says(alloc, &[], Deed::Restore)?);
-    assert!(rt; !says(alloc, &[], Deed::Abandon)?);
-    assert!(rt; !says(alloc, &[], Deed::Merged)?);
-    assert!(rt; !says(alloc, &[FIRST], Deed::Abandon)?);
-    assert!(rt; says(alloc, &[Deed::Abandon], Deed::Abandon)?);
-    assert!(rt; !says(alloc, &[Deed::Abandon], Deed::Restore)?);
-    assert!(rt; says(alloc, &[Deed::Abandon, Deed::Restore], Deed::Restore)?);
-    assert!(rt; says(alloc, &[Deed::Merged], Deed::Merged)?);
-    assert!(rt; !says(alloc, &[Deed::Merged], Deed::Restore)?);
-    assert!(rt; !says(alloc, &[Deed::Merged], Deed::Abandon)?);
-    Ok(())
+fn a_withdrawn_vote_is_none(rt: HostRuntime) {
+    assert_said(&rt, rt.alloc(), &WITHDRAWALS);
+}
+
+/// What changes the status of a change, and what doesn't.
+const STATUSES: [Case; 10] = [
+    (&[], Deed::Restore, true),
+    (&[], Deed::Abandon, false),
+    (&[], Deed::Merged, false),
+    (&[FIRST], Deed::Abandon, false),
+    (&[Deed::Abandon], Deed::Abandon, true),
+    (&[Deed::Abandon], Deed::Restore, false),
+    (&[Deed::Abandon, Deed::Restore], Deed::Restore, true),
+    (&[Deed::Merged], Deed::Merged, true),
+    (&[Deed::Merged], Deed::Restore, false),
+    (&[Deed::Merged], Deed::Abandon, false),
+];
+
+#[test]
+fn a_status_is_recorded(rt: HostRuntime) {
+    assert_said(&rt, rt.alloc(), &STATUSES);
 }
 
 /// Whether a heap of this size suffices to hold a vote and to look for it.
-fn is_asked_in(rt: &(impl Abort + AllocGlobal), size: usize) -> Result<bool, Fail> {
-    let heap = LocalHeap::new(rt.alloc(), size)?;
-    let (Some(state), Some(body)) = (state_of(&heap, &[APPROVED]), body_of(&heap, APPROVED)) else {
-        return Ok(false);
-    };
-    match is_recorded(&state, &body) {
-        Ok(said) => {
-            assert!(rt; said);
-            Ok(true)
-        }
-        Err(_) => Ok(false),
-    }
+fn is_asked_in(rt: &impl Abort, alloc: Global, size: usize) -> Result<bool, Fail> {
+    let heap = LocalHeap::new(alloc, size)?;
+    let said = says(&heap, &[APPROVED], APPROVED);
+    assert!(rt; said != Some(false));
+    Ok(said.is_some())
 }
 
 #[test]
 fn refused_memory_is_answered(rt: HostRuntime) -> Result<(), Fail> {
     let mut sufficed = false;
     for steps in 0..512usize {
-        sufficed = is_asked_in(&rt, steps * 8)?;
+        sufficed = is_asked_in(&rt, rt.alloc(), steps * 8)?;
     }
     assert!(rt; sufficed);
     what_is_recorded_changes_no_view();

@@ -1,8 +1,9 @@
 //! Records worked out by hand, and what holds after refused memory.
 
-use super::plain_replica::{Plain, row_of};
+use super::plain_replica::Plain;
+use lattice_core::NoMemory;
 use linked_list_allocator::LocalHeap;
-use replica_core::{Front, Replica, Row, Taken};
+use replica_core::{Front, Missing, Replica, Row, Taken};
 use review_ops::{Body, Draft, Op, Stamp};
 use std::alloc::{Allocator, Global};
 use std::process::Abort;
@@ -80,70 +81,63 @@ fn withdrawal(alloc: Global, time: u64) -> Option<Op> {
     )
 }
 
-/// The operation of a step.
-fn op_of(alloc: Global, step: Step) -> Result<Op, Fail> {
-    let op = match step {
+/// The operation of a step, where memory suffices for it.
+fn op_of(alloc: Global, step: Step) -> Option<Op> {
+    match step {
         Step::PatchSet(time, message, parent) => patch_set(alloc, time, message, parent),
         Step::Vote(time, value) => vote(alloc, time, value),
         Step::Withdraw(time) => withdrawal(alloc, time),
         Step::Merged(time) => stamped(time, Draft::Merged { change: 101 }),
         Step::Abandon(time) => stamped(time, Draft::Abandon { change: 101 }),
         Step::Restore(time) => stamped(time, Draft::Restore { change: 101 }),
-    };
-    Ok(op.ok_or(MEMORY)?)
+    }
+}
+
+/// Takes the operation of a step, and says whether the replica had it, where memory suffices for it.
+fn take_step(alloc: Global, replica: &mut Replica, step: Step) -> Option<Taken> {
+    let op = op_of(alloc, step)?;
+    replica.take(op).ok()
 }
 
 /// Takes the operation of a step, of which the replica says whether it had it.
-fn take_step(
-    rt: &impl Abort,
-    alloc: Global,
-    replica: &mut Replica,
-    step: Step,
-    wanted: Taken,
-) -> Result<(), Fail> {
-    let taken = replica.take(op_of(alloc, step)?)?;
-    assert_eq!(rt; taken, wanted);
-    Ok(())
+fn assert_takes(rt: &impl Abort, alloc: Global, replica: &mut Replica, step: Step, wanted: Taken) {
+    assert_eq!(rt; take_step(alloc, replica, step), Some(wanted));
 }
 
-/// Takes operations that the replica lacks.
-fn take_steps(
-    rt: &impl Abort,
-    alloc: Global,
-    replica: &mut Replica,
-    steps: &[Step],
-) -> Result<(), Fail> {
+/// Takes operations, all of which the replica lacked.
+fn assert_takes_all(rt: &impl Abort, alloc: Global, replica: &mut Replica, steps: &[Step]) {
     for step in steps {
-        take_step(rt, alloc, replica, *step, Taken::New)?;
+        assert_takes(rt, alloc, replica, *step, Taken::New);
     }
-    Ok(())
 }
 
 /// The replica that took the operations in their order.
-fn forth(rt: &impl Abort, alloc: Global, steps: &[Step]) -> Result<Replica, Fail> {
+fn forth(rt: &impl Abort, alloc: Global, steps: &[Step]) -> Replica {
     let mut replica = Replica::new(alloc);
-    take_steps(rt, alloc, &mut replica, steps)?;
-    Ok(replica)
+    assert_takes_all(rt, alloc, &mut replica, steps);
+    replica
 }
 
 /// The replica that took the operations in the other order, each twice.
-fn back(rt: &impl Abort, alloc: Global, steps: &[Step]) -> Result<Replica, Fail> {
+fn back(rt: &impl Abort, alloc: Global, steps: &[Step]) -> Replica {
     let mut replica = Replica::new(alloc);
     for step in steps.iter().rev() {
-        take_step(rt, alloc, &mut replica, *step, Taken::New)?;
-        take_step(rt, alloc, &mut replica, *step, Taken::Known)?;
+        assert_takes(rt, alloc, &mut replica, *step, Taken::New);
+        assert_takes(rt, alloc, &mut replica, *step, Taken::Known);
     }
-    Ok(replica)
+    replica
+}
+
+/// How many operations two replicas have, and whether they have one state.
+fn compared(first: Replica, second: Replica) -> (usize, usize, bool) {
+    (first.len(), second.len(), first.same_state(&second))
 }
 
 /// The replicas that took the operations, the first in their order and the second in the other, have as many and one
 /// state.
-fn assert_state(rt: &impl Abort, alloc: Global, steps: &[Step]) -> Result<(), Fail> {
-    let (forth, back) = (forth(rt, alloc, steps)?, back(rt, alloc, steps)?);
-    assert_eq!(rt; forth.len(), steps.len());
-    assert_eq!(rt; back.len(), steps.len());
-    assert!(rt; forth.same_state(&back));
-    Ok(())
+fn assert_state(rt: &impl Abort, alloc: Global, steps: &[Step]) {
+    let compared = compared(forth(rt, alloc, steps), back(rt, alloc, steps));
+    assert_eq!(rt; compared, (steps.len(), steps.len(), true));
 }
 
 /// Operations whose order counts for nothing.
@@ -168,40 +162,45 @@ const ARRIVALS: [&[Step]; 3] = [
 ];
 
 #[test]
-fn the_order_of_arrival_counts_for_nothing(rt: HostRuntime) -> Result<(), Fail> {
+fn the_order_of_arrival_counts_for_nothing(rt: HostRuntime) {
     for steps in ARRIVALS {
-        assert_state(&rt, rt.alloc(), steps)?;
+        assert_state(&rt, rt.alloc(), steps);
     }
-    Ok(())
+}
+
+/// The time, the site, the start and the sequence number of the next stamp of a row, unless one of them is spent.
+fn next_of(replica: &Replica, row: Row) -> Option<(u64, u16, u32, u64)> {
+    let stamp = replica.next_stamp(row.site, row.start).ok()?;
+    Some((stamp.time(), stamp.site(), stamp.start(), stamp.seq()))
 }
 
 /// The next stamp of a row has this time and sequence number.
-fn assert_next(
-    rt: &impl Abort,
-    replica: &Replica,
-    row: Row,
-    time: u64,
-    seq: u64,
-) -> Result<(), Fail> {
-    let wanted = Stamp::new(time, row.site, row.start, seq).ok_or("a stamp")?;
-    assert_eq!(rt; replica.next_stamp(row.site, row.start)?, wanted);
-    Ok(())
+fn assert_next(rt: &impl Abort, replica: &Replica, row: Row, time: u64, seq: u64) {
+    assert_eq!(rt;
+        next_of(replica, row),
+        Some((time, row.site, row.start, seq))
+    );
 }
 
 #[test]
-fn the_first_stamp_is_of_time_1(rt: HostRuntime) -> Result<(), Fail> {
+fn the_first_stamp_is_of_time_1(rt: HostRuntime) {
     let replica = Replica::new(rt.alloc());
-    assert_next(&rt, &replica, Row { site: 2, start: 3 }, 1, 1)
+    assert_next(&rt, &replica, Row { site: 2, start: 3 }, 1, 1);
 }
 
 #[test]
-fn the_next_stamp_is_above_all(rt: HostRuntime) -> Result<(), Fail> {
-    let replica = forth(&rt, rt.alloc(), &[Step::Vote(7, 1)])?;
+fn the_next_stamp_is_above_all(rt: HostRuntime) {
+    let replica = forth(&rt, rt.alloc(), &[Step::Vote(7, 1)]);
     for (site, start, seq) in [(1, 1, 8), (1, 2, 1), (2, 1, 1)] {
-        assert_next(&rt, &replica, Row { site, start }, 8, seq)?;
+        assert_next(&rt, &replica, Row { site, start }, 8, seq);
     }
-    Ok(())
 }
+
+/// The first row of site 1.
+const FIRST_ROW: Row = Row { site: 1, start: 1 };
+
+/// The row of site 1 under its next start.
+const SECOND_ROW: Row = Row { site: 1, start: 2 };
 
 /// A merge with this stamp.
 fn merge(stamp: Stamp) -> Option<Op> {
@@ -209,29 +208,32 @@ fn merge(stamp: Stamp) -> Option<Op> {
     Some(Op::new(stamp, body))
 }
 
-/// Takes a merge with the greatest sequence number.
-fn take_greatest(replica: &mut Replica) -> Result<(), Fail> {
-    let last = Stamp::new(9, 1, 1, u64::MAX).ok_or("a stamp")?;
-    replica.take(merge(last).ok_or(MEMORY)?)?;
-    Ok(())
+/// Takes a merge with the greatest sequence number, and says whether the replica had it, where memory suffices for it.
+fn take_greatest(replica: &mut Replica) -> Option<Taken> {
+    let op = merge(Stamp::new(9, 1, 1, u64::MAX)?)?;
+    replica.take(op).ok()
 }
 
 #[test]
-fn no_stamp_is_above_the_greatest_sequence_number(rt: HostRuntime) -> Result<(), Fail> {
-    let mut replica = forth(&rt, rt.alloc(), &[Step::Vote(7, 1)])?;
-    take_greatest(&mut replica)?;
-    assert!(rt; replica.next_stamp(1, 1).is_err());
-    assert_next(&rt, &replica, Row { site: 1, start: 2 }, 10, 1)
+fn no_stamp_is_above_the_greatest_sequence_number(rt: HostRuntime) {
+    let mut replica = forth(&rt, rt.alloc(), &[Step::Vote(7, 1)]);
+    assert_eq!(rt; take_greatest(&mut replica), Some(Taken::New));
+    assert_eq!(rt; next_of(&replica, FIRST_ROW), None);
+    assert_next(&rt, &replica, SECOND_ROW, 10, 1);
+}
+
+/// How far a front goes in the first two rows of site 1, of which the first was raised to 1 and then to 0.
+fn raised(alloc: Global) -> Result<(u64, u64), NoMemory> {
+    let mut front = Front::new(alloc);
+    front.raise(FIRST_ROW, 1)?;
+    front.raise(FIRST_ROW, 0)?;
+    Ok((front.reach(FIRST_ROW), front.reach(SECOND_ROW)))
 }
 
 #[test]
 fn what_a_front_is_raised_to_is_reached(rt: HostRuntime) -> Result<(), Fail> {
-    let mut front = Front::new(rt.alloc());
-    let row = Row { site: 1, start: 1 };
-    front.raise(row, 1)?;
-    front.raise(row, 0)?;
-    assert_eq!(rt; front.reach(row), 1);
-    assert_eq!(rt; front.reach(Row { site: 1, start: 2 }), 0);
+    let reached = raised(rt.alloc())?;
+    assert_eq!(rt; reached, (1, 0));
     Ok(())
 }
 
@@ -241,6 +243,12 @@ fn assert_seqs<A: Allocator + Copy>(rt: &impl Abort, ops: &[Op<A>], wanted: &[u6
     for (op, seq) in ops.iter().zip(wanted) {
         assert_eq!(rt; op.stamp().seq(), *seq);
     }
+}
+
+/// These operations are missing, by their sequence numbers, and whether others are left.
+fn assert_found(rt: &impl Abort, missing: Missing, wanted: &[u64], more: bool) {
+    assert_eq!(rt; missing.more, more);
+    assert_seqs(rt, missing.ops.as_slice(), wanted);
 }
 
 /// Up to the limit these operations are missing, by their sequence numbers, and whether others are left.
@@ -253,19 +261,29 @@ fn assert_missing(
     more: bool,
 ) -> Result<(), Fail> {
     let missing = replica.missing(front, limit)?;
-    assert_eq!(rt; missing.more, more);
-    assert_seqs(rt, missing.ops.as_slice(), wanted);
+    assert_found(rt, missing, wanted, more);
     Ok(())
+}
+
+/// Past a front the operations 2 and 3 are missing.
+fn assert_two_missing(rt: &impl Abort, replica: &Replica, front: &Front) -> Result<(), Fail> {
+    assert_missing(rt, replica, front, 1, &[2], true)?;
+    assert_missing(rt, replica, front, 2, &[2, 3], false)
+}
+
+/// The front that goes as far as 1 in the first row of site 1.
+fn first_front(alloc: Global) -> Result<Front, NoMemory> {
+    let mut front = Front::new(alloc);
+    front.raise(FIRST_ROW, 1)?;
+    Ok(front)
 }
 
 #[test]
 fn what_a_front_lacks_comes_in_order(rt: HostRuntime) -> Result<(), Fail> {
+    let front = first_front(rt.alloc())?;
     let steps = [Step::Vote(3, 1), Step::Vote(1, 1), Step::Vote(2, 1)];
-    let replica = forth(&rt, rt.alloc(), &steps)?;
-    let mut front = Front::new(rt.alloc());
-    front.raise(Row { site: 1, start: 1 }, 1)?;
-    assert_missing(&rt, &replica, &front, 1, &[2], true)?;
-    assert_missing(&rt, &replica, &front, 2, &[2, 3], false)
+    let replica = forth(&rt, rt.alloc(), &steps);
+    assert_two_missing(&rt, &replica, &front)
 }
 
 /// A place in a record: a site, a start and a sequence number.
@@ -277,33 +295,46 @@ fn merged_at(place: Place) -> Option<Op> {
     merge(Stamp::new(seq, site, start, seq)?)
 }
 
-/// Takes merges with these places.
-fn take_places(replica: &mut Replica, places: &[Place]) -> Result<(), Fail> {
-    for place in places {
-        replica.take(merged_at(*place).ok_or(MEMORY)?)?;
-    }
-    Ok(())
+/// Takes a merge with this place, and says whether the replica had it, where memory suffices for it.
+fn take_place(replica: &mut Replica, place: Place) -> Option<Taken> {
+    let op = merged_at(place)?;
+    replica.take(op).ok()
 }
 
-/// The places that the front reaches, row by row.
-fn front_places(alloc: Global, replica: &Replica) -> Result<Vec<Place>, Fail> {
+/// Takes merges with these places, where memory suffices for them.
+fn take_places(replica: &mut Replica, places: &[Place]) -> Option<()> {
+    for place in places {
+        take_place(replica, *place)?;
+    }
+    Some(())
+}
+
+/// The places that a front reaches, row by row.
+fn places_of(alloc: Global, front: &Front) -> Result<Vec<Place>, NoMemory> {
     let mut places = Vec::new(alloc);
-    let front = replica.front()?;
     for (row, reach) in front.rows().iter() {
         places.push((row.site, row.start, reach.seq()))?;
     }
     Ok(places)
 }
 
-/// The front reaches these places, row by row.
+/// The places that the front of a replica reaches, row by row.
+fn front_places(alloc: Global, replica: &Replica) -> Result<Vec<Place>, NoMemory> {
+    let front = replica.front()?;
+    places_of(alloc, &front)
+}
+
+/// The front reaches some places, row by row, once merges with others are taken.
 fn assert_front(
     rt: &impl Abort,
     alloc: Global,
-    replica: &Replica,
+    replica: &mut Replica,
+    places: &[Place],
     wanted: &[Place],
 ) -> Result<(), Fail> {
-    let places = front_places(alloc, replica)?;
-    assert_eq!(rt; places.as_slice(), wanted);
+    take_places(replica, places).ok_or(MEMORY)?;
+    let reached = front_places(alloc, replica)?;
+    assert_eq!(rt; reached.as_slice(), wanted);
     Ok(())
 }
 
@@ -324,23 +355,35 @@ const FRONTS: [(&[Place], &[Place]); 4] = [
     ),
 ];
 
+/// The front reaches what it is to reach after each of some merges.
+fn assert_fronts(rt: &impl Abort, alloc: Global, replica: &mut Replica) -> Result<(), Fail> {
+    for (places, wanted) in FRONTS {
+        assert_front(rt, alloc, replica, places, wanted)?;
+    }
+    Ok(())
+}
+
 #[test]
 fn a_front_goes_as_far_as_there_is_no_gap(rt: HostRuntime) -> Result<(), Fail> {
     let mut replica = Replica::new(rt.alloc());
-    for (places, wanted) in FRONTS {
-        take_places(&mut replica, places)?;
-        assert_front(&rt, rt.alloc(), &replica, wanted)?;
-    }
+    assert_fronts(&rt, rt.alloc(), &mut replica)?;
     assert_nothing_lacked(&rt, &replica)
 }
 
+/// How many operations the replica has, whether it has something of change 101, and how many votes on that.
+fn held<A: Allocator + Copy>(replica: &Replica<A>) -> (usize, bool, usize) {
+    match replica.change(101) {
+        Some(change) => (replica.len(), true, change.all_votes().len()),
+        None => (replica.len(), false, 0),
+    }
+}
+
 /// The replica has this many operations, of which the first is a patch set and the second a vote.
-fn assert_taken<A: Allocator + Copy>(rt: &impl Abort, replica: &Replica<A>, wanted: usize) {
-    assert_eq!(rt; replica.len(), wanted);
-    let state = replica.change(101);
-    assert_eq!(rt; state.is_some(), wanted > 0);
-    let votes = state.map_or(0, |change| change.all_votes().len());
-    assert_eq!(rt; votes, wanted.saturating_sub(1));
+fn assert_held<A: Allocator + Copy>(rt: &impl Abort, replica: &Replica<A>, wanted: usize) {
+    assert_eq!(rt;
+        held(replica),
+        (wanted, wanted > 0, wanted.saturating_sub(1))
+    );
 }
 
 /// Takes an operation where memory suffices for it, and says whether it did. What was refused left nothing behind.
@@ -354,19 +397,24 @@ fn takes<A: Allocator + Copy>(
     };
     let before = replica.len();
     let taken = replica.take(op).is_ok();
-    assert_taken(rt, replica, before.saturating_add(usize::from(taken)));
+    assert_held(rt, replica, before.saturating_add(usize::from(taken)));
     taken
+}
+
+/// Takes a patch set and a vote where memory suffices for them, and says how many it took.
+fn take_two<A: Allocator + Copy>(rt: &impl Abort, alloc: A) -> usize {
+    let mut replica = Replica::new(alloc);
+    let set = patch_set(alloc, 1, "a message that takes room", None);
+    if takes(rt, &mut replica, set) {
+        takes(rt, &mut replica, vote(alloc, 2, 1));
+    }
+    replica.len()
 }
 
 /// Takes a patch set and a vote in a heap of this size, and says how many it took.
 fn taken_in(rt: &impl Abort, alloc: Global, size: usize) -> Result<usize, Fail> {
     let heap = LocalHeap::new(alloc, size)?;
-    let mut replica = Replica::new(&heap);
-    let set = patch_set(&heap, 1, "a message that takes room", None);
-    if takes(rt, &mut replica, set) {
-        takes(rt, &mut replica, vote(&heap, 2, 1));
-    }
-    Ok(replica.len())
+    Ok(take_two(rt, &heap))
 }
 
 #[test]
@@ -387,62 +435,67 @@ const FIRST: [Step; 1] = [Step::PatchSet(1, "m", None)];
 /// A copy of the replica that took votes with the times 3 and 2 after it.
 fn with_two_votes(rt: &impl Abort, alloc: Global, replica: &Replica) -> Result<Replica, Fail> {
     let mut copied = replica.copy()?;
-    take_steps(
-        rt,
-        alloc,
-        &mut copied,
-        &[Step::Vote(3, 1), Step::Vote(2, 1)],
-    )?;
+    let votes = [Step::Vote(3, 1), Step::Vote(2, 1)];
+    assert_takes_all(rt, alloc, &mut copied, &votes);
     Ok(copied)
+}
+
+/// How many operations a copy has, whether it has the state of another replica, and whether it has the same arrivals.
+fn likeness(copied: Replica, replica: &Replica) -> (usize, bool, bool) {
+    let same_arrivals = copied.as_slice().eq(replica.as_slice());
+    (copied.len(), copied.same_state(replica), same_arrivals)
+}
+
+/// The likeness of a copy of a replica and that.
+fn likeness_of_copy(replica: Replica) -> Result<(usize, bool, bool), NoMemory> {
+    Ok(likeness(replica.copy()?, &replica))
 }
 
 #[test]
 fn a_copy_is_equal(rt: HostRuntime) -> Result<(), Fail> {
-    let first = forth(&rt, rt.alloc(), &FIRST)?;
-    let second = first.copy()?;
-    assert!(rt; second.same_state(&first));
-    assert!(rt; second.as_slice().eq(first.as_slice()));
+    let likeness = likeness_of_copy(forth(&rt, rt.alloc(), &FIRST))?;
+    assert_eq!(rt; likeness, (1, true, true));
     Ok(())
 }
 
-/// The copy has an operation with the stamp, and what it was made of hasn't.
-fn assert_gained(rt: &impl Abort, first: &Replica, second: &Replica, stamp: Stamp) {
-    assert!(rt; !second.same_state(first));
-    assert!(rt; second.has_stamp(stamp));
-    assert!(rt; !first.has_stamp(stamp));
+/// Whether two replicas have one state, and whether the first and the second have an operation with a stamp.
+fn having(first: Replica, second: Replica, stamp: Stamp) -> (bool, bool, bool) {
+    let same = first.same_state(&second);
+    (same, first.has_stamp(stamp), second.has_stamp(stamp))
 }
 
 #[test]
 fn what_a_copy_gains_is_its_own(rt: HostRuntime) -> Result<(), Fail> {
     let third = Stamp::new(3, 1, 1, 3).ok_or("a stamp")?;
-    let first = forth(&rt, rt.alloc(), &FIRST)?;
+    let first = forth(&rt, rt.alloc(), &FIRST);
     let second = with_two_votes(&rt, rt.alloc(), &first)?;
-    assert_gained(&rt, &first, &second, third);
+    assert_eq!(rt; having(first, second, third), (false, false, true));
     Ok(())
 }
 
 /// The replica that absorbed what a copy gained, after it had taken a withdrawal.
 fn with_gains(rt: &impl Abort, alloc: Global) -> Result<Replica, Fail> {
-    let mut first = forth(rt, alloc, &FIRST)?;
+    let mut first = forth(rt, alloc, &FIRST);
     let second = with_two_votes(rt, alloc, &first)?;
-    take_step(rt, alloc, &mut first, Step::Withdraw(4), Taken::New)?;
+    assert_takes(rt, alloc, &mut first, Step::Withdraw(4), Taken::New);
     first.absorb(second)?;
     Ok(first)
 }
 
-/// The operation that came second has this sequence number.
-fn assert_second(rt: &impl Abort, replica: &Replica, seq: u64) {
+/// The sequence number of the operation that came second, where there is one.
+fn second_seq(replica: &Replica) -> Option<u64> {
     if 1 < replica.len() {
-        assert_eq!(rt; replica.arrival(1).stamp().seq(), seq);
+        Some(replica.arrival(1).stamp().seq())
+    } else {
+        None
     }
 }
 
 #[test]
 fn what_a_copy_gains_is_absorbed(rt: HostRuntime) -> Result<(), Fail> {
     let first = with_gains(&rt, rt.alloc())?;
-    assert_eq!(rt; first.arrivals(), 4);
+    assert_eq!(rt; (first.arrivals(), second_seq(&first)), (4, Some(4)));
     assert_seqs(&rt, first.as_slice(), &[1, 4, 2, 3]);
-    assert_second(&rt, &first, 4);
     Ok(())
 }
 
@@ -465,45 +518,63 @@ fn merges(alloc: Global, count: u32) -> Replica {
     replica
 }
 
-/// The replica has this many operations, and just where it has all five merges their state.
-fn assert_merges(rt: &impl Abort, alloc: Global, replica: &Replica, count: usize) {
-    assert_eq!(rt; replica.len(), count);
+/// How many operations a replica has, and whether it has the state of all five merges.
+fn merged(alloc: Global, replica: &Replica) -> (usize, bool) {
     let whole = merges(alloc, 5);
-    assert_eq!(rt; replica.same_state(&whole), count == 5);
+    (replica.len(), replica.same_state(&whole))
 }
 
-/// The copy has the state of all five merges and their arrivals.
-fn assert_copy_of_merges(rt: &impl Abort, alloc: Global, replica: &Replica) -> Result<(), Fail> {
-    let copied = replica.copy()?;
-    assert_merges(rt, alloc, &copied, 5);
+/// The likeness of a copy and the replica of all five merges.
+fn likeness_to_merges(alloc: Global, copied: Replica) -> (usize, bool, bool) {
     let whole = merges(alloc, 5);
-    assert!(rt; copied.as_slice().eq(whole.as_slice()));
-    Ok(())
+    likeness(copied, &whole)
+}
+
+/// The replica of the first three merges, which hasn't the state of all, once it absorbed that of all five.
+fn with_all_merges(rt: &impl Abort, alloc: Global) -> Result<Replica, Fail> {
+    let mut part = merges(alloc, 3);
+    assert_eq!(rt; merged(alloc, &part), (3, false));
+    part.absorb(merges(alloc, 5))?;
+    Ok(part)
+}
+
+/// What a replica and a copy of it have of all five merges.
+fn merged_and_copied(
+    alloc: Global,
+    replica: Replica,
+) -> Result<((usize, bool), (usize, bool, bool)), NoMemory> {
+    let copied = likeness_to_merges(alloc, replica.copy()?);
+    Ok((merged(alloc, &replica), copied))
 }
 
 #[test]
 fn what_has_all_is_absorbed_into_a_part_of_it(rt: HostRuntime) -> Result<(), Fail> {
-    let mut part = merges(rt.alloc(), 3);
-    assert_merges(&rt, rt.alloc(), &part, 3);
-    part.absorb(merges(rt.alloc(), 5))?;
-    assert_merges(&rt, rt.alloc(), &part, 5);
-    assert_copy_of_merges(&rt, rt.alloc(), &part)
+    let whole = with_all_merges(&rt, rt.alloc())?;
+    let found = merged_and_copied(rt.alloc(), whole)?;
+    assert_eq!(rt; found, ((5, true), (5, true, true)));
+    Ok(())
 }
 
-/// The replica that took votes with these times in a heap, where the heap suffices for it.
-fn voted_in<'a>(heap: &'a LocalHeap, times: &[u64]) -> Option<Replica<&'a LocalHeap>> {
-    let mut replica = Replica::new(heap);
+/// Takes a vote, and says whether the replica had it, where memory suffices for it.
+fn take_vote<A: Allocator + Copy>(alloc: A, replica: &mut Replica<A>, time: u64) -> Option<Taken> {
+    let op = vote(alloc, time, 1)?;
+    replica.take(op).ok()
+}
+
+/// The replica that took votes with these times, where memory suffices for it.
+fn voted<A: Allocator + Copy>(alloc: A, times: &[u64]) -> Option<Replica<A>> {
+    let mut replica = Replica::new(alloc);
     for time in times {
-        replica.take(vote(heap, *time, 1)?).ok()?;
+        take_vote(alloc, &mut replica, *time)?;
     }
     Some(replica)
 }
 
 /// Absorbs a replica with the votes 1 to 3, and says how many of them are in: the first ones.
-fn absorbed<'a>(
+fn absorbed<A: Allocator + Copy>(
     rt: &impl Abort,
-    replica: &mut Replica<&'a LocalHeap>,
-    other: Replica<&'a LocalHeap>,
+    replica: &mut Replica<A>,
+    other: Replica<A>,
 ) -> usize {
     let absorbed = match replica.absorb(other) {
         Ok(()) => 3,
@@ -515,7 +586,7 @@ fn absorbed<'a>(
 }
 
 /// Whether memory suffices for a copy, which then has an equal state.
-fn is_copied<'a>(rt: &impl Abort, replica: &Replica<&'a LocalHeap>) -> bool {
+fn is_copied<A: Allocator + Copy>(rt: &impl Abort, replica: &Replica<A>) -> bool {
     let Ok(copied) = replica.copy() else {
         return false;
     };
@@ -523,16 +594,21 @@ fn is_copied<'a>(rt: &impl Abort, replica: &Replica<&'a LocalHeap>) -> bool {
     true
 }
 
-/// Whether a heap of this size suffices for a replica to absorb one with three votes, and for a copy of both. What was
-/// refused left the first votes in.
+/// Whether memory suffices for a replica to absorb one with three votes, and for a copy of both. What was refused left
+/// the first votes in.
+fn is_absorbed<A: Allocator + Copy>(rt: &impl Abort, alloc: A) -> bool {
+    let Some(other) = voted(alloc, &[3, 2, 1]) else {
+        return false;
+    };
+    let mut replica = Replica::new(alloc);
+    let absorbed = absorbed(rt, &mut replica, other);
+    is_copied(rt, &replica) && absorbed == 3
+}
+
+/// Whether a heap of this size suffices for a replica to absorb one with three votes, and for a copy of both.
 fn absorbed_in(rt: &impl Abort, alloc: Global, size: usize) -> Result<bool, Fail> {
     let heap = LocalHeap::new(alloc, size)?;
-    let Some(other) = voted_in(&heap, &[3, 2, 1]) else {
-        return Ok(false);
-    };
-    let mut replica = Replica::new(&heap);
-    let absorbed = absorbed(rt, &mut replica, other);
-    Ok(is_copied(rt, &replica) && absorbed == 3)
+    Ok(is_absorbed(rt, &heap))
 }
 
 #[test]
@@ -547,38 +623,41 @@ fn a_refused_absorb_says_how_many_are_in(rt: HostRuntime) -> Result<(), Fail> {
     Ok(())
 }
 
-/// What a heap suffices for, of what a replica shows.
+/// What memory suffices for, of what a replica shows.
 #[derive(Clone, Copy)]
 struct Shown {
     front: bool,
     missing: bool,
 }
 
-/// Whether a heap suffices for the votes that an empty front lacks, which are then two.
-fn shows_missing<'a>(heap: &'a LocalHeap, replica: &Replica<&'a LocalHeap>) -> bool {
-    match replica.missing(&Front::new(heap), 2) {
+/// Whether memory suffices for the votes that an empty front lacks, which are then two.
+fn shows_missing<A: Allocator + Copy>(alloc: A, replica: &Replica<A>) -> bool {
+    match replica.missing(&Front::new(alloc), 2) {
         Ok(missing) => missing.ops.len() == 2 && !missing.more,
         Err(_) => false,
     }
 }
 
-/// What a heap suffices for, of what its replica with two votes shows. What was refused changed nothing.
-fn shows<'a>(rt: &impl Abort, heap: &'a LocalHeap, replica: &Replica<&'a LocalHeap>) -> Shown {
+/// What memory suffices for, of what a replica with two votes shows. What was refused changed nothing.
+fn shows<A: Allocator + Copy>(rt: &impl Abort, alloc: A, replica: &Replica<A>) -> Shown {
     let shown = Shown {
         front: replica.front().is_ok(),
-        missing: shows_missing(heap, replica),
+        missing: shows_missing(alloc, replica),
     };
     assert_eq!(rt; replica.len(), 2);
     shown
 }
 
+/// What memory suffices for, where it suffices for a replica with two votes.
+fn shown_of_two<A: Allocator + Copy>(rt: &impl Abort, alloc: A) -> Option<Shown> {
+    let replica = voted(alloc, &[1, 2])?;
+    Some(shows(rt, alloc, &replica))
+}
+
 /// What a heap of this size suffices for, where it holds a replica with two votes.
 fn shown_in(rt: &impl Abort, alloc: Global, size: usize) -> Result<Option<Shown>, Fail> {
     let heap = LocalHeap::new(alloc, size)?;
-    match voted_in(&heap, &[1, 2]) {
-        Some(replica) => Ok(Some(shows(rt, &heap, &replica))),
-        None => Ok(None),
-    }
+    Ok(shown_of_two(rt, &heap))
 }
 
 #[test]
@@ -638,156 +717,191 @@ fn thrown(dice: &mut Dice) -> Option<Op> {
     Some(Op::new(stamp, Body::checked(draft).ok()?))
 }
 
-/// Both answer alike what a row's reach and next stamp are.
-fn assert_row_alike(rt: &impl Abort, replica: &Replica, plain: &Plain, front: &Front, row: Row) {
-    assert_eq!(rt; front.reach(row), plain.reach(row));
-    let next = replica.next_stamp(row.site, row.start).ok();
-    assert_eq!(rt;
-        next.map(|stamp| (stamp.time(), stamp.seq())),
-        plain.next(row)
-    );
+/// The rows that are looked at: those that are thrown, and others.
+fn row_at(place: u16) -> Row {
+    Row {
+        site: place / 3,
+        start: u32::from(place % 3),
+    }
 }
 
-/// Both answer alike what a front lacks.
-fn assert_lacked_alike(
-    rt: &impl Abort,
-    replica: &Replica,
-    lacked: &[Op],
-    front: &Front,
-    limit: usize,
-) -> Result<(), Fail> {
-    let missing = replica.missing(front, limit)?;
-    assert_eq!(rt; missing.more, limit < lacked.len());
-    assert!(rt; missing.ops.iter().eq(lacked.iter().take(limit)));
-    Ok(())
+/// How far a front reaches in a row, and the time and the sequence number of the row's next stamp.
+fn row_of_lines(replica: &Replica, front: &Front, row: Row) -> (u64, Option<(u64, u64)>) {
+    let next = match replica.next_stamp(row.site, row.start) {
+        Ok(stamp) => Some((stamp.time(), stamp.seq())),
+        Err(_) => None,
+    };
+    (front.reach(row), next)
 }
 
-/// Both answer alike, row by row, and what comes back is a front that reaches into some rows.
-fn assert_rows_alike(
-    rt: &impl Abort,
-    alloc: Global,
-    replica: &Replica,
-    plain: &Plain,
-    dice: &mut Dice,
-) -> Result<Front, Fail> {
-    let front = replica.front()?;
-    let mut part = Front::new(alloc);
-    for place in 0..12u16 {
-        let row = Row {
-            site: place / 3,
-            start: u32::from(place % 3),
+/// A record, the plain list of what it took, and the dice for what both take.
+#[derive(Drop)]
+struct Both {
+    replica: Replica,
+    plain: Plain,
+    dice: Dice,
+}
+
+/// Whether an operation is there before both take it, whether its stamp is, and whether it is new.
+type Had = (bool, bool, bool);
+
+impl Both {
+    fn new(alloc: Global, state: u64) -> Both {
+        Both {
+            replica: Replica::new(alloc),
+            plain: Plain::new(alloc),
+            dice: Dice { state },
+        }
+    }
+
+    /// What the record answers to an operation that it takes a copy of.
+    fn lines_take(&mut self, op: &Op) -> Result<Had, NoMemory> {
+        let had = self.replica.has(op);
+        let had_stamp = self.replica.has_stamp(op.stamp());
+        let taken = self.replica.take(op.copy()?)?;
+        Ok((had, had_stamp, taken == Taken::New))
+    }
+
+    /// What the list answers to an operation that it takes.
+    fn list_takes(&mut self, op: Op) -> Result<Had, NoMemory> {
+        let had = self.plain.has(&op);
+        let had_stamp = self.plain.has_stamp(op.stamp());
+        Ok((had, had_stamp, self.plain.take(op)?))
+    }
+
+    /// What both answer to an operation that they take.
+    fn take(&mut self, op: Op) -> Result<(Had, Had), NoMemory> {
+        let of_lines = self.lines_take(&op)?;
+        Ok((of_lines, self.list_takes(op)?))
+    }
+
+    /// Both take an operation that is thrown, and answer alike.
+    fn assert_throw(&mut self, rt: &impl Abort) -> Result<(), Fail> {
+        let Some(op) = thrown(&mut self.dice) else {
+            return Ok(());
         };
-        assert_row_alike(rt, replica, plain, &front, row);
-        part.raise(row, dice.throw(front.reach(row).saturating_add(3)))?;
+        let (of_lines, of_list) = self.take(op)?;
+        assert_eq!(rt; of_lines, of_list);
+        Ok(())
     }
-    Ok(part)
-}
 
-/// Both answer alike, of the whole journal and past a front that reaches into some rows.
-fn assert_alike(
-    rt: &impl Abort,
-    alloc: Global,
-    replica: &Replica,
-    plain: &Plain,
-    dice: &mut Dice,
-) -> Result<(), Fail> {
-    assert!(rt; replica.as_slice().eq(plain.ops.as_slice()));
-    let part = assert_rows_alike(rt, alloc, replica, plain, dice)?;
-    let lacked = plain.missing(alloc, &part)?;
-    for limit in [0, 1, 256, lacked.len(), usize::MAX] {
-        assert_lacked_alike(rt, replica, lacked.as_slice(), &part, limit)?;
+    /// Both absorb another record.
+    fn absorb(&mut self, alloc: Global, other: Replica) -> Result<(), Fail> {
+        self.plain.absorb(alloc, other.as_slice())?;
+        self.replica.absorb(other)?;
+        Ok(())
     }
-    Ok(())
-}
 
-/// Both answer alike whether an operation is there.
-fn assert_had_alike(rt: &impl Abort, replica: &Replica, plain: &Plain, op: &Op) {
-    assert_eq!(rt; replica.has(op), plain.has(op));
-    assert_eq!(rt; replica.has_stamp(op.stamp()), plain.has_stamp(op.stamp()));
-}
-
-/// Takes a copy of an operation, and says whether the replica lacked it.
-fn takes_new(replica: &mut Replica, op: &Op) -> Result<bool, Fail> {
-    let taken = replica.take(op.copy()?)?;
-    Ok(taken == Taken::New)
-}
-
-/// Both take an operation, and answer alike whether it is there before and after.
-fn take_both(
-    rt: &impl Abort,
-    replica: &mut Replica,
-    plain: &mut Plain,
-    op: Op,
-) -> Result<(), Fail> {
-    assert_had_alike(rt, replica, plain, &op);
-    let taken = takes_new(replica, &op)?;
-    let plainly_taken = plain.take(op)?;
-    assert_eq!(rt; taken, plainly_taken);
-    Ok(())
-}
-
-/// Both take an operation that is thrown.
-fn throw_both(
-    rt: &impl Abort,
-    replica: &mut Replica,
-    plain: &mut Plain,
-    dice: &mut Dice,
-) -> Result<(), Fail> {
-    match thrown(dice) {
-        Some(op) => take_both(rt, replica, plain, op),
-        None => Ok(()),
+    /// Both answer alike how far each row reaches and what its next stamp is.
+    fn assert_rows(&self, rt: &impl Abort, front: &Front) {
+        for place in 0..12u16 {
+            let row = row_at(place);
+            assert_eq!(rt;
+                row_of_lines(&self.replica, front, row),
+                (self.plain.reach(row), self.plain.next(row))
+            );
+        }
     }
+
+    /// A front that is raised in each row, up to two past the reach of another.
+    fn throw_front(&mut self, alloc: Global, front: &Front) -> Result<Front, NoMemory> {
+        let mut raised = Front::new(alloc);
+        for place in 0..12u16 {
+            let row = row_at(place);
+            let sides = front.reach(row).saturating_add(3);
+            raised.raise(row, self.dice.throw(sides))?;
+        }
+        Ok(raised)
+    }
+
+    /// Whether the operations that the record finds past a front are the first of a list, and whether others are left.
+    fn missing(
+        &self,
+        front: &Front,
+        lacked: &[Op],
+        limit: usize,
+    ) -> Result<(bool, bool), NoMemory> {
+        let missing = self.replica.missing(front, limit)?;
+        let first = missing.ops.iter().eq(lacked.iter().take(limit));
+        Ok((first, missing.more))
+    }
+
+    /// Both answer alike what a front lacks.
+    fn assert_lacked(&self, rt: &impl Abort, front: &Front, lacked: &[Op]) -> Result<(), Fail> {
+        for limit in [0, 1, 256, lacked.len(), usize::MAX] {
+            let missing = self.missing(front, lacked, limit)?;
+            assert_eq!(rt; missing, (true, limit < lacked.len()));
+        }
+        Ok(())
+    }
+
+    /// Both answer alike past a front.
+    fn assert_past(&self, rt: &impl Abort, alloc: Global, front: &Front) -> Result<(), Fail> {
+        let lacked = self.plain.missing(alloc, front)?;
+        self.assert_lacked(rt, front, lacked.as_slice())
+    }
+
+    /// Both answer alike row by row. What comes back is a front that reaches into some rows.
+    fn assert_front(&mut self, rt: &impl Abort, alloc: Global) -> Result<Front, Fail> {
+        let front = self.replica.front()?;
+        self.assert_rows(rt, &front);
+        Ok(self.throw_front(alloc, &front)?)
+    }
+
+    /// Both answer alike, of the whole journal and past a front that reaches into some rows.
+    fn assert_alike(&mut self, rt: &impl Abort, alloc: Global) -> Result<(), Fail> {
+        assert!(rt; self.replica.as_slice().eq(self.plain.ops.as_slice()));
+        let front = self.assert_front(rt, alloc)?;
+        self.assert_past(rt, alloc, &front)
+    }
+
+    /// Both take operations that are thrown, and answer alike after every 64 of them.
+    fn assert_throws(&mut self, rt: &impl Abort, alloc: Global) -> Result<(), Fail> {
+        for count in 0..4096u32 {
+            self.assert_throw(rt)?;
+            if count % 64 == 0 {
+                self.assert_alike(rt, alloc)?;
+            }
+        }
+        Ok(())
+    }
+
+    /// A copy of the record, which takes its place, answers as the list does too.
+    fn assert_copy_alike(&mut self, rt: &impl Abort, alloc: Global) -> Result<(), Fail> {
+        self.replica = self.replica.copy()?;
+        self.assert_alike(rt, alloc)
+    }
+}
+
+#[test]
+fn lines_answer_as_a_list_does(rt: HostRuntime) -> Result<(), Fail> {
+    let mut both = Both::new(rt.alloc(), 88172645463325252);
+    both.assert_throws(&rt, rt.alloc())?;
+    both.assert_copy_alike(&rt, rt.alloc())
 }
 
 /// Takes an operation that is thrown.
-fn throw_into(replica: &mut Replica, dice: &mut Dice) -> Result<(), Fail> {
+fn throw_into(replica: &mut Replica, dice: &mut Dice) -> Result<(), NoMemory> {
     if let Some(op) = thrown(dice) {
         replica.take(op)?;
     }
     Ok(())
 }
 
-/// A copy of the replica answers alike too.
-fn assert_copy_alike(
-    rt: &impl Abort,
-    alloc: Global,
-    replica: &Replica,
-    plain: &Plain,
-    dice: &mut Dice,
-) -> Result<(), Fail> {
-    let copied = replica.copy()?;
-    assert_alike(rt, alloc, &copied, plain, dice)
-}
-
-#[test]
-fn lines_answer_as_a_list_does(rt: HostRuntime) -> Result<(), Fail> {
-    let mut dice = Dice {
-        state: 88172645463325252,
-    };
-    let mut replica = Replica::new(rt.alloc());
-    let mut plain = Plain::new(rt.alloc());
-    for count in 0..4096u32 {
-        throw_both(&rt, &mut replica, &mut plain, &mut dice)?;
-        if count % 64 == 0 {
-            assert_alike(&rt, rt.alloc(), &replica, &plain, &mut dice)?;
-        }
+/// Both and another record take operations that are thrown. What comes back is the other record.
+fn throw_all(rt: &impl Abort, alloc: Global, both: &mut Both) -> Result<Replica, Fail> {
+    let mut other = Replica::new(alloc);
+    for _ in 0..256u32 {
+        both.assert_throw(rt)?;
+        throw_into(&mut other, &mut both.dice)?;
     }
-    assert_copy_alike(&rt, rt.alloc(), &replica, &plain, &mut dice)
+    Ok(other)
 }
 
 #[test]
 fn what_is_absorbed_comes_in_order(rt: HostRuntime) -> Result<(), Fail> {
-    let mut dice = Dice {
-        state: 362436069362436069,
-    };
-    let mut replica = Replica::new(rt.alloc());
-    let mut other = Replica::new(rt.alloc());
-    let mut plain = Plain::new(rt.alloc());
-    for _ in 0..256u32 {
-        throw_both(&rt, &mut replica, &mut plain, &mut dice)?;
-        throw_into(&mut other, &mut dice)?;
-    }
-    plain.absorb(rt.alloc(), other.as_slice())?;
-    replica.absorb(other)?;
-    assert_alike(&rt, rt.alloc(), &replica, &plain, &mut dice)
+    let mut both = Both::new(rt.alloc(), 362436069362436069);
+    let other = throw_all(&rt, rt.alloc(), &mut both)?;
+    both.absorb(rt.alloc(), other)?;
+    both.assert_alike(&rt, rt.alloc())
 }

@@ -17,27 +17,49 @@ enum Step {
     Merged(u32),
 }
 
-/// The operation of a step, with the time and sequence number `time`, of site 1 under start 1.
-fn op_of<A: Allocator + Copy>(alloc: A, time: u64, step: Step) -> Option<Op<A>> {
-    let draft = match step {
-        Step::PatchSet(change) => Draft::PatchSet {
-            change,
-            set: 1,
-            message: String::from_str(alloc, "m").ok()?,
-            parent: None,
-        },
-        Step::Abandon(change) => Draft::Abandon { change },
-        Step::Merged(change) => Draft::Merged { change },
-    };
-    let stamp = Stamp::new(time, 1, 1, time)?;
-    Some(Op::new(stamp, Body::checked(draft).ok()?))
+/// A first patch set of a change, where memory suffices for it.
+fn patch_set<A: Allocator + Copy>(alloc: A, change: u32) -> Option<Draft<A>> {
+    let message = String::from_str(alloc, "m").ok()?;
+    Some(Draft::PatchSet {
+        change,
+        set: 1,
+        message,
+        parent: None,
+    })
 }
 
-/// The state of steps, one after the other.
+/// What a step says, where memory suffices for it.
+fn draft_of<A: Allocator + Copy>(alloc: A, step: Step) -> Option<Draft<A>> {
+    match step {
+        Step::PatchSet(change) => patch_set(alloc, change),
+        Step::Abandon(change) => Some(Draft::Abandon { change }),
+        Step::Merged(change) => Some(Draft::Merged { change }),
+    }
+}
+
+/// The operation of a step, with the time and sequence number `time`, of site 1 under start 1.
+fn op_of<A: Allocator + Copy>(alloc: A, time: u64, step: Step) -> Option<Op<A>> {
+    let stamp = Stamp::new(time, 1, 1, time)?;
+    let body = Body::checked(draft_of(alloc, step)?).ok()?;
+    Some(Op::new(stamp, body))
+}
+
+/// How many changes the state has something of.
+fn count<A: Allocator + Copy>(state: &State<A>) -> usize {
+    state.changes().len()
+}
+
+/// Takes the operation of a step, where memory suffices for it.
+fn take<A: Allocator + Copy>(alloc: A, state: &mut State<A>, time: u64, step: Step) -> Option<()> {
+    let op = op_of(alloc, time, step)?;
+    state.take(&op).ok()
+}
+
+/// The state of steps, one after the other, where memory suffices for it.
 fn state_of<A: Allocator + Copy>(alloc: A, steps: &[Step]) -> Option<State<A>> {
     let mut state = State::new(alloc);
     for (time, step) in (1u64..).zip(steps) {
-        state.take(&op_of(alloc, time, *step)?).ok()?;
+        take(alloc, &mut state, time, *step)?;
     }
     Some(state)
 }
@@ -45,48 +67,78 @@ fn state_of<A: Allocator + Copy>(alloc: A, steps: &[Step]) -> Option<State<A>> {
 /// Change 5 is merged, known to no one; 6 is known and abandoned; nothing is known of 7.
 const STEPS: [Step; 3] = [Step::Merged(5), Step::PatchSet(6), Step::Abandon(6)];
 
-/// Whether changes are known and merged.
-fn assert_known(rt: &impl Abort, state: &State, number: u32, is_known: bool, is_merged: bool) {
-    assert_eq!(rt; state.is_known(number), is_known);
-    assert_eq!(rt; state.is_merged(number), is_merged);
+/// Whether a change is known, and whether it is merged.
+fn standing(state: &State, number: u32) -> (bool, bool) {
+    (state.is_known(number), state.is_merged(number))
+}
+
+/// How the changes 5 to 7 stand, how many changes the state has something of, and whether it has nothing of 7.
+fn standings(state: State) -> ([(bool, bool); 3], usize, bool) {
+    let changes = [
+        standing(&state, 5),
+        standing(&state, 6),
+        standing(&state, 7),
+    ];
+    (changes, count(&state), state.change(7).is_none())
 }
 
 #[test]
 fn known_and_merged_changes(rt: HostRuntime) -> Result<(), Fail> {
     let state = state_of(rt.alloc(), &STEPS).ok_or("memory")?;
-    assert_known(&rt, &state, 5, false, true);
-    assert_known(&rt, &state, 6, true, false);
-    assert_known(&rt, &state, 7, false, false);
-    assert_eq!(rt; state.changes().len(), 2);
-    assert!(rt; state.change(7).is_none());
+    let changes = [(false, true), (true, false), (false, false)];
+    assert_eq!(rt; standings(state), (changes, 2, true));
+    Ok(())
+}
+
+/// The state of the first step covers less than the state of all.
+fn assert_covered(rt: &impl Abort, part: &State, whole: &State) {
+    assert!(rt; whole.covers(part) && !part.covers(whole));
+}
+
+/// The join of a state and a copy of another one is the same as that.
+fn assert_joined(rt: &impl Abort, mut joined: State, whole: &State) -> Result<(), Fail> {
+    joined.join(whole.copy()?)?;
+    assert!(rt; joined.same(whole));
     Ok(())
 }
 
 #[test]
 fn states_join_change_by_change(rt: HostRuntime) -> Result<(), Fail> {
     let whole = state_of(rt.alloc(), &STEPS).ok_or("memory")?;
-    let mut joined = state_of(rt.alloc(), &STEPS[..1]).ok_or("memory")?;
-    assert!(rt; whole.covers(&joined) && !joined.covers(&whole));
-    joined.join(whole.copy()?)?;
-    assert!(rt; joined.same(&whole));
-    Ok(())
+    let first = state_of(rt.alloc(), &STEPS[..1]).ok_or("memory")?;
+    assert_covered(&rt, &first, &whole);
+    assert_joined(&rt, first, &whole)
+}
+
+/// Whether memory suffices for a step. Where it doesn't, the state has something of as many changes as before.
+fn is_taken_or_left<A: Allocator + Copy>(
+    rt: &impl Abort,
+    alloc: A,
+    state: &mut State<A>,
+    time: u64,
+    step: Step,
+) -> bool {
+    let before = count(state);
+    let taken = take(alloc, state, time, step).is_some();
+    assert!(rt; taken || count(state) == before);
+    taken
+}
+
+/// Whether memory suffices for all steps, one after the other.
+fn are_taken_or_left<A: Allocator + Copy>(rt: &impl Abort, alloc: A, state: &mut State<A>) -> bool {
+    for (time, step) in (1u64..).zip(STEPS) {
+        if !is_taken_or_left(rt, alloc, state, time, step) {
+            return false;
+        }
+    }
+    true
 }
 
 /// Whether a heap of this size suffices for the state; a refused operation leaves the state of those before it.
 fn is_held_in(rt: &impl Abort, alloc: Global, size: usize) -> Result<bool, Fail> {
     let heap = LocalHeap::new(alloc, size)?;
     let mut state = State::new(&heap);
-    for (time, step) in (1u64..).zip(STEPS) {
-        let Some(op) = op_of(&heap, time, step) else {
-            return Ok(false);
-        };
-        let before = state.changes().len();
-        if state.take(&op).is_err() {
-            assert_eq!(rt; state.changes().len(), before);
-            return Ok(false);
-        }
-    }
-    Ok(true)
+    Ok(are_taken_or_left(rt, &heap, &mut state))
 }
 
 #[test]

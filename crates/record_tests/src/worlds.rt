@@ -1,5 +1,6 @@
 //! Scripts worked out by hand, and what holds after refused memory.
 
+use lattice_core::NoMemory;
 use linked_list_allocator::LocalHeap;
 use replica_core::{Front, Row};
 use review_ops::{BodyFault, Draft, Stamp};
@@ -11,6 +12,28 @@ use world_core::{Event, Reply, World, WorldFault};
 /// What a test lacks where memory is refused that it counts on.
 const MEMORY: &str = "memory";
 
+/// What an event answers.
+type Answer = Result<Reply, WorldFault>;
+
+/// An event of a script. The first number is the site, but for `Deliver`, where it is the packet.
+#[derive(Clone, Copy)]
+enum Step {
+    /// The site takes in that this change is merged.
+    Merged(u16, u32),
+    /// The site takes in that a voter scores patch set 1 of change 101.
+    Vote(u16, i8),
+    /// The site sends what the empty front lacks.
+    SendAll(u16),
+    /// The site sends what a front lacks that goes as far as this in the first row of site 1.
+    SendPast(u16, u64),
+    /// The site sends what another site lacks.
+    SendTo(u16, u16),
+    /// The packet is delivered to a site.
+    Deliver(u64, u16),
+    Save(u16),
+    Restart(u16, u32),
+}
+
 /// A site takes in that a change is merged.
 fn merged<A: Allocator + Copy>(site: u16, change: u32) -> Event<A> {
     Event::Intake {
@@ -19,7 +42,7 @@ fn merged<A: Allocator + Copy>(site: u16, change: u32) -> Event<A> {
     }
 }
 
-/// A voter scores patch set 1 of change 101.
+/// A site takes in that a voter scores patch set 1 of change 101.
 fn vote<A: Allocator + Copy>(alloc: A, site: u16, value: i8) -> Option<Event<A>> {
     let label = String::from_str(alloc, "Workflow").ok()?;
     let voter = String::from_str(alloc, "ann").ok()?;
@@ -35,8 +58,75 @@ fn vote<A: Allocator + Copy>(alloc: A, site: u16, value: i8) -> Option<Event<A>>
     })
 }
 
+/// The first row of site 1.
+const FIRST_ROW: Row = Row { site: 1, start: 1 };
+
+/// The front that goes as far as this in the first row of site 1.
+fn front_to<A: Allocator + Copy>(alloc: A, seq: u64) -> Option<Front<A>> {
+    let mut front = Front::new(alloc);
+    front.raise(FIRST_ROW, seq).ok()?;
+    Some(front)
+}
+
+/// The front of a site, where there is one.
+fn front_of<A: Allocator + Copy>(world: &World<A>, site: u16) -> Option<Front<A>> {
+    world.replica(site)?.front().ok()
+}
+
+/// A site sends what the empty front lacks.
+fn send_all<A: Allocator + Copy>(alloc: A, site: u16) -> Event<A> {
+    let front = Front::new(alloc);
+    Event::Send { site, front }
+}
+
+/// A site sends what a front lacks that goes as far as this in the first row of site 1.
+fn send_past<A: Allocator + Copy>(alloc: A, site: u16, seq: u64) -> Option<Event<A>> {
+    let front = front_to(alloc, seq)?;
+    Some(Event::Send { site, front })
+}
+
+/// A site sends what another site lacks.
+fn send_to<A: Allocator + Copy>(world: &World<A>, site: u16, other: u16) -> Option<Event<A>> {
+    let front = front_of(world, other)?;
+    Some(Event::Send { site, front })
+}
+
+/// The event of a step, where memory suffices for it.
+fn event_of<A: Allocator + Copy>(alloc: A, world: &World<A>, step: Step) -> Option<Event<A>> {
+    match step {
+        Step::Merged(site, change) => Some(merged(site, change)),
+        Step::Vote(site, value) => vote(alloc, site, value),
+        Step::SendAll(site) => Some(send_all(alloc, site)),
+        Step::SendPast(site, seq) => send_past(alloc, site, seq),
+        Step::SendTo(site, other) => send_to(world, site, other),
+        Step::Deliver(packet, site) => Some(Event::Deliver { packet, site }),
+        Step::Save(site) => Some(Event::Save { site }),
+        Step::Restart(site, start) => Some(Event::Restart { site, start }),
+    }
+}
+
+/// What the world answers to a step.
+fn answer_to(alloc: Global, world: &mut World, step: Step) -> Result<Answer, Fail> {
+    let event = event_of(alloc, world, step).ok_or(MEMORY)?;
+    Ok(world.step(event))
+}
+
+/// The steps have these answers, one after the other.
+fn assert_answers(
+    rt: &impl Abort,
+    alloc: Global,
+    world: &mut World,
+    steps: &[(Step, Answer)],
+) -> Result<(), Fail> {
+    for (number, (step, wanted)) in (1u64..).zip(steps) {
+        let answer = answer_to(alloc, world, *step)?;
+        assert_eq!(rt; answer, *wanted, "step {number}");
+    }
+    Ok(())
+}
+
 /// The answer of an intake.
-fn took(time: u64, site: u16, start: u32, seq: u64) -> Result<Reply, WorldFault> {
+fn took(time: u64, site: u16, start: u32, seq: u64) -> Answer {
     match Stamp::new(time, site, start, seq) {
         Some(stamp) => Ok(Reply::Took(stamp)),
         None => Err(WorldFault::ClockSpent),
@@ -44,7 +134,7 @@ fn took(time: u64, site: u16, start: u32, seq: u64) -> Result<Reply, WorldFault>
 }
 
 /// The answer of a send.
-fn packet(number: u64, count: usize, more: bool) -> Result<Reply, WorldFault> {
+fn packet(number: u64, count: usize, more: bool) -> Answer {
     Ok(Reply::Packet {
         number,
         count,
@@ -52,210 +142,324 @@ fn packet(number: u64, count: usize, more: bool) -> Result<Reply, WorldFault> {
     })
 }
 
-/// How far a site's front goes in the first row of site 1.
-fn reach(world: &World, site: u16) -> Result<u64, Fail> {
-    let front = world.replica(site).ok_or("a site")?.front()?;
-    Ok(front.reach(Row { site: 1, start: 1 }))
+/// The answer of a delivery.
+fn delivered(count: usize) -> Answer {
+    Ok(Reply::Delivered(count))
 }
 
-/// A site sends what another lacks.
-fn send_to(world: &mut World, from: u16, to: u16) -> Result<Result<Reply, WorldFault>, Fail> {
-    let front = world.replica(to).ok_or("a site")?.front()?;
-    Ok(world.step(Event::Send { site: from, front }))
+/// How far a site's front goes in the first row of site 1, where there is such a site.
+fn reach(world: &World, site: u16) -> Option<u64> {
+    Some(front_of(world, site)?.reach(FIRST_ROW))
 }
 
-fn deliver(world: &mut World, packet: u64, site: u16) -> Result<Reply, WorldFault> {
-    world.step(Event::Deliver { packet, site })
+/// The steps have these answers, and then the front of site 2 goes so far in the first row of site 1.
+fn assert_reach(
+    rt: &impl Abort,
+    alloc: Global,
+    world: &mut World,
+    steps: &[(Step, Answer)],
+    wanted: u64,
+) -> Result<(), Fail> {
+    assert_answers(rt, alloc, world, steps)?;
+    assert_eq!(rt; reach(world, 2), Some(wanted));
+    Ok(())
 }
 
 #[test]
 fn fronts_ask_for_what_is_missing(rt: HostRuntime) -> Result<(), Fail> {
     let mut world = World::new(rt.alloc(), 2)?;
-    assert_eq!(rt; world.step(merged(1, 5)), took(1, 1, 1, 1));
-    let front = Front::new(rt.alloc());
-    assert_eq!(rt;
-        world.step(Event::Send { site: 1, front }),
-        packet(1, 1, false)
-    );
-    assert_eq!(rt; world.step(merged(1, 6)), took(2, 1, 1, 2));
-    let mut front = Front::new(rt.alloc());
-    front.raise(Row { site: 1, start: 1 }, 1)?;
-    assert_eq!(rt;
-        world.step(Event::Send { site: 1, front }),
-        packet(2, 1, false)
-    );
-    assert_eq!(rt; deliver(&mut world, 2, 2), Ok(Reply::Delivered(1)));
-    assert_eq!(rt; reach(&world, 2)?, 0);
-    assert_eq!(rt; send_to(&mut world, 1, 2)?, packet(3, 2, false));
-    assert_eq!(rt; deliver(&mut world, 3, 2), Ok(Reply::Delivered(1)));
-    assert_eq!(rt; reach(&world, 2)?, 2);
-    Ok(())
+    let apart = [
+        (Step::Merged(1, 5), took(1, 1, 1, 1)),
+        (Step::SendAll(1), packet(1, 1, false)),
+        (Step::Merged(1, 6), took(2, 1, 1, 2)),
+        (Step::SendPast(1, 1), packet(2, 1, false)),
+        (Step::Deliver(2, 2), delivered(1)),
+    ];
+    let together = [
+        (Step::SendTo(1, 2), packet(3, 2, false)),
+        (Step::Deliver(3, 2), delivered(1)),
+    ];
+    assert_reach(&rt, rt.alloc(), &mut world, &apart, 0)?;
+    assert_reach(&rt, rt.alloc(), &mut world, &together, 2)
+}
+
+/// How many operations a packet has, where there is one of that number.
+fn packet_len(world: &World, number: u64) -> Option<usize> {
+    Some(world.packet(number)?.len())
+}
+
+/// How many operations a site has, where there is one of that number.
+fn site_len<A: Allocator + Copy>(world: &World<A>, site: u16) -> Option<usize> {
+    Some(world.replica(site)?.len())
+}
+
+/// The packet and the site of a number have as many operations, where there are such ones.
+fn assert_lens(
+    rt: &impl Abort,
+    world: &World,
+    number: u16,
+    wanted: (Option<usize>, Option<usize>),
+) {
+    let packet = packet_len(world, u64::from(number));
+    assert_eq!(rt; (packet, site_len(world, number)), wanted);
 }
 
 #[test]
 fn sites_and_packets_are_numbered_from_one(rt: HostRuntime) -> Result<(), Fail> {
     let mut world = World::new(rt.alloc(), 2)?;
-    assert_eq!(rt; world.step(merged(2, 5)), took(1, 2, 1, 1));
-    assert_eq!(rt; send_to(&mut world, 2, 1)?, packet(1, 1, false));
-    assert_eq!(rt; send_to(&mut world, 1, 1)?, packet(2, 0, false));
-    for (number, count) in [(0, None), (1, Some(1)), (2, Some(0)), (3, None)] {
-        assert_eq!(rt; world.packet(number).map(|ops| ops.len()), count);
-    }
-    for (site, count) in [(0, None), (1, Some(0)), (2, Some(1)), (3, None)] {
-        assert_eq!(rt; world.replica(site).map(|replica| replica.len()), count);
+    let steps = [
+        (Step::Merged(2, 5), took(1, 2, 1, 1)),
+        (Step::SendTo(2, 1), packet(1, 1, false)),
+        (Step::SendTo(1, 1), packet(2, 0, false)),
+    ];
+    assert_answers(&rt, rt.alloc(), &mut world, &steps)?;
+    for (number, packets, sites) in [
+        (0, None, None),
+        (1, Some(1), Some(0)),
+        (2, Some(0), Some(1)),
+        (3, None, None),
+    ] {
+        assert_lens(&rt, &world, number, (packets, sites));
     }
     Ok(())
+}
+
+/// Site 1 takes in that change 5 is merged, as often as that.
+fn take_merges(rt: &impl Abort, world: &mut World, count: u64) {
+    for time in 1..count.saturating_add(1) {
+        let answer = world.step(merged(1, 5));
+        assert_eq!(rt; answer, took(time, 1, 1, time));
+    }
 }
 
 #[test]
 fn a_packet_has_256_operations_at_most(rt: HostRuntime) -> Result<(), Fail> {
     let mut world = World::new(rt.alloc(), 2)?;
-    for time in 1..258u64 {
-        assert_eq!(rt; world.step(merged(1, 5)), took(time, 1, 1, time));
+    take_merges(&rt, &mut world, 257);
+    let steps = [
+        (Step::SendTo(1, 2), packet(1, 256, true)),
+        (Step::Deliver(1, 2), delivered(256)),
+        (Step::SendTo(1, 2), packet(2, 1, false)),
+        (Step::Deliver(2, 2), delivered(1)),
+        (Step::Deliver(1, 2), delivered(0)),
+    ];
+    assert_reach(&rt, rt.alloc(), &mut world, &steps, 257)
+}
+
+/// The events of steps.
+fn events_of(alloc: Global, world: &World, steps: &[(Step, Answer)]) -> Result<Vec<Event>, Fail> {
+    let mut events = Vec::new(alloc);
+    for (step, _) in steps {
+        events.push(event_of(alloc, world, *step).ok_or(MEMORY)?)?;
     }
-    assert_eq!(rt; send_to(&mut world, 1, 2)?, packet(1, 256, true));
-    assert_eq!(rt; deliver(&mut world, 1, 2), Ok(Reply::Delivered(256)));
-    assert_eq!(rt; send_to(&mut world, 1, 2)?, packet(2, 1, false));
-    assert_eq!(rt; deliver(&mut world, 2, 2), Ok(Reply::Delivered(1)));
-    assert_eq!(rt; deliver(&mut world, 1, 2), Ok(Reply::Delivered(0)));
-    assert_eq!(rt; reach(&world, 2)?, 257);
+    Ok(events)
+}
+
+/// What the world answers to steps in one run.
+fn answers_to(
+    alloc: Global,
+    world: &mut World,
+    steps: &[(Step, Answer)],
+) -> Result<Vec<Answer>, Fail> {
+    let events = events_of(alloc, world, steps)?;
+    Ok(world.run(events)?)
+}
+
+/// The answers are those of the steps, one after the other.
+fn assert_each(rt: &impl Abort, answers: &[Answer], steps: &[(Step, Answer)]) {
+    for (answer, (_, wanted)) in answers.iter().zip(steps) {
+        assert_eq!(rt; answer, wanted);
+    }
+}
+
+/// The steps have these answers in one run.
+fn assert_run(
+    rt: &impl Abort,
+    alloc: Global,
+    world: &mut World,
+    steps: &[(Step, Answer)],
+) -> Result<(), Fail> {
+    let answers = answers_to(alloc, world, steps)?;
+    assert_eq!(rt; answers.len(), steps.len());
+    assert_each(rt, answers.as_slice(), steps);
     Ok(())
+}
+
+/// Whether a site knows a change, where there is such a site.
+fn knows(world: &World, site: u16, change: u32) -> Option<bool> {
+    Some(world.replica(site)?.change(change).is_some())
+}
+
+/// Of site 1: how far its front goes in its first row, how many operations it has, and whether it knows change 6.
+fn gone_back(world: World) -> (Option<u64>, Option<usize>, Option<bool>) {
+    (reach(&world, 1), site_len(&world, 1), knows(&world, 1, 6))
 }
 
 #[test]
 fn a_restart_goes_back_to_the_save(rt: HostRuntime) -> Result<(), Fail> {
     let mut world = World::new(rt.alloc(), 1)?;
-    let events = vec![in rt.alloc();
-        merged(1, 5),
-        Event::Save { site: 1 },
-        merged(1, 6),
-        Event::Restart { site: 1, start: 1 },
-        Event::Restart { site: 1, start: 2 },
-        merged(1, 7),
-        Event::Restart { site: 2, start: 1 },
-        Event::Deliver { packet: 1, site: 1 },
-        merged(1, 0),
-    ]?;
-    let answers = world.run(events)?;
-    let wanted = [
-        took(1, 1, 1, 1),
-        Ok(Reply::Saved),
-        took(2, 1, 1, 2),
-        Err(WorldFault::StartUsed),
-        Ok(Reply::Restarted),
-        took(2, 1, 2, 1),
-        Err(WorldFault::NoSite),
-        Err(WorldFault::NoPacket),
-        Err(WorldFault::BadBody(BodyFault::BadChange)),
+    let steps = [
+        (Step::Merged(1, 5), took(1, 1, 1, 1)),
+        (Step::Save(1), Ok(Reply::Saved)),
+        (Step::Merged(1, 6), took(2, 1, 1, 2)),
+        (Step::Restart(1, 1), Err(WorldFault::StartUsed)),
+        (Step::Restart(1, 2), Ok(Reply::Restarted)),
+        (Step::Merged(1, 7), took(2, 1, 2, 1)),
+        (Step::Restart(2, 1), Err(WorldFault::NoSite)),
+        (Step::Deliver(1, 1), Err(WorldFault::NoPacket)),
+        (
+            Step::Merged(1, 0),
+            Err(WorldFault::BadBody(BodyFault::BadChange)),
+        ),
     ];
-    assert_eq!(rt; answers.as_slice(), wanted.as_slice());
-    assert_eq!(rt; reach(&world, 1)?, 1);
-    let replica = world.replica(1).ok_or("a site")?;
-    assert_eq!(rt; replica.len(), 2);
-    assert!(rt; replica.change(6).is_none());
+    assert_run(&rt, rt.alloc(), &mut world, &steps)?;
+    assert_eq!(rt; gone_back(world), (Some(1), Some(2), Some(false)));
     Ok(())
 }
 
+/// Steps with several faults, and starts that are used.
+const REFUSED: [(Step, Answer); 8] = [
+    (Step::SendAll(2), Err(WorldFault::NoSite)),
+    (Step::Save(0), Err(WorldFault::NoSite)),
+    (Step::Merged(2, 0), Err(WorldFault::NoSite)),
+    (Step::Deliver(0, 2), Err(WorldFault::NoSite)),
+    (Step::Deliver(0, 1), Err(WorldFault::NoPacket)),
+    (Step::Restart(1, 0), Err(WorldFault::StartUsed)),
+    (Step::Restart(1, u32::MAX), Ok(Reply::Restarted)),
+    (Step::Restart(1, u32::MAX), Err(WorldFault::StartUsed)),
+];
+
 #[test]
 fn the_least_refusal_is_answered(rt: HostRuntime) -> Result<(), Fail> {
-    let mut world = World::new(rt.alloc(), 1)?;
-    let front = Front::new(rt.alloc());
-    assert_eq!(rt;
-        world.step(Event::Send { site: 2, front }),
-        Err(WorldFault::NoSite)
-    );
-    assert_eq!(rt;
-        world.step(Event::Save { site: 0 }),
-        Err(WorldFault::NoSite)
-    );
-    assert_eq!(rt; world.step(merged(2, 0)), Err(WorldFault::NoSite));
-    assert_eq!(rt; deliver(&mut world, 0, 2), Err(WorldFault::NoSite));
-    assert_eq!(rt; deliver(&mut world, 0, 1), Err(WorldFault::NoPacket));
-    for (start, answer) in [
-        (0, Err(WorldFault::StartUsed)),
-        (u32::MAX, Ok(Reply::Restarted)),
-        (u32::MAX, Err(WorldFault::StartUsed)),
-    ] {
-        assert_eq!(rt; world.step(Event::Restart { site: 1, start }), answer);
-    }
     let fault = WorldFault::NoPacket;
-    assert_eq!(rt; fault.number(), 2);
-    assert_eq!(rt; fault.name(), "NoPacket");
+    assert_eq!(rt; (fault.number(), fault.name()), (2, "NoPacket"));
+    let mut world = World::new(rt.alloc(), 1)?;
+    assert_answers(&rt, rt.alloc(), &mut world, &REFUSED)
+}
+
+/// Whether the sites 1 and 2 have equal states, where there are such sites.
+fn have_equal_states(world: &World) -> Option<bool> {
+    Some(world.replica(1)?.same_state(world.replica(2)?))
+}
+
+/// The steps have these answers, and then the sites 1 and 2 have equal states or not.
+fn assert_equal_states(
+    rt: &impl Abort,
+    alloc: Global,
+    world: &mut World,
+    steps: &[(Step, Answer)],
+    wanted: bool,
+) -> Result<(), Fail> {
+    assert_answers(rt, alloc, world, steps)?;
+    assert_eq!(rt; have_equal_states(world), Some(wanted));
     Ok(())
 }
 
 #[test]
 fn sites_that_took_the_same_have_equal_states(rt: HostRuntime) -> Result<(), Fail> {
-    let alloc = rt.alloc();
-    let mut world = World::new(alloc, 2)?;
-    for (site, value) in [(1, 1), (2, 2)] {
-        let event = vote(alloc, site, value).ok_or(MEMORY)?;
-        assert_eq!(rt; world.step(event), took(1, site, 1, 1));
-    }
-    let first = world.replica(1).ok_or("site 1")?;
-    assert!(rt; !first.same_state(world.replica(2).ok_or("site 2")?));
-    assert_eq!(rt; send_to(&mut world, 1, 2)?, packet(1, 1, false));
-    assert_eq!(rt; send_to(&mut world, 2, 1)?, packet(2, 1, false));
-    assert_eq!(rt; deliver(&mut world, 2, 1), Ok(Reply::Delivered(1)));
-    assert_eq!(rt; deliver(&mut world, 1, 2), Ok(Reply::Delivered(1)));
-    assert_eq!(rt; deliver(&mut world, 1, 1), Ok(Reply::Delivered(0)));
-    let first = world.replica(1).ok_or("site 1")?;
-    assert!(rt; first.same_state(world.replica(2).ok_or("site 2")?));
-    Ok(())
+    let mut world = World::new(rt.alloc(), 2)?;
+    let votes = [
+        (Step::Vote(1, 1), took(1, 1, 1, 1)),
+        (Step::Vote(2, 2), took(1, 2, 1, 1)),
+    ];
+    let exchanged = [
+        (Step::SendTo(1, 2), packet(1, 1, false)),
+        (Step::SendTo(2, 1), packet(2, 1, false)),
+        (Step::Deliver(2, 1), delivered(1)),
+        (Step::Deliver(1, 2), delivered(1)),
+        (Step::Deliver(1, 1), delivered(0)),
+    ];
+    assert_equal_states(&rt, rt.alloc(), &mut world, &votes, false)?;
+    assert_equal_states(&rt, rt.alloc(), &mut world, &exchanged, true)
 }
 
 /// How many operations a site has.
 fn count<A: Allocator + Copy>(world: &World<A>, site: u16) -> usize {
-    match world.replica(site) {
-        Some(replica) => replica.len(),
-        None => 0,
-    }
+    site_len(world, site).unwrap_or(0)
+}
+
+/// How many operations the sites 1 and 2 have, and whether there is a packet.
+fn held<A: Allocator + Copy>(world: &World<A>) -> (usize, usize, bool) {
+    (count(world, 1), count(world, 2), world.packet(1).is_some())
 }
 
 /// Lets an event happen that memory may be refused to, and says whether it did. Where it didn't, all is as it was.
 fn happens<A: Allocator + Copy>(rt: &impl Abort, world: &mut World<A>, event: Event<A>) -> bool {
-    let before = (count(world, 1), count(world, 2), world.packet(1).is_some());
-    match world.step(event) {
-        Ok(_) => true,
-        Err(fault) => {
-            let after = (count(world, 1), count(world, 2), world.packet(1).is_some());
-            assert_eq!(rt; fault, WorldFault::NoMemory(0));
-            assert_eq!(rt; after, before);
-            false
-        }
+    let before = held(world);
+    let Err(fault) = world.step(event) else {
+        return true;
+    };
+    assert_eq!(rt; (fault, held(world)), (WorldFault::NoMemory(0), before));
+    false
+}
+
+/// Whether memory suffices for the event of a step and for what it does.
+fn is_done<A: Allocator + Copy>(
+    rt: &impl Abort,
+    alloc: A,
+    world: &mut World<A>,
+    step: Step,
+) -> bool {
+    match event_of(alloc, world, step) {
+        Some(event) => happens(rt, world, event),
+        None => false,
     }
 }
 
-/// Whether a heap of this size suffices for three votes at site 1, a packet of them, its delivery to site 2, and a save
-/// and a restart of that. A refused delivery says how many operations it took.
+/// Whether memory suffices for steps, one after the other.
+fn are_done<A: Allocator + Copy>(
+    rt: &impl Abort,
+    alloc: A,
+    world: &mut World<A>,
+    steps: &[Step],
+) -> bool {
+    for step in steps {
+        if !is_done(rt, alloc, world, *step) {
+            return false;
+        }
+    }
+    true
+}
+
+/// Whether memory suffices to deliver the packet of three operations to site 2. A refused delivery says how many
+/// operations it took.
+fn is_delivered<A: Allocator + Copy>(rt: &impl Abort, world: &mut World<A>) -> bool {
+    let answer = world.step(Event::Deliver { packet: 1, site: 2 });
+    let wanted = match answer {
+        Ok(_) => delivered(3),
+        Err(_) => Err(WorldFault::NoMemory(count(world, 2))),
+    };
+    assert_eq!(rt; answer, wanted);
+    answer.is_ok()
+}
+
+/// Three votes at site 1, and a packet of them.
+const VOTES: [Step; 4] = [
+    Step::Vote(1, 1),
+    Step::Vote(1, 2),
+    Step::Vote(1, 3),
+    Step::SendAll(1),
+];
+
+/// A save and a restart of site 2.
+const SAVED: [Step; 2] = [Step::Save(2), Step::Restart(2, 2)];
+
+/// Whether memory suffices for three votes at site 1, a packet of them, its delivery to site 2, and a save and a
+/// restart of that.
+fn is_passed_on<A: Allocator + Copy>(rt: &impl Abort, alloc: A, world: &mut World<A>) -> bool {
+    are_done(rt, alloc, world, &VOTES)
+        && is_delivered(rt, world)
+        && are_done(rt, alloc, world, &SAVED)
+        && count(world, 2) == 3
+}
+
+/// Whether a heap of this size suffices for what is passed on between two sites.
 fn sufficed(rt: &impl Abort, alloc: Global, size: usize) -> Result<bool, Fail> {
     let heap = LocalHeap::new(alloc, size)?;
-    let Ok(mut world) = World::new(&heap, 2) else {
-        return Ok(false);
-    };
-    for value in [1, 2, 3] {
-        let Some(event) = vote(&heap, 1, value) else {
-            return Ok(false);
-        };
-        if !happens(rt, &mut world, event) {
-            return Ok(false);
-        }
+    match World::new(&heap, 2) {
+        Ok(mut world) => Ok(is_passed_on(rt, &heap, &mut world)),
+        Err(_) => Ok(false),
     }
-    let front = Front::new(&heap);
-    if !happens(rt, &mut world, Event::Send { site: 1, front }) {
-        return Ok(false);
-    }
-    match world.step(Event::Deliver { packet: 1, site: 2 }) {
-        Ok(answer) => assert_eq!(rt; answer, Reply::Delivered(3)),
-        Err(fault) => {
-            assert_eq!(rt; fault, WorldFault::NoMemory(count(&world, 2)));
-            return Ok(false);
-        }
-    }
-    if !happens(rt, &mut world, Event::Save { site: 2 }) {
-        return Ok(false);
-    }
-    Ok(happens(rt, &mut world, Event::Restart { site: 2, start: 2 }) && count(&world, 2) == 3)
 }
 
 #[test]
@@ -270,51 +474,102 @@ fn refused_memory_leaves_what_is_stated(rt: HostRuntime) -> Result<(), Fail> {
     Ok(())
 }
 
-#[test]
-fn a_save_takes_no_memory(rt: HostRuntime) -> Result<(), Fail> {
-    let heap = LocalHeap::new(rt.alloc(), 8192)?;
-    let mut world = World::new(&heap, 1)?;
+/// Site 1 takes in that change 5 is merged, at most 1000 times, until memory is refused.
+fn fill<A: Allocator + Copy>(world: &mut World<A>) {
     for _ in 0..1000u32 {
         if world.step(merged(1, 5)).is_err() {
             break;
         }
     }
+}
+
+/// What the world answers where site 1 is saved, and restarted under start 2.
+fn saved_and_restarted<A: Allocator + Copy>(world: &mut World<A>) -> (Answer, Answer) {
+    let saved = world.step(Event::Save { site: 1 });
+    (saved, world.step(Event::Restart { site: 1, start: 2 }))
+}
+
+/// How many operations site 1 has once memory is refused to it, and how many once it is saved and restarted then.
+fn taken_and_kept<A: Allocator + Copy>(
+    rt: &impl Abort,
+    alloc: A,
+) -> Result<(usize, usize), NoMemory> {
+    let mut world = World::new(alloc, 1)?;
+    fill(&mut world);
     let taken = count(&world, 1);
+    let answers = saved_and_restarted(&mut world);
+    assert_eq!(rt; answers, (Ok(Reply::Saved), Ok(Reply::Restarted)));
+    Ok((taken, count(&world, 1)))
+}
+
+/// The same of a site in a heap of this size.
+fn taken_and_kept_in(rt: &impl Abort, alloc: Global, size: usize) -> Result<(usize, usize), Fail> {
+    let heap = LocalHeap::new(alloc, size)?;
+    Ok(taken_and_kept(rt, &heap)?)
+}
+
+#[test]
+fn a_save_takes_no_memory(rt: HostRuntime) -> Result<(), Fail> {
+    let (taken, kept) = taken_and_kept_in(&rt, rt.alloc(), 8192)?;
     assert!(rt; taken < 1000);
-    assert_eq!(rt; world.step(Event::Save { site: 1 }), Ok(Reply::Saved));
-    assert_eq!(rt;
-        world.step(Event::Restart { site: 1, start: 2 }),
-        Ok(Reply::Restarted)
-    );
-    assert_eq!(rt; count(&world, 1), taken);
+    assert_eq!(rt; kept, taken);
     Ok(())
 }
 
-/// Whether a heap of this size suffices for the answers to a save and a restart of site 1. Where it doesn't, neither
-/// has happened.
+/// The events of two restarts of site 1, where memory suffices for them.
+fn restarts<A: Allocator + Copy>(alloc: A) -> Option<Vec<Event<A>, A>> {
+    let mut events = Vec::new(alloc);
+    for start in [2, 3] {
+        events.push(Event::Restart { site: 1, start }).ok()?;
+    }
+    Some(events)
+}
+
+/// What the world answers where site 1 is restarted under start 2, after two restarts that were answered or not.
+fn wanted_again(answered: bool) -> Answer {
+    match answered {
+        true => Err(WorldFault::StartUsed),
+        false => Ok(Reply::Restarted),
+    }
+}
+
+/// The answers to two restarts are that both are done.
+fn assert_both_done<A: Allocator + Copy>(rt: &impl Abort, answers: Vec<Answer, A>) {
+    assert_eq!(rt;
+        answers.as_slice(),
+        [Ok(Reply::Restarted), Ok(Reply::Restarted)].as_slice()
+    );
+}
+
+/// Whether memory suffices for the answers to two restarts. Where it doesn't, neither has happened: while the answers
+/// are kept, site 1 is restarted again.
+fn is_answered<A: Allocator + Copy>(
+    rt: &impl Abort,
+    world: &mut World<A>,
+    events: Vec<Event<A>, A>,
+) -> bool {
+    let answers = world.run(events).ok();
+    let again = world.step(Event::Restart { site: 1, start: 2 });
+    assert_eq!(rt; again, wanted_again(answers.is_some()));
+    match answers {
+        Some(answers) => {
+            assert_both_done(rt, answers);
+            true
+        }
+        None => false,
+    }
+}
+
+/// Whether a heap of this size suffices for a world, for two restarts of its site and for the answers to them.
 fn answered(rt: &impl Abort, alloc: Global, size: usize) -> Result<bool, Fail> {
     let heap = LocalHeap::new(alloc, size)?;
     let Ok(mut world) = World::new(&heap, 1) else {
         return Ok(false);
     };
-    let mut events = Vec::new(&heap);
-    for start in [2, 3] {
-        if events.push(Event::Restart { site: 1, start }).is_err() {
-            return Ok(false);
-        }
+    match restarts(&heap) {
+        Some(events) => Ok(is_answered(rt, &mut world, events)),
+        None => Ok(false),
     }
-    let answers = world.run(events);
-    let again = world.step(Event::Restart { site: 1, start: 2 });
-    let Ok(answers) = answers else {
-        assert_eq!(rt; again, Ok(Reply::Restarted));
-        return Ok(false);
-    };
-    assert_eq!(rt;
-        answers.as_slice(),
-        [Ok(Reply::Restarted), Ok(Reply::Restarted)].as_slice()
-    );
-    assert_eq!(rt; again, Err(WorldFault::StartUsed));
-    Ok(true)
 }
 
 #[test]
