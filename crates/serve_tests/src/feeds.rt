@@ -1,5 +1,6 @@
 //! Feeds of sites that answer by a script, in this process or over sockets of this machine.
 
+use super::sites::listening;
 use byte_ends::{Broken, Ends};
 use event_feed::FeedFault;
 use feed_client::{
@@ -14,6 +15,7 @@ use std::io::{Read, Write};
 use std::net::{Net, TcpListener, TcpStream};
 use std::process::Abort;
 use std::test::Fail;
+use std::thread::Threads;
 use std::time::Clock;
 use std::{io, thread};
 
@@ -196,58 +198,55 @@ fn faults_have_numbers(rt: HostRuntime) {
     }
 }
 
+/// What the session of a site may answer, beside the greatest stamp, and how each is read.
+const ANSWERS: [(&str, IntakeFault); 14] = [
+    ("no 5 NoMemory", IntakeFault::Refused(Refusal::NoMemory)),
+    ("no 7 BadText", IntakeFault::Refused(Refusal::BadText)),
+    ("no 8 BadBody", IntakeFault::Refused(Refusal::BadBody)),
+    ("no 9 ClockSpent", IntakeFault::Refused(Refusal::ClockSpent)),
+    ("no 10 Closed", IntakeFault::Refused(Refusal::Closed)),
+    ("", IntakeFault::Ended),
+    ("ok", IntakeFault::Ended),
+    ("ok 1,2,3", IntakeFault::Ended),
+    ("ok 1,2,3,0", IntakeFault::Ended),
+    ("ok 01,2,3,4", IntakeFault::Ended),
+    ("ok +1,2,3,4", IntakeFault::Ended),
+    ("ok 1,2,3,4,5", IntakeFault::Ended),
+    ("no 11 Else", IntakeFault::Ended),
+    ("bye", IntakeFault::Ended),
+];
+
 #[test]
 fn answers_are_read(rt: HostRuntime) -> Result<(), Fail> {
-    let alloc = rt.alloc();
     let stamp = Stamp::new(18446744073709551615, 65535, 4294967295, 1).ok_or("stamp")?;
     let line = b"ok 18446744073709551615,65535,4294967295,1";
-    assert_eq!(rt; read_answer(alloc, line), Ok(stamp));
-    for (line, refusal) in [
-        ("no 5 NoMemory", Refusal::NoMemory),
-        ("no 7 BadText", Refusal::BadText),
-        ("no 8 BadBody", Refusal::BadBody),
-        ("no 9 ClockSpent", Refusal::ClockSpent),
-        ("no 10 Closed", Refusal::Closed),
-    ] {
-        let refused = Err(IntakeFault::Refused(refusal));
-        assert_eq!(rt; read_answer(alloc, line.as_bytes()), refused);
-    }
-    for line in [
-        "",
-        "ok",
-        "ok 1,2,3",
-        "ok 1,2,3,0",
-        "ok 01,2,3,4",
-        "ok +1,2,3,4",
-        "ok 1,2,3,4,5",
-        "no 11 Else",
-        "bye",
-    ] {
-        assert_eq!(rt;
-            read_answer(alloc, line.as_bytes()),
-            Err(IntakeFault::Ended)
-        );
+    assert_eq!(rt; read_answer(rt.alloc(), line), Ok(stamp));
+    for (line, fault) in ANSWERS {
+        assert_eq!(rt; read_answer(rt.alloc(), line.as_bytes()), Err(fault));
     }
     Ok(())
 }
 
+/// Words after `events`, and what they ask for.
+const WORDS: [(&[&str], EventWords); 11] = [
+    (&[], EventWords::Output),
+    (&["--to", "8101"], EventWords::To(8101)),
+    (&["--to=65535"], EventWords::To(65535)),
+    (&["--to", "0"], EventWords::Usage),
+    (&["--to", "65536"], EventWords::Usage),
+    (&["--to", ""], EventWords::Usage),
+    (&["--port", "1"], EventWords::Usage),
+    (&["--help"], EventWords::Help),
+    (&["--to"], EventWords::Usage),
+    (&["x=1"], EventWords::Usage),
+    (&["--to", "1", "2"], EventWords::Usage),
+];
+
 #[test]
 fn words_ask_for_a_port(rt: HostRuntime) {
-    assert_eq!(rt; read_event_words::<&str>(&[]), EventWords::Output);
-    assert_eq!(rt; read_event_words(&["--to", "8101"]), EventWords::To(8101));
-    assert_eq!(rt; read_event_words(&["--to=65535"]), EventWords::To(65535));
-    for words in [
-        ["--to", "0"],
-        ["--to", "65536"],
-        ["--to", ""],
-        ["--port", "1"],
-    ] {
-        assert_eq!(rt; read_event_words(words.as_slice()), EventWords::Usage);
+    for (words, wanted) in WORDS {
+        assert_eq!(rt; read_event_words(words), wanted);
     }
-    assert_eq!(rt; read_event_words(&["--help"]), EventWords::Help);
-    assert_eq!(rt; read_event_words(&["--to"]), EventWords::Usage);
-    assert_eq!(rt; read_event_words(&["x=1"]), EventWords::Usage);
-    assert_eq!(rt; read_event_words(&["--to", "1", "2"]), EventWords::Usage);
 }
 
 /// Feeds the events to the site at a port. How that ended, and what was reported.
@@ -275,31 +274,36 @@ fn go_away(listener: TcpListener, answer: &str) -> io::Result<()> {
     Ok(())
 }
 
+/// How a feed of the events ends whose site goes with this answer, and what is reported.
+fn feed_that_ends<R>(rt: &R, answer: &str) -> io::Result<(Result<(), ClientFault>, Vec<u8>)>
+where
+    R: Clock + Net<Listener = TcpListener, Stream = TcpStream> + Threads + Sync + AllocGlobal,
+{
+    let (listener, port) = listening(rt)?;
+    let (gone, fed) = thread::join(
+        rt,
+        || go_away(listener, answer),
+        || feed(rt, rt.alloc(), port),
+    );
+    gone?;
+    Ok(fed)
+}
+
 #[test]
 fn the_end_of_a_site_ends_the_feed(rt: HostRuntime) -> Result<(), Fail> {
-    let alloc = rt.alloc();
     for answer in ["", "what\n", "ok 1,2,3,"] {
-        let listener = TcpListener::bind(&rt, "127.0.0.1:0")?;
-        let port = listener.local_addr()?.port();
-        let (gone, (ended, errors)) = thread::join(
-            &rt,
-            || go_away(listener, answer),
-            || feed(&rt, alloc, port),
-        );
+        let (ended, errors) = feed_that_ends(&rt, answer)?;
         assert_eq!(rt; ended, Err(ClientFault::Ended));
         assert!(rt; errors.is_empty());
-        gone?;
     }
     Ok(())
 }
 
 #[test]
 fn a_port_without_a_site_is_refused(rt: HostRuntime) -> Result<(), Fail> {
-    let alloc = rt.alloc();
-    let listener = TcpListener::bind(&rt, "127.0.0.1:0")?;
-    let port = listener.local_addr()?.port();
+    let (listener, port) = listening(&rt)?;
     drop(listener);
-    let (ended, errors) = feed(&rt, alloc, port);
+    let (ended, errors) = feed(&rt, rt.alloc(), port);
     assert_eq!(rt; ended, Err(ClientFault::NoSite));
     assert!(rt; errors.is_empty());
     Ok(())

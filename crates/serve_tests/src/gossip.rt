@@ -1,8 +1,8 @@
 //! Sites that pull from each other, and others that don't answer, don't read or don't go.
 
-use super::sites::{NoTurn, one_session, run_one, stall, talk};
+use super::sites::{NoTurn, ending, listening, pulling, run_one, stall, talk, text_of};
 use site_net::Stop;
-use site_serve::{Served, Setup};
+use site_serve::{ServeFault, Served, Setup};
 use std::alloc::Global;
 use std::io::Write;
 use std::net::{Net, TcpListener, TcpStream};
@@ -39,10 +39,8 @@ const BOTH: &str = "hello 2\n\
 
 /// A site without end, with two workers, that pulls from the peer at a port.
 fn with_peer(alloc: Global, site: u16, peer: u16) -> Result<Setup, Fail> {
-    let mut setup = one_session(alloc, site)?;
-    setup.sessions = 0;
+    let mut setup = pulling(alloc, site, &[peer])?;
     setup.workers = 2;
-    setup.peers.push(peer)?;
     Ok(setup)
 }
 
@@ -81,34 +79,59 @@ fn come_to_agree<R: Net<Listener = TcpListener, Stream = TcpStream> + Wait + Clo
         && comes_to_answer(rt, alloc, other, ALL, BOTH)
 }
 
-#[test]
-fn two_sites_that_pull_from_each_other_answer_alike(rt: HostRuntime) -> Result<(), Fail> {
-    let alloc = rt.alloc();
-    let (first, second) = (
-        TcpListener::bind(&rt, "127.0.0.1:0")?,
-        TcpListener::bind(&rt, "127.0.0.1:0")?,
-    );
-    let (one, other) = (first.local_addr()?.port(), second.local_addr()?.port());
-    let (here, there) = (with_peer(alloc, 1, other)?, with_peer(alloc, 2, one)?);
+/// Runs two sites that pull from each other until clients of both are answered alike: whether they were, and whether
+/// both sites then had equal states.
+fn run_two<R>(
+    rt: &R,
+    alloc: Global,
+    first: (TcpListener, Setup),
+    second: (TcpListener, Setup),
+    ports: (u16, u16),
+) -> (bool, bool)
+where
+    R: Net<Listener = TcpListener, Stream = TcpStream> + Threads + Wait + Clock + Sync,
+{
     let (stop, stops) = (Stop::new(), Stop::new());
     let (served, (pulled, agree)) = thread::join(
-        &rt,
-        || run_one(&rt, alloc, first, here, &stop, &NoTurn),
+        rt,
+        || run_one(rt, alloc, first.0, first.1, &stop, &NoTurn),
         || {
             thread::join(
-                &rt,
-                || run_one(&rt, alloc, second, there, &stops, &NoTurn),
+                rt,
+                || run_one(rt, alloc, second.0, second.1, &stops, &NoTurn),
                 || {
-                    let agree = come_to_agree(&rt, alloc, one, other);
-                    stop.ask(&rt);
-                    stops.ask(&rt);
+                    let agree = come_to_agree(rt, alloc, ports.0, ports.1);
+                    stop.ask(rt);
+                    stops.ask(rt);
                     agree
                 },
             )
         },
     );
-    assert!(rt; agree);
-    assert!(rt; served?.replica.same_state(&pulled?.replica));
+    (agree, have_equal_states(served, pulled))
+}
+
+/// Whether two sites ended with equal states.
+fn have_equal_states(one: Result<Served, ServeFault>, other: Result<Served, ServeFault>) -> bool {
+    match (one, other) {
+        (Ok(one), Ok(other)) => one.replica.same_state(&other.replica),
+        _ => false,
+    }
+}
+
+#[test]
+fn two_sites_that_pull_from_each_other_answer_alike(rt: HostRuntime) -> Result<(), Fail> {
+    let ((first, one), (second, other)) = (listening(&rt)?, listening(&rt)?);
+    let here = with_peer(rt.alloc(), 1, other)?;
+    let there = with_peer(rt.alloc(), 2, one)?;
+    let found = run_two(
+        &rt,
+        rt.alloc(),
+        (first, here),
+        (second, there),
+        (one, other),
+    );
+    assert_eq!(rt; found, (true, true));
     Ok(())
 }
 
@@ -148,48 +171,51 @@ where
 fn a_client_that_never_reads_and_a_mute_peer_hold_no_other(rt: HostRuntime) -> Result<(), Fail> {
     let alloc = rt.alloc();
     // Who connects to it waits for ever: nobody accepts.
-    let mute = TcpListener::bind(&rt, "127.0.0.1:0")?;
-    let listener = TcpListener::bind(&rt, "127.0.0.1:0")?;
-    let port = listener.local_addr()?.port();
-    let setup = with_peer(alloc, 1, mute.local_addr()?.port())?;
+    let (_mute, nobody) = listening(&rt)?;
+    let (listener, port) = listening(&rt)?;
+    let setup = with_peer(alloc, 1, nobody)?;
     let stop = Stop::new();
-    let (served, answers) = thread::join(
+    let (ended, answers) = thread::join(
         &rt,
-        || run_one(&rt, alloc, listener, setup, &stop, &NoTurn),
+        || ending(run_one(&rt, alloc, listener, setup, &stop, &NoTurn)),
         || talk_beside_deaf(&rt, alloc, port, &stop),
     );
-    assert_eq!(rt; answers?.as_str(), "hello 2\nbye\n");
-    assert!(rt; served?.written);
+    assert_eq!(rt; text_of(&answers), "hello 2\nbye\n");
+    assert!(rt; matches!(ended, Some((_, true, _))));
     Ok(())
 }
 
-/// How long a site with an idle client and a mute peer takes to end once it is asked to.
+/// When a site was asked to end, beside an idle client and after another that it answered.
+fn ask_to_end<R>(rt: &R, alloc: Global, port: u16, stop: &Stop) -> io::Result<Instant>
+where
+    R: Net<Listener = TcpListener, Stream = TcpStream> + Wait + Clock,
+{
+    let idle = stall(rt, port, "hello 2\n");
+    let answers = talk(rt, alloc, port, "hello 2\nquit\n");
+    let asked = Instant::now(rt);
+    stop.ask(rt);
+    let _ended = (idle?, answers?);
+    asked
+}
+
+/// How long a site with an idle client and a mute peer takes to end once it is asked to, if its reports were written.
 fn time_to_end<R>(rt: &R, alloc: Global) -> Result<Duration, Fail>
 where
     R: Net<Listener = TcpListener, Stream = TcpStream> + Threads + Wait + Clock + Sync,
 {
-    let mute = TcpListener::bind(rt, "127.0.0.1:0")?;
-    let listener = TcpListener::bind(rt, "127.0.0.1:0")?;
-    let port = listener.local_addr()?.port();
-    let setup = with_peer(alloc, 1, mute.local_addr()?.port())?;
+    let (_mute, nobody) = listening(rt)?;
+    let (listener, port) = listening(rt)?;
+    let setup = with_peer(alloc, 1, nobody)?;
     let stop = Stop::new();
-    let (served, asked) = thread::join(
+    let (ended, asked) = thread::join(
         rt,
-        || run_one(rt, alloc, listener, setup, &stop, &NoTurn),
-        || {
-            let idle = stall(rt, port, "hello 2\n");
-            let answers = talk(rt, alloc, port, "hello 2\nquit\n");
-            let asked = Instant::now(rt);
-            stop.ask(rt);
-            let _ended = (idle?, answers?);
-            asked
-        },
+        || ending(run_one(rt, alloc, listener, setup, &stop, &NoTurn)),
+        || ask_to_end(rt, alloc, port, &stop),
     );
-    let Served { written, .. } = served?;
-    if !written {
-        return Err(Fail::from("reports weren't written"));
+    match ended {
+        Some((_, true, _)) => Ok(asked?.elapsed(rt)?),
+        _ => Err(Fail::from("reports weren't written")),
     }
-    Ok(asked?.elapsed(rt)?)
 }
 
 // The quickest of three: the machine may be busy with others.

@@ -1,11 +1,11 @@
 //! `serve` by words, over files and sockets of this machine.
 
+use super::sites::listening;
 use byte_ends::Ends;
 use serve_command::{Ended, serve};
 use site_journal::JournalFault;
 use site_serve::ServeFault;
 use std::alloc::{AllocError, Global};
-use std::fs;
 use std::fs::{File, OpenOptions};
 use std::io::Print;
 use std::net::{Net, TcpListener, TcpStream};
@@ -15,6 +15,7 @@ use std::sync::Wait;
 use std::test::Fail;
 use std::thread::Threads;
 use std::time::Clock;
+use std::{fs, io};
 
 /// A gate file.
 const GATE: &str = "{\"bases\":[\"https://review.example.org/\"]}";
@@ -25,6 +26,10 @@ const SNAPSHOT: &[u8] =
 
 const JOURNAL: &[u8] =
     b"reviewgate 2\n{\"change\":5,\"op\":\"merged\",\"seq\":1,\"site\":1,\"start\":2,\"time\":1}\n";
+
+/// That journal with a part of a line at its end.
+const TORN: &[u8] =
+    b"reviewgate 2\n{\"change\":5,\"op\":\"merged\",\"seq\":1,\"site\":1,\"start\":2,\"time\":1}\n{\"change\":5,";
 
 /// Words as the command line hands them over.
 fn words_of(alloc: Global, words: &[&str]) -> Result<Vec<String>, AllocError> {
@@ -48,6 +53,26 @@ where
     Ok(serve(rt, rt.alloc(), words.as_slice(), input, errors))
 }
 
+/// How a site ends with its input that keeps a journal in the file of this name.
+fn serve_journal<R>(rt: R, name: &str) -> Result<Ended, AllocError>
+where
+    R: Net<Listener = TcpListener, Stream = TcpStream>,
+    R: Files<File = File> + Print + Threads + Wait + Clock + AllocGlobal,
+    R: Copy + Send + Sync + 'static,
+{
+    serve_input(
+        rt,
+        &["-", "--site", "1", "--journal", name, "--until-input-ends"],
+    )
+}
+
+/// The contents of a file, which is then removed.
+fn take_away<R: Files<File = File> + AllocGlobal>(rt: &R, name: &str) -> io::Result<Vec<u8>> {
+    let contents = fs::read(rt, name)?;
+    fs::remove_file(rt, name)?;
+    Ok(contents)
+}
+
 #[test]
 fn words_that_ask_for_no_site_are_misuse(rt: HostRuntime) -> Result<(), Fail> {
     let ended = serve_input(rt, &["-", "--site", "0", "--start", "1"])?;
@@ -62,13 +87,24 @@ fn a_gate_file_that_is_not_there_is_refused(rt: HostRuntime) -> Result<(), Fail>
     Ok(())
 }
 
+/// How a site ends that is to listen at this port.
+fn serve_at<R>(rt: R, port: u16) -> Result<Ended, AllocError>
+where
+    R: Net<Listener = TcpListener, Stream = TcpStream>,
+    R: Files<File = File> + Print + Threads + Wait + Clock + AllocGlobal,
+    R: Copy + Send + Sync + 'static,
+{
+    let port = format!(in rt.alloc(); "{port}")?;
+    serve_input(
+        rt,
+        &["-", "--site", "1", "--start", "1", "--port", port.as_str()],
+    )
+}
+
 #[test]
 fn a_port_that_is_taken_is_refused(rt: HostRuntime) -> Result<(), Fail> {
-    let listener = TcpListener::bind(&rt, "127.0.0.1:0")?;
-    let port = listener.local_addr()?.port();
-    let port = format!(in rt.alloc(); "{port}")?;
-    let words = ["-", "--site", "1", "--start", "1", "--port", port.as_str()];
-    let ended = serve_input(rt, words.as_slice())?;
+    let (_listener, port) = listening(&rt)?;
+    let ended = serve_at(rt, port)?;
     assert!(rt; matches!(&ended, Ended::Site(ServeFault::NoBind)));
     Ok(())
 }
@@ -101,86 +137,72 @@ fn a_record_that_cannot_be_saved_is_a_fault(rt: HostRuntime) -> Result<(), Fail>
     Ok(())
 }
 
-#[test]
-fn a_journal_gets_what_a_snapshot_has_once(rt: HostRuntime) -> Result<(), Fail> {
-    fs::write(&rt, "given.tmp", SNAPSHOT)?;
-    let words = [
+/// Whether a site ends well with its input that keeps a journal and is given a snapshot.
+fn adds_to_journal<R>(rt: R, journal: &str, snapshot: &str) -> Result<bool, AllocError>
+where
+    R: Net<Listener = TcpListener, Stream = TcpStream>,
+    R: Files<File = File> + Print + Threads + Wait + Clock + AllocGlobal,
+    R: Copy + Send + Sync + 'static,
+{
+    let site = [
         "-",
         "--site",
         "1",
         "--journal",
-        "added.tmp",
+        journal,
         "--load",
-        "given.tmp",
+        snapshot,
         "--until-input-ends",
     ];
-    for _ in 0..2 {
-        let ended = serve_input(rt, words.as_slice())?;
-        assert!(rt; matches!(&ended, Ended::Well));
-        assert_eq!(rt; fs::read(&rt, "added.tmp")?.as_slice(), JOURNAL);
-    }
+    let ended = serve_input(rt, site.as_slice())?;
+    Ok(matches!(&ended, Ended::Well))
+}
+
+#[test]
+fn a_journal_gets_what_a_snapshot_has_once(rt: HostRuntime) -> Result<(), Fail> {
+    fs::write(&rt, "given.tmp", SNAPSHOT)?;
+    assert!(rt; adds_to_journal(rt, "added.tmp", "given.tmp")?);
+    assert_eq!(rt; fs::read(&rt, "added.tmp")?.as_slice(), JOURNAL);
+    assert!(rt; adds_to_journal(rt, "added.tmp", "given.tmp")?);
+    assert_eq!(rt; take_away(&rt, "added.tmp")?.as_slice(), JOURNAL);
     fs::remove_file(&rt, "given.tmp")?;
-    fs::remove_file(&rt, "added.tmp")?;
     Ok(())
 }
 
 #[test]
 fn a_torn_line_is_cut_off(rt: HostRuntime) -> Result<(), Fail> {
-    let mut torn = JOURNAL.to_vec(rt.alloc())?;
-    torn.extend_from_slice(b"{\"change\":5,")?;
-    fs::write(&rt, "torn.tmp", torn.as_slice())?;
-    let words = [
-        "-",
-        "--site",
-        "1",
-        "--journal",
-        "torn.tmp",
-        "--until-input-ends",
-    ];
-    let ended = serve_input(rt, words.as_slice())?;
+    fs::write(&rt, "torn.tmp", TORN)?;
+    let ended = serve_journal(rt, "torn.tmp")?;
     assert!(rt; matches!(&ended, Ended::Well));
-    assert_eq!(rt; fs::read(&rt, "torn.tmp")?.as_slice(), JOURNAL);
-    fs::remove_file(&rt, "torn.tmp")?;
+    assert_eq!(rt; take_away(&rt, "torn.tmp")?.as_slice(), JOURNAL);
     Ok(())
 }
 
 #[test]
 fn another_file_is_no_journal_and_stays(rt: HostRuntime) -> Result<(), Fail> {
     fs::write(&rt, "other.tmp", SNAPSHOT)?;
-    let words = [
-        "-",
-        "--site",
-        "1",
-        "--journal",
-        "other.tmp",
-        "--until-input-ends",
-    ];
-    let ended = serve_input(rt, words.as_slice())?;
+    let ended = serve_journal(rt, "other.tmp")?;
     assert!(rt; matches!(&ended, Ended::Journal(JournalFault::BadLine(3, _))));
-    assert_eq!(rt; fs::read(&rt, "other.tmp")?.as_slice(), SNAPSHOT);
-    fs::remove_file(&rt, "other.tmp")?;
+    assert_eq!(rt; take_away(&rt, "other.tmp")?.as_slice(), SNAPSHOT);
     Ok(())
+}
+
+/// A file that another process may not lock meanwhile.
+fn locked<R: Files<File = File>>(rt: &R, name: &str) -> Result<File, Fail> {
+    let held = OpenOptions::new().append(true).create(true).open(rt, name)?;
+    match held.try_lock() {
+        Ok(()) => Ok(held),
+        Err(_) => Err(Fail::from("the file is locked already")),
+    }
 }
 
 #[test]
 fn a_journal_is_one_process_s(rt: HostRuntime) -> Result<(), Fail> {
-    let held = OpenOptions::new()
-        .append(true)
-        .create(true)
-        .open(&rt, "held.tmp")?;
-    assert!(rt; held.try_lock().is_ok());
-    let words = [
-        "-",
-        "--site",
-        "1",
-        "--journal",
-        "held.tmp",
-        "--until-input-ends",
-    ];
-    let ended = serve_input(rt, words.as_slice())?;
+    let held = locked(&rt, "held.tmp")?;
+    let ended = serve_journal(rt, "held.tmp")?;
     assert!(rt; matches!(&ended, Ended::Site(ServeFault::Locked)));
     drop(held);
-    let ended = serve_input(rt, words.as_slice())?;
+    let ended = serve_journal(rt, "held.tmp")?;
     assert!(rt; matches!(&ended, Ended::Well));
     fs::remove_file(&rt, "held.tmp")?;
     Ok(())

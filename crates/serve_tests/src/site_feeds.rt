@@ -1,12 +1,13 @@
 //! Feeds of sites that run, over sockets of this machine.
 
 use super::feeds::{BAD_LINE, feed};
+use super::sites::{NoTurn, listening};
 use byte_ends::Ends;
 use gate_rules::Gate;
 use op_text::read_op;
 use replica_core::Replica;
 use site_net::Stop;
-use site_serve::{Served, Setup, Turn, serve_run};
+use site_serve::{Setup, serve_run};
 use std::alloc::Global;
 use std::net::{Net, TcpListener, TcpStream};
 use std::process::Abort;
@@ -16,27 +17,17 @@ use std::thread;
 use std::thread::Threads;
 use std::time::Clock;
 
-/// Nothing is done before and after a session.
-#[derive(Drop)]
-struct NoTurn;
-
-impl Turn for NoTurn {
-    fn enter(&self, _session: u64) {}
-
-    fn left(&self, _session: u64) {}
-}
-
 /// A gate that wants nothing.
 const GATE: &[u8] = br#"{"bases":["https://review.example.org/"]}"#;
 
-/// Runs a site under start 1 over a record for so many sessions.
+/// Runs a site under start 1 over a record for so many sessions: how many operations it has at its end.
 fn run_site<R>(
     rt: &R,
     alloc: Global,
     listener: TcpListener,
     replica: Replica,
     sessions: u64,
-) -> Result<Served, Fail>
+) -> Result<usize, Fail>
 where
     R: Net<Listener = TcpListener, Stream = TcpStream> + Threads + Wait + Clock + Sync,
 {
@@ -53,23 +44,22 @@ where
     };
     let (output, errors) = (Ends::new(Vec::new(alloc)), Ends::new(Vec::new(alloc)));
     let stop = Stop::new();
-    Ok(serve_run(rt, alloc, listener, setup, &stop, output, errors, &NoTurn)?)
+    let served = serve_run(rt, alloc, listener, setup, &stop, output, errors, &NoTurn)?;
+    Ok(served.replica.len())
 }
 
 #[test]
 fn a_site_has_what_it_was_fed_and_nothing_twice(rt: HostRuntime) -> Result<(), Fail> {
     let alloc = rt.alloc();
-    let listener = TcpListener::bind(&rt, "127.0.0.1:0")?;
-    let port = listener.local_addr()?.port();
-    let (served, (first, again)) = thread::join(
+    let (listener, port) = listening(&rt)?;
+    let (operations, (first, again)) = thread::join(
         &rt,
         || run_site(&rt, alloc, listener, Replica::new(alloc), 4),
         || (feed(&rt, alloc, port), feed(&rt, alloc, port)),
     );
-    assert_eq!(rt; first.0, Ok(()));
+    assert_eq!(rt; (first.0, again.0), (Ok(()), Ok(())));
     assert_eq!(rt; first.1.as_slice(), BAD_LINE.as_bytes());
-    assert_eq!(rt; again.0, Ok(()));
-    assert_eq!(rt; served?.replica.len(), 4);
+    assert_eq!(rt; operations?, 4);
     Ok(())
 }
 
@@ -77,14 +67,19 @@ fn a_site_has_what_it_was_fed_and_nothing_twice(rt: HostRuntime) -> Result<(), F
 const LAST: &[u8] =
     br#"{"change":5,"op":"merged","seq":1,"site":2,"start":2,"time":18446744073709551615}"#;
 
+/// A record that has it.
+fn at_the_last_time(alloc: Global) -> Result<Replica, Fail> {
+    let mut replica = Replica::new(alloc);
+    let _taken = replica.take(read_op(alloc, LAST)?)?;
+    Ok(replica)
+}
+
 #[test]
 fn a_refusal_is_reported_with_its_line(rt: HostRuntime) -> Result<(), Fail> {
     let alloc = rt.alloc();
-    let listener = TcpListener::bind(&rt, "127.0.0.1:0")?;
-    let port = listener.local_addr()?.port();
-    let mut replica = Replica::new(alloc);
-    let _taken = replica.take(read_op(alloc, LAST)?)?;
-    let (served, (ended, errors)) = thread::join(
+    let (listener, port) = listening(&rt)?;
+    let replica = at_the_last_time(alloc)?;
+    let (operations, (ended, errors)) = thread::join(
         &rt,
         || run_site(&rt, alloc, listener, replica, 2),
         || feed(&rt, alloc, port),
@@ -101,6 +96,6 @@ fn a_refusal_is_reported_with_its_line(rt: HostRuntime) -> Result<(), Fail> {
         )
         .as_bytes()
     );
-    assert_eq!(rt; served?.replica.len(), 1);
+    assert_eq!(rt; operations?, 1);
     Ok(())
 }

@@ -88,41 +88,86 @@ pub fn talk<R: Net<Listener = TcpListener, Stream = TcpStream>>(
     io::read_to_string(alloc, stream)
 }
 
-#[test]
-fn a_client_takes_a_patch_set_and_reads_its_report(rt: HostRuntime) -> Result<(), Fail> {
-    let alloc = rt.alloc();
-    let listener = TcpListener::bind(&rt, "127.0.0.1:0")?;
+/// A listener at a port of the system's choice, and that port.
+pub fn listening<R>(rt: &R) -> io::Result<(TcpListener, u16)>
+where
+    R: Net<Listener = TcpListener, Stream = TcpStream>,
+{
+    let listener = TcpListener::bind(rt, "127.0.0.1:0")?;
     let port = listener.local_addr()?.port();
-    let setup = one_session(alloc, 1)?;
-    let stop = Stop::new();
-    let lines =
-        "hello 2\ntake {\"change\":101,\"message\":\"m\",\"op\":\"patchset\",\"set\":1}\nready\nquit\n";
-    let (served, answers) = thread::join(
-        &rt,
-        || run_one(&rt, alloc, listener, setup, &stop, &NoTurn),
-        || talk(&rt, alloc, port, lines),
-    );
-    assert_eq!(rt;
-        answers?.as_str(),
-        "hello 2\nok 1,1,1,1\nout 101,1 require approval 1\nend 0 1\nbye\n"
-    );
+    Ok((listener, port))
+}
+
+/// How a site ended: how many operations it had, whether all reports were written, and whether its start was taken.
+pub fn ending(served: Result<Served, ServeFault>) -> Option<(usize, bool, bool)> {
     let Served {
         replica,
         written,
         is_start_taken,
-    } = served?;
-    assert_eq!(rt; replica.len(), 1);
-    assert!(rt; written && !is_start_taken);
+    } = served.ok()?;
+    Some((replica.len(), written, is_start_taken))
+}
+
+/// The text of an answer.
+pub fn text_of(answers: &io::Result<String>) -> &str {
+    match answers {
+        Ok(text) => text.as_str(),
+        Err(_) => "no answer",
+    }
+}
+
+/// How a site ended, and what was answered beside it.
+#[derive(Drop)]
+struct Ran {
+    ending: Option<(usize, bool, bool)>,
+    answers: io::Result<String>,
+}
+
+/// Runs a site for one session, of these lines: what they are answered, and how the site ended.
+fn run_session<R, T>(rt: &R, alloc: Global, setup: Setup, turn: &T, lines: &str) -> io::Result<Ran>
+where
+    R: Net<Listener = TcpListener, Stream = TcpStream> + Threads + Wait + Clock + Sync,
+    T: Turn + Sync,
+{
+    let (listener, port) = listening(rt)?;
+    let stop = Stop::new();
+    let (served, answers) = thread::join(
+        rt,
+        || run_one(rt, alloc, listener, setup, &stop, turn),
+        || talk(rt, alloc, port, lines),
+    );
+    Ok(Ran {
+        ending: ending(served),
+        answers,
+    })
+}
+
+#[test]
+fn a_client_takes_a_patch_set_and_reads_its_report(rt: HostRuntime) -> Result<(), Fail> {
+    let lines =
+        "hello 2\ntake {\"change\":101,\"message\":\"m\",\"op\":\"patchset\",\"set\":1}\nready\nquit\n";
+    let setup = one_session(rt.alloc(), 1)?;
+    let ran = run_session(&rt, rt.alloc(), setup, &NoTurn, lines)?;
+    assert_eq!(rt; ran.ending, Some((1, true, false)));
+    assert_eq!(rt;
+        text_of(&ran.answers),
+        "hello 2\nok 1,1,1,1\nout 101,1 require approval 1\nend 0 1\nbye\n"
+    );
     Ok(())
+}
+
+/// A site under the start of the merge that it has.
+fn with_used_start(alloc: Global) -> Result<Setup, Fail> {
+    let mut setup = one_session(alloc, 1)?;
+    let _taken = setup.replica.take(read_op(alloc, MERGED)?)?;
+    Ok(setup)
 }
 
 #[test]
 fn a_start_that_was_used_is_refused(rt: HostRuntime) -> Result<(), Fail> {
-    let alloc = rt.alloc();
-    let listener = TcpListener::bind(&rt, "127.0.0.1:0")?;
-    let mut setup = one_session(alloc, 1)?;
-    let _taken = setup.replica.take(read_op(alloc, MERGED)?)?;
-    let served = run_one(&rt, alloc, listener, setup, &Stop::new(), &NoTurn);
+    let (listener, _port) = listening(&rt)?;
+    let setup = with_used_start(rt.alloc())?;
+    let served = run_one(&rt, rt.alloc(), listener, setup, &Stop::new(), &NoTurn);
     assert_eq!(rt; served.err(), Some(ServeFault::StartUsed));
     Ok(())
 }
@@ -151,33 +196,47 @@ impl<R: Clock + Copy> Turn for SecondFirst<R> {
     }
 }
 
+/// Whether two sessions side by side are both answered by a site that holds the first until the second has ended.
+fn both_are_answered<R, T>(
+    rt: &R,
+    alloc: Global,
+    listener: TcpListener,
+    setup: Setup,
+    port: u16,
+    turn: &T,
+) -> bool
+where
+    R: Net<Listener = TcpListener, Stream = TcpStream> + Threads + Wait + Clock + Sync,
+    T: Turn + Sync,
+{
+    let stop = Stop::new();
+    let (served, (one, other)) = thread::join(
+        rt,
+        || run_one(rt, alloc, listener, setup, &stop, turn),
+        || {
+            thread::join(
+                rt,
+                || talk(rt, alloc, port, "hello 2\nquit\n"),
+                || talk(rt, alloc, port, "hello 2\nquit\n"),
+            )
+        },
+    );
+    ending(served).is_some()
+        && text_of(&one) == "hello 2\nbye\n"
+        && text_of(&other) == "hello 2\nbye\n"
+}
+
 #[test]
 fn a_held_session_holds_no_other(rt: HostRuntime) -> Result<(), Fail> {
-    let alloc = rt.alloc();
-    let listener = TcpListener::bind(&rt, "127.0.0.1:0")?;
-    let port = listener.local_addr()?.port();
-    let mut setup = one_session(alloc, 1)?;
+    let (listener, port) = listening(&rt)?;
+    let mut setup = one_session(rt.alloc(), 1)?;
     setup.workers = 2;
     setup.sessions = 2;
-    let stop = Stop::new();
     let turn = SecondFirst {
         rt,
         is_second_over: AtomicBool::new(false),
     };
-    let (served, (one, other)) = thread::join(
-        &rt,
-        || run_one(&rt, alloc, listener, setup, &stop, &turn),
-        || {
-            thread::join(
-                &rt,
-                || talk(&rt, alloc, port, "hello 2\nquit\n"),
-                || talk(&rt, alloc, port, "hello 2\nquit\n"),
-            )
-        },
-    );
-    assert!(rt; served.is_ok());
-    assert_eq!(rt; one?.as_str(), "hello 2\nbye\n");
-    assert_eq!(rt; other?.as_str(), "hello 2\nbye\n");
+    assert!(rt; both_are_answered(&rt, rt.alloc(), listener, setup, port, &turn));
     assert!(rt; turn.is_second_over.load(Ordering::SeqCst));
     Ok(())
 }
@@ -207,68 +266,73 @@ fn await_answer<R: Net<Listener = TcpListener, Stream = TcpStream> + Wait + Cloc
     is_answered
 }
 
+/// A site without end, that pulls from these ports.
+pub fn pulling(alloc: Global, site: u16, peers: &[u16]) -> Result<Setup, Fail> {
+    let mut setup = one_session(alloc, site)?;
+    setup.sessions = 0;
+    for port in peers {
+        setup.peers.push(*port)?;
+    }
+    Ok(setup)
+}
+
+/// Whether a site passes on what a client gives its peer; both are then asked to end.
+fn is_passed_on<R>(rt: &R, alloc: Global, from: u16, to: u16, stop: &Stop, stops: &Stop) -> bool
+where
+    R: Net<Listener = TcpListener, Stream = TcpStream> + Wait + Clock,
+{
+    let is_taken = talk(rt, alloc, from, TAKE).is_ok();
+    let is_passed = await_answer(rt, alloc, to, PASS_ON, PASSED, stops);
+    stop.ask(rt);
+    is_taken && is_passed
+}
+
 #[test]
 fn a_site_pulls_what_its_peer_took(rt: HostRuntime) -> Result<(), Fail> {
     let alloc = rt.alloc();
-    let (first, second) = (
-        TcpListener::bind(&rt, "127.0.0.1:0")?,
-        TcpListener::bind(&rt, "127.0.0.1:0")?,
-    );
-    let (one, other) = (first.local_addr()?.port(), second.local_addr()?.port());
-    let (mut here, mut there) = (one_session(alloc, 1)?, one_session(alloc, 2)?);
-    here.sessions = 0;
-    there.sessions = 0;
-    there.peers.push(one)?;
+    let ((first, one), (second, other)) = (listening(&rt)?, listening(&rt)?);
+    let (here, there) = (pulling(alloc, 1, &[])?, pulling(alloc, 2, &[one])?);
     let (stop, stops) = (Stop::new(), Stop::new());
     let (served, (pulled, is_answered)) = thread::join(
         &rt,
-        || run_one(&rt, alloc, first, here, &stop, &NoTurn),
+        || ending(run_one(&rt, alloc, first, here, &stop, &NoTurn)),
         || {
             thread::join(
                 &rt,
-                || run_one(&rt, alloc, second, there, &stops, &NoTurn),
-                || {
-                    let is_taken = talk(&rt, alloc, one, TAKE).is_ok();
-                    let is_passed = await_answer(&rt, alloc, other, PASS_ON, PASSED, &stops);
-                    stop.ask(&rt);
-                    is_taken && is_passed
-                },
+                || ending(run_one(&rt, alloc, second, there, &stops, &NoTurn)),
+                || is_passed_on(&rt, alloc, one, other, &stop, &stops),
             )
         },
     );
     assert!(rt; is_answered);
-    assert_eq!(rt; served?.replica.len(), 1);
-    assert_eq!(rt; pulled?.replica.len(), 1);
+    assert_eq!(rt;
+        (served, pulled),
+        (Some((1, true, false)), Some((1, true, false)))
+    );
     Ok(())
 }
 
 #[test]
 fn a_site_that_finds_its_own_start_elsewhere_ends(rt: HostRuntime) -> Result<(), Fail> {
     let alloc = rt.alloc();
-    let (first, second) = (
-        TcpListener::bind(&rt, "127.0.0.1:0")?,
-        TcpListener::bind(&rt, "127.0.0.1:0")?,
-    );
-    let one = first.local_addr()?.port();
-    let (mut here, mut twin) = (one_session(alloc, 1)?, one_session(alloc, 1)?);
-    here.sessions = 0;
-    twin.sessions = 0;
-    twin.peers.push(one)?;
+    let ((first, one), (second, _other)) = (listening(&rt)?, listening(&rt)?);
+    let (here, twin) = (pulling(alloc, 1, &[])?, pulling(alloc, 1, &[one])?);
     let (stop, stops) = (Stop::new(), Stop::new());
-    let (served, ended) = thread::join(
+    let (served, (is_taken, ended)) = thread::join(
         &rt,
-        || run_one(&rt, alloc, first, here, &stop, &NoTurn),
+        || ending(run_one(&rt, alloc, first, here, &stop, &NoTurn)),
         || {
             let is_taken = talk(&rt, alloc, one, TAKE).is_ok();
-            let ended = run_one(&rt, alloc, second, twin, &stops, &NoTurn);
+            let ended = ending(run_one(&rt, alloc, second, twin, &stops, &NoTurn));
             stop.ask(&rt);
-            ended.map(|served| (is_taken, served))
+            (is_taken, ended)
         },
     );
-    assert!(rt; !served?.is_start_taken);
-    let (is_taken, twin) = ended?;
-    assert!(rt; is_taken && twin.is_start_taken && twin.written);
-    assert_eq!(rt; twin.replica.len(), 0);
+    assert!(rt; is_taken);
+    assert_eq!(rt;
+        (served, ended),
+        (Some((1, true, false)), Some((0, true, true)))
+    );
     Ok(())
 }
 
@@ -297,29 +361,30 @@ fn talk_beside<R: Net<Listener = TcpListener, Stream = TcpStream> + Wait + Clock
 #[test]
 fn clients_that_stall_hold_no_other_and_no_end(rt: HostRuntime) -> Result<(), Fail> {
     let alloc = rt.alloc();
-    let listener = TcpListener::bind(&rt, "127.0.0.1:0")?;
-    let port = listener.local_addr()?.port();
-    let mut setup = one_session(alloc, 1)?;
-    setup.workers = 3;
-    setup.sessions = 0;
-    let stop = Stop::new();
     let began = Instant::now(&rt)?;
-    let (served, answers) = thread::join(
+    let (listener, port) = listening(&rt)?;
+    let mut setup = pulling(alloc, 1, &[])?;
+    setup.workers = 3;
+    let stop = Stop::new();
+    let (ended, answers) = thread::join(
         &rt,
-        || run_one(&rt, alloc, listener, setup, &stop, &NoTurn),
+        || ending(run_one(&rt, alloc, listener, setup, &stop, &NoTurn)),
         || talk_beside(&rt, alloc, port, &stop),
     );
-    assert!(rt; served.is_ok());
-    assert_eq!(rt; answers?.as_str(), "hello 2\ndone\nbye\n");
+    assert!(rt; ended.is_some());
+    assert_eq!(rt; text_of(&answers), "hello 2\ndone\nbye\n");
     assert!(rt; began.elapsed(&rt)? < Duration::from_secs(10));
     Ok(())
 }
+
+/// What a site printed, as others look at it.
+type Printed = Arc<Mutex<Vec<u8>>, Global>;
 
 /// An output that another thread looks at.
 #[derive(Drop)]
 struct Shared<R: Wait + Copy> {
     rt: R,
-    printed: Arc<Mutex<Vec<u8>>, Global>,
+    printed: Printed,
 }
 
 impl<R: Wait + Copy> Write for Shared<R> {
@@ -338,7 +403,7 @@ impl<R: Wait + Copy> Write for Shared<R> {
 #[derive(Drop)]
 struct AfterReport<R: Wait + Clock + Copy> {
     rt: R,
-    printed: Arc<Mutex<Vec<u8>>, Global>,
+    printed: Printed,
     is_printed: AtomicBool,
 }
 
@@ -356,31 +421,48 @@ impl<R: Wait + Clock + Copy> Turn for AfterReport<R> {
     fn left(&self, _session: u64) {}
 }
 
+/// Runs a site for one session that waits for the site's first report: whether all was answered and written.
+fn run_after_report<R>(
+    rt: &R,
+    alloc: Global,
+    output: Ends<Shared<R>>,
+    turn: &AfterReport<R>,
+) -> Result<bool, Fail>
+where
+    R: Net<Listener = TcpListener, Stream = TcpStream>
+        + Threads
+        + Wait
+        + Clock
+        + Copy
+        + Send
+        + Sync,
+{
+    let setup = one_session(alloc, 1)?;
+    let (listener, port) = listening(rt)?;
+    let stop = Stop::new();
+    let errors = Ends::new(Vec::new(alloc));
+    let (served, answers) = thread::join(
+        rt,
+        || ending(serve_run(rt, alloc, listener, setup, &stop, output, errors, turn)),
+        || talk(rt, alloc, port, TAKE),
+    );
+    Ok(served == Some((1, true, false)) && answers.is_ok())
+}
+
 #[test]
 fn a_report_is_printed_before_anything_comes(rt: HostRuntime) -> Result<(), Fail> {
-    let alloc = rt.alloc();
-    let listener = TcpListener::bind(&rt, "127.0.0.1:0")?;
-    let port = listener.local_addr()?.port();
-    let setup = one_session(alloc, 1)?;
-    let stop = Stop::new();
-    let printed = Arc::new(alloc, Mutex::new(Vec::new(alloc)))?;
-    let turn = AfterReport {
-        rt,
-        printed: Arc::try_clone(&printed)?,
-        is_printed: AtomicBool::new(false),
-    };
+    let printed = Arc::new(rt.alloc(), Mutex::new(Vec::new(rt.alloc())))?;
     let output = Ends::new(Shared {
         rt,
         printed: Arc::try_clone(&printed)?,
     });
-    let errors = Ends::new(Vec::new(alloc));
-    let (served, answers) = thread::join(
-        &rt,
-        || serve_run(&rt, alloc, listener, setup, &stop, output, errors, &turn),
-        || talk(&rt, alloc, port, TAKE),
-    );
-    assert!(rt; served?.written && answers.is_ok());
+    let turn = AfterReport {
+        rt,
+        printed,
+        is_printed: AtomicBool::new(false),
+    };
+    assert!(rt; run_after_report(&rt, rt.alloc(), output, &turn)?);
     assert!(rt; turn.is_printed.load(Ordering::SeqCst));
-    assert_eq!(rt; printed.lock(&rt).as_slice(), b"end 0 0\n".as_slice());
+    assert_eq!(rt; turn.printed.lock(&rt).as_slice(), b"end 0 0\n".as_slice());
     Ok(())
 }
