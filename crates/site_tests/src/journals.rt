@@ -9,7 +9,7 @@ use site_journal::{
 };
 use site_ledger::{Keeps, NoJournal};
 use snapshot_text::WriteSnapFault;
-use std::alloc::Global;
+use std::alloc::{AllocError, Global};
 use std::test::Fail;
 
 /// Three operations, in the order of arrival.
@@ -68,21 +68,32 @@ fn without_a_journal_nothing_is_refused(rt: HostRuntime) -> Result<(), Fail> {
     Ok(())
 }
 
+/// Whether all that a journal has is synced that was opened over so many bytes, with the torn ones as many as before.
+fn is_synced(journal: &Journal<MemoryTape>, torn: usize, length: usize) -> bool {
+    let synced = journal.tape().synced();
+    let is_all = synced.len().checked_add(torn) == Some(length);
+    synced == journal.tape().contents() && (is_all || length < 13)
+}
+
+/// How many operations a journal has once it took another one.
+fn after_another(alloc: Global, journal: &mut Journal<MemoryTape>) -> Result<usize, Fail> {
+    let more = ops_of(alloc, &[THIRD])?;
+    journal.append(more.as_slice())?;
+    operations_in(alloc, journal.tape().synced())
+}
+
 /// How many operations are found in the first so many bytes of a journal, and in what it has once it was opened and
 /// took another one; and whether all that it had once it was opened was synced, with the torn bytes as many as before.
 fn cut_at(alloc: Global, whole: &[u8], length: usize) -> Result<(usize, usize, bool), Fail> {
     let left = whole.get(..length).unwrap_or(whole);
-    let more = ops_of(alloc, &[THIRD])?;
     let Started {
         mut journal,
         replica,
         torn,
     } = journal_over(alloc, left)?;
-    let is_synced = journal.tape().synced() == journal.tape().contents();
-    let is_all = journal.tape().synced().len().checked_add(torn) == Some(length);
-    journal.append(more.as_slice())?;
-    let after = operations_in(alloc, journal.tape().synced())?;
-    Ok((replica.len(), after, is_synced && (is_all || length < 13)))
+    let is_synced = is_synced(&journal, torn, length);
+    let after = after_another(alloc, &mut journal)?;
+    Ok((replica.len(), after, is_synced))
 }
 
 /// Cut at any byte a journal opens with the operations of its whole lines, all of them synced, and takes another one.
@@ -105,17 +116,29 @@ fn a_journal_is_opened_wherever_it_is_cut(rt: HostRuntime) -> Result<(), Fail> {
     Ok(())
 }
 
+/// A journal of one operation over a tape whose calls fail by the bits of a number.
+fn failing_journal(alloc: Global, failing: u64) -> Result<Journal<MemoryTape>, Fail> {
+    let mut tape = MemoryTape::new(journal_of(alloc, &[FIRST])?);
+    tape.fail(failing.saturating_mul(16), 20);
+    let Started { journal, .. } = Journal::open(alloc, tape)?;
+    Ok(journal)
+}
+
+/// How many operations a crash leaves on a tape at least and at most: those that are synced, and those written.
+fn left_on(alloc: Global, tape: &MemoryTape) -> Result<(usize, usize), Fail> {
+    let synced = operations_in(alloc, tape.synced())?;
+    let written = operations_in(alloc, tape.written())?;
+    Ok((synced, written))
+}
+
 /// What an append over a tape whose calls fail by the bits of a number answers, how many operations are then synced and
 /// how many written, and whether the next append finds the journal spoiled. An operation was kept before; the append is
 /// of two more.
 fn append_failing(alloc: Global, failing: u64) -> Result<(bool, usize, usize, bool), Fail> {
     let ops = ops_of(alloc, &[SECOND, THIRD])?;
-    let mut tape = MemoryTape::new(journal_of(alloc, &[FIRST])?);
-    tape.fail(failing.saturating_mul(16), 20);
-    let Started { mut journal, .. } = Journal::open(alloc, tape)?;
+    let mut journal = failing_journal(alloc, failing)?;
     let is_kept = journal.append(ops.as_slice()).is_ok();
-    let synced = operations_in(alloc, journal.tape().synced())?;
-    let written = operations_in(alloc, journal.tape().written())?;
+    let (synced, written) = left_on(alloc, journal.tape())?;
     let is_spoiled = journal.append(ops.as_slice()) == Err(KeepFault::Spoiled);
     Ok((is_kept, synced, written, is_spoiled))
 }
@@ -136,16 +159,20 @@ fn appends_that_fail_lose_nothing(rt: HostRuntime) -> Result<(), Fail> {
     Ok(())
 }
 
+/// A journal of the operations of these texts, with a torn line at its end.
+fn torn_journal(alloc: Global, texts: &[&[u8]]) -> Result<Vec<u8>, Fail> {
+    let mut text = journal_of(alloc, texts)?;
+    text.extend_from_slice(b"{\"chan")?;
+    Ok(text)
+}
+
 /// Whether an opening of two whole lines and a torn one is refused where one of its calls fails, counted from 0, and
 /// how many operations a crash then leaves at least and at most.
 fn opening_failing(alloc: Global, call: u32) -> Result<(bool, usize, usize), Fail> {
-    let mut text = journal_of(alloc, &[FIRST, SECOND])?;
-    text.extend_from_slice(b"{\"chan")?;
-    let mut tape = MemoryTape::new(text);
+    let mut tape = MemoryTape::new(torn_journal(alloc, &[FIRST, SECOND])?);
     tape.fail(1u64.wrapping_shl(call), 0);
     let is_refused = matches!(open_tape(alloc, &mut tape), Err(JournalFault::Failed));
-    let synced = operations_in(alloc, tape.synced())?;
-    let written = operations_in(alloc, tape.written())?;
+    let (synced, written) = left_on(alloc, &tape)?;
     Ok((is_refused, synced, written))
 }
 
@@ -161,69 +188,78 @@ fn openings_that_fail_lose_nothing(rt: HostRuntime) -> Result<(), Fail> {
     Ok(())
 }
 
+/// Why a tape with these bytes isn't opened, and whether it then has them still.
+fn refused(alloc: Global, bytes: &[u8]) -> Result<(Option<JournalFault>, bool), AllocError> {
+    let mut tape = MemoryTape::new(bytes.to_vec(alloc)?);
+    let fault = open_tape(alloc, &mut tape).err();
+    Ok((fault, tape.contents() == bytes))
+}
+
 #[test]
 fn other_texts_are_refused_and_stay(rt: HostRuntime) -> Result<(), Fail> {
-    let alloc = rt.alloc();
-    let mut tape = MemoryTape::new(b"reviewgate 1\n".to_vec(alloc)?);
-    assert!(rt; matches!(open_tape(alloc, &mut tape), Err(JournalFault::BadHeader)));
-    assert!(rt; tape.contents() == b"reviewgate 1\n".as_slice());
-    let mut tape = MemoryTape::new(b"reviewgate 2\n{}\n".to_vec(alloc)?);
+    let other = refused(rt.alloc(), b"reviewgate 1\n")?;
+    assert!(rt; matches!(&other, (Some(JournalFault::BadHeader), true)));
+    let bad = refused(rt.alloc(), b"reviewgate 2\n{}\n")?;
     assert!(rt;
         matches!(
-            open_tape(alloc, &mut tape),
-            Err(JournalFault::BadLine(2, LineCause::Text(_)))
+            &bad,
+            (Some(JournalFault::BadLine(2, LineCause::Text(_))), true)
         )
     );
-    assert!(rt; tape.contents() == b"reviewgate 2\n{}\n".as_slice());
     Ok(())
 }
 
 #[test]
 fn a_torn_end_is_left_out_of_a_recovery(rt: HostRuntime) -> Result<(), Fail> {
-    let alloc = rt.alloc();
-    let mut text = journal_of(alloc, &[FIRST, SECOND, THIRD])?;
-    text.extend_from_slice(b"{\"chan")?;
-    let mut drain = Ends::new(Vec::new(alloc));
-    assert!(rt;
-        matches!(
-            recover(alloc, Ends::new(text.as_slice()), &mut drain),
-            Ok(6)
-        )
-    );
+    let text = torn_journal(rt.alloc(), &[FIRST, SECOND, THIRD])?;
+    let mut drain = Ends::new(Vec::new(rt.alloc()));
+    let torn = recover(rt.alloc(), Ends::new(text.as_slice()), &mut drain)?;
+    assert_eq!(rt; torn, 6);
     assert!(rt; drain.get_ref().as_slice().ends_with(b"end 3\n"));
     Ok(())
 }
 
+/// Why a recovery from a source fails that fails at its first call.
+fn broken_source(alloc: Global, text: &[u8]) -> Option<RecoverFault> {
+    let source = Broken::at_call(Ends::new(text), 1);
+    recover(alloc, source, &mut Ends::new(Vec::new(alloc))).err()
+}
+
+/// Why a recovery to a drain fails that fails at its first call.
+fn broken_drain(alloc: Global, text: &[u8]) -> Option<RecoverFault> {
+    let mut drain = Broken::at_call(Ends::new(Vec::new(alloc)), 1);
+    recover(alloc, Ends::new(text), &mut drain).err()
+}
+
 #[test]
 fn a_recovery_tells_which_end_failed(rt: HostRuntime) -> Result<(), Fail> {
-    let alloc = rt.alloc();
-    let text = journal_of(alloc, &[FIRST])?;
-    let mut drain = Ends::new(Vec::new(alloc));
-    let source = Broken::at_call(Ends::new(text.as_slice()), 1);
+    let text = journal_of(rt.alloc(), &[FIRST])?;
+    let source = broken_source(rt.alloc(), text.as_slice());
+    assert!(rt; matches!(&source, Some(RecoverFault::Journal(JournalFault::Failed))));
+    let drain = broken_drain(rt.alloc(), text.as_slice());
     assert!(rt;
         matches!(
-            recover(alloc, source, &mut drain),
-            Err(RecoverFault::Journal(JournalFault::Failed))
-        )
-    );
-    let mut drain = Broken::at_call(Ends::new(Vec::new(alloc)), 1);
-    assert!(rt;
-        matches!(
-            recover(alloc, Ends::new(text.as_slice()), &mut drain),
-            Err(RecoverFault::Snapshot(WriteSnapFault::WriteFault))
+            &drain,
+            Some(RecoverFault::Snapshot(WriteSnapFault::WriteFault))
         )
     );
     Ok(())
 }
 
-#[test]
-fn faults_have_numbers_and_words(rt: HostRuntime) -> Result<(), Fail> {
-    let alloc = rt.alloc();
-    let fault = JournalFault::BadLine(7, LineCause::TooLong);
+/// The words of a fault.
+fn words_of(alloc: Global, fault: &JournalFault) -> Result<String, AllocError> {
     let mut words = String::new(alloc);
     fault.write_words(&mut words)?;
-    assert!(rt; words.as_str() == "BadLine 7 TooLong");
-    assert_eq!(rt; fault.number(), 2);
-    assert!(rt; JournalFault::NoMemory.name() == "NoMemory");
+    Ok(words)
+}
+
+#[test]
+fn faults_have_numbers_and_words(rt: HostRuntime) -> Result<(), Fail> {
+    let fault = JournalFault::BadLine(7, LineCause::TooLong);
+    assert_eq!(rt; words_of(rt.alloc(), &fault)?.as_str(), "BadLine 7 TooLong");
+    assert_eq!(rt;
+        (fault.number(), JournalFault::NoMemory.name()),
+        (2, "NoMemory")
+    );
     Ok(())
 }

@@ -8,7 +8,7 @@ use review_ops::Op;
 use site_journal::KeepFault;
 use site_ledger::{Keeps, Ledger, LedgerFault};
 use site_shared::{Window, open_site};
-use std::alloc::Global;
+use std::alloc::{AllocError, Global};
 use std::sync::Wait;
 use std::test::Fail;
 
@@ -35,19 +35,13 @@ impl Keeps for Failing {
 
 /// What a publish of one held operation is answered, and that of the next try; and how many operations a window sees
 /// then.
-fn published<R: Wait>(
-    rt: &R,
-    alloc: Global,
-    fault: KeepFault,
-) -> Result<(Option<LedgerFault>, Option<LedgerFault>, usize), Fail> {
+type Published = (Option<LedgerFault>, Option<LedgerFault>, usize);
+
+/// A keeper that fails once, with this fault.
+fn failing_once(alloc: Global, fault: KeepFault) -> Result<Failing, AllocError> {
     let mut faults = Vec::new(alloc);
     faults.push(fault)?;
-    let (desk, windows) = open_site(rt, 1, 1, 1, Replica::new(alloc))?;
-    let mut ledger = Ledger::new(desk, Failing { faults });
-    let ended = publish_twice(rt, alloc, &mut ledger, windows);
-    ledger.published_survives();
-    ledger.end(rt);
-    ended
+    Ok(Failing { faults })
 }
 
 /// Holds an operation and tries to publish it twice.
@@ -55,14 +49,30 @@ fn publish_twice<R: Wait>(
     rt: &R,
     alloc: Global,
     ledger: &mut Ledger<Failing>,
-    windows: Vec<Window>,
-) -> Result<(Option<LedgerFault>, Option<LedgerFault>, usize), Fail> {
-    let mut windows = windows;
+) -> Result<(Option<LedgerFault>, Option<LedgerFault>), Fail> {
     let _stamp = ledger.hold(patch_set(alloc, 101)?)?;
     let first = ledger.publish(rt).err();
     let second = ledger.publish(rt).err();
-    let mut window = windows.pop().ok_or("a window")?;
-    Ok((first, second, window.snapshot()?.len()))
+    Ok((first, second))
+}
+
+/// How many operations the last of these windows sees.
+fn seen_by_last(mut windows: Vec<Window>) -> Option<usize> {
+    let mut window = windows.pop()?;
+    Some(window.snapshot().ok()?.len())
+}
+
+/// How two publishes end over a keeper that fails once.
+fn published<R: Wait>(rt: &R, alloc: Global, fault: KeepFault) -> Result<Published, Fail> {
+    let failing = failing_once(alloc, fault)?;
+    let (desk, windows) = open_site(rt, 1, 1, 1, Replica::new(alloc))?;
+    let mut ledger = Ledger::new(desk, failing);
+    let ended = publish_twice(rt, alloc, &mut ledger);
+    ledger.published_survives();
+    let seen = seen_by_last(windows);
+    ledger.end(rt);
+    let (first, second) = ended?;
+    Ok((first, second, seen.ok_or("a window")?))
 }
 
 #[test]

@@ -1,14 +1,14 @@
 //! Lines of sources, worked out by hand.
 
-use byte_ends::{Broken, BytesFault, Ends};
+use byte_ends::{Broken, BytesFault, Ends, Source};
 use line_reader::LineReader;
 use linked_list_allocator::LocalHeap;
-use std::alloc::Global;
+use std::alloc::{AllocError, Global};
 use std::process::Abort;
 use std::test::Fail;
 
 /// The next line is this one.
-fn assert_line(rt: &impl Abort, reader: &mut LineReader, source: &mut Ends<&[u8]>, line: &[u8]) {
+fn assert_line<S: Source>(rt: &impl Abort, reader: &mut LineReader, source: &mut S, line: &[u8]) {
     assert_eq!(rt; reader.next_line(source), Ok(true));
     assert_eq!(rt; reader.line(), line);
 }
@@ -58,8 +58,7 @@ fn a_source_that_fails_may_be_asked_again(rt: HostRuntime) -> Result<(), Fail> {
     let mut reader = LineReader::new(rt.alloc(), 3)?;
     let mut source = Broken::before_byte(Ends::new(b"abc\n".as_slice()), 3);
     assert_eq!(rt; reader.next_line(&mut source), Err(BytesFault::ReadFault));
-    assert_eq!(rt; reader.next_line(&mut source), Ok(true));
-    assert_eq!(rt; reader.line(), b"abc".as_slice());
+    assert_line(&rt, &mut reader, &mut source, b"abc");
     Ok(())
 }
 
@@ -74,33 +73,45 @@ fn refused_memory_is_reported(rt: HostRuntime) -> Result<(), Fail> {
     Ok(())
 }
 
+/// The next line is too long, passing over it is answered so, and this is held then.
+fn assert_passes<S: Source>(
+    rt: &impl Abort,
+    reader: &mut LineReader,
+    source: &mut S,
+    answer: Result<bool, BytesFault>,
+    held: &[u8],
+) {
+    assert_eq!(rt; reader.next_line(source), Err(BytesFault::TooLong));
+    assert_eq!(rt; reader.pass_over(source), answer);
+    assert_eq!(rt; reader.held(), held);
+}
+
 #[test]
 fn a_long_line_is_passed_over(rt: HostRuntime) -> Result<(), Fail> {
     let mut reader = LineReader::new(rt.alloc(), 3)?;
     let mut source = Ends::new(b"abcdefg\nab\nabcd".as_slice());
-    assert_eq!(rt; reader.next_line(&mut source), Err(BytesFault::TooLong));
-    assert_eq!(rt; reader.pass_over(&mut source), Ok(true));
-    assert_eq!(rt; reader.held(), b"ab\nabcd".as_slice());
+    assert_passes(&rt, &mut reader, &mut source, Ok(true), b"ab\nabcd");
     assert_line(&rt, &mut reader, &mut source, b"ab");
-    assert_eq!(rt; reader.next_line(&mut source), Err(BytesFault::TooLong));
-    assert_eq!(rt; reader.pass_over(&mut source), Ok(false));
-    assert_eq!(rt; reader.held(), b"".as_slice());
+    assert_passes(&rt, &mut reader, &mut source, Ok(false), b"");
     assert_eq!(rt; reader.next_line(&mut source), Ok(false));
     Ok(())
 }
 
-/// A line of three blocks and one byte more.
+/// A line of three blocks and one byte more, and another one.
+fn many_blocks(alloc: Global) -> Result<Vec<u8>, AllocError> {
+    let mut text = vec![in alloc; b'a'; 3 * 65536]?;
+    text.extend_from_slice(b"a\nbc\n")?;
+    Ok(text)
+}
+
 #[test]
 fn a_line_of_many_blocks_is_passed_over(rt: HostRuntime) -> Result<(), Fail> {
-    let mut text = vec![in rt.alloc(); b'a'; 3 * 65536]?;
-    text.extend_from_slice(b"a\nbc\n")?;
+    let text = many_blocks(rt.alloc())?;
     let mut reader = LineReader::new(rt.alloc(), 3)?;
     let mut source = Broken::at_call(Ends::new(text.as_slice()), 3);
-    assert_eq!(rt; reader.next_line(&mut source), Err(BytesFault::TooLong));
-    assert_eq!(rt; reader.pass_over(&mut source), Err(BytesFault::ReadFault));
-    assert_eq!(rt; reader.held(), b"".as_slice());
+    let fault = Err(BytesFault::ReadFault);
+    assert_passes(&rt, &mut reader, &mut source, fault, b"");
     assert_eq!(rt; reader.pass_over(&mut source), Ok(true));
-    assert_eq!(rt; reader.next_line(&mut source), Ok(true));
-    assert_eq!(rt; reader.line(), b"bc".as_slice());
+    assert_line(&rt, &mut reader, &mut source, b"bc");
     Ok(())
 }

@@ -13,9 +13,10 @@ fn faults_have_numbers_and_names(rt: HostRuntime) {
         (PortFault::NoMemory, 3, "NoMemory"),
         (PortFault::Closed, 4, "Closed"),
     ] {
-        assert_eq!(rt; fault.number(), number);
-        assert_eq!(rt; fault.name(), name);
+        assert_eq!(rt; (fault.number(), fault.name()), (number, name));
     }
-    assert_eq!(rt; SinkFault::NoMemory.number(), 3);
-    assert_eq!(rt; SinkFault::Closed.name(), "Closed");
+    assert_eq!(rt;
+        (SinkFault::NoMemory.number(), SinkFault::Closed.name()),
+        (3, "Closed")
+    );
 }

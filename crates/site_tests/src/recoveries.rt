@@ -1,9 +1,9 @@
 //! Journals that are recovered as a command: what is printed, what is reported, and the status.
 
-use byte_ends::{Broken, Drain, Ends};
+use byte_ends::{Broken, Drain, Ends, Source};
 use recover_command::{journal_named, recover_named, recover_to, show_journal_fault, show_torn};
-use site_journal::{JournalFault, LineCause, recover};
-use std::alloc::Global;
+use site_journal::{JournalFault, LineCause, RecoverFault, recover};
+use std::alloc::{AllocError, Global};
 use std::fs;
 use std::process::Abort;
 use std::rt::Files;
@@ -16,6 +16,22 @@ const JOURNAL: &[u8] =
 const SNAPSHOT: &[u8] =
     b"reviewgate 2\n{\"change\":5,\"op\":\"merged\",\"seq\":1,\"site\":1,\"start\":2,\"time\":1}\n{\"change\":6,\"op\":\"merged\",\"seq\":2,\"site\":1,\"start\":2,\"time\":2}\nend 2\n";
 
+/// What a recovery printed, what it reported, and the status that it ended with.
+type Recovery = (Vec<u8>, Vec<u8>, u8);
+
+/// The recovery of a journal from this source.
+fn recovery_of<S: Source + Drop>(alloc: Global, source: S) -> Recovery {
+    let mut output = Ends::new(Vec::new(alloc));
+    let mut errors = Ends::new(Vec::new(alloc));
+    let status = recover_to(alloc, source, &mut output, &mut errors);
+    (output.into_inner(), errors.into_inner(), status)
+}
+
+/// The same, as slices.
+fn said(recovery: &Recovery) -> (&[u8], &[u8], u8) {
+    (recovery.0.as_slice(), recovery.1.as_slice(), recovery.2)
+}
+
 /// Recovering a journal with these bytes prints and reports this, and ends with this status.
 fn assert_recovers(
     rt: &impl Abort,
@@ -25,12 +41,8 @@ fn assert_recovers(
     reported: &[u8],
     status: u8,
 ) {
-    let mut output = Ends::new(Vec::new(alloc));
-    let mut errors = Ends::new(Vec::new(alloc));
-    let ended = recover_to(alloc, Ends::new(journal), &mut output, &mut errors);
-    assert_eq!(rt; output.get_ref().as_slice(), printed);
-    assert_eq!(rt; errors.get_ref().as_slice(), reported);
-    assert_eq!(rt; ended, status);
+    let recovery = recovery_of(alloc, Ends::new(journal));
+    assert_eq!(rt; said(&recovery), (printed, reported, status));
 }
 
 #[test]
@@ -48,20 +60,30 @@ fn torn_of(bytes: &[u8]) -> usize {
         .count()
 }
 
+/// What `site_journal` recovers of a journal with these bytes.
+fn snapshot_of(alloc: Global, journal: &[u8]) -> Result<Vec<u8>, RecoverFault> {
+    let mut snapshot = Ends::new(Vec::new(alloc));
+    let _torn = recover(alloc, Ends::new(journal), &mut snapshot)?;
+    Ok(snapshot.into_inner())
+}
+
+/// The line that reports a torn line of so many bytes, if any.
+fn torn_line(alloc: Global, torn: usize) -> Result<String, AllocError> {
+    match torn {
+        0 => Ok(String::new(alloc)),
+        torn => format!(in alloc; "reviewgate: journal 6 Torn {torn}\n"),
+    }
+}
+
 /// Cut at any byte a journal is recovered as `site_journal` does it, and a torn line is reported by its length.
 #[test]
 fn a_journal_is_recovered_wherever_it_is_cut(rt: HostRuntime) -> Result<(), Fail> {
     let alloc = rt.alloc();
     for length in 0..=JOURNAL.len() {
         let left = JOURNAL.get(..length).unwrap_or(JOURNAL);
-        let mut snapshot = Ends::new(Vec::new(alloc));
-        assert!(rt; recover(alloc, Ends::new(left), &mut snapshot).is_ok());
-        let line = match torn_of(left) {
-            0 => String::new(alloc),
-            torn => format!(in alloc; "reviewgate: journal 6 Torn {torn}\n")?,
-        };
-        let printed = snapshot.get_ref().as_slice();
-        assert_recovers(&rt, alloc, left, printed, line.as_bytes(), 0);
+        let printed = snapshot_of(alloc, left)?;
+        let line = torn_line(alloc, torn_of(left))?;
+        assert_recovers(&rt, alloc, left, printed.as_slice(), line.as_bytes(), 0);
     }
     Ok(())
 }
@@ -98,37 +120,39 @@ fn reported_to<O: Drain>(alloc: Global, output: &mut O) -> (Vec<u8>, u8) {
     (errors.into_inner(), status)
 }
 
-#[test]
-fn an_output_that_fails_has_taken_a_front(rt: HostRuntime) -> Result<(), Fail> {
-    let mut output = Broken::before_byte(Ends::new(Vec::new(rt.alloc())), 40);
-    let (reported, status) = reported_to(rt.alloc(), &mut output);
-    assert_eq!(rt;
-        reported.as_slice(),
-        b"reviewgate: output 1 WriteFault\n".as_slice()
-    );
-    assert_eq!(rt; status, 1);
-    assert!(rt; SNAPSHOT.starts_with(output.get_ref().get_ref().as_slice()));
-    assert_eq!(rt; output.get_ref().get_ref().len(), 39);
-    Ok(())
+/// What an output took that fails before its 40th byte, and what is reported then.
+fn broken_recovery(alloc: Global) -> Recovery {
+    let mut output = Broken::before_byte(Ends::new(Vec::new(alloc)), 40);
+    let (reported, status) = reported_to(alloc, &mut output);
+    (output.into_inner().into_inner(), reported, status)
 }
 
 #[test]
-fn a_source_that_fails_is_a_journal_that_is_not_read(rt: HostRuntime) -> Result<(), Fail> {
-    let alloc = rt.alloc();
+fn an_output_that_fails_has_taken_a_front(rt: HostRuntime) {
+    let recovery = broken_recovery(rt.alloc());
+    let printed = SNAPSHOT.get(..39).unwrap_or(SNAPSHOT);
+    let reported = b"reviewgate: output 1 WriteFault\n".as_slice();
+    assert_eq!(rt; said(&recovery), (printed, reported, 1));
+}
+
+#[test]
+fn a_source_that_fails_is_a_journal_that_is_not_read(rt: HostRuntime) {
+    let source = Broken::before_byte(Ends::new(JOURNAL), 50);
+    let recovery = recovery_of(rt.alloc(), source);
+    let reported = b"reviewgate: journal 4 Failed\n".as_slice();
+    assert_eq!(rt; said(&recovery), (b"".as_slice(), reported, 1));
+}
+
+/// The recovery of the journal of a name, beside an input that has a torn first line.
+fn recovery_named<R: Files>(rt: &R, alloc: Global, name: &str) -> Recovery {
     let mut output = Ends::new(Vec::new(alloc));
     let mut errors = Ends::new(Vec::new(alloc));
-    let source = Broken::before_byte(Ends::new(JOURNAL), 50);
-    assert_eq!(rt; recover_to(alloc, source, &mut output, &mut errors), 1);
-    assert!(rt; output.get_ref().is_empty());
-    assert_eq!(rt;
-        errors.get_ref().as_slice(),
-        b"reviewgate: journal 4 Failed\n".as_slice()
-    );
-    Ok(())
+    let input = Ends::new(b"reviewgate".as_slice());
+    let status = recover_named(rt, alloc, name, input, &mut output, &mut errors);
+    (output.into_inner(), errors.into_inner(), status)
 }
 
-/// Recovering the journal of a name, beside an input that has a torn first line, prints and reports this, and ends with
-/// this status.
+/// Recovering the journal of a name prints and reports this, and ends with this status.
 fn assert_named<R: Files + Abort>(
     rt: &R,
     alloc: Global,
@@ -137,13 +161,8 @@ fn assert_named<R: Files + Abort>(
     reported: &[u8],
     status: u8,
 ) {
-    let mut output = Ends::new(Vec::new(alloc));
-    let mut errors = Ends::new(Vec::new(alloc));
-    let input = Ends::new(b"reviewgate".as_slice());
-    let ended = recover_named(rt, alloc, name, input, &mut output, &mut errors);
-    assert_eq!(rt; output.get_ref().as_slice(), printed, "{name}");
-    assert_eq!(rt; errors.get_ref().as_slice(), reported, "{name}");
-    assert_eq!(rt; ended, status, "{name}");
+    let recovery = recovery_named(rt, alloc, name);
+    assert_eq!(rt; said(&recovery), (printed, reported, status), "{name}");
 }
 
 // A file that is there, the input, one that isn't there, and a folder.
@@ -169,34 +188,36 @@ fn journals_are_recovered_by_name(rt: HostRuntime) -> Result<(), Fail> {
     Ok(())
 }
 
+/// Words after `recover`, and the journal that they name.
+const WORDS: [(&[&str], Option<&str>); 7] = [
+    (&["site1.journal"], Some("site1.journal")),
+    (&["-"], Some("-")),
+    (&["--", "-x"], Some("-x")),
+    (&["--help"], None),
+    (&["--"], None),
+    (&["a", "b"], None),
+    (&[], None),
+];
+
 #[test]
-fn one_word_names_a_journal(rt: HostRuntime) -> Result<(), Fail> {
-    let none: [&str; 0] = [];
-    assert_eq!(rt;
-        journal_named(["site1.journal"].as_slice()),
-        Some("site1.journal")
-    );
-    assert_eq!(rt; journal_named(["-"].as_slice()), Some("-"));
-    assert_eq!(rt; journal_named(["--", "-x"].as_slice()), Some("-x"));
-    assert_eq!(rt; journal_named(["--help"].as_slice()), None);
-    assert_eq!(rt; journal_named(["--"].as_slice()), None);
-    assert_eq!(rt; journal_named(["a", "b"].as_slice()), None);
-    assert_eq!(rt; journal_named(none.as_slice()), None);
-    Ok(())
+fn one_word_names_a_journal(rt: HostRuntime) {
+    for (words, name) in WORDS {
+        assert_eq!(rt; journal_named(words), name);
+    }
+}
+
+/// What is reported of a bad line, of a whole one and of a torn one.
+fn reported_lines(alloc: Global) -> Vec<u8> {
+    let mut errors = Ends::new(Vec::new(alloc));
+    let fault = JournalFault::BadLine(7, LineCause::TooLong);
+    show_journal_fault(alloc, &fault, &mut errors);
+    show_torn(alloc, 0, &mut errors);
+    show_torn(alloc, 3, &mut errors);
+    errors.into_inner()
 }
 
 #[test]
-fn faults_and_torn_lines_have_a_line_each(rt: HostRuntime) -> Result<(), Fail> {
-    let alloc = rt.alloc();
-    let mut errors = Ends::new(Vec::new(alloc));
-    show_journal_fault(
-        alloc,
-        &JournalFault::BadLine(7, LineCause::TooLong),
-        &mut errors,
-    );
-    show_torn(alloc, 0, &mut errors);
-    show_torn(alloc, 3, &mut errors);
+fn faults_and_torn_lines_have_a_line_each(rt: HostRuntime) {
     let lines = b"reviewgate: journal 2 BadLine 7 TooLong\nreviewgate: journal 6 Torn 3\n";
-    assert_eq!(rt; errors.get_ref().as_slice(), lines.as_slice());
-    Ok(())
+    assert_eq!(rt; reported_lines(rt.alloc()).as_slice(), lines.as_slice());
 }

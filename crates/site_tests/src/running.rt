@@ -1,7 +1,7 @@
 //! Running sites, by one thread.
 
 ghost use Rattle.std.specs.Prelude.{◌≡◌, IfOk};
-ghost use Rattle.site_shared.specs.Accounts.{watching};
+ghost use Rattle.site_shared.specs.Accounts.{GoesOn, IsOwn, watching};
 
 use gate_rules::Gate;
 use ready_core::Refusal;
@@ -12,7 +12,6 @@ use site_shared::{
     later_journals_go_on, open_site, publishes_are_steps, stamps_are_above_all,
 };
 use std::alloc::{AllocError, Global};
-use std::process::Abort;
 use std::sync::Wait;
 use std::test::Fail;
 
@@ -48,7 +47,9 @@ fn used(alloc: Global, start: u32) -> Result<Replica, Fail> {
 }
 
 /// How far a window sees the row.
-fn reach(window: &mut Window) -> Result<u64, Fail> {
+fn reach(window: &mut Window) -> Result<u64, Fail>
+    ensures { GoesOn window.old window.new }
+{
     Ok(window.front()?.reach(ROW))
 }
 
@@ -126,41 +127,60 @@ pub fn open_two<R: Wait>(
 
 /// What a window sees of an operation: whether it has the stamp, how far the row goes, how many an empty front lacks,
 /// and how long a copy is.
-fn seen(
-    alloc: Global,
-    window: &mut Window,
-    stamp: Stamp,
-) -> Result<(bool, u64, usize, usize), Fail> {
-    let found = window.has(stamp)?;
-    let row = reach(window)?;
-    let missing = window.missing(&Front::new(alloc), 256)?;
-    let copied = window.snapshot()?;
-    Ok((found, row, missing.ops.len(), copied.len()))
+type Sight = (bool, u64, usize, usize);
+
+/// How many operations a window has that an empty front lacks, and how many a copy of it has.
+fn counted(alloc: Global, window: &mut Window) -> Result<(usize, usize), WindowFault> {
+    let missing = window.missing(&Front::new(alloc), 256)?.ops.len();
+    let copied = window.snapshot()?.len();
+    Ok((missing, copied))
 }
 
-/// Takes in a patch set, of which the first window learns and the second doesn't, publishes nothing twice, and looks at
-/// the report.
+/// What a window sees of an operation.
+fn seen(alloc: Global, window: &mut Window, stamp: Stamp) -> Result<Sight, Fail> {
+    let found = window.has(stamp)?;
+    let row = reach(window)?;
+    let (missing, copied) = counted(alloc, window)?;
+    Ok((found, row, missing, copied))
+}
+
+/// Takes in a patch set of change 101, of which a window learns: its stamp.
+fn take_in_learnt<R: Wait>(
+    rt: &R,
+    alloc: Global,
+    desk: &mut Desk,
+    window: &mut Window,
+) -> Result<Stamp, Fail>
+    requires { window.old ≡ watching desk.old }
+{
+    let receipt = desk.intake(rt, patch_set(alloc, 101)?)?;
+    window.learn(&receipt)?;
+    Ok(receipt.stamp().ok_or("a stamp")?)
+}
+
+/// Whether publishes of nothing have no stamp.
+fn publishes_nothing<R: Wait>(rt: &R, alloc: Global, desk: &mut Desk) -> Result<bool, DeskFault> {
+    let taken = desk.take_all(rt, Vec::new(alloc))?.stamp();
+    let flushed = desk.flush(rt)?.stamp();
+    Ok(taken.is_none() && flushed.is_none())
+}
+
+/// Takes in a patch set, of which the first window learns and the second doesn't, and publishes nothing twice: what the
+/// windows see, whether nothing has no stamp, and what the first window leaves out.
 fn take_in<R: Wait>(
     rt: &R,
     alloc: Global,
     desk: &mut Desk,
     first: &mut Window,
     second: &mut Window,
-) -> Result<(u32, bool), Fail>
+) -> Result<(Sight, Sight, bool, (u32, bool)), Fail>
     requires { first.old ≡ watching desk.old }
 {
-    let receipt = desk.intake(rt, patch_set(alloc, 101)?)?;
-    let stamp = receipt.stamp().ok_or("a stamp")?;
-    first.learn(&receipt)?;
-    if seen(alloc, first, stamp)? != (true, 1, 1, 1)
-        || seen(alloc, second, stamp)? != (true, 1, 1, 1)
-    {
-        return Err(Fail::from("the patch set isn't seen"));
-    }
-    if desk.take_all(rt, Vec::new(alloc))?.stamp().is_some() || desk.flush(rt)?.stamp().is_some() {
-        return Err(Fail::from("a stamp of nothing"));
-    }
-    left_out(alloc, first)
+    let stamp = take_in_learnt(rt, alloc, desk, first)?;
+    let learnt = seen(alloc, first, stamp)?;
+    let unlearnt = seen(alloc, second, stamp)?;
+    let is_unstamped = publishes_nothing(rt, alloc, desk)?;
+    Ok((learnt, unlearnt, is_unstamped, left_out(alloc, first)?))
 }
 
 /// What a report says of one item that is left out: its change, and whether that is for a condition of its own.
@@ -180,27 +200,26 @@ fn an_item_is_seen_by_two_windows(rt: HostRuntime) -> Result<(), Fail> {
     let (mut desk, mut first, mut second) = open_two(&rt, 1, 1, Replica::new(rt.alloc()))?;
     let done = take_in(&rt, rt.alloc(), &mut desk, &mut first, &mut second);
     desk.end(&rt);
-    assert_eq!(rt; done?, (101, true));
+    let sight = (true, 1, 1, 1);
+    assert_eq!(rt; done?, (sight, sight, true, (101, true)));
     Ok(())
 }
 
-/// Two windows see an intake of which none learns, though one has learnt no other and the other only the one before.
-fn take_in_unlearnt<R: Abort + Wait>(
+/// What two windows see of an intake of which none learns, though one has learnt no other and the other only the one
+/// before.
+fn take_in_unlearnt<R: Wait>(
     rt: &R,
     alloc: Global,
     desk: &mut Desk,
     first: &mut Window,
     second: &mut Window,
-) -> Result<(), Fail>
+) -> Result<(Sight, Sight), Fail>
     requires { first.old ≡ watching desk.old }
 {
-    let receipt = desk.intake(rt, patch_set(alloc, 101)?)?;
-    first.learn(&receipt)?;
+    let _learnt = take_in_learnt(rt, alloc, desk, first)?;
     let later = desk.intake(rt, patch_set(alloc, 102)?)?;
     let stamp = later.stamp().ok_or("a stamp")?;
-    assert_eq!(rt; seen(alloc, first, stamp)?, (true, 2, 2, 2));
-    assert_eq!(rt; seen(alloc, second, stamp)?, (true, 2, 2, 2));
-    Ok(())
+    Ok((seen(alloc, first, stamp)?, seen(alloc, second, stamp)?))
 }
 
 #[test]
@@ -208,7 +227,8 @@ fn windows_see_what_they_have_not_learnt(rt: HostRuntime) -> Result<(), Fail> {
     let (mut desk, mut first, mut second) = open_two(&rt, 1, 1, Replica::new(rt.alloc()))?;
     let done = take_in_unlearnt(&rt, rt.alloc(), &mut desk, &mut first, &mut second);
     desk.end(&rt);
-    done
+    assert_eq!(rt; done?, ((true, 2, 2, 2), (true, 2, 2, 2)));
+    Ok(())
 }
 
 /// A pause that always goes on, and counts.
@@ -224,17 +244,20 @@ impl Pause for Always {
     }
 }
 
+/// How many items a report leaves out that such a pause holds, and how often the pause was asked.
+fn report_paused(alloc: Global, window: &mut Window) -> Result<(usize, u32), Fail> {
+    let gate = Gate::read(alloc, GATE)?;
+    let mut pause = Always { asked: 0 };
+    let left = window.report_with(&gate, &mut pause)?.out().len();
+    Ok((left, pause.asked))
+}
+
 #[test]
 fn a_pause_ends(rt: HostRuntime) -> Result<(), Fail> {
     let (desk, mut first, _second) = open_two(&rt, 1, 1, Replica::new(rt.alloc()))?;
-    let mut pause = Always { asked: 0 };
-    let verdicts = match Gate::read(rt.alloc(), GATE) {
-        Ok(gate) => first.report_with(&gate, &mut pause),
-        Err(_) => Err(WindowFault::NoMemory),
-    };
+    let found = report_paused(rt.alloc(), &mut first);
     desk.end(&rt);
-    assert_eq!(rt; verdicts?.out().len(), 0);
-    assert_eq!(rt; pause.asked, 1_000_000);
+    assert_eq!(rt; found?, (0, 1_000_000));
     Ok(())
 }
 
@@ -246,24 +269,31 @@ fn refused<R: Wait>(rt: &R, desk: &mut Desk, draft: Draft) -> (u8, usize) {
     }
 }
 
+/// What the desk of a site over a replica refuses for a bad body, and what a window copies once the site has ended: 9
+/// where it has nothing to copy.
+fn refused_over<R: Wait>(rt: &R, replica: Replica) -> Result<((u8, usize), usize), Fail> {
+    let (mut desk, mut window, _second) = open_two(rt, 1, 1, replica)?;
+    let refused = refused(rt, &mut desk, Draft::Merged { change: 0 });
+    desk.end(rt);
+    Ok((
+        refused,
+        window.snapshot().map_or(9, |replica| replica.len()),
+    ))
+}
+
+/// A replica with a merge at the last time of all.
+fn at_the_last_time(alloc: Global) -> Result<Replica, Fail> {
+    let mut replica = Replica::new(alloc);
+    let _taken = replica.take(merge(2, 1, u64::MAX)?)?;
+    Ok(replica)
+}
+
 #[test]
 fn bad_bodies_and_a_spent_clock_change_nothing(rt: HostRuntime) -> Result<(), Fail> {
-    let mut last = Replica::new(rt.alloc());
-    let _taken = last.take(merge(2, 1, u64::MAX)?)?;
-    let (mut spent, mut first, _second) = open_two(&rt, 1, 1, last)?;
-    let clock = refused(&rt, &mut spent, Draft::Merged { change: 0 });
-    spent.end(&rt);
-    let (mut desk, mut other, _second) = open_two(&rt, 1, 1, Replica::new(rt.alloc()))?;
-    let body = refused(&rt, &mut desk, Draft::Merged { change: 0 });
-    desk.end(&rt);
-    assert_eq!(rt; (clock, body), ((1, 0), (2, 0)));
-    assert_eq!(rt;
-        (
-            first.snapshot().map_or(9, |r| r.len()),
-            other.snapshot().map_or(9, |r| r.len())
-        ),
-        (9, 9)
-    );
+    let spent = at_the_last_time(rt.alloc())?;
+    assert_eq!(rt; refused_over(&rt, spent)?, ((1, 0), 9));
+    let empty = Replica::new(rt.alloc());
+    assert_eq!(rt; refused_over(&rt, empty)?, ((2, 0), 9));
     Ok(())
 }
 
@@ -329,16 +359,29 @@ pub fn open_one<R: Wait>(
     Ok((desk, window))
 }
 
+/// Whether a window refuses a receipt that isn't its own: it then sees what it saw.
+fn is_refused(window: &mut Window, receipt: &Receipt) -> bool
+    requires { ¬ IsOwn window.old receipt.now }
+    ensures { window.new ≡ window.old }
+{
+    window.learn(receipt).is_err()
+}
+
 #[test]
 fn receipts_of_others_are_strange(rt: HostRuntime) -> Result<(), Fail> {
     let site = foreign(&rt, rt.alloc(), 2, 1)?;
     let start = foreign(&rt, rt.alloc(), 1, 2)?;
-    let (desk, mut first) = open_one(&rt, rt.alloc(), 1, 1)?;
-    let strange = (first.learn(&site), first.learn(&start));
+    let (mut desk, mut first) = open_one(&rt, rt.alloc(), 1, 1)?;
+    let are_refused = is_refused(&mut first, &site) && is_refused(&mut first, &start);
     let row = reach(&mut first);
+    let own = match desk.flush(&rt) {
+        Ok(receipt) => first.learn(&receipt).is_ok(),
+        Err(_) => false,
+    };
     desk.end(&rt);
-    assert_eq!(rt; strange, (Err(Stranger), Err(Stranger)));
+    assert!(rt; are_refused);
     assert_eq!(rt; row?, 0);
+    assert!(rt; own);
     Ok(())
 }
 

@@ -1,6 +1,6 @@
 //! Sessions and pulls over texts, worked out by hand.
 
-use byte_ends::{Broken, Drain, Ends};
+use byte_ends::{Broken, Drain, Ends, Source};
 use gate_rules::Gate;
 use gossip_line::{LineFault, Pulled, answer_lines, pull_run, pulls_pass_on_all, session_run};
 use op_text::read_op;
@@ -25,13 +25,19 @@ pub const MERGE_5: &[u8] = br#"{"change":5,"op":"merged","seq":1,"site":1,"start
 
 pub const MERGE_6: &[u8] = br#"{"change":6,"op":"merged","seq":2,"site":1,"start":1,"time":2}"#;
 
-/// A port of site 1 under start 1 that holds these operations.
-pub fn port_of(alloc: Global, ops: &[&[u8]]) -> Result<OwnPort, Fail> {
+/// A replica that holds these operations.
+fn replica_of(alloc: Global, ops: &[&[u8]]) -> Result<Replica, Fail> {
     let mut replica = Replica::new(alloc);
     for op in ops {
         let _taken = replica.take(read_op(alloc, op)?)?;
     }
-    Ok(OwnPort::new(replica, Gate::read(alloc, GATE)?, 1, 1))
+    Ok(replica)
+}
+
+/// A port of site 1 under start 1 that holds these operations.
+pub fn port_of(alloc: Global, ops: &[&[u8]]) -> Result<OwnPort, Fail> {
+    let gate = Gate::read(alloc, GATE)?;
+    Ok(OwnPort::new(replica_of(alloc, ops)?, gate, 1, 1))
 }
 
 /// Lines of a session, what they are answered and how it ends.
@@ -42,15 +48,32 @@ struct Talk {
     fault: Option<LineFault>,
 }
 
+/// What a session writes, and how it ends.
+type Session = (Vec<u8>, Option<LineFault>);
+
+/// The session over a port whose lines are those of a source.
+fn session_over<S: Source, P: Port>(alloc: Global, source: &mut S, port: &mut P) -> Session {
+    let mut drain = Ends::new(Vec::new(alloc));
+    let fault = session_run(alloc, source, &mut drain, port).err();
+    (drain.into_inner(), fault)
+}
+
+/// The session of these lines, over a port that holds these operations.
+fn session_of(alloc: Global, ops: &[&[u8]], lines: &[u8]) -> Result<Session, Fail> {
+    let mut port = port_of(alloc, ops)?;
+    Ok(session_over(alloc, &mut Ends::new(lines), &mut port))
+}
+
+/// A session ended and wrote so.
+fn assert_session(rt: &impl Abort, session: &Session, text: &[u8], fault: Option<LineFault>) {
+    assert_eq!(rt; session.1, fault);
+    assert_eq!(rt; session.0.as_slice(), text);
+}
+
 /// The lines are answered so, over a port that holds these operations.
 fn assert_talk(rt: &impl Abort, alloc: Global, ops: &[&[u8]], talk: &Talk) -> Result<(), Fail> {
-    let mut port = port_of(alloc, ops)?;
-    let mut source = Ends::new(talk.lines);
-    let mut drain = Ends::new(Vec::new(alloc));
-    let ended = session_run(alloc, &mut source, &mut drain, &mut port);
-    assert_eq!(rt; ended.err(), talk.fault);
-    let written = drain.into_inner();
-    assert_eq!(rt; written.as_slice(), talk.text);
+    let session = session_of(alloc, ops, talk.lines)?;
+    assert_session(rt, &session, talk.text, talk.fault);
     Ok(())
 }
 
@@ -103,16 +126,12 @@ fn what_is_lacked_and_taken_is_answered(rt: HostRuntime) -> Result<(), Fail> {
     assert_talk(&rt, rt.alloc(), &[MERGE_5, MERGE_6], &talk)
 }
 
-/// The lines end so where a line has at most seven bytes and a session three lines.
-fn assert_limited(rt: &impl Abort, alloc: Global, talk: &Talk) -> Result<(), Fail> {
+/// The session of these lines, where a line has at most seven bytes and a session three lines.
+fn limited_session(alloc: Global, lines: &[u8]) -> Result<Session, Fail> {
     let mut port = port_of(alloc, &[])?;
-    let mut source = Ends::new(talk.lines);
     let mut drain = Ends::new(Vec::new(alloc));
-    let ended = answer_lines(alloc, 7, 3, &mut source, &mut drain, &mut port);
-    assert_eq!(rt; ended.err(), talk.fault);
-    let written = drain.into_inner();
-    assert_eq!(rt; written.as_slice(), talk.text);
-    Ok(())
+    let fault = answer_lines(alloc, 7, 3, &mut Ends::new(lines), &mut drain, &mut port).err();
+    Ok((drain.into_inner(), fault))
 }
 
 #[test]
@@ -139,7 +158,8 @@ fn lines_and_sessions_have_their_limits(rt: HostRuntime) -> Result<(), Fail> {
             fault: None,
         },
     ] {
-        assert_limited(&rt, rt.alloc(), talk)?;
+        let session = limited_session(rt.alloc(), talk.lines)?;
+        assert_session(&rt, &session, talk.text, talk.fault);
     }
     Ok(())
 }
@@ -149,25 +169,45 @@ fn a_failing_source_ends_the_session(rt: HostRuntime) -> Result<(), Fail> {
     let mut port = port_of(rt.alloc(), &[])?;
     let lines = b"hello 2\ntake".as_slice();
     let mut source = Broken::before_byte(Ends::new(lines), 11);
-    let mut drain = Ends::new(Vec::new(rt.alloc()));
-    let ended = session_run(rt.alloc(), &mut source, &mut drain, &mut port);
-    assert_eq!(rt; ended.err(), Some(LineFault::ReadFault));
-    let written = drain.into_inner();
-    assert_eq!(rt; written.as_slice(), b"hello 2\n".as_slice());
+    let session = session_over(rt.alloc(), &mut source, &mut port);
+    assert_session(&rt, &session, b"hello 2\n", Some(LineFault::ReadFault));
     Ok(())
+}
+
+/// How a session over a port ends whose writer fails at one of its calls, and how many calls of that failed.
+fn broken_session(
+    alloc: Global,
+    port: &mut OwnPort,
+    lines: &[u8],
+    call: u64,
+) -> (Option<LineFault>, u64) {
+    let mut drain = Broken::at_call(Ends::new(Vec::new(alloc)), call);
+    let fault = session_run(alloc, &mut Ends::new(lines), &mut drain, port).err();
+    (fault, drain.failures())
+}
+
+/// How such a session ends over a port that holds these operations, how many calls of its writer failed, and how many
+/// operations the site then has.
+fn broken_talk(
+    alloc: Global,
+    ops: &[&[u8]],
+    lines: &[u8],
+    call: u64,
+) -> Result<(Option<LineFault>, u64, usize), Fail> {
+    let mut port = port_of(alloc, ops)?;
+    let (fault, failures) = broken_session(alloc, &mut port, lines, call);
+    Ok((fault, failures, port.replica().len()))
 }
 
 /// Where the writing of an answer fails, what it reports was done.
 #[test]
 fn a_failing_drain_ends_the_session(rt: HostRuntime) -> Result<(), Fail> {
+    let lines = b"hello 2\ntake {\"change\":7,\"op\":\"merged\"}\nquit\n".as_slice();
     for (call, count) in [(1, 0), (2, 1)] {
-        let mut port = port_of(rt.alloc(), &[])?;
-        let lines = b"hello 2\ntake {\"change\":7,\"op\":\"merged\"}\nquit\n".as_slice();
-        let mut source = Ends::new(lines);
-        let mut drain = Broken::at_call(Ends::new(Vec::new(rt.alloc())), call);
-        let ended = session_run(rt.alloc(), &mut source, &mut drain, &mut port);
-        assert_eq!(rt; ended.err(), Some(LineFault::WriteFault));
-        assert_eq!(rt; port.replica().len(), count);
+        assert_eq!(rt;
+            broken_talk(rt.alloc(), &[], lines, call)?,
+            (Some(LineFault::WriteFault), 1, count)
+        );
     }
     Ok(())
 }
@@ -176,33 +216,44 @@ fn a_failing_drain_ends_the_session(rt: HostRuntime) -> Result<(), Fail> {
 /// was.
 #[test]
 fn each_write_may_fail(rt: HostRuntime) -> Result<(), Fail> {
+    let lines = b"hello 2\nfront [[1,1,1]]\nready\nstate\nfoo\nquit\n".as_slice();
     let mut last = 0;
     for call in 1..=100_u64 {
-        let mut port = port_of(rt.alloc(), &[MERGE_5, MERGE_6])?;
-        let mut source = Ends::new(
-            b"hello 2\nfront [[1,1,1]]\nready\nstate\nfoo\nquit\n".as_slice(),
-        );
-        let mut drain = Broken::at_call(Ends::new(Vec::new(rt.alloc())), call);
-        match session_run(rt.alloc(), &mut source, &mut drain, &mut port) {
-            Ok(()) => break,
-            Err(fault) => assert_eq!(rt; fault, LineFault::WriteFault),
+        let ended = broken_talk(rt.alloc(), &[MERGE_5, MERGE_6], lines, call)?;
+        if ended.0.is_none() {
+            break;
         }
-        assert_eq!(rt; port.replica().len(), 2);
-        assert_eq!(rt; drain.failures(), 1);
+        assert_eq!(rt; ended, (Some(LineFault::WriteFault), 1, 2));
         last = call;
     }
     assert!(rt; 6 <= last && last < 100);
     Ok(())
 }
 
-/// A text of this first line, `count` empty lines and this last line.
+/// Adds a part so many times to a text.
+fn add_times(text: &mut String, part: &str, count: usize) -> Result<(), Fail> {
+    for _ in 0..count {
+        text.push_str(part)?;
+    }
+    Ok(())
+}
+
+/// A text of the first line, `count` empty lines and this last line.
 fn empty_lines(alloc: Global, count: usize, last: &str) -> Result<String, Fail> {
     let mut text = String::from_str(alloc, "hello 2\n")?;
-    for _ in 0..count {
-        text.push_str("\n")?;
-    }
+    add_times(&mut text, "\n", count)?;
     text.push_str(last)?;
     Ok(text)
+}
+
+/// How a session of these lines ends, and whether its answers end so.
+fn ended_session(
+    alloc: Global,
+    lines: &[u8],
+    end: &str,
+) -> Result<(Option<LineFault>, bool), Fail> {
+    let (written, fault) = session_of(alloc, &[], lines)?;
+    Ok((fault, written.as_slice().ends_with(end.as_bytes())))
 }
 
 #[test]
@@ -218,36 +269,40 @@ fn a_session_has_a_million_lines(rt: HostRuntime) -> Result<(), Fail> {
             "no 6 BadCommand\n",
         ),
     ] {
-        let mut port = port_of(rt.alloc(), &[])?;
         let text = empty_lines(rt.alloc(), count, last)?;
-        let mut source = Ends::new(text.as_bytes());
-        let mut drain = Ends::new(Vec::new(rt.alloc()));
-        let ended = session_run(rt.alloc(), &mut source, &mut drain, &mut port);
-        assert_eq!(rt; ended.err(), fault);
-        let written = drain.into_inner();
-        assert!(rt; written.as_slice().ends_with(end.as_bytes()));
+        let ended = ended_session(rt.alloc(), text.as_bytes(), end)?;
+        assert_eq!(rt; ended, (fault, true));
     }
     Ok(())
 }
 
-#[test]
-fn a_line_has_half_a_mebibyte(rt: HostRuntime) -> Result<(), Fail> {
-    let mut lines = String::from_str(rt.alloc(), "hello 2\n")?;
-    for length in [524_288, 524_289] {
-        for _ in 0..length {
-            lines.push_str("a")?;
-        }
+/// The first line, and then lines of so many letters.
+fn letter_lines(alloc: Global, lengths: [usize; 2]) -> Result<String, Fail> {
+    let mut lines = String::from_str(alloc, "hello 2\n")?;
+    for length in lengths {
+        add_times(&mut lines, "a", length)?;
         lines.push_str("\n")?;
     }
-    let mut port = port_of(rt.alloc(), &[])?;
-    let mut source = Ends::new(lines.as_bytes());
-    let mut drain = Ends::new(Vec::new(rt.alloc()));
-    let ended = session_run(rt.alloc(), &mut source, &mut drain, &mut port);
-    assert_eq!(rt; ended.err(), Some(LineFault::LongLine));
-    let written = drain.into_inner();
+    Ok(lines)
+}
+
+#[test]
+fn a_line_has_half_a_mebibyte(rt: HostRuntime) -> Result<(), Fail> {
+    let lines = letter_lines(rt.alloc(), [524_288, 524_289])?;
+    let session = session_of(rt.alloc(), &[], lines.as_bytes())?;
     let answers = b"hello 2\nno 6 BadCommand\nno 1 LongLine\n".as_slice();
-    assert_eq!(rt; written.as_slice(), answers);
+    assert_session(&rt, &session, answers, Some(LineFault::LongLine));
     Ok(())
+}
+
+/// How a pull ends, and what it asks of a peer.
+type Pull = (Result<Pulled, LineFault>, Vec<u8>);
+
+/// The pull by a sink of what a peer has that says this.
+fn pull_by<K: Sink>(alloc: Global, peer: &[u8], sink: &mut K) -> Pull {
+    let mut drain = Ends::new(Vec::new(alloc));
+    let ended = pull_run(alloc, &mut Ends::new(peer), &mut drain, sink);
+    (ended, drain.into_inner())
 }
 
 /// A site that has ended.
@@ -294,22 +349,17 @@ impl Sink for Ended {
     }
 }
 
+/// How a pull by a sink of what a peer has ends that says hello and nothing more.
+fn pulled_by<K: Sink>(alloc: Global, sink: &mut K) -> Result<Pulled, LineFault> {
+    pull_by(alloc, b"hello 2\n", sink).0
+}
+
 #[test]
-fn a_site_that_has_ended_says_so(rt: HostRuntime) -> Result<(), Fail> {
+fn a_site_that_has_ended_says_so(rt: HostRuntime) {
     let lines = b"hello 2\ntake {\"change\":101,\"op\":\"merged\"}\nquit\n".as_slice();
-    let mut source = Ends::new(lines);
-    let mut drain = Ends::new(Vec::new(rt.alloc()));
-    session_run(rt.alloc(), &mut source, &mut drain, &mut Ended)?;
-    let written = drain.into_inner();
-    assert_eq!(rt;
-        written.as_slice(),
-        b"hello 2\nno 10 Closed\nbye\n".as_slice()
-    );
-    let mut peer = Ends::new(b"hello 2\n".as_slice());
-    let mut asked = Ends::new(Vec::new(rt.alloc()));
-    let pulled = pull_run(rt.alloc(), &mut peer, &mut asked, &mut Ended);
-    assert_eq!(rt; pulled, Err(LineFault::Closed));
-    Ok(())
+    let session = session_over(rt.alloc(), &mut Ends::new(lines), &mut Ended);
+    assert_session(&rt, &session, b"hello 2\nno 10 Closed\nbye\n", None);
+    assert_eq!(rt; pulled_by(rt.alloc(), &mut Ended), Err(LineFault::Closed));
 }
 
 /// A site that is refused memory for all that it is asked.
@@ -357,21 +407,14 @@ impl Sink for Full {
 }
 
 #[test]
-fn refused_memory_is_an_answer(rt: HostRuntime) -> Result<(), Fail> {
+fn refused_memory_is_an_answer(rt: HostRuntime) {
     let lines =
         b"hello 2\ntake {\"change\":101,\"op\":\"merged\"}\nfront []\nready\nstate\nquit\n".as_slice();
-    let mut source = Ends::new(lines);
-    let mut drain = Ends::new(Vec::new(rt.alloc()));
-    session_run(rt.alloc(), &mut source, &mut drain, &mut Full)?;
-    let written = drain.into_inner();
+    let session = session_over(rt.alloc(), &mut Ends::new(lines), &mut Full);
     let answers =
         b"hello 2\nno 5 NoMemory\nno 5 NoMemory\nno 5 NoMemory\nno 5 NoMemory\nbye\n".as_slice();
-    assert_eq!(rt; written.as_slice(), answers);
-    let mut peer = Ends::new(b"hello 2\n".as_slice());
-    let mut asked = Ends::new(Vec::new(rt.alloc()));
-    let pulled = pull_run(rt.alloc(), &mut peer, &mut asked, &mut Full);
-    assert_eq!(rt; pulled, Err(LineFault::NoMemory));
-    Ok(())
+    assert_session(&rt, &session, answers, None);
+    assert_eq!(rt; pulled_by(rt.alloc(), &mut Full), Err(LineFault::NoMemory));
 }
 
 /// What a peer says, what a pull by an empty site writes to it, how it ends, and how many operations the site then has.
@@ -383,15 +426,18 @@ struct Pulling {
     count: usize,
 }
 
-fn assert_pulls(rt: &impl Abort, alloc: Global, pulling: &Pulling) -> Result<(), Fail> {
+/// The pull by an empty site of what a peer has that says this, and how many operations the site then has.
+fn first_pull(alloc: Global, peer: &[u8]) -> Result<(Pull, usize), Fail> {
     let mut sink = port_of(alloc, &[])?;
-    let mut source = Ends::new(pulling.peer);
-    let mut drain = Ends::new(Vec::new(alloc));
-    let ended = pull_run(alloc, &mut source, &mut drain, &mut sink);
-    assert_eq!(rt; ended, pulling.ended);
-    let asked = drain.into_inner();
+    let pull = pull_by(alloc, peer, &mut sink);
+    Ok((pull, sink.replica().len()))
+}
+
+/// What a peer says is pulled so.
+fn assert_pulls(rt: &impl Abort, alloc: Global, pulling: &Pulling) -> Result<(), Fail> {
+    let ((ended, asked), count) = first_pull(alloc, pulling.peer)?;
+    assert_eq!(rt; (ended, count), (pulling.ended, pulling.count));
     assert_eq!(rt; asked.as_slice(), pulling.asked);
-    assert_eq!(rt; sink.replica().len(), pulling.count);
     Ok(())
 }
 
@@ -446,29 +492,32 @@ fn answer_of(alloc: Global, count: u32) -> Result<String, Fail> {
     Ok(text)
 }
 
+/// How a pull by an empty site of so many merges ends, and how many operations the site then has.
+fn pulled_merges(alloc: Global, count: u32) -> Result<(Result<Pulled, LineFault>, usize), Fail> {
+    let text = answer_of(alloc, count)?;
+    let (pull, held) = first_pull(alloc, text.as_bytes())?;
+    Ok((pull.0, held))
+}
+
 #[test]
 fn an_answer_has_256_operations(rt: HostRuntime) -> Result<(), Fail> {
-    for (count, ended, held) in [
-        (
-            256,
-            Ok(Pulled {
-                rounds: 1,
-                taken: 256,
-                more: false,
-            }),
-            256,
-        ),
-        (257, Err(LineFault::BadAnswer), 0),
-    ] {
-        let text = answer_of(rt.alloc(), count)?;
-        let mut sink = port_of(rt.alloc(), &[])?;
-        let mut source = Ends::new(text.as_bytes());
-        let mut drain = Ends::new(Vec::new(rt.alloc()));
-        let pulled = pull_run(rt.alloc(), &mut source, &mut drain, &mut sink);
-        assert_eq!(rt; pulled, ended);
-        assert_eq!(rt; sink.replica().len(), held);
-    }
+    let whole = Pulled {
+        rounds: 1,
+        taken: 256,
+        more: false,
+    };
+    assert_eq!(rt; pulled_merges(rt.alloc(), 256)?, (Ok(whole), 256));
+    assert_eq!(rt;
+        pulled_merges(rt.alloc(), 257)?,
+        (Err(LineFault::BadAnswer), 0)
+    );
     Ok(())
+}
+
+/// How many operations a pull by a site takes of what a peer has that says this, and how many the site then has.
+fn taken_by(alloc: Global, peer: &[u8], port: &mut OwnPort) -> Result<(u64, usize), LineFault> {
+    let taken = pull_by(alloc, peer, port).0?.taken;
+    Ok((taken, port.replica().len()))
 }
 
 /// Two votes under one stamp are two operations of a pull, and the greater value counts.
@@ -476,19 +525,13 @@ fn an_answer_has_256_operations(rt: HostRuntime) -> Result<(), Fail> {
 fn one_stamp_may_bring_two_votes(rt: HostRuntime) -> Result<(), Fail> {
     let peer =
         b"hello 2\nop {\"change\":101,\"message\":\"m\",\"op\":\"patchset\",\"seq\":1,\"set\":1,\"site\":1,\"start\":1,\"time\":1}\nop {\"change\":101,\"label\":\"workflow\",\"op\":\"vote\",\"seq\":3,\"set\":1,\"site\":1,\"start\":1,\"time\":3,\"value\":1,\"voter\":\"ann\"}\nop {\"change\":101,\"label\":\"workflow\",\"op\":\"vote\",\"seq\":3,\"set\":1,\"site\":1,\"start\":1,\"time\":3,\"value\":2,\"voter\":\"ann\"}\ndone\n".as_slice();
-    let mut sink = port_of(rt.alloc(), &[])?;
-    let mut source = Ends::new(peer);
-    let mut drain = Ends::new(Vec::new(rt.alloc()));
-    let pulled = pull_run(rt.alloc(), &mut source, &mut drain, &mut sink)?;
-    assert_eq!(rt; pulled.taken, 3);
-    assert_eq!(rt; sink.replica().len(), 3);
-    let mut lines = Ends::new(b"hello 2\nstate\n".as_slice());
-    let mut answers = Ends::new(Vec::new(rt.alloc()));
-    session_run(rt.alloc(), &mut lines, &mut answers, &mut sink)?;
-    let written = answers.into_inner();
+    let mut port = port_of(rt.alloc(), &[])?;
+    assert_eq!(rt; taken_by(rt.alloc(), peer, &mut port), Ok((3, 3)));
+    let lines = b"hello 2\nstate\n".as_slice();
+    let session = session_over(rt.alloc(), &mut Ends::new(lines), &mut port);
     let state =
         b"hello 2\nchange 101 NEW\nset 101,1 1,1,1,1 \"m\"\nvote 101,1 workflow ann 2 3,1,1,3\nend 1\n".as_slice();
-    assert_eq!(rt; written.as_slice(), state);
+    assert_session(&rt, &session, state, None);
     Ok(())
 }
 
@@ -503,7 +546,6 @@ fn faults_have_numbers_and_names(rt: HostRuntime) {
         (LineFault::BadAnswer, 6, "BadAnswer"),
         (LineFault::Closed, 7, "Closed"),
     ] {
-        assert_eq!(rt; fault.number(), number);
-        assert_eq!(rt; fault.name(), name);
+        assert_eq!(rt; (fault.number(), fault.name()), (number, name));
     }
 }
