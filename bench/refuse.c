@@ -5,6 +5,8 @@
 #include <errno.h>
 #include <stdio.h>
 #include <stdlib.h>
+#include <sys/syscall.h>
+#include <unistd.h>
 static long count, nth;
 __attribute__((destructor)) static void told(void) {
     long all = count;
@@ -14,6 +16,12 @@ __attribute__((destructor)) static void told(void) {
         fprintf(f, "%ld\n", all);
         fclose(f);
     }
+}
+// A program of threads ends by this, without its destructors.
+void _exit(int status) {
+    told();
+    syscall(SYS_exit_group, status);
+    __builtin_unreachable();
 }
 static int refuse(void) {
     if (!nth) {
