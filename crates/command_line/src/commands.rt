@@ -12,7 +12,7 @@ use clap::{Arg, Command};
 use std::alloc::{AllocError, Global};
 
 /// The program's version, and the identity of the toolchain that proves and builds it, as `rt version` prints it.
-const VERSION: &str = "0.1.0 (rattle-kit-13b logic dac8208d650f15bf)";
+const VERSION: &str = "0.1.0 (rattle-kit-13f logic dac8208d650f15bf)";
 
 /// What the program's help ends with: the command whose words are read by `serve_words`.
 const SITES: &str =

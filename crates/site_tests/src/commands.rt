@@ -208,6 +208,6 @@ fn the_version_names_the_toolchain(rt: HostRuntime) {
     let command = read_words(rt.alloc(), ["--version"].as_slice());
     assert_eq!(rt;
         text_of(&command),
-        "reviewgate 0.1.0 (rattle-kit-13b logic dac8208d650f15bf)\n"
+        "reviewgate 0.1.0 (rattle-kit-13f logic dac8208d650f15bf)\n"
     );
 }
