@@ -69,17 +69,6 @@ pub new_grows : {K T E : Type 0} (old new : Entries K) (op : Operation) (result 
 new_grows old new op (Ok v) ok err = chosen_grows old.account new.account op ok
 new_grows old new op (Err e) ok err = same_grows old.account new.account (ap (λ l. l.account) err)
 
--- a publish brings all that is published or held
-arrive-push : (log : List (List Operation)) (ops : List Operation) → 0 < length log
-    → arrive (log ++ ops ∷ []) ≡ all_arrived (arrive log) ops
-arrive-push [] ops some = absurd (omega arith)
-arrive-push (opening ∷ publishes) ops some = fold_push all_arrived opening publishes ops
-
-pub published_all : (old new : Account) (receipt : Extent) → 0 < length old.published → new ≡ flushing old
-    → receipt ≡ receipt_of new None → IsPartOf (record_of old) (arrive receipt.published)
-published_all old new receipt some is shows op h =
-    ap (λ (j : List Operation). has j op) (ap (λ (e : Extent). arrive e.published) shows ∙ (ap (λ (a : Account). arrive a.published) is ∙ arrive-push old.published old.held some)) ∙ h
-
 -- what was stamped is in whatever has the journal
 pub taken_on : (journal other : List Operation) → IsPartOf journal other → (held : Result (Option Timestamp) DeskFault)
     → IsTakenInto journal held → IsTakenInto other held

@@ -65,14 +65,6 @@ module _ (state : State) where
     items = λ item has. elim (after.items item has) [ inl was ↦ before.items item was | inr is ↦ inr is ];
   }
 
-  pub adds_all : (wanted ahead : Item → Type 0) (old new : List Item) → ((item : Item) → ¬ ahead item)
-      → AddsBut state wanted ahead old new → AddsItems state wanted old new
-  adds_all wanted ahead old new none adds = record {
-    keeps = adds.keeps;
-    adds = λ item is want. elim (adds.adds item is want) [ inl has ↦ inl has | inr waits ↦ absurd (none item waits) ];
-    items = adds.items;
-  }
-
   -- what is listed in two steps are items of the state
   pub seeds_items : (first then : Item → Type 0) (mid new : List Item) → AddsItems state first [] mid
       → AddsItems state then mid new → (item : Item) → Contains new item → IsItem state item

@@ -170,23 +170,6 @@ module _ (state : State) (namers : Namers) (later : List Operation) where
       ];
     }
 
-  added_all : (items : BTreeSet (ℕ × ℕ)) (number : ℕ) → Contains [] number ⊎ AreAdded namers items number
-      → AreAdded namers items number
-  added_all items number (inl none) = absurd (Contains-none number none)
-  added_all items number (inr added) = added
-
-  pub spread_all : (items : BTreeSet (ℕ × ℕ)) → IsSpreading state namers later items []
-      → HoldNamers state namers later (is_reached later false items)
-  spread_all items is = record {
-    waiting = λ item number names told_so. or_second (touches later item.change) (has_item items item)
-        (added_all items number (is.touched number told_so) item names);
-    leading = λ item other names current reached.
-        or_second (touches later item.change) (has_item items item) (elim (or_cases (touches later other.change) (has_item items other) reached) [
-          | inl touched ↦ added_all items other.change (is.touched other.change touched) item names
-          | inr has ↦ added_all items other.change (is.current other has current) item names
-        ]);
-  }
-
   pub all_held : (items : BTreeSet (ℕ × ℕ)) → HoldNamers state namers later (is_reached later true items)
   all_held items = record {
     waiting = λ item number names told_so. or_second (touches later item.change) true refl;
