@@ -4,7 +4,6 @@ ghost use Rattle.std.specs.Prelude.{false, true};
 
 use chunk_list::{ChunkList, Probe};
 use lattice_core::NoMemory;
-use linked_list_allocator::LocalHeap;
 use std::alloc::Allocator;
 use std::process::Abort;
 use std::test::Fail;
@@ -82,28 +81,5 @@ fn an_item_is_replaced(rt: HostRuntime) -> Result<(), Fail> {
     assert!(rt; left.next().copied() == Some(1));
     assert!(rt; left.next().copied() == Some(9));
     assert!(rt; left.next().is_none());
-    Ok(())
-}
-
-/// Adds numbers at the front until memory is refused, and answers how many there are.
-fn filled<A: Allocator + Copy>(list: &mut ChunkList<u32, A>) -> u32 {
-    for count in 0..1_000_000 {
-        if list.insert(&AtFront, count).is_err() {
-            return count;
-        }
-    }
-    0
-}
-
-#[test]
-fn a_refused_item_changes_nothing(rt: HostRuntime) -> Result<(), Fail> {
-    let heap = LocalHeap::new(rt.alloc(), 65_536)?;
-    let mut list = ChunkList::new(&heap);
-    let count = filled(&mut list);
-    assert!(rt; count > 1000);
-    for number in (0..count).rev() {
-        assert!(rt; list.remove(&AtFront) == Some(number));
-    }
-    assert!(rt; list.last().is_none());
     Ok(())
 }

@@ -1,7 +1,6 @@
 //! Operations, their bodies and stamps: what is good, in which order they come, and copies, worked out by hand.
 
 use lattice_core::{Keep, NoMemory};
-use linked_list_allocator::LocalHeap;
 use review_ops::{Body, Draft, Op, Stamp};
 use std::alloc::{AllocError, Allocator, Global};
 use std::process::Abort;
@@ -330,58 +329,5 @@ fn orders(rt: HostRuntime) -> Result<(), Fail> {
         assert_early(&rt, rt.alloc(), lesser, greater)?;
         assert_stamp_counts(&rt, rt.alloc(), greater)?;
     }
-    Ok(())
-}
-
-// Whether a copy of an operation was refused memory. A copy is equal.
-fn refuses_copy<A: Allocator + Copy>(rt: &impl Abort, op: &Op<A>) -> bool {
-    match op.copy() {
-        Ok(copy) => {
-            assert!(rt; copy == *op);
-            false
-        }
-        Err(NoMemory) => true,
-    }
-}
-
-// A vote in a heap that suffices for it.
-fn vote_in(heap: &LocalHeap) -> Result<Option<Op<&LocalHeap>>, Fail> {
-    let Ok(draft) = vote(heap, 1, 1, "Code-Review", "ann", 1) else {
-        return Ok(None);
-    };
-    let body = Body::checked(draft).map_err(|_| "refused")?;
-    Ok(Some(Op::new(stamp(1, 1, 1, 1)?, body)))
-}
-
-// The operation still has its label.
-fn assert_whole<A: Allocator + Copy>(rt: &impl Abort, op: Op<A>) {
-    let (_, body) = op.into_parts();
-    assert!(rt; body.draft().label() == Some("code-review"));
-}
-
-// Whether a copy of a vote was refused memory, where a heap of this size suffices for the vote. A refusal leaves the
-// operation as it was.
-fn refuses_copy_in(rt: &impl Abort, alloc: Global, size: usize) -> Result<Option<bool>, Fail> {
-    let heap = LocalHeap::new(alloc, size)?;
-    let Some(op) = vote_in(&heap)? else {
-        return Ok(None);
-    };
-    let refused = refuses_copy(rt, &op);
-    assert_whole(rt, op);
-    Ok(Some(refused))
-}
-
-#[test]
-fn refused_memory(rt: HostRuntime) -> Result<(), Fail> {
-    let mut refused = false;
-    let mut copied = false;
-    for size in 0..256 {
-        match refuses_copy_in(&rt, rt.alloc(), size)? {
-            Some(true) => refused = true,
-            Some(false) => copied = true,
-            None => {}
-        }
-    }
-    assert!(rt; refused && copied);
     Ok(())
 }

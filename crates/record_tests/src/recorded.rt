@@ -1,7 +1,6 @@
 //! What a record says, worked out by hand.
 
 use event_filter::{is_recorded, what_is_recorded_changes_no_view, what_is_taken_in_is_recorded};
-use linked_list_allocator::LocalHeap;
 use review_ops::{Body, Draft, Op, Stamp};
 use state_core::State;
 use std::alloc::{Allocator, Global};
@@ -200,22 +199,8 @@ fn a_status_is_recorded(rt: HostRuntime) {
     assert_said(&rt, rt.alloc(), &STATUSES);
 }
 
-/// Whether a heap of this size suffices to hold a vote and to look for it.
-fn is_asked_in(rt: &impl Abort, alloc: Global, size: usize) -> Result<bool, Fail> {
-    let heap = LocalHeap::new(alloc, size)?;
-    let said = says(&heap, &[APPROVED], APPROVED);
-    assert!(rt; said != Some(false));
-    Ok(said.is_some())
-}
-
 #[test]
-fn refused_memory_is_answered(rt: HostRuntime) -> Result<(), Fail> {
-    let mut sufficed = false;
-    for steps in 0..512usize {
-        sufficed = is_asked_in(&rt, rt.alloc(), steps * 8)?;
-    }
-    assert!(rt; sufficed);
+fn laws_are_called() {
     what_is_recorded_changes_no_view();
     what_is_taken_in_is_recorded();
-    Ok(())
 }

@@ -2,7 +2,6 @@
 
 use super::plain_replica::Plain;
 use lattice_core::NoMemory;
-use linked_list_allocator::LocalHeap;
 use replica_core::{Front, Missing, Replica, Row, Taken};
 use review_ops::{Body, Draft, Op, Stamp};
 use std::alloc::{Allocator, Global};
@@ -370,65 +369,6 @@ fn a_front_goes_as_far_as_there_is_no_gap(rt: HostRuntime) -> Result<(), Fail> {
     assert_nothing_lacked(&rt, &replica)
 }
 
-/// How many operations the replica has, whether it has something of change 101, and how many votes on that.
-fn held<A: Allocator + Copy>(replica: &Replica<A>) -> (usize, bool, usize) {
-    match replica.change(101) {
-        Some(change) => (replica.len(), true, change.all_votes().len()),
-        None => (replica.len(), false, 0),
-    }
-}
-
-/// The replica has this many operations, of which the first is a patch set and the second a vote.
-fn assert_held<A: Allocator + Copy>(rt: &impl Abort, replica: &Replica<A>, wanted: usize) {
-    assert_eq!(rt;
-        held(replica),
-        (wanted, wanted > 0, wanted.saturating_sub(1))
-    );
-}
-
-/// Takes an operation where memory suffices for it, and says whether it did. What was refused left nothing behind.
-fn takes<A: Allocator + Copy>(
-    rt: &impl Abort,
-    replica: &mut Replica<A>,
-    made: Option<Op<A>>,
-) -> bool {
-    let Some(op) = made else {
-        return false;
-    };
-    let before = replica.len();
-    let taken = replica.take(op).is_ok();
-    assert_held(rt, replica, before.saturating_add(usize::from(taken)));
-    taken
-}
-
-/// Takes a patch set and a vote where memory suffices for them, and says how many it took.
-fn take_two<A: Allocator + Copy>(rt: &impl Abort, alloc: A) -> usize {
-    let mut replica = Replica::new(alloc);
-    let set = patch_set(alloc, 1, "a message that takes room", None);
-    if takes(rt, &mut replica, set) {
-        takes(rt, &mut replica, vote(alloc, 2, 1));
-    }
-    replica.len()
-}
-
-/// Takes a patch set and a vote in a heap of this size, and says how many it took.
-fn taken_in(rt: &impl Abort, alloc: Global, size: usize) -> Result<usize, Fail> {
-    let heap = LocalHeap::new(alloc, size)?;
-    Ok(take_two(rt, &heap))
-}
-
-#[test]
-fn a_refused_take_changes_nothing(rt: HostRuntime) -> Result<(), Fail> {
-    let mut most = 0;
-    for steps in 0..2048usize {
-        let taken = taken_in(&rt, rt.alloc(), steps * 8)?;
-        assert!(rt; taken >= most);
-        most = taken;
-    }
-    assert_eq!(rt; most, 2);
-    Ok(())
-}
-
 /// A patch set that a replica has before it is copied.
 const FIRST: [Step; 1] = [Step::PatchSet(1, "m", None)];
 
@@ -552,130 +492,6 @@ fn what_has_all_is_absorbed_into_a_part_of_it(rt: HostRuntime) -> Result<(), Fai
     let whole = with_all_merges(&rt, rt.alloc())?;
     let found = merged_and_copied(rt.alloc(), whole)?;
     assert_eq!(rt; found, ((5, true), (5, true, true)));
-    Ok(())
-}
-
-/// Takes a vote, and says whether the replica had it, where memory suffices for it.
-fn take_vote<A: Allocator + Copy>(alloc: A, replica: &mut Replica<A>, time: u64) -> Option<Taken> {
-    let op = vote(alloc, time, 1)?;
-    replica.take(op).ok()
-}
-
-/// The replica that took votes with these times, where memory suffices for it.
-fn voted<A: Allocator + Copy>(alloc: A, times: &[u64]) -> Option<Replica<A>> {
-    let mut replica = Replica::new(alloc);
-    for time in times {
-        take_vote(alloc, &mut replica, *time)?;
-    }
-    Some(replica)
-}
-
-/// Absorbs a replica with the votes 1 to 3, and says how many of them are in: the first ones.
-fn absorbed<A: Allocator + Copy>(
-    rt: &impl Abort,
-    replica: &mut Replica<A>,
-    other: Replica<A>,
-) -> usize {
-    let absorbed = match replica.absorb(other) {
-        Ok(()) => 3,
-        Err(partly) => partly.taken,
-    };
-    assert!(rt; absorbed <= 3);
-    assert_seqs(rt, replica.as_slice(), &[1, 2, 3][..absorbed.min(3)]);
-    absorbed
-}
-
-/// Whether memory suffices for a copy, which then has an equal state.
-fn is_copied<A: Allocator + Copy>(rt: &impl Abort, replica: &Replica<A>) -> bool {
-    let Ok(copied) = replica.copy() else {
-        return false;
-    };
-    assert!(rt; copied.same_state(replica));
-    true
-}
-
-/// Whether memory suffices for a replica to absorb one with three votes, and for a copy of both. What was refused left
-/// the first votes in.
-fn is_absorbed<A: Allocator + Copy>(rt: &impl Abort, alloc: A) -> bool {
-    let Some(other) = voted(alloc, &[3, 2, 1]) else {
-        return false;
-    };
-    let mut replica = Replica::new(alloc);
-    let absorbed = absorbed(rt, &mut replica, other);
-    is_copied(rt, &replica) && absorbed == 3
-}
-
-/// Whether a heap of this size suffices for a replica to absorb one with three votes, and for a copy of both.
-fn absorbed_in(rt: &impl Abort, alloc: Global, size: usize) -> Result<bool, Fail> {
-    let heap = LocalHeap::new(alloc, size)?;
-    Ok(is_absorbed(rt, &heap))
-}
-
-#[test]
-fn a_refused_absorb_says_how_many_are_in(rt: HostRuntime) -> Result<(), Fail> {
-    let mut sufficed = false;
-    for steps in 0..2048usize {
-        let suffices = absorbed_in(&rt, rt.alloc(), steps * 8)?;
-        assert!(rt; suffices || !sufficed);
-        sufficed = suffices;
-    }
-    assert!(rt; sufficed);
-    Ok(())
-}
-
-/// What memory suffices for, of what a replica shows.
-#[derive(Clone, Copy)]
-struct Shown {
-    front: bool,
-    missing: bool,
-}
-
-/// Whether memory suffices for the votes that an empty front lacks, which are then two.
-fn shows_missing<A: Allocator + Copy>(alloc: A, replica: &Replica<A>) -> bool {
-    match replica.missing(&Front::new(alloc), 2) {
-        Ok(missing) => missing.ops.len() == 2 && !missing.more,
-        Err(_) => false,
-    }
-}
-
-/// What memory suffices for, of what a replica with two votes shows. What was refused changed nothing.
-fn shows<A: Allocator + Copy>(rt: &impl Abort, alloc: A, replica: &Replica<A>) -> Shown {
-    let shown = Shown {
-        front: replica.front().is_ok(),
-        missing: shows_missing(alloc, replica),
-    };
-    assert_eq!(rt; replica.len(), 2);
-    shown
-}
-
-/// What memory suffices for, where it suffices for a replica with two votes.
-fn shown_of_two<A: Allocator + Copy>(rt: &impl Abort, alloc: A) -> Option<Shown> {
-    let replica = voted(alloc, &[1, 2])?;
-    Some(shows(rt, alloc, &replica))
-}
-
-/// What a heap of this size suffices for, where it holds a replica with two votes.
-fn shown_in(rt: &impl Abort, alloc: Global, size: usize) -> Result<Option<Shown>, Fail> {
-    let heap = LocalHeap::new(alloc, size)?;
-    Ok(shown_of_two(rt, &heap))
-}
-
-#[test]
-fn what_is_refused_is_not_shown(rt: HostRuntime) -> Result<(), Fail> {
-    let mut refused = Shown {
-        front: false,
-        missing: false,
-    };
-    let mut last = refused;
-    for steps in 0..1024usize {
-        if let Some(shown) = shown_in(&rt, rt.alloc(), steps * 8)? {
-            refused.front = refused.front || !shown.front;
-            refused.missing = refused.missing || !shown.missing;
-            last = shown;
-        }
-    }
-    assert!(rt; refused.front && refused.missing);
-    assert!(rt; last.front && last.missing);
     Ok(())
 }
 

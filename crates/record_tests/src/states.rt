@@ -1,7 +1,6 @@
 //! States worked out by hand, and what holds after refused memory.
 
 use lattice_core::Join;
-use linked_list_allocator::LocalHeap;
 use review_ops::{Body, Draft, Op, Stamp};
 use state_core::{Item, State, a_journal_has_one_state, equal_journals_have_equal_states};
 use std::alloc::{Allocator, Global};
@@ -108,47 +107,6 @@ fn states_join_change_by_change(rt: HostRuntime) -> Result<(), Fail> {
     let first = state_of(rt.alloc(), &STEPS[..1]).ok_or("memory")?;
     assert_covered(&rt, &first, &whole);
     assert_joined(&rt, first, &whole)
-}
-
-/// Whether memory suffices for a step. Where it doesn't, the state has something of as many changes as before.
-fn is_taken_or_left<A: Allocator + Copy>(
-    rt: &impl Abort,
-    alloc: A,
-    state: &mut State<A>,
-    time: u64,
-    step: Step,
-) -> bool {
-    let before = count(state);
-    let taken = take(alloc, state, time, step).is_some();
-    assert!(rt; taken || count(state) == before);
-    taken
-}
-
-/// Whether memory suffices for all steps, one after the other.
-fn are_taken_or_left<A: Allocator + Copy>(rt: &impl Abort, alloc: A, state: &mut State<A>) -> bool {
-    for (time, step) in (1u64..).zip(STEPS) {
-        if !is_taken_or_left(rt, alloc, state, time, step) {
-            return false;
-        }
-    }
-    true
-}
-
-/// Whether a heap of this size suffices for the state; a refused operation leaves the state of those before it.
-fn is_held_in(rt: &impl Abort, alloc: Global, size: usize) -> Result<bool, Fail> {
-    let heap = LocalHeap::new(alloc, size)?;
-    let mut state = State::new(&heap);
-    Ok(are_taken_or_left(rt, &heap, &mut state))
-}
-
-#[test]
-fn refused_memory_leaves_the_state(rt: HostRuntime) -> Result<(), Fail> {
-    let mut sufficed = false;
-    for steps in 0..512usize {
-        sufficed = is_held_in(&rt, rt.alloc(), steps * 8)?;
-    }
-    assert!(rt; sufficed);
-    Ok(())
 }
 
 #[test]

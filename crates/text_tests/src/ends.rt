@@ -2,7 +2,6 @@ use byte_ends::{
     Broken, BytesFault, Drain, Ends, Failed, Lines, Source, broken_fails_once,
     none_failed_means_ok, read_all, write_all,
 };
-use linked_list_allocator::LocalHeap;
 use std::alloc::Global;
 use std::process::Abort;
 use std::test::Fail;
@@ -141,6 +140,16 @@ fn assert_reads(
     }
 }
 
+/// A read without room moves nothing.
+fn assert_reads_nothing(rt: &impl Abort, source: &mut BrokenText<'_>) {
+    assert_moved(rt, source.read(&mut []), Ok(0));
+}
+
+/// The source has failed once.
+fn assert_failed_once(rt: &impl Abort, source: &BrokenText<'_>) {
+    assert!(rt; Source::failures(source) == 1);
+}
+
 // A source fails at its second call.
 #[test]
 fn a_source_that_breaks_at_a_call_goes_on(rt: HostRuntime) {
@@ -152,7 +161,7 @@ fn a_source_that_breaks_at_a_call_goes_on(rt: HostRuntime) {
         &mut piece,
         &[Ok(3), Err(Failed), Ok(1), Ok(0)],
     );
-    assert!(rt; Source::failures(&source) == 1);
+    assert_failed_once(&rt, &source);
     assert!(rt; piece[0] == b'd');
 }
 
@@ -162,9 +171,9 @@ fn a_source_that_breaks_before_a_byte_goes_on(rt: HostRuntime) {
     let mut piece = [0u8; 3];
     let mut source = Broken::before_byte(Ends::new(b"abcd".as_slice()), 3);
     assert_reads(&rt, &mut source, &mut piece, &[Ok(2)]);
-    assert_reads(&rt, &mut source, &mut [], &[Ok(0)]);
+    assert_reads_nothing(&rt, &mut source);
     assert_reads(&rt, &mut source, &mut piece, &[Err(Failed), Ok(2)]);
-    assert!(rt; Source::failures(&source) == 1);
+    assert_failed_once(&rt, &source);
     assert!(rt; piece[0] == b'c');
 }
 
@@ -215,37 +224,25 @@ fn a_drain_that_breaks_before_a_byte_goes_on(rt: HostRuntime) {
     assert_written(&rt, cut, b"abc".as_slice());
 }
 
+/// Writing these bytes moves so many, or fails.
+fn assert_writes(
+    rt: &impl Abort,
+    drain: &mut Ends<&mut [u8]>,
+    bytes: &[u8],
+    wanted: Result<usize, Failed>,
+) {
+    assert_moved(rt, drain.write(bytes), wanted);
+}
+
 // A writer that takes nothing more.
 #[test]
 fn a_full_writer_fails(rt: HostRuntime) {
     let mut room = [0u8; 2];
     let mut drain = Ends::new(room.as_mut_slice());
-    assert_moved(&rt, drain.write(b"abc"), Ok(2));
-    assert_moved(&rt, drain.write(b"c"), Err(Failed));
-    assert_moved(&rt, drain.write(b""), Ok(0));
+    assert_writes(&rt, &mut drain, b"abc", Ok(2));
+    assert_writes(&rt, &mut drain, b"c", Err(Failed));
+    assert_writes(&rt, &mut drain, b"", Ok(0));
     assert!(rt; Drain::failures(&drain) == 1);
-}
-
-// Each request for memory is refused in turn.
-#[test]
-fn reading_without_memory(rt: HostRuntime) -> Result<(), Fail> {
-    for refused in 0..1024usize {
-        let heap = LocalHeap::new(rt.alloc(), 16 * refused)?;
-        let mut source = Ends::new(b"abcdefghijklmnopqrstuvwxyz".as_slice());
-        match read_all(&heap, &mut source, 100) {
-            Ok(bytes) => {
-                assert_count(&rt, bytes.len(), 26);
-                assert!(rt; refused > 1);
-                return Ok(());
-            }
-            Err(fault) => {
-                assert_fault(&rt, Some(fault), BytesFault::NoMemory);
-                assert!(rt; source.failures() == 0);
-            }
-        }
-    }
-    assert!(rt; false, "never enough memory");
-    Ok(())
 }
 
 fn assert_line(rt: &impl Abort, line: Option<&[u8]>, wanted: Option<&[u8]>) {

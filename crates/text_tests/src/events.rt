@@ -2,27 +2,49 @@
 
 use gerrit_events::{EventFault, EventKey, Finding, Known, read_event};
 use op_text::write_body;
-use std::alloc::Global;
+use review_ops::Body;
+use std::alloc::{AllocError, Global};
 use std::process::Abort;
 use std::test::Fail;
 
-/// What is found in a line, as one text: the bodies as they are written, and the faults as `! NUMBER NAME KEY`, each
-/// on a line.
+/// Adds a fault, as `! NAME KEY`.
+fn push_fault(text: &mut String, fault: EventFault) -> Result<(), AllocError> {
+    text.push_str("! ")?;
+    text.push_str(fault.name())?;
+    match fault.key() {
+        Some(key) => push_key(text, key),
+        None => Ok(()),
+    }
+}
+
+/// Adds a key behind a blank.
+fn push_key(text: &mut String, key: EventKey) -> Result<(), AllocError> {
+    text.push(' ')?;
+    text.push_str(key.text())
+}
+
+/// Adds a body as it is written.
+fn push_body(alloc: Global, text: &mut String, body: &Body) -> Result<(), Fail> {
+    let written = write_body(alloc, body)?;
+    Ok(text.push_str(written.as_str())?)
+}
+
+/// Adds what was found, on a line.
+fn push_finding(alloc: Global, text: &mut String, finding: &Finding) -> Result<(), Fail> {
+    match finding {
+        Finding::Brings(body) => push_body(alloc, text, body)?,
+        Finding::Refuses(fault) => push_fault(text, *fault)?,
+    }
+    Ok(text.push('\n')?)
+}
+
+/// What is found in a line, as one text: the bodies as they are written, and the faults as `! NAME KEY`, each on a
+/// line.
 fn found_in(alloc: Global, known: &mut Known, line: &[u8]) -> Result<String, Fail> {
+    let findings = read_event(alloc, known, line)?;
     let mut text = String::new(alloc);
-    for finding in read_event(alloc, known, line)? {
-        match finding {
-            Finding::Brings(body) => text.push_str(write_body(alloc, &body)?.as_str())?,
-            Finding::Refuses(fault) => {
-                text.push_str("! ")?;
-                text.push_str(fault.name())?;
-                if let Some(key) = fault.key() {
-                    text.push(' ')?;
-                    text.push_str(key.text())?;
-                }
-            }
-        }
-        text.push('\n')?;
+    for finding in findings.as_slice() {
+        push_finding(alloc, &mut text, finding)?;
     }
     Ok(text)
 }
@@ -34,13 +56,20 @@ struct Row {
     found: &'static str,
 }
 
+/// What is found in the last of these lines.
+fn found_last(alloc: Global, lines: &[&str]) -> Result<String, Fail> {
+    let mut known = Known::new(alloc);
+    let mut found = String::new(alloc);
+    for line in lines {
+        found = found_in(alloc, &mut known, line.as_bytes())?;
+    }
+    Ok(found)
+}
+
+/// In each row's last line is found what stands beside it.
 fn assert_rows(rt: &impl Abort, alloc: Global, rows: &[Row]) -> Result<(), Fail> {
     for row in rows {
-        let mut known = Known::new(alloc);
-        let mut found = String::new(alloc);
-        for line in row.lines {
-            found = found_in(alloc, &mut known, line.as_bytes())?;
-        }
+        let found = found_last(alloc, row.lines)?;
         assert_eq!(rt; found.as_str(), row.found);
     }
     Ok(())
@@ -52,48 +81,47 @@ const CREATED: &str =
 const CHILD: &str =
     r#"{"type":"patchset-created","change":{"number":"102","commitMessage":"n"},"patchSet":{"number":"2","revision":"b2","parents":["f0","a1","a1"]}}"#;
 
+/// Patch sets that are made, with parents and without, and what is amiss with others.
+const PATCH_SETS: &[Row] = &[
+    Row {
+        lines: &[CREATED],
+        found: "{\"change\":101,\"message\":\"m\\n\",\"op\":\"patchset\",\"set\":1}\n",
+    },
+    Row {
+        lines: &[CREATED, CREATED],
+        found: "{\"change\":101,\"message\":\"m\\n\",\"op\":\"patchset\",\"set\":1}\n",
+    },
+    Row {
+        lines: &[CREATED, CHILD],
+        found: "{\"change\":102,\"message\":\"n\",\"op\":\"patchset\",\"parent\":101,\"set\":2}\n! BadEvent parents\n",
+    },
+    Row {
+        lines: &[CHILD],
+        found: "{\"change\":102,\"message\":\"n\",\"op\":\"patchset\",\"set\":2}\n",
+    },
+    Row {
+        lines: &[
+            r#"{"type":"patchset-created","change":{"number":0,"commitMessage":""},"patchSet":{"number":1}}"#,
+        ],
+        found: "! BadEvent change\n",
+    },
+    Row {
+        lines: &[
+            r#"{"type":"patchset-created","change":{"number":1,"commitMessage":""},"patchSet":{"number":"4294967296"}}"#,
+        ],
+        found: "! BadEvent patchSet\n",
+    },
+    Row {
+        lines: &[
+            r#"{"type":"patchset-created","change":{"number":1},"patchSet":{"number":4294967295}}"#,
+        ],
+        found: "! BadEvent commitMessage\n",
+    },
+];
+
 #[test]
 fn patch_sets_are_brought(rt: HostRuntime) -> Result<(), Fail> {
-    assert_rows(
-        &rt,
-        rt.alloc(),
-        &[
-            Row {
-                lines: &[CREATED],
-                found: "{\"change\":101,\"message\":\"m\\n\",\"op\":\"patchset\",\"set\":1}\n",
-            },
-            Row {
-                lines: &[CREATED, CREATED],
-                found: "{\"change\":101,\"message\":\"m\\n\",\"op\":\"patchset\",\"set\":1}\n",
-            },
-            Row {
-                lines: &[CREATED, CHILD],
-                found: "{\"change\":102,\"message\":\"n\",\"op\":\"patchset\",\"parent\":101,\"set\":2}\n! BadEvent parents\n",
-            },
-            Row {
-                lines: &[CHILD],
-                found: "{\"change\":102,\"message\":\"n\",\"op\":\"patchset\",\"set\":2}\n",
-            },
-            Row {
-                lines: &[
-                    r#"{"type":"patchset-created","change":{"number":0,"commitMessage":""},"patchSet":{"number":1}}"#,
-                ],
-                found: "! BadEvent change\n",
-            },
-            Row {
-                lines: &[
-                    r#"{"type":"patchset-created","change":{"number":1,"commitMessage":""},"patchSet":{"number":"4294967296"}}"#,
-                ],
-                found: "! BadEvent patchSet\n",
-            },
-            Row {
-                lines: &[
-                    r#"{"type":"patchset-created","change":{"number":1},"patchSet":{"number":4294967295}}"#,
-                ],
-                found: "! BadEvent commitMessage\n",
-            },
-        ],
-    )
+    assert_rows(&rt, rt.alloc(), PATCH_SETS)
 }
 
 const COMMENTED: &str =
@@ -102,228 +130,236 @@ const COMMENTED: &str =
 const VOTES: &str =
     "{\"change\":101,\"label\":\"verified\",\"op\":\"vote\",\"set\":1,\"value\":2,\"voter\":\"zuul\"}\n{\"change\":101,\"label\":\"code-review\",\"op\":\"withdraw\",\"set\":1,\"voter\":\"zuul\"}\n{\"change\":101,\"label\":\"workflow\",\"op\":\"withdraw\",\"set\":1,\"voter\":\"zuul\"}\n";
 
+/// Approvals that are given and taken back, and what is amiss with others.
+const APPROVALS: &[Row] = &[
+    Row {
+        lines: &[CREATED, COMMENTED],
+        found: VOTES,
+    },
+    Row {
+        lines: &[
+            r#"{"type":"vote-deleted","change":{"number":7},"patchSet":{"number":3},"reviewer":{"email":"bob@example.org"},"remover":{"username":"ann"},"approvals":[{"type":"Code-Review","value":"0","oldValue":"-2"},{"type":"Workflow","value":"1"}]}"#,
+        ],
+        found: "{\"change\":7,\"label\":\"code-review\",\"op\":\"withdraw\",\"set\":3,\"voter\":\"bob@example.org\"}\n{\"change\":7,\"label\":\"workflow\",\"op\":\"vote\",\"set\":3,\"value\":1,\"voter\":\"bob@example.org\"}\n",
+    },
+    Row {
+        lines: &[
+            r#"{"type":"reviewer-deleted","change":{"number":7},"patchSet":{"number":3},"reviewer":{"username":"bob","email":"b@example.org"},"approvals":[{"type":"L","value":-1,"oldValue":"-2"}]}"#,
+        ],
+        found: "{\"change\":7,\"label\":\"l\",\"op\":\"vote\",\"set\":3,\"value\":-1,\"voter\":\"bob\"}\n",
+    },
+    Row {
+        lines: &[r#"{"type":"comment-added","change":{"number":7},"patchSet":{"number":3}}"#],
+        found: "",
+    },
+    Row {
+        lines: &[
+            r#"{"type":"comment-added","change":{"number":7},"patchSet":{"number":3},"author":{"username":"a b"},"approvals":[{"type":"L","value":1},{"value":1},7,{"type":"L","value":"x"},{"type":"a_b","value":1},{"type":"L","value":128}]}"#,
+        ],
+        found: "! BadEvent username\n! BadEvent type\n! BadEvent type\n! BadEvent value\n! BadEvent type\n! BadEvent value\n",
+    },
+    Row {
+        lines: &[
+            r#"{"type":"comment-added","change":{"number":7},"patchSet":{"number":3},"author":{"name":"Ann"},"approvals":[{"type":"L","value":1}]}"#,
+        ],
+        found: "! BadEvent author\n",
+    },
+];
+
 #[test]
 fn approvals_are_votes(rt: HostRuntime) -> Result<(), Fail> {
-    assert_rows(
-        &rt,
-        rt.alloc(),
-        &[
-            Row {
-                lines: &[CREATED, COMMENTED],
-                found: VOTES,
-            },
-            Row {
-                lines: &[
-                    r#"{"type":"vote-deleted","change":{"number":7},"patchSet":{"number":3},"reviewer":{"email":"bob@example.org"},"remover":{"username":"ann"},"approvals":[{"type":"Code-Review","value":"0","oldValue":"-2"},{"type":"Workflow","value":"1"}]}"#,
-                ],
-                found: "{\"change\":7,\"label\":\"code-review\",\"op\":\"withdraw\",\"set\":3,\"voter\":\"bob@example.org\"}\n{\"change\":7,\"label\":\"workflow\",\"op\":\"vote\",\"set\":3,\"value\":1,\"voter\":\"bob@example.org\"}\n",
-            },
-            Row {
-                lines: &[
-                    r#"{"type":"reviewer-deleted","change":{"number":7},"patchSet":{"number":3},"reviewer":{"username":"bob","email":"b@example.org"},"approvals":[{"type":"L","value":-1,"oldValue":"-2"}]}"#,
-                ],
-                found: "{\"change\":7,\"label\":\"l\",\"op\":\"vote\",\"set\":3,\"value\":-1,\"voter\":\"bob\"}\n",
-            },
-            Row {
-                lines: &[
-                    r#"{"type":"comment-added","change":{"number":7},"patchSet":{"number":3}}"#,
-                ],
-                found: "",
-            },
-            Row {
-                lines: &[
-                    r#"{"type":"comment-added","change":{"number":7},"patchSet":{"number":3},"author":{"username":"a b"},"approvals":[{"type":"L","value":1},{"value":1},7,{"type":"L","value":"x"},{"type":"a_b","value":1},{"type":"L","value":128}]}"#,
-                ],
-                found: "! BadEvent username\n! BadEvent type\n! BadEvent type\n! BadEvent value\n! BadEvent type\n! BadEvent value\n",
-            },
-            Row {
-                lines: &[
-                    r#"{"type":"comment-added","change":{"number":7},"patchSet":{"number":3},"author":{"name":"Ann"},"approvals":[{"type":"L","value":1}]}"#,
-                ],
-                found: "! BadEvent author\n",
-            },
-        ],
-    )
+    assert_rows(&rt, rt.alloc(), APPROVALS)
 }
+
+/// Changes that are abandoned, restored, merged and deleted.
+const ENDS: &[Row] = &[
+    Row {
+        lines: &[
+            r#"{"type":"change-abandoned","change":{"number":7},"abandoner":{"username":"ann"}}"#,
+        ],
+        found: "{\"change\":7,\"op\":\"abandon\"}\n",
+    },
+    Row {
+        lines: &[r#"{"type":"change-restored","change":{"number":7}}"#],
+        found: "{\"change\":7,\"op\":\"restore\"}\n",
+    },
+    Row {
+        lines: &[
+            r#"{"type":"change-merged","change":{"number":101,"commitMessage":"m"},"patchSet":{"number":1,"revision":"a1"},"newRev":"c3"}"#,
+        ],
+        found: "{\"change\":101,\"message\":\"m\",\"op\":\"patchset\",\"set\":1}\n{\"change\":101,\"op\":\"merged\"}\n",
+    },
+    Row {
+        lines: &[r#"{"type":"change-deleted","change":{"number":7},"deleter":{"username":"ann"}}"#],
+        found: "{\"change\":7,\"op\":\"abandon\"}\n",
+    },
+    Row {
+        lines: &[r#"{"type":"change-merged"}"#],
+        found: "! BadEvent change\n",
+    },
+];
 
 #[test]
 fn changes_end_and_come_back(rt: HostRuntime) -> Result<(), Fail> {
-    assert_rows(
-        &rt,
-        rt.alloc(),
-        &[
-            Row {
-                lines: &[
-                    r#"{"type":"change-abandoned","change":{"number":7},"abandoner":{"username":"ann"}}"#,
-                ],
-                found: "{\"change\":7,\"op\":\"abandon\"}\n",
-            },
-            Row {
-                lines: &[r#"{"type":"change-restored","change":{"number":7}}"#],
-                found: "{\"change\":7,\"op\":\"restore\"}\n",
-            },
-            Row {
-                lines: &[
-                    r#"{"type":"change-merged","change":{"number":101,"commitMessage":"m"},"patchSet":{"number":1,"revision":"a1"},"newRev":"c3"}"#,
-                ],
-                found: "{\"change\":101,\"message\":\"m\",\"op\":\"patchset\",\"set\":1}\n{\"change\":101,\"op\":\"merged\"}\n",
-            },
-            Row {
-                lines: &[
-                    r#"{"type":"change-deleted","change":{"number":7},"deleter":{"username":"ann"}}"#,
-                ],
-                found: "{\"change\":7,\"op\":\"abandon\"}\n",
-            },
-            Row {
-                lines: &[r#"{"type":"change-merged"}"#],
-                found: "! BadEvent change\n",
-            },
-        ],
-    )
+    assert_rows(&rt, rt.alloc(), ENDS)
 }
+
+/// Changes as a query answers them.
+const QUERIES: &[Row] = &[
+    Row {
+        lines: &[
+            CREATED,
+            r#"{"number":101,"commitMessage":"m","status":"NEW","currentPatchSet":{"number":2,"revision":"a2","approvals":[{"type":"Verified","value":"1","by":{"username":"zuul"}}]},"patchSets":[{"number":1,"approvals":[{"type":"Verified","value":"-1","by":{"email":"z@example.org"}}]},{"number":2,"approvals":[{"type":"Verified","value":"1","by":{"username":"zuul"}}]}],"dependsOn":[{"number":"99"},{"number":98}]}"#,
+        ],
+        found: "{\"change\":101,\"message\":\"m\",\"op\":\"patchset\",\"parent\":99,\"set\":2}\n! BadEvent dependsOn\n{\"change\":101,\"label\":\"verified\",\"op\":\"vote\",\"set\":2,\"value\":1,\"voter\":\"zuul\"}\n{\"change\":101,\"label\":\"verified\",\"op\":\"vote\",\"set\":1,\"value\":-1,\"voter\":\"z@example.org\"}\n{\"change\":101,\"op\":\"restore\"}\n",
+    },
+    Row {
+        lines: &[r#"{"number":5,"status":"MERGED","currentPatchSet":{"number":1}}"#],
+        found: "! BadEvent commitMessage\n{\"change\":5,\"op\":\"merged\"}\n",
+    },
+    Row {
+        lines: &[
+            r#"{"number":5,"status":"ABANDONED","commitMessage":"m","currentPatchSet":{"number":1,"approvals":{"type":"L","value":1}},"patchSets":[{}],"dependsOn":[{}]}"#,
+        ],
+        found: "{\"change\":5,\"message\":\"m\",\"op\":\"patchset\",\"set\":1}\n! BadEvent dependsOn\n! BadEvent by\n! BadEvent patchSets\n{\"change\":5,\"op\":\"abandon\"}\n",
+    },
+    Row {
+        lines: &[
+            r#"{"number":5,"commitMessage":"m","status":"DRAFT","currentPatchSet":{"number":1}}"#,
+        ],
+        found: "{\"change\":5,\"message\":\"m\",\"op\":\"patchset\",\"set\":1}\n",
+    },
+    Row {
+        lines: &[r#"{"number":5,"commitMessage":"m","currentPatchSet":{"number":1}}"#],
+        found: "{\"change\":5,\"message\":\"m\",\"op\":\"patchset\",\"set\":1}\n! BadEvent status\n",
+    },
+    Row {
+        lines: &[r#"{"type":"stats","rowCount":1,"runTimeMilliseconds":9}"#],
+        found: "",
+    },
+    Row {
+        lines: &["{}"],
+        found: "! BadEvent number\n",
+    },
+    Row {
+        lines: &[r#"{"number":1}"#],
+        found: "! BadEvent currentPatchSet\n",
+    },
+];
 
 #[test]
 fn queries_put_right(rt: HostRuntime) -> Result<(), Fail> {
-    assert_rows(
-        &rt,
-        rt.alloc(),
-        &[
-            Row {
-                lines: &[
-                    CREATED,
-                    r#"{"number":101,"commitMessage":"m","status":"NEW","currentPatchSet":{"number":2,"revision":"a2","approvals":[{"type":"Verified","value":"1","by":{"username":"zuul"}}]},"patchSets":[{"number":1,"approvals":[{"type":"Verified","value":"-1","by":{"email":"z@example.org"}}]},{"number":2,"approvals":[{"type":"Verified","value":"1","by":{"username":"zuul"}}]}],"dependsOn":[{"number":"99"},{"number":98}]}"#,
-                ],
-                found: "{\"change\":101,\"message\":\"m\",\"op\":\"patchset\",\"parent\":99,\"set\":2}\n! BadEvent dependsOn\n{\"change\":101,\"label\":\"verified\",\"op\":\"vote\",\"set\":2,\"value\":1,\"voter\":\"zuul\"}\n{\"change\":101,\"label\":\"verified\",\"op\":\"vote\",\"set\":1,\"value\":-1,\"voter\":\"z@example.org\"}\n{\"change\":101,\"op\":\"restore\"}\n",
-            },
-            Row {
-                lines: &[r#"{"number":5,"status":"MERGED","currentPatchSet":{"number":1}}"#],
-                found: "! BadEvent commitMessage\n{\"change\":5,\"op\":\"merged\"}\n",
-            },
-            Row {
-                lines: &[
-                    r#"{"number":5,"status":"ABANDONED","commitMessage":"m","currentPatchSet":{"number":1,"approvals":{"type":"L","value":1}},"patchSets":[{}],"dependsOn":[{}]}"#,
-                ],
-                found: "{\"change\":5,\"message\":\"m\",\"op\":\"patchset\",\"set\":1}\n! BadEvent dependsOn\n! BadEvent by\n! BadEvent patchSets\n{\"change\":5,\"op\":\"abandon\"}\n",
-            },
-            Row {
-                lines: &[
-                    r#"{"number":5,"commitMessage":"m","status":"DRAFT","currentPatchSet":{"number":1}}"#,
-                ],
-                found: "{\"change\":5,\"message\":\"m\",\"op\":\"patchset\",\"set\":1}\n",
-            },
-            Row {
-                lines: &[r#"{"number":5,"commitMessage":"m","currentPatchSet":{"number":1}}"#],
-                found: "{\"change\":5,\"message\":\"m\",\"op\":\"patchset\",\"set\":1}\n! BadEvent status\n",
-            },
-            Row {
-                lines: &[r#"{"type":"stats","rowCount":1,"runTimeMilliseconds":9}"#],
-                found: "",
-            },
-            Row {
-                lines: &["{}"],
-                found: "! BadEvent number\n",
-            },
-            Row {
-                lines: &[r#"{"number":1}"#],
-                found: "! BadEvent currentPatchSet\n",
-            },
-        ],
-    )
+    assert_rows(&rt, rt.alloc(), QUERIES)
 }
+
+/// Events of other types, and lines that are no events.
+const OTHERS: &[Row] = &[
+    Row {
+        lines: &[r#"{"type":"dropped-output"}"#],
+        found: "! Dropped\n",
+    },
+    Row {
+        lines: &[
+            r#"{"type":"topic-changed","change":{"number":101,"commitMessage":"m"},"patchSet":{"number":1,"revision":"a1"}}"#,
+        ],
+        found: "{\"change\":101,\"message\":\"m\",\"op\":\"patchset\",\"set\":1}\n",
+    },
+    Row {
+        lines: &[
+            CREATED,
+            r#"{"type":"topic-changed","change":{"number":101,"commitMessage":"m"},"patchSet":{"number":1,"revision":"a1"}}"#,
+        ],
+        found: "",
+    },
+    Row {
+        lines: &[
+            CREATED,
+            r#"{"type":"topic-changed","change":{"number":7,"commitMessage":"m"},"patchSet":{"number":1,"revision":"a1"}}"#,
+        ],
+        found: "{\"change\":7,\"message\":\"m\",\"op\":\"patchset\",\"set\":1}\n",
+    },
+    Row {
+        lines: &[r#"{"type":"ref-updated","refUpdate":{}}"#],
+        found: "",
+    },
+    Row {
+        lines: &[r#"{"type":7}"#],
+        found: "! BadEvent type\n",
+    },
+    Row {
+        lines: &["[]"],
+        found: "! BadEvent line\n",
+    },
+    Row {
+        lines: &[r#"{"type":"comment-ad"#],
+        found: "! BadEvent line\n",
+    },
+    Row {
+        lines: &[""],
+        found: "! BadEvent line\n",
+    },
+];
 
 #[test]
 fn other_lines_bring_little(rt: HostRuntime) -> Result<(), Fail> {
-    assert_rows(
-        &rt,
-        rt.alloc(),
-        &[
-            Row {
-                lines: &[r#"{"type":"dropped-output"}"#],
-                found: "! Dropped\n",
-            },
-            Row {
-                lines: &[
-                    r#"{"type":"topic-changed","change":{"number":101,"commitMessage":"m"},"patchSet":{"number":1,"revision":"a1"}}"#,
-                ],
-                found: "{\"change\":101,\"message\":\"m\",\"op\":\"patchset\",\"set\":1}\n",
-            },
-            Row {
-                lines: &[
-                    CREATED,
-                    r#"{"type":"topic-changed","change":{"number":101,"commitMessage":"m"},"patchSet":{"number":1,"revision":"a1"}}"#,
-                ],
-                found: "",
-            },
-            Row {
-                lines: &[
-                    CREATED,
-                    r#"{"type":"topic-changed","change":{"number":7,"commitMessage":"m"},"patchSet":{"number":1,"revision":"a1"}}"#,
-                ],
-                found: "{\"change\":7,\"message\":\"m\",\"op\":\"patchset\",\"set\":1}\n",
-            },
-            Row {
-                lines: &[r#"{"type":"ref-updated","refUpdate":{}}"#],
-                found: "",
-            },
-            Row {
-                lines: &[r#"{"type":7}"#],
-                found: "! BadEvent type\n",
-            },
-            Row {
-                lines: &["[]"],
-                found: "! BadEvent line\n",
-            },
-            Row {
-                lines: &[r#"{"type":"comment-ad"#],
-                found: "! BadEvent line\n",
-            },
-            Row {
-                lines: &[""],
-                found: "! BadEvent line\n",
-            },
-        ],
-    )
+    assert_rows(&rt, rt.alloc(), OTHERS)
+}
+
+/// A patch set with a message of so many bytes.
+fn long_event(alloc: Global, length: usize) -> Result<String, AllocError> {
+    let mut line = String::from_str(
+        alloc,
+        r#"{"type":"patchset-created","patchSet":{"number":1,"revision":"a1"},"change":{"number":101,"commitMessage":""#,
+    )?;
+    for _ in 0..length {
+        line.push('x')?;
+    }
+    line.push_str(r#""}}"#)?;
+    Ok(line)
+}
+
+/// Whether the message of a patch set is refused where it has so many bytes. The revision is learned all the same.
+fn is_refused(rt: &impl Abort, alloc: Global, length: usize) -> Result<bool, Fail> {
+    let line = long_event(alloc, length)?;
+    let mut known = Known::new(alloc);
+    let found = found_in(alloc, &mut known, line.as_bytes())?;
+    assert_eq!(rt; known.place_of("a1"), Some((101, 1)));
+    Ok(found.as_str() == "! BadEvent commitMessage\n")
 }
 
 #[test]
 fn long_messages_are_refused(rt: HostRuntime) -> Result<(), Fail> {
-    let alloc = rt.alloc();
     for length in [65536usize, 65537] {
-        let mut line = String::from_str(
-            alloc,
-            r#"{"type":"patchset-created","patchSet":{"number":1,"revision":"a1"},"change":{"number":101,"commitMessage":""#,
-        )?;
-        for _ in 0..length {
-            line.push('x')?;
-        }
-        line.push_str(r#""}}"#)?;
-        let mut known = Known::new(alloc);
-        let found = found_in(alloc, &mut known, line.as_bytes())?;
-        assert_eq!(rt;
-            found.as_str() == "! BadEvent commitMessage\n",
-            length == 65537
-        );
-        assert_eq!(rt; known.place_of("a1"), Some((101, 1)));
+        assert_eq!(rt; is_refused(&rt, rt.alloc(), length)?, length == 65537);
     }
     Ok(())
 }
 
+/// Learns that this number is the revision of the change with this number.
+fn learn_number(alloc: Global, known: &mut Known, number: u32) -> Result<(), Fail> {
+    let revision = format!(in alloc; "{number}")?;
+    known.learn(revision.as_str(), number, 1)?;
+    Ok(())
+}
+
+/// The revision is known as that of this place, or isn't known.
+fn assert_place(rt: &impl Abort, known: &Known, revision: &str, wanted: Option<(u32, u32)>) {
+    assert_eq!(rt; known.place_of(revision), wanted);
+}
+
 #[test]
 fn the_oldest_revision_is_forgotten(rt: HostRuntime) -> Result<(), Fail> {
-    let alloc = rt.alloc();
-    let mut known = Known::new(alloc);
-    for number in 1..=100001u32 {
-        let revision = format!(in alloc; "{number}")?;
-        known.learn(revision.as_str(), number, 1)?;
-        if number == 100000 {
-            assert_eq!(rt; known.place_of("1"), Some((1, 1)));
-        }
+    let mut known = Known::new(rt.alloc());
+    for number in 1..=100000u32 {
+        learn_number(rt.alloc(), &mut known, number)?;
     }
-    assert_eq!(rt; known.place_of("1"), None);
-    assert_eq!(rt; known.place_of("2"), Some((2, 1)));
-    assert_eq!(rt; known.place_of("100001"), Some((100001, 1)));
+    assert_place(&rt, &known, "1", Some((1, 1)));
+    learn_number(rt.alloc(), &mut known, 100001)?;
+    assert_place(&rt, &known, "1", None);
+    assert_place(&rt, &known, "2", Some((2, 1)));
+    assert_place(&rt, &known, "100001", Some((100001, 1)));
     known.learn("2", 3, 4)?;
-    assert_eq!(rt; known.place_of("2"), Some((2, 1)));
+    assert_place(&rt, &known, "2", Some((2, 1)));
     Ok(())
 }
 

@@ -1,8 +1,8 @@
 //! Messages and their footers, worked out by hand.
 
-use footer_text::{Bases, BasesFault, depends, footers_are_unique};
+use footer_text::{Bases, BasesFault, Footers, depends, footers_are_unique};
 use lattice_core::NoMemory;
-use linked_list_allocator::LocalHeap;
+use std::alloc::{AllocError, Global};
 use std::process::Abort;
 use std::test::Fail;
 
@@ -19,29 +19,80 @@ const MESSAGE: &str = "Fix it\n\n\
     Depends-On: https://review.example.org/4294967296\n\
     Depends-On: https://review.example.org/9\n";
 
-#[test]
-fn nine_lines(rt: HostRuntime) -> Result<(), Fail> {
-    footers_are_unique();
-    let bases = Bases::new(rt.alloc(), &[REVIEW])?;
-    let found = depends(rt.alloc(), &bases, 9, MESSAGE)?;
-    assert_eq!(rt; found.needs.as_slice(), [12].as_slice());
-    assert_eq!(rt; found.ignored.len(), 3);
-    assert_eq!(rt; found.ignored[0], "https://other.example.org/14");
-    assert_eq!(rt; found.ignored[1], "https://review.example.org/4294967296");
-    assert_eq!(rt; found.ignored[2], "https://review.example.org/9");
+/// The footers of the message of a change under these bases.
+fn footers_of<'m>(
+    alloc: Global,
+    bases: &[&str],
+    change: u32,
+    message: &'m str,
+) -> Result<Footers<'m>, Fail> {
+    let bases = Bases::new(alloc, bases)?;
+    Ok(depends(alloc, &bases, change, message)?)
+}
 
-    let found = depends(rt.alloc(), &bases, 0, MESSAGE)?;
-    assert_eq!(rt; found.needs.as_slice(), [9, 12].as_slice());
-    assert_eq!(rt; found.ignored.len(), 2);
+/// A message of a change, the bases that read it, and what its footers say.
+struct Row {
+    bases: &'static [&'static str],
+    change: u32,
+    message: &'static str,
+    needs: &'static [u32],
+    ignored: &'static [&'static str],
+}
+
+/// The footers of each row's message say what stands beside it.
+fn assert_rows(rt: &impl Abort, alloc: Global, rows: &[Row]) -> Result<(), Fail> {
+    for row in rows {
+        let found = footers_of(alloc, row.bases, row.change, row.message)?;
+        assert_footers(rt, &found, row);
+    }
     Ok(())
 }
 
-// What one line names; 0 where its value is ignored, and nothing where it is no footer.
-fn named<R: AllocGlobal + Abort>(rt: &R, line: &str) -> Option<u32> {
-    let bases = Bases::new(rt.alloc(), &["https://r/", "https://r/c/", "ssh://r/"]).expect(
-        rt, "bases",
-    );
-    let found = depends(rt.alloc(), &bases, 7, line).expect(rt, "memory");
+/// The footers are those of the row.
+fn assert_footers(rt: &impl Abort, found: &Footers<'_>, row: &Row) {
+    assert_eq!(rt; found.needs.as_slice(), row.needs);
+    assert_eq!(rt; found.ignored.as_slice(), row.ignored);
+}
+
+/// The message as that of change 9, which its last line names, and as that of a change with no number.
+const NINE_LINES: &[Row] = &[
+    Row {
+        bases: &[REVIEW],
+        change: 9,
+        message: MESSAGE,
+        needs: &[12],
+        ignored: &[
+            "https://other.example.org/14",
+            "https://review.example.org/4294967296",
+            "https://review.example.org/9",
+        ],
+    },
+    Row {
+        bases: &[REVIEW],
+        change: 0,
+        message: MESSAGE,
+        needs: &[9, 12],
+        ignored: &[
+            "https://other.example.org/14",
+            "https://review.example.org/4294967296",
+        ],
+    },
+];
+
+#[test]
+fn nine_lines(rt: HostRuntime) -> Result<(), Fail> {
+    footers_are_unique();
+    assert_rows(&rt, rt.alloc(), NINE_LINES)
+}
+
+/// What one line names under three bases; 0 where its value is ignored, and nothing where it is no footer.
+fn named(alloc: Global, line: &str) -> Result<Option<u32>, Fail> {
+    let found = footers_of(alloc, &["https://r/", "https://r/c/", "ssh://r/"], 7, line)?;
+    Ok(first_named(&found))
+}
+
+/// The first change that the footers need, where they ignore nothing, and 0 where they ignore something alone.
+fn first_named(found: &Footers<'_>) -> Option<u32> {
     match (found.needs.first(), found.ignored.first()) {
         (Some(change), None) => Some(*change),
         (None, Some(_)) => Some(0),
@@ -49,199 +100,246 @@ fn named<R: AllocGlobal + Abort>(rt: &R, line: &str) -> Option<u32> {
     }
 }
 
-#[test]
-fn values(rt: HostRuntime) {
-    let rows = [
-        ("Depends-On: https://r/12", Some(12)),
-        ("Depends-On: https://r/4294967295", Some(4294967295)),
-        ("Depends-On: https://r/4294967296", Some(0)),
-        ("Depends-On: https://r/9999999999", Some(0)),
-        ("Depends-On: https://r/0000000012", Some(12)),
-        ("Depends-On: https://r/00000000012", Some(0)),
-        ("Depends-On: https://r/0", Some(0)),
-        ("Depends-On: https://r/+12", Some(0)),
-        ("Depends-On: https://r/", Some(0)),
-        ("Depends-On: https://r/7", Some(0)),
-        ("Depends-On: https://r/12/", Some(12)),
-        ("Depends-On: https://r/12/3", Some(12)),
-        ("Depends-On: https://r/12/3/", Some(12)),
-        ("Depends-On: https://r/12/3/4", Some(0)),
-        ("Depends-On: https://r/12//", Some(0)),
-        ("Depends-On: https://r/12/x", Some(0)),
-        ("Depends-On: https://r/12/12345678901", Some(0)),
-        ("Depends-On: https://r/12?x", Some(0)),
-        ("Depends-On: https://r/#/c/12", Some(12)),
-        ("Depends-On: https://r/#/c/12/3", Some(12)),
-        ("Depends-On: https://r/#/c/a/+/12", Some(0)),
-        ("Depends-On: https://r/c/a/b/+/12", Some(12)),
-        ("Depends-On: https://r/c/a/+/b/+/12/3", Some(12)),
-        ("Depends-On: https://r/c/+/+/12", Some(12)),
-        ("Depends-On: https://r/c//+/12", Some(0)),
-        ("Depends-On: https://r/c/a/+/12/+/", Some(0)),
-        ("Depends-On: https://r/c/a+/12", Some(0)),
-        ("Depends-On: ssh://r/12", Some(12)),
-    ];
+/// A line, with the change that it names.
+type Named = (&'static str, Option<u32>);
+
+/// Each line names what stands beside it.
+fn assert_named(rt: &impl Abort, alloc: Global, rows: &[Named]) -> Result<(), Fail> {
     for (line, change) in rows {
-        assert_eq!(rt; named(&rt, line), change, "{line}");
+        assert_eq!(rt; named(alloc, line)?, *change, "{line:?}");
     }
+    Ok(())
 }
 
-// The second base reads `https://r/c/12` too, and the first doesn't; the first counts where both
-// read.
+/// Values of a footer, with the change that each names.
+const VALUES: &[Named] = &[
+    ("Depends-On: https://r/12", Some(12)),
+    ("Depends-On: https://r/4294967295", Some(4294967295)),
+    ("Depends-On: https://r/4294967296", Some(0)),
+    ("Depends-On: https://r/9999999999", Some(0)),
+    ("Depends-On: https://r/0000000012", Some(12)),
+    ("Depends-On: https://r/00000000012", Some(0)),
+    ("Depends-On: https://r/0", Some(0)),
+    ("Depends-On: https://r/+12", Some(0)),
+    ("Depends-On: https://r/", Some(0)),
+    ("Depends-On: https://r/7", Some(0)),
+    ("Depends-On: https://r/12/", Some(12)),
+    ("Depends-On: https://r/12/3", Some(12)),
+    ("Depends-On: https://r/12/3/", Some(12)),
+    ("Depends-On: https://r/12/3/4", Some(0)),
+    ("Depends-On: https://r/12//", Some(0)),
+    ("Depends-On: https://r/12/x", Some(0)),
+    ("Depends-On: https://r/12/12345678901", Some(0)),
+    ("Depends-On: https://r/12?x", Some(0)),
+    ("Depends-On: https://r/#/c/12", Some(12)),
+    ("Depends-On: https://r/#/c/12/3", Some(12)),
+    ("Depends-On: https://r/#/c/a/+/12", Some(0)),
+    ("Depends-On: https://r/c/a/b/+/12", Some(12)),
+    ("Depends-On: https://r/c/a/+/b/+/12/3", Some(12)),
+    ("Depends-On: https://r/c/+/+/12", Some(12)),
+    ("Depends-On: https://r/c//+/12", Some(0)),
+    ("Depends-On: https://r/c/a/+/12/+/", Some(0)),
+    ("Depends-On: https://r/c/a+/12", Some(0)),
+    ("Depends-On: ssh://r/12", Some(12)),
+];
+
 #[test]
-fn lines(rt: HostRuntime) {
-    let rows = [
-        ("Depends-On: https://r/c/12", Some(12)),
-        ("DEPENDS-ON:\thttps://r/12\t\r", Some(12)),
-        ("depends-on:https://r/12", Some(12)),
-        ("dEPENDS-oN: \r\t https://r/12", Some(12)),
-        (" Depends-On: https://r/12", None),
-        ("\tDepends-On: https://r/12", None),
-        ("Depends-On : https://r/12", None),
-        ("Depends-On https://r/12", None),
-        ("XDepends-On: https://r/12", None),
-        ("Depends-On:", Some(0)),
-        ("Depends-On: \r", Some(0)),
-        ("Depends-On: https://r/12 and more", Some(0)),
-        ("Depends-On: https://r/12\u{a0}", Some(0)),
-        ("D\u{e9}pends-On: https://r/12", None),
-        ("x\n\nDepends-On: https://r/12", Some(12)),
-        ("Depends-On: https://r/12\n\n", Some(12)),
-        ("", None),
-    ];
-    for (line, change) in rows {
-        assert_eq!(rt; named(&rt, line), change, "{line:?}");
-    }
+fn values(rt: HostRuntime) -> Result<(), Fail> {
+    assert_named(&rt, rt.alloc(), VALUES)
 }
+
+/// Lines, with the change that each names. The second base reads `https://r/c/12` too, and the first doesn't; the first
+/// counts where both read.
+const LINES: &[Named] = &[
+    ("Depends-On: https://r/c/12", Some(12)),
+    ("DEPENDS-ON:\thttps://r/12\t\r", Some(12)),
+    ("depends-on:https://r/12", Some(12)),
+    ("dEPENDS-oN: \r\t https://r/12", Some(12)),
+    (" Depends-On: https://r/12", None),
+    ("\tDepends-On: https://r/12", None),
+    ("Depends-On : https://r/12", None),
+    ("Depends-On https://r/12", None),
+    ("XDepends-On: https://r/12", None),
+    ("Depends-On:", Some(0)),
+    ("Depends-On: \r", Some(0)),
+    ("Depends-On: https://r/12 and more", Some(0)),
+    ("Depends-On: https://r/12\u{a0}", Some(0)),
+    ("D\u{e9}pends-On: https://r/12", None),
+    ("x\n\nDepends-On: https://r/12", Some(12)),
+    ("Depends-On: https://r/12\n\n", Some(12)),
+    ("", None),
+];
+
+#[test]
+fn lines(rt: HostRuntime) -> Result<(), Fail> {
+    assert_named(&rt, rt.alloc(), LINES)
+}
+
+/// Messages that two bases read. Where the first names the message's own change, the second isn't asked.
+const TWO_BASES: &[Row] = &[
+    Row {
+        bases: &["https://r/", "https://r/c/5/+/"],
+        change: 0,
+        message: "Depends-On: https://r/c/5/+/12",
+        needs: &[12],
+        ignored: &[],
+    },
+    Row {
+        bases: &["https://r/", "https://r/1/"],
+        change: 0,
+        message: "Depends-On: https://r/1/2",
+        needs: &[1],
+        ignored: &[],
+    },
+    Row {
+        bases: &["https://r/1/", "https://r/"],
+        change: 0,
+        message: "Depends-On: https://r/1/2",
+        needs: &[2],
+        ignored: &[],
+    },
+    Row {
+        bases: &["https://r/1/", "https://r/"],
+        change: 2,
+        message: "Depends-On: https://r/1/2",
+        needs: &[],
+        ignored: &["https://r/1/2"],
+    },
+];
 
 // The first base that reads a value counts, in the order in which the bases come.
 #[test]
 fn first_base(rt: HostRuntime) -> Result<(), Fail> {
-    let message = "Depends-On: https://r/c/5/+/12";
-    let bases = Bases::new(rt.alloc(), &["https://r/", "https://r/c/5/+/"])?;
-    assert_eq!(rt;
-        depends(rt.alloc(), &bases, 0, message)?.needs.as_slice(),
-        [12].as_slice()
-    );
-    let message = "Depends-On: https://r/1/2";
-    let bases = Bases::new(rt.alloc(), &["https://r/", "https://r/1/"])?;
-    assert_eq!(rt;
-        depends(rt.alloc(), &bases, 0, message)?.needs.as_slice(),
-        [1].as_slice()
-    );
-    let bases = Bases::new(rt.alloc(), &["https://r/1/", "https://r/"])?;
-    assert_eq!(rt;
-        depends(rt.alloc(), &bases, 0, message)?.needs.as_slice(),
-        [2].as_slice()
-    );
-    // Where the first names the message's own change, the second isn't asked.
-    assert_eq!(rt; depends(rt.alloc(), &bases, 2, message)?.needs.len(), 0);
-    Ok(())
+    assert_rows(&rt, rt.alloc(), TWO_BASES)
+}
+
+/// Adds a footer of 32 bytes, for a number of nine digits.
+fn push_footer(alloc: Global, message: &mut String, number: u32) -> Result<(), AllocError> {
+    let footer = format!(in alloc; "Depends-On: https://r/{number}\n")?;
+    message.push_str(footer.as_str())
+}
+
+/// A message of 2048 footers, each number twice, and the numbers fall.
+fn long_message(alloc: Global) -> Result<String, AllocError> {
+    let mut message = String::new(alloc);
+    for n in 0..2048u32 {
+        push_footer(alloc, &mut message, 999_999_999 - n / 2)?;
+    }
+    Ok(message)
+}
+
+/// How many changes footers need, which is the first, and how many values they ignore.
+fn counts(found: &Footers<'_>) -> (usize, Option<u32>, usize) {
+    (
+        found.needs.len(),
+        found.needs.first().copied(),
+        found.ignored.len(),
+    )
 }
 
 #[test]
 fn many_footers(rt: HostRuntime) -> Result<(), Fail> {
-    let bases = Bases::new(rt.alloc(), &["https://r/"])?;
-    let mut message = String::new(rt.alloc());
-    // 32 bytes a line, and the numbers fall.
-    for n in 0..2048u32 {
-        let number = 999_999_999 - n / 2;
-        message.push_str(format!(in rt.alloc(); "Depends-On: https://r/{number}\n")?.as_str())?;
-    }
+    let message = long_message(rt.alloc())?;
     assert_eq!(rt; message.len(), 65_536);
-    let found = depends(rt.alloc(), &bases, 0, message.as_str())?;
-    assert_eq!(rt; found.needs.len(), 1024);
-    assert_eq!(rt; found.needs.first(), Some(&999_998_976));
-    assert_eq!(rt; found.ignored.len(), 0);
+    let found = footers_of(rt.alloc(), &["https://r/"], 0, message.as_str())?;
+    assert_eq!(rt; counts(&found), (1024, Some(999_998_976), 0));
     Ok(())
 }
 
-// Why these texts are no bases.
-fn fault<R: AllocGlobal>(rt: &R, texts: &[&str]) -> Option<BasesFault> {
-    Bases::new(rt.alloc(), texts).err()
+/// Why these texts are no bases.
+fn fault(alloc: Global, texts: &[&str]) -> Option<BasesFault> {
+    Bases::new(alloc, texts).err()
+}
+
+/// A base of 255 letters and this end.
+fn long_base(alloc: Global, end: &str) -> Result<String, AllocError> {
+    let mut text = String::new(alloc);
+    for _ in 0..255 {
+        text.push('x')?;
+    }
+    text.push_str(end)?;
+    Ok(text)
+}
+
+/// Why a base of 255 letters and this end is none behind another one.
+fn long_fault(alloc: Global, end: &str) -> Result<Option<BasesFault>, AllocError> {
+    let text = long_base(alloc, end)?;
+    Ok(fault(alloc, &["/", text.as_str()]))
 }
 
 // A base of 256 bytes, and one of 257.
 #[test]
 fn long_bases(rt: HostRuntime) -> Result<(), Fail> {
-    let mut text = String::new(rt.alloc());
-    for _ in 0..255 {
-        text.push('x')?;
-    }
-    text.push('/')?;
-    assert_eq!(rt; fault(&rt, &["/", text.as_str()]), None);
-    text.push('/')?;
-    assert_eq!(rt;
-        fault(&rt, &["/", text.as_str()]),
-        Some(BasesFault::BadBase(1))
-    );
+    assert_eq!(rt; long_fault(rt.alloc(), "/")?, None);
+    assert_eq!(rt; long_fault(rt.alloc(), "//")?, Some(BasesFault::BadBase(1)));
+    Ok(())
+}
+
+/// The base at this place is this one.
+fn assert_base(rt: &impl Abort, bases: &Bases, place: usize, wanted: Option<&str>) {
+    assert_eq!(rt; bases.get(place), wanted);
+}
+
+/// There are so many bases, also by going over them.
+fn assert_count(rt: &impl Abort, bases: &Bases, count: usize) {
+    assert_eq!(rt; (bases.len(), bases.iter().count()), (count, count));
+}
+
+/// The copy of the bases has this one at this place.
+fn assert_copied(
+    rt: &impl Abort,
+    bases: &Bases,
+    place: usize,
+    wanted: Option<&str>,
+) -> Result<(), Fail> {
+    let copy = bases.copy()?;
+    assert_base(rt, &copy, place, wanted);
     Ok(())
 }
 
 #[test]
 fn bases(rt: HostRuntime) -> Result<(), Fail> {
-    let good = "https://r/";
-    let bases = Bases::new(rt.alloc(), &[good, "x/", "/"])?;
-    assert_eq!(rt; bases.len(), 3);
-    assert_eq!(rt; bases.get(1), Some("x/"));
-    assert_eq!(rt; bases.get(3), None);
-    assert_eq!(rt; bases.iter().count(), 3);
-    let copy = bases.copy()?;
-    assert_eq!(rt; copy.get(2), Some("/"));
-
-    assert_eq!(rt; fault(&rt, &[]), Some(BasesFault::BadBase(0)));
-    assert_eq!(rt; fault(&rt, &[good, "", "x"]), Some(BasesFault::BadBase(1)));
-    assert_eq!(rt; fault(&rt, &["https://r"]), Some(BasesFault::BadBase(0)));
-    assert_eq!(rt; fault(&rt, &[good, "a b/"]), Some(BasesFault::BadBase(1)));
-    assert_eq!(rt;
-        fault(&rt, &[good, "\u{e9}/"]),
-        Some(BasesFault::BadBase(1))
-    );
-    let eight = [good, good, good, good, good, good, good, good];
-    assert_eq!(rt; fault(&rt, &eight), None);
-    let nine = [good, good, good, good, good, good, good, good, good];
-    assert_eq!(rt; fault(&rt, &nine), Some(BasesFault::BadBase(8)));
-    let bad_eighth = [good, good, good, good, good, good, good, "x", good];
-    assert_eq!(rt; fault(&rt, &bad_eighth), Some(BasesFault::BadBase(7)));
-    assert_eq!(rt; BasesFault::BadBase(8).number(), 1);
-    assert_eq!(rt; BasesFault::BadBase(8).name(), "BadBase");
-    assert_eq!(rt; BasesFault::NoMemory.number(), 2);
-    assert_eq!(rt; BasesFault::NoMemory.name(), "NoMemory");
-    Ok(())
+    let bases = Bases::new(rt.alloc(), &[GOOD, "x/", "/"])?;
+    assert_count(&rt, &bases, 3);
+    assert_base(&rt, &bases, 1, Some("x/"));
+    assert_base(&rt, &bases, 3, None);
+    assert_copied(&rt, &bases, 2, Some("/"))
 }
 
-// Each request for memory is refused in turn: first those of the bases, then those of their copy,
-// then those of the footers.
+const GOOD: &str = "https://r/";
+
+/// Texts, with why they are no bases.
+const FAULTS: &[(&[&str], Option<BasesFault>)] = &[
+    (&[], Some(BasesFault::BadBase(0))),
+    (&[GOOD, "", "x"], Some(BasesFault::BadBase(1))),
+    (&["https://r"], Some(BasesFault::BadBase(0))),
+    (&[GOOD, "a b/"], Some(BasesFault::BadBase(1))),
+    (&[GOOD, "\u{e9}/"], Some(BasesFault::BadBase(1))),
+    (&[GOOD, GOOD, GOOD, GOOD, GOOD, GOOD, GOOD, GOOD], None),
+    (
+        &[GOOD, GOOD, GOOD, GOOD, GOOD, GOOD, GOOD, GOOD, GOOD],
+        Some(BasesFault::BadBase(8)),
+    ),
+    (
+        &[GOOD, GOOD, GOOD, GOOD, GOOD, GOOD, GOOD, "x", GOOD],
+        Some(BasesFault::BadBase(7)),
+    ),
+];
+
 #[test]
-fn without_memory(rt: HostRuntime) -> Result<(), Fail> {
-    let (mut bases_refused, mut copy_refused, mut footers_refused) = (false, false, false);
-    for turn in 0..512usize {
-        let heap = LocalHeap::new(rt.alloc(), 16 * turn)?;
-        let bases = match Bases::new(&heap, &[REVIEW, "https://r/"]) {
-            Ok(bases) => bases,
-            Err(fault) => {
-                assert_eq!(rt; fault, BasesFault::NoMemory);
-                bases_refused = true;
-                continue;
-            }
-        };
-        if let Err(fault) = bases.copy() {
-            assert_eq!(rt; fault, NoMemory);
-            copy_refused = true;
-        }
-        match depends(&heap, &bases, 9, MESSAGE) {
-            Ok(found) => {
-                assert_eq!(rt; found.needs.as_slice(), [12].as_slice());
-                assert_eq!(rt; found.ignored.len(), 3);
-                assert!(rt; bases_refused && copy_refused && footers_refused);
-                return Ok(());
-            }
-            Err(fault) => {
-                assert_eq!(rt; fault, NoMemory);
-                footers_refused = true;
-            }
-        }
+fn texts_that_are_no_bases(rt: HostRuntime) {
+    for (texts, wanted) in FAULTS {
+        assert_eq!(rt; fault(rt.alloc(), texts), *wanted);
     }
-    assert!(rt; false, "never enough memory");
-    Ok(())
+}
+
+#[test]
+fn faults_have_numbers_and_names(rt: HostRuntime) {
+    for (fault, number, name) in [
+        (BasesFault::BadBase(8), 1u8, "BadBase"),
+        (BasesFault::NoMemory, 2, "NoMemory"),
+    ] {
+        assert_eq!(rt; fault.number(), number);
+        assert_eq!(rt; fault.name(), name);
+    }
 }

@@ -2,7 +2,7 @@
 
 use gate_rules::Gate;
 use script_play::play_step;
-use script_text::{Script, read_script};
+use script_text::{Step, read_script};
 use std::alloc::Global;
 use std::process::Abort;
 use std::test::Fail;
@@ -10,6 +10,28 @@ use world_core::World;
 
 /// A gate that wants open changes.
 const GATE: &[u8] = br#"{"bases":["https://r/"],"require":{"gerrit":{"open":true}}}"#;
+
+/// Adds what a step prints.
+fn print_step(
+    alloc: Global,
+    printed: &mut Vec<u8>,
+    world: &mut World,
+    step: Step<'_>,
+) -> Result<(), Fail> {
+    let text = play_step(alloc, world, step)?;
+    printed.extend_from_slice(text.as_bytes())?;
+    Ok(())
+}
+
+/// What steps print in a world of so many sites, one after the other.
+fn printed_by(alloc: Global, sites: u16, steps: Vec<Step<'_>>) -> Result<Vec<u8>, Fail> {
+    let mut world = World::new(alloc, sites)?;
+    let mut printed = Vec::new(alloc);
+    for step in steps {
+        print_step(alloc, &mut printed, &mut world, step)?;
+    }
+    Ok(printed)
+}
 
 /// The steps of a script print these texts, one after the other.
 fn assert_prints(
@@ -20,19 +42,9 @@ fn assert_prints(
     printed: &[u8],
 ) -> Result<(), Fail> {
     let script = read_script(alloc, script, gate)?;
-    let Script {
-        sites,
-        steps,
-        bad_line,
-    } = script;
-    assert_eq!(rt; bad_line, None);
-    let mut world = World::new(alloc, sites)?;
-    let mut all = Vec::new(alloc);
-    for step in steps {
-        let text = play_step(alloc, &mut world, step)?;
-        all.extend_from_slice(text.as_bytes())?;
-    }
-    assert_eq!(rt; all.as_slice(), printed);
+    assert_eq!(rt; script.bad_line, None);
+    let found = printed_by(alloc, script.sites, script.steps)?;
+    assert_eq!(rt; found.as_slice(), printed);
     Ok(())
 }
 

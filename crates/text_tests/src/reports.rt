@@ -7,7 +7,7 @@ use report_text::{
     WriteReportFault, equal_states_print_equal_reports, reports_have_one_reading, write_report,
 };
 use state_core::Item;
-use std::alloc::Global;
+use std::alloc::{AllocError, Global};
 use std::process::Abort;
 use std::test::Fail;
 
@@ -55,10 +55,16 @@ fn report_of(alloc: Global, refusal: Refusal) -> Result<Vec<u8>, Fail> {
     Ok(written.into_inner())
 }
 
+/// The report of the two items, with these words for the one that is left out.
+fn report_with(alloc: Global, words: &str) -> Result<String, AllocError> {
+    format!(in alloc; "ready 101,2\nout 4294967295,4294967295 {words}\nend 1 1\n")
+}
+
 /// The report has these words for a refusal.
 fn assert_words(rt: &impl Abort, alloc: Global, refusal: Refusal, words: &str) -> Result<(), Fail> {
-    let wanted = format!(in alloc; "ready 101,2\nout 4294967295,4294967295 {words}\nend 1 1\n")?;
-    assert_eq!(rt; report_of(alloc, refusal)?.as_slice(), wanted.as_bytes());
+    let report = report_of(alloc, refusal)?;
+    let wanted = report_with(alloc, words)?;
+    assert_eq!(rt; report.as_slice(), wanted.as_bytes());
     Ok(())
 }
 

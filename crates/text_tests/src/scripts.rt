@@ -1,8 +1,9 @@
 //! What the lines of scripts say, worked out by hand.
 
 use gate_rules::Gate;
-use script_text::{ScriptFault, Step, read_script};
+use script_text::{Script, ScriptFault, Step, read_script};
 use std::alloc::{AllocError, Global};
+use std::process::Abort;
 use std::test::Fail;
 use world_core::Event;
 
@@ -37,62 +38,88 @@ fn in_words(alloc: Global, step: &Step<'_>) -> Result<String, AllocError> {
     }
 }
 
-/// What a line says behind `sites 1`, in words.
-fn said(alloc: Global, line: &str, gate: Option<&Gate>) -> Result<String, Fail> {
-    let mut text = String::from_str(alloc, "sites 1\n")?;
-    text.push_str(line)?;
-    let script = read_script(alloc, text.as_bytes(), gate)?;
-    match script.steps.as_slice().first() {
-        Some(step) => Ok(in_words(alloc, step)?),
-        None => Ok(String::from_str(alloc, "nothing")?),
+/// The first of the steps in words, or that there is nothing.
+fn first_in_words(alloc: Global, steps: &[Step<'_>]) -> Result<String, AllocError> {
+    match steps.first() {
+        Some(step) => in_words(alloc, step),
+        None => String::from_str(alloc, "nothing"),
     }
 }
 
+/// A line behind `sites 1`.
+fn behind_sites(alloc: Global, line: &str) -> Result<String, AllocError> {
+    let mut text = String::from_str(alloc, "sites 1\n")?;
+    text.push_str(line)?;
+    Ok(text)
+}
+
+/// What a line says behind `sites 1`, in words.
+fn said(alloc: Global, line: &str, gate: Option<&Gate>) -> Result<String, Fail> {
+    let text = behind_sites(alloc, line)?;
+    let script = read_script(alloc, text.as_bytes(), gate)?;
+    Ok(first_in_words(alloc, script.steps.as_slice())?)
+}
+
+/// A line says this behind `sites 1`.
+fn assert_said(
+    rt: &impl Abort,
+    alloc: Global,
+    line: &str,
+    gate: Option<&Gate>,
+    words: &str,
+) -> Result<(), Fail> {
+    let found = said(alloc, line, gate)?;
+    assert_eq!(rt; found.as_str(), words, "{line}");
+    Ok(())
+}
+
+/// Lines, with the steps that they say.
+const STEPS: &[(&str, &str)] = &[
+    (
+        "intake 65535 {\"change\":7,\"op\":\"merged\"}",
+        "65535 takes in change 7",
+    ),
+    ("send 1 []", "1 packs what 0 rows lack"),
+    ("send 1 [[1,1,5],[2,1,3]]", "1 packs what 2 rows lack"),
+    ("send 2 @3", "2 packs what 3 lacks"),
+    (
+        "deliver 18446744073709551615 2",
+        "packet 18446744073709551615 comes to 2",
+    ),
+    ("save 00000000000000000001", "1 saves"),
+    ("restart 1 4294967295", "1 restarts as 4294967295"),
+    ("state 2\r\n", "the state of 2"),
+    ("\n# a comment\nfront 3\n", "the front of 3"),
+];
+
 #[test]
 fn lines_say_their_steps(rt: HostRuntime) -> Result<(), Fail> {
-    let cases = [
-        (
-            "intake 65535 {\"change\":7,\"op\":\"merged\"}",
-            "65535 takes in change 7",
-        ),
-        ("send 1 []", "1 packs what 0 rows lack"),
-        ("send 1 [[1,1,5],[2,1,3]]", "1 packs what 2 rows lack"),
-        ("send 2 @3", "2 packs what 3 lacks"),
-        (
-            "deliver 18446744073709551615 2",
-            "packet 18446744073709551615 comes to 2",
-        ),
-        ("save 00000000000000000001", "1 saves"),
-        ("restart 1 4294967295", "1 restarts as 4294967295"),
-        ("state 2\r\n", "the state of 2"),
-        ("\n# a comment\nfront 3\n", "the front of 3"),
-    ];
-    for (line, words) in cases {
-        let found = said(rt.alloc(), line, None)?;
-        assert_eq!(rt; found.as_str(), words, "{line}");
+    for (line, words) in STEPS {
+        assert_said(&rt, rt.alloc(), line, None, words)?;
     }
     Ok(())
 }
 
+/// Lines that say no step.
+const OTHERS: &[&str] = &[
+    "sites 1",
+    "state",
+    "state  1",
+    "state 1 ",
+    "state +1",
+    "state 65536",
+    "state 000000000000000000001",
+    "intake 1 {\"change\":7}",
+    "send 1 @",
+    "deliver 18446744073709551616 1",
+    "restart 1 4294967296",
+    "State 1",
+];
+
 #[test]
 fn other_lines_say_nothing(rt: HostRuntime) -> Result<(), Fail> {
-    let cases = [
-        "sites 1",
-        "state",
-        "state  1",
-        "state 1 ",
-        "state +1",
-        "state 65536",
-        "state 000000000000000000001",
-        "intake 1 {\"change\":7}",
-        "send 1 @",
-        "deliver 18446744073709551616 1",
-        "restart 1 4294967296",
-        "State 1",
-    ];
-    for line in cases {
-        let found = said(rt.alloc(), line, None)?;
-        assert_eq!(rt; found.as_str(), "nothing", "{line}");
+    for line in OTHERS {
+        assert_said(&rt, rt.alloc(), line, None, "nothing")?;
     }
     Ok(())
 }
@@ -100,21 +127,26 @@ fn other_lines_say_nothing(rt: HostRuntime) -> Result<(), Fail> {
 #[test]
 fn reports_are_asked_for_under_a_gate(rt: HostRuntime) -> Result<(), Fail> {
     let gate = Gate::read(rt.alloc(), GATE)?;
-    let under = said(rt.alloc(), "ready 1", Some(&gate))?;
-    assert_eq!(rt; under.as_str(), "the report of 1");
-    let without = said(rt.alloc(), "ready 1", None)?;
-    assert_eq!(rt; without.as_str(), "nothing");
-    Ok(())
+    assert_said(&rt, rt.alloc(), "ready 1", Some(&gate), "the report of 1")?;
+    assert_said(&rt, rt.alloc(), "ready 1", None, "nothing")
+}
+
+/// The sites of a script, how many steps it has, and its bad line.
+fn counts(script: &Script<'_>) -> (u16, usize, Option<u64>) {
+    (script.sites, script.steps.len(), script.bad_line)
 }
 
 #[test]
 fn a_bad_line_ends_a_script(rt: HostRuntime) -> Result<(), Fail> {
     let text = b"# two\nsites 2\n\nstate 1\nstate\nstate 2\n".as_slice();
     let script = read_script(rt.alloc(), text, None)?;
-    assert_eq!(rt; script.sites, 2);
-    assert_eq!(rt; script.steps.len(), 1);
-    assert_eq!(rt; script.bad_line, Some(5));
+    assert_eq!(rt; counts(&script), (2, 1, Some(5)));
     Ok(())
+}
+
+/// The refusal of a script.
+fn refusal_of(alloc: Global, text: &str) -> Option<ScriptFault> {
+    read_script(alloc, text.as_bytes(), None).err()
 }
 
 #[test]
@@ -126,9 +158,10 @@ fn a_script_begins_with_its_sites(rt: HostRuntime) {
         "sites 65\n",
         "state 1\nsites 1\n",
     ] {
-        match read_script(rt.alloc(), text.as_bytes(), None) {
-            Ok(_) => assert!(rt; false, "{text}"),
-            Err(fault) => assert_eq!(rt; fault, ScriptFault::BadSites, "{text}"),
-        }
+        assert_eq!(rt;
+            refusal_of(rt.alloc(), text),
+            Some(ScriptFault::BadSites),
+            "{text}"
+        );
     }
 }

@@ -2,11 +2,13 @@
 
 use byte_ends::{Broken, Ends};
 use op_text::OpTextFault;
+use review_ops::Op;
 use snapshot_text::{
     SnapFault, WriteSnapFault, lines_have_one_reading, read_snapshot, snapshot_of, snapshot_onto,
     snapshots_are_one, snapshots_say_their_operations, write_snapshot,
 };
-use std::alloc::Global;
+use std::alloc::{AllocError, Global};
+use std::process::Abort;
 use std::test::Fail;
 
 const FIRST: &str =
@@ -23,128 +25,164 @@ fn fault_of(alloc: Global, text: &[u8]) -> (u8, u64, u8) {
     }
 }
 
+/// Texts, each with its first fault.
+const FAULTS: &[(&[u8], (u8, u64, u8))] = &[
+    (b"", (1, 0, 0)),
+    (b"\n", (1, 0, 0)),
+    (b"reviewgate 3\nend 0\n", (1, 0, 0)),
+    (b"reviewgate 2", (3, 0, 0)),
+    (b"reviewgate 2\n", (3, 0, 0)),
+    (b"reviewgate 2\nend 1\n", (4, 0, 0)),
+    (b"reviewgate 2\nend 0\n\n", (5, 0, 0)),
+    (b"reviewgate 2\nend 1\n\n", (4, 0, 0)),
+    (b"reviewgate 2\n{\"change\":1\nend 1\n", (2, 2, 1)),
+    (b"reviewgate 2\n\xFF\nend 1\n", (2, 2, 1)),
+    (b"reviewgate 2\nend 0x\n", (2, 2, 1)),
+    (b"reviewgate 2\nend \n", (2, 2, 1)),
+    (b"reviewgate 2\n{}\n\nend 1\n", (2, 2, 2)),
+    (b"reviewgate 2\nend 000000000000000000001\n", (2, 2, 1)),
+    (b"reviewgate 2\nend 99999999999999999999\n", (4, 0, 0)),
+    (b"reviewgate 2\nend 00000000000000000000\n", (0, 0, 0)),
+    (b"reviewgate 1\r\nend 0\r\n", (0, 0, 0)),
+    (b"reviewgate 2\nend 0", (0, 0, 0)),
+];
+
 #[test]
-fn the_first_fault_stands(rt: HostRuntime) -> Result<(), Fail> {
-    let alloc = rt.alloc();
-    assert_eq!(rt; fault_of(alloc, b""), (1, 0, 0));
-    assert_eq!(rt; fault_of(alloc, b"\n"), (1, 0, 0));
-    assert_eq!(rt; fault_of(alloc, b"reviewgate 3\nend 0\n"), (1, 0, 0));
-    assert_eq!(rt; fault_of(alloc, b"reviewgate 2"), (3, 0, 0));
-    assert_eq!(rt; fault_of(alloc, b"reviewgate 2\n"), (3, 0, 0));
-    assert_eq!(rt; fault_of(alloc, b"reviewgate 2\nend 1\n"), (4, 0, 0));
-    assert_eq!(rt; fault_of(alloc, b"reviewgate 2\nend 0\n\n"), (5, 0, 0));
-    assert_eq!(rt; fault_of(alloc, b"reviewgate 2\nend 1\n\n"), (4, 0, 0));
-    assert_eq!(rt;
-        fault_of(alloc, b"reviewgate 2\n{\"change\":1\nend 1\n"),
-        (2, 2, 1)
-    );
-    assert_eq!(rt; fault_of(alloc, b"reviewgate 2\n\xFF\nend 1\n"), (2, 2, 1));
-    assert_eq!(rt; fault_of(alloc, b"reviewgate 2\nend 0x\n"), (2, 2, 1));
-    assert_eq!(rt; fault_of(alloc, b"reviewgate 2\nend \n"), (2, 2, 1));
-    assert_eq!(rt; fault_of(alloc, b"reviewgate 2\n{}\n\nend 1\n"), (2, 2, 2));
-    assert_eq!(rt;
-        fault_of(alloc, b"reviewgate 2\nend 000000000000000000001\n"),
-        (2, 2, 1)
-    );
-    assert_eq!(rt;
-        fault_of(alloc, b"reviewgate 2\nend 99999999999999999999\n"),
-        (4, 0, 0)
-    );
-    assert_eq!(rt;
-        fault_of(alloc, b"reviewgate 2\nend 00000000000000000000\n"),
-        (0, 0, 0)
-    );
-    assert_eq!(rt; fault_of(alloc, b"reviewgate 1\r\nend 0\r\n"), (0, 0, 0));
-    assert_eq!(rt; fault_of(alloc, b"reviewgate 2\nend 0"), (0, 0, 0));
+fn the_first_fault_stands(rt: HostRuntime) {
+    for (text, fault) in FAULTS {
+        assert_eq!(rt; fault_of(rt.alloc(), text), *fault);
+    }
+}
+
+/// The operations have these times, in their order.
+fn assert_times(rt: &impl Abort, ops: &[Op], times: &[u64]) {
+    assert_eq!(rt; ops.len(), times.len());
+    for (op, time) in ops.iter().zip(times) {
+        assert_eq!(rt; op.stamp().time(), *time);
+    }
+}
+
+/// The operations that a text brings have these times, in their order.
+fn assert_read(rt: &impl Abort, alloc: Global, text: &[u8], times: &[u64]) -> Result<(), Fail> {
+    let replica = read_snapshot(alloc, &mut Ends::new(text))?;
+    assert_times(rt, replica.as_slice(), times);
+    Ok(())
+}
+
+/// The snapshot of the operations that a text brings.
+fn rewritten(alloc: Global, text: &[u8]) -> Result<Vec<u8>, Fail> {
+    let replica = read_snapshot(alloc, &mut Ends::new(text))?;
+    let mut drain = Ends::new(Vec::new(alloc));
+    write_snapshot(alloc, &replica, &mut drain)?;
+    Ok(drain.into_inner())
+}
+
+/// A text brings each operation that another one brings.
+fn assert_brings_each(
+    rt: &impl Abort,
+    alloc: Global,
+    text: &[u8],
+    other: &[u8],
+) -> Result<(), Fail> {
+    let replica = read_snapshot(alloc, &mut Ends::new(text))?;
+    let wanted = read_snapshot(alloc, &mut Ends::new(other))?;
+    for op in wanted.as_slice() {
+        assert!(rt; replica.has(op));
+    }
+    Ok(())
+}
+
+/// A text of two operations, not in their order, and one of them twice.
+fn unordered(alloc: Global) -> Result<String, AllocError> {
+    format!(in alloc; "reviewgate 1\n{SECOND}\n{FIRST}\n{SECOND}\nend 3\n")
+}
+
+/// The snapshot of these operations.
+fn ordered(alloc: Global) -> Result<String, AllocError> {
+    format!(in alloc; "reviewgate 2\n{FIRST}\n{SECOND}\nend 2\n")
+}
+
+/// The unordered text's operations are written as the ordered one.
+fn assert_ordered(rt: &impl Abort, alloc: Global, written: &[u8]) -> Result<(), Fail> {
+    let wanted = ordered(alloc)?;
+    assert_eq!(rt; written, wanted.as_bytes());
     Ok(())
 }
 
 #[test]
 fn operations_in_any_order_are_written_in_order(rt: HostRuntime) -> Result<(), Fail> {
-    let alloc = rt.alloc();
-    let text = format!(in alloc; "reviewgate 1\n{SECOND}\n{FIRST}\n{SECOND}\nend 3\n")?;
-    let replica = read_snapshot(alloc, &mut Ends::new(text.as_bytes()))?;
-    assert_eq!(rt; replica.len(), 2);
-    assert_eq!(rt; replica.as_slice()[0].stamp().time(), 3);
-    assert_eq!(rt; replica.as_slice()[1].stamp().time(), 2);
+    let text = unordered(rt.alloc())?;
+    assert_read(&rt, rt.alloc(), text.as_bytes(), &[3, 2])?;
+    let written = rewritten(rt.alloc(), text.as_bytes())?;
+    assert_ordered(&rt, rt.alloc(), written.as_slice())?;
+    assert_read(&rt, rt.alloc(), written.as_slice(), &[2, 3])?;
+    assert_brings_each(&rt, rt.alloc(), written.as_slice(), text.as_bytes())
+}
 
-    let mut drain = Ends::new(Vec::new(alloc));
-    write_snapshot(alloc, &replica, &mut drain)?;
-    let written = drain.into_inner();
-    let wanted = format!(in alloc; "reviewgate 2\n{FIRST}\n{SECOND}\nend 2\n")?;
-    assert_eq!(rt; written.as_slice(), wanted.as_bytes());
-
-    let again = read_snapshot(alloc, &mut Ends::new(written.as_slice()))?;
-    assert_eq!(rt; again.len(), 2);
-    assert!(rt; again.has(&replica.as_slice()[0]));
-    assert!(rt; again.has(&replica.as_slice()[1]));
-    Ok(())
+/// The number of a fault, and 0 where there is none.
+fn number_of<T: Drop>(answer: Result<T, SnapFault>) -> u8 {
+    match answer {
+        Ok(_) => 0,
+        Err(fault) => fault.number(),
+    }
 }
 
 // The bytes of a snapshot that were read elsewhere.
 #[test]
 fn a_text_is_read_as_its_source_is(rt: HostRuntime) -> Result<(), Fail> {
-    let alloc = rt.alloc();
-    let text = format!(in alloc; "reviewgate 2\n{FIRST}\n{SECOND}\nend 2")?;
-    let replica = snapshot_of(alloc, text.as_bytes())?;
-    assert_eq!(rt; replica.len(), 2);
-    assert_eq!(rt; replica.as_slice()[0].stamp().time(), 2);
-    let number = match snapshot_of(alloc, b"") {
-        Ok(_) => 0,
-        Err(fault) => fault.number(),
-    };
-    assert_eq!(rt; number, 1);
+    let text = format!(in rt.alloc(); "reviewgate 2\n{FIRST}\n{SECOND}\nend 2")?;
+    let replica = snapshot_of(rt.alloc(), text.as_bytes())?;
+    assert_times(&rt, replica.as_slice(), &[2, 3]);
     Ok(())
+}
+
+#[test]
+fn an_empty_text_has_no_header(rt: HostRuntime) {
+    assert_eq!(rt; number_of(snapshot_of(rt.alloc(), b"")), 1);
 }
 
 // A snapshot is read into a replica that has operations already: they keep their places, and what both have comes once.
 #[test]
 fn a_text_is_read_onto_a_replica(rt: HostRuntime) -> Result<(), Fail> {
-    let alloc = rt.alloc();
-    let one = format!(in alloc; "reviewgate 2\n{SECOND}\nend 1")?;
-    let both = format!(in alloc; "reviewgate 2\n{FIRST}\n{SECOND}\n{FIRST}\nend 3")?;
-    let replica = snapshot_onto(snapshot_of(alloc, one.as_bytes())?, both.as_bytes())?;
-    assert_eq!(rt; replica.len(), 2);
-    assert_eq!(rt; replica.as_slice()[0].stamp().time(), 3);
-    assert_eq!(rt; replica.as_slice()[1].stamp().time(), 2);
-    let number = match snapshot_onto(replica, b"reviewgate 2\n") {
-        Ok(_) => 0,
-        Err(fault) => fault.number(),
-    };
-    assert_eq!(rt; number, 3);
+    let one = format!(in rt.alloc(); "reviewgate 2\n{SECOND}\nend 1")?;
+    let both = format!(in rt.alloc(); "reviewgate 2\n{FIRST}\n{SECOND}\n{FIRST}\nend 3")?;
+    let replica = snapshot_onto(snapshot_of(rt.alloc(), one.as_bytes())?, both.as_bytes())?;
+    assert_times(&rt, replica.as_slice(), &[3, 2]);
+    assert_eq!(rt; number_of(snapshot_onto(replica, b"reviewgate 2\n")), 3);
     Ok(())
+}
+
+/// The number of the fault of a text whose reader fails before this byte.
+fn fault_before(alloc: Global, text: &[u8], byte: u64) -> u8 {
+    let mut source = Broken::before_byte(Ends::new(text), byte);
+    number_of(read_snapshot(alloc, &mut source))
 }
 
 // The reader fails before each byte in turn.
 #[test]
 fn a_failing_reader_is_refused(rt: HostRuntime) -> Result<(), Fail> {
-    let alloc = rt.alloc();
-    let text = format!(in alloc; "reviewgate 1\n{SECOND}\n{FIRST}\n{SECOND}\nend 3\n")?;
-    for n in 1..=text.len() as u64 {
-        let mut source = Broken::before_byte(Ends::new(text.as_bytes()), n);
-        let number = match read_snapshot(alloc, &mut source) {
-            Ok(_) => 0,
-            Err(fault) => fault.number(),
-        };
-        assert_eq!(rt; number, 7);
+    let text = unordered(rt.alloc())?;
+    for byte in 1..=text.len() as u64 {
+        assert_eq!(rt; fault_before(rt.alloc(), text.as_bytes(), byte), 7);
     }
     Ok(())
+}
+
+/// What writing no operations to a writer that fails before this byte answers, and how many bytes the writer took.
+fn written_before(alloc: Global, byte: u64) -> Result<(Result<(), WriteSnapFault>, usize), Fail> {
+    let replica = read_snapshot(alloc, &mut Ends::new(b"reviewgate 2\nend 0\n".as_slice()))?;
+    let mut drain = Broken::before_byte(Ends::new(Vec::new(alloc)), byte);
+    let answer = write_snapshot(alloc, &replica, &mut drain);
+    Ok((answer, drain.into_inner().into_inner().len()))
 }
 
 // The writer fails before each byte in turn, and has taken those before it.
 #[test]
 fn a_failing_writer_is_reported(rt: HostRuntime) -> Result<(), Fail> {
-    let replica = read_snapshot(
-        rt.alloc(),
-        &mut Ends::new(b"reviewgate 2\nend 0\n".as_slice()),
-    )?;
-    for n in 1..20u64 {
-        let mut drain = Broken::before_byte(Ends::new(Vec::new(rt.alloc())), n);
-        assert_eq!(rt;
-            write_snapshot(rt.alloc(), &replica, &mut drain),
-            Err(WriteSnapFault::WriteFault)
-        );
-        assert_eq!(rt; drain.into_inner().into_inner().len() as u64 + 1, n);
+    for byte in 1..20u64 {
+        let (answer, taken) = written_before(rt.alloc(), byte)?;
+        assert_eq!(rt; answer, Err(WriteSnapFault::WriteFault));
+        assert_eq!(rt; taken as u64, byte.wrapping_sub(1));
     }
     Ok(())
 }

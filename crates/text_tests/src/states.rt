@@ -1,7 +1,6 @@
-//! State texts worked out by hand, and what is written where memory is refused or the writer fails.
+//! State texts worked out by hand, and what is written where the writer fails.
 
 use byte_ends::{Broken, Ends};
-use linked_list_allocator::LocalHeap;
 use report_text::{WriteStateFault, write_state};
 use review_ops::{Body, Draft, Op, Stamp};
 use state_core::State;
@@ -108,16 +107,29 @@ fn state_of(alloc: Global, steps: &[Step], is_turned: bool) -> Result<State, Fai
     Ok(state)
 }
 
-/// The state has this text.
-fn assert_text(rt: &impl Abort, alloc: Global, state: &State, wanted: &str) -> Result<(), Fail> {
+/// The text of a state.
+fn text_of(alloc: Global, state: &State) -> Result<Vec<u8>, Fail> {
     let mut written = Ends::new(Vec::new(alloc));
     write_state(state, &mut written)?;
-    assert_eq!(rt; written.get_ref().as_slice(), wanted.as_bytes());
+    Ok(written.into_inner())
+}
+
+/// The operations give this text, in their order or in the other one.
+fn assert_text(
+    rt: &impl Abort,
+    alloc: Global,
+    steps: &[Step],
+    is_turned: bool,
+    wanted: &str,
+) -> Result<(), Fail> {
+    let state = state_of(alloc, steps, is_turned)?;
+    let text = text_of(alloc, &state)?;
+    assert_eq!(rt; text.as_slice(), wanted.as_bytes());
     Ok(())
 }
 
 /// Operations with the state text that they give in any order.
-const ARRIVALS: [(&[Step], &str); 6] = [
+const ARRIVALS: &[(&[Step], &str)] = &[
     (
         &[
             Step::PatchSet(1, "m", None),
@@ -163,44 +175,9 @@ const ARRIVALS: [(&[Step], &str); 6] = [
 #[test]
 fn states_in_any_order_of_arrival(rt: HostRuntime) -> Result<(), Fail> {
     for (steps, wanted) in ARRIVALS {
-        assert_text(
-            &rt,
-            rt.alloc(),
-            &state_of(rt.alloc(), steps, false)?,
-            wanted,
-        )?;
-        assert_text(&rt, rt.alloc(), &state_of(rt.alloc(), steps, true)?, wanted)?;
+        assert_text(&rt, rt.alloc(), steps, false, wanted)?;
+        assert_text(&rt, rt.alloc(), steps, true, wanted)?;
     }
-    Ok(())
-}
-
-/// The state of a vote.
-fn voted_in<'a>(heap: &'a LocalHeap) -> Option<State<&'a LocalHeap>> {
-    let mut state = State::new(heap);
-    state.take(&vote(heap, 1, 1)?).ok()?;
-    Some(state)
-}
-
-/// Whether a heap of this size suffices for the text of a state with a vote. Where it doesn't, nothing was written.
-fn is_written_in(rt: &impl Abort, alloc: Global, size: usize) -> Result<bool, Fail> {
-    let heap = LocalHeap::new(alloc, size)?;
-    let Some(state) = voted_in(&heap) else {
-        return Ok(false);
-    };
-    let mut written = Ends::new(Vec::new(alloc));
-    let fault = write_state(&state, &mut written).err();
-    assert!(rt; matches!(fault, None | Some(WriteStateFault::NoMemory)));
-    assert_eq!(rt; written.get_ref().is_empty(), fault.is_some());
-    Ok(fault.is_none())
-}
-
-#[test]
-fn refused_memory_writes_nothing(rt: HostRuntime) -> Result<(), Fail> {
-    let mut sufficed = false;
-    for steps in 0..512usize {
-        sufficed = is_written_in(&rt, rt.alloc(), steps * 8)?;
-    }
-    assert!(rt; sufficed);
     Ok(())
 }
 
@@ -215,10 +192,15 @@ fn assert_fails_once(rt: &impl Abort, state: &State, failing: &mut Failing) {
     assert_eq!(rt; second, Ok(()));
 }
 
+/// The writer has taken this.
+fn assert_taken(rt: &impl Abort, failing: &Failing, wanted: &[u8]) {
+    assert_eq!(rt; failing.get_ref().get_ref().as_slice(), wanted);
+}
+
 #[test]
 fn a_failing_writer(rt: HostRuntime) {
+    let state = State::new(rt.alloc());
     let mut failing = Broken::at_call(Ends::new(Vec::new(rt.alloc())), 1);
-    assert_fails_once(&rt, &State::new(rt.alloc()), &mut failing);
-    let written = failing.get_ref().get_ref().as_slice();
-    assert_eq!(rt; written, b"end 0\n".as_slice());
+    assert_fails_once(&rt, &state, &mut failing);
+    assert_taken(&rt, &failing, b"end 0\n");
 }

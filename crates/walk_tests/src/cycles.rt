@@ -1,14 +1,13 @@
-//! Cycles that were found by hand, a slow plain program beside the search, and refused memory.
+//! Cycles that were found by hand, and a slow plain program beside the search.
 
 use super::digraphs::{graph_of, next_below, some_edges};
 use lattice_core::NoMemory;
-use linked_list_allocator::LocalHeap;
 use std::alloc::{Allocator, Global};
 use std::process::Abort;
 use std::test::Fail;
 
 /// Which nodes of the graph are on a cycle.
-fn flags_of<A: Allocator + Copy>(
+pub(super) fn flags_of<A: Allocator + Copy>(
     alloc: A,
     nodes: usize,
     edges: &[(usize, usize)],
@@ -220,32 +219,4 @@ fn a_hundred_thousand_nodes_are_searched(rt: HostRuntime) -> Result<(), Fail> {
 #[test]
 fn a_hundred_thousand_nodes_turned_round_are_searched(rt: HostRuntime) -> Result<(), Fail> {
     assert_long(&rt, rt.alloc(), true)
-}
-
-/// Whether a heap of this size suffices for a graph and the nodes on its cycles, which are right then. What was refused
-/// keeps no memory: the second time ends as the first.
-fn suffices(rt: &impl Abort, alloc: Global, size: usize) -> Result<bool, Fail> {
-    let heap = LocalHeap::new(alloc, size)?;
-    let edges = [(0, 1), (1, 2), (2, 0), (2, 3)];
-    let first = flags_of(&heap, 4, &edges);
-    let done = first.is_ok();
-    if let Ok(flags) = first {
-        assert_eq!(rt; flags.as_slice(), [true, true, true, false].as_slice());
-    }
-    let second = flags_of(&heap, 4, &edges);
-    assert_eq!(rt; second.is_ok(), done);
-    Ok(done)
-}
-
-#[test]
-fn refused_memory_is_reported_and_given_back(rt: HostRuntime) -> Result<(), Fail> {
-    let mut refused = 0;
-    for step in 0..256 {
-        if suffices(&rt, rt.alloc(), 16 * step)? {
-            break;
-        }
-        refused = step;
-    }
-    assert!(rt; refused > 8 && refused < 255);
-    Ok(())
 }

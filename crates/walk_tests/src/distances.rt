@@ -1,8 +1,7 @@
-//! Small graphs whose distances are known, a slow plain program beside the search, and refused memory.
+//! Small graphs whose distances are known, and a slow plain program beside the search.
 
 use super::digraphs::{graph_of, next_below, some_edges};
 use lattice_core::NoMemory;
-use linked_list_allocator::LocalHeap;
 use std::alloc::{Allocator, Global};
 use std::process::Abort;
 use std::test::Fail;
@@ -18,7 +17,7 @@ fn namers_are_listed_in_order(rt: HostRuntime) -> Result<(), Fail> {
 }
 
 /// The distances of the graph's nodes to the marked ones, of which there are as many as nodes.
-fn distances_of<A: Allocator + Copy>(
+pub(super) fn distances_of<A: Allocator + Copy>(
     alloc: A,
     edges: &[(usize, usize)],
     marked: &[bool],
@@ -204,38 +203,5 @@ fn a_chain_of_a_hundred_thousand_nodes_is_searched(rt: HostRuntime) -> Result<()
     }
     let distances = distances_of(alloc, edges.as_slice(), marked.as_slice())?;
     assert_eq!(rt; distances.as_slice().first().copied(), Some(Some(99_999)));
-    Ok(())
-}
-
-/// Whether a heap of this size suffices for a graph and its distances, which are right then. What was refused keeps no
-/// memory: the second time ends as the first.
-fn suffices(rt: &impl Abort, alloc: Global, size: usize) -> Result<bool, Fail> {
-    let heap = LocalHeap::new(alloc, size)?;
-    let edges = [(0, 1), (1, 2), (2, 0), (2, 3)];
-    let marked = [false, false, false, true];
-    let first = distances_of(&heap, &edges, &marked);
-    let done = first.is_ok();
-    if let Ok(distances) = first {
-        assert_eq!(rt;
-            distances.as_slice(),
-            [Some(3), Some(2), Some(1), Some(0)].as_slice()
-        );
-    }
-    let second = distances_of(&heap, &edges, &marked);
-    assert_eq!(rt; second.is_ok(), done);
-    Ok(done)
-}
-
-#[test]
-fn refused_memory_is_reported_and_given_back(rt: HostRuntime) -> Result<(), Fail> {
-    let mut refused = 0;
-    for words in 0..256 {
-        if suffices(&rt, rt.alloc(), 8 * words)? {
-            break;
-        }
-        refused = words;
-    }
-    assert!(rt; refused > 16);
-    assert!(rt; suffices(&rt, rt.alloc(), 2048)?);
     Ok(())
 }

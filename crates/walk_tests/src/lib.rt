@@ -1,5 +1,5 @@
-//! Tests of `walk_core` through its public functions: distances, cycles and orders, beside slow plain programs and in
-//! heaps of many sizes. A crate of tests alone, as `record_tests` is.
+//! Tests of `walk_core` through its public functions: distances, cycles and orders, beside slow plain programs, and
+//! with each request for memory refused in turn. A crate of tests alone, as `record_tests` is.
 #![tactic(auto)]
 
 #[cfg(test)]
@@ -10,3 +10,5 @@ mod digraphs;
 mod distances;
 #[cfg(test)]
 mod orders;
+#[cfg(test)]
+mod refused;

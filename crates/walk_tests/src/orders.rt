@@ -1,15 +1,14 @@
-//! Orders that were found by hand, a slow plain program beside the marks, and refused memory.
+//! Orders that were found by hand, and a slow plain program beside the marks.
 
 use super::cycles::{numbered_edges, relax};
 use super::digraphs::{graph_of, next_below, some_edges};
 use lattice_core::NoMemory;
-use linked_list_allocator::LocalHeap;
 use std::alloc::{Allocator, Global};
 use std::process::Abort;
 use std::test::Fail;
 
 /// All nodes of the graph in the order of their ranks.
-fn order_of<A: Allocator + Copy>(
+pub(super) fn order_of<A: Allocator + Copy>(
     alloc: A,
     nodes: usize,
     edges: &[(usize, usize)],
@@ -206,33 +205,5 @@ fn two_regions_are_counted_apart(rt: HostRuntime) -> Result<(), Fail> {
     for (place, node) in order.iter().enumerate() {
         assert_eq!(rt; *node, place);
     }
-    Ok(())
-}
-
-/// Whether a heap of this size suffices for a graph and its order, which is right then. What was refused keeps no
-/// memory: the second time ends as the first.
-fn suffices(rt: &impl Abort, alloc: Global, size: usize) -> Result<bool, Fail> {
-    let heap = LocalHeap::new(alloc, size)?;
-    let edges = [(0, 1), (1, 2), (2, 0), (2, 3), (1, 4)];
-    let first = order_of(&heap, 5, &edges);
-    let done = first.is_ok();
-    if let Ok(order) = first {
-        assert_eq!(rt; order.as_slice(), [3, 4, 0, 1, 2].as_slice());
-    }
-    let second = order_of(&heap, 5, &edges);
-    assert_eq!(rt; second.is_ok(), done);
-    Ok(done)
-}
-
-#[test]
-fn refused_memory_is_reported_and_given_back(rt: HostRuntime) -> Result<(), Fail> {
-    let mut refused = 0;
-    for step in 0..512 {
-        if suffices(&rt, rt.alloc(), 8 * step)? {
-            break;
-        }
-        refused = step;
-    }
-    assert!(rt; refused > 16 && refused < 511);
     Ok(())
 }

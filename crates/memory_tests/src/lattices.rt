@@ -1,0 +1,243 @@
+//! Maps and lists of lattice values.
+
+use super::turns::{Call, Memory, Seen, assert_each};
+use lattice_core::{Flag, Join, JoinMap, join_all};
+use std::alloc::Global;
+
+/// Flags by number.
+type Flags<'a> = JoinMap<u32, Flag, &'a Memory>;
+
+/// Maps of flags by number.
+type Nested<'a> = JoinMap<u8, Flags<'a>, &'a Memory>;
+
+/// Raises the flags from `from` up to `end`: the first one that memory was refused for, or `end`.
+fn raise(flags: &mut Flags<'_>, from: u32, end: u32) -> u32 {
+    for number in from..end {
+        if flags.put(number, Flag::new(true)).is_err() {
+            return number;
+        }
+    }
+    end
+}
+
+/// The flags from `from` up to `end`.
+fn raised(memory: &Memory, from: u32, end: u32) -> Option<Flags<'_>> {
+    let mut flags = JoinMap::new(memory);
+    let reached = raise(&mut flags, from, end);
+    if reached == end { Some(flags) } else { None }
+}
+
+/// Whether two values are the same, where there are both.
+fn is<J: Join>(value: &J, wanted: Option<J>) -> bool {
+    wanted.is_some_and(|wanted| value.same(&wanted))
+}
+
+/// Whether a value lies between two others, where there are both.
+fn lies_between<J: Join>(low: Option<J>, value: &J, high: Option<J>) -> bool {
+    low.is_some_and(|low| value.covers(&low)) && high.is_some_and(|high| high.covers(value))
+}
+
+/// Puts of flags, one after the other.
+#[derive(Clone, Copy)]
+struct Puts;
+
+impl Call for Puts {
+    fn seen(self, alloc: Global, granted: u32) -> Option<Seen> {
+        let memory = Memory::new(alloc);
+        Some(put(&memory, granted))
+    }
+}
+
+/// What is seen of the puts of forty flags.
+fn put(memory: &Memory, granted: u32) -> Seen {
+    let mut flags = JoinMap::new(memory);
+    memory.refuse_after(granted);
+    let reached = raise(&mut flags, 0, 40);
+    let refused = memory.grant_all();
+    let stated = is(&flags, raised(memory, 0, reached));
+    raise(&mut flags, reached, 40);
+    Seen {
+        failed: reached < 40,
+        refused,
+        stated,
+        whole: is(&flags, raised(memory, 0, 40)),
+    }
+}
+
+/// The join of two maps.
+#[derive(Clone, Copy)]
+struct Joins;
+
+impl Call for Joins {
+    fn seen(self, alloc: Global, granted: u32) -> Option<Seen> {
+        let memory = Memory::new(alloc);
+        let flags = raised(&memory, 0, 12)?;
+        joined(&memory, flags, raised(&memory, 8, 40)?, granted)
+    }
+}
+
+/// What is seen where the flags join others.
+fn joined<'a>(
+    memory: &'a Memory,
+    mut flags: Flags<'a>,
+    other: Flags<'a>,
+    granted: u32,
+) -> Option<Seen> {
+    memory.refuse_after(granted);
+    let failed = flags.join(other).is_err();
+    let refused = memory.grant_all();
+    let is_whole = is(&flags, raised(memory, 0, 40));
+    let is_between = lies_between(raised(memory, 0, 12), &flags, raised(memory, 0, 40));
+    flags.join(raised(memory, 8, 40)?).ok()?;
+    Some(Seen {
+        failed,
+        refused,
+        stated: is_between && is_whole != failed,
+        whole: is(&flags, raised(memory, 0, 40)),
+    })
+}
+
+/// A map of maps that raises the flags up to `end` at one key.
+fn nested(memory: &Memory, end: u32) -> Option<Nested<'_>> {
+    let mut maps = JoinMap::new(memory);
+    maps.put(5u8, raised(memory, 0, end)?).ok()?;
+    Some(maps)
+}
+
+/// The join of flags at a key of a map of maps, which is new or has the first flags.
+#[derive(Clone, Copy)]
+struct JoinsAt {
+    is_new: bool,
+}
+
+/// The map of maps before the join.
+fn before(memory: &Memory, is_new: bool) -> Option<Nested<'_>> {
+    match is_new {
+        true => Some(JoinMap::new(memory)),
+        false => nested(memory, 12),
+    }
+}
+
+impl Call for JoinsAt {
+    fn seen(self, alloc: Global, granted: u32) -> Option<Seen> {
+        let memory = Memory::new(alloc);
+        let maps = before(&memory, self.is_new)?;
+        joined_at(&memory, maps, self.is_new, granted)
+    }
+}
+
+/// What is seen where flags are joined at the key of the map of maps.
+fn joined_at<'a>(
+    memory: &'a Memory,
+    mut maps: Nested<'a>,
+    is_new: bool,
+    granted: u32,
+) -> Option<Seen> {
+    let flags = raised(memory, 0, 40)?;
+    memory.refuse_after(granted);
+    let failed = maps.join_at(5u8, flags).is_err();
+    let refused = memory.grant_all();
+    let is_whole = is(&maps, nested(memory, 40));
+    let is_between = lies_between(before(memory, is_new), &maps, nested(memory, 40));
+    let is_there = !maps.is_empty();
+    maps.join_at(5u8, raised(memory, 0, 40)?).ok()?;
+    Some(Seen {
+        failed,
+        refused,
+        stated: is_between && is_whole != failed && is_there != (is_new && failed),
+        whole: is(&maps, nested(memory, 40)),
+    })
+}
+
+/// A copy of a map.
+#[derive(Clone, Copy)]
+struct Copies;
+
+impl Call for Copies {
+    fn seen(self, alloc: Global, granted: u32) -> Option<Seen> {
+        let memory = Memory::new(alloc);
+        let flags = raised(&memory, 0, 40)?;
+        Some(copied(&memory, &flags, granted))
+    }
+}
+
+/// What is seen of a copy of the flags.
+fn copied<'a>(memory: &'a Memory, flags: &Flags<'a>, granted: u32) -> Seen {
+    memory.refuse_after(granted);
+    let copy = flags.copy().ok();
+    let refused = memory.grant_all();
+    let failed = copy.is_none();
+    let is_right = failed || is(flags, copy);
+    Seen {
+        failed,
+        refused,
+        stated: is_right && is(flags, raised(memory, 0, 40)),
+        whole: is(flags, flags.copy().ok()),
+    }
+}
+
+/// Three maps that join to all flags.
+fn thirds(memory: &Memory) -> Option<Vec<Flags<'_>, &Memory>> {
+    let mut states = Vec::new(memory);
+    for (from, end) in [(0, 12), (8, 20), (16, 40)] {
+        states.push(raised(memory, from, end)?).ok()?;
+    }
+    Some(states)
+}
+
+/// The join of a list of maps.
+#[derive(Clone, Copy)]
+struct Lists;
+
+impl Call for Lists {
+    fn seen(self, alloc: Global, granted: u32) -> Option<Seen> {
+        let memory = Memory::new(alloc);
+        let states = thirds(&memory)?;
+        Some(listed(&memory, states, granted))
+    }
+}
+
+/// The join of a list of maps, where memory suffices for it.
+fn join_of<'a>(states: Vec<Flags<'a>, &'a Memory>) -> Option<Flags<'a>> {
+    join_all(states).ok().flatten()
+}
+
+/// Whether these are all flags.
+fn are_all<'a>(memory: &'a Memory, flags: Option<Flags<'a>>) -> bool {
+    match flags {
+        Some(flags) => is(&flags, raised(memory, 0, 40)),
+        None => false,
+    }
+}
+
+/// What is seen of the join of the maps.
+fn listed<'a>(memory: &'a Memory, states: Vec<Flags<'a>, &'a Memory>, granted: u32) -> Seen {
+    memory.refuse_after(granted);
+    let whole = join_of(states);
+    let refused = memory.grant_all();
+    let failed = whole.is_none();
+    Seen {
+        failed,
+        refused,
+        stated: failed || are_all(memory, whole),
+        whole: are_all(memory, thirds(memory).and_then(join_of)),
+    }
+}
+
+#[test]
+fn puts_leave_what_was_put(rt: HostRuntime) {
+    assert_each(&rt, rt.alloc(), Puts, 4);
+}
+
+#[test]
+fn joins_leave_what_lies_between(rt: HostRuntime) {
+    assert_each(&rt, rt.alloc(), Joins, 3);
+    assert_each(&rt, rt.alloc(), JoinsAt { is_new: true }, 1);
+    assert_each(&rt, rt.alloc(), JoinsAt { is_new: false }, 3);
+}
+
+#[test]
+fn copies_and_lists_are_whole_or_refused(rt: HostRuntime) {
+    assert_each(&rt, rt.alloc(), Copies, 4);
+    assert_each(&rt, rt.alloc(), Lists, 3);
+}

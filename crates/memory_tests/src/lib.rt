@@ -1,0 +1,26 @@
+//! Each request for memory refused in turn, by an allocator that refuses just one: what is answered then, what holds
+//! after it, and that the call made again with memory gives the whole. A crate of tests alone, as `record_tests` is.
+#![tactic(auto)]
+
+#[cfg(test)]
+mod changes;
+#[cfg(test)]
+mod chunks;
+#[cfg(test)]
+mod footers;
+#[cfg(test)]
+mod lattices;
+#[cfg(test)]
+mod lines;
+#[cfg(test)]
+mod lookups;
+#[cfg(test)]
+mod operations;
+#[cfg(test)]
+mod replicas;
+#[cfg(test)]
+mod states;
+#[cfg(test)]
+mod turns;
+#[cfg(test)]
+mod worlds;

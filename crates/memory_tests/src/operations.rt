@@ -1,0 +1,91 @@
+//! Operations as sites stamp them, and copies of them.
+
+use super::turns::{Call, Memory, Seen, assert_each};
+use review_ops::{Body, Draft, Op, Stamp};
+use std::alloc::{Allocator, Global};
+
+/// What an operation says, but for its change, which is 101.
+#[derive(Clone, Copy)]
+pub(super) enum Deed {
+    PatchSet(u32),
+    Vote(u32, i8),
+    Abandon,
+}
+
+/// The patch set with this number.
+fn patch_set<A: Allocator + Copy>(alloc: A, set: u32) -> Option<Draft<A>> {
+    let message = String::from_str(alloc, "Add x\n").ok()?;
+    Some(Draft::PatchSet {
+        change: 101,
+        set,
+        message,
+        parent: Some(7),
+    })
+}
+
+/// A vote on the patch set with this number.
+fn vote<A: Allocator + Copy>(alloc: A, set: u32, value: i8) -> Option<Draft<A>> {
+    let label = String::from_str(alloc, "Workflow").ok()?;
+    let voter = String::from_str(alloc, "ann").ok()?;
+    Some(Draft::Vote {
+        change: 101,
+        set,
+        label,
+        voter,
+        value,
+    })
+}
+
+/// The draft of a deed.
+pub(super) fn draft_of<A: Allocator + Copy>(alloc: A, deed: Deed) -> Option<Draft<A>> {
+    match deed {
+        Deed::PatchSet(set) => patch_set(alloc, set),
+        Deed::Vote(set, value) => vote(alloc, set, value),
+        Deed::Abandon => Some(Draft::Abandon { change: 101 }),
+    }
+}
+
+/// The operation of a deed, with the time and sequence number `time`, of site 1 under start 1.
+pub(super) fn op_of<A: Allocator + Copy>(alloc: A, time: u64, deed: Deed) -> Option<Op<A>> {
+    let stamp = Stamp::new(time, 1, 1, time)?;
+    let body = Body::checked(draft_of(alloc, deed)?).ok()?;
+    Some(Op::new(stamp, body))
+}
+
+/// A copy of an operation.
+#[derive(Clone, Copy)]
+struct Copying(Deed);
+
+impl Call for Copying {
+    fn seen(self, alloc: Global, granted: u32) -> Option<Seen> {
+        let memory = Memory::new(alloc);
+        let op = op_of(&memory, 1, self.0)?;
+        Some(copied(&memory, &op, granted))
+    }
+}
+
+/// Whether a copy is equal to its operation.
+fn is_equal<A: Allocator + Copy>(copy: Option<Op<A>>, op: &Op<A>) -> bool {
+    copy.is_some_and(|copy| copy == *op)
+}
+
+/// What is seen of a copy of the operation.
+fn copied<'a>(memory: &'a Memory, op: &Op<&'a Memory>, granted: u32) -> Seen {
+    memory.refuse_after(granted);
+    let copy = op.copy().ok();
+    let refused = memory.grant_all();
+    let failed = copy.is_none();
+    Seen {
+        failed,
+        refused,
+        stated: failed || is_equal(copy, op),
+        whole: is_equal(op.copy().ok(), op),
+    }
+}
+
+#[test]
+fn copies(rt: HostRuntime) {
+    assert_each(&rt, rt.alloc(), Copying(Deed::PatchSet(1)), 1);
+    assert_each(&rt, rt.alloc(), Copying(Deed::Vote(1, 1)), 2);
+    assert_each(&rt, rt.alloc(), Copying(Deed::Abandon), 0);
+}

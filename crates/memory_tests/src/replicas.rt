@@ -1,0 +1,263 @@
+//! Replicas: what they take, absorb, copy and show.
+
+use super::operations::{Deed, op_of};
+use super::turns::{Call, Memory, Seen, assert_each};
+use replica_core::{Front, Missing, Partly, Replica, Row};
+use review_ops::Op;
+use std::alloc::{Allocator, Global};
+
+/// Operations in the order of their times.
+const DEEDS: [Deed; 4] = [
+    Deed::PatchSet(1),
+    Deed::Vote(1, 1),
+    Deed::Vote(1, 2),
+    Deed::Abandon,
+];
+
+/// The operation after the first `count` ones.
+fn next_op<A: Allocator + Copy>(alloc: A, count: usize) -> Option<Op<A>> {
+    let time = u64::try_from(count).ok()?.checked_add(1)?;
+    op_of(alloc, time, *DEEDS.get(count)?)
+}
+
+/// Whether memory sufficed for the replica to take the operation after the first `count` ones.
+fn take<A: Allocator + Copy>(alloc: A, replica: &mut Replica<A>, count: usize) -> bool {
+    next_op(alloc, count).is_some_and(|op| replica.take(op).is_ok())
+}
+
+/// The replica that took the first `count` operations.
+fn replica_of<A: Allocator + Copy>(alloc: A, count: usize) -> Option<Replica<A>> {
+    let mut replica = Replica::new(alloc);
+    let mut is_taken = true;
+    for place in 0..count {
+        is_taken = is_taken && take(alloc, &mut replica, place);
+    }
+    if is_taken { Some(replica) } else { None }
+}
+
+/// The replica that took the four operations in the other order.
+fn turned_round<A: Allocator + Copy>(alloc: A) -> Option<Replica<A>> {
+    let mut replica = Replica::new(alloc);
+    let mut is_taken = true;
+    for place in [3, 2, 1, 0] {
+        is_taken = is_taken && take(alloc, &mut replica, place);
+    }
+    if is_taken { Some(replica) } else { None }
+}
+
+/// Whether a replica has the operations of another one, in their order, and its state.
+fn is<A: Allocator + Copy>(replica: &Replica<A>, wanted: Replica<A>) -> bool {
+    replica.as_slice() == wanted.as_slice() && replica.same_state(&wanted)
+}
+
+/// Whether the replica has just the first `count` operations, in their order, and their state.
+fn has_first<A: Allocator + Copy>(alloc: A, replica: &Replica<A>, count: usize) -> bool {
+    replica_of(alloc, count).is_some_and(|wanted| is(replica, wanted))
+}
+
+/// An operation that a replica takes after those before it.
+#[derive(Clone, Copy)]
+struct Takes(usize);
+
+impl Call for Takes {
+    fn seen(self, alloc: Global, granted: u32) -> Option<Seen> {
+        let memory = Memory::new(alloc);
+        let op = next_op(&memory, self.0)?;
+        let replica = replica_of(&memory, self.0)?;
+        Some(taken(&memory, replica, op, self.0, granted))
+    }
+}
+
+/// What is seen where the replica with the first `count` operations takes the next one.
+fn taken<'a>(
+    memory: &'a Memory,
+    mut replica: Replica<&'a Memory>,
+    op: Op<&'a Memory>,
+    count: usize,
+    granted: u32,
+) -> Seen {
+    let after = count.saturating_add(1);
+    memory.refuse_after(granted);
+    let failed = replica.take(op).is_err();
+    let refused = memory.grant_all();
+    let stated = has_first(memory, &replica, if failed { count } else { after });
+    let is_taken = take(memory, &mut replica, count);
+    Seen {
+        failed,
+        refused,
+        stated,
+        whole: is_taken && has_first(memory, &replica, after),
+    }
+}
+
+/// A replica that absorbs one with four operations, of which it has the first, and which came in the other order.
+#[derive(Clone, Copy)]
+struct Absorbs;
+
+impl Call for Absorbs {
+    fn seen(self, alloc: Global, granted: u32) -> Option<Seen> {
+        let memory = Memory::new(alloc);
+        let replica = replica_of(&memory, 1)?;
+        absorbed(&memory, replica, turned_round(&memory)?, granted)
+    }
+}
+
+/// How many of four operations are in.
+fn count_of(absorbed: Result<(), Partly>) -> usize {
+    absorbed.map_or_else(|partly| partly.taken, |_| 4)
+}
+
+/// What is seen where the replica absorbs another one: the first so many of its operations are in, as it says.
+fn absorbed<'a>(
+    memory: &'a Memory,
+    mut replica: Replica<&'a Memory>,
+    other: Replica<&'a Memory>,
+    granted: u32,
+) -> Option<Seen> {
+    memory.refuse_after(granted);
+    let count = count_of(replica.absorb(other));
+    let refused = memory.grant_all();
+    let stated = has_first(memory, &replica, count.max(1));
+    replica.absorb(turned_round(memory)?).ok()?;
+    Some(Seen {
+        failed: count < 4,
+        refused,
+        stated,
+        whole: has_first(memory, &replica, 4),
+    })
+}
+
+/// What a replica with four operations shows.
+#[derive(Clone, Copy)]
+enum Shows {
+    Copy,
+    Front,
+    Missing,
+}
+
+impl Call for Shows {
+    fn seen(self, alloc: Global, granted: u32) -> Option<Seen> {
+        let memory = Memory::new(alloc);
+        let replica = replica_of(&memory, 4)?;
+        Some(shown(&memory, &replica, self, granted))
+    }
+}
+
+/// Whether a replica has a copy.
+fn is_copied<'a>(replica: &Replica<&'a Memory>) -> Option<bool> {
+    Some(is(replica, replica.copy().ok()?))
+}
+
+/// The row of site 1 under start 1.
+const ROW: Row = Row { site: 1, start: 1 };
+
+/// Whether the front of the replica goes up to its four operations.
+fn is_front(replica: &Replica<&Memory>) -> Option<bool> {
+    Some(replica.front().ok()?.reach(ROW) == 4)
+}
+
+/// Whether the first three operations of the replica are what an empty front lacks, up to three, with more left.
+fn is_missing<'a>(memory: &'a Memory, replica: &Replica<&'a Memory>) -> Option<bool> {
+    let missing = replica.missing(&Front::new(memory), 3).ok()?;
+    Some(are_first(replica, missing))
+}
+
+/// Whether these are the first three operations of the replica.
+fn are_first<'a>(replica: &Replica<&'a Memory>, missing: Missing<&'a Memory>) -> bool {
+    missing.more && replica.as_slice().get(..3) == Some(missing.ops.as_slice())
+}
+
+/// Whether the replica shows what it has to; none where memory was refused.
+fn show<'a>(memory: &'a Memory, replica: &Replica<&'a Memory>, shows: Shows) -> Option<bool> {
+    match shows {
+        Shows::Copy => is_copied(replica),
+        Shows::Front => is_front(replica),
+        Shows::Missing => is_missing(memory, replica),
+    }
+}
+
+/// What is seen where the replica shows something, which leaves it as it was.
+fn shown<'a>(
+    memory: &'a Memory,
+    replica: &Replica<&'a Memory>,
+    shows: Shows,
+    granted: u32,
+) -> Seen {
+    memory.refuse_after(granted);
+    let shown = show(memory, replica, shows);
+    let refused = memory.grant_all();
+    Seen {
+        failed: shown.is_none(),
+        refused,
+        stated: shown != Some(false) && has_first(memory, replica, 4),
+        whole: show(memory, replica, shows) == Some(true),
+    }
+}
+
+/// A front that is raised in thirty rows.
+#[derive(Clone, Copy)]
+struct Raises;
+
+impl Call for Raises {
+    fn seen(self, alloc: Global, granted: u32) -> Option<Seen> {
+        let memory = Memory::new(alloc);
+        Some(raised(&memory, granted))
+    }
+}
+
+/// Raises the front of site 1 under each start from `from` on, up to 30: the first that memory was refused for, or 30.
+fn raise(front: &mut Front<&Memory>, from: u32) -> u32 {
+    for start in from..30 {
+        if front.raise(Row { site: 1, start }, 5).is_err() {
+            return start;
+        }
+    }
+    30
+}
+
+/// Whether just the first `count` of thirty rows are raised.
+fn are_raised(front: &Front<&Memory>, count: u32) -> bool {
+    for start in 0..30 {
+        let wanted = if start < count { 5 } else { 0 };
+        if front.reach(Row { site: 1, start }) != wanted {
+            return false;
+        }
+    }
+    true
+}
+
+/// What is seen where a front is raised.
+fn raised(memory: &Memory, granted: u32) -> Seen {
+    let mut front = Front::new(memory);
+    memory.refuse_after(granted);
+    let reached = raise(&mut front, 0);
+    let refused = memory.grant_all();
+    let stated = are_raised(&front, reached);
+    raise(&mut front, reached);
+    Seen {
+        failed: reached < 30,
+        refused,
+        stated,
+        whole: are_raised(&front, 30),
+    }
+}
+
+#[test]
+fn a_refused_take_changes_nothing(rt: HostRuntime) {
+    assert_each(&rt, rt.alloc(), Takes(0), 4);
+    assert_each(&rt, rt.alloc(), Takes(1), 3);
+    assert_each(&rt, rt.alloc(), Takes(3), 0);
+}
+
+#[test]
+fn a_refused_absorb_says_how_many_are_in(rt: HostRuntime) {
+    assert_each(&rt, rt.alloc(), Absorbs, 4);
+}
+
+#[test]
+fn what_is_refused_is_not_shown(rt: HostRuntime) {
+    assert_each(&rt, rt.alloc(), Shows::Copy, 8);
+    assert_each(&rt, rt.alloc(), Shows::Front, 1);
+    assert_each(&rt, rt.alloc(), Shows::Missing, 5);
+    assert_each(&rt, rt.alloc(), Raises, 3);
+}
