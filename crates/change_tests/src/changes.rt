@@ -1,75 +1,12 @@
-//! Changes worked out by hand, each public function once, and what holds after refused memory.
+//! Changes worked out by hand, each public function once.
 
 use change_core::{ChangeState, Life, Status, operations_add_up};
+use deeds::{Deed, op_of};
 use lattice_core::Join;
 use review_ops::{Body, Draft, Op, Stamp};
-use std::alloc::{Allocator, Global};
+use std::alloc::Global;
 use std::process::Abort;
 use std::test::Fail;
-
-/// What a test lacks where memory is refused that it counts on.
-const MEMORY: &str = "memory";
-
-/// An operation with the time and sequence number `time`, of site 1 under start 1.
-fn stamped<A: Allocator + Copy>(time: u64, draft: Draft<A>) -> Option<Op<A>> {
-    let stamp = Stamp::new(time, 1, 1, time)?;
-    let body = Body::checked(draft).ok()?;
-    Some(Op::new(stamp, body))
-}
-
-fn patch_set<A: Allocator + Copy>(
-    alloc: A,
-    time: u64,
-    set: u32,
-    parent: Option<u32>,
-) -> Option<Op<A>> {
-    let message = String::from_str(alloc, "Add x\n").ok()?;
-    stamped(
-        time,
-        Draft::PatchSet {
-            change: 101,
-            set,
-            message,
-            parent,
-        },
-    )
-}
-
-fn vote<A: Allocator + Copy>(
-    alloc: A,
-    time: u64,
-    set: u32,
-    label: &str,
-    voter: &str,
-    value: i8,
-) -> Option<Op<A>> {
-    let label = String::from_str(alloc, label).ok()?;
-    let voter = String::from_str(alloc, voter).ok()?;
-    stamped(
-        time,
-        Draft::Vote {
-            change: 101,
-            set,
-            label,
-            voter,
-            value,
-        },
-    )
-}
-
-fn withdrawal<A: Allocator + Copy>(alloc: A, time: u64, set: u32) -> Option<Op<A>> {
-    let label = String::from_str(alloc, "Workflow").ok()?;
-    let voter = String::from_str(alloc, "ann").ok()?;
-    stamped(
-        time,
-        Draft::Withdraw {
-            change: 101,
-            set,
-            label,
-            voter,
-        },
-    )
-}
 
 /// What is stamped on change 101 with a time, which is its sequence number too, by site 1 under start 1. The second
 /// number is the patch set.
@@ -83,17 +20,22 @@ enum Step {
     Merged(u64),
 }
 
+/// When a step is stamped, and what it does.
+fn deed_of(step: Step) -> (u64, Deed) {
+    match step {
+        Step::PatchSet(time, set, parent) => (time, Deed::PatchSet(set, "Add x\n", parent)),
+        Step::Vote(time, set, label, voter, value) => (time, Deed::Vote(set, label, voter, value)),
+        Step::Withdraw(time, set) => (time, Deed::Withdraw(set, "Workflow", "ann")),
+        Step::Abandon(time) => (time, Deed::Abandon),
+        Step::Restore(time) => (time, Deed::Restore),
+        Step::Merged(time) => (time, Deed::Merged),
+    }
+}
+
 /// The operation of a step.
-fn op_of(alloc: Global, step: Step) -> Result<Op, Fail> {
-    let op = match step {
-        Step::PatchSet(time, set, parent) => patch_set(alloc, time, set, parent),
-        Step::Vote(time, set, label, voter, value) => vote(alloc, time, set, label, voter, value),
-        Step::Withdraw(time, set) => withdrawal(alloc, time, set),
-        Step::Abandon(time) => stamped(time, Draft::Abandon { change: 101 }),
-        Step::Restore(time) => stamped(time, Draft::Restore { change: 101 }),
-        Step::Merged(time) => stamped(time, Draft::Merged { change: 101 }),
-    };
-    Ok(op.ok_or(MEMORY)?)
+fn step_op(alloc: Global, step: Step) -> Result<Op, Fail> {
+    let (time, deed) = deed_of(step);
+    Ok(op_of(alloc, time, 101, deed).ok_or("memory")?)
 }
 
 /// The effect of an operation, joined with a state.
@@ -128,7 +70,7 @@ fn take_op(rt: &impl Abort, alloc: Global, state: &mut ChangeState, op: &Op) -> 
 
 /// Takes the operation of a step.
 fn take(rt: &impl Abort, alloc: Global, state: &mut ChangeState, step: Step) -> Result<(), Fail> {
-    let op = op_of(alloc, step)?;
+    let op = step_op(alloc, step)?;
     take_op(rt, alloc, state, &op)
 }
 
@@ -219,7 +161,7 @@ fn the_newest_vote_counts(rt: HostRuntime) -> Result<(), Fail> {
 
 /// The effect of one operation.
 fn effect_of(alloc: Global, step: Step) -> Result<ChangeState, Fail> {
-    let op = op_of(alloc, step)?;
+    let op = step_op(alloc, step)?;
     Ok(ChangeState::effect(alloc, &op)?)
 }
 

@@ -4,7 +4,7 @@ ghost use Rattle.std.specs.Prelude.{false, true};
 
 use chunk_list::{ChunkList, Probe};
 use lattice_core::NoMemory;
-use std::alloc::Allocator;
+use std::alloc::Global;
 use std::process::Abort;
 use std::test::Fail;
 
@@ -31,7 +31,7 @@ impl Probe<u32> for AtEnd {
 }
 
 /// The numbers from 0 up to `count` in their order, the lower half added at the front.
-fn grown<A: Allocator + Copy>(alloc: A, count: u32) -> Result<ChunkList<u32, A>, NoMemory> {
+fn grown(alloc: Global, count: u32) -> Result<ChunkList<u32>, NoMemory> {
     let mut list = ChunkList::new(alloc);
     let half = count / 2;
     for number in (0..half).rev() {
@@ -44,11 +44,7 @@ fn grown<A: Allocator + Copy>(alloc: A, count: u32) -> Result<ChunkList<u32, A>,
 }
 
 /// The list has just these numbers.
-fn has_numbers<A: Allocator + Copy>(
-    rt: &impl Abort,
-    list: &ChunkList<u32, A>,
-    numbers: std::ops::Range<u32>,
-) {
+fn has_numbers(rt: &impl Abort, list: &ChunkList<u32>, numbers: std::ops::Range<u32>) {
     let mut left = list.iter();
     for number in numbers {
         assert!(rt; left.next().copied() == Some(number));

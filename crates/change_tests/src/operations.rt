@@ -2,7 +2,7 @@
 
 use lattice_core::{Keep, NoMemory};
 use review_ops::{Body, Draft, Op, Stamp};
-use std::alloc::{AllocError, Allocator, Global};
+use std::alloc::{AllocError, Global};
 use std::process::Abort;
 use std::test::Fail;
 
@@ -10,13 +10,13 @@ fn stamp(time: u64, site: u16, start: u32, seq: u64) -> Result<Stamp, Fail> {
     Ok(Stamp::new(time, site, start, seq).ok_or("no stamp")?)
 }
 
-fn patch_set<A: Allocator + Copy>(
-    alloc: A,
+fn patch_set(
+    alloc: Global,
     change: u32,
     set: u32,
     message: &str,
     parent: Option<u32>,
-) -> Result<Draft<A>, AllocError> {
+) -> Result<Draft, AllocError> {
     Ok(Draft::PatchSet {
         change,
         set,
@@ -25,14 +25,14 @@ fn patch_set<A: Allocator + Copy>(
     })
 }
 
-fn vote<A: Allocator + Copy>(
-    alloc: A,
+fn vote(
+    alloc: Global,
     change: u32,
     set: u32,
     label: &str,
     voter: &str,
     value: i8,
-) -> Result<Draft<A>, AllocError> {
+) -> Result<Draft, AllocError> {
     Ok(Draft::Vote {
         change,
         set,

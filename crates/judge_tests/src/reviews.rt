@@ -1,12 +1,13 @@
 //! Records with the verdicts on them, worked out by hand.
 
-use gate_rules::{Clause, Condition, Gate, Side};
-use ready_core::{Left, Refusal, Verdicts, evaluate};
+use gate_rules::Gate;
+use ready_core::{Verdicts, evaluate};
 use review_ops::{Body, Draft, Op, Stamp};
-use state_core::{Item, State};
+use state_core::State;
 use std::alloc::Global;
 use std::process::Abort;
 use std::test::Fail;
+use verdict_lines::lines_of;
 
 // A gate that wants two approvals on the current patch set of an open change, and one that also lets items on a cycle
 // in.
@@ -132,63 +133,8 @@ impl Review {
     /// The verdicts under the gate as a text.
     fn report(&self, gate: &str) -> Result<String, Fail> {
         let verdicts = self.verdicts(gate)?;
-        shown(self.alloc, &verdicts)
+        Ok(lines_of(self.alloc, &verdicts)?)
     }
-}
-
-/// The verdicts as a text: a line for each item; a refusal ends in its rank.
-fn shown(alloc: Global, verdicts: &Verdicts) -> Result<String, Fail> {
-    let mut text = String::new(alloc);
-    write_ready(&mut text, verdicts.ready())?;
-    write_out(&mut text, verdicts.out())?;
-    Ok(text)
-}
-
-fn write_ready(text: &mut String, items: &[Item]) -> Result<(), Fail> {
-    for item in items {
-        let Item { change, set } = *item;
-        write!(text, "ready {change},{set}\n")?;
-    }
-    Ok(())
-}
-
-fn write_out(text: &mut String, out: &[Left]) -> Result<(), Fail> {
-    for left in out {
-        let Item { change, set } = left.item;
-        write!(text, "out {change},{set} ")?;
-        write_refusal(text, left.refusal)?;
-        let rank = left.rank;
-        write!(text, " {rank}\n")?;
-    }
-    Ok(())
-}
-
-fn write_refusal(text: &mut String, refusal: Refusal) -> Result<(), Fail> {
-    match refusal {
-        Refusal::Own(condition) => write_condition(text, condition),
-        Refusal::Cycle => Ok(text.push_str("cycle")?),
-        Refusal::Unknown(number) => write_named(text, "unknown", u64::from(number)),
-        Refusal::Dependency(number) => write_named(text, "dependency", u64::from(number)),
-    }
-}
-
-fn write_condition(text: &mut String, condition: Condition) -> Result<(), Fail> {
-    text.push_str(match condition.side {
-        Side::Require => "require ",
-        Side::Reject => "reject ",
-    })?;
-    match condition.clause {
-        Clause::OpenState => Ok(text.push_str("open")?),
-        Clause::CurrentSet => Ok(text.push_str("current-patchset")?),
-        Clause::StatusIn => Ok(text.push_str("status")?),
-        Clause::Approval(number) => write_named(text, "approval", number as u64),
-    }
-}
-
-/// A number after what names it.
-fn write_named(text: &mut String, name: &str, number: u64) -> Result<(), Fail> {
-    write!(text, "{name} {number}")?;
-    Ok(())
 }
 
 /// The record has these verdicts under the gate.

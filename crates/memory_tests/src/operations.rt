@@ -1,7 +1,7 @@
 //! Operations as sites stamp them, and copies of them.
 
 use super::turns::{Call, Memory, Seen, assert_each};
-use review_ops::{Body, Draft, Op, Stamp};
+use review_ops::{Draft, Op};
 use std::alloc::{Allocator, Global};
 
 /// What an operation says, but for its change, which is 101.
@@ -12,44 +12,23 @@ pub(super) enum Deed {
     Abandon,
 }
 
-/// The patch set with this number.
-fn patch_set<A: Allocator + Copy>(alloc: A, set: u32) -> Option<Draft<A>> {
-    let message = String::from_str(alloc, "Add x\n").ok()?;
-    Some(Draft::PatchSet {
-        change: 101,
-        set,
-        message,
-        parent: Some(7),
-    })
-}
-
-/// A vote on the patch set with this number.
-fn vote<A: Allocator + Copy>(alloc: A, set: u32, value: i8) -> Option<Draft<A>> {
-    let label = String::from_str(alloc, "Workflow").ok()?;
-    let voter = String::from_str(alloc, "ann").ok()?;
-    Some(Draft::Vote {
-        change: 101,
-        set,
-        label,
-        voter,
-        value,
-    })
+/// The same in the words of all deeds.
+fn said(deed: Deed) -> deeds::Deed {
+    match deed {
+        Deed::PatchSet(set) => deeds::Deed::PatchSet(set, "Add x\n", Some(7)),
+        Deed::Vote(set, value) => deeds::Deed::Vote(set, "Workflow", "ann", value),
+        Deed::Abandon => deeds::Deed::Abandon,
+    }
 }
 
 /// The draft of a deed.
 pub(super) fn draft_of<A: Allocator + Copy>(alloc: A, deed: Deed) -> Option<Draft<A>> {
-    match deed {
-        Deed::PatchSet(set) => patch_set(alloc, set),
-        Deed::Vote(set, value) => vote(alloc, set, value),
-        Deed::Abandon => Some(Draft::Abandon { change: 101 }),
-    }
+    deeds::draft_of(alloc, 101, said(deed))
 }
 
 /// The operation of a deed, with the time and sequence number `time`, of site 1 under start 1.
 pub(super) fn op_of<A: Allocator + Copy>(alloc: A, time: u64, deed: Deed) -> Option<Op<A>> {
-    let stamp = Stamp::new(time, 1, 1, time)?;
-    let body = Body::checked(draft_of(alloc, deed)?).ok()?;
-    Some(Op::new(stamp, body))
+    deeds::op_of(alloc, time, 101, said(deed))
 }
 
 /// A copy of an operation.

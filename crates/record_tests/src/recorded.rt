@@ -1,100 +1,21 @@
 //! What a record says, worked out by hand.
 
+use deeds::{Deed, draft_of, op_of};
 use event_filter::{is_recorded, what_is_recorded_changes_no_view, what_is_taken_in_is_recorded};
-use review_ops::{Body, Draft, Op, Stamp};
+use review_ops::Body;
 use state_core::State;
-use std::alloc::{Allocator, Global};
+use std::alloc::Global;
 use std::process::Abort;
 use std::test::Fail;
 
-/// What is done to change 7.
-#[derive(Clone, Copy)]
-enum Deed {
-    /// A patch set with this message and parent.
-    PatchSet(u32, &'static str, Option<u32>),
-    /// This score of label `verified` on a patch set, of a voter.
-    Vote(u32, &'static str, i8),
-    Withdraw(u32, &'static str),
-    Abandon,
-    Restore,
-    Merged,
-}
-
-fn text<A: Allocator>(alloc: A, text: &str) -> Option<String<A>> {
-    String::from_str(alloc, text).ok()
-}
-
-/// A patch set, where memory suffices for it.
-fn patch_set<A: Allocator + Copy>(
-    alloc: A,
-    set: u32,
-    message: &str,
-    parent: Option<u32>,
-) -> Option<Draft<A>> {
-    let message = text(alloc, message)?;
-    Some(Draft::PatchSet {
-        change: 7,
-        set,
-        message,
-        parent,
-    })
-}
-
-/// A vote, where memory suffices for it.
-fn vote<A: Allocator + Copy>(alloc: A, set: u32, voter: &str, value: i8) -> Option<Draft<A>> {
-    let label = text(alloc, "verified")?;
-    let voter = text(alloc, voter)?;
-    Some(Draft::Vote {
-        change: 7,
-        set,
-        label,
-        voter,
-        value,
-    })
-}
-
-/// The withdrawal of a vote, where memory suffices for it.
-fn withdrawal<A: Allocator + Copy>(alloc: A, set: u32, voter: &str) -> Option<Draft<A>> {
-    let label = text(alloc, "verified")?;
-    let voter = text(alloc, voter)?;
-    Some(Draft::Withdraw {
-        change: 7,
-        set,
-        label,
-        voter,
-    })
-}
-
-/// What a deed says, where memory suffices for it.
-fn draft_of<A: Allocator + Copy>(alloc: A, deed: Deed) -> Option<Draft<A>> {
-    match deed {
-        Deed::PatchSet(set, message, parent) => patch_set(alloc, set, message, parent),
-        Deed::Vote(set, voter, value) => vote(alloc, set, voter, value),
-        Deed::Withdraw(set, voter) => withdrawal(alloc, set, voter),
-        Deed::Abandon => Some(Draft::Abandon { change: 7 }),
-        Deed::Restore => Some(Draft::Restore { change: 7 }),
-        Deed::Merged => Some(Draft::Merged { change: 7 }),
-    }
-}
-
-fn body_of<A: Allocator + Copy>(alloc: A, deed: Deed) -> Option<Body<A>> {
-    Body::checked(draft_of(alloc, deed)?).ok()
-}
-
-/// The operation of a deed, with the time and sequence number `time`, of site 1 under start 1.
-fn op_of<A: Allocator + Copy>(alloc: A, time: u64, deed: Deed) -> Option<Op<A>> {
-    let stamp = Stamp::new(time, 1, 1, time)?;
-    Some(Op::new(stamp, body_of(alloc, deed)?))
-}
-
 /// Takes the operation of a deed, where memory suffices for it.
-fn take<A: Allocator + Copy>(alloc: A, state: &mut State<A>, time: u64, deed: Deed) -> Option<()> {
-    let op = op_of(alloc, time, deed)?;
+fn take(alloc: Global, state: &mut State, time: u64, deed: Deed) -> Option<()> {
+    let op = op_of(alloc, time, 7, deed)?;
     state.take(&op).ok()
 }
 
 /// The state of deeds, one after the other.
-fn state_of<A: Allocator + Copy>(alloc: A, deeds: &[Deed]) -> Option<State<A>> {
+fn state_of(alloc: Global, deeds: &[Deed]) -> Option<State> {
     let mut state = State::new(alloc);
     for (time, deed) in (1u64..).zip(deeds) {
         take(alloc, &mut state, time, *deed)?;
@@ -103,9 +24,9 @@ fn state_of<A: Allocator + Copy>(alloc: A, deeds: &[Deed]) -> Option<State<A>> {
 }
 
 /// Whether a record of these deeds says another already, where memory suffices to hold both and to look for it.
-fn says<A: Allocator + Copy>(alloc: A, record: &[Deed], deed: Deed) -> Option<bool> {
+fn says(alloc: Global, record: &[Deed], deed: Deed) -> Option<bool> {
     let state = state_of(alloc, record)?;
-    let body = body_of(alloc, deed)?;
+    let body = Body::checked(draft_of(alloc, 7, deed)?).ok()?;
     is_recorded(&state, &body).ok()
 }
 
@@ -143,20 +64,20 @@ fn a_patch_set_is_recorded_with_its_message_and_parent(rt: HostRuntime) {
     assert_said(&rt, rt.alloc(), &PATCH_SETS);
 }
 
-const APPROVED: Deed = Deed::Vote(1, "zuul", 1);
+const APPROVED: Deed = Deed::Vote(1, "verified", "zuul", 1);
 
-const WITHDRAWN: Deed = Deed::Withdraw(1, "zuul");
+const WITHDRAWN: Deed = Deed::Withdraw(1, "verified", "zuul");
 
 /// Votes with other values, on other patch sets and of other voters.
 const VOTES: [Case; 8] = [
     (&[], APPROVED, false),
     (&[APPROVED], APPROVED, true),
-    (&[APPROVED], Deed::Vote(1, "zuul", 2), false),
-    (&[APPROVED], Deed::Vote(1, "anna", 1), false),
-    (&[APPROVED], Deed::Vote(2, "zuul", 1), false),
+    (&[APPROVED], Deed::Vote(1, "verified", "zuul", 2), false),
+    (&[APPROVED], Deed::Vote(1, "verified", "anna", 1), false),
+    (&[APPROVED], Deed::Vote(2, "verified", "zuul", 1), false),
     (&[APPROVED, WITHDRAWN], APPROVED, false),
     (&[APPROVED], WITHDRAWN, false),
-    (&[APPROVED], Deed::Vote(1, "zuul", 0), false),
+    (&[APPROVED], Deed::Vote(1, "verified", "zuul", 0), false),
 ];
 
 #[test]
@@ -167,12 +88,20 @@ fn a_vote_is_recorded_with_its_value(rt: HostRuntime) {
 /// Withdrawals and votes of 0, where there is no vote of that voter.
 const WITHDRAWALS: [Case; 7] = [
     (&[], WITHDRAWN, true),
-    (&[], Deed::Vote(1, "zuul", 0), true),
+    (&[], Deed::Vote(1, "verified", "zuul", 0), true),
     (&[FIRST], WITHDRAWN, true),
-    (&[APPROVED], Deed::Withdraw(1, "anna"), true),
+    (&[APPROVED], Deed::Withdraw(1, "verified", "anna"), true),
     (&[APPROVED, WITHDRAWN], WITHDRAWN, true),
-    (&[APPROVED, WITHDRAWN], Deed::Vote(1, "zuul", 0), true),
-    (&[APPROVED, Deed::Vote(1, "zuul", 0)], WITHDRAWN, true),
+    (
+        &[APPROVED, WITHDRAWN],
+        Deed::Vote(1, "verified", "zuul", 0),
+        true,
+    ),
+    (
+        &[APPROVED, Deed::Vote(1, "verified", "zuul", 0)],
+        WITHDRAWN,
+        true,
+    ),
 ];
 
 #[test]

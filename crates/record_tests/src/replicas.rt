@@ -1,10 +1,11 @@
-//! Records worked out by hand, and what holds after refused memory.
+//! Records worked out by hand.
 
 use super::plain_replica::Plain;
+use deeds::{Deed, op_of};
 use lattice_core::NoMemory;
 use replica_core::{Front, Missing, Replica, Row, Taken};
 use review_ops::{Body, Draft, Op, Stamp};
-use std::alloc::{Allocator, Global};
+use std::alloc::Global;
 use std::process::Abort;
 use std::test::Fail;
 
@@ -22,79 +23,27 @@ enum Step {
     Restore(u64),
 }
 
-/// An operation with the time and sequence number `time`, of site 1 under start 1.
-fn stamped<A: Allocator + Copy>(time: u64, draft: Draft<A>) -> Option<Op<A>> {
-    let stamp = Stamp::new(time, 1, 1, time)?;
-    let body = Body::checked(draft).ok()?;
-    Some(Op::new(stamp, body))
-}
-
-fn text<A: Allocator + Copy>(alloc: A, text: &str) -> Option<String<A>> {
-    String::from_str(alloc, text).ok()
-}
-
-fn patch_set<A: Allocator + Copy>(
-    alloc: A,
-    time: u64,
-    message: &str,
-    parent: Option<u32>,
-) -> Option<Op<A>> {
-    let message = text(alloc, message)?;
-    stamped(
-        time,
-        Draft::PatchSet {
-            change: 101,
-            set: 1,
-            message,
-            parent,
-        },
-    )
-}
-
-fn vote<A: Allocator + Copy>(alloc: A, time: u64, value: i8) -> Option<Op<A>> {
-    let label = text(alloc, "Workflow")?;
-    let voter = text(alloc, "ann")?;
-    stamped(
-        time,
-        Draft::Vote {
-            change: 101,
-            set: 1,
-            label,
-            voter,
-            value,
-        },
-    )
-}
-
-fn withdrawal(alloc: Global, time: u64) -> Option<Op> {
-    let label = text(alloc, "workflow")?;
-    let voter = text(alloc, "ann")?;
-    stamped(
-        time,
-        Draft::Withdraw {
-            change: 101,
-            set: 1,
-            label,
-            voter,
-        },
-    )
+/// When a step is stamped, and what it does.
+fn deed_of(step: Step) -> (u64, Deed) {
+    match step {
+        Step::PatchSet(time, message, parent) => (time, Deed::PatchSet(1, message, parent)),
+        Step::Vote(time, value) => (time, Deed::Vote(1, "Workflow", "ann", value)),
+        Step::Withdraw(time) => (time, Deed::Withdraw(1, "workflow", "ann")),
+        Step::Merged(time) => (time, Deed::Merged),
+        Step::Abandon(time) => (time, Deed::Abandon),
+        Step::Restore(time) => (time, Deed::Restore),
+    }
 }
 
 /// The operation of a step, where memory suffices for it.
-fn op_of(alloc: Global, step: Step) -> Option<Op> {
-    match step {
-        Step::PatchSet(time, message, parent) => patch_set(alloc, time, message, parent),
-        Step::Vote(time, value) => vote(alloc, time, value),
-        Step::Withdraw(time) => withdrawal(alloc, time),
-        Step::Merged(time) => stamped(time, Draft::Merged { change: 101 }),
-        Step::Abandon(time) => stamped(time, Draft::Abandon { change: 101 }),
-        Step::Restore(time) => stamped(time, Draft::Restore { change: 101 }),
-    }
+fn step_op(alloc: Global, step: Step) -> Option<Op> {
+    let (time, deed) = deed_of(step);
+    op_of(alloc, time, 101, deed)
 }
 
 /// Takes the operation of a step, and says whether the replica had it, where memory suffices for it.
 fn take_step(alloc: Global, replica: &mut Replica, step: Step) -> Option<Taken> {
-    let op = op_of(alloc, step)?;
+    let op = step_op(alloc, step)?;
     replica.take(op).ok()
 }
 
@@ -237,7 +186,7 @@ fn what_a_front_is_raised_to_is_reached(rt: HostRuntime) -> Result<(), Fail> {
 }
 
 /// Sequence numbers of operations, in their order.
-fn assert_seqs<A: Allocator + Copy>(rt: &impl Abort, ops: &[Op<A>], wanted: &[u64]) {
+fn assert_seqs(rt: &impl Abort, ops: &[Op], wanted: &[u64]) {
     assert_eq!(rt; ops.len(), wanted.len());
     for (op, seq) in ops.iter().zip(wanted) {
         assert_eq!(rt; op.stamp().seq(), *seq);

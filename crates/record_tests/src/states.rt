@@ -1,61 +1,32 @@
-//! States worked out by hand, and what holds after refused memory.
+//! States worked out by hand.
 
+use deeds::{Deed, op_of};
 use lattice_core::Join;
-use review_ops::{Body, Draft, Op, Stamp};
 use state_core::{Item, State, a_journal_has_one_state, equal_journals_have_equal_states};
-use std::alloc::{Allocator, Global};
+use std::alloc::Global;
 use std::process::Abort;
 use std::test::Fail;
 
-/// What happens to a change.
-#[derive(Clone, Copy)]
-enum Step {
-    /// A first patch set of this change.
-    PatchSet(u32),
-    Abandon(u32),
-    Merged(u32),
-}
+/// What is done to a change.
+type Step = (u32, Deed);
 
-/// A first patch set of a change, where memory suffices for it.
-fn patch_set<A: Allocator + Copy>(alloc: A, change: u32) -> Option<Draft<A>> {
-    let message = String::from_str(alloc, "m").ok()?;
-    Some(Draft::PatchSet {
-        change,
-        set: 1,
-        message,
-        parent: None,
-    })
-}
-
-/// What a step says, where memory suffices for it.
-fn draft_of<A: Allocator + Copy>(alloc: A, step: Step) -> Option<Draft<A>> {
-    match step {
-        Step::PatchSet(change) => patch_set(alloc, change),
-        Step::Abandon(change) => Some(Draft::Abandon { change }),
-        Step::Merged(change) => Some(Draft::Merged { change }),
-    }
-}
-
-/// The operation of a step, with the time and sequence number `time`, of site 1 under start 1.
-fn op_of<A: Allocator + Copy>(alloc: A, time: u64, step: Step) -> Option<Op<A>> {
-    let stamp = Stamp::new(time, 1, 1, time)?;
-    let body = Body::checked(draft_of(alloc, step)?).ok()?;
-    Some(Op::new(stamp, body))
-}
+/// A first patch set.
+const FIRST: Deed = Deed::PatchSet(1, "m", None);
 
 /// How many changes the state has something of.
-fn count<A: Allocator + Copy>(state: &State<A>) -> usize {
+fn count(state: &State) -> usize {
     state.changes().len()
 }
 
 /// Takes the operation of a step, where memory suffices for it.
-fn take<A: Allocator + Copy>(alloc: A, state: &mut State<A>, time: u64, step: Step) -> Option<()> {
-    let op = op_of(alloc, time, step)?;
+fn take(alloc: Global, state: &mut State, time: u64, step: Step) -> Option<()> {
+    let (change, deed) = step;
+    let op = op_of(alloc, time, change, deed)?;
     state.take(&op).ok()
 }
 
 /// The state of steps, one after the other, where memory suffices for it.
-fn state_of<A: Allocator + Copy>(alloc: A, steps: &[Step]) -> Option<State<A>> {
+fn state_of(alloc: Global, steps: &[Step]) -> Option<State> {
     let mut state = State::new(alloc);
     for (time, step) in (1u64..).zip(steps) {
         take(alloc, &mut state, time, *step)?;
@@ -64,7 +35,7 @@ fn state_of<A: Allocator + Copy>(alloc: A, steps: &[Step]) -> Option<State<A>> {
 }
 
 /// Change 5 is merged, known to no one; 6 is known and abandoned; nothing is known of 7.
-const STEPS: [Step; 3] = [Step::Merged(5), Step::PatchSet(6), Step::Abandon(6)];
+const STEPS: [Step; 3] = [(5, Deed::Merged), (6, FIRST), (6, Deed::Abandon)];
 
 /// Whether a change is known, and whether it is merged.
 fn standing(state: &State, number: u32) -> (bool, bool) {

@@ -1,9 +1,10 @@
-//! Scripts worked out by hand, and what holds after refused memory.
+//! Scripts worked out by hand.
 
+use deeds::{Deed, draft_of};
 use lattice_core::NoMemory;
 use replica_core::{Front, Row};
 use review_ops::{BodyFault, Draft, Stamp};
-use std::alloc::{Allocator, Global};
+use std::alloc::Global;
 use std::process::Abort;
 use std::test::Fail;
 use world_core::{Event, Reply, World, WorldFault};
@@ -34,7 +35,7 @@ enum Step {
 }
 
 /// A site takes in that a change is merged.
-fn merged<A: Allocator + Copy>(site: u16, change: u32) -> Event<A> {
+fn merged(site: u16, change: u32) -> Event {
     Event::Intake {
         site,
         draft: Draft::Merged { change },
@@ -42,56 +43,46 @@ fn merged<A: Allocator + Copy>(site: u16, change: u32) -> Event<A> {
 }
 
 /// A site takes in that a voter scores patch set 1 of change 101.
-fn vote<A: Allocator + Copy>(alloc: A, site: u16, value: i8) -> Option<Event<A>> {
-    let label = String::from_str(alloc, "Workflow").ok()?;
-    let voter = String::from_str(alloc, "ann").ok()?;
-    Some(Event::Intake {
-        site,
-        draft: Draft::Vote {
-            change: 101,
-            set: 1,
-            label,
-            voter,
-            value,
-        },
-    })
+fn vote(alloc: Global, site: u16, value: i8) -> Option<Event> {
+    let draft = draft_of(alloc, 101, Deed::Vote(1, "Workflow", "ann", value))?;
+    Some(Event::Intake { site, draft })
 }
 
 /// The first row of site 1.
 const FIRST_ROW: Row = Row { site: 1, start: 1 };
 
 /// The front that goes as far as this in the first row of site 1.
-fn front_to<A: Allocator + Copy>(alloc: A, seq: u64) -> Option<Front<A>> {
+fn front_to(alloc: Global, seq: u64) -> Option<Front> {
     let mut front = Front::new(alloc);
     front.raise(FIRST_ROW, seq).ok()?;
     Some(front)
 }
 
 /// The front of a site, where there is one.
-fn front_of<A: Allocator + Copy>(world: &World<A>, site: u16) -> Option<Front<A>> {
+fn front_of(world: &World, site: u16) -> Option<Front> {
     world.replica(site)?.front().ok()
 }
 
 /// A site sends what the empty front lacks.
-fn send_all<A: Allocator + Copy>(alloc: A, site: u16) -> Event<A> {
+fn send_all(alloc: Global, site: u16) -> Event {
     let front = Front::new(alloc);
     Event::Send { site, front }
 }
 
 /// A site sends what a front lacks that goes as far as this in the first row of site 1.
-fn send_past<A: Allocator + Copy>(alloc: A, site: u16, seq: u64) -> Option<Event<A>> {
+fn send_past(alloc: Global, site: u16, seq: u64) -> Option<Event> {
     let front = front_to(alloc, seq)?;
     Some(Event::Send { site, front })
 }
 
 /// A site sends what another site lacks.
-fn send_to<A: Allocator + Copy>(world: &World<A>, site: u16, other: u16) -> Option<Event<A>> {
+fn send_to(world: &World, site: u16, other: u16) -> Option<Event> {
     let front = front_of(world, other)?;
     Some(Event::Send { site, front })
 }
 
 /// The event of a step, where memory suffices for it.
-fn event_of<A: Allocator + Copy>(alloc: A, world: &World<A>, step: Step) -> Option<Event<A>> {
+fn event_of(alloc: Global, world: &World, step: Step) -> Option<Event> {
     match step {
         Step::Merged(site, change) => Some(merged(site, change)),
         Step::Vote(site, value) => vote(alloc, site, value),
@@ -188,7 +179,7 @@ fn packet_len(world: &World, number: u64) -> Option<usize> {
 }
 
 /// How many operations a site has, where there is one of that number.
-fn site_len<A: Allocator + Copy>(world: &World<A>, site: u16) -> Option<usize> {
+fn site_len(world: &World, site: u16) -> Option<usize> {
     Some(world.replica(site)?.len())
 }
 

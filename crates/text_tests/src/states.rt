@@ -1,15 +1,13 @@
 //! State texts worked out by hand, and what is written where the writer fails.
 
 use byte_ends::{Broken, Ends};
+use deeds::{Deed, op_of};
 use report_text::{WriteStateFault, write_state};
-use review_ops::{Body, Draft, Op, Stamp};
+use review_ops::Op;
 use state_core::State;
-use std::alloc::{Allocator, Global};
+use std::alloc::Global;
 use std::process::Abort;
 use std::test::Fail;
-
-/// What a test lacks where memory is refused that it counts on.
-const MEMORY: &str = "memory";
 
 /// What a site stamps on change 101 with a time, which is its sequence number too, as site 1 under start 1.
 #[derive(Clone, Copy)]
@@ -22,75 +20,22 @@ enum Step {
     Restore(u64),
 }
 
-/// An operation with the time and sequence number `time`, of site 1 under start 1.
-fn stamped<A: Allocator + Copy>(time: u64, draft: Draft<A>) -> Option<Op<A>> {
-    let stamp = Stamp::new(time, 1, 1, time)?;
-    let body = Body::checked(draft).ok()?;
-    Some(Op::new(stamp, body))
-}
-
-fn text<A: Allocator + Copy>(alloc: A, text: &str) -> Option<String<A>> {
-    String::from_str(alloc, text).ok()
-}
-
-fn patch_set<A: Allocator + Copy>(
-    alloc: A,
-    time: u64,
-    message: &str,
-    parent: Option<u32>,
-) -> Option<Op<A>> {
-    let message = text(alloc, message)?;
-    stamped(
-        time,
-        Draft::PatchSet {
-            change: 101,
-            set: 1,
-            message,
-            parent,
-        },
-    )
-}
-
-fn vote<A: Allocator + Copy>(alloc: A, time: u64, value: i8) -> Option<Op<A>> {
-    let label = text(alloc, "Workflow")?;
-    let voter = text(alloc, "ann")?;
-    stamped(
-        time,
-        Draft::Vote {
-            change: 101,
-            set: 1,
-            label,
-            voter,
-            value,
-        },
-    )
-}
-
-fn withdrawal(alloc: Global, time: u64) -> Option<Op> {
-    let label = text(alloc, "workflow")?;
-    let voter = text(alloc, "ann")?;
-    stamped(
-        time,
-        Draft::Withdraw {
-            change: 101,
-            set: 1,
-            label,
-            voter,
-        },
-    )
+/// When a step is stamped, and what it does.
+fn deed_of(step: Step) -> (u64, Deed) {
+    match step {
+        Step::PatchSet(time, message, parent) => (time, Deed::PatchSet(1, message, parent)),
+        Step::Vote(time, value) => (time, Deed::Vote(1, "Workflow", "ann", value)),
+        Step::Withdraw(time) => (time, Deed::Withdraw(1, "workflow", "ann")),
+        Step::Merged(time) => (time, Deed::Merged),
+        Step::Abandon(time) => (time, Deed::Abandon),
+        Step::Restore(time) => (time, Deed::Restore),
+    }
 }
 
 /// The operation of a step.
-fn op_of(alloc: Global, step: Step) -> Result<Op, Fail> {
-    let op = match step {
-        Step::PatchSet(time, message, parent) => patch_set(alloc, time, message, parent),
-        Step::Vote(time, value) => vote(alloc, time, value),
-        Step::Withdraw(time) => withdrawal(alloc, time),
-        Step::Merged(time) => stamped(time, Draft::Merged { change: 101 }),
-        Step::Abandon(time) => stamped(time, Draft::Abandon { change: 101 }),
-        Step::Restore(time) => stamped(time, Draft::Restore { change: 101 }),
-    };
-    Ok(op.ok_or(MEMORY)?)
+fn step_op(alloc: Global, step: Step) -> Result<Op, Fail> {
+    let (time, deed) = deed_of(step);
+    Ok(op_of(alloc, time, 101, deed).ok_or("memory")?)
 }
 
 /// The state of the operations in their order, or in the other order and each twice.
@@ -102,7 +47,7 @@ fn state_of(alloc: Global, steps: &[Step], is_turned: bool) -> Result<State, Fai
         } else {
             steps[place]
         };
-        state.take(&op_of(alloc, step)?)?;
+        state.take(&step_op(alloc, step)?)?;
     }
     Ok(state)
 }

@@ -4,14 +4,14 @@
 ghost use Rattle.std.specs.Prelude.{OnOk};
 ghost use Rattle.watch_core.specs.Watching.{Extends, Precedes};
 
-use gate_rules::{Clause, Condition, Gate, Side};
-use ready_core::{Left, Refusal, Verdicts, evaluate};
+use gate_rules::Gate;
+use ready_core::{Verdicts, evaluate};
 use replica_core::Replica;
 use review_ops::{Body, Draft, Op, Stamp};
-use state_core::Item;
 use std::alloc::Global;
 use std::process::Abort;
 use std::test::Fail;
+use verdict_lines::lines_of;
 use watch_core::{
     Evaluator, GateJudge, Judge, untouched_changes_stay, verdicts_are_brought_up,
     verdicts_are_local, what_is_not_reached_stays,
@@ -98,56 +98,6 @@ pub(super) fn take_all(alloc: Global, replica: &mut Replica, steps: &[Step]) -> 
     Ok(())
 }
 
-/// The verdicts as a text: a line for each item, a refusal with its rank.
-pub(super) fn shown(alloc: Global, verdicts: &Verdicts) -> Result<String, Fail> {
-    let mut text = String::new(alloc);
-    for item in verdicts.ready() {
-        let Item { change, set } = *item;
-        write!(text, "ready {change},{set}\n")?;
-    }
-    for left in verdicts.out() {
-        write_left(&mut text, *left)?;
-    }
-    Ok(text)
-}
-
-fn write_left(text: &mut String, left: Left) -> Result<(), Fail> {
-    let Item { change, set } = left.item;
-    write!(text, "out {change},{set} ")?;
-    write_refusal(text, left.refusal)?;
-    let rank = left.rank;
-    write!(text, " {rank}\n")?;
-    Ok(())
-}
-
-fn write_refusal(text: &mut String, refusal: Refusal) -> Result<(), Fail> {
-    match refusal {
-        Refusal::Own(condition) => write_condition(text, condition),
-        Refusal::Cycle => Ok(text.push_str("cycle")?),
-        Refusal::Unknown(number) => write_named(text, "unknown", u64::from(number)),
-        Refusal::Dependency(number) => write_named(text, "dependency", u64::from(number)),
-    }
-}
-
-fn write_condition(text: &mut String, condition: Condition) -> Result<(), Fail> {
-    text.push_str(match condition.side {
-        Side::Require => "require ",
-        Side::Reject => "reject ",
-    })?;
-    match condition.clause {
-        Clause::OpenState => Ok(text.push_str("open")?),
-        Clause::CurrentSet => Ok(text.push_str("current-patchset")?),
-        Clause::StatusIn => Ok(text.push_str("status")?),
-        Clause::Approval(number) => write_named(text, "approval", number as u64),
-    }
-}
-
-/// A number after what names it.
-fn write_named(text: &mut String, name: &str, number: u64) -> Result<(), Fail> {
-    write!(text, "{name} {number}")?;
-    Ok(())
-}
-
 /// The evaluator has the verdicts of the whole record, and they are these.
 fn assert_verdicts(
     rt: &impl Abort,
@@ -157,9 +107,9 @@ fn assert_verdicts(
     wanted: &str,
 ) -> Result<(), Fail> {
     let verdicts = evaluator.verdicts().ok_or("verdicts")?;
-    let got = shown(alloc, verdicts)?;
+    let got = lines_of(alloc, verdicts)?;
     assert_eq!(rt; got.as_str(), wanted);
-    let of_whole = shown(alloc, whole)?;
+    let of_whole = lines_of(alloc, whole)?;
     assert_eq!(rt; got.as_str(), of_whole.as_str());
     Ok(())
 }

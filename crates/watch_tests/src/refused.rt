@@ -4,12 +4,13 @@
 
 ghost use Rattle.watch_core.specs.Watching.{Precedes};
 
-use super::histories::{A_DEPENDENCY_COMES_AND_GOES, GATE, shown, take_all};
+use super::histories::{A_DEPENDENCY_COMES_AND_GOES, GATE, take_all};
 use gate_rules::Gate;
 use replica_core::Replica;
 use std::alloc::Global;
 use std::process::Abort;
 use std::test::Fail;
+use verdict_lines::lines_of;
 use watch_core::Evaluator;
 
 /// Brings the verdicts up to date. Where memory is refused there are none, and the update is made again. Once they are,
@@ -32,7 +33,7 @@ fn followed(rt: &impl Abort, alloc: Global) -> Result<String, Fail> {
     let mut evaluator = Evaluator::fresh(gate, &replica)?;
     take_all(alloc, &mut replica, A_DEPENDENCY_COMES_AND_GOES[1].steps)?;
     update(rt, &mut evaluator, &replica);
-    shown(alloc, evaluator.verdicts().ok_or("verdicts")?)
+    Ok(lines_of(alloc, evaluator.verdicts().ok_or("verdicts")?)?)
 }
 
 #[test]
