@@ -13,7 +13,7 @@ pub(super) enum Deed {
 }
 
 /// The same in the words of all deeds.
-fn said(deed: Deed) -> deeds::Deed {
+fn in_full(deed: Deed) -> deeds::Deed {
     match deed {
         Deed::PatchSet(set) => deeds::Deed::PatchSet(set, "Add x\n", Some(7)),
         Deed::Vote(set, value) => deeds::Deed::Vote(set, "Workflow", "ann", value),
@@ -23,12 +23,12 @@ fn said(deed: Deed) -> deeds::Deed {
 
 /// The draft of a deed.
 pub(super) fn draft_of<A: Allocator + Copy>(alloc: A, deed: Deed) -> Option<Draft<A>> {
-    deeds::draft_of(alloc, 101, said(deed))
+    deeds::draft_of(alloc, 101, in_full(deed))
 }
 
 /// The operation of a deed, with the time and sequence number `time`, of site 1 under start 1.
 pub(super) fn op_of<A: Allocator + Copy>(alloc: A, time: u64, deed: Deed) -> Option<Op<A>> {
-    deeds::op_of(alloc, time, 101, said(deed))
+    deeds::op_of(alloc, time, 101, in_full(deed))
 }
 
 /// A copy of an operation.

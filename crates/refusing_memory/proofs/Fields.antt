@@ -6,11 +6,13 @@ use base.Fml.{Lft, Fml}
 use prog.Memory.{align, up}
 use types.Logic.{Logic, sem}
 use types.Kit.{‵, ◌$◌, ◌∵◌, !, qed, move, keep, fsplit, done}
-use denote.Builtin.{u64}
+use denote.Builtin.{u64, RefOf}
 use denote.Memory.{hidden_shr}
 use denote.Opens.{unhide}
-use denote.Param.{param}
+use denote.Param.{bounded, param}
 use denote.RattleType.{RattleType}
+use denote.Signature.{Slot, plain}
+use mir.Syntax.{Args, a_type, dnil, dcons}
 use Rattle.std.proofs.alloc.Calls.{Al, α, seen}
 use Rattle.std.specs.contracts.cell.Cell as Cells
 use Rattle.refusing_memory.specs.contracts.refusing.Refusing as Refusings
@@ -25,6 +27,13 @@ counted κ at = hidden_shr Count κ (record { value = tt }) at.0 at.1
 module _ (Z : Al) where
   abbrev pub Whole : RattleType
   Whole = Refusings.the_row (param 0 Z.row)
+
+  -- a method's `self`, and what the method is given for its type parameter
+  abbrev pub this : Slot 2
+  this = RefOf (0 ∷ []) tt (plain (λ κs. Whole)) (λ κs. tt)
+
+  abbrev pub args : Args
+  args = bounded (a_type ∷ []) (Z.row, tt) (dcons Z.d (dcons Z.drops dnil))
 
   -- where the count lies, and where the memory does
   abbrev pub count_at : ℕ × ℕ → ℕ × ℕ

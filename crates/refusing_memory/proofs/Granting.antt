@@ -33,8 +33,8 @@ module _ {M : Type 1} {𝓤 : Ura M} (𝓛 : Logic 𝓤) (mem : Memory → SProp
         nothing ! $ move ! (2 ∷ 0 ∷ []) $ join ! $ join ! $ nothing ! $ move ! (1 ∷ 0 ∷ []) $ done !
 
     -- the token comes back, with an answer
-    pub is_told : (v : Val) → ent 𝓤 (Asks.post asked v) (H.⇛ (ex 𝓤 (λ (yes : Bool). guard 𝓤 (v ≡ vbool yes) (A.lft κ q))))
-    is_told v = qed 𝓛 (raw (Asks.post asked v) ∷ []) ∵ updating ! $
+    pub is_answered : (v : Val) → ent 𝓤 (Asks.post asked v) (H.⇛ (ex 𝓤 (λ (yes : Bool). guard 𝓤 (v ≡ vbool yes) (A.lft κ q))))
+    is_answered v = qed 𝓛 (raw (Asks.post asked v) ∷ []) ∵ updating ! $
         use1 𝓛 (later (some (λ (yes : Bool). ((‵ (flft κ q) ⊛ ‵ ftrue) ⊛ ‵ (bool.own_val yes (v ∷ []))) ⊛ some (λ (ws : Unit {0} × Unit {0}). ‵ (fsep ftrue ftrue) ⊛ ‵ ftrue)))) (id⊢ 𝓤 _) $ await ! tt $ pick ! (λ yes.
         split ! $ split ! $ split ! $ keep ! (2 ∷ 0 ∷ []) $ feq_l ! (λ same.
-        now ! $ show ! (λ (said : Bool). guard 𝓤 (v ≡ vbool said) (A.lft κ q)) yes $ check ! (ap only same) $ done !))
+        now ! $ show ! (λ (answer : Bool). guard 𝓤 (v ≡ vbool answer) (A.lft κ q)) yes $ check ! (ap only same) $ done !))

@@ -4,21 +4,19 @@ use base.Fml.{ftrue, flft}
 use contract.BorrowLft.{◌⊑◌, ⊑_trans}
 use contract.Monad.{fact}
 use contract.Running.{tables}
-use denote.Builtin.{usize, RefOf}
+use denote.Builtin.{usize}
 use denote.Exit.{yes}
-use denote.Param.{bounded, param}
 use denote.Plain.{uint_vals, uint_Tells}
 use denote.RattleType.{owns}
 use denote.RawPtr.{block_ptr}
 use denote.Ref.{shr_vals}
-use denote.Signature.{Slot, plain, types_at}
+use denote.Signature.{plain, types_at}
 use denote.Steps.{heard, nothing}
 use denote.Triple.Call.{calls_at}
 use denote.Triple.Clauses.{Ended}
 use denote.Triple.Table.{framed}
 use denote.Triple.Walked.{Stays, stay_dropped, walk_of, Goes-dropped, ends_at}
 use mir.MapTy.{inst_fn}
-use mir.Syntax.{Args, a_type, dnil, dcons}
 use mir.Val.{Val, vbool}
 use types.ByLocal.{alloc_all, pass_all, free_all, look_at, get, through, sets, lands_as, env}
 use types.Kit.{‵, raw, ◌⊛◌, some, later, given, prop, at_ret, Sq, ◌$◌, ◌∵◌, !, qed, move, keep, use0, use1, use2, learn, pick, await, group, suffices, split, split3, join, fsplit, fjoin, done}
@@ -28,10 +26,9 @@ use Rattle.std.specs.Allocator.{HasLayout, block_if_ok}
 use Rattle.std.proofs.VecSteps.Shapes.{after}
 use Rattle.std.proofs.alloc.Calls.{Al, token, seen, Answer, answer_val, Answer-typed, Answer-Ok, Answer-err, Takes, at_takes, Takes-goes, Takes-gives, Answered, answers}
 use Rattle.std.proofs.raw_atomic.Walks.{proved}
-use Rattle.refusing_memory.proofs.Fields.{counted, count_at, memory_at, fields}
-use Rattle.refusing_memory.proofs.Granting.{Asks, asked, asks_for, is_told}
+use Rattle.refusing_memory.proofs.Fields.{this, args, counted, count_at, memory_at, fields}
+use Rattle.refusing_memory.proofs.Granting.{Asks, asked, asks_for, is_answered}
 use Rattle.refusing_memory.proofs.refusing.is_granted.Met.{met as asks_met}
-use Rattle.refusing_memory.specs.contracts.refusing.Refusing as Refusings
 use Rattle.refusing_memory.specs.contracts.refusing.RefusingAllocator.allocate as f
 use Rattle.refusing_memory.proofs.refusing.RefusingAllocator.allocate.Statement.{statement}
 use Rattle.refusing_memory.proofs.refusing.RefusingAllocator.allocate.Code as code
@@ -40,14 +37,8 @@ module _ (Z : Al) where
   abbrev ended : Ended
   ended = f.ended Z.row Z.g Z.d Z.drops
 
-  abbrev this : Slot 2
-  this = RefOf (0 ∷ []) tt (plain (λ κs. Refusings.the_row (param 0 Z.row))) (λ κs. tt)
-
   abbrev stayed : Stays ended.signature.params ended.kept
-  stayed = (stay_dropped this yes, (stay_dropped (plain (λ κs. usize)) yes, (stay_dropped (plain (λ κs. usize)) yes, tt)))
-
-  abbrev args : Args
-  args = bounded (a_type ∷ []) (Z.row, tt) (dcons Z.d (dcons Z.drops dnil))
+  stayed = (stay_dropped (this Z) yes, (stay_dropped (plain (λ κs. usize)) yes, (stay_dropped (plain (λ κs. usize)) yes, tt)))
 
 pub allocate_spec : {M : Type 1} → statement M
 allocate_spec 𝓤 𝓛 𝓜 𝓡 wired row laws g d drops met _ =
@@ -76,7 +67,7 @@ allocate_spec 𝓤 𝓛 𝓜 𝓡 wired row laws g d drops met _ =
     sets ! (addr ! (through ! refl (fld ! refl (stop !)))) refl (tt, tt) $
     use2 𝓛 (raw (Asked.pre ask)) (asks_for 𝓛 𝓜.mem 𝓡.returns κ q count) $
     calls_at ! (framed 𝓤 𝓛.H 𝓜 𝓣) Asked (asks_met 𝓤 𝓛 𝓜 𝓡 (code.calls-refusing_memory::refusing::is_granted 𝓡.env wired)) ask (and_then ! (get ! refl) (no_more !)) (λ u.
-    use1 𝓛 (later (some (λ (said : Bool). given (u ≡ vbool said) (‵ (flft κ q))))) (is_told 𝓛 𝓜.mem 𝓡.returns κ q count u) $ await ! tt $ pick ! (λ said. learn ! (λ same.
+    use1 𝓛 (later (some (λ (answer : Bool). given (u ≡ vbool answer) (‵ (flft κ q))))) (is_answered 𝓛 𝓜.mem 𝓡.returns κ q count u) $ await ! tt $ pick ! (λ answer. learn ! (λ same.
     lands_as ! same refl (tt, tt) $
     -- [a token; a `&` to the memory; the other token]
     first ! $ branches ! (get ! refl)

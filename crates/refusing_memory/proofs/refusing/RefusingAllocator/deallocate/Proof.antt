@@ -2,20 +2,18 @@
 use Rattle.std.proofs.Common.{◌≡◌, [], ◌∷◌, refl, w64}
 use base.Fml.{Fml, ftrue, flft}
 use base.Logic.{fst∗, never}
-use mir.Syntax.{Args, a_type, dnil, dcons}
 use mir.Val.{vunit}
 use mir.MapTy.{inst_fn}
 use contract.BorrowLft.{◌⊑◌, ⊑_trans}
 use contract.Monad.{fact}
 use contract.Running.{tables}
-use denote.Builtin.{usize, RefOf}
+use denote.Builtin.{usize}
 use denote.Exit.{yes}
-use denote.Param.{bounded, param}
 use denote.Plain.{uint_vals, uint_Tells}
 use denote.RattleType.{Valss, flat, owns}
 use denote.RawPtr.{Ptr, RawPtr, block_ptr, null_ptr, in_a_block, rawptr_vals, rawptr_Tells}
 use denote.Ref.{shr_vals}
-use denote.Signature.{Slot, plain, types_at}
+use denote.Signature.{plain, types_at}
 use denote.Steps.{heard, nothing}
 use denote.Triple.Call.{calls_at}
 use denote.Triple.Clauses.{Ended}
@@ -29,8 +27,7 @@ use types.Run.{enter, addr, fld, stop, of_opd, unit_lit, no_more, and_then, retu
 use Rattle.std.specs.Allocator.{HasLayout, owned_block}
 use Rattle.std.proofs.alloc.Calls.{Al, token, seen, Gives, at_gives, Gives-goes, Gives-Gives}
 use Rattle.std.proofs.raw_atomic.Walks.{proved}
-use Rattle.refusing_memory.proofs.Fields.{counted, count_at, memory_at, fields}
-use Rattle.refusing_memory.specs.contracts.refusing.Refusing as Refusings
+use Rattle.refusing_memory.proofs.Fields.{this, args, counted, count_at, memory_at, fields}
 use Rattle.refusing_memory.specs.contracts.refusing.RefusingAllocator.deallocate as f
 use Rattle.refusing_memory.proofs.refusing.RefusingAllocator.deallocate.Statement.{statement}
 use Rattle.refusing_memory.proofs.refusing.RefusingAllocator.deallocate.Code as code
@@ -39,14 +36,8 @@ module _ (Z : Al) where
   abbrev ended : Ended
   ended = f.ended Z.row Z.g Z.d Z.drops
 
-  abbrev this : Slot 2
-  this = RefOf (0 ∷ []) tt (plain (λ κs. Refusings.the_row (param 0 Z.row))) (λ κs. tt)
-
   abbrev stayed : Stays ended.signature.params ended.kept
-  stayed = (stay_dropped this yes, (stay_dropped (plain (λ κs. RawPtr)) yes, (stay_dropped (plain (λ κs. usize)) yes, (stay_dropped (plain (λ κs. usize)) yes, tt))))
-
-  abbrev args : Args
-  args = bounded (a_type ∷ []) (Z.row, tt) (dcons Z.d (dcons Z.drops dnil))
+  stayed = (stay_dropped (this Z) yes, (stay_dropped (plain (λ κs. RawPtr)) yes, (stay_dropped (plain (λ κs. usize)) yes, (stay_dropped (plain (λ κs. usize)) yes, tt))))
 
 pub deallocate_spec : {M : Type 1} → statement M
 deallocate_spec 𝓤 𝓛 𝓜 𝓡 wired row laws g d drops met _ =
