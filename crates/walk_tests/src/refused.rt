@@ -4,6 +4,7 @@ use super::cycles::flags_of;
 use super::digraphs::graph_of;
 use super::distances::distances_of;
 use super::orders::order_of;
+use lattice_core::NoMemory;
 use linked_list_allocator::LocalHeap;
 use reach_core::{leading, reached};
 use refusing_memory::{Call, Refusing, Seen, requests};
@@ -43,18 +44,26 @@ fn has_order<A: Allocator + Copy>(alloc: A) -> Option<bool> {
     Some(found.as_slice() == [3, 0, 1, 2].as_slice())
 }
 
+/// Which nodes lead to the last one.
+fn leading_of<A: Allocator + Copy>(alloc: A) -> Result<Vec<bool, A>, NoMemory> {
+    let graph = graph_of(alloc, 4, &EDGES)?;
+    leading(alloc, &graph, &LAST)
+}
+
+/// Which nodes are reached from the last one.
+fn reached_of<A: Allocator + Copy>(alloc: A) -> Result<Vec<bool, A>, NoMemory> {
+    let graph = graph_of(alloc, 4, &EDGES)?;
+    reached(alloc, &graph, &LAST)
+}
+
 /// Whether all nodes are found to lead to the last one; none where memory was refused.
 fn has_leading<A: Allocator + Copy>(alloc: A) -> Option<bool> {
-    let graph = graph_of(alloc, 4, &EDGES).ok()?;
-    let found = leading(alloc, &graph, &LAST).ok()?;
-    Some(found.as_slice() == [true; 4].as_slice())
+    Some(leading_of(alloc).ok()?.as_slice() == [true; 4].as_slice())
 }
 
 /// Whether the last node alone is found to be reached from it; none where memory was refused.
 fn has_reached<A: Allocator + Copy>(alloc: A) -> Option<bool> {
-    let graph = graph_of(alloc, 4, &EDGES).ok()?;
-    let found = reached(alloc, &graph, &LAST).ok()?;
-    Some(found.as_slice() == LAST.as_slice())
+    Some(reached_of(alloc).ok()?.as_slice() == LAST.as_slice())
 }
 
 /// Whether the search finds what it has to; none where memory was refused.
