@@ -2,10 +2,10 @@
 
 use super::operations::{Deed, op_of};
 use super::turns::{Call, Memory, Seen, assert_each, assert_none};
+use super::values::{copied, is, joined};
 use change_core::ChangeState;
-use lattice_core::Join;
 use review_ops::Op;
-use std::alloc::{Allocator, Global};
+use std::alloc::Allocator;
 
 type State<'a> = ChangeState<&'a Memory>;
 
@@ -31,30 +31,15 @@ fn with<A: Allocator + Copy>(alloc: A, deed: Deed) -> Option<ChangeState<A>> {
     if is_taken { Some(state) } else { None }
 }
 
-/// Whether a state is another one, where there is one.
-fn is<A: Allocator + Copy>(state: &ChangeState<A>, wanted: Option<ChangeState<A>>) -> bool {
-    wanted.is_some_and(|wanted| state.same(&wanted))
-}
-
-/// Whether a state lies between two others, where there are both.
-fn lies_between<A: Allocator + Copy>(
-    low: Option<ChangeState<A>>,
-    state: &ChangeState<A>,
-    high: Option<ChangeState<A>>,
-) -> bool {
-    low.is_some_and(|low| state.covers(&low)) && high.is_some_and(|high| high.covers(state))
-}
-
 /// A deed that a state takes.
 #[derive(Clone, Copy)]
 struct Takes(Deed);
 
 impl Call for Takes {
-    fn seen(self, alloc: Global, granted: u32) -> Option<Seen> {
-        let memory = Memory::new(alloc);
-        let op = op_of(&memory, 2, self.0)?;
-        let state = known(&memory, 1, 4)?;
-        Some(taken(&memory, state, &op, self.0, granted))
+    fn seen(self, memory: &Memory, granted: u32) -> Option<Seen> {
+        let op = op_of(memory, 2, self.0)?;
+        let state = known(memory, 1, 4)?;
+        Some(taken(memory, state, &op, self.0, granted))
     }
 }
 
@@ -91,10 +76,9 @@ fn taken<'a>(
 struct Effects;
 
 impl Call for Effects {
-    fn seen(self, alloc: Global, granted: u32) -> Option<Seen> {
-        let memory = Memory::new(alloc);
-        let op = op_of(&memory, 1, Deed::PatchSet(7))?;
-        Some(effected(&memory, &op, granted))
+    fn seen(self, memory: &Memory, granted: u32) -> Option<Seen> {
+        let op = op_of(memory, 1, Deed::PatchSet(7))?;
+        Some(effected(memory, &op, granted))
     }
 }
 
@@ -122,32 +106,10 @@ fn effected<'a>(memory: &'a Memory, op: &Op<&'a Memory>, granted: u32) -> Seen {
 struct Joins;
 
 impl Call for Joins {
-    fn seen(self, alloc: Global, granted: u32) -> Option<Seen> {
-        let memory = Memory::new(alloc);
-        let state = known(&memory, 1, 5)?;
-        joined(&memory, state, known(&memory, 3, 25)?, granted)
+    fn seen(self, memory: &Memory, granted: u32) -> Option<Seen> {
+        let (state, other) = (known(memory, 1, 5), known(memory, 3, 25));
+        joined(memory, state, other, known(memory, 1, 25), granted)
     }
-}
-
-/// What is seen where the state joins another one.
-fn joined<'a>(
-    memory: &'a Memory,
-    mut state: State<'a>,
-    other: State<'a>,
-    granted: u32,
-) -> Option<Seen> {
-    memory.refuse_after(granted);
-    let failed = state.join(other).is_err();
-    let refused = memory.grant_all();
-    let is_whole = is(&state, known(memory, 1, 25));
-    let is_between = lies_between(known(memory, 1, 5), &state, known(memory, 1, 25));
-    state.join(known(memory, 3, 25)?).ok()?;
-    Some(Seen {
-        failed,
-        refused,
-        stated: is_between && is_whole != failed,
-        whole: is(&state, known(memory, 1, 25)),
-    })
 }
 
 /// A copy of a state.
@@ -155,25 +117,9 @@ fn joined<'a>(
 struct Copies;
 
 impl Call for Copies {
-    fn seen(self, alloc: Global, granted: u32) -> Option<Seen> {
-        let memory = Memory::new(alloc);
-        let state = with(&memory, Deed::Vote(3, 1))?;
-        Some(copied(&memory, &state, granted))
-    }
-}
-
-/// What is seen of a copy of the state.
-fn copied<'a>(memory: &'a Memory, state: &State<'a>, granted: u32) -> Seen {
-    memory.refuse_after(granted);
-    let copy = state.copy().ok();
-    let refused = memory.grant_all();
-    let failed = copy.is_none();
-    let is_right = failed || is(state, copy);
-    Seen {
-        failed,
-        refused,
-        stated: is_right && is(state, with(memory, Deed::Vote(3, 1))),
-        whole: is(state, state.copy().ok()),
+    fn seen(self, memory: &Memory, granted: u32) -> Option<Seen> {
+        let vote = Deed::Vote(3, 1);
+        copied(memory, with(memory, vote), with(memory, vote), granted)
     }
 }
 
@@ -182,11 +128,10 @@ fn copied<'a>(memory: &'a Memory, state: &State<'a>, granted: u32) -> Seen {
 struct Loses;
 
 impl Call for Loses {
-    fn seen(self, alloc: Global, granted: u32) -> Option<Seen> {
-        let memory = Memory::new(alloc);
-        let op = op_of(&memory, 1, Deed::PatchSet(1))?;
-        let state = with(&memory, Deed::PatchSet(1))?;
-        Some(lost(&memory, state, &op, granted))
+    fn seen(self, memory: &Memory, granted: u32) -> Option<Seen> {
+        let op = op_of(memory, 1, Deed::PatchSet(1))?;
+        let state = with(memory, Deed::PatchSet(1))?;
+        Some(lost(memory, state, &op, granted))
     }
 }
 

@@ -3,7 +3,6 @@ ghost use Rattle.std.specs.Prelude.{false};
 
 use super::turns::{Call, Memory, Seen, assert_each};
 use chunk_list::{ChunkList, Probe};
-use std::alloc::Global;
 
 /// A list of numbers.
 type Numbers<'a> = ChunkList<u32, &'a Memory>;
@@ -64,9 +63,8 @@ fn has(list: &Numbers<'_>, place: End, count: u32) -> bool {
 struct Growing(End);
 
 impl Call for Growing {
-    fn seen(self, alloc: Global, granted: u32) -> Option<Seen> {
-        let memory = Memory::new(alloc);
-        Some(grown(&memory, self.0, granted))
+    fn seen(self, memory: &Memory, granted: u32) -> Option<Seen> {
+        Some(grown(memory, self.0, granted))
     }
 }
 

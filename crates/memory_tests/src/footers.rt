@@ -2,7 +2,6 @@
 
 use super::turns::{Call, Memory, Seen, assert_each};
 use footer_text::{Bases, depends};
-use std::alloc::Global;
 
 /// The bases of a site with two servers.
 const BASES: [&str; 2] = ["https://review.example.org/", "https://r/"];
@@ -83,11 +82,10 @@ fn call<'a>(
 }
 
 impl Call for Calls {
-    fn seen(self, alloc: Global, granted: u32) -> Option<Seen> {
-        let memory = Memory::new(alloc);
-        let bases = bases(&memory)?;
-        let (answer, refused) = call(&memory, &bases, self, granted);
-        let (again, _) = call(&memory, &bases, self, u32::MAX);
+    fn seen(self, memory: &Memory, granted: u32) -> Option<Seen> {
+        let bases = bases(memory)?;
+        let (answer, refused) = call(memory, &bases, self, granted);
+        let (again, _) = call(memory, &bases, self, u32::MAX);
         Some(Seen {
             failed: answer.is_none(),
             refused,

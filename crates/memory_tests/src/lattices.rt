@@ -1,8 +1,8 @@
 //! Maps and lists of lattice values.
 
 use super::turns::{Call, Memory, Seen, assert_each};
+use super::values::{copied, is, joined, lies_between};
 use lattice_core::{Flag, Join, JoinMap, join_all};
-use std::alloc::Global;
 
 /// Flags by number.
 type Flags<'a> = JoinMap<u32, Flag, &'a Memory>;
@@ -27,24 +27,13 @@ fn raised(memory: &Memory, from: u32, end: u32) -> Option<Flags<'_>> {
     if reached == end { Some(flags) } else { None }
 }
 
-/// Whether two values are the same, where there are both.
-fn is<J: Join>(value: &J, wanted: Option<J>) -> bool {
-    wanted.is_some_and(|wanted| value.same(&wanted))
-}
-
-/// Whether a value lies between two others, where there are both.
-fn lies_between<J: Join>(low: Option<J>, value: &J, high: Option<J>) -> bool {
-    low.is_some_and(|low| value.covers(&low)) && high.is_some_and(|high| high.covers(value))
-}
-
 /// Puts of flags, one after the other.
 #[derive(Clone, Copy)]
 struct Puts;
 
 impl Call for Puts {
-    fn seen(self, alloc: Global, granted: u32) -> Option<Seen> {
-        let memory = Memory::new(alloc);
-        Some(put(&memory, granted))
+    fn seen(self, memory: &Memory, granted: u32) -> Option<Seen> {
+        Some(put(memory, granted))
     }
 }
 
@@ -69,32 +58,10 @@ fn put(memory: &Memory, granted: u32) -> Seen {
 struct Joins;
 
 impl Call for Joins {
-    fn seen(self, alloc: Global, granted: u32) -> Option<Seen> {
-        let memory = Memory::new(alloc);
-        let flags = raised(&memory, 0, 12)?;
-        joined(&memory, flags, raised(&memory, 8, 40)?, granted)
+    fn seen(self, memory: &Memory, granted: u32) -> Option<Seen> {
+        let (flags, other) = (raised(memory, 0, 12), raised(memory, 8, 40));
+        joined(memory, flags, other, raised(memory, 0, 40), granted)
     }
-}
-
-/// What is seen where the flags join others.
-fn joined<'a>(
-    memory: &'a Memory,
-    mut flags: Flags<'a>,
-    other: Flags<'a>,
-    granted: u32,
-) -> Option<Seen> {
-    memory.refuse_after(granted);
-    let failed = flags.join(other).is_err();
-    let refused = memory.grant_all();
-    let is_whole = is(&flags, raised(memory, 0, 40));
-    let is_between = lies_between(raised(memory, 0, 12), &flags, raised(memory, 0, 40));
-    flags.join(raised(memory, 8, 40)?).ok()?;
-    Some(Seen {
-        failed,
-        refused,
-        stated: is_between && is_whole != failed,
-        whole: is(&flags, raised(memory, 0, 40)),
-    })
 }
 
 /// A map of maps that raises the flags up to `end` at one key.
@@ -119,34 +86,39 @@ fn before(memory: &Memory, is_new: bool) -> Option<Nested<'_>> {
 }
 
 impl Call for JoinsAt {
-    fn seen(self, alloc: Global, granted: u32) -> Option<Seen> {
-        let memory = Memory::new(alloc);
-        let maps = before(&memory, self.is_new)?;
-        joined_at(&memory, maps, self.is_new, granted)
+    fn seen(self, memory: &Memory, granted: u32) -> Option<Seen> {
+        let flags = raised(memory, 0, 40)?;
+        let maps = before(memory, self.is_new)?;
+        Some(joined_at(memory, maps, flags, self.is_new, granted))
     }
 }
 
-/// What is seen where flags are joined at the key of the map of maps.
+/// Whether memory sufficed for all flags to be joined at the key of the map of maps.
+fn join_at<'a>(memory: &'a Memory, maps: &mut Nested<'a>) -> bool {
+    raised(memory, 0, 40).is_some_and(|flags| maps.join_at(5u8, flags).is_ok())
+}
+
+/// What is seen where all flags are joined at the key of the map of maps.
 fn joined_at<'a>(
     memory: &'a Memory,
     mut maps: Nested<'a>,
+    flags: Flags<'a>,
     is_new: bool,
     granted: u32,
-) -> Option<Seen> {
-    let flags = raised(memory, 0, 40)?;
+) -> Seen {
     memory.refuse_after(granted);
     let failed = maps.join_at(5u8, flags).is_err();
     let refused = memory.grant_all();
     let is_whole = is(&maps, nested(memory, 40));
     let is_between = lies_between(before(memory, is_new), &maps, nested(memory, 40));
     let is_there = !maps.is_empty();
-    maps.join_at(5u8, raised(memory, 0, 40)?).ok()?;
-    Some(Seen {
+    let is_joined = join_at(memory, &mut maps);
+    Seen {
         failed,
         refused,
         stated: is_between && is_whole != failed && is_there != (is_new && failed),
-        whole: is(&maps, nested(memory, 40)),
-    })
+        whole: is_joined && is(&maps, nested(memory, 40)),
+    }
 }
 
 /// A copy of a map.
@@ -154,25 +126,13 @@ fn joined_at<'a>(
 struct Copies;
 
 impl Call for Copies {
-    fn seen(self, alloc: Global, granted: u32) -> Option<Seen> {
-        let memory = Memory::new(alloc);
-        let flags = raised(&memory, 0, 40)?;
-        Some(copied(&memory, &flags, granted))
-    }
-}
-
-/// What is seen of a copy of the flags.
-fn copied<'a>(memory: &'a Memory, flags: &Flags<'a>, granted: u32) -> Seen {
-    memory.refuse_after(granted);
-    let copy = flags.copy().ok();
-    let refused = memory.grant_all();
-    let failed = copy.is_none();
-    let is_right = failed || is(flags, copy);
-    Seen {
-        failed,
-        refused,
-        stated: is_right && is(flags, raised(memory, 0, 40)),
-        whole: is(flags, flags.copy().ok()),
+    fn seen(self, memory: &Memory, granted: u32) -> Option<Seen> {
+        copied(
+            memory,
+            raised(memory, 0, 40),
+            raised(memory, 0, 40),
+            granted,
+        )
     }
 }
 
@@ -190,10 +150,9 @@ fn thirds(memory: &Memory) -> Option<Vec<Flags<'_>, &Memory>> {
 struct Lists;
 
 impl Call for Lists {
-    fn seen(self, alloc: Global, granted: u32) -> Option<Seen> {
-        let memory = Memory::new(alloc);
-        let states = thirds(&memory)?;
-        Some(listed(&memory, states, granted))
+    fn seen(self, memory: &Memory, granted: u32) -> Option<Seen> {
+        let states = thirds(memory)?;
+        Some(listed(memory, states, granted))
     }
 }
 

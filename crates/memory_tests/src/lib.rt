@@ -23,4 +23,6 @@ mod states;
 #[cfg(test)]
 mod turns;
 #[cfg(test)]
+mod values;
+#[cfg(test)]
 mod worlds;

@@ -3,7 +3,6 @@
 use super::turns::{Call, Memory, Seen, assert_each};
 use byte_ends::{BytesFault, Ends, Source, read_all};
 use line_reader::LineReader;
-use std::alloc::Global;
 
 /// A text of one line.
 const TEXT: &[u8] = b"abcdefghijklmnopqrstuvwxyz\n";
@@ -22,17 +21,16 @@ fn read(memory: &Memory) -> (Option<BytesFault>, bool, u64) {
 }
 
 impl Call for Wholes {
-    fn seen(self, alloc: Global, granted: u32) -> Option<Seen> {
-        let memory = Memory::new(alloc);
+    fn seen(self, memory: &Memory, granted: u32) -> Option<Seen> {
         memory.refuse_after(granted);
-        let (fault, is_whole, failures) = read(&memory);
+        let (fault, is_whole, failures) = read(memory);
         let refused = memory.grant_all();
         let failed = fault == Some(BytesFault::NoMemory);
         Some(Seen {
             failed,
             refused,
             stated: is_whole != failed && failures == 0,
-            whole: read(&memory) == (None, true, 0),
+            whole: read(memory) == (None, true, 0),
         })
     }
 }
@@ -42,16 +40,15 @@ impl Call for Wholes {
 struct Readers;
 
 impl Call for Readers {
-    fn seen(self, alloc: Global, granted: u32) -> Option<Seen> {
-        let memory = Memory::new(alloc);
+    fn seen(self, memory: &Memory, granted: u32) -> Option<Seen> {
         memory.refuse_after(granted);
-        let failed = LineReader::new(&memory, 100).is_err();
+        let failed = LineReader::new(memory, 100).is_err();
         let refused = memory.grant_all();
         Some(Seen {
             failed,
             refused,
             stated: true,
-            whole: LineReader::new(&memory, 100).is_ok(),
+            whole: LineReader::new(memory, 100).is_ok(),
         })
     }
 }
@@ -61,10 +58,9 @@ impl Call for Readers {
 struct Lines;
 
 impl Call for Lines {
-    fn seen(self, alloc: Global, granted: u32) -> Option<Seen> {
-        let memory = Memory::new(alloc);
-        let reader = LineReader::new(&memory, 100).ok()?;
-        Some(handed_out(&memory, reader, granted))
+    fn seen(self, memory: &Memory, granted: u32) -> Option<Seen> {
+        let reader = LineReader::new(memory, 100).ok()?;
+        Some(handed_out(memory, reader, granted))
     }
 }
 

@@ -5,7 +5,7 @@ use super::turns::{Call, Memory, Seen, assert_each};
 use event_filter::is_recorded;
 use review_ops::Body;
 use state_core::State;
-use std::alloc::{Allocator, Global};
+use std::alloc::Allocator;
 
 /// The state of a vote.
 fn voted<A: Allocator + Copy>(alloc: A) -> Option<State<A>> {
@@ -14,16 +14,20 @@ fn voted<A: Allocator + Copy>(alloc: A) -> Option<State<A>> {
     Some(state)
 }
 
+/// The body of a vote.
+fn body_of<A: Allocator + Copy>(alloc: A, value: i8) -> Option<Body<A>> {
+    Body::checked(draft_of(alloc, Deed::Vote(1, value))?).ok()
+}
+
 /// A vote that is looked for in a record.
 #[derive(Clone, Copy)]
 struct LooksFor(i8);
 
 impl Call for LooksFor {
-    fn seen(self, alloc: Global, granted: u32) -> Option<Seen> {
-        let memory = Memory::new(alloc);
-        let state = voted(&memory)?;
-        let body = Body::checked(draft_of(&memory, Deed::Vote(1, self.0))?).ok()?;
-        Some(looked_for(&memory, &state, &body, self.0 == 1, granted))
+    fn seen(self, memory: &Memory, granted: u32) -> Option<Seen> {
+        let body = body_of(memory, self.0)?;
+        let state = voted(memory)?;
+        Some(looked_for(memory, &state, &body, self.0 == 1, granted))
     }
 }
 

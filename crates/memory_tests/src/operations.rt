@@ -2,7 +2,7 @@
 
 use super::turns::{Call, Memory, Seen, assert_each};
 use review_ops::{Draft, Op};
-use std::alloc::{Allocator, Global};
+use std::alloc::Allocator;
 
 /// What an operation says, but for its change, which is 101.
 #[derive(Clone, Copy)]
@@ -36,10 +36,9 @@ pub(super) fn op_of<A: Allocator + Copy>(alloc: A, time: u64, deed: Deed) -> Opt
 struct Copying(Deed);
 
 impl Call for Copying {
-    fn seen(self, alloc: Global, granted: u32) -> Option<Seen> {
-        let memory = Memory::new(alloc);
-        let op = op_of(&memory, 1, self.0)?;
-        Some(copied(&memory, &op, granted))
+    fn seen(self, memory: &Memory, granted: u32) -> Option<Seen> {
+        let op = op_of(memory, 1, self.0)?;
+        Some(copied(memory, &op, granted))
     }
 }
 

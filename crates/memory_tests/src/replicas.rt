@@ -4,7 +4,7 @@ use super::operations::{Deed, op_of};
 use super::turns::{Call, Memory, Seen, assert_each};
 use replica_core::{Front, Missing, Partly, Replica, Row};
 use review_ops::Op;
-use std::alloc::{Allocator, Global};
+use std::alloc::Allocator;
 
 /// Operations in the order of their times.
 const DEEDS: [Deed; 4] = [
@@ -60,11 +60,10 @@ fn has_first<A: Allocator + Copy>(alloc: A, replica: &Replica<A>, count: usize) 
 struct Takes(usize);
 
 impl Call for Takes {
-    fn seen(self, alloc: Global, granted: u32) -> Option<Seen> {
-        let memory = Memory::new(alloc);
-        let op = next_op(&memory, self.0)?;
-        let replica = replica_of(&memory, self.0)?;
-        Some(taken(&memory, replica, op, self.0, granted))
+    fn seen(self, memory: &Memory, granted: u32) -> Option<Seen> {
+        let op = next_op(memory, self.0)?;
+        let replica = replica_of(memory, self.0)?;
+        Some(taken(memory, replica, op, self.0, granted))
     }
 }
 
@@ -95,10 +94,10 @@ fn taken<'a>(
 struct Absorbs;
 
 impl Call for Absorbs {
-    fn seen(self, alloc: Global, granted: u32) -> Option<Seen> {
-        let memory = Memory::new(alloc);
-        let replica = replica_of(&memory, 1)?;
-        absorbed(&memory, replica, turned_round(&memory)?, granted)
+    fn seen(self, memory: &Memory, granted: u32) -> Option<Seen> {
+        let other = turned_round(memory)?;
+        let replica = replica_of(memory, 1)?;
+        Some(absorbed(memory, replica, other, granted))
     }
 }
 
@@ -107,24 +106,29 @@ fn count_of(absorbed: Result<(), Partly>) -> usize {
     absorbed.map_or_else(|partly| partly.taken, |_| 4)
 }
 
+/// Whether memory sufficed for the replica to absorb the one with four operations.
+fn absorb<A: Allocator + Copy>(alloc: A, replica: &mut Replica<A>) -> bool {
+    turned_round(alloc).is_some_and(|other| replica.absorb(other).is_ok())
+}
+
 /// What is seen where the replica absorbs another one: the first so many of its operations are in, as it says.
 fn absorbed<'a>(
     memory: &'a Memory,
     mut replica: Replica<&'a Memory>,
     other: Replica<&'a Memory>,
     granted: u32,
-) -> Option<Seen> {
+) -> Seen {
     memory.refuse_after(granted);
     let count = count_of(replica.absorb(other));
     let refused = memory.grant_all();
     let stated = has_first(memory, &replica, count.max(1));
-    replica.absorb(turned_round(memory)?).ok()?;
-    Some(Seen {
+    let is_absorbed = absorb(memory, &mut replica);
+    Seen {
         failed: count < 4,
         refused,
         stated,
-        whole: has_first(memory, &replica, 4),
-    })
+        whole: is_absorbed && has_first(memory, &replica, 4),
+    }
 }
 
 /// What a replica with four operations shows.
@@ -136,10 +140,9 @@ enum Shows {
 }
 
 impl Call for Shows {
-    fn seen(self, alloc: Global, granted: u32) -> Option<Seen> {
-        let memory = Memory::new(alloc);
-        let replica = replica_of(&memory, 4)?;
-        Some(shown(&memory, &replica, self, granted))
+    fn seen(self, memory: &Memory, granted: u32) -> Option<Seen> {
+        let replica = replica_of(memory, 4)?;
+        Some(shown(memory, &replica, self, granted))
     }
 }
 
@@ -199,9 +202,8 @@ fn shown<'a>(
 struct Raises;
 
 impl Call for Raises {
-    fn seen(self, alloc: Global, granted: u32) -> Option<Seen> {
-        let memory = Memory::new(alloc);
-        Some(raised(&memory, granted))
+    fn seen(self, memory: &Memory, granted: u32) -> Option<Seen> {
+        Some(raised(memory, granted))
     }
 }
 

@@ -2,8 +2,8 @@
 
 use super::operations::{Deed, op_of};
 use super::turns::{Call, Memory, Seen, assert_each};
+use super::values::{is, joined};
 use byte_ends::Ends;
-use lattice_core::Join;
 use report_text::{WriteStateFault, write_state};
 use review_ops::Op;
 use state_core::State;
@@ -35,7 +35,7 @@ fn state_of<A: Allocator + Copy>(alloc: A, count: usize) -> Option<State<A>> {
 
 /// Whether the state is that after the first `count` deeds.
 fn is_after<A: Allocator + Copy>(alloc: A, state: &State<A>, count: usize) -> bool {
-    state_of(alloc, count).is_some_and(|wanted| state.same(&wanted))
+    is(state, state_of(alloc, count))
 }
 
 /// A deed that a state takes after those before it.
@@ -43,11 +43,10 @@ fn is_after<A: Allocator + Copy>(alloc: A, state: &State<A>, count: usize) -> bo
 struct Takes(usize);
 
 impl Call for Takes {
-    fn seen(self, alloc: Global, granted: u32) -> Option<Seen> {
-        let memory = Memory::new(alloc);
-        let op = next_op(&memory, self.0)?;
-        let state = state_of(&memory, self.0)?;
-        Some(taken(&memory, state, &op, self.0, granted))
+    fn seen(self, memory: &Memory, granted: u32) -> Option<Seen> {
+        let op = next_op(memory, self.0)?;
+        let state = state_of(memory, self.0)?;
+        Some(taken(memory, state, &op, self.0, granted))
     }
 }
 
@@ -78,38 +77,10 @@ fn taken<'a>(
 struct Joins;
 
 impl Call for Joins {
-    fn seen(self, alloc: Global, granted: u32) -> Option<Seen> {
-        let memory = Memory::new(alloc);
-        let state = state_of(&memory, 1)?;
-        joined(&memory, state, state_of(&memory, 3)?, granted)
+    fn seen(self, memory: &Memory, granted: u32) -> Option<Seen> {
+        let (state, other) = (state_of(memory, 1), state_of(memory, 3));
+        joined(memory, state, other, state_of(memory, 3), granted)
     }
-}
-
-/// Whether a state lies between the one after the first deed and the one after all.
-fn lies_between<A: Allocator + Copy>(alloc: A, state: &State<A>) -> bool {
-    state_of(alloc, 1).is_some_and(|low| state.covers(&low))
-        && state_of(alloc, 3).is_some_and(|high| high.covers(state))
-}
-
-/// What is seen where the state after the first deed joins the one after all.
-fn joined<'a>(
-    memory: &'a Memory,
-    mut state: State<&'a Memory>,
-    other: State<&'a Memory>,
-    granted: u32,
-) -> Option<Seen> {
-    memory.refuse_after(granted);
-    let failed = state.join(other).is_err();
-    let refused = memory.grant_all();
-    let is_whole = is_after(memory, &state, 3);
-    let is_between = lies_between(memory, &state);
-    state.join(state_of(memory, 3)?).ok()?;
-    Some(Seen {
-        failed,
-        refused,
-        stated: is_between && is_whole != failed,
-        whole: is_after(memory, &state, 3),
-    })
 }
 
 /// The text of the state after all deeds.
@@ -122,10 +93,9 @@ const TEXT: &[u8] =
 struct Texts;
 
 impl Call for Texts {
-    fn seen(self, alloc: Global, granted: u32) -> Option<Seen> {
-        let memory = Memory::new(alloc);
-        let state = state_of(&memory, 3)?;
-        Some(written(alloc, &memory, &state, granted))
+    fn seen(self, memory: &Memory, granted: u32) -> Option<Seen> {
+        let state = state_of(memory, 3)?;
+        Some(written(memory, &state, granted))
     }
 }
 
@@ -137,7 +107,8 @@ fn write(alloc: Global, state: &State<&Memory>, wanted: &[u8]) -> (Option<WriteS
 }
 
 /// What is seen of a writing of the state: where memory was refused nothing is written.
-fn written<'a>(alloc: Global, memory: &'a Memory, state: &State<&'a Memory>, granted: u32) -> Seen {
+fn written<'a>(memory: &'a Memory, state: &State<&'a Memory>, granted: u32) -> Seen {
+    let alloc = *memory.inner();
     memory.refuse_after(granted);
     let (fault, is_whole) = write(alloc, state, TEXT);
     let refused = memory.grant_all();

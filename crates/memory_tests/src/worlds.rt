@@ -3,7 +3,7 @@
 use super::operations::{Deed, draft_of};
 use super::turns::{Call, Memory, Seen, assert_each};
 use replica_core::Front;
-use std::alloc::{Allocator, Global};
+use std::alloc::Allocator;
 use world_core::{Event, Reply, World, WorldFault};
 
 /// An event of the script.
@@ -110,11 +110,10 @@ fn has_played<A: Allocator + Copy>(world: &World<A>, events: usize) -> bool {
 struct Plays(usize);
 
 impl Call for Plays {
-    fn seen(self, alloc: Global, granted: u32) -> Option<Seen> {
-        let memory = Memory::new(alloc);
-        let event = next_event(&memory, self.0)?;
-        let world = world_of(&memory, self.0)?;
-        Some(played(&memory, world, event, self.0, granted))
+    fn seen(self, memory: &Memory, granted: u32) -> Option<Seen> {
+        let event = next_event(memory, self.0)?;
+        let world = world_of(memory, self.0)?;
+        Some(played(memory, world, event, self.0, granted))
     }
 }
 
@@ -163,10 +162,9 @@ fn restarts<A: Allocator + Copy>(alloc: A) -> Option<Vec<Event<A>, A>> {
 }
 
 impl Call for Runs {
-    fn seen(self, alloc: Global, granted: u32) -> Option<Seen> {
-        let memory = Memory::new(alloc);
-        let world = World::new(&memory, 1).ok()?;
-        ran(&memory, world, restarts(&memory)?, granted)
+    fn seen(self, memory: &Memory, granted: u32) -> Option<Seen> {
+        let world = World::new(memory, 1).ok()?;
+        ran(memory, world, restarts(memory)?, granted)
     }
 }
 

@@ -1,5 +1,6 @@
 //! Calls whose requests for memory are refused in turn.
 
+use super::refusing::Refusing;
 use std::alloc::Global;
 
 /// More requests than a call of the tests makes.
@@ -26,17 +27,23 @@ impl Seen {
     }
 }
 
-/// A call that is made in memory of its own.
+/// A call that is made in memory that nothing else was asked of.
 pub trait Call: Copy {
     /// Makes the call where memory grants `granted` requests and refuses the next one, and then again: what is seen of
     /// it, where there is memory for what comes before it.
-    fn seen(self, alloc: Global, granted: u32) -> Option<Seen>;
+    fn seen(self, memory: &Refusing<Global>, granted: u32) -> Option<Seen>;
+}
+
+/// What is seen of a call in new memory.
+fn seen_of<C: Call>(alloc: Global, call: C, granted: u32) -> Option<Seen> {
+    let memory = Refusing::new(alloc);
+    call.seen(&memory, granted)
 }
 
 /// Each request of the call is refused in turn, until none is: how many there are. None where a call wasn't right.
 pub fn requests<C: Call>(alloc: Global, call: C) -> Option<u32> {
     for granted in 0..MOST {
-        let seen = call.seen(alloc, granted)?;
+        let seen = seen_of(alloc, call, granted)?;
         if !seen.is_right() {
             return None;
         }

@@ -78,17 +78,17 @@ fn is_found<A: Allocator + Copy>(alloc: A, search: Search) -> Option<bool> {
 }
 
 impl Call for Search {
-    fn seen(self, alloc: Global, granted: u32) -> Option<Seen> {
-        let memory = Refusing::new(LocalHeap::new(alloc, 16_384).ok()?);
-        memory.refuse_after(granted);
-        let found = is_found(&memory, self);
-        let refused = memory.grant_all();
-        let is_free = memory.inner().used() == 0;
+    fn seen(self, memory: &Refusing<Global>, granted: u32) -> Option<Seen> {
+        let heap = Refusing::new(LocalHeap::new(*memory.inner(), 16_384).ok()?);
+        heap.refuse_after(granted);
+        let found = is_found(&heap, self);
+        let refused = heap.grant_all();
+        let is_free = heap.inner().used() == 0;
         Some(Seen {
             failed: found.is_none(),
             refused,
             stated: is_free && found != Some(false),
-            whole: is_found(&memory, self) == Some(true),
+            whole: is_found(&heap, self) == Some(true),
         })
     }
 }
