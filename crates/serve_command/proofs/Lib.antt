@@ -1,1 +1,2 @@
 pub mod Ending
+mod Starts

@@ -7,7 +7,7 @@ use super::input_end::stop_with_input;
 use super::journal::open_journal;
 use super::output::PatientOutput;
 use super::save::save;
-use super::start::{is_start_used, next_start};
+use super::start::start_of;
 use byte_ends::{Drain, Ends, Source, write_all};
 use console::{Console, Named, Refusal, Streams, SystemFiles, read_gate, read_snapshot};
 use gate_rules::Gate;
@@ -154,7 +154,7 @@ where
         gate,
         replica,
     } = site;
-    let Some(start) = start_of(&rt, &serving, &replica) else {
+    let Some(start) = start_of(&rt, serving.start, &replica, serving.site) else {
         return Err(Ended::Site(ServeFault::StartUsed));
     };
     let Ok(listener) = TcpListener::bind(&rt, ("127.0.0.1", serving.port)) else {
@@ -171,16 +171,6 @@ where
     ) {
         Ok(served) => keep(&rt, alloc, name, &served),
         Err(fault) => Err(Ended::Site(fault)),
-    }
-}
-
-/// The start that a site runs under: the one that is named, unless it was used, or the next one. None where there is
-/// none.
-fn start_of<R: Clock>(rt: &R, serving: &Serving<'_>, replica: &Replica) -> Option<u32> {
-    match serving.start {
-        Some(start) if is_start_used(replica, serving.site, start) => None,
-        Some(start) => Some(start),
-        None => next_start(rt, replica, serving.site),
     }
 }
 

@@ -1,23 +1,33 @@
 //! The start that a site runs under.
 
-ghost use Rattle.std.specs.Prelude.{IfSome};
+ghost use Rattle.std.specs.Prelude.{◌≡◌, ◌≤◌, ◌<◌, IfSome, Some};
 ghost use Rattle.site_ledger.specs.Starts.{IsUnused};
 
 use replica_core::Replica;
 use site_ledger::latest_start;
 use std::time::{Clock, SystemTime};
 
-/// Whether a record has a stamp of the site under this start or a later one.
-pub fn is_start_used(replica: &Replica, site: u16, start: u32) -> bool {
-    replica.as_slice().iter().any(|op| op.stamp().site() == site && op.stamp().start() >= start)
+/// The start that a site runs under: the one that is named, from 1, unless the record has a stamp of the site under it
+/// or a later one, or the next one where none is named. None where there is none.
+pub fn start_of<R: Clock>(rt: &R, named: Option<u32>, replica: &Replica, site: u16) -> Option<u32>
+    ensures unused { IfSome result (λ start. IsUnused site start replica.now) }
+    ensures named { IfSome named
+        (λ start. 1 ≤ start → IsUnused site start replica.now → result ≡ Some start) }
+{
+    let latest = latest_start(replica, site);
+    match named {
+        Some(start) if start > latest => named,
+        Some(_) => None,
+        None => next_start(rt, latest),
+    }
 }
 
-/// The start of a site for which none is named: one above each start of its own in the record, and no less than the
-/// seconds since 1970. None where none is left, or the clock can't be read.
-pub fn next_start<R: Clock>(rt: &R, replica: &Replica, site: u16) -> Option<u32>
-    ensures { IfSome result (λ start. IsUnused site start replica.now) }
+/// The start of a site for which none is named: one above the latest of its own, and no less than the seconds since
+/// 1970. None where none is left, or the clock can't be read.
+fn next_start<R: Clock>(rt: &R, latest: u32) -> Option<u32>
+    ensures { IfSome result (λ start. latest < start) }
 {
-    let above = latest_start(replica, site).checked_add(1)?;
+    let above = latest.checked_add(1)?;
     Some(seconds_of(rt)?.max(above))
 }
 

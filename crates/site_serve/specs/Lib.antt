@@ -1,3 +1,4 @@
 pub mod Acknowledged
 pub mod SitePorts
 pub mod Reports
+pub mod Fault

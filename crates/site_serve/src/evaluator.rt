@@ -1,6 +1,7 @@
 //! Prints the report of a site whenever it changes.
 
 ghost use Rattle.std.specs.Prelude.{◌≡◌, IfOk, IfSome, OnOk};
+ghost use Rattle.site_serve.specs.Fault.{after_refresh, after_window};
 ghost use Rattle.site_serve.specs.Reports.{IsReportOf};
 ghost use Rattle.site_shared.specs.Accounts.{GoesOn};
 ghost use Rattle.site_shared.specs.Watches.{IsWatchOf};
@@ -156,7 +157,9 @@ fn text_of<J: Naming>(alloc: Global, watch: &OwnWatch<J>) -> Result<Vec<u8>, Ser
 }
 
 /// How a site fails where a window of its own does.
-pub fn serve_fault(fault: WindowFault) -> ServeFault {
+pub fn serve_fault(fault: WindowFault) -> ServeFault
+    ensures { result ≡ after_window fault }
+{
     match fault {
         WindowFault::NoMemory => ServeFault::NoMemory,
         WindowFault::Closed => ServeFault::NoPlace,
@@ -164,7 +167,9 @@ pub fn serve_fault(fault: WindowFault) -> ServeFault {
 }
 
 /// How a site fails where a watch of its own isn't brought up to date. One of another site or start isn't its own.
-fn refresh_fault(fault: RefreshFault) -> ServeFault {
+fn refresh_fault(fault: RefreshFault) -> ServeFault
+    ensures { result ≡ after_refresh fault }
+{
     match fault {
         RefreshFault::NoMemory => ServeFault::NoMemory,
         RefreshFault::Stranger | RefreshFault::Closed => ServeFault::NoPlace,

@@ -1,8 +1,11 @@
 //! Runs a site.
 
-ghost use Rattle.std.specs.Prelude.{◌≡◌, ◌∷◌, [], All, List};
+ghost use Rattle.std.specs.Prelude.{◌≡◌, ◌∷◌, [], true, All, IsErr, List};
+ghost use Rattle.std.specs.List.{list_any};
 ghost use Rattle.std.specs.Thread.{IsSend, IsSync};
 ghost use Rattle.review_ops.specs.Operation.{Operation};
+ghost use Rattle.site_serve.specs.Fault.{after_opening};
+ghost use Rattle.site_shared.specs.Accounts.{is_used};
 
 use super::ask::Place;
 use super::desk::{NotKept, Published, keep_desk};
@@ -46,7 +49,7 @@ struct Common<E: Drain> {
     is_start_taken: AtomicBool,
 }
 
-/// Runs a site that nothing of outlives but what it leaves, as `serve_keeping` does.
+/// Runs a site without a journal, as `serve_keeping` does.
 pub fn serve_run<R, W, E, T>(
     rt: &R,
     alloc: Global,
@@ -62,6 +65,7 @@ where
     W: Drain + Send + Drop,
     E: Drain + Send + Drop,
     T: Turn + Sync,
+    ensures used { list_any (is_used setup.site setup.start) setup.replica ≡ true → IsErr result }
 {
     serve_keeping(
         rt, alloc, listener, setup, stop, output, errors, turn, NoJournal,
@@ -93,6 +97,7 @@ where
     T: Turn + Sync,
     K: Keeps + Drop,
     requires { (first : List Operation) × K.holds keeper first }
+    ensures used { list_any (is_used setup.site setup.start) setup.replica ≡ true → IsErr result }
 {
     let Setup {
         gate,
@@ -165,7 +170,9 @@ fn sessions_of(alloc: Global, door: Door, most: u64, workers: usize, idle_ms: u6
 }
 
 /// How a site isn't run where it isn't opened.
-fn open_fault(fault: OpenFault) -> ServeFault {
+fn open_fault(fault: OpenFault) -> ServeFault
+    ensures { result ≡ after_opening fault }
+{
     match fault {
         OpenFault::NoMemory => ServeFault::NoMemory,
         OpenFault::NoPlace => ServeFault::NoPlace,

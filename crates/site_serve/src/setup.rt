@@ -1,5 +1,8 @@
 //! What a site is run with, and how it ends.
 
+ghost use Rattle.std.specs.Prelude.{◌≡◌};
+ghost use Rattle.site_serve.specs.Fault.{name_of, number_of};
+
 use gate_rules::Gate;
 use replica_core::Replica;
 use thiserror::Error;
@@ -70,7 +73,9 @@ pub enum ServeFault {
 
 impl ServeFault {
     /// The fault's number.
-    pub fn number(&self) -> u8 {
+    pub fn number(&self) -> u8
+        ensures { result ≡ number_of self.now }
+    {
         match self {
             ServeFault::NoBind => 1,
             ServeFault::StartUsed => 2,
@@ -84,7 +89,9 @@ impl ServeFault {
     }
 
     /// The fault's name.
-    pub fn name(&self) -> &'static str {
+    pub fn name(&self) -> &'static str
+        ensures { result.now ≡ name_of self.now }
+    {
         match self {
             ServeFault::NoBind => "NoBind",
             ServeFault::StartUsed => "StartUsed",

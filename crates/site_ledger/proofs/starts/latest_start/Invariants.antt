@@ -1,7 +1,8 @@
-use Rattle.std.proofs.Common.{take}
-use Rattle.site_ledger.specs.Starts.{IsLatest}
+use Rattle.std.proofs.Common.{ℕ, ◌≤◌, take}
+use Rattle.site_ledger.specs.Starts.{HasNoLater}
 use Rattle.site_ledger.proofs.starts.latest_start.Given as goal
 
--- none of the first operations has a later start
+-- none of the first operations has a later start, and no less is that of all
 abbrev pub invariant-loop-op : goal.invariant-loop-op
-invariant-loop-op l = IsLatest l.site l.latest (take l.op-index l.replica)
+invariant-loop-op l = HasNoLater l.site l.latest (take l.op-index l.replica)
+    × ((start : ℕ) → HasNoLater l.site start l.replica → l.latest ≤ start)

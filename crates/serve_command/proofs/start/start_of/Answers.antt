@@ -1,0 +1,12 @@
+use Rattle.std.proofs.Common.{arith}
+use Rattle.serve_command.proofs.Starts.{unused_is_above}
+use Rattle.serve_command.proofs.start.start_of.Goals as goal
+
+-- src/start.rt:12:1
+pub returns-in-Some-2-clause-named : goal.returns-in-Some-2-clause-named
+returns-in-Some-2-clause-named g c =
+    rw c.in-Some.is (λ from_1 unused. absurd (omega (
+      arith,
+      c.if-start-latest.false,
+      unused_is_above _ _ _ _ c.latest_start-latest.ensures from_1 unused,
+    )))
