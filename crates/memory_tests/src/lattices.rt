@@ -95,7 +95,10 @@ impl Call for JoinsAt {
 
 /// Whether memory sufficed for all flags to be joined at the key of the map of maps.
 fn join_at<'a>(memory: &'a Memory, maps: &mut Nested<'a>) -> bool {
-    raised(memory, 0, 40).is_some_and(|flags| maps.join_at(5u8, flags).is_ok())
+    match raised(memory, 0, 40) {
+        Some(flags) => maps.join_at(5u8, flags).is_ok(),
+        None => false,
+    }
 }
 
 /// What is seen where all flags are joined at the key of the map of maps.
