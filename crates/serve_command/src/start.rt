@@ -11,7 +11,8 @@ use std::time::{Clock, SystemTime};
 /// or a later one, or the next one where none is named. None where there is none.
 pub fn start_of<R: Clock>(rt: &R, named: Option<u32>, replica: &Replica, site: u16) -> Option<u32>
     ensures unused { IfSome result (λ start. IsUnused site start replica.now) }
-    ensures named { IfSome named
+    ensures named { IfSome named (λ start. IfSome result (λ taken. taken ≡ start)) }
+    ensures taken { IfSome named
         (λ start. 1 ≤ start → IsUnused site start replica.now → result ≡ Some start) }
 {
     let latest = latest_start(replica, site);

@@ -3,8 +3,8 @@ use Rattle.serve_command.proofs.Starts.{unused_is_above}
 use Rattle.serve_command.proofs.start.start_of.Goals as goal
 
 -- src/start.rt:12:1
-pub returns-in-Some-2-clause-named : goal.returns-in-Some-2-clause-named
-returns-in-Some-2-clause-named g c =
+pub returns-in-Some-2-clause-taken : goal.returns-in-Some-2-clause-taken
+returns-in-Some-2-clause-taken g c =
     rw c.in-Some.is (λ from_1 unused. absurd (omega (
       arith,
       c.if-start-latest.false,
