@@ -1,5 +1,5 @@
 -- What a session answers to a body.
-use Rattle.std.specs.Prelude.{◌≡◌, ◌++◌, ℕ, List, Result, Ok, Err, codes}
+use Rattle.std.specs.Prelude.{◌≡◌, ◌++◌, ◌∷◌, [], ℕ, List, Result, Ok, Err, codes}
 use Rattle.review_ops.specs.Timestamp.{Timestamp, timestamp_text}
 use Rattle.feed_client.specs.declared.intake.Refusal.{Refusal}
 use Rattle.feed_client.specs.declared.intake.Refusal.TheVariants.{NoMemory, BadText, BadBody, ClockSpent, Closed}
@@ -14,21 +14,26 @@ text_of BadBody = codes "8 BadBody"
 text_of ClockSpent = codes "9 ClockSpent"
 text_of Closed = codes "10 Closed"
 
+-- each of them
+abbrev pub all : List Refusal
+all = NoMemory ∷ BadText ∷ BadBody ∷ ClockSpent ∷ Closed ∷ []
+
 abbrev pub ok_word : List ℕ
 ok_word = codes "ok "
 
 abbrev pub no_word : List ℕ
 no_word = codes "no "
 
--- where a fault is read of the text after `no`, the text is that of the refusal
+-- of the text after `no` the refusal is read that it names, or the end where it names none
 abbrev pub IsRefusalText : List ℕ → IntakeFault → Type 0
 IsRefusalText text (Refused refusal) = text ≡ text_of refusal
-IsRefusalText text fault.Ended = Unit {0}
+IsRefusalText text fault.Ended = (refusal : Refusal) → ¬ (text ≡ text_of refusal)
 IsRefusalText text fault.NoMemory = ⊥
 
--- what is read of a line, where memory isn't refused
+-- what is read of a line: a stamp or a refusal where the line is that of just it; no line of a refusal is read as the
+-- end, and where memory is refused nothing is known of the line
 abbrev pub IsAnswer : List ℕ → Result Timestamp IntakeFault → Type 0
 IsAnswer line (Ok stamp) = line ≡ ok_word ++ timestamp_text stamp
 IsAnswer line (Err (Refused refusal)) = line ≡ no_word ++ text_of refusal
-IsAnswer line (Err fault.Ended) = Unit {0}
+IsAnswer line (Err fault.Ended) = (refusal : Refusal) → ¬ (line ≡ no_word ++ text_of refusal)
 IsAnswer line (Err fault.NoMemory) = Unit {0}

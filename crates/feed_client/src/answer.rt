@@ -1,6 +1,6 @@
 //! Reads what a session answers to a body.
 
-ghost use Rattle.std.specs.Prelude.{◌≡◌, ◌++◌, IfOk, IfSome};
+ghost use Rattle.std.specs.Prelude.{◌≡◌, ◌++◌, ℕ, List, IfOk, IfSome, IsNone};
 ghost use Rattle.feed_client.specs.Refusals.{IsAnswer, IsRefusalText};
 ghost use Rattle.review_ops.specs.Timestamp.{timestamp_text};
 
@@ -38,7 +38,8 @@ pub fn read_answer(alloc: Global, line: &[u8]) -> Result<Stamp, IntakeFault>
 
 /// What follows a word in a line.
 fn after<'a>(line: &'a [u8], word: &[u8]) -> Option<&'a [u8]>
-    ensures { IfSome result (λ text. line.entry.now ≡ word.now ++ text.now) }
+    ensures some { IfSome result (λ text. line.entry.now ≡ word.now ++ text.now) }
+    ensures none { IsNone result → (text : List ℕ) → ¬ (line.entry.now ≡ word.now ++ text) }
 {
     if line.len() < word.len() {
         return None;
