@@ -1,3 +1,5 @@
+//! Sources and drains that fail once, for tests.
+
 ghost use Rattle.std.specs.Prelude.{◌≡◌, ℕ, ◌+◌, ◌≤◌, ◌<◌, ◌↔◌, List, length, fold, sum, true, false, IfOk, IsErr};
 ghost use Rattle.std.specs.Io.{ReadsAtMost, WritesAtMost};
 ghost use Rattle.std.specs.Io.KnownBytes.{ReadConsumes, WriteAppends};
@@ -19,7 +21,7 @@ pub enum Due {
 }
 
 impl Due {
-    // Whether a call on this many bytes is the one that fails.
+    /// Whether a call on this many bytes is the one that fails.
     fn is_now(self, length: usize) -> bool
         ensures { result ≡ is_due self length }
     {
@@ -30,7 +32,7 @@ impl Due {
         }
     }
 
-    // How many of this many bytes a call may move.
+    /// How many of this many bytes a call may move.
     fn reach(self, length: usize) -> usize
         ensures { result ≡ reach self length }
     {
@@ -40,7 +42,7 @@ impl Due {
         }
     }
 
-    // What is due after a call that moved this many bytes.
+    /// What is due after a call that moved this many bytes.
     fn after(self, moved: usize) -> Due
         ensures { result ≡ due_after self moved }
     {
@@ -51,7 +53,7 @@ impl Due {
         }
     }
 
-    // How many calls have failed, where this many of the end within have.
+    /// How many calls have failed, where this many of the end within have.
     fn failures_with(self, inner: u64) -> u64
         ensures { result ≡ failed_with self inner }
     {

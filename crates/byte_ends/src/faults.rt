@@ -1,3 +1,5 @@
+//! Why bytes aren't read or written.
+
 ghost use Rattle.std.specs.Prelude.{◌≡◌, codes};
 ghost use Rattle.byte_ends.specs.ReadAll.{name_of, number_of};
 

@@ -1,3 +1,5 @@
+//! Sources and drains over the readers and writers of std.
+
 ghost use Rattle.std.specs.Prelude.{◌≡◌};
 ghost use Rattle.byte_ends.specs.Ends.{ends_inner, ends_failed};
 ghost use Rattle.byte_ends.specs.Failures.{OneFailed};
@@ -38,7 +40,7 @@ impl<T> Ends<T> {
         self.inner
     }
 
-    // Counts a failure.
+    /// Counts a failure.
     fn failed(&mut self) -> Failed
         ensures inner { ends_inner self.new ≡ ends_inner self.old }
         ensures failures { OneFailed (ends_failed self.old) (ends_failed self.new) }

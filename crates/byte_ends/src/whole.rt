@@ -1,3 +1,5 @@
+//! Writes all of some bytes, and reads all that a source has, up to a limit.
+
 ghost use Rattle.std.specs.Prelude.{◌≡◌, ℕ, ◌+◌, ◌<◌, ◌≤◌, ◌++◌, List, length, take, vec_len, IfOk, IfSome, OnOk};
 ghost use Rattle.std.specs.Prelude.{OnErr, IsErrOf};
 ghost use Rattle.std.specs.Io.KnownBytes.{Appends, Consumes, IsAtEnd};
@@ -25,7 +27,7 @@ pub fn write_all<D: Drain>(drain: &mut D, bytes: &[u8]) -> Result<(), Failed>
     Ok(())
 }
 
-// How many bytes are read at once.
+/// How many bytes are read at once.
 const PIECE: usize = 65536;
 
 /// Reads all bytes that are left, which are at most `limit`. It reads up to 64 KiB at once, and at
@@ -60,7 +62,7 @@ pub fn read_all<S: Source, A: Allocator + Copy>(
     Err(BytesFault::TooLong)
 }
 
-// Reads once, and adds what came. 0 is the end.
+/// Reads once, and adds what came. 0 is the end.
 fn read_piece<S: Source, A: Allocator>(
     source: &mut S,
     piece: &mut [u8],

@@ -1,3 +1,5 @@
+//! What a patch set is.
+
 ghost use Rattle.std.specs.Prelude.{refl, string_bytes};
 ghost use Rattle.change_core.specs.Slots.{Patch, patch_cmp, patches_exact};
 

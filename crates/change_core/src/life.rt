@@ -1,3 +1,5 @@
+//! Whether a change is abandoned, and its status.
+
 ghost use Rattle.std.specs.Prelude.{◌≡◌};
 ghost use Rattle.change_core.specs.Status.{status_name};
 

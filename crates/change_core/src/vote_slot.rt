@@ -1,3 +1,5 @@
+//! The slots of votes.
+
 ghost use Rattle.std.specs.Prelude.{refl, string_bytes};
 ghost use Rattle.change_core.specs.Slots.{Slot, slot_cmp, slots_exact};
 

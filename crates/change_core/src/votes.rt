@@ -1,3 +1,5 @@
+//! The votes on a patch set, its approvals, and the patch sets that have votes.
+
 ghost use Rattle.std.specs.Prelude.{◌≡◌, None};
 ghost use Rattle.std.specs.FinMap as finite;
 ghost use Rattle.change_core.specs.Votes.{votes_among, approvals_among, sets_among, first_of_each};
@@ -53,6 +55,7 @@ impl<'a, A: Allocator> Model for Votes<'a, A> {
 }
 
 impl<'a, A: Allocator + Copy> Votes<'a, A> {
+    /// The votes on a patch set among the registers of a change.
     pub(crate) fn on(
         set: u32,
         registers: &'a JoinMap<VoteSlot<A>, Register<Stamp, i8>, A>,
@@ -134,6 +137,7 @@ impl<'a, A: Allocator> Model for Approvals<'a, A> {
 }
 
 impl<'a, A: Allocator + Copy> Approvals<'a, A> {
+    /// The approvals among votes.
     pub(crate) fn among(votes: Votes<'a, A>) -> Approvals<'a, A>
         ensures { result ≡ approvals_among votes.entry }
     {
@@ -183,6 +187,7 @@ impl<'a, A: Allocator> Model for VotedSets<'a, A> {
 }
 
 impl<'a, A: Allocator + Copy> VotedSets<'a, A> {
+    /// The patch sets that have votes among the registers of a change.
     pub(crate) fn among(
         registers: &'a JoinMap<VoteSlot<A>, Register<Stamp, i8>, A>,
     ) -> VotedSets<'a, A>

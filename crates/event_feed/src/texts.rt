@@ -23,6 +23,7 @@ pub fn take_lines(alloc: Global, findings: &[Finding]) -> Result<String, NoMemor
     Ok(text)
 }
 
+/// Adds the line of what is found, where that brings a body.
 fn add_take_line(text: &mut String, alloc: Global, finding: &Finding) -> Result<(), NoMemory>
     ensures { OnOk result (string_bytes text.new ≡ string_bytes text.old ++ take_line finding.now) }
 {
@@ -48,6 +49,7 @@ pub fn refusal_lines(alloc: Global, number: u64, findings: &[Finding]) -> Result
     Ok(text)
 }
 
+/// Adds the line of what is found in the line of this number, where that is refused.
 fn add_refusal_line(text: &mut String, number: u64, finding: &Finding) -> Result<(), NoMemory>
     ensures { OnOk result (string_bytes text.new ≡ string_bytes text.old ++ refusal_line number finding.now) }
 {
@@ -70,6 +72,7 @@ fn add_fault_line(text: &mut String, number: u64, fault: EventFault) -> Result<(
     }
 }
 
+/// Adds the line of a bad event, with the key that it is refused for.
 fn add_bad_event(text: &mut String, number: u64, key: &str) -> Result<(), AllocError>
     ensures { OnOk result (string_bytes text.new ≡ string_bytes text.old ++ bad_event_line number key.now) }
 {
@@ -78,12 +81,14 @@ fn add_bad_event(text: &mut String, number: u64, key: &str) -> Result<(), AllocE
     Ok(())
 }
 
+/// Adds the key that a line is refused for, and ends the line.
 fn add_key(text: &mut String, key: &str) -> Result<(), AllocError>
     ensures { OnOk result (string_bytes text.new ≡ string_bytes text.old ++ key_text key.now) }
 {
     write!(text, " {key}\n")
 }
 
+/// Adds the line of events that Gerrit dropped.
 fn add_dropped(text: &mut String, number: u64) -> Result<(), AllocError>
     ensures { OnOk result (string_bytes text.new ≡ string_bytes text.old ++ dropped_line number) }
 {
@@ -106,6 +111,7 @@ pub fn drops(findings: &[Finding]) -> bool
     findings.iter().any(|finding| is_drop(finding))
 }
 
+/// Whether the finding is that events were dropped.
 fn is_drop(finding: &Finding) -> bool
     ensures { result ≡ is_drop finding.now }
 {

@@ -1,3 +1,5 @@
+//! What may precede a change's number in a footer.
+
 ghost use Rattle.std.specs.Prelude.{◌≡◌, ℕ, ◌↔◌, List, length, map, string_bytes, slice_get, IsTrue, IfOk, MatchOption};
 ghost use Rattle.std.specs.Prelude.{option_map};
 ghost use Rattle.std.specs.List.{All};
@@ -46,8 +48,10 @@ impl BasesFault {
     }
 }
 
+/// How many bases there may be.
 const MOST_BASES: usize = 8;
 
+/// How many bytes a base may have.
 const LONGEST_BASE: usize = 256;
 
 /// What may precede a change's number in a footer's value: one to eight texts, each of 1 to
@@ -108,7 +112,7 @@ impl<A: Allocator + Copy> Bases<A> {
         self.texts.iter()
     }
 
-    // The change that the value names under the first base under which it names one.
+    /// The change that the value names under the first base under which it names one.
     pub(crate) fn named_change(&self, value: &str) -> Option<u32>
         ensures { MatchOption result ((change : ℕ) → ¬ (NamesChange self.now value.now change))
             (NamesChange self.now value.now) }
@@ -131,7 +135,7 @@ impl<A: Allocator + Copy> Bases<A> {
     }
 }
 
-// The place of the first text that isn't a base, or of a ninth. Of no texts it is 0.
+/// The place of the first text that isn't a base, or of a ninth. Of no texts it is 0.
 fn first_bad(texts: &[&str]) -> Option<usize>
     ensures { MatchOption result (AreBases (map (λ text. text.now) texts.now))
         (IsFirstBad (map (λ text. text.now) texts.now)) }
@@ -147,12 +151,14 @@ fn first_bad(texts: &[&str]) -> Option<usize>
     None
 }
 
+/// Whether a text is a base.
 fn is_base(text: &str) -> bool
     ensures { IsTrue result ↔ IsBase text.now }
 {
     text.len() <= LONGEST_BASE && text.ends_with('/') && is_graphic(text.as_bytes())
 }
 
+/// Whether each byte is from 0x21 to 0x7E.
 fn is_graphic(bytes: &[u8]) -> bool
     ensures { IsTrue result ↔ All IsGraphic bytes.now }
 {

@@ -1,3 +1,5 @@
+//! What the footers of a commit message depend on.
+
 ghost use Rattle.std.specs.Prelude.{◌≡◌, ◌≢◌, ℕ, ◌++◌, ◌∷◌, List, [], map, codes, IfOk, OnOk};
 ghost use Rattle.footer_text.specs.Lines.{IsFooter};
 ghost use Rattle.footer_text.specs.Readings.{IsNumberAndTail, ReadsAs, NamesChange};
@@ -42,7 +44,7 @@ pub fn depends<'m, A: Allocator + Copy>(
     Ok(found)
 }
 
-// Adds what a line names to what the lines before it named, with the needs in their order.
+/// Adds what a line names to what the lines before it named, with the needs in their order.
 fn add_line<'m, A: Allocator + Copy>(
     bases: &Bases<A>,
     own: u32,

@@ -1,8 +1,10 @@
+//! Lines that are footers.
+
 ghost use Rattle.std.specs.Prelude.{◌≡◌, ℕ, ◌++◌, ◌∷◌, List, [], MatchOption};
 ghost use Rattle.std.specs.List.{AllByRecursion};
 ghost use Rattle.footer_text.specs.Lines.{IsBlank, BeginsBare, EndsBare, HasBare, IsFooter};
 
-// The value of a line that is a footer.
+/// The value of a line that is a footer.
 pub(crate) fn footer_value(line: &str) -> Option<&str>
     ensures { MatchOption result ((value : List ℕ) → ¬ (IsFooter line.now value))
         (λ value. IsFooter line.now value.now) }
@@ -14,13 +16,14 @@ pub(crate) fn footer_value(line: &str) -> Option<&str>
     Some(without_blanks(rest))
 }
 
-// The text without the blanks round it.
+/// The text without the blanks round it.
 fn without_blanks(text: &str) -> &str
     ensures { HasBare text.now result.now }
 {
     without_last_blanks(without_first_blanks(text))
 }
 
+/// The text without the blanks at its front.
 fn without_first_blanks(text: &str) -> &str
     ensures whole { (before : List ℕ) × AllByRecursion IsBlank before
         × (text.now ≡ before ++ result.now) }
@@ -33,6 +36,7 @@ fn without_first_blanks(text: &str) -> &str
     rest
 }
 
+/// The text without the blanks at its end.
 fn without_last_blanks(text: &str) -> &str
     ensures whole { (after : List ℕ) × AllByRecursion IsBlank after
         × (text.now ≡ result.now ++ after) }
@@ -45,7 +49,7 @@ fn without_last_blanks(text: &str) -> &str
     rest
 }
 
-// What follows a blank at the front.
+/// What follows a blank at the front.
 fn after_blank(text: &str) -> Option<&str>
     ensures { MatchOption result (BeginsBare text.now)
         (λ rest. (b : ℕ) × IsBlank b × (text.now ≡ b ∷ rest.now)) }
@@ -59,7 +63,7 @@ fn after_blank(text: &str) -> Option<&str>
     text.strip_prefix('\r')
 }
 
-// What precedes a blank at the end.
+/// What precedes a blank at the end.
 fn before_blank(text: &str) -> Option<&str>
     ensures { MatchOption result (EndsBare text.now)
         (λ rest. (b : ℕ) × IsBlank b × (text.now ≡ rest.now ++ b ∷ [])) }

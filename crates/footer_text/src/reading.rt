@@ -1,9 +1,11 @@
+//! Reads the change that a footer's value names under a base.
+
 ghost use Rattle.std.specs.Prelude.{◌≡◌, ℕ, ◌≢◌, ◌↔◌, ◌++◌, List, [], codes, IsTrue, IsSomeAnd, IfSome, MatchOption};
 ghost use Rattle.std.specs.List.{AllByRecursion};
 ghost use Rattle.std.specs.Str.Parse.{digits_value};
 ghost use Rattle.footer_text.specs.Readings.{IsNumeral, SpellsChange, IsPatch, IsNumberAndTail, IsForm, ReadsAs};
 
-// The change as which the value reads under this base.
+/// The change as which the value reads under this base.
 pub(crate) fn read_value(base: &str, value: &str) -> Option<u32>
     ensures { MatchOption result ((change : ℕ) → ¬ (ReadsAs base.now value.now change))
         (ReadsAs base.now value.now) }
@@ -11,7 +13,7 @@ pub(crate) fn read_value(base: &str, value: &str) -> Option<u32>
     read_number(after_form(value.strip_prefix(base)?)?)
 }
 
-// What follows what may be between a base and a number.
+/// What follows what may be between a base and a number.
 fn after_form(text: &str) -> Option<&str>
     ensures form { IfSome result
         (λ number. (form : List ℕ) × IsForm form × (text.now ≡ form ++ number.now)) }
@@ -28,8 +30,8 @@ fn after_form(text: &str) -> Option<&str>
     }
 }
 
-// What follows a project, which isn't empty, and `/+/`. The last `/+/` ends it: no `+` is in
-// what follows.
+/// What follows a project, which isn't empty, and `/+/`. The last `/+/` ends it: no `+` is in
+/// what follows.
 fn after_project(text: &str) -> Option<&str>
     ensures project { IfSome result (λ number. (project : List ℕ) × (project ≢ [])
         × (text.now ≡ project ++ (codes "/+/" ++ number.now))) }
@@ -46,7 +48,7 @@ fn after_project(text: &str) -> Option<&str>
     after.strip_prefix('/')
 }
 
-// A change's number and an optional tail.
+/// A change's number and an optional tail.
 fn read_number(text: &str) -> Option<u32>
     ensures { MatchOption result ((change : ℕ) → ¬ (IsNumberAndTail text.now change))
         (IsNumberAndTail text.now) }
@@ -62,7 +64,7 @@ fn read_number(text: &str) -> Option<u32>
     }
 }
 
-// The number of 1 to 10 digits, from 1 to 4294967295.
+/// The number of 1 to 10 digits, from 1 to 4294967295.
 fn change_number(digits: &str) -> Option<u32>
     ensures { MatchOption result ((change : ℕ) → ¬ (SpellsChange digits.now change))
         (SpellsChange digits.now) }
@@ -74,7 +76,7 @@ fn change_number(digits: &str) -> Option<u32>
     Some(number as u32)
 }
 
-// Nothing, a patch set's number, or such a number and a `/`.
+/// Nothing, a patch set's number, or such a number and a `/`.
 fn is_patch(patch: &str) -> bool
     ensures { IsTrue result ↔ IsPatch patch.now }
 {
@@ -87,9 +89,10 @@ fn is_patch(patch: &str) -> bool
     }
 }
 
+/// How many digits a number may have.
 const MOST_DIGITS: usize = 10;
 
-// The number that 1 to 10 digits spell.
+/// The number that 1 to 10 digits spell.
 fn numeral(digits: &str) -> Option<u64>
     ensures { MatchOption result (¬ (IsNumeral digits.now))
         (λ number. IsNumeral digits.now × (digits_value 10 digits.now ≡ number)) }

@@ -1,3 +1,5 @@
+//! Makes a gate of the text of a gate file.
+
 ghost use Rattle.std.specs.Prelude.{◌≡◌, ◌↔◌, ◌⊎◌, ℕ, List, Some, IfOk, IfErr, IsSome, IsNone, MatchOption, map};
 ghost use Rattle.std.specs.Prelude.{option_map, string_bytes};
 ghost use Rattle.std.specs.Char.{to_ascii_lowercase};
@@ -135,6 +137,7 @@ fn votes_of(alloc: Global, values: &[Value]) -> Result<Vec<i8>, NoMemory>
     Ok(votes)
 }
 
+/// The label of a key, in lower case, with the values under it.
 fn label_of(alloc: Global, key: &str, value: &Value) -> Result<LabelValues, NoMemory>
     ensures { IfOk result
         (λ rule. rule
@@ -160,6 +163,7 @@ fn labels_of(alloc: Global, members: &Map<String, Value>) -> Result<Vec<LabelVal
     Ok(labels)
 }
 
+/// The pattern of an approval.
 fn pattern_of(alloc: Global, members: &Map<String, Value>) -> Result<Pattern, NoMemory>
     ensures { IfOk result (λ pattern. pattern ≡ pattern_of (members_view members.now.entries)) }
 {
@@ -171,6 +175,7 @@ fn pattern_of(alloc: Global, members: &Map<String, Value>) -> Result<Pattern, No
     Ok(Pattern::new(username, labels))
 }
 
+/// The patterns among values.
 fn patterns_of(alloc: Global, values: &[Value]) -> Result<Vec<Pattern>, NoMemory>
     ensures { IfOk result (λ patterns. patterns.items ≡ patterns_of (map view values.now)) }
 {
@@ -207,6 +212,7 @@ fn approvals_of(alloc: Global, members: &Map<String, Value>) -> Result<Vec<Patte
     }
 }
 
+/// The conditions that a side lists.
 fn conditions_of(alloc: Global, members: &Map<String, Value>) -> Result<Clauses, NoMemory>
     ensures { IfOk result (λ clauses. clauses ≡ conditions_of (members_view members.now.entries)) }
 {

@@ -1,3 +1,5 @@
+//! The conditions of a gate, as an item breaks them.
+
 /// Which of the two sets of conditions a condition belongs to.
 #[derive(Clone, Copy, Debug, PartialEq, Eq)]
 pub enum Side {

@@ -1,3 +1,5 @@
+//! Why a gate file isn't read.
+
 ghost use Rattle.std.specs.Prelude.{◌≡◌, ◌++◌, OnOk, string_bytes};
 ghost use Rattle.gate_rules.specs.Fault.{number_of, name_of, words_of};
 ghost use Rattle.gate_rules.specs.declared.fault.GateFault.TheVariants.{NoMemory as OutOfMemory};

@@ -1,3 +1,5 @@
+//! A gate: what it requires of items, and what it rejects.
+
 ghost use Rattle.std.specs.Prelude.{◌≡◌, ◌≢◌, ℕ, List, Some, IfOk, IfErr, MatchOption, MatchResult, map, option_map};
 ghost use Rattle.std.specs.Prelude.{string_bytes};
 ghost use Rattle.gate_rules.specs.Rules.{LabelRule, PatternRule, SideRules, GateRules};
@@ -97,12 +99,14 @@ impl LabelValues {
         self.label.as_str() == approval.label && has_value(self.values.as_slice(), approval)
     }
 
+    /// A label, which is in lower case, and its values.
     pub(crate) fn new(label: String, values: Vec<i8>) -> LabelValues
         ensures { result ≡ record { label = string_bytes label; values = values.items } }
     {
         LabelValues { label, values }
     }
 
+    /// An equal label, with the same values.
     fn copy(&self) -> Result<LabelValues, NoMemory>
         ensures { IfOk result (λ copy. copy ≡ self.now) }
     {
@@ -120,6 +124,7 @@ impl Pattern {
         self.names(approval.voter) && labels_take(self.labels.as_slice(), approval)
     }
 
+    /// Whether the pattern takes this voter.
     fn names(&self, voter: &str) -> bool
         ensures { result ≡ names self.now.username voter.now }
     {
@@ -129,6 +134,7 @@ impl Pattern {
         }
     }
 
+    /// A pattern of a voter, where one is named, and of labels.
     pub(crate) fn new(username: Option<String>, labels: Vec<LabelValues>) -> Pattern
         ensures { result
             ≡ record { username = option_map string_bytes username; labels = labels.items } }
@@ -136,6 +142,7 @@ impl Pattern {
         Pattern { username, labels }
     }
 
+    /// An equal pattern.
     fn copy(&self) -> Result<Pattern, NoMemory>
         ensures { IfOk result (λ copy. copy ≡ self.now) }
     {
@@ -148,6 +155,7 @@ impl Pattern {
     }
 }
 
+/// Equal texts.
 fn copied_texts(texts: &Option<Vec<String>>) -> Result<Option<Vec<String>>, NoMemory>
     ensures { IfOk result
         (λ copy. option_map (λ list. map string_bytes list.items) copy
@@ -159,6 +167,7 @@ fn copied_texts(texts: &Option<Vec<String>>) -> Result<Option<Vec<String>>, NoMe
     }
 }
 
+/// Whether labels take an approval: none takes each, and two take none.
 fn labels_take(labels: &[LabelValues], approval: &Approval<'_>) -> bool
     ensures { result ≡ labels_take labels.now (approval_shown approval.now) }
 {
@@ -169,6 +178,7 @@ fn labels_take(labels: &[LabelValues], approval: &Approval<'_>) -> bool
 }
 
 impl Clauses {
+    /// The conditions of a side.
     pub(crate) fn new(
         is_open: Option<bool>,
         is_current: Option<bool>,
@@ -191,6 +201,7 @@ impl Clauses {
         }
     }
 
+    /// Equal conditions.
     fn copy(&self) -> Result<Clauses, NoMemory>
         ensures { IfOk result (λ copy. copy ≡ self.now) }
     {
@@ -277,6 +288,7 @@ impl Gate {
         self.first_broken(&Standing::new(change, current, item.set))
     }
 
+    /// The first condition that is broken: those that are required come before those that reject.
     fn first_broken(&self, standing: &Standing<'_>) -> Option<Condition>
         ensures { MatchOption result
             ((condition : _) → ¬ IsBroken self.now standing.now condition)
@@ -295,6 +307,7 @@ impl Gate {
         })
     }
 
+    /// A gate of these settings.
     pub(crate) fn new(
         bases: Bases,
         connection: String,

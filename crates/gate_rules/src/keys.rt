@@ -1,3 +1,5 @@
+//! What the keys of a gate file mean.
+
 ghost use Rattle.std.specs.Prelude.{◌≡◌};
 ghost use Rattle.gate_rules.specs.Reading.{each};
 ghost use Rattle.review_ops.specs.Good.{is_label_byte};
@@ -33,6 +35,7 @@ pub enum GateKey {
 }
 
 impl ApprovalKey {
+    /// What the key of an approval means.
     pub fn of(key: &str) -> ApprovalKey
         ensures { result ≡ approval_key key.now }
     {
@@ -50,6 +53,7 @@ impl ApprovalKey {
 }
 
 impl ConditionKey {
+    /// What the key of a condition means.
     pub fn of(key: &str) -> ConditionKey
         ensures { result ≡ condition_key key.now }
     {
@@ -70,6 +74,7 @@ impl ConditionKey {
 }
 
 impl GateKey {
+    /// What the key of a gate means.
     pub fn of(key: &str) -> GateKey
         ensures { result ≡ gate_key key.now }
     {
@@ -96,6 +101,7 @@ fn is_label_key(key: &str) -> bool
     1 <= key.len() && key.len() <= 64 && has_label_bytes(key.as_bytes())
 }
 
+/// Whether each byte may be in a label.
 fn has_label_bytes(bytes: &[u8]) -> bool
     ensures { result ≡ each is_label_byte bytes.now }
 {
@@ -107,6 +113,7 @@ fn has_label_bytes(bytes: &[u8]) -> bool
     true
 }
 
+/// Whether a byte may be in a label.
 fn is_label_byte(byte: u8) -> bool
     ensures { result ≡ is_label_byte byte }
 {

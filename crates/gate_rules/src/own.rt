@@ -38,18 +38,21 @@ impl<'a> Standing<'a> {
         }
     }
 
+    /// Whether the change is open, or isn't, as is asked.
     pub fn open_is(&self, asked: bool) -> bool
         ensures { result ≡ same_flag self.now.is_open asked }
     {
         self.change.is_open() == asked
     }
 
+    /// Whether the patch set is the current one, or isn't, as is asked.
     pub fn current_is(&self, asked: bool) -> bool
         ensures { result ≡ same_flag self.now.is_current asked }
     {
         (self.set == self.current) == asked
     }
 
+    /// Whether the status of the change is among these.
     pub fn status_among(&self, texts: &[String]) -> bool
         ensures { result ≡ some (bytes_eq self.now.status) (map string_bytes texts.now) }
     {

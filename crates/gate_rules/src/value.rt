@@ -1,3 +1,5 @@
+//! What values of a gate file are.
+
 ghost use Rattle.std.specs.Prelude.{◌≡◌, map, option_map};
 ghost use Rattle.serde_json.specs.Find.{get_member};
 ghost use Rattle.serde_json.specs.View.{view, members_view};
@@ -60,6 +62,7 @@ pub fn found<'a>(members: &'a Map<String, Value>, key: &str) -> Option<&'a Value
     members.get(key)
 }
 
+/// The text under a key, where one is.
 pub fn text_at<'a>(members: &'a Map<String, Value>, key: &str) -> Option<&'a str>
     ensures { option_map (λ text. text.now) result
         ≡ text_under key.now (members_view members.now.entries) }
@@ -67,12 +70,14 @@ pub fn text_at<'a>(members: &'a Map<String, Value>, key: &str) -> Option<&'a str
     found(members, key)?.as_str()
 }
 
+/// The flag under a key, where one is.
 pub fn flag_at(members: &Map<String, Value>, key: &str) -> Option<bool>
     ensures { result ≡ flag_under key.now (members_view members.now.entries) }
 {
     found(members, key)?.as_bool()
 }
 
+/// The object under a key, where one is.
 pub fn object_at<'a>(members: &'a Map<String, Value>, key: &str) -> Option<&'a Map<String, Value>>
     ensures { option_map (λ object. members_view object.now.entries) result
         ≡ object_under key.now (members_view members.now.entries) }

@@ -1,3 +1,5 @@
+//! The first fault of a gate file, in the order of its text.
+
 ghost use Rattle.std.specs.Prelude.{◌≡◌, ℕ, List, Option, map, option_map};
 ghost use Rattle.serde_json.specs.Data.{Data};
 ghost use Rattle.serde_json.specs.View.{view, members_view};

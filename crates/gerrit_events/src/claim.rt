@@ -70,6 +70,7 @@ impl Claim {
     }
 }
 
+/// What is found where a draft is claimed: its body, or that it is bad.
 fn settled_draft(draft: Draft) -> Finding
     ensures { IsSettled (drafts (deed_of draft)) result }
 {

@@ -122,6 +122,7 @@ impl<'k, 'v, 'a> Event<'k, 'v, 'a> {
 }
 
 impl<'k, 'v, 'a> Event<'k, 'v, 'a> {
+    /// Adds what the event claims.
     fn add_claims(&self, claims: &mut Vec<Claim>) -> Result<(), NoMemory>
         ensures { OnOk result (claims.new.items ≡ claims.old.items
             ++ claims_by self.now.known.now self.now.line.kind (data_in self.now.line.value.now)) }
@@ -341,6 +342,7 @@ fn vote_of(
     }
 }
 
+/// The claim that a vote was withdrawn.
 fn withdrawn(change: u32, set: u32, label: String, voter: String) -> Claim
     ensures { result ≡ drafts (withdraw change set (string_bytes label) (string_bytes voter)) }
 {

@@ -38,6 +38,7 @@ fn number_of(text: &str) -> Option<Number>
     }
 }
 
+/// Whether a minus comes first.
 fn has_minus(bytes: &[u8]) -> bool
     ensures value { result ≡ (slice_index bytes.now 0 == 45) }
     ensures len { IsTrue result → 0 < length bytes.now }
@@ -45,6 +46,7 @@ fn has_minus(bytes: &[u8]) -> bool
     !bytes.is_empty() && bytes[0] == b'-'
 }
 
+/// The number of a numeral without a minus: a whole one, or else the nearest float.
 fn unsigned(numeral: &Numeral<'_>) -> Option<Number>
     ensures { option_map number_view result ≡ number_from false numeral.now }
 {
@@ -54,6 +56,7 @@ fn unsigned(numeral: &Numeral<'_>) -> Option<Number>
     }
 }
 
+/// The number of a numeral with a minus: a whole one below 0, or else the nearest float.
 fn negative(numeral: &Numeral<'_>) -> Option<Number>
     ensures { option_map number_view result ≡ number_from true numeral.now }
 {

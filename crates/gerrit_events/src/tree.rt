@@ -53,6 +53,7 @@ fn has_values(value: &Value<'_>) -> bool
     }
 }
 
+/// Whether each item of a list has a value.
 #[cycle(values)]
 fn items_have_values(items: &Vec<Value<'_>>) -> bool
     ensures { result ≡ items_have_values (items_view items.now.items) }
@@ -65,6 +66,7 @@ fn items_have_values(items: &Vec<Value<'_>>) -> bool
     true
 }
 
+/// Whether each member of an object has a value.
 #[cycle(values)]
 fn members_have_values(members: &Vec<(&str, Value<'_>)>) -> bool
     ensures { result ≡ members_have_values (members_view members.now.items) }

@@ -36,12 +36,14 @@ pub fn listed<'v, 'a>(found: Option<&'v Value<'a>>) -> &'v [Value<'a>]
     alone_or_items(value)
 }
 
+/// No item.
 fn no_items<'v, 'a>() -> &'v [Value<'a>]
     ensures { result.now ≡ [] }
 {
     &[]
 }
 
+/// The items of a list, or the value alone where it is no list.
 fn alone_or_items<'v, 'a>(value: &'v Value<'a>) -> &'v [Value<'a>]
     ensures { map data_in result.now ≡ alone_or_items (data_in value.now) }
 {

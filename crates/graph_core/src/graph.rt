@@ -1,3 +1,5 @@
+//! The items of a state with what they wait for.
+
 ghost use Rattle.std.specs.Prelude.{◌≡◌, ◌<◌, ℕ, Bool, IfOk, Contains, length};
 ghost use Rattle.walk_core.specs.Digraphs.{ends_of};
 ghost use Rattle.graph_core.specs.ItemGraph.{AreItems, ArePart, IsGraphOf, StandsAt, namers_of};

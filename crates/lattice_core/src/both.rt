@@ -1,3 +1,5 @@
+//! Two states side by side.
+
 ghost use Rattle.lattice_core.specs.Join.{pair_joined, pairs_join};
 
 use super::join::Join;

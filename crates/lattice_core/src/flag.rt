@@ -1,3 +1,5 @@
+//! A mark that once raised stays raised.
+
 ghost use Rattle.std.specs.Prelude.{◌≡◌, ◌||◌, Bool};
 ghost use Rattle.lattice_core.specs.Flag.{raised_join};
 

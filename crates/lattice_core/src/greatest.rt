@@ -1,3 +1,5 @@
+//! A last-writer-wins register that may be empty.
+
 ghost use Rattle.std.specs.Prelude.{◌≡◌, Option, Some, None};
 ghost use Rattle.std.specs.Option.{option_copied, option_map};
 ghost use Rattle.std.specs.Ordering.{ord_max};

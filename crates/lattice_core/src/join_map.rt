@@ -1,3 +1,5 @@
+//! A map from keys to states, joined key by key.
+
 ghost use Rattle.std.specs.Prelude.{◌≡◌, ◌↔◌, ◌<◌, ◌^◌, IsTrue, OnOk, OnErr, Some, None, map, length, string_bytes};
 ghost use Rattle.std.specs.Option.{option_copied, option_copied_mut, option_map};
 ghost use Rattle.std.specs.Ordering.{nat_cmp};
@@ -123,7 +125,7 @@ impl<K: Keep, V: Join, A: Allocator + Copy> JoinMap<K, V, A> {
         self.put(key, value)
     }
 
-    // Whether joining the value at the key would change nothing.
+    /// Whether joining the value at the key would change nothing.
     fn covers_at(&self, key: &K, value: &V) -> bool
         ensures { let own = finite.get (map_of K.order K.shape V.shape self.now) (K.shape key.now) in
             IsTrue result ↔ Covers (option_joined V.joined) own (Some (V.shape value.now)) }

@@ -1,3 +1,5 @@
+//! Values that a lattice can keep as keys or in registers.
+
 ghost use Rattle.std.specs.Prelude.{◌≡◌, ℕ, ℤ, List, Bool, Option, IfOk, refl, string_bytes};
 ghost use Rattle.std.specs.Ordering.{nat_cmp, int_cmp, bool_cmp};
 ghost use Rattle.std.specs.Option.{option_cmp, option_map};

@@ -1,3 +1,5 @@
+//! Want of memory.
+
 ghost use Rattle.std.specs.Prelude.{◌≡◌, codes};
 
 use std::alloc::{AllocError, AllocFailed};

@@ -1,3 +1,5 @@
+//! A last-writer-wins register that is never empty.
+
 ghost use Rattle.std.specs.Prelude.{◌≡◌};
 ghost use Rattle.std.specs.Ordering.{ord_max, ordering_then};
 ghost use Rattle.lattice_core.specs.Keep.{pair_order, pairs_exact};
@@ -47,7 +49,7 @@ impl<K: Keep, V: Keep> Register<K, V> {
         &self.value
     }
 
-    // By key, then by value.
+    /// By key, then by value.
     fn compare(&self, other: &Register<K, V>) -> Ordering
         ensures { let by_key = K.order (K.shape self.now.0) (K.shape other.now.0) in
             let by_value = V.order (V.shape self.now.1) (V.shape other.now.1) in

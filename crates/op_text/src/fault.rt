@@ -1,3 +1,5 @@
+//! Why the text of an operation, a body or a front isn't read.
+
 ghost use Rattle.std.specs.Prelude.{◌≡◌, ◌++◌, OnOk, string_bytes};
 ghost use Rattle.op_text.specs.Fault.{number_of, name_of, words_of};
 ghost use Rattle.op_text.specs.declared.fault.OpTextFault.TheVariants.{NoMemory as OutOfMemory};

@@ -1,3 +1,5 @@
+//! The kinds of bodies, and the fields of their texts.
+
 ghost use Rattle.std.specs.Prelude.{◌≡◌, ◌≢◌, MatchOption, option_map};
 ghost use Rattle.serde_json.specs.View.{view};
 ghost use Rattle.review_ops.specs.Draft.{deed_of};

@@ -1,3 +1,5 @@
+//! Reads and writes the text of a front.
+
 ghost use Rattle.std.specs.Prelude.{◌≡◌, List, IfOk, IfErr, IfSome, IfNone, MatchResult, string_bytes};
 ghost use Rattle.serde_json.specs.View.{view, items_view};
 ghost use Rattle.replica_core.specs.Front.{Reaches};
@@ -78,6 +80,7 @@ fn read_entries(alloc: Global, bytes: &[u8]) -> Result<Vec<(u16, u32, u64)>, OpT
     spelled_front(alloc, bytes)
 }
 
+/// The entries that the text of a front spells.
 fn spelled_front(alloc: Global, bytes: &[u8]) -> Result<Vec<(u16, u32, u64)>, OpTextFault>
     ensures spelled { IfOk result (λ entries. SpellsEntries bytes.now entries.items) }
     ensures refused { IfErr result (IsFrontRefusal bytes.now) }

@@ -1,3 +1,5 @@
+//! What holds of texts, over the definitions alone.
+
 ghost use Rattle.std.specs.Prelude.{◌≡◌, ℕ, List};
 ghost use Rattle.op_text.specs.Text.{IsOneLine, body_text, operation_text};
 ghost use Rattle.review_ops.specs.Good.{IsGood};

@@ -1,3 +1,5 @@
+//! Guesses the operation of a text that is as `write_op` writes it.
+
 use review_ops::{Body, Draft, Op, Stamp};
 use std::alloc::Global;
 
@@ -33,6 +35,7 @@ fn guessed_patch_set(alloc: Global, change: u32, text: &[u8], at: usize) -> Opti
     Some(Op::new(stamp, Body::checked(draft).ok()?))
 }
 
+/// The parent of a patch set, if one comes next, and the place after it.
 fn guessed_parent(text: &[u8], at: usize) -> Option<(Option<u32>, usize)> {
     let Some(at) = after(text, at, b",\"parent\":") else {
         return Some((None, at));
@@ -96,6 +99,7 @@ fn guessed_step(change: u32, text: &[u8], at: usize) -> Option<Op> {
     guessed_end(Draft::Restore { change }, text, at)
 }
 
+/// The operation of a draft, whose stamp comes next.
 fn guessed_end(draft: Draft, text: &[u8], at: usize) -> Option<Op> {
     let (seq, at) = number(text, at)?;
     let (stamp, _at) = guessed_stamp(seq, text, at)?;
@@ -135,6 +139,7 @@ fn number(text: &[u8], at: usize) -> Option<(u64, usize)> {
     None
 }
 
+/// The number of 32 bits that comes next, and the place after it.
 fn number32(text: &[u8], at: usize) -> Option<(u32, usize)> {
     let (number, at) = number(text, at)?;
     Some((u32::try_from(number).ok()?, at))

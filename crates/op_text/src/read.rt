@@ -1,3 +1,5 @@
+//! Reads the texts of bodies and operations.
+
 ghost use Rattle.std.specs.Prelude.{◌≡◌, ◌≢◌, ◌<◌, ◌^◌, ℕ, List, Some, IfOk, IfErr, IfSome, IsSome, IsSomeAnd};
 ghost use Rattle.std.specs.Prelude.{MatchResult, FitsSigned, option_map, string_bytes};
 ghost use Rattle.std.specs.Int.{w8};
@@ -49,6 +51,7 @@ pub fn read_op(alloc: Global, bytes: &[u8]) -> Result<Op, OpTextFault>
     spelled_operation(alloc, bytes)
 }
 
+/// The draft that the text of a body spells.
 fn spelled_body(alloc: Global, bytes: &[u8]) -> Result<Draft, OpTextFault>
     ensures spelled { IfOk result (λ draft. SpellsBody bytes.now (deed_of draft)) }
     ensures refused { IfErr result (IsRefusalOf Form.Body bytes.now) }
@@ -58,6 +61,7 @@ fn spelled_body(alloc: Global, bytes: &[u8]) -> Result<Draft, OpTextFault>
     Ok(draft_of(members, kind))
 }
 
+/// The operation that a text spells.
 fn spelled_operation(alloc: Global, bytes: &[u8]) -> Result<Op, OpTextFault>
     ensures spelled { IfOk result (SpellsOperation bytes.now) }
     ensures refused { IfErr result (IsRefusalOf Form.Operation bytes.now) }
@@ -122,6 +126,7 @@ pub fn draft_of(members: Map<String, Value>, kind: Kind) -> Draft
     }
 }
 
+/// The draft of a patch set.
 fn patch_set_of(mut members: Map<String, Value>) -> Draft
     requires named { NamesKind (members_view members.entries) Kind.PatchSet }
     requires shape { (form : _) × HasShape form Kind.PatchSet (members_view members.entries) }
@@ -140,6 +145,7 @@ fn patch_set_of(mut members: Map<String, Value>) -> Draft
     }
 }
 
+/// The draft of a vote.
 fn vote_of(mut members: Map<String, Value>) -> Draft
     requires named { NamesKind (members_view members.entries) Kind.Vote }
     requires shape { (form : _) × HasShape form Kind.Vote (members_view members.entries) }
@@ -160,6 +166,7 @@ fn vote_of(mut members: Map<String, Value>) -> Draft
     }
 }
 
+/// The draft of a withdrawal.
 fn withdraw_of(mut members: Map<String, Value>) -> Draft
     requires named { NamesKind (members_view members.entries) Kind.Withdraw }
     requires shape { (form : _) × HasShape form Kind.Withdraw (members_view members.entries) }

@@ -1,3 +1,5 @@
+//! Writes the texts of bodies and operations.
+
 ghost use Rattle.std.specs.Prelude.{◌≡◌, ◌++◌, ◌∷◌, [], Some, None, IfOk, OnOk, option_map, string_bytes, IsUtf8};
 ghost use Rattle.std.specs.Option.{option_copied};
 ghost use Rattle.json.specs.Lex.{tokens};
@@ -86,6 +88,7 @@ fn write_field(
     }
 }
 
+/// Writes a number under a field's key, if there is one.
 fn write_number(
     out: &mut Writer<Global>,
     field: Field,
@@ -102,6 +105,7 @@ fn write_number(
     out.u64(value)
 }
 
+/// Writes an integer under a field's key, if there is one.
 fn write_integer(
     out: &mut Writer<Global>,
     field: Field,
@@ -118,6 +122,7 @@ fn write_integer(
     out.i64(value)
 }
 
+/// Writes a text under a field's key, if there is one.
 fn write_text(out: &mut Writer<Global>, field: Field, value: Option<&str>) -> Result<(), AllocError>
     ensures tokens { OnOk result (out.new.tokens
         ≡ out.old.tokens ++ member_tokens (key_of field) (option_map string (option_copied value.entry))) }

@@ -1,3 +1,5 @@
+//! Why items aren't eligible.
+
 ghost use Rattle.std.specs.Prelude.{◌≡◌, ◌↔◌, ◌<◌, ℕ, IsTrue, IfOk, MatchBool, MatchOption, Contains, length};
 ghost use Rattle.std.specs.List.Sorted.{IsStrictlyIncreasing};
 ghost use Rattle.state_core.specs.State.{State as Changes};

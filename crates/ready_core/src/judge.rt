@@ -1,3 +1,5 @@
+//! Which items are ready, and why each other one isn't.
+
 ghost use Rattle.std.specs.Prelude.{◌≡◌, ◌<◌, ◌↔◌, ℕ, IsTrue, IfOk, MatchOption, All, Contains, length, map};
 ghost use Rattle.state_core.specs.State.{State as Changes};
 ghost use Rattle.walk_core.specs.Digraphs.{ends_of};

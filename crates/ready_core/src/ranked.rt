@@ -40,6 +40,7 @@ impl Model for Ranked {
 }
 
 impl Ranked {
+    /// Verdicts of ready items with their ranks, and of those that are left out.
     pub(crate) fn new(ranks: Vec<ItemRank>, out: Vec<Left>) -> Ranked
         ensures { result ≡ record { ranks = map to_rank ranks.items; out = out.items } }
     {

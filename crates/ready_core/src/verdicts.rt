@@ -1,3 +1,5 @@
+//! The verdicts on the items of a state.
+
 ghost use Rattle.std.specs.Prelude.{◌≡◌, map};
 ghost use Rattle.ready_core.specs.ItemRanks.{to_rank};
 

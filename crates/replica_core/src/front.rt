@@ -1,3 +1,5 @@
+//! How far a record goes without a gap.
+
 ghost use Rattle.std.specs.Prelude.{◌≡◌, OnOk, OnErr};
 ghost use Rattle.std.specs.FinMap.{empty};
 ghost use Rattle.std.specs.Ordering.{nat_cmp, ord_max};

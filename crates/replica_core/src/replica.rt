@@ -1,3 +1,5 @@
+//! The replica of a site: its journal, and the state of that.
+
 ghost use Rattle.std.specs.Prelude.{◌≡◌, ◌↔◌, ◌<◌, Some, IsTrue, IfOk, slice_get, MatchResult, List, take, OnOk, OnErr};
 ghost use Rattle.std.specs.Prelude.{[], length, ℕ, slice_index_or, if◌then◌else◌};
 ghost use Rattle.std.specs.List.{Contains};

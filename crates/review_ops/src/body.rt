@@ -1,3 +1,5 @@
+//! A draft that was checked.
+
 ghost use Rattle.std.specs.Prelude.{map, string_bytes, ◌≡◌, ◌↔◌, IsTrue, IfOk, IfErr, OnOk, IfSome, IfNone, refl};
 ghost use Rattle.std.specs.Char.{to_ascii_lowercase};
 ghost use Rattle.std.specs.Ordering.{is_eq, eq_by_cmp, as_partial_cmp};

@@ -1,3 +1,5 @@
+//! What is done to a change, before it is checked.
+
 ghost use Rattle.std.specs.Prelude.{◌≡◌, IfOk};
 ghost use Rattle.std.specs.Option.{option_copied};
 ghost use Rattle.review_ops.specs.Deed.{change_of, set_of, message_of, parent_of, label_of, voter_of, value_of};

@@ -1,3 +1,5 @@
+//! Why a draft isn't accepted as a body.
+
 ghost use Rattle.std.specs.Prelude.{◌≡◌};
 ghost use Rattle.review_ops.specs.Fault.{number_of, name_of};
 

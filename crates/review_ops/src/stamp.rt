@@ -1,3 +1,5 @@
+//! When and where an operation was made.
+
 ghost use Rattle.std.specs.Prelude.{◌≡◌, ◌≤◌, ◌↔◌, IsNone, IfSome, IfOk, Some, refl};
 ghost use Rattle.lattice_core.specs.Keep.{IsExactOrder};
 ghost use Rattle.review_ops.specs.Timestamp.{Timestamp, timestamp_cmp, timestamp_text, timestamps_exact, IsNumbered};

@@ -1,3 +1,5 @@
+//! Which texts are labels, and which can name a voter.
+
 ghost use Rattle.std.specs.Prelude.{◌≡◌, ◌↔◌, IsTrue};
 ghost use Rattle.review_ops.specs.Good.{IsLabel, IsVoter, is_label_byte};
 

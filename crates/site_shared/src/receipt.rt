@@ -25,6 +25,7 @@ impl Model for Receipt {
 }
 
 impl Receipt {
+    /// A receipt for what the sight has seen, of the site under the start, with the stamp of what was taken in.
     pub(crate) fn new(sight: Sight, site: u16, start: u32, stamp: Option<Stamp>) -> Receipt
         ensures { result
             ≡ record { book = sight.seen.book; published = sight.seen.log; site = site; start = start; stamp = stamp } }

@@ -11,12 +11,16 @@ use logbook::Seen;
 /// What a window or the desk knows. No value of it is made.
 pub type Knowledge = Option<Seen<Member, u64, Law>>;
 
+/// Where a window looks through, between two looks.
 pub type Glass = Reader<Shown, Knowledge, Shows>;
 
+/// A look of a window.
 pub type Look = Reading<Shown, Knowledge, Shows>;
 
+/// Where the desk writes what is shown.
 pub type Show = Writer<Shown, Shown, Knowledge, Shows>;
 
+/// What windows and the desk owe each other.
 pub struct Shows;
 
 impl Protocol<Shown, Knowledge> for Shows {

@@ -27,6 +27,7 @@ pub struct Opened {
 }
 
 impl Opened {
+    /// A list of publishes that has none yet, and the word that counts them.
     pub fn new() -> Opened {
         let (seen, mut first, _second) = Seen::open(Start::alone(), 0, 0);
         Opened {

@@ -1,3 +1,5 @@
+//! Reads the end line of a snapshot.
+
 ghost use Rattle.std.specs.Prelude.{◌≡◌, ◌≤◌, MatchOption, length};
 ghost use Rattle.std.specs.Str.Parse.{AllDigits, digits_value};
 ghost use Rattle.snapshot_text.specs.Snapshot.{IsEndLine, IsNoEndLine};

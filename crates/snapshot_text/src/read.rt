@@ -1,3 +1,5 @@
+//! Reads snapshots.
+
 ghost use Rattle.std.specs.Prelude.{◌≡◌, ◌↔◌, ◌≤◌, length, OnOk, List, [], Some, IsTrue, IfOk, IfErr, IfSome};
 ghost use Rattle.std.specs.Prelude.{MatchResult, ℕ};
 ghost use Rattle.byte_ends.specs.Lines.{lines_of};

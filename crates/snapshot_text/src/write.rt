@@ -1,3 +1,5 @@
+//! Writes snapshots.
+
 ghost use Rattle.std.specs.Prelude.{◌≡◌, ◌<◌, ℕ, List, map, take, length, IfOk, OnOk, IsErrOf, MatchResult};
 ghost use Rattle.std.specs.Io.KnownBytes.{Appends};
 ghost use Rattle.byte_ends.specs.Lines.{lines_of};

@@ -82,6 +82,7 @@ impl<A: Allocator + Copy> State<A> {
         self.has_merged(number)
     }
 
+    /// Whether the change is known, and merged.
     fn has_merged(&self, number: u32) -> bool
         ensures { result ≡ merged_in (get self.now number) }
     {

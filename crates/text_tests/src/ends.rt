@@ -1,3 +1,5 @@
+//! Sources and drains, those that fail among them, worked out by hand.
+
 use byte_ends::{
     Broken, BytesFault, Drain, Ends, Failed, Lines, Source, broken_fails_once,
     none_failed_means_ok, read_all, write_all,

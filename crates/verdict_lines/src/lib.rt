@@ -27,6 +27,7 @@ pub fn lines_of(alloc: Global, verdicts: &Verdicts) -> Result<String, AllocError
     Ok(text)
 }
 
+/// Writes the line of an item that is left out.
 fn write_left(text: &mut String, left: Left) -> Result<(), AllocError> {
     let Item { change, set } = left.item;
     write!(text, "out {change},{set} ")?;
@@ -35,6 +36,7 @@ fn write_left(text: &mut String, left: Left) -> Result<(), AllocError> {
     write!(text, " {rank}\n")
 }
 
+/// Writes why an item is left out.
 fn write_refusal(text: &mut String, refusal: Refusal) -> Result<(), AllocError> {
     match refusal {
         Refusal::Own(condition) => write_condition(text, condition),
@@ -44,6 +46,7 @@ fn write_refusal(text: &mut String, refusal: Refusal) -> Result<(), AllocError> 
     }
 }
 
+/// Writes a condition.
 fn write_condition(text: &mut String, condition: Condition) -> Result<(), AllocError> {
     text.push_str(match condition.side {
         Side::Require => "require ",

@@ -1,3 +1,5 @@
+//! A directed graph over numbered nodes, and what is found in it.
+
 ghost use Rattle.std.specs.Prelude.{◌≡◌, ◌↔◌, ◌<◌, ℕ, List, [], All, Contains, IfOk, OnOk, length, map, replicate};
 ghost use Rattle.std.specs.Ordering.{nat_cmp};
 ghost use Rattle.walk_core.specs.Components.{AreFirsts};

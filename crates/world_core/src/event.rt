@@ -1,3 +1,5 @@
+//! What may happen in a world, what it answers, and why it changes nothing.
+
 ghost use Rattle.std.specs.Prelude.{◌≡◌};
 ghost use Rattle.world_core.specs.Fault.{number_of, name_of};
 

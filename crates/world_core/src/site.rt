@@ -1,3 +1,5 @@
+//! A site of a world.
+
 ghost use Rattle.std.specs.Prelude.{◌≡◌, ◌<◌, ◌≤◌, MatchResult, IfOk, OnOk, OnErr, length, take};
 ghost use Rattle.review_ops.specs.Draft.{deed_of};
 ghost use Rattle.replica_core.specs.Journal.{arrived, all_arrived};
