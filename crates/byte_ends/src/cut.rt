@@ -31,7 +31,7 @@ impl<'a> Lines<'a> {
         Lines { rest: text }
     }
 
-    /// The next line, in time that grows with its length.
+    /// The next line. It costs O(n) for its n bytes.
     pub fn next_line(&mut self) -> Option<&'a [u8]>
         ensures { MatchOption result ((self.old ≡ []) × (self.new ≡ [])) (λ line. self.old ≡ line.now ∷ self.new) }
     {

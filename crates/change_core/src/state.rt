@@ -128,7 +128,7 @@ impl<A: Allocator + Copy> ChangeState<A> {
         Some((*register.key(), *register.value()))
     }
 
-    /// Whether the patch set is known. In logarithmic time.
+    /// Whether the patch set is known. It costs O(log n) for n patch sets.
     pub fn has_set(&self, set: u32) -> bool
         ensures { IsTrue result ↔ IsKnownSet self.now set }
     {
@@ -143,7 +143,7 @@ impl<A: Allocator + Copy> ChangeState<A> {
         Some(*set)
     }
 
-    /// The message of a patch set, where it is known. In logarithmic time.
+    /// The message of a patch set, where it is known. It costs O(log n) for n patch sets.
     pub fn message(&self, set: u32) -> Option<&str>
         ensures { option_map (λ text. text.now) result ≡ message_of self.now set }
     {
@@ -151,7 +151,8 @@ impl<A: Allocator + Copy> ChangeState<A> {
         Some(register.value().message.as_str())
     }
 
-    /// The change of a patch set's Git parent, where the patch set is known and names one. In logarithmic time.
+    /// The change of a patch set's Git parent, where the patch set is known and names one. It costs O(log n) for n
+    /// patch sets.
     pub fn parent(&self, set: u32) -> Option<u32>
         ensures { result ≡ parent_of self.now set }
     {
@@ -172,24 +173,24 @@ impl<A: Allocator + Copy> ChangeState<A> {
         &self.votes
     }
 
-    /// The votes on a patch set, by label, then voter; a withdrawn vote is one of 0. It costs time logarithmic in all
-    /// votes of the change, and to walk them time linear in those on the patch set.
+    /// The votes on a patch set, by label, then voter; a withdrawn vote is one of 0. It costs O(log n) for n votes of
+    /// the change, and O(m) to walk the m on the patch set.
     pub fn votes(&self, set: u32) -> Votes<'_, A>
         ensures { result ≡ votes_of self.now set }
     {
         Votes::on(set, &self.votes)
     }
 
-    /// The votes on a patch set that aren't 0, by label, then voter. It costs time logarithmic in all votes of the
-    /// change, and to walk them time linear in those on the patch set.
+    /// The votes on a patch set that aren't 0, by label, then voter. It costs O(log n) for n votes of the change, and
+    /// O(m) to walk the m on the patch set.
     pub fn approvals(&self, set: u32) -> Approvals<'_, A>
         ensures { result ≡ approvals_of self.now set }
     {
         Approvals::among(self.votes(set))
     }
 
-    /// The patch sets with a vote or a withdrawn vote, known or not, in order, each once. To walk them takes time
-    /// linear in all votes of the change.
+    /// The patch sets with a vote or a withdrawn vote, known or not, in order, each once. To walk them costs O(n) for n
+    /// votes of the change.
     pub fn voted(&self) -> VotedSets<'_, A>
         ensures { AreVotedSets self.now result }
     {

@@ -14,9 +14,9 @@ use lattice_core::NoMemory;
 use std::alloc::{Allocator, Global};
 use std::marker::Model;
 
-/// A list in an order that its owner keeps, in chunks of at most 512 items. Contracts see the list. A search takes
-/// logarithmic time; an item that comes last is a push, and one that comes or goes elsewhere moves those of its chunk,
-/// and once in some hundred times the chunks.
+/// A list in an order that its owner keeps, in chunks of at most 512 items. Contracts see the list. A search costs
+/// O(log n) for n items; an item that comes last is a push, and one that comes or goes elsewhere moves those of its
+/// chunk, and once in some hundred times the chunks.
 #[derive(Drop)]
 pub struct ChunkList<T, A: Allocator + Copy = Global> {
     chunks: Vec<Vec<T, A>, A>,
@@ -45,14 +45,14 @@ impl<T: Drop, A: Allocator + Copy> ChunkList<T, A> {
         }
     }
 
-    /// The last item. In constant time.
+    /// The last item. It costs O(1).
     pub fn last(&self) -> Option<&T>
         ensures { option_copied result ≡ slice_get self.now (length self.now - 1) }
     {
         self.chunks.as_slice().last()?.as_slice().last()
     }
 
-    /// The first item that doesn't pass. In logarithmic time.
+    /// The first item that doesn't pass. It costs O(log n) for n items.
     pub fn first_failing<P: Probe<T>>(&self, probe: &P) -> Option<&T>
         requires { IsPartitionedBy (P.passes probe.now) self.now }
         ensures { option_copied result ≡ slice_get self.now (rank (P.passes probe.now) self.now) }
@@ -61,8 +61,8 @@ impl<T: Drop, A: Allocator + Copy> ChunkList<T, A> {
         item_at(chunks, first_failing(chunks, probe))
     }
 
-    /// The items from the first on that doesn't pass. It is found in logarithmic time, and each further one in constant
-    /// time.
+    /// The items from the first on that doesn't pass. It costs O(log n) for n items to find it, and O(1) for each
+    /// further one.
     pub fn failing<P: Probe<T>>(&self, probe: &P) -> Iter<'_, T, A>
         requires { IsPartitionedBy (P.passes probe.now) self.now }
         ensures { result ≡ drop (rank (P.passes probe.now) self.now) self.now }
@@ -71,7 +71,7 @@ impl<T: Drop, A: Allocator + Copy> ChunkList<T, A> {
         Iter::from(chunks, first_failing(chunks, probe))
     }
 
-    /// The items in their order, each in constant time.
+    /// The items in their order. Each costs O(1).
     pub fn iter(&self) -> Iter<'_, T, A>
         ensures { result ≡ self.now }
     {

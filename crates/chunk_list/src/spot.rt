@@ -17,8 +17,8 @@ pub(super) struct Spot {
     pub(super) index: usize,
 }
 
-/// Where the first item is that doesn't pass: past all chunks where every item passes. In constant time there, else by
-/// two binary searches, over the chunks' last items and over one chunk.
+/// Where the first item is that doesn't pass: past all chunks where every item passes. It costs O(1) there, else O(log
+/// n) for n items, by two binary searches: over the chunks' last items and over one chunk.
 pub(super) fn first_failing<T, A: Allocator, P: Probe<T>>(chunks: &[Vec<T, A>], probe: &P) -> Spot
     requires filled { All (λ chunk. 0 < length chunk.items) chunks.now }
     requires parted { IsPartitionedBy (P.passes probe.now) (flat_map (λ chunk. chunk.items) chunks.now) }

@@ -24,8 +24,7 @@ const LINE_LIMIT: usize = 1048576;
 /// and what comes last without an LF is reported, too. Ends well at the end of the source. Refusals: 2 `Dropped`,
 /// Gerrit dropped events, which was reported; 3 `ReadFault`, the source failed, or gave 2^64 - 1 lines or blocks of one
 /// line; 4 `WriteFault`, one of the outputs failed; 5 `NoMemory`, memory was refused for a line, of which nothing was
-/// written. It costs O(n) for n bytes that are read and written, and for each parent that a line names the logarithm of
-/// the revisions that are known.
+/// written. It costs O(n) for n bytes that are read and written, and a look-up for each parent that a line names.
 pub fn events_run<S: Source, D: Drain, E: Drain>(
     alloc: Global,
     source: &mut S,

@@ -14,7 +14,7 @@ use std::alloc::Allocator;
 /// Whether a record says already what a body says: the patch set has the same message and parent, the vote of the same
 /// voter on the same label has the same value, or the change has the same status. A withdrawn vote and one of 0 are
 /// none. Of a change that no operation is on, the status is NEW. Refused is only memory, for the key of a vote. It
-/// costs O(log n) for n changes, patch sets and votes, and the length of the body's texts.
+/// costs O(log n + m) for n changes, patch sets and votes, and m bytes of the body's texts.
 pub fn is_recorded<A: Allocator + Copy>(state: &State<A>, body: &Body<A>) -> Result<bool, NoMemory>
     ensures { IfOk result (λ said. IsTrue said ↔ IsRecorded state.now body.now) }
 {

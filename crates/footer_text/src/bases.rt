@@ -70,8 +70,8 @@ impl<A: Allocator> Model for Bases<A> {
 }
 
 impl<A: Allocator + Copy> Bases<A> {
-    /// Copies the texts, in time linear in their bytes. Where they are no bases, the answer is
-    /// BadBase (1) with the place of the first bad one, and no memory was asked for. NoMemory is 2.
+    /// Copies the texts. It costs O(n) for n bytes. Where they are no bases, the answer is BadBase (1) with the place
+    /// of the first bad one, and no memory was asked for. NoMemory is 2.
     pub fn new(alloc: A, texts: &[&str]) -> Result<Bases<A>, BasesFault>
         ensures { IsBasesAnswer (map (λ text. text.now) texts.now) result }
     {
@@ -126,7 +126,7 @@ impl<A: Allocator + Copy> Bases<A> {
         None
     }
 
-    /// Equal bases, in time linear in their bytes.
+    /// Equal bases. It costs O(n) for n bytes.
     pub fn copy(&self) -> Result<Bases<A>, NoMemory>
         ensures { IfOk result (λ copy. copy ≡ self.now) }
     {

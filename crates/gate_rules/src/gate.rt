@@ -278,7 +278,7 @@ impl Clauses {
 impl Gate {
     /// An item's own condition: the first condition that it breaks. What is required must hold, and what is rejected
     /// must not. The order is `open`, `current-patchset`, `status` and each approval of what is required, then the same
-    /// of what is rejected. It takes no memory, and costs the votes on the change times the patterns.
+    /// of what is rejected. It takes no memory, and costs O(v p) for v votes on the change and p patterns.
     pub fn own(&self, state: &State, item: Item) -> Option<Condition>
         requires { IsItem state.now item }
         ensures { IsOwn self.now state.now item result }
@@ -337,8 +337,8 @@ impl Gate {
     /// bytes aren't UTF-8 or aren't the text of one JSON object; otherwise the first fault, where members are visited
     /// depth first, those of an object in byte order of their keys, those of a list in order, and at each the key is
     /// judged before its value: 2 `UnknownKey`, 3 `BadValue`, 4 `Unsupported`, each with the key (for a member of a
-    /// list that of the list; missing `bases` are a bad value, named last); 5 `NoMemory`. It costs the length of the
-    /// text.
+    /// list that of the list; missing `bases` are a bad value, named last); 5 `NoMemory`. It costs O(n log n) for n
+    /// bytes.
     pub fn read(alloc: Global, bytes: &[u8]) -> Result<Gate, GateFault>
         ensures spelled { IfOk result (SpellsGate bytes.now) }
         ensures refused { IfErr result (IsRefusalOf bytes.now) }

@@ -45,8 +45,8 @@ impl Model for Graph {
 }
 
 impl Graph {
-    /// The graph of all items of a state under a gate. It costs the bytes of the messages, and time and memory that
-    /// grow with the items and what they wait for, but for a logarithm.
+    /// The graph of all items of a state under a gate. It costs O(b + n log n) time and O(n) memory for b bytes of
+    /// messages and n items with what they wait for.
     pub fn build(alloc: Global, state: &State, gate: &Gate) -> Result<Graph, NoMemory>
         ensures graph { IfOk result (IsGraphOf gate.now state.now) }
         ensures whole { IfOk result (λ graph. AreItems state.now graph.items) }
@@ -57,9 +57,8 @@ impl Graph {
     }
 
     /// The graph of a part of a state's items, in order, which holds the current item of each known change that one of
-    /// them waits for. What it says of these items is what the graph of all items says. It costs the bytes of their
-    /// messages, and time and memory that grow with them and what they wait for, but for a logarithm, and a logarithm
-    /// of the state for each.
+    /// them waits for. What it says of these items is what the graph of all items says. It costs O(b + n log m) time
+    /// and O(n) memory for b bytes of their messages and n of them with what they wait for, in a state of m items.
     pub fn of_part(
         alloc: Global,
         state: &State,
@@ -91,7 +90,7 @@ impl Graph {
         self.items.as_slice()
     }
 
-    /// The changes that an item waits for, in order, each once. In logarithmic time.
+    /// The changes that an item waits for, in order, each once. It costs O(log n) for n items.
     pub fn targets(&self, item: Item) -> &[u32]
         requires { Contains self.now.items item }
         ensures { StandsAt self.now.items self.now.targets item result.now }
@@ -99,7 +98,7 @@ impl Graph {
         self.targets_at(place_of(self.items.as_slice(), item))
     }
 
-    /// The items that wait for a change, in order. In logarithmic time.
+    /// The items that wait for a change, in order. It costs O(log n) for n items.
     pub fn namers(&self, change: u32) -> &[Item]
         ensures { result.now ≡ namers_of self.now.items self.now.targets change }
     {
@@ -109,7 +108,7 @@ impl Graph {
         }
     }
 
-    /// Whether an item is on a cycle. In logarithmic time.
+    /// Whether an item is on a cycle. It costs O(log n) for n items.
     pub fn on_cycle(&self, item: Item) -> bool
         requires { Contains self.now.items item }
         ensures { StandsAt self.now.items self.now.on_cycle item result }

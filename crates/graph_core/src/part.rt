@@ -19,8 +19,8 @@ use std::collections::BTreeSet;
 const WIDEST: usize = 4096;
 
 /// A part of a state's items that has some of them, and holds the current item of each known change that one of them
-/// waits for: these and what they reach, or, where that is much, all items. It costs the bytes of their messages, and
-/// a logarithm of the state for each.
+/// waits for: these and what they reach, or, where that is much, all items. It costs O(b + n log m) for b bytes of
+/// their messages and n of them with what they wait for, in a state of m items.
 pub fn part_with(
     alloc: Global,
     gate: &Gate,

@@ -17,9 +17,9 @@ use std::alloc::Global;
 
 /// The text of the graph of a state's items under a gate, in the DOT language: a node for each item of a change that
 /// isn't merged, green where it is ready and else red, with its refusal; a dashed node for each change that they wait
-/// for and of which no patch set is known; and an edge from each item to what it waits for. Items of one cycle are
-/// in one cluster. Around a change it has only what leads to that change's items and what these lead to. It costs what
-/// `evaluate` costs, O(n log n) for n items with what they wait for, and the bytes of the text.
+/// for and of which no patch set is known; and an edge from each item to what it waits for. Items of one cycle are in
+/// one cluster. Around a change it has only what leads to that change's items and what these lead to. It costs what
+/// `evaluate` costs, O(n log n) for n items with what they wait for, and O(m) for a text of m bytes.
 pub fn graph_text(
     alloc: Global,
     gate: &Gate,

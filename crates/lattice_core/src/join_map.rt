@@ -66,7 +66,7 @@ impl<K: Keep, V: Join, A: Allocator + Copy> JoinMap<K, V, A> {
         self.entries.is_empty()
     }
 
-    /// The state at the key, if there is one. In logarithmic time.
+    /// The state at the key, if there is one. It costs O(log n) for n keys.
     pub fn get(&self, key: &K) -> Option<&V>
         ensures { let shape = map_of K.order K.shape V.shape in
             option_map V.shape (option_copied result) ≡ finite.get (shape self.now) (K.shape key.now) }
@@ -74,7 +74,7 @@ impl<K: Keep, V: Join, A: Allocator + Copy> JoinMap<K, V, A> {
         self.entries.get(key)
     }
 
-    /// Whether there is a state at the key. In logarithmic time.
+    /// Whether there is a state at the key. It costs O(log n) for n keys.
     pub fn contains_key(&self, key: &K) -> bool
         ensures { let shape = map_of K.order K.shape V.shape in
             result ≡ finite.contains_key (shape self.now) (K.shape key.now) }
@@ -82,8 +82,8 @@ impl<K: Keep, V: Join, A: Allocator + Copy> JoinMap<K, V, A> {
         self.entries.contains_key(key)
     }
 
-    /// The state at the key, to be changed in place: what is last written through it is what the map then has there. In
-    /// logarithmic time.
+    /// The state at the key, to be changed in place: what is last written through it is what the map then has there. It
+    /// costs O(log n) for n keys.
     pub fn get_mut(&mut self, key: &K) -> Option<&mut V>
         ensures* writes_back { sem 𝓛 (lends_value K.row V.row A.row K.Ord A.Allocator K.order K.shape V.shape
             self.entry key.now result) }
@@ -94,7 +94,7 @@ impl<K: Keep, V: Join, A: Allocator + Copy> JoinMap<K, V, A> {
     }
 
     /// Adds the state at the key, or replaces the one there. A refused call changes nothing, and only a new key can be
-    /// refused. In logarithmic time.
+    /// refused. It costs O(log n) for n keys.
     pub fn put(&mut self, key: K, value: V) -> Result<(), NoMemory>
         ensures ok { let shape = map_of K.order K.shape V.shape in
             OnOk result (shape self.new ≡ finite.insert (shape self.old) (K.shape key) (V.shape value)) }
@@ -107,7 +107,7 @@ impl<K: Keep, V: Join, A: Allocator + Copy> JoinMap<K, V, A> {
 
     /// Joins the state into the one at the key, in place, or adds it there. After a refusal the map lies between the
     /// old one and the join; where the join of states takes no memory nothing has changed, and only a new key can be
-    /// refused. In logarithmic time, beside the join of the states.
+    /// refused. It costs O(log n) for n keys, beside the join of the states.
     pub fn join_at(&mut self, key: K, value: V) -> Result<(), NoMemory>
         ensures ok { let shape = map_of K.order K.shape V.shape in
             OnOk result (shape self.new ≡ put_joined V.joined (shape self.old) (K.shape key) (V.shape value)) }
@@ -148,8 +148,8 @@ impl<K: Keep, V: Join, A: Allocator + Copy> JoinMap<K, V, A> {
         self.entries.iter()
     }
 
-    /// The pairs whose keys lie within a range, in the order of the keys, from either end. It costs logarithmic time,
-    /// and to walk them time linear in them alone.
+    /// The pairs whose keys lie within a range, in the order of the keys, from either end. It costs O(log n) for n
+    /// keys, and O(m) to walk m pairs.
     pub fn range<R: RangeBounds<K> + Drop>(&self, range: R) -> Range<'_, K, V>
         requires { R.is_forward range (IsLeBy K.cmp) (IsLtBy K.cmp) }
         ensures rest { R.has_bounds range
@@ -171,7 +171,7 @@ impl<K: Keep, V: Join, A: Allocator + Copy> JoinMap<K, V, A> {
 }
 
 impl<B: Allocator + Clone, V: Join, A: Allocator + Copy> JoinMap<String<B>, V, A> {
-    /// The state at the key with this text, if there is one. In logarithmic time.
+    /// The state at the key with this text, if there is one. It costs O(log n) for n keys.
     pub fn get_by_text(&self, text: &str) -> Option<&V>
         ensures { let shape = map_of (slice_cmp nat_cmp) string_bytes V.shape in
             option_map V.shape (option_copied result) ≡ finite.get (shape self.now) text.now }
@@ -196,8 +196,8 @@ impl<'a, K: Keep, V: Join, A: Allocator + Copy> IntoIterator for &'a JoinMap<K, 
     }
 }
 
-/// A join walks the other map and moves its keys and states, each in logarithmic time. So do `covers` and `same`, but
-/// that they only read.
+/// A join walks the other map and moves its keys and states, each for O(log n) where n keys are there. So do `covers`
+/// and `same`, but that they only read.
 impl<K: Keep, V: Join, A: Allocator + Copy> Join for JoinMap<K, V, A> {
     ghost Shape = { finite.FinMap K.order V.Shape };
 

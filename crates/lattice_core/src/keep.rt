@@ -269,7 +269,7 @@ impl Keep for bool {
     }
 }
 
-/// A text is kept by its bytes; a copy costs its length.
+/// A text is kept by its bytes; a copy costs O(n) for n bytes.
 impl<A: Allocator + Clone> Keep for String<A> {
     ghost Shape = { List ℕ };
 

@@ -16,8 +16,8 @@ use std::alloc::Global;
 /// Reads the text of a front. Entries may come in any order, and more than once: of those with the same site and start
 /// the greatest number counts, and 0 is as none. What the text spells is read, unless memory runs out. Refusals: 1
 /// `NotJson`, the bytes aren't UTF-8 or aren't the text of one JSON list; 2 `BadShape` with the key `front`, an item
-/// isn't a list of three numbers in their ranges; 4 `NoMemory`. It costs the length of the text, and for each entry the
-/// logarithm of the rows.
+/// isn't a list of three numbers in their ranges; 4 `NoMemory`. It costs O(n + e log r) for n bytes, e entries and r
+/// rows.
 pub fn read_front(alloc: Global, bytes: &[u8]) -> Result<Front, OpTextFault>
     ensures spelled { IfOk result (λ front. SpellsFront bytes.now front) }
     ensures refused { IfErr result (IsFrontRefusal bytes.now) }
@@ -30,8 +30,8 @@ pub fn read_front(alloc: Global, bytes: &[u8]) -> Result<Front, OpTextFault>
     front_of(alloc, entries)
 }
 
-/// The text of a front: a list of its rows in their order, which `read_front` reads back as the front. It costs the
-/// length of the text.
+/// The text of a front: a list of its rows in their order, which `read_front` reads back as the front. It costs O(n)
+/// for n bytes of it.
 pub fn write_front(alloc: Global, front: &Front) -> Result<String, NoMemory>
     ensures text { IfOk result (λ text. string_bytes text ≡ front_text front.now) }
     ensures spells { IfOk result (λ text. SpellsFront (string_bytes text) front.now) }

@@ -24,7 +24,7 @@ use std::alloc::Global;
 /// Reads the text of a body, which needn't be good: `Body::checked` is asked later. What the text spells is read,
 /// unless memory runs out. Refusals: 1 `NotJson`, the bytes aren't UTF-8 or aren't the text of one JSON object; 2
 /// `BadShape`, the key `op` names no kind, or else the first key in byte order that is missing, not expected or not
-/// accepted; 4 `NoMemory`. It costs the length of the text.
+/// accepted; 4 `NoMemory`. It costs O(n log n) for n bytes.
 pub fn read_body(alloc: Global, bytes: &[u8]) -> Result<Draft, OpTextFault>
     ensures spelled { IfOk result (λ draft. SpellsBody bytes.now (deed_of draft)) }
     ensures refused { IfErr result (IsRefusalOf Form.Body bytes.now) }
@@ -38,8 +38,8 @@ pub fn read_body(alloc: Global, bytes: &[u8]) -> Result<Draft, OpTextFault>
 
 /// Reads the text of an operation. The label of a vote is kept in lower case. What the text spells is read, unless
 /// memory runs out. Refusals: 1 `NotJson` and 2 `BadShape` as those of `read_body`; 3 `BadBody`, the body that the text
-/// spells isn't good, with the cause that `Body::checked` answers; 4 `NoMemory`. It costs the length of the text, and
-/// least where the text is as `write_op` writes it.
+/// spells isn't good, with the cause that `Body::checked` answers; 4 `NoMemory`. It costs O(n log n) for n bytes, and
+/// O(n) where the text is as `write_op` writes it.
 pub fn read_op(alloc: Global, bytes: &[u8]) -> Result<Op, OpTextFault>
     ensures spelled { IfOk result (SpellsOperation bytes.now) }
     ensures refused { IfErr result (IsRefusalOf Form.Operation bytes.now) }

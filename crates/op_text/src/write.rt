@@ -24,7 +24,7 @@ use std::alloc::{AllocError, Global};
 /// What a text takes beside its message, mostly.
 const ROOM: usize = 192;
 
-/// The text of an operation: one line, which `read_op` reads back as the operation. It costs the length of the text.
+/// The text of an operation: one line, which `read_op` reads back as the operation. It costs O(n) for n bytes of it.
 pub fn write_op(alloc: Global, op: &Op) -> Result<String, NoMemory>
     ensures text { IfOk result (λ text. string_bytes text ≡ operation_text op.now) }
     ensures spells { IfOk result (λ text. SpellsOperation (string_bytes text) op.now) }
@@ -32,7 +32,7 @@ pub fn write_op(alloc: Global, op: &Op) -> Result<String, NoMemory>
     object_text(alloc, Some(op.stamp()), op.body())
 }
 
-/// The text of a body, which `read_body` reads back as the body's draft. It costs the length of the text.
+/// The text of a body, which `read_body` reads back as the body's draft. It costs O(n) for n bytes of it.
 pub fn write_body(alloc: Global, body: &Body) -> Result<String, NoMemory>
     ensures text { IfOk result (λ text. string_bytes text ≡ body_text body.now) }
     ensures spells { IfOk result (λ text. SpellsBody (string_bytes text) body.now) }

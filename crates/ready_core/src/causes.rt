@@ -76,8 +76,8 @@ fn own_at(
     gate.own(state, items[place])
 }
 
-/// The own conditions of some items, which hold what they wait for, in their order. It costs the votes on each change
-/// times the gate's patterns.
+/// The own conditions of some items, which hold what they wait for, in their order. It costs O(v p) for v votes and p
+/// patterns.
 pub fn own_conditions(
     alloc: Global,
     state: &State,

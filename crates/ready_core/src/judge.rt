@@ -28,9 +28,9 @@ use state_core::{Item, State};
 use std::alloc::Global;
 use walk_core::NodeRank;
 
-/// Which items of a state are ready under a gate, and why each other one isn't. It costs the bytes of the messages, the
-/// votes on each change times the gate's patterns, O(n log n) time and O(n) memory for n items with what they wait for,
-/// and, for the order of the ready items, what `Digraph::in_rank_order` costs.
+/// Which items of a state are ready under a gate, and why each other one isn't. It costs O(b + v p + n log n) time and
+/// O(n) memory for b bytes of messages, v votes, p patterns and n items with what they wait for, and, for the order of
+/// the ready items, what `Digraph::in_rank_order` costs.
 pub fn evaluate(alloc: Global, state: &State, gate: &Gate) -> Result<Verdicts, NoMemory>
     ensures { IfOk result (AreVerdicts gate.now state.now) }
 {

@@ -14,7 +14,7 @@ impl<A: Allocator + Copy> Replica<A> {
     /// The stamp of the next operation of a site under a start: a time one above every time in the journal, and a
     /// sequence number one above every one that the journal has of the site under the start; each is 1 where there is
     /// none. `ClockSpent` comes exactly where one of the two is the greatest number already. It takes no memory, and
-    /// time logarithmic in the rows.
+    /// costs O(log n) for n rows.
     pub fn next_stamp(&self, site: u16, start: u32) -> Result<Stamp, ClockSpent>
         ensures next { IfOk result (λ stamp. stamp ≡ next_of self.now site start) }
         ensures spent { IsErr result ↔ IsSpent self.now site start }

@@ -131,7 +131,7 @@ impl<A: Allocator + Copy> Front<A> {
         }
     }
 
-    /// How far the front reaches into a row: 0 where it doesn't. In time logarithmic in the number of rows.
+    /// How far the front reaches into a row: 0 where it doesn't. It costs O(log n) for n rows.
     pub fn reach(&self, row: Row) -> u64
         ensures { result ≡ reach_of self.now row.site row.start }
     {
@@ -142,7 +142,7 @@ impl<A: Allocator + Copy> Front<A> {
     }
 
     /// Keeps the greater of the number and the one that the row has; 0 changes nothing. Where memory is refused nothing
-    /// changes. In time logarithmic in the number of rows.
+    /// changes. It costs O(log n) for n rows.
     pub fn raise(&mut self, row: Row, seq: u64) -> Result<(), NoMemory>
         ensures ok { OnOk result (self.new ≡ raised self.old row.site row.start seq) }
         ensures err { OnErr result (self.new ≡ self.old) }

@@ -13,8 +13,8 @@ use std::alloc::Allocator;
 
 impl<A: Allocator + Copy> Replica<A> {
     /// How far the journal goes without a gap, row by row: for each site and start of which it has the first operation,
-    /// the greatest sequence number that it has with all before it. In time near-linear in the rows, and memory that
-    /// grows with them.
+    /// the greatest sequence number that it has with all before it. It costs O(n log n) time and O(n) memory for n
+    /// rows.
     pub fn front(&self) -> Result<Front<A>, NoMemory>
         ensures { IfOk result (λ front. IsFront self.now front) }
     {

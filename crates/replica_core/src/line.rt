@@ -72,8 +72,8 @@ impl<A: Allocator + Copy> Line<A> {
         })
     }
 
-    /// The first of the row's operations that isn't below this one. In logarithmic time, and in constant time where all
-    /// are below.
+    /// The first of the row's operations that isn't below this one. It costs O(log n) for n operations of the row, and
+    /// O(1) where all are below.
     fn from_op<'a>(&self, arrivals: &'a [Op<A>], op: &Op<A>) -> Option<&'a Op<A>>
         requires { IsFiled arrivals.now self.now }
         ensures { let ops = ops_of arrivals.now self.now in option_copied result
@@ -83,7 +83,8 @@ impl<A: Allocator + Copy> Line<A> {
         arrivals.get(place)
     }
 
-    /// The first of the row's operations with a sequence number and time not below a stamp's. In logarithmic time.
+    /// The first of the row's operations with a sequence number and time not below a stamp's. It costs O(log n) for n
+    /// operations of the row.
     fn from_stamp<'a>(&self, arrivals: &'a [Op<A>], stamp: Stamp) -> Option<&'a Op<A>>
         requires { IsFiled arrivals.now self.now }
         ensures { let ops = ops_of arrivals.now self.now in option_copied result
@@ -93,7 +94,7 @@ impl<A: Allocator + Copy> Line<A> {
         arrivals.get(place)
     }
 
-    /// The first of the row's operations past a sequence number. In logarithmic time.
+    /// The first of the row's operations past a sequence number. It costs O(log n) for n operations of the row.
     fn from_past<'a>(&self, arrivals: &'a [Op<A>], seq: u64) -> Option<&'a Op<A>>
         requires { IsFiled arrivals.now self.now }
         ensures { let ops = ops_of arrivals.now self.now in option_copied result
@@ -103,7 +104,7 @@ impl<A: Allocator + Copy> Line<A> {
         arrivals.get(place)
     }
 
-    /// The last of the row's operations. In constant time.
+    /// The last of the row's operations. It costs O(1).
     fn last_op<'a>(&self, arrivals: &'a [Op<A>]) -> Option<&'a Op<A>>
         requires { IsFiled arrivals.now self.now }
         ensures { let ops = ops_of arrivals.now self.now in option_copied result ≡ slice_get ops (length ops - 1) }
@@ -112,7 +113,7 @@ impl<A: Allocator + Copy> Line<A> {
         arrivals.get(place)
     }
 
-    /// Whether this is one of the row's operations. In logarithmic time.
+    /// Whether this is one of the row's operations. It costs O(log n) for n of them.
     pub(super) fn has(&self, arrivals: &[Op<A>], op: &Op<A>) -> bool
         requires { IsFiled arrivals.now self.now }
         ensures { result ≡ has (ops_of arrivals.now self.now) op.now }
@@ -123,7 +124,7 @@ impl<A: Allocator + Copy> Line<A> {
         }
     }
 
-    /// Whether one of the row's operations has this stamp. In logarithmic time.
+    /// Whether one of the row's operations has this stamp. It costs O(log n) for n of them.
     pub(super) fn has_stamp(&self, arrivals: &[Op<A>], stamp: Stamp) -> bool
         requires { IsFiled arrivals.now self.now }
         ensures { result ≡ has_stamp (ops_of arrivals.now self.now) stamp }
@@ -145,8 +146,8 @@ impl<A: Allocator + Copy> Line<A> {
         }
     }
 
-    /// Whether one of the row's operations has the number after this one. In constant time where that is its last, else
-    /// in logarithmic time.
+    /// Whether one of the row's operations has the number after this one. It costs O(1) where that is its last, else
+    /// O(log n) for n operations of the row.
     fn follows(&self, arrivals: &[Op<A>], seq: u64) -> bool
         requires filed { IsFiled arrivals.now self.now }
         requires next { seq < 2 ^ 64 - 1 }
@@ -162,7 +163,8 @@ impl<A: Allocator + Copy> Line<A> {
         }
     }
 
-    /// The places of the row's operations past a sequence number. The first is found in logarithmic time.
+    /// The places of the row's operations past a sequence number. It costs O(log n) for n operations of the row to find
+    /// the first.
     pub(super) fn past(&self, arrivals: &[Op<A>], seq: u64) -> Iter<'_, usize, A>
         requires { IsFiled arrivals.now self.now }
         ensures ops { ops_at arrivals.now result ≡ ops_past seq (ops_of arrivals.now self.now) }
@@ -186,8 +188,8 @@ fn copy_places<A: Allocator + Copy>(
     Ok(copied)
 }
 
-/// The number up to which a row has no gap, where it has none up to the line's reach. In logarithmic time for each
-/// number that it climbs.
+/// The number up to which a row has no gap, where it has none up to the line's reach. It costs O(log n) for each number
+/// that it climbs, for n operations of the row.
 pub(super) fn climbed<A: Allocator + Copy>(arrivals: &[Op<A>], line: &Line<A>) -> u64
     requires filed { IsFiled arrivals.now line.now }
     requires gapless { (seq : ℕ) → 1 ≤ seq → seq ≤ line.now.reach

@@ -29,7 +29,7 @@ impl<A: Allocator + Copy> Probe<Line<A>> for Earlier {
     }
 }
 
-/// The line of a row, in lines in the order of their rows. In logarithmic time.
+/// The line of a row, in lines in the order of their rows. It costs O(log n) for n rows.
 pub(super) fn find_line<A: Allocator + Copy>(
     lines: &ChunkList<Line<A>, A>,
     row: Row,
@@ -47,7 +47,8 @@ pub(super) fn find_line<A: Allocator + Copy>(
     }
 }
 
-/// Adds a line for a row that has none. Where memory is refused nothing changes. In about logarithmic time.
+/// Adds a line for a row that has none. Where memory is refused nothing changes. It costs O(log n) for n rows, beside
+/// what a `ChunkList` moves.
 pub(super) fn open_line<A: Allocator + Copy>(
     lines: &mut ChunkList<Line<A>, A>,
     alloc: A,

@@ -25,8 +25,8 @@ pub struct Missing<A: Allocator + Copy = Global> {
 
 impl<A: Allocator + Copy> Replica<A> {
     /// Copies of the operations that lie past a front, by site, start, sequence number, time and body: the first
-    /// `limit` of them. In memory that grows with what it answers, and in that time and a search for each row,
-    /// logarithmic in its operations.
+    /// `limit` of them. It costs O(m) memory for m bytes of what it answers, and O(m + r log n) time for r rows of n
+    /// operations in all.
     pub fn missing(&self, front: &Front<A>, limit: usize) -> Result<Missing<A>, NoMemory>
         ensures { IfOk result (λ missing. (all : List Operation) × IsMissing self.now front.now all
             × (missing.ops.items ≡ take limit all) × (missing.more ≡ nat_lt limit (length all))) }

@@ -89,8 +89,8 @@ impl<A: Allocator + Copy> Replica<A> {
     }
 
     /// Takes in every operation of another replica, in the order of operations. Where memory is refused the first
-    /// `taken` of them are in, not all, and nothing else. It sorts the other's arrivals in place, which takes no
-    /// memory, and time linear in them where they came in order, and then takes one after the other.
+    /// `taken` of them are in, not all, and nothing else. It sorts the n arrivals of the other in place, which takes no
+    /// memory and costs O(n log n), or O(n) where they came in order, and then takes one after the other.
     pub fn absorb(&mut self, other: Replica<A>) -> Result<(), Partly>
         ensures { (whole : List Operation) × IsInOrderOf other whole × MatchResult result
             (λ _. self.new ≡ all_arrived self.old whole)
@@ -115,7 +115,7 @@ impl<A: Allocator + Copy> Replica<A> {
         Ok(())
     }
 
-    /// Whether the journal has this operation. In time logarithmic in the rows and in the operations of its row.
+    /// Whether the journal has this operation. It costs O(log r + log n) for r rows and n operations of its row.
     pub fn has(&self, op: &Op<A>) -> bool
         ensures { result ≡ has self.now op.now }
     {
@@ -125,7 +125,7 @@ impl<A: Allocator + Copy> Replica<A> {
         }
     }
 
-    /// Whether the journal has an operation with this stamp. In time logarithmic in the rows and in the operations of
+    /// Whether the journal has an operation with this stamp. It costs O(log r + log n) for r rows and n operations of
     /// its row.
     pub fn has_stamp(&self, stamp: Stamp) -> bool
         ensures { result ≡ has_stamp self.now stamp }
@@ -147,7 +147,7 @@ impl<A: Allocator + Copy> Replica<A> {
         self.state.same(&other.state)
     }
 
-    /// An equal replica: the same arrivals in the same order. It costs the journal and the state.
+    /// An equal replica: the same arrivals in the same order. It costs O(n) for n bytes of the journal and the state.
     pub fn copy(&self) -> Result<Replica<A>, NoMemory>
         ensures { IfOk result (λ copied. copied ≡ self.now) }
     {

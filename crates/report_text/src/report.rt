@@ -17,7 +17,8 @@ use state_core::Item;
 
 /// Writes the report: a line for each item that is ready, a line for each other item with its refusal, both in the
 /// order of the verdicts, and the end line. Refusal: 1 `WriteFault`, the drain failed, and has taken what of the text
-/// went before. It takes no memory. It costs the text, which goes to the drain in pages of at most 4,096 bytes.
+/// went before. It takes no memory. It costs O(n) for a text of n bytes, which goes to the drain in pages of at most
+/// 4,096 bytes.
 pub fn write_report<D: Drain>(verdicts: &Verdicts, drain: &mut D) -> Result<(), WriteReportFault>
     ensures ok { OnOk result (Appends (D.taken drain.old) (D.taken drain.new) (report_of verdicts.now)) }
     // Some prefix of the text was taken, not all.

@@ -41,11 +41,11 @@ impl<A: Allocator + Copy> Model for Body<A> {
 }
 
 impl<A: Allocator + Copy> Body<A> {
-    /// The body of a draft, with its label in lower case, or the fault of the least number that the draft has:
-    /// 1 `BadChange`, a change of 0; 2 `BadSet`, a patch set of 0; 3 `BadLabel`, a label that isn't 1 to 64 ASCII
+    /// The body of a draft, with its label in lower case, or the fault of the least number that the draft has: 1
+    /// `BadChange`, a change of 0; 2 `BadSet`, a patch set of 0; 3 `BadLabel`, a label that isn't 1 to 64 ASCII
     /// letters, digits and `-`; 4 `BadVoter`, a voter that isn't 1 to 64 bytes from 0x21 to 0x7E; 5 `LongMessage`, a
     /// message of more than 65,536 bytes; 7 `BadParent`, a parent of 0. A refused draft is dropped. It takes no memory,
-    /// and costs the length of the label and the voter.
+    /// and costs O(n) for n bytes of the label and the voter.
     pub fn checked(draft: Draft<A>) -> Result<Body<A>, BodyFault>
         ensures kept { IfOk result (λ body. body ≡ kept_deed (deed_of draft)) }
         ensures good { IfOk result IsGood }
@@ -84,7 +84,7 @@ impl<A: Allocator + Copy> Body<A> {
         draft
     }
 
-    /// An equal body, with texts of its own on the same allocator. It costs the length of the texts.
+    /// An equal body, with texts of its own on the same allocator. It costs O(n) for n bytes of its texts.
     pub fn copy(&self) -> Result<Body<A>, NoMemory>
         ensures { IfOk result (λ copied. copied ≡ self.now) }
     {

@@ -125,7 +125,7 @@ impl<A: Allocator + Copy> Draft<A> {
         }
     }
 
-    /// An equal draft, with texts of its own on the same allocator. It costs the length of the texts.
+    /// An equal draft, with texts of its own on the same allocator. It costs O(n) for n bytes of its texts.
     pub fn copy(&self) -> Result<Draft<A>, NoMemory>
         ensures { IfOk result (λ copied. deed_of copied ≡ deed_of self.now) }
     {

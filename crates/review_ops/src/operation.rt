@@ -65,7 +65,7 @@ impl<A: Allocator + Copy> Op<A> {
         (self.stamp, self.body)
     }
 
-    /// An equal operation, with texts of its own on the same allocator. It costs the length of the texts.
+    /// An equal operation, with texts of its own on the same allocator. It costs O(n) for n bytes of its texts.
     pub fn copy(&self) -> Result<Op<A>, NoMemory>
         ensures { IfOk result (λ copied. copied ≡ self.now) }
     {

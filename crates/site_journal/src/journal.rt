@@ -84,7 +84,7 @@ impl<T: Tape> Journal<T> {
     /// Adds the lines of the operations, and has them stay: at `Ok` they are acknowledged. At `Err` none of them is:
     /// where the tape failed it is cut back to what was acknowledged and that is synced, and where that fails too, or a
     /// sync has failed, the journal keeps nothing any more. Whatever a crash leaves says what was acknowledged, and
-    /// then the first so many of the operations. It costs their texts and one sync.
+    /// then the first so many of the operations. It costs O(n) for n bytes of their lines, and one sync.
     pub fn append(&mut self, ops: &[Op]) -> Result<(), KeepFault>
         ensures ok { OnOk result (IsKept self.old ops.now self.new) }
         ensures holds { OnOk result

@@ -31,8 +31,8 @@ pub struct Opened {
 /// Reads the journal on a tape that was just opened, and leaves it with whole lines, all synced. A tape that is empty,
 /// or has only a prefix of the first line, gets that line. A torn last line is cut off. Refusals: 1 `BadHeader`, the
 /// first line is another one; 2 `BadLine`, the line of this number, from 1, isn't read; 3 `TooLong`; 4 `Failed`, the
-/// tape failed; 5 `NoMemory`. At 1, 2, 3 and 5 the tape has what it had. It costs the bytes, and what the replica's
-/// `take` costs for each operation.
+/// tape failed; 5 `NoMemory`. At 1, 2, 3 and 5 the tape has what it had. It costs O(n) for n bytes, beside what the
+/// replica's `take` costs for each operation.
 pub fn open_tape<T: Tape>(alloc: Global, tape: &mut T) -> Result<Opened, JournalFault>
     requires { IsAtStart (T.image tape.old) (T.left tape.old) }
     ensures ok { IfOk result (λ opened. Changes (T.image tape.old) (T.image tape.new) (λ i j. IsSettled j

@@ -80,8 +80,8 @@ impl Desk {
 
     /// Stamps a body and publishes it, after all that is held. The receipt has the stamp, whose time is above that of
     /// all that was published or held. Memory may be refused before the body is looked at; no operation of the call is
-    /// held then. Waits for windows that look at what was shown two publishes ago. Costs what came since then, and the
-    /// rows of the journal in logarithm.
+    /// held then. Waits for windows that look at what was shown two publishes ago. It costs O(m log n) for m operations
+    /// that came since then, of n in the journal.
     pub fn intake<R: Wait>(&mut self, rt: &R, draft: Draft) -> Result<Receipt, DeskFault>
         ensures ok { IfOk result (λ receipt. let op = next_operation self.old (deed_of draft) in HasStamp self.old
             × IsFaultless (deed_of draft)

@@ -31,8 +31,8 @@ impl Spares {
         }
     }
 
-    /// A replica that is equal to the one which is shown: the older spare brought up, where nobody looks at it, in time
-    /// that grows with what it lacks, and else a copy, which costs the journal.
+    /// A replica that is equal to the one which is shown: the older spare brought up, where nobody looks at it, which
+    /// costs O(m log n) for the m operations of n that it lacks, and else a copy.
     pub fn brought_up(&mut self, shown: &Replica) -> Result<Replica, NoMemory>
         requires { AreSpares shown.now self.old }
         ensures spares { AreSpares shown.now self.new }

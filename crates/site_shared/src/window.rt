@@ -111,7 +111,7 @@ impl Window {
         self.sight.covers(&other.sight)
     }
 
-    /// Which items are ready, and why each other one isn't. Costs what `evaluate` does.
+    /// Which items are ready, and why each other one isn't. It costs what `evaluate` does.
     pub fn report(&mut self, gate: &Gate) -> Result<Verdicts, WindowFault>
         ensures later { GoesOn self.old self.new }
         ensures verdicts { IfOk result (AreVerdicts gate.now (state_of (arrive self.new.seen))) }
@@ -142,7 +142,7 @@ impl Window {
         verdicts.map_err(|_| WindowFault::NoMemory)
     }
 
-    /// The verdicts under a gate on what the window sees, which `refresh` brings up to date. Costs what `evaluate`
+    /// The verdicts under a gate on what the window sees, which `refresh` brings up to date. It costs what `evaluate`
     /// does.
     pub fn watch(&mut self, gate: Gate) -> Result<Watch, WindowFault>
         ensures later { GoesOn self.old self.new }
@@ -163,8 +163,8 @@ impl Window {
 
     /// Brings a watch up to date with what the window sees, which is then no less than what the watch saw. A watch that
     /// bears the window's own site and start comes from the window's opening; any other one is refused. Memory is
-    /// refused only where something new came, or the watch has no verdicts. Costs what `Evaluator::update` does, over
-    /// one look, without a copy of the replica.
+    /// refused only where something new came, or the watch has no verdicts. It costs what `Evaluator::update` does,
+    /// over one look, without a copy of the replica.
     pub fn refresh(&mut self, watch: &mut Watch) -> Result<(), RefreshFault>
         requires { IsOwnWatch self.old watch.old → watch.old.book ≡ self.old.book }
         ensures later { GoesOn self.old self.new }
@@ -186,8 +186,8 @@ impl Window {
         }
     }
 
-    /// Whether the journal has an operation with this stamp. Takes no memory, and time logarithmic in the rows and in
-    /// the operations of its row.
+    /// Whether the journal has an operation with this stamp. It takes no memory, and costs O(log r + log n) for r rows
+    /// and n operations of its row.
     pub fn has(&mut self, stamp: Stamp) -> Result<bool, WindowFault>
         ensures later { GoesOn self.old self.new }
         ensures ok { IfOk result (λ found. found ≡ has_stamp (arrive self.new.seen) stamp) }
@@ -202,8 +202,8 @@ impl Window {
     }
 
     /// Whether one of the operations bears the window's own site, and its start or a later one, though the journal
-    /// hasn't got it: then another process takes in as this site. Takes no memory, and for each operation time
-    /// logarithmic in the rows and in the operations of its row.
+    /// hasn't got it: then another process takes in as this site. It takes no memory, and costs O(log r + log n) for
+    /// each operation, for r rows and n operations of its row.
     pub fn has_foreign(&mut self, ops: &[Op]) -> Result<bool, WindowFault>
         ensures later { GoesOn self.old self.new }
         ensures ok { IfOk result
@@ -219,7 +219,7 @@ impl Window {
         Ok(found)
     }
 
-    /// How far the journal goes without a gap. Grows with the pairs of a site and a start.
+    /// How far the journal goes without a gap. It costs O(n log n) for n pairs of a site and a start.
     pub fn front(&mut self) -> Result<Front, WindowFault>
         ensures later { GoesOn self.old self.new }
         ensures ok { IfOk result (IsFront (arrive self.new.seen)) }
@@ -234,7 +234,7 @@ impl Window {
     }
 
     /// Copies of the operations that a front lacks, by site, start, sequence number, time and body: the first `limit`
-    /// of them. Grows with what it answers.
+    /// of them. It costs what `Replica::missing` does.
     pub fn missing(&mut self, front: &Front, limit: usize) -> Result<Missing, WindowFault>
         ensures later { GoesOn self.old self.new }
         ensures ok { IfOk result (λ missing. (all : List Operation) × IsMissing (arrive self.new.seen) front.now all
@@ -249,8 +249,8 @@ impl Window {
         missing.map_err(|_| WindowFault::NoMemory)
     }
 
-    /// A copy of the replica: the opening's arrivals, and then those of each publish, in its order. It costs the
-    /// journal.
+    /// A copy of the replica: the opening's arrivals, and then those of each publish, in its order. It costs what
+    /// `Replica::copy` does.
     pub fn snapshot(&mut self) -> Result<Replica, WindowFault>
         ensures later { GoesOn self.old self.new }
         ensures ok { IfOk result (λ copied. copied ≡ arrive self.new.seen) }

@@ -24,8 +24,8 @@ pub const SNAPSHOT_LIMIT: usize = 1_073_741_824;
 /// lines. Lines may come in any order and be repeated. The first line says version 1 or 2; the end line has 1 to 20
 /// digits. Refusals, of which the first in line order counts: 1 `BadHeader`, 2 `BadLine` with the line's number from 1
 /// and the cause, 3 `NoEnd`, 4 `BadCount`, 5 `AfterEnd`; and before any of them 6 `TooLong`, more than 1,073,741,824
-/// bytes, and 7 `ReadFault`, the source failed; 8 `NoMemory`. Nothing of a refused snapshot is handed out. It costs the
-/// bytes, and what the replica's `take` costs for each operation.
+/// bytes, and 7 `ReadFault`, the source failed; 8 `NoMemory`. Nothing of a refused snapshot is handed out. It costs
+/// O(n) for n bytes, beside what the replica's `take` costs for each operation.
 pub fn read_snapshot<S: Source>(alloc: Global, source: &mut S) -> Result<Replica, SnapFault>
     ensures ok { IfOk result (λ replica. IfSome (S.left source.old) (λ text. (ops : List Operation)
         × SaysOperations (lines_of text) ops × (replica ≡ all_arrived [] ops))) }
@@ -46,8 +46,8 @@ pub fn read_snapshot<S: Source>(alloc: Global, source: &mut S) -> Result<Replica
 }
 
 /// Reads the text of a snapshot as `read_snapshot` reads what a source has, for a caller that has the bytes and has
-/// seen to their limit. Of the refusals 6 and 7 never come. It costs the bytes, and what the replica's `take` costs for
-/// each operation.
+/// seen to their limit. Of the refusals 6 and 7 never come. It costs O(n) for n bytes, beside what the replica's `take`
+/// costs for each operation.
 pub fn snapshot_of(alloc: Global, text: &[u8]) -> Result<Replica, SnapFault>
     requires { length text.now ≤ most_bytes }
     ensures ok { IfOk result (λ replica. (ops : List Operation)
@@ -64,7 +64,7 @@ pub fn snapshot_of(alloc: Global, text: &[u8]) -> Result<Replica, SnapFault>
 
 /// Reads the text of a snapshot, as `snapshot_of` does, into a replica that is given up for it: its operations arrive,
 /// in the order of their lines, after what the replica has. Neither the replica nor anything of the text is handed out
-/// of a refusal. It costs the bytes, and what the replica's `take` costs for each operation.
+/// of a refusal. It costs O(n) for n bytes, beside what the replica's `take` costs for each operation.
 pub fn snapshot_onto(replica: Replica, text: &[u8]) -> Result<Replica, SnapFault>
     requires { length text.now ≤ most_bytes }
     ensures ok { IfOk result (λ both. (ops : List Operation)

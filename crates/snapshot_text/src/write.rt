@@ -18,7 +18,8 @@ use std::alloc::Global;
 
 /// Writes the snapshot of a replica: its operations in their order, each once. Refusals: 1 `WriteFault`, the drain
 /// failed, and has taken what of the text went before; 2 `NoMemory`, nothing was written. It sorts references and
-/// copies no operation; it costs the sort, and the text, which is collected before it is written.
+/// copies no operation. It costs O(n log n) for n operations, and O(m) for a text of m bytes, which is collected before
+/// it is written.
 pub fn write_snapshot<D: Drain>(
     alloc: Global,
     replica: &Replica,

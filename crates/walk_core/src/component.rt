@@ -96,8 +96,8 @@ pub fn find_component<A: Allocator + Copy>(
     Ok(members)
 }
 
-/// Goes one step or more from a node, as far as sought nodes lead, and answers the nodes that it found. It takes time
-/// and memory that grow with these nodes and the steps from them.
+/// Goes one step or more from a node, as far as sought nodes lead, and answers the nodes that it found. It costs O(n +
+/// m) time and memory for these n nodes and the m steps from them.
 fn spread<A: Allocator + Copy>(
     alloc: A,
     graph: &Digraph<A>,

@@ -14,8 +14,8 @@ use super::digraph::Digraph;
 use std::alloc::Allocator;
 
 /// Counts how many of the targets each of the nodes leads to, at its first node; other counts stay. Each block of 512
-/// targets costs the nodes and their edges, times the sweeps that change something; where the nodes are in such an
-/// order that each comes after what it leads to, that is one sweep, and one more that changes nothing.
+/// targets costs O(n + m) for n nodes and their m edges, times the sweeps that change something; where the nodes are in
+/// such an order that each comes after what it leads to, that is one sweep, and one more that changes nothing.
 pub fn count_targets<A: Allocator + Copy>(
     graph: &Digraph<A>,
     firsts: &[usize],

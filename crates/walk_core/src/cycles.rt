@@ -25,7 +25,7 @@ impl<A: Allocator + Copy> Components<A> {
     ghost use Rattle.walk_core.specs.Components.{HasFound, HasFoundAll, WaitsNoLonger};
 
     /// The components of a graph. In the order of nodes that it takes, a search back finds a component alone, so it
-    /// takes time and memory that grow with the nodes and edges.
+    /// costs O(n + m) time and memory for n nodes and m edges.
     pub fn find(alloc: A, graph: &Digraph<A>) -> Result<Components<A>, NoMemory>
         ensures { IfOk result (HasFoundAll graph.now) }
     {

@@ -37,7 +37,7 @@ impl<A: Allocator + Copy> Model for Digraph<A> {
 }
 
 impl<A: Allocator + Copy> Digraph<A> {
-    /// The graph whose nodes have these ends of edges. It takes time and memory that grow with the nodes and edges.
+    /// The graph whose nodes have these ends of edges. It costs O(n + m) time and memory for n nodes and m edges.
     pub fn new(alloc: A, ends: Vec<Vec<usize, A>, A>) -> Result<Digraph<A>, NoMemory>
         requires { IsWithin (map (λ row. row.items) ends.items) }
         ensures { IfOk result (λ graph. graph ≡ map (λ row. row.items) ends.items) }
@@ -76,8 +76,8 @@ impl<A: Allocator + Copy> Digraph<A> {
     }
 
     /// How many edges the shortest walk has from each node to a marked one, or none where no walk leads to one: a
-    /// search by levels from the marked nodes over the edges turned round. It takes time and memory that grow with the
-    /// nodes and edges.
+    /// search by levels from the marked nodes over the edges turned round. It costs O(n + m) time and memory for n
+    /// nodes and m edges.
     pub fn distances(&self, marked: &[bool]) -> Result<Vec<Option<usize>, A>, NoMemory>
         requires { length marked.now ≡ length self.now }
         ensures { IfOk result (λ distances. AreDistances self.now marked.now distances.items) }
@@ -85,7 +85,7 @@ impl<A: Allocator + Copy> Digraph<A> {
         distances_to(self.alloc, self, marked)
     }
 
-    /// Which nodes are on a cycle. It takes time and memory that grow with the nodes and edges.
+    /// Which nodes are on a cycle. It costs O(n + m) time and memory for n nodes and m edges.
     pub fn on_cycles(&self) -> Result<Vec<bool, A>, NoMemory>
         ensures { IfOk result (λ marked. AreOnCycles self.now marked.items) }
     {
@@ -93,7 +93,7 @@ impl<A: Allocator + Copy> Digraph<A> {
     }
 
     /// Of each node the least of its cycle, or itself where it is on none: the least of the nodes that lead to it and
-    /// that it leads to, over some edges or none. It takes time and memory that grow with the nodes and edges.
+    /// that it leads to, over some edges or none. It costs O(n + m) time and memory for n nodes and m edges.
     pub fn firsts(&self) -> Result<Vec<usize, A>, NoMemory>
         ensures { IfOk result (λ firsts. AreFirsts self.now firsts.items) }
     {
@@ -103,10 +103,10 @@ impl<A: Allocator + Copy> Digraph<A> {
 
     /// The kept nodes, which hold the ends of their edges, in rank order: by how many nodes each leads to, itself among
     /// them, so that each comes after what it leads to; the nodes of a cycle, which lead to the same nodes, are side by
-    /// side, by the first of them. With n nodes and m edges it takes time O(n log n + m) where no cycle of kept nodes
-    /// leads into two others (a node on no cycle is one by itself). Else each region that has such a cycle, where a
-    /// region is what edges between kept nodes join in either direction, takes a walk over itself for each 512 of its
-    /// nodes besides. Memory grows with the nodes and edges.
+    /// side, by the first of them. With n nodes and m edges it costs O(n log n + m) where no cycle of kept nodes leads
+    /// into two others (a node on no cycle is one by itself). Else each region that has such a cycle, where a region is
+    /// what edges between kept nodes join in either direction, takes a walk over itself for each 512 of its nodes
+    /// besides. It takes O(n + m) memory.
     pub fn in_rank_order(&self, kept: &[bool]) -> Result<Vec<usize, A>, NoMemory>
         requires sized { length kept.now ≡ length self.now }
         requires closed { (x y : ℕ) → IsMarked kept.now x → HasEdge self.now x y → IsMarked kept.now y }

@@ -9,8 +9,7 @@ use super::digraph::{Digraph, empty_rows};
 use lattice_core::NoMemory;
 use std::alloc::Allocator;
 
-/// The label of each kept node. It takes time and memory that grow with the nodes and the edges from kept nodes and to
-/// them.
+/// The label of each kept node. It costs O(n + m) time and memory for n nodes and m edges from kept nodes and to them.
 pub fn region_labels<A: Allocator + Copy>(
     alloc: A,
     graph: &Digraph<A>,

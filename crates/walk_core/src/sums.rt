@@ -17,7 +17,7 @@ use std::alloc::Allocator;
 
 /// How many of the targets each cycle leads to, where that adds up: where the cycle leads into no other, or into one
 /// whose sum was there when its own nodes came. So no sum is missing where no cycle leads into two others and each of
-/// the nodes comes after what it leads to. It takes time and memory that grow with the nodes and edges.
+/// the nodes comes after what it leads to. It costs O(n + m) time and memory for n nodes and m edges.
 pub fn lead_sums<A: Allocator + Copy>(
     alloc: A,
     graph: &Digraph<A>,

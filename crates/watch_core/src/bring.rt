@@ -19,9 +19,9 @@ use state_core::Item;
 use std::alloc::Global;
 use std::collections::BTreeSet;
 
-/// Puts what is found of the items that are judged again in the place of what was kept of them. For each it costs a
-/// search and what an insertion and a removal move, and, where it was ready, to look through the ready items. Where all
-/// items are judged again, what was found is taken whole.
+/// Puts what is found of the items that are judged again in the place of what was kept of them. For each, of n items in
+/// all, it costs O(log n), what an insertion and a removal move, and, where it was ready, O(n) to look through the
+/// ready items. Where all items are judged again, what was found is taken whole.
 pub fn put_in_place(
     alloc: Global,
     reach: &Reach,

@@ -17,8 +17,8 @@ use std::alloc::Global;
 
 /// Why an item is left out: a line for it and for each item that it waits for, down to the cause, and the lines of
 /// that; or the line of an item that is ready. The verdicts are those of the state under the gate, which the bytes of
-/// the gate file spell. It costs O(n + k log n) for n items and k lines, and the bytes of the gate file; of a cycle
-/// also what building the graph costs.
+/// the gate file spell. It costs O(n + b + k log n) for n items, b bytes of the gate file and k lines; of a cycle also
+/// what building the graph costs.
 pub fn why_text(
     alloc: Global,
     file: &[u8],

@@ -90,15 +90,15 @@ impl<A: Allocator + Copy> Site<A> {
         }
     }
 
-    /// Saves the journal. It takes no memory, and constant time.
+    /// Saves the journal. It takes no memory, and costs O(1).
     pub fn save(&mut self)
         ensures { self.new ≡ record self.old { saved = self.old.journal } }
     {
         self.saved = self.replica.arrivals();
     }
 
-    /// Goes back to what was saved last, under this start. In constant time where nothing came since, else in O(n log
-    /// n) for n saved operations and their bytes.
+    /// Goes back to what was saved last, under this start. It costs O(1) where nothing came since, else O(n log n) for
+    /// n saved operations, and O(m) for their m bytes.
     pub fn restart(&mut self, start: u32) -> Result<Reply, WorldFault>
         ensures { IsRestart start self.old result self.new }
     {
