@@ -2,3 +2,5 @@ mod Handed
 mod Meeting
 mod Stepping
 mod Turning
+mod Counted
+mod Stamps

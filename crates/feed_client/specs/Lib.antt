@@ -3,3 +3,4 @@ pub mod Refusals
 pub mod Copies
 pub mod Meeting
 pub mod Feeding
+pub mod Words

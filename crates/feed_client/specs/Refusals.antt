@@ -1,6 +1,6 @@
 -- What a session answers to a body.
 use Rattle.std.specs.Prelude.{◌≡◌, ◌++◌, ◌∷◌, [], ℕ, List, Result, Ok, Err, codes}
-use Rattle.review_ops.specs.Timestamp.{Timestamp, timestamp_text}
+use Rattle.review_ops.specs.Timestamp.{IsNumbered, Timestamp, timestamp_text}
 use Rattle.feed_client.specs.declared.intake.Refusal.{Refusal}
 use Rattle.feed_client.specs.declared.intake.Refusal.TheVariants.{NoMemory, BadText, BadBody, ClockSpent, Closed}
 use Rattle.feed_client.specs.declared.intake.IntakeFault.{IntakeFault}
@@ -30,10 +30,15 @@ IsRefusalText text (Refused refusal) = text ≡ text_of refusal
 IsRefusalText text fault.Ended = (refusal : Refusal) → ¬ (text ≡ text_of refusal)
 IsRefusalText text fault.NoMemory = ⊥
 
--- what is read of a line: a stamp or a refusal where the line is that of just it; no line of a refusal is read as the
--- end, and where memory is refused nothing is known of the line
+-- no session answers this line
+abbrev pub IsNoAnswer : List ℕ → Type 0
+IsNoAnswer line = ((refusal : Refusal) → ¬ (line ≡ no_word ++ text_of refusal))
+    × ((stamp : Timestamp) → IsNumbered stamp → ¬ (line ≡ ok_word ++ timestamp_text stamp))
+
+-- what is read of a line: a stamp or a refusal where the line is that of just it, and the end where it is no answer;
+-- where memory is refused nothing is known of the line
 abbrev pub IsAnswer : List ℕ → Result Timestamp IntakeFault → Type 0
 IsAnswer line (Ok stamp) = line ≡ ok_word ++ timestamp_text stamp
 IsAnswer line (Err (Refused refusal)) = line ≡ no_word ++ text_of refusal
-IsAnswer line (Err fault.Ended) = (refusal : Refusal) → ¬ (line ≡ no_word ++ text_of refusal)
+IsAnswer line (Err fault.Ended) = IsNoAnswer line
 IsAnswer line (Err fault.NoMemory) = Unit {0}

@@ -1,8 +1,10 @@
 //! Reads what a session answers to a body.
 
-ghost use Rattle.std.specs.Prelude.{◌≡◌, ◌++◌, ℕ, List, IfOk, IfSome, IsNone};
+ghost use Rattle.std.specs.Prelude.{◌≡◌, ◌++◌, ◌∷◌, ◌<◌, ◌^◌, ℕ, List, IfOk, IfSome, IsNone, IsSomeAnd, MatchOption};
+ghost use Rattle.std.specs.Prelude.{Some};
+ghost use Rattle.std.specs.Fmt.{decimal};
 ghost use Rattle.feed_client.specs.Refusals.{IsAnswer, IsRefusalText};
-ghost use Rattle.review_ops.specs.Timestamp.{timestamp_text};
+ghost use Rattle.review_ops.specs.Timestamp.{IsNumbered, Timestamp, timestamp_text};
 
 use super::intake::{IntakeFault, Refusal};
 use lattice_core::NoMemory;
@@ -63,7 +65,9 @@ fn read_refusal(text: &[u8]) -> IntakeFault
 /// The stamp that a text is, where it is one: four numbers in decimal, with commas between them, as a session writes
 /// them.
 fn read_stamp(alloc: Global, text: &[u8]) -> Result<Option<Stamp>, NoMemory>
-    ensures { IfOk result (λ read. IfSome read (λ stamp. text.now ≡ timestamp_text stamp)) }
+    ensures { IfOk result (λ read. MatchOption read
+        ((stamp : Timestamp) → IsNumbered stamp → ¬ (text.now ≡ timestamp_text stamp))
+        (λ stamp. text.now ≡ timestamp_text stamp)) }
 {
     let Some(stamp) = numbers_of(text) else {
         return Ok(None);
@@ -77,15 +81,29 @@ fn read_stamp(alloc: Global, text: &[u8]) -> Result<Option<Stamp>, NoMemory>
 }
 
 /// The stamp of four numbers, with commas between them.
-fn numbers_of(text: &[u8]) -> Option<Stamp> {
-    let text = str::from_utf8(text).ok()?;
-    let (time, text) = text.split_once(',')?;
-    let (site, text) = text.split_once(',')?;
-    let (start, seq) = text.split_once(',')?;
+fn numbers_of(text: &[u8]) -> Option<Stamp>
+    ensures { (stamp : Timestamp) → IsNumbered stamp → text.now ≡ timestamp_text stamp → result ≡ Some stamp }
+{
+    let Ok(text) = str::from_utf8(text) else {
+        return None;
+    };
+    let (time, text) = first_number(text)?;
+    let (site, text) = first_number(text)?;
+    let (start, text) = first_number(text)?;
+    let seq = text.parse::<u64>().ok()?;
     Stamp::new(
-        time.parse::<u64>().ok()?,
-        site.parse::<u16>().ok()?,
-        start.parse::<u32>().ok()?,
-        seq.parse::<u64>().ok()?,
+        time,
+        u16::try_from(site).ok()?,
+        u32::try_from(start).ok()?,
+        seq,
     )
+}
+
+/// The number before the first comma, and what follows that.
+fn first_number(text: &str) -> Option<(u64, &str)>
+    ensures { (number : ℕ) (rest : List ℕ) → number < 2 ^ 64 → text.now ≡ decimal number ++ 44 ∷ rest
+        → IsSomeAnd result (λ read. (read.0 ≡ number) × (read.1.now ≡ rest)) }
+{
+    let (digits, rest) = text.split_once(',')?;
+    Some((digits.parse::<u64>().ok()?, rest))
 }

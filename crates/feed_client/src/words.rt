@@ -1,5 +1,8 @@
 //! What the words after `events` ask for.
 
+ghost use Rattle.std.specs.Prelude.{◌∷◌, [], map};
+ghost use Rattle.feed_client.specs.Words.{Asks, IsFedTo};
+
 use std::convert::AsStr;
 
 /// What the words after `events` ask for.
@@ -17,30 +20,49 @@ pub enum EventWords {
 
 /// What the words after `events` ask for: none, `--to PORT` or `--to=PORT`, with a port from 1 to 65535, `--help` or
 /// `-h`.
-pub fn read_event_words<S: AsStr>(words: &[S]) -> EventWords {
+pub fn read_event_words<S: AsStr>(words: &[S]) -> EventWords
+    ensures { Asks (map S.text words.now) result }
+{
     match words {
         [] => EventWords::Output,
-        [option, port] if option.as_str() == "--to" => to(port.as_str()),
         [word] => one_word(word.as_str()),
-        _ => EventWords::Usage,
-    }
-}
-
-/// A feed of the site at a port, where the word is one.
-fn to(port: &str) -> EventWords {
-    match port.parse::<u16>() {
-        Ok(port) if port > 0 => EventWords::To(port),
+        [option, port] => two_words(option.as_str(), port.as_str()),
         _ => EventWords::Usage,
     }
 }
 
 /// What one word asks for.
-fn one_word(word: &str) -> EventWords {
+fn one_word(word: &str) -> EventWords
+    ensures { Asks (word.now ∷ []) result }
+{
     if word == "--help" || word == "-h" {
         return EventWords::Help;
     }
-    match word.split_once('=') {
-        Some(("--to", port)) => to(port),
-        _ => EventWords::Usage,
+    match word.strip_prefix("--to=") {
+        Some(port) => fed_to(port),
+        None => EventWords::Usage,
     }
+}
+
+/// What two words ask for.
+fn two_words(option: &str, port: &str) -> EventWords
+    ensures { Asks (option.now ∷ port.now ∷ []) result }
+{
+    if option != "--to" {
+        return EventWords::Usage;
+    }
+    fed_to(port)
+}
+
+/// A feed of the site at a port, where the text writes one.
+fn fed_to(text: &str) -> EventWords
+    ensures { IsFedTo text.now result }
+{
+    let Ok(port) = text.parse::<u16>() else {
+        return EventWords::Usage;
+    };
+    if port == 0 {
+        return EventWords::Usage;
+    }
+    EventWords::To(port)
 }
