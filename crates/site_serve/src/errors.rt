@@ -48,6 +48,7 @@ impl<E: Drain> Errors<E> {
         }
     }
 
+    /// Writes a line, unless the end doesn't take it.
     fn write(&self, rt: &impl Wait, line: &str) {
         let mut drain = self.drain.lock(rt);
         let _lost = write_all(&mut *drain, line.as_bytes());

@@ -1,20 +1,24 @@
 //! What belongs to one opening of a site. That a receipt which a window is handed comes from the window's own opening
 //! is part of their types.
 
-ghost use Rattle.std.specs.Prelude.{◌≡◌, ◌<◌, IfErr, IfOk, IfSome, List, MatchResult, None, OnOk, length, nat_lt, take};
-ghost use Rattle.std.specs.Prelude.{true};
+ghost use Rattle.std.specs.Prelude.{◌≡◌, ◌<◌, ◌∷◌, ◌⊎◌, ◌↔◌, [], Err, IfErr, IfOk, IfSome, IsOk, List, MatchResult};
+ghost use Rattle.std.specs.Prelude.{None, OnErr, OnOk, false, if◌then◌else◌, length, nat_lt, take, true};
 ghost use Rattle.std.specs.List.{list_any};
 ghost use Rattle.std.specs.Option.{option_copied};
 ghost use Rattle.ready_core.specs.Verdicts.{AreVerdicts};
 ghost use Rattle.replica_core.specs.Front.{IsFront};
-ghost use Rattle.replica_core.specs.Journal.{has_stamp};
+ghost use Rattle.replica_core.specs.Journal.{has, has_stamp};
 ghost use Rattle.replica_core.specs.JournalLaws.{IsPartOf};
 ghost use Rattle.replica_core.specs.Missing.{IsMissing};
+ghost use Rattle.review_ops.specs.Draft.{deed_of};
+ghost use Rattle.review_ops.specs.Good.{IsFaultless};
 ghost use Rattle.review_ops.specs.Operation.{Operation};
-ghost use Rattle.site_ledger.specs.Keeping.{is_over_after};
-ghost use Rattle.site_shared.specs.Accounts.{GoesOn, is_foreign, receipt_of, record_of};
+ghost use Rattle.site_ledger.specs.Keeping.{IsSameKeeping, is_over_after};
+ghost use Rattle.site_shared.specs.Accounts.{GoesOn, HasStamp, IsOwn, RefusesIntake, flushing, holding, is_foreign};
+ghost use Rattle.site_shared.specs.Accounts.{next_operation, receipt_of, record_of};
 ghost use Rattle.site_shared.specs.Publishes.{arrive};
 ghost use Rattle.site_shared.specs.Watches.{IsSameWatch, IsWatchOf, Refreshes, RefusesRefresh};
+ghost use Rattle.site_shared.specs.declared.fault.WindowFault.TheVariants.{Closed};
 ghost use Rattle.state_core.specs.State.{state_of};
 
 use gate_rules::Gate;
@@ -49,11 +53,15 @@ impl<J: Naming> OwnWindow<J> {
         }
     }
 
-    /// Sees no less than the publish that the receipt was answered for, from now on. One of another site or start isn't
-    /// of this opening.
+    /// Sees no less than the publish that the receipt was answered for, from now on, as `Window::learn` does. One of
+    /// another site or start isn't of this opening, and changes nothing.
     pub fn learn(&mut self, receipt: &BrandedReceipt<J>) -> Result<(), Stranger>
+        ensures own { IsOk result ↔ IsOwn self.old.window receipt.now }
         ensures later { GoesOn self.old.window self.new.window }
         ensures ok { OnOk result (IsPartOf (arrive receipt.now.published) (arrive self.new.window.seen)) }
+        ensures seen { OnOk result ((self.new.window.seen ≡ self.old.window.seen)
+            ⊎ (self.new.window.seen ≡ receipt.now.published)) }
+        ensures err { OnErr result (self.new.window ≡ self.old.window) }
     {
         later_journals_go_on();
         self.window.learn(receipt.receipt())
@@ -63,6 +71,7 @@ impl<J: Naming> OwnWindow<J> {
     pub fn report(&mut self, gate: &Gate) -> Result<Verdicts, WindowFault>
         ensures later { GoesOn self.old.window self.new.window }
         ensures ok { IfOk result (AreVerdicts gate.now (state_of (arrive self.new.window.seen))) }
+        ensures closed { result ≡ Err Closed → self.new.window ≡ self.old.window }
     {
         self.window.report(gate)
     }
@@ -71,6 +80,7 @@ impl<J: Naming> OwnWindow<J> {
     pub fn watch(&mut self, gate: Gate) -> Result<OwnWatch<J>, WindowFault>
         ensures later { GoesOn self.old.window self.new.window }
         ensures ok { IfOk result (λ watch. IsWatchOf gate self.new.window watch.watch) }
+        ensures closed { result ≡ Err Closed → self.new.window ≡ self.old.window }
     {
         let watch = self.window.watch(gate)?;
         Ok(OwnWatch {
@@ -94,6 +104,7 @@ impl<J: Naming> OwnWindow<J> {
     pub fn front(&mut self) -> Result<Front, WindowFault>
         ensures later { GoesOn self.old.window self.new.window }
         ensures ok { IfOk result (IsFront (arrive self.new.window.seen)) }
+        ensures closed { result ≡ Err Closed → self.new.window ≡ self.old.window }
     {
         self.window.front()
     }
@@ -104,6 +115,7 @@ impl<J: Naming> OwnWindow<J> {
         ensures ok { IfOk result
             (λ missing. (all : List Operation) × IsMissing (arrive self.new.window.seen) front.now all
             × (missing.ops.items ≡ take limit all) × (missing.more ≡ nat_lt limit (length all))) }
+        ensures closed { result ≡ Err Closed → self.new.window ≡ self.old.window }
     {
         self.window.missing(front, limit)
     }
@@ -113,6 +125,7 @@ impl<J: Naming> OwnWindow<J> {
         ensures later { GoesOn self.old.window self.new.window }
         ensures ok { IfOk result (λ found. found
             ≡ list_any (is_foreign self.old.window.site self.old.window.start (arrive self.new.window.seen)) ops.now) }
+        ensures closed { IfErr result (λ fault. (fault ≡ Closed) × (self.new.window ≡ self.old.window)) }
     {
         self.window.has_foreign(ops)
     }
@@ -121,6 +134,7 @@ impl<J: Naming> OwnWindow<J> {
     pub fn snapshot(&mut self) -> Result<Replica, WindowFault>
         ensures later { GoesOn self.old.window self.new.window }
         ensures ok { IfOk result (λ copied. copied ≡ arrive self.new.window.seen) }
+        ensures closed { result ≡ Err Closed → self.new.window ≡ self.old.window }
     {
         self.window.snapshot()
     }
@@ -165,10 +179,16 @@ impl<J: Naming, K: Keeps> OwnLedger<J, K> {
         }
     }
 
-    /// Stamps a body and holds it, without a publish.
+    /// Stamps a body and holds it, without a publish, as `Ledger::hold` does.
     pub fn hold(&mut self, draft: Draft) -> Result<Stamp, DeskFault>
-        ensures ok { IfOk result (λ stamp. has_stamp (record_of self.new.ledger.account) stamp ≡ true) }
+        ensures ok { IfOk result (λ stamp. let op = next_operation self.old.ledger.account (deed_of draft) in
+            HasStamp self.old.ledger.account × IsFaultless (deed_of draft)
+            × (self.new.ledger.account ≡ holding self.old.ledger.account (op ∷ [])) × (stamp ≡ op.stamp)) }
+        ensures has { IfOk result (λ stamp. has_stamp (record_of self.new.ledger.account) stamp ≡ true) }
         ensures grows { IsPartOf (record_of self.old.ledger.account) (record_of self.new.ledger.account) }
+        ensures err { IfErr result (λ fault. (self.new.ledger ≡ self.old.ledger)
+            × RefusesIntake self.old.ledger.account (deed_of draft) fault self.old.ledger.account) }
+        ensures same { IsSameKeeping self.old.ledger self.new.ledger }
     {
         match self.ledger.hold(draft) {
             Ok(stamp) => Ok(stamp),
@@ -176,20 +196,28 @@ impl<J: Naming, K: Keeps> OwnLedger<J, K> {
         }
     }
 
-    /// Holds an operation, unless it was published or is held.
+    /// Holds an operation, unless it was published or is held, as `Ledger::hold_new` does.
     pub fn hold_new(&mut self, op: Op) -> Result<(), NoMemory>
+        ensures ok { OnOk result (self.new.ledger.account ≡ (if has (record_of self.old.ledger.account) op
+            then self.old.ledger.account else holding self.old.ledger.account (op ∷ []))) }
         ensures grows { IsPartOf (record_of self.old.ledger.account) (record_of self.new.ledger.account) }
+        ensures err { OnErr result (self.new.ledger ≡ self.old.ledger) }
+        ensures same { IsSameKeeping self.old.ledger self.new.ledger }
     {
         self.ledger.hold_new(op)
     }
 
-    /// Has what is held kept, and then publishes it: all of it is in what the receipt has seen published.
+    /// Has what is held kept, and then publishes it, as `Ledger::publish` does: all of it is in what the receipt has
+    /// seen published.
     pub fn publish<R: Wait>(&mut self, rt: &R) -> Result<BrandedReceipt<J>, LedgerFault>
-        ensures ok { IfOk result (λ receipt. receipt ≡ receipt_of self.new.ledger.account None) }
+        ensures ok { IfOk result (λ receipt. (self.old.ledger.is_over ≡ false) × (self.new.ledger.is_over ≡ false)
+            × (self.new.ledger.account ≡ flushing self.old.ledger.account)
+            × (receipt ≡ receipt_of self.new.ledger.account None)) }
         ensures shown { IfOk result
             (λ receipt. IsPartOf (record_of self.old.ledger.account) (arrive receipt.published)) }
         ensures err { IfErr result (λ fault. (self.new.ledger.account ≡ self.old.ledger.account)
             × (self.new.ledger.is_over ≡ is_over_after fault)) }
+        ensures over { self.old.ledger.is_over ≡ true → self.new.ledger ≡ self.old.ledger }
     {
         match self.ledger.publish(rt) {
             Ok(receipt) => Ok(BrandedReceipt::new(receipt)),
