@@ -10,7 +10,7 @@ use byte_ends::Drain;
 use recover_command::show_torn;
 use replica_core::Replica;
 use review_ops::Op;
-use site_journal::{Journal, JournalFault, Started, Tape};
+use site_journal::{Journal, JournalFault, KeepFault, Started, Tape};
 use site_serve::ServeFault;
 use std::alloc::Global;
 use std::fs::File;
@@ -89,9 +89,12 @@ fn add_all<T: Tape>(journal: &mut Journal<T>, lacking: &mut Vec<Op>) -> Result<(
     if lacking.is_empty() {
         return Ok(());
     }
-    if journal.append(lacking.as_slice()).is_err() {
-        return Err(ServeFault::NoJournal);
+    match journal.append(lacking.as_slice()) {
+        Ok(()) => {
+            lacking.clear();
+            Ok(())
+        }
+        Err(KeepFault::NoMemory) => Err(ServeFault::NoMemory),
+        Err(_) => Err(ServeFault::NoJournal),
     }
-    lacking.clear();
-    Ok(())
 }
