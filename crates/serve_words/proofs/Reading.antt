@@ -14,7 +14,7 @@ use Rattle.clap.proofs.WalkLemmas.{one_text-rows, raw_values-rows}
 use Rattle.serve_words.specs.declared.words.ServeWords.{ServeWords}
 use Rattle.serve_words.specs.declared.words.ServeWords.TheVariants.{Serve, Help, Usage, NoMemory}
 use Rattle.serve_words.specs.Asking.{AreNoOptions, ArePorts, Asks, AsksForHelp, GivesFlag, GivesNumber, GivesPeers, GivesSite}
-use Rattle.serve_words.specs.Asking.{GivesStart, HasStart, IsFaulty, IsNoSite, IsRefused, IsSite, IsUsage, Means, Writes}
+use Rattle.serve_words.specs.Asking.{GivesStart, HasStart, IsFaulty, IsNoSite, IsRefused, IsSite, Means, Writes}
 use Rattle.serve_words.specs.Options.{serve_app}
 
 -- ---- what getters give, over the rows that they show
@@ -139,12 +139,6 @@ pub no_peers : (rows : List Row) (ports : List ℕ) → all_of (codes "PEER") ro
 no_peers rows ports none empty = rw (none, empty) tt
 
 -- ---- what is answered
-
-pub usage_means : (rows : List Row) (answer : ServeWords) → IsUsage answer → IsNoSite rows → Means rows answer
-usage_means rows (Serve serving) usage none = absurd usage
-usage_means rows (Help text) usage none = absurd usage
-usage_means rows (Usage text) usage none = none
-usage_means rows NoMemory usage none = usage
 
 pub asks_matched : (words : List Text) (rows : List Row) (answer : ServeWords) → fault_of serve_app words ≡ []
     → rows ≡ matches_of serve_app words → Means rows answer → Asks words answer
