@@ -22,11 +22,11 @@ const NO_EVENT: EventFault = EventFault::BadEvent(EventKey::Line);
 
 /// Reads the lines of a source, one after the other, and offers what each brings to a site, in order, but for what the
 /// state says already. What the site takes in is taken into the state, too. What is refused of the line of number n,
-/// counted from 1, is reported on the errors: by the line itself (`reviewgate: events 1 BadEvent n KEY`, `reviewgate:
-/// events 2 Dropped n`) or by the site (`reviewgate: events 6 Refused n NUMBER NAME`). A line of more than 1,048,576
-/// bytes is reported and passed over without being held, and what comes last without an LF is reported, too. Ends well
-/// at the end of the source. Refusals: 2 `Dropped`, Gerrit dropped events, which was reported; 3 `ReadFault`, the
-/// source failed, or gave 2^64 - 1 lines or blocks of one line; 4 `WriteFault`, the errors failed; 5 `NoMemory`; 8
+/// counted from 1, is reported on the errors: by the line itself (`reviewgate: events 1 BadEvent n KEY`,
+/// `reviewgate: events 2 Dropped n`) or by the site (`reviewgate: events 6 Refused n NUMBER NAME`). A line of more than
+/// 1,048,576 bytes is reported and passed over without being held, and what comes last without an LF is reported, too.
+/// Ends well at the end of the source. Refusals: 2 `Dropped`, Gerrit dropped events, which was reported; 3 `ReadFault`,
+/// the source failed, or gave 2^64 - 1 lines or blocks of one line; 4 `WriteFault`, the errors failed; 5 `NoMemory`; 8
 /// `Ended`, no answer came from the site. It costs O(n) for n bytes that are read and written, and O(log m) for each
 /// body, for m changes, patch sets and votes of the state.
 pub fn feed_site<S: Source, T: Intake, E: Drain>(
