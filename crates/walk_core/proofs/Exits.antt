@@ -14,7 +14,7 @@ use Rattle.walk_core.specs.RankLaws.{LeadsTo-trans, LeadsTo-edge}
 use Rattle.walk_core.specs.Components.{AreFirsts}
 use Rattle.walk_core.specs.Sums.{option_at, IsNext, AreNexts, IsHereOrNext, AreForks, AreSizes, IsWayOut}
 use Rattle.walk_core.proofs.EdgeLemmas.{Contains-more}
-use Rattle.walk_core.proofs.Writes.{none_read, slice_get-set_other, slice_get-set_same}
+use Rattle.walk_core.proofs.Writes.{same_read, slice_get-set_other, slice_get-set_same}
 use Rattle.walk_core.proofs.Gathering.{first_within}
 use Rattle.walk_core.proofs.Blocks.{count_none_of, count_within, count_yes, count_no, sorted_part_left}
 use Rattle.walk_core.proofs.Adding.{first_again}
@@ -38,7 +38,7 @@ module _ (graph : List (List ℕ)) (firsts : List ℕ) where
   pub nexts_none : (size : ℕ) → size ≡ length graph → AreNexts graph firsts (replicate size None)
   nexts_none size sized = record {
     size = length-replicate size None ∙ sized;
-    each = λ from to is. let no_next : None ≡ Some to = sym (none_read size from) ∙ is in cc;
+    each = λ from to is. let no_next : None ≡ Some to = sym (same_read size from None) ∙ is in cc;
   }
 
   module _ (are : AreFirsts graph firsts) (node : ℕ) (within : node < length graph) (ends : List ℕ)

@@ -11,7 +11,7 @@ use Rattle.std.proofs.lemmas.List.Sums.{sum_by-set}
 use Rattle.lattice_core.specs.MemberLaws.{Contains-none}
 use Rattle.walk_core.specs.Digraphs.{HasEdge, IsMarked, ends_of, row}
 use Rattle.walk_core.specs.Regions.{label_of, AreAlike, AreRegions, Waits, HasLabelled, is_label, has_label, AreGrouped}
-use Rattle.walk_core.proofs.Writes.{none_read, slice_get-set_other, slice_get-set_same}
+use Rattle.walk_core.proofs.Writes.{same_read, slice_get-set_other, slice_get-set_same}
 
 -- ---- labels read and written
 
@@ -186,8 +186,8 @@ pub regions_none : (graph : List (List ℕ)) (kept : List Bool) (size : ℕ) →
 regions_none graph kept size sized = record {
   size = length-replicate size None ∙ sized;
   named = λ x less. absurd (omega (arith, less));
-  within = λ x label is. let no_label : None ≡ Some label = sym (none_read size x) ∙ is in cc;
-  alike = λ x y x_kept y_kept edge. none_read size x ∙ sym (none_read size y);
+  within = λ x label is. let no_label : None ≡ Some label = sym (same_read size x None) ∙ is in cc;
+  alike = λ x y x_kept y_kept edge. same_read size x None ∙ sym (same_read size y None);
 }
 
 module _ (graph : List (List ℕ)) (kept : List Bool) (labels : List (Option ℕ)) (count : ℕ)

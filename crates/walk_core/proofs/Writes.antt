@@ -1,9 +1,8 @@
 -- What is read of a list after a write, and of a list of nothing.
-use Rattle.std.proofs.Common.{◌≡◌, ◌≢◌, ℕ, zero, suc, ◌<◌, List, [], ◌∷◌, length, replicate, set, get_or, Option, None}
-use Rattle.std.proofs.Common.{Some, inl, inr, refl, ap, ◌∙◌, arith}
+use Rattle.std.proofs.Common.{◌≡◌, ◌≢◌, ℕ, zero, suc, ◌<◌, List, [], ◌∷◌, length, replicate, set, get_or}
+use Rattle.std.proofs.Common.{Some, refl, ap, ◌∙◌, arith}
 use Rattle.std.specs.List.{slice_get}
-use Rattle.std.proofs.lemmas.Bool.{cases_lt}
-use Rattle.std.proofs.lemmas.List.{length-replicate, length-set, get_or_past, get_or-replicate, get_or-set_same}
+use Rattle.std.proofs.lemmas.List.{length-set, get_or-set_same}
 use Rattle.std.proofs.lemmas.Option.{slice_get-get_or}
 
 pub slice_get-set_other : {T : Type 0} (xs : List T) (i : ℕ) (y : T) (j : ℕ) → j ≢ i
@@ -19,8 +18,8 @@ slice_get-set_same xs i y within =
     let longer : i < length (set xs i y) = omega (arith, length-set xs i y) in
     slice_get-get_or (set xs i y) i y longer ∙ ap Some (get_or-set_same xs i y y within)
 
-pub none_read : (size x : ℕ) → get_or {A = Option ℕ} (replicate size None) x None ≡ None
-none_read size x = elim (cases_lt x size) [
-  | inl within ↦ get_or-replicate size x None None within
-  | inr past ↦ get_or_past (replicate size None) x None (omega (arith, past, length-replicate {A = Option ℕ} size None))
-]
+-- a list of one value has it at each place, and past its end it is read too
+pub same_read : {T : Type 0} (size x : ℕ) (value : T) → get_or (replicate size value) x value ≡ value
+same_read zero x value = refl
+same_read (suc size) zero value = refl
+same_read (suc size) (suc x) value = same_read size x value

@@ -1,11 +1,11 @@
 //! How many nodes each kept node leads to: counts that add up, and the others region by region in blocks of marks.
 
-ghost use Rattle.std.specs.Prelude.{◌≡◌, ◌↔◌, ◌<◌, ℕ, Contains, IfOk, MatchBool, length, slice_index};
+ghost use Rattle.std.specs.Prelude.{◌≡◌, ◌↔◌, ◌<◌, ℕ, Contains, IfOk, MatchBool, length, map, slice_index};
 ghost use Rattle.std.specs.Ordering.{nat_cmp};
 ghost use Rattle.std.specs.List.Sorted.{IsStrictlySortedBy};
 ghost use Rattle.walk_core.specs.Components.{AreFirsts};
-ghost use Rattle.walk_core.specs.Digraphs.{IsMarked};
-ghost use Rattle.walk_core.specs.Marks.{HoldEnds, LeadsToCount};
+ghost use Rattle.walk_core.specs.Digraphs.{IsMarked, ends_of};
+ghost use Rattle.walk_core.specs.Marks.{AreBare, AreCountsElsewhere, HoldEnds, LeadsToCount};
 ghost use Rattle.walk_core.specs.Sums.{LacksSum, PutsSums};
 
 use super::block::Marks;
@@ -75,20 +75,51 @@ fn other_counts<A: Allocator + Copy>(
     let target_rows = grouped(alloc, labels.as_slice(), targets)?;
     let mut rows = vec![in alloc; Marks::none(); graph.len()]?;
     for label in 0..graph.len() {
-        let region = node_rows[label].as_slice();
-        if have_sums(firsts, sums, region) {
-            continue;
-        }
-        count_targets(
-            graph,
-            firsts,
-            region,
-            target_rows[label].as_slice(),
-            &mut rows,
-            &mut counts,
-        );
+        let region = row_of(node_rows.as_slice(), label);
+        let inside = row_of(target_rows.as_slice(), label);
+        count_region(graph, firsts, sums, region, inside, &mut rows, &mut counts);
     }
     Ok(counts)
+}
+
+/// The nodes in the row of a label.
+fn row_of<A: Allocator>(rows: &[Vec<usize, A>], label: usize) -> &[usize]
+    requires { label < length rows.now }
+    ensures { result.now ≡ ends_of (map (λ row. row.items) rows.now) label }
+{
+    rows[label].as_slice()
+}
+
+/// Counts the targets that each node of a region leads to, at its first node, unless each of them has a sum.
+fn count_region<A: Allocator + Copy>(
+    graph: &Digraph<A>,
+    firsts: &[usize],
+    sums: &[Option<usize>],
+    region: &[usize],
+    targets: &[usize],
+    rows: &mut Vec<Marks, A>,
+    counts: &mut Vec<usize, A>,
+)
+    requires firsts { AreFirsts graph.now firsts.now }
+    requires sums { length sums.now ≡ length graph.now }
+    requires region { HoldEnds graph.now region.now }
+    requires targets { (target : ℕ) → Contains targets.now target → Contains region.now target }
+    requires in_order { IsStrictlySortedBy nat_cmp targets.now }
+    requires rows { length rows.old.items ≡ length graph.now }
+    requires bare { AreBare rows.old.items }
+    requires counts { length counts.old.items ≡ length graph.now }
+    requires zero { (x : ℕ) → Contains region.now x → slice_index counts.old.items (slice_index firsts.now x) ≡ 0 }
+    ensures rows { length rows.new.items ≡ length graph.now }
+    ensures bare { AreBare rows.new.items }
+    ensures counts { length counts.new.items ≡ length graph.now }
+    ensures each { (x : ℕ) → Contains region.now x → LacksSum firsts.now sums.now x
+        → LeadsToCount graph.now targets.now x (slice_index counts.new.items (slice_index firsts.now x)) }
+    ensures elsewhere { AreCountsElsewhere firsts.now region.now counts.old.items counts.new.items }
+{
+    if have_sums(firsts, sums, region) {
+        return;
+    }
+    count_targets(graph, firsts, region, targets, rows, counts);
 }
 
 /// Whether each of the nodes has a sum, at its first node.
