@@ -1,11 +1,11 @@
 -- What a getter of clap's matches gives, over the rows that they show; and when no command was matched.
-use Rattle.std.proofs.Common.{◌≡◌, ◌≢◌, ◌⊎◌, ◌∙◌, ℕ, List, [], Option, None, Some, MatchOption, Ok, Err, Result, Bor}
+use Rattle.std.proofs.Common.{◌≡◌, ◌⊎◌, ◌∙◌, ℕ, List, [], Option, None, Some, MatchOption, Ok, Err, Result, Bor}
 use Rattle.std.proofs.Common.{refl, ap, sym, subst, IfSome, IfNone, arith, inl, inr, option_map, codes, slice_index}
 use Rattle.std.specs.Prelude.{◌<◌, length}
 use Rattle.std.specs.List.{position_or_len, before_first, after_first}
 use Rattle.std.specs.Result.{result_ok}
 use Rattle.std.specs.Str.Parse.{ParsesUnsigned}
-use Rattle.clap.specs.Words.{IsAmong, Row, Text, fault_of, first_of, first_value, rows_of, subcommand_of}
+use Rattle.clap.specs.Words.{App, IsAmong, Row, Text, fault_of, first_of, first_value, rows_of, subcommand_of}
 use Rattle.clap.specs.declared.error.kind.ErrorKind.{ErrorKind}
 use Rattle.clap.specs.declared.error.kind.ErrorKind.TheVariants.{DisplayHelp, DisplayVersion, OutOfMemory}
 use Rattle.clap.specs.declared.parser.matches.Found.{Found}
@@ -13,10 +13,11 @@ use Rattle.clap.proofs.WalkLemmas.{first_value-rows}
 use Rattle.command_line.specs.declared.words.Command.{Command}
 use Rattle.command_line.specs.declared.words.Command.TheVariants.{Simulate, Ready, Merge, Footers, Why, Graph, Help}
 use Rattle.command_line.specs.declared.words.Command.TheVariants.{Usage, NoMemory}
-use Rattle.command_line.specs.Asking.{AsksForHelp, Gives, GivesAround, GivesChange, GivesItem, NamesItem, is_comma}
-use Rattle.command_line.specs.Asking.{Asks, Means, IsCommand, IsFaultless, IsFaulty, IsNoCommand, IsRefused, Matched}
+use Rattle.command_line.specs.Asking.{Gives, GivesAround, GivesChange, GivesItem, NamesItem, is_comma}
+use Rattle.command_line.specs.Asking.{Asks, Means, IsCommand, IsFaultless, IsNoCommand, IsRefused, Matched}
 use Rattle.command_line.specs.Asking.{WritesNumber}
 use Rattle.command_line.specs.Commands.{program}
+use Rattle.command_line.specs.Faulty.{AsksForHelp, IsFaulty, IsHelp, IsMistake}
 
 -- ---- what a getter gives
 
@@ -265,16 +266,17 @@ asks_matched words matched (Help text) faultless same means = absurd means
 asks_matched words matched (Usage text) faultless same means = inr (subst IsNoCommand same means)
 asks_matched words matched NoMemory faultless same means = means
 
-asks_help : (words : List Text) (kind : ErrorKind) → (kind ≡ OutOfMemory) ⊎ IsAmong kind (fault_of program words)
-    → (kind ≡ DisplayHelp) ⊎ (kind ≡ DisplayVersion) → AsksForHelp words
-asks_help words kind (inl memory) (inl help) = let bad : OutOfMemory ≡ DisplayHelp = sym memory ∙ help in cc
-asks_help words kind (inl memory) (inr version) = let bad : OutOfMemory ≡ DisplayVersion = sym memory ∙ version in cc
-asks_help words kind (inr among) asks = (kind, among, asks)
+pub asks_help : (app : App) (words : List Text) (kind : ErrorKind)
+    → (kind ≡ OutOfMemory) ⊎ IsAmong kind (fault_of app words) → IsHelp kind → AsksForHelp app words
+asks_help app words kind (inl memory) (inl help) = let bad : OutOfMemory ≡ DisplayHelp = sym memory ∙ help in cc
+asks_help app words kind (inl memory) (inr version) =
+    let bad : OutOfMemory ≡ DisplayVersion = sym memory ∙ version in cc
+asks_help app words kind (inr among) asks = (kind, among, asks)
 
-is_faulty : (words : List Text) (kind : ErrorKind) → (kind ≡ OutOfMemory) ⊎ IsAmong kind (fault_of program words)
-    → (kind ≢ OutOfMemory) × (kind ≢ DisplayHelp) × (kind ≢ DisplayVersion) → IsFaulty words
-is_faulty words kind (inl memory) not = absurd (not.0 memory)
-is_faulty words kind (inr among) not = (kind, among, not.1, not.2)
+pub is_faulty : (app : App) (words : List Text) (kind : ErrorKind)
+    → (kind ≡ OutOfMemory) ⊎ IsAmong kind (fault_of app words) → IsMistake kind → IsFaulty app words
+is_faulty app words kind (inl memory) not = absurd (not.0 memory)
+is_faulty app words kind (inr among) not = (kind, among, not.1, not.2)
 
 pub asks_refused : (words : List Text) (kind : ErrorKind) (command : Command)
     → (kind ≡ OutOfMemory) ⊎ IsAmong kind (fault_of program words) → IsRefused kind command → Asks words command
@@ -284,6 +286,6 @@ asks_refused words kind (Merge first second) has refused = absurd refused
 asks_refused words kind (Footers gate message change) has refused = absurd refused
 asks_refused words kind (Why gate snapshot change set) has refused = absurd refused
 asks_refused words kind (Graph gate snapshot around) has refused = absurd refused
-asks_refused words kind (Help text) has refused = asks_help words kind has refused
-asks_refused words kind (Usage text) has refused = inl (is_faulty words kind has refused)
+asks_refused words kind (Help text) has refused = asks_help program words kind has refused
+asks_refused words kind (Usage text) has refused = inl (is_faulty program words kind has refused)
 asks_refused words kind NoMemory has refused = refused

@@ -1,17 +1,16 @@
 -- What the words of a command line ask for. Which command words name, what they give its arguments, and what is wrong
 -- with them is clap's (docs.rs/clap), over the program's commands.
-use Rattle.std.specs.Prelude.{◌≡◌, ◌≢◌, ◌⊎◌, ◌<◌, ◌==◌, ◌^◌, ℕ, Bool, List, [], MatchOption, Option, None, Some, codes}
-use Rattle.std.specs.Prelude.{length}
-use Rattle.std.specs.Prelude.{option_map}
+use Rattle.std.specs.Prelude.{◌≡◌, ◌⊎◌, ◌<◌, ◌==◌, ◌^◌, ℕ, Bool, List, [], MatchOption, Option, None, Some, codes}
+use Rattle.std.specs.Prelude.{length, option_map}
 use Rattle.std.specs.List.{position_or_len, before_first, after_first}
 use Rattle.std.specs.Str.Parse.{IsNumeral, digits_value, without_leading_plus}
-use Rattle.clap.specs.Words.{Row, Text, first_of, subcommand_of, fault_of, IsAmong}
+use Rattle.clap.specs.Words.{Row, Text, first_of, subcommand_of, fault_of}
 use Rattle.clap.specs.declared.error.kind.ErrorKind.{ErrorKind}
-use Rattle.clap.specs.declared.error.kind.ErrorKind.TheVariants.{DisplayHelp, DisplayVersion, OutOfMemory}
 use Rattle.command_line.specs.declared.words.Command.{Command}
 use Rattle.command_line.specs.declared.words.Command.TheVariants.{Simulate, Ready, Merge, Footers, Why, Graph, Help}
 use Rattle.command_line.specs.declared.words.Command.TheVariants.{Usage, NoMemory}
 use Rattle.command_line.specs.Commands.{program}
+use Rattle.command_line.specs.Faulty.{AsksForHelp, IsFaulty, IsHelp, IsMistake}
 
 -- what clap matched: the command that the words name, if they name one, and the values of its arguments
 abbrev pub Matched : Type 0
@@ -74,16 +73,6 @@ IsCommand matched (Help text) = ⊥
 IsCommand matched (Usage text) = ⊥
 IsCommand matched NoMemory = ⊥
 
--- the words ask for help, or for the version
-abbrev pub AsksForHelp : List Text → Type 0
-AsksForHelp words =
-    (kind : ErrorKind) × IsAmong kind (fault_of program words) × ((kind ≡ DisplayHelp) ⊎ (kind ≡ DisplayVersion))
-
--- something else is wrong with the words
-abbrev pub IsFaulty : List Text → Type 0
-IsFaulty words =
-    (kind : ErrorKind) × IsAmong kind (fault_of program words) × (kind ≢ DisplayHelp) × (kind ≢ DisplayVersion)
-
 -- it is no command, or lacks something
 abbrev pub IsNoCommand : Matched → Type 0
 IsNoCommand matched = (command : Command) → ¬ IsCommand matched command
@@ -103,8 +92,8 @@ Asks words (Why gate snapshot change set) =
     IsFaultless words × IsCommand (subcommand_of program words) (Why gate snapshot change set)
 Asks words (Graph gate snapshot around) =
     IsFaultless words × IsCommand (subcommand_of program words) (Graph gate snapshot around)
-Asks words (Help text) = AsksForHelp words
-Asks words (Usage text) = IsFaulty words ⊎ IsNoCommand (subcommand_of program words)
+Asks words (Help text) = AsksForHelp program words
+Asks words (Usage text) = IsFaulty program words ⊎ IsNoCommand (subcommand_of program words)
 Asks words NoMemory = Unit {0}
 
 -- what was matched is this command
@@ -127,8 +116,8 @@ IsRefused kind (Merge first second) = ⊥
 IsRefused kind (Footers gate message change) = ⊥
 IsRefused kind (Why gate snapshot change set) = ⊥
 IsRefused kind (Graph gate snapshot around) = ⊥
-IsRefused kind (Help text) = (kind ≡ DisplayHelp) ⊎ (kind ≡ DisplayVersion)
-IsRefused kind (Usage text) = (kind ≢ OutOfMemory) × (kind ≢ DisplayHelp) × (kind ≢ DisplayVersion)
+IsRefused kind (Help text) = IsHelp kind
+IsRefused kind (Usage text) = IsMistake kind
 IsRefused kind NoMemory = Unit {0}
 
 -- something is wrong with the words, or memory was refused for saying so

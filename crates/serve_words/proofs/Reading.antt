@@ -1,20 +1,21 @@
 -- What options give, over the rows that clap's getters show, and what is answered of that.
-use Rattle.std.proofs.Common.{◌≡◌, ◌≢◌, ◌⊎◌, ◌∙◌, ℕ, List, [], ◌∷◌, map, Option, None, Some, MatchOption, MatchBool, Bool}
+use Rattle.std.proofs.Common.{◌≡◌, ◌⊎◌, ◌∙◌, ℕ, List, [], ◌∷◌, map, Option, None, Some, MatchOption, MatchBool, Bool}
 use Rattle.std.proofs.Common.{true, false, not, Bor, option_map, is_some, IfSome, IfNone, refl, sym, ap, subst, inl, inr, codes}
 use Rattle.std.proofs.Common.{◌<◌, length, get_or}
 use Rattle.std.specs.List.{AllZip}
 use Rattle.clap.specs.Words.{IsAmong, Row, Text, all_of, fault_of, first_of, matched_of, matches_of, one_text}
 use Rattle.clap.specs.Words.{raw_values, rows_of}
 use Rattle.clap.specs.declared.error.kind.ErrorKind.{ErrorKind}
-use Rattle.clap.specs.declared.error.kind.ErrorKind.TheVariants.{DisplayHelp, DisplayVersion, OutOfMemory}
+use Rattle.clap.specs.declared.error.kind.ErrorKind.TheVariants.{OutOfMemory}
 use Rattle.clap.specs.declared.parser.matches.Found.{Found}
 use Rattle.std.proofs.lemmas.Option.{slice_get-get_or}
 use Rattle.lattice_core.specs.ZipLaws.{AllZip-at}
 use Rattle.clap.proofs.WalkLemmas.{one_text-rows, raw_values-rows}
+use Rattle.command_line.proofs.Asking.{asks_help, is_faulty}
 use Rattle.serve_words.specs.declared.words.ServeWords.{ServeWords}
 use Rattle.serve_words.specs.declared.words.ServeWords.TheVariants.{Serve, Help, Usage, NoMemory}
-use Rattle.serve_words.specs.Asking.{AreNoOptions, ArePorts, Asks, AsksForHelp, GivesFlag, GivesNumber, GivesPeers, GivesSite}
-use Rattle.serve_words.specs.Asking.{GivesStart, HasStart, IsFaulty, IsNoSite, IsRefused, IsSite, Means, Writes}
+use Rattle.serve_words.specs.Asking.{AreNoOptions, ArePorts, Asks, GivesFlag, GivesNumber, GivesPeers, GivesSite}
+use Rattle.serve_words.specs.Asking.{GivesStart, HasStart, IsNoSite, IsRefused, IsSite, Means, Writes}
 use Rattle.serve_words.specs.Options.{serve_app}
 
 -- ---- what getters give, over the rows that they show
@@ -148,20 +149,9 @@ asks_matched words rows (Help text) faultless same means = absurd means
 asks_matched words rows (Usage text) faultless same means = inr (subst IsNoSite same means)
 asks_matched words rows NoMemory faultless same means = means
 
-asks_help : (words : List Text) (kind : ErrorKind) → (kind ≡ OutOfMemory) ⊎ IsAmong kind (fault_of serve_app words)
-    → (kind ≡ DisplayHelp) ⊎ (kind ≡ DisplayVersion) → AsksForHelp words
-asks_help words kind (inl memory) (inl help) = let bad : OutOfMemory ≡ DisplayHelp = sym memory ∙ help in cc
-asks_help words kind (inl memory) (inr version) = let bad : OutOfMemory ≡ DisplayVersion = sym memory ∙ version in cc
-asks_help words kind (inr among) asks = (kind, among, asks)
-
-is_faulty : (words : List Text) (kind : ErrorKind) → (kind ≡ OutOfMemory) ⊎ IsAmong kind (fault_of serve_app words)
-    → (kind ≢ OutOfMemory) × (kind ≢ DisplayHelp) × (kind ≢ DisplayVersion) → IsFaulty words
-is_faulty words kind (inl memory) not = absurd (not.0 memory)
-is_faulty words kind (inr among) not = (kind, among, not.1, not.2)
-
 pub asks_refused : (words : List Text) (kind : ErrorKind) (answer : ServeWords)
     → (kind ≡ OutOfMemory) ⊎ IsAmong kind (fault_of serve_app words) → IsRefused kind answer → Asks words answer
 asks_refused words kind (Serve serving) has refused = absurd refused
-asks_refused words kind (Help text) has refused = asks_help words kind has refused
-asks_refused words kind (Usage text) has refused = inl (is_faulty words kind has refused)
+asks_refused words kind (Help text) has refused = asks_help serve_app words kind has refused
+asks_refused words kind (Usage text) has refused = inl (is_faulty serve_app words kind has refused)
 asks_refused words kind NoMemory has refused = refused

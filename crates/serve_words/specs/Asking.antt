@@ -1,13 +1,13 @@
 -- What the words after `serve` ask for. What they give each option, and what is wrong with them, is clap's
 -- (docs.rs/clap). The options and their ranges are the project's own.
-use Rattle.std.specs.Prelude.{◌≡◌, ◌≢◌, ◌⊎◌, ◌≤◌, ℕ, Bool, true, false, List, [], MatchOption, Option, None, Some}
+use Rattle.std.specs.Prelude.{◌≡◌, ◌⊎◌, ◌≤◌, ℕ, Bool, true, false, List, [], MatchOption, Option, None, Some}
 use Rattle.std.specs.Prelude.{codes, option_map, unwrap_or}
 use Rattle.std.specs.List.{AllZip}
 use Rattle.std.specs.Str.Parse.{IsNumeral, digits_value, without_leading_plus}
-use Rattle.clap.specs.Words.{IsAmong, Row, Text, all_of, fault_of, first_of, matches_of, one_of}
+use Rattle.clap.specs.Words.{Row, Text, all_of, fault_of, first_of, matches_of, one_of}
 use Rattle.clap.specs.declared.error.kind.ErrorKind.{ErrorKind}
-use Rattle.clap.specs.declared.error.kind.ErrorKind.TheVariants.{DisplayHelp, DisplayVersion, OutOfMemory}
 use Rattle.command_line.specs.Asking.{Gives}
+use Rattle.command_line.specs.Faulty.{AsksForHelp, IsFaulty, IsHelp, IsMistake}
 use Rattle.serve_words.specs.Options.{serve_app}
 use Rattle.serve_words.specs.declared.words.Serving.{Serving}
 use Rattle.serve_words.specs.declared.words.ServeWords.{ServeWords}
@@ -75,21 +75,11 @@ IsNoSite rows = (serving : Serving) → ¬ IsSite rows serving
 abbrev pub AreNoOptions : List Row → Type 0
 AreNoOptions rows = (serving : Serving) → ¬ AreOptions rows serving
 
--- the words ask for help
-abbrev pub AsksForHelp : List Text → Type 0
-AsksForHelp words =
-    (kind : ErrorKind) × IsAmong kind (fault_of serve_app words) × ((kind ≡ DisplayHelp) ⊎ (kind ≡ DisplayVersion))
-
--- something else is wrong with the words
-abbrev pub IsFaulty : List Text → Type 0
-IsFaulty words =
-    (kind : ErrorKind) × IsAmong kind (fault_of serve_app words) × (kind ≢ DisplayHelp) × (kind ≢ DisplayVersion)
-
 -- the words ask for this site, or for what is answered in its place; memory may be refused at any words
 abbrev pub Asks : List Text → ServeWords → Type 0
 Asks words (Serve serving) = (fault_of serve_app words ≡ []) × IsSite (matches_of serve_app words) serving
-Asks words (Help text) = AsksForHelp words
-Asks words (Usage text) = IsFaulty words ⊎ IsNoSite (matches_of serve_app words)
+Asks words (Help text) = AsksForHelp serve_app words
+Asks words (Usage text) = IsFaulty serve_app words ⊎ IsNoSite (matches_of serve_app words)
 Asks words NoMemory = Unit {0}
 
 -- what was matched means this
@@ -102,8 +92,8 @@ Means rows NoMemory = Unit {0}
 -- how a fault of this kind is answered
 abbrev pub IsRefused : ErrorKind → ServeWords → Type 0
 IsRefused kind (Serve serving) = ⊥
-IsRefused kind (Help text) = (kind ≡ DisplayHelp) ⊎ (kind ≡ DisplayVersion)
-IsRefused kind (Usage text) = (kind ≢ OutOfMemory) × (kind ≢ DisplayHelp) × (kind ≢ DisplayVersion)
+IsRefused kind (Help text) = IsHelp kind
+IsRefused kind (Usage text) = IsMistake kind
 IsRefused kind NoMemory = Unit {0}
 
 -- something is wrong with the words, or memory was refused for saying so
