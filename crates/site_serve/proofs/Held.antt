@@ -1,21 +1,20 @@
 -- What is held is in the record, stays in it, and is published with it.
-use Rattle.std.proofs.Common.{◌≡◌, ◌<◌, Bool, true, false, List, [], ◌∷◌, ◌++◌, Option, Some, None, Result, Ok, Err}
-use Rattle.std.proofs.Common.{IfOk, OnOk, OnErr, if◌then◌else◌, length, get_or, refl, ap, sym, subst, ◌∙◌, arith}
+use Rattle.std.proofs.Common.{◌≡◌, Bool, true, false, List, [], ◌∷◌, ◌++◌, Option, Some, None, Result, Ok, Err}
+use Rattle.std.proofs.Common.{IfOk, OnOk, OnErr, if◌then◌else◌, get_or, refl, ap, sym, subst, ◌∙◌}
 use Rattle.std.proofs.lemmas.Bool.{or_left}
 use Rattle.std.proofs.lemmas.List.Elements.{All-nil, All-push}
-use Rattle.std.proofs.lemmas.List.Sums.{fold_push}
 use Rattle.lattice_core.specs.Exact.{test_of_same}
 use Rattle.std.specs.List.{All}
 use Rattle.std.specs.Ordering.{eq_by_cmp}
 use Rattle.review_ops.specs.Operation.{Operation}
 use Rattle.review_ops.specs.Timestamp.{Timestamp, timestamp_cmp, timestamps_exact}
 use Rattle.replica_core.specs.InOrder.{same_itself}
-use Rattle.replica_core.specs.Journal.{all_arrived, has, has_stamp, same_operation}
+use Rattle.replica_core.specs.Journal.{has, has_stamp, same_operation}
 use Rattle.replica_core.specs.JournalLaws.{IsPartOf, all_arrived-push, has-all_arrived, has-append_right, kept-arrived}
 use Rattle.replica_core.specs.JournalLaws.{one_passes, part_passes}
 use Rattle.site_serve.specs.Acknowledged.{IsHeldBy, IsTakenInto, has_stamped}
 use Rattle.site_ledger.specs.Keeping.{Entries}
-use Rattle.site_shared.specs.Accounts.{Account, Extent, flushing, holding, receipt_of, record_of}
+use Rattle.site_shared.specs.Accounts.{Account, Extent, holding, record_of}
 use Rattle.site_shared.specs.Publishes.{arrive}
 use Rattle.site_shared.specs.declared.fault.DeskFault.{DeskFault}
 

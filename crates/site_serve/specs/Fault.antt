@@ -1,12 +1,10 @@
--- The numbers and names of faults, and with which a site ends where it isn't opened, or a window or a watch of its own
--- fails. They are the project's own.
+-- The numbers and names of faults, and with which a site ends where it isn't opened, or a window of its own fails. They
+-- are the project's own.
 use Rattle.std.specs.Prelude.{ℕ, List, codes}
 use Rattle.site_serve.specs.declared.setup.ServeFault.{ServeFault}
 use Rattle.site_serve.specs.declared.setup.ServeFault.TheVariants.{NoBind, StartUsed, NoMemory, NoPlace, NoSave, NoJournal, Locked, StartTaken}
 use Rattle.site_shared.specs.declared.fault.OpenFault.{OpenFault}
 use Rattle.site_shared.specs.declared.fault.OpenFault.TheVariants as opening
-use Rattle.site_shared.specs.declared.fault.RefreshFault.{RefreshFault}
-use Rattle.site_shared.specs.declared.fault.RefreshFault.TheVariants as refresh
 use Rattle.site_shared.specs.declared.fault.WindowFault.{WindowFault}
 use Rattle.site_shared.specs.declared.fault.WindowFault.TheVariants as window
 
@@ -38,9 +36,3 @@ after_opening opening.StartUsed = StartUsed
 abbrev pub after_window : WindowFault → ServeFault
 after_window window.NoMemory = NoMemory
 after_window window.Closed = NoPlace
-
--- a watch of another site or start is none of its own
-abbrev pub after_refresh : RefreshFault → ServeFault
-after_refresh refresh.Stranger = NoPlace
-after_refresh refresh.NoMemory = NoMemory
-after_refresh refresh.Closed = NoPlace

@@ -1,18 +1,19 @@
 //! Prints the report of a site whenever it changes.
 
-ghost use Rattle.std.specs.Prelude.{◌≡◌, IfOk, IfSome, OnOk};
-ghost use Rattle.site_serve.specs.Fault.{after_refresh, after_window};
+ghost use Rattle.std.specs.Prelude.{◌≡◌, IfOk};
+ghost use Rattle.std.specs.Option.{ForSome};
+ghost use Rattle.site_serve.specs.Fault.{after_window};
 ghost use Rattle.site_serve.specs.Reports.{IsReportOf};
 ghost use Rattle.site_shared.specs.Accounts.{GoesOn};
-ghost use Rattle.site_shared.specs.Watches.{IsWatchOf};
 
+use super::kept::brought_up;
 use super::news::News;
 use super::opening::{OwnWatch, OwnWindow};
 use super::setup::ServeFault;
 use byte_ends::{Drain, Ends, write_all};
 use gate_rules::Gate;
 use report_text::write_report;
-use site_shared::{Naming, RefreshFault, WindowFault};
+use site_shared::{Naming, WindowFault};
 use std::alloc::Global;
 use std::io;
 use std::sync::Wait;
@@ -52,11 +53,11 @@ pub fn print_reports<R: Wait + Clock, W: Drain + Drop, J: Naming>(
     };
     let mut output = output;
     let mut last = Vec::new(alloc);
-    let mut watch = None;
+    let mut kept = None;
     let mut is_over = false;
     for _ in rt.forever() {
         let begun = Instant::now(rt);
-        let text = report_text(alloc, gate, &mut printed.window, &mut watch);
+        let text = report_text(alloc, gate, &mut printed.window, &mut kept);
         let rest = rest_since(rt, begun);
         match text {
             Ok(text) => {
@@ -91,55 +92,25 @@ fn rest_since<R: Clock>(rt: &R, begun: io::Result<Instant>) -> Duration {
     }
 }
 
-/// The text of the report of what a window shows, by a watch of it, which is made where there is none.
+/// The text of the report of what a window shows, by the verdicts that are kept.
 fn report_text<J: Naming>(
     alloc: Global,
     gate: &Gate,
     window: &mut OwnWindow<J>,
-    watch: &mut Option<OwnWatch<J>>,
+    kept: &mut Option<OwnWatch<J>>,
 ) -> Result<Vec<u8>, ServeFault>
-    requires { IfSome watch.old (λ kept. kept.watch.gate ≡ gate.now) }
-    ensures gate { IfSome watch.new (λ kept. kept.watch.gate ≡ gate.now) }
-    ensures later { OnOk result (GoesOn window.old.window window.new.window) }
+    requires { ForSome kept.old (λ watch. watch.watch.gate ≡ gate.now) }
+    ensures gate { ForSome kept.new (λ watch. watch.watch.gate ≡ gate.now) }
+    ensures later { GoesOn window.old.window window.new.window }
     ensures text { IfOk result (λ text. IsReportOf gate.now window.new.window.seen text.items) }
 {
-    if let Some(kept) = watch {
-        return refreshed_text(alloc, window, kept);
-    }
-    let made = new_watch(gate, window)?;
-    let text = text_of(alloc, &made);
-    *watch = Some(made);
-    text
-}
-
-/// The text of the report of what a window shows, by a watch that is brought up to date.
-fn refreshed_text<J: Naming>(
-    alloc: Global,
-    window: &mut OwnWindow<J>,
-    watch: &mut OwnWatch<J>,
-) -> Result<Vec<u8>, ServeFault>
-    ensures gate { watch.new.watch.gate ≡ watch.old.watch.gate }
-    ensures later { GoesOn window.old.window window.new.window }
-    ensures text { IfOk result (λ text. IsReportOf watch.old.watch.gate window.new.window.seen text.items) }
-{
-    match window.refresh(watch) {
-        Ok(()) => text_of(alloc, watch),
-        Err(fault) => Err(refresh_fault(fault)),
-    }
-}
-
-/// A watch of what a window shows, under a copy of a gate.
-fn new_watch<J: Naming>(gate: &Gate, window: &mut OwnWindow<J>) -> Result<OwnWatch<J>, ServeFault>
-    ensures later { OnOk result (GoesOn window.old.window window.new.window) }
-    ensures ok { IfOk result (λ made. IsWatchOf gate.now window.new.window made.watch) }
-{
-    let Ok(copy) = gate.copy() else {
-        return Err(ServeFault::NoMemory);
+    let watch = match brought_up(gate, window, kept.take()) {
+        Ok(watch) => watch,
+        Err(fault) => return Err(serve_fault(fault)),
     };
-    match window.watch(copy) {
-        Ok(made) => Ok(made),
-        Err(fault) => Err(serve_fault(fault)),
-    }
+    let text = text_of(alloc, &watch);
+    *kept = Some(watch);
+    text
 }
 
 /// The text of the report of what a watch saw. It has no verdicts only where memory was refused.
@@ -163,15 +134,5 @@ pub fn serve_fault(fault: WindowFault) -> ServeFault
     match fault {
         WindowFault::NoMemory => ServeFault::NoMemory,
         WindowFault::Closed => ServeFault::NoPlace,
-    }
-}
-
-/// How a site fails where a watch of its own isn't brought up to date. One of another site or start isn't its own.
-fn refresh_fault(fault: RefreshFault) -> ServeFault
-    ensures { result ≡ after_refresh fault }
-{
-    match fault {
-        RefreshFault::NoMemory => ServeFault::NoMemory,
-        RefreshFault::Stranger | RefreshFault::Closed => ServeFault::NoPlace,
     }
 }

@@ -75,13 +75,13 @@ fn pull_round<R: Wait + Clock + Net<Stream = TcpStream>, E: Drain, J: Naming>(
         }
         if condition != peer.condition {
             peer.condition = condition;
-            tell(rt, pulling.alloc, peer, errors);
+            report_condition(rt, pulling.alloc, peer, errors);
         }
     }
 }
 
 /// Writes what is wrong with a peer.
-fn tell<E: Drain>(rt: &impl Wait, alloc: Global, peer: &Peer, errors: &Errors<E>) {
+fn report_condition<E: Drain>(rt: &impl Wait, alloc: Global, peer: &Peer, errors: &Errors<E>) {
     match peer.condition {
         Condition::Well => {}
         Condition::Unreachable => errors.not_reached(rt, alloc, peer.port),

@@ -7,6 +7,7 @@ mod desk;
 mod errors;
 mod evaluator;
 mod gossip;
+mod kept;
 mod news;
 mod opening;
 mod port;

@@ -67,15 +67,6 @@ impl<J: Naming> OwnWindow<J> {
         self.window.learn(receipt.receipt())
     }
 
-    /// Which items are ready, and why each other one isn't.
-    pub fn report(&mut self, gate: &Gate) -> Result<Verdicts, WindowFault>
-        ensures later { GoesOn self.old.window self.new.window }
-        ensures ok { IfOk result (AreVerdicts gate.now (state_of (arrive self.new.window.seen))) }
-        ensures closed { result ≡ Err Closed → self.new.window ≡ self.old.window }
-    {
-        self.window.report(gate)
-    }
-
     /// The verdicts under a gate on what the window sees, which `refresh` brings up to date.
     pub fn watch(&mut self, gate: Gate) -> Result<OwnWatch<J>, WindowFault>
         ensures later { GoesOn self.old.window self.new.window }

@@ -1,16 +1,19 @@
 //! The site, as a session or a pull of it sees it.
 
 ghost use Rattle.std.specs.Prelude.{◌≡◌};
+ghost use Rattle.std.specs.Option.{ForSome};
 ghost use Rattle.site_port.specs.Ports.{IsLookingFault};
 
 use super::ask::{Answer, Ask, Done, Place, Wire};
-use super::opening::OwnWindow;
+use super::kept::{brought_up, copied};
+use super::opening::{OwnWatch, OwnWindow};
 use gate_rules::Gate;
 use ready_core::Verdicts;
 use replica_core::{Front, Missing, Replica};
 use review_ops::{Draft, Op, Stamp};
 use site_port::{Port, PortFault, Sink, SinkFault};
 use site_shared::{DeskFault, Naming, WindowFault};
+use std::alloc::Global;
 use std::sync::Wait;
 
 /// How many operations are answered at once.
@@ -21,21 +24,32 @@ const ANSWER_LIMIT: usize = 256;
 #[derive(Drop)]
 pub struct SitePort<'a, 'g, R: Wait, J: Naming> {
     rt: &'a R,
+    alloc: Global,
     gate: &'g Gate,
     window: OwnWindow<J>,
     wire: Wire<J>,
+    /// The verdicts of the last report.
+    kept: Option<OwnWatch<J>>,
     is_start_taken: bool,
+    ghost under_gate: { ForSome kept (λ watch. watch.watch.gate ≡ gate.now) },
 }
 
 impl<'a, 'g, R: Wait, J: Naming> SitePort<'a, 'g, R, J> {
     /// The site as it is seen from a place.
-    pub fn new(rt: &'a R, gate: &'g Gate, place: Place<J>) -> SitePort<'a, 'g, R, J> {
+    pub fn new(
+        rt: &'a R,
+        alloc: Global,
+        gate: &'g Gate,
+        place: Place<J>,
+    ) -> SitePort<'a, 'g, R, J> {
         let Place { window, wire } = place;
         SitePort {
             rt,
+            alloc,
             gate,
             window,
             wire,
+            kept: None,
             is_start_taken: false,
         }
     }
@@ -86,10 +100,13 @@ impl<'a, 'g, R: Wait, J: Naming> Port for SitePort<'a, 'g, R, J> {
     }
 
     fn report(&mut self) -> Result<Verdicts, PortFault> {
-        match self.window.report(self.gate) {
-            Ok(verdicts) => Ok(verdicts),
-            Err(fault) => Err(window_fault(fault)),
-        }
+        let watch = match brought_up(self.gate, &mut self.window, self.kept.take()) {
+            Ok(watch) => watch,
+            Err(fault) => return Err(window_fault(fault)),
+        };
+        let verdicts = copied(self.alloc, &watch);
+        self.kept = Some(watch);
+        verdicts.map_err(|_| PortFault::NoMemory)
     }
 
     fn look(&mut self) -> Result<Replica, PortFault> {

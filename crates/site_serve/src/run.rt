@@ -337,7 +337,7 @@ where
         patience: common.sessions.patience,
         stop,
     };
-    let mut port = SitePort::new(rt, &common.gate, place);
+    let mut port = SitePort::new(rt, alloc, &common.gate, place);
     pull_from_peers(rt, pulling, peers, &common.errors, &mut port);
     common
         .is_start_taken
@@ -359,7 +359,7 @@ where
         errors,
         ..
     } = common;
-    let mut port = SitePort::new(rt, gate, place);
+    let mut port = SitePort::new(rt, sessions.alloc, gate, place);
     serve_sessions(rt, sessions, stop, errors, turn, &mut port);
 }
 

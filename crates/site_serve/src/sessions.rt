@@ -83,7 +83,7 @@ pub fn serve_sessions<R: Wait + Clock, E: Drain, T: Turn, J: Naming>(
         let ended = answer_over(rt, sessions, stop, &stream, port);
         turn.left(number);
         sessions.busy.fetch_sub(1, Ordering::SeqCst);
-        tell(rt, sessions.alloc, number, ended, errors);
+        report_end(rt, sessions.alloc, number, ended, errors);
         if sessions.is_last() {
             stop.ask(rt);
         }
@@ -106,7 +106,7 @@ fn next_connection<R: Wait + Clock>(rt: &R, door: &Door, stop: &Stop) -> Option<
 }
 
 /// Writes with which fault a session ended, if it did.
-fn tell<E: Drain>(
+fn report_end<E: Drain>(
     rt: &impl Wait,
     alloc: Global,
     number: u64,

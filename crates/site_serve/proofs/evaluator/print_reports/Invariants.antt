@@ -1,8 +1,9 @@
-use Rattle.std.proofs.Common.{◌≡◌, IfSome}
+use Rattle.std.proofs.Common.{◌≡◌}
+use Rattle.std.specs.Option.{ForSome}
 use Rattle.site_serve.proofs.evaluator.print_reports.Given as goal
 
--- the watch that is kept has the gate
+-- the verdicts that are kept are under the gate
 abbrev pub invariant-loop : goal.invariant-loop
 invariant-loop g l =
     (goal.iterator-loop g).can_next l.iterator' × (goal.iterator-loop g).is_finite l.iterator'
-    × IfSome l.watch (λ kept. kept.watch.gate ≡ l.gate)
+    × ForSome l.kept (λ watch. watch.watch.gate ≡ l.gate)
