@@ -1,3 +1,4 @@
 pub mod Saying
+pub mod LinesRead
 pub mod Stepping
 pub mod Feeding

@@ -1,22 +1,16 @@
 -- A step is what its parts make of it.
-use Rattle.std.proofs.Common.{◌≡◌, ◌+◌, ◌<◌, ◌≤◌, ℕ, Bool, true, false, List, [], ◌∷◌, ◌++◌, Result, Ok, Err, length}
-use Rattle.std.proofs.Common.{take, get_or, ltb, refl, sym, ap, ◌∙◌, subst, inl, inr, arith, append_assoc, append-nil}
+use Rattle.std.proofs.Common.{◌≡◌, ◌<◌, ℕ, Bool, true, false, List, [], ◌∷◌, ◌++◌, Result, Ok, Err, length}
+use Rattle.std.proofs.Common.{ltb, refl, sym, ap, ◌∙◌, subst, inl, inr, arith, append_assoc, append-nil}
 use Rattle.std.proofs.Common.{length-append}
 use Rattle.std.specs.Prelude.{◌⊎◌}
 use Rattle.std.specs.Io.KnownBytes.{Consumes}
 use Rattle.std.proofs.KnownBytes.{Appends-nil, Consumes-trans}
-use Rattle.std.proofs.Math.ListN.{get_or-append}
-use Rattle.std.proofs.Math.Seq.{get_or-append_seam}
-use Rattle.std.proofs.lemmas.Bool.{ltb-true, ltb-false}
-use Rattle.std.proofs.lemmas.List.{get_or-take, length-take}
 use Rattle.byte_ends.specs.Failures.{OneFailed}
 use Rattle.byte_ends.specs.Lines.{as_line, without_cr}
 use Rattle.gerrit_events.specs.Reading.{Reads}
 use Rattle.gerrit_events.specs.declared.finding.Finding.{Finding}
-use Rattle.line_reader.specs.Lines.{BeginsWithLine, Hands, HasNoLf, IsTooLong, Reading}
-use Rattle.byte_ends.specs.ReadAll.{CountsFault}
-use Rattle.byte_ends.specs.declared.faults.BytesFault.{BytesFault}
-use Rattle.byte_ends.specs.declared.faults.BytesFault.TheVariants.{TooLong}
+use Rattle.line_reader.specs.Lines.{BeginsWithLine, HasNoLf, IsTooLong}
+use Rattle.event_feed.proofs.LinesRead.{long_by}
 use Rattle.event_feed.specs.Feed.{Begin, Outputs, Turn, HasCome, IsEndless, IsRead, IsStep, IsWritten, no_line}
 use Rattle.event_feed.specs.Feed.{rest_text}
 use Rattle.event_feed.specs.Steps.{IsFindingsStep, IsLineStep, IsLongStep}
@@ -84,26 +78,6 @@ module _ (limit number : ℕ) (source later : Begin) (old new : Outputs) (came p
   line_step result (inr h) = subst (IsStep limit number source later old new) (sym h.0) (came, come, inl h.1)
 
 -- ---- a line that is too long
-
--- a byte of a list whose front has no LF is none
-lf_past : (limit : ℕ) (bytes more piece rest : List ℕ) → IsTooLong limit bytes
-    → bytes ++ more ≡ as_line piece ++ rest → length piece ≤ limit → ⊥
-lf_past limit bytes more piece rest long is short =
-    let within : length piece < length bytes = omega (arith, long.more) in
-    let front : get_or (take (limit + 1) bytes) (length piece) 0 ≡ get_or bytes (length piece) 0 =
-    get_or-take (limit + 1) bytes (length piece) 0 (omega arith) in
-    let line : (piece ++ 10 ∷ []) ++ rest ≡ piece ++ 10 ∷ rest = append_assoc piece (10 ∷ []) rest in
-    let at : get_or (bytes ++ more) (length piece) 0 ≡ 10 = ap (λ l. get_or l (length piece) 0) (is ∙ line)
-    ∙ get_or-append_seam piece 10 rest 0 in
-    let lf : get_or (take (limit + 1) bytes) (length piece) 0 ≡ 10 = front
-    ∙ sym (get_or-append bytes more 0 (length piece) within) ∙ at in
-    long.plain (length piece) 0 (omega (arith, length-take (limit + 1) bytes, long.more)) lf
-
-long_by : (b : Bool) (limit : ℕ) (bytes more piece rest : List ℕ) → IsTooLong limit bytes
-    → bytes ++ more ≡ as_line piece ++ rest → ltb limit (length piece) ≡ b → limit < length piece
-long_by true limit bytes more piece rest long is b = ltb-true limit (length piece) b
-long_by false limit bytes more piece rest long is b = absurd
-    (lf_past limit bytes more piece rest long is (ltb-false limit (length piece) b))
 
 rest_is : (number : ℕ) (bytes : List ℕ) → 0 < length bytes → rest_text number bytes ≡ no_line number
 rest_is number [] some = absurd (omega arith)
@@ -209,18 +183,3 @@ module _ (limit number : ℕ) (source mid later : Begin) (old new : Outputs) (ca
     inl (same, h.1),
   )
   long_step (Err NoMemory) (inr h) = (came ++ h.0, come_both h.0 h.1, inr (endless h.0 h.2, (same, h.3)))
-
--- ---- what the reader of lines answered
-
-pub handed : (old new : Reading) (came : List ℕ) (whole : Bool) → whole ≡ true → Hands old came (Ok whole) new
-    → (piece : List ℕ) × BeginsWithLine old.limit (old.held ++ came) piece new.held × (new.line ≡ without_cr piece)
-handed old new came true is h = h
-handed old new came false is h = cc
-
-pub too_long : (old new : Reading) (came : List ℕ) (fault : BytesFault) → fault ≡ TooLong
-    → Hands old came (Err fault) new
-    → IsTooLong old.limit (old.held ++ came) × (new.held ≡ old.held ++ came)
-too_long old new came fault is h = subst (λ f. Hands old came (Err f) new) is h
-
-pub none_read : (old new : ℕ) (fault : BytesFault) → fault ≡ TooLong → CountsFault old new fault → new ≡ old
-none_read old new fault is h = subst (CountsFault old new) is h

@@ -1,4 +1,3 @@
-mod Handed
 mod Meeting
 mod Stepping
 mod Turning

@@ -1,22 +1,16 @@
 -- A step is what its parts make of it.
-use Rattle.std.proofs.Common.{◌≡◌, ◌+◌, ◌<◌, ◌≤◌, ℕ, Bool, true, false, List, [], ◌∷◌, ◌++◌, Result, Ok, Err, length}
-use Rattle.std.proofs.Common.{take, get_or, ltb, refl, sym, ap, ◌∙◌, subst, inl, inr, arith, append_assoc}
+use Rattle.std.proofs.Common.{◌≡◌, ◌<◌, ℕ, Bool, true, false, List, [], ◌∷◌, ◌++◌, Result, Ok, Err, length}
+use Rattle.std.proofs.Common.{ltb, refl, sym, ap, ◌∙◌, subst, inl, inr, arith, append_assoc}
 use Rattle.std.proofs.Common.{length-append}
 use Rattle.std.specs.Io.KnownBytes.{Consumes}
 use Rattle.std.proofs.KnownBytes.{Consumes-trans}
-use Rattle.std.proofs.Math.ListN.{get_or-append}
-use Rattle.std.proofs.Math.Seq.{get_or-append_seam}
-use Rattle.std.proofs.lemmas.Bool.{ltb-true, ltb-false}
-use Rattle.std.proofs.lemmas.List.{get_or-take, length-take}
 use Rattle.byte_ends.specs.Lines.{as_line, without_cr}
-use Rattle.byte_ends.specs.ReadAll.{CountsFault}
-use Rattle.byte_ends.specs.declared.faults.BytesFault.{BytesFault}
-use Rattle.byte_ends.specs.declared.faults.BytesFault.TheVariants.{TooLong}
+use Rattle.event_feed.proofs.LinesRead.{long_by}
 use Rattle.event_feed.specs.Feed.{Begin, End, HasCome, IsEndless, IsWritten, Turn, no_line}
 use Rattle.event_feed.specs.Texts.{no_event}
 use Rattle.event_feed.specs.declared.fault.FeedFault.TheVariants as feed
 use Rattle.gerrit_events.specs.Reading.{Reads}
-use Rattle.line_reader.specs.Lines.{BeginsWithLine, Hands, HasNoLf, IsTooLong, Reading}
+use Rattle.line_reader.specs.Lines.{BeginsWithLine, HasNoLf, IsTooLong}
 use Rattle.review_ops.specs.Deed.{Deed}
 use Rattle.review_ops.specs.Timestamp.{Timestamp}
 use Rattle.feed_client.specs.Feeding.{IsTurn, LineMet, PassesOver, ReportsRest, Standing, Steps, with_more}
@@ -25,42 +19,7 @@ use Rattle.feed_client.specs.declared.fault.ClientFault.{ClientFault}
 use Rattle.feed_client.specs.declared.fault.ClientFault.TheVariants.{Feed, NoSite, Ended}
 use Rattle.feed_client.specs.declared.intake.IntakeFault.{IntakeFault}
 
--- ---- what the reader of lines answered
-
-pub handed : (old new : Reading) (came : List ℕ) (whole : Bool) → whole ≡ true → Hands old came (Ok whole) new
-    → (piece : List ℕ) × BeginsWithLine old.limit (old.held ++ came) piece new.held × (new.line ≡ without_cr piece)
-handed old new came true is h = h
-handed old new came false is h = cc
-
-pub too_long : (old new : Reading) (came : List ℕ) (fault : BytesFault) → fault ≡ TooLong
-    → Hands old came (Err fault) new
-    → IsTooLong old.limit (old.held ++ came) × (new.held ≡ old.held ++ came)
-too_long old new came fault is h = subst (λ f. Hands old came (Err f) new) is h
-
-pub none_read : (old new : ℕ) (fault : BytesFault) → fault ≡ TooLong → CountsFault old new fault → new ≡ old
-none_read old new fault is h = subst (CountsFault old new) is h
-
 -- ---- a line that is too long
-
--- a byte of a list whose front has no LF is none
-lf_past : (limit : ℕ) (bytes more piece rest : List ℕ) → IsTooLong limit bytes
-    → bytes ++ more ≡ as_line piece ++ rest → length piece ≤ limit → ⊥
-lf_past limit bytes more piece rest long is short =
-    let within : length piece < length bytes = omega (arith, long.more) in
-    let front : get_or (take (limit + 1) bytes) (length piece) 0 ≡ get_or bytes (length piece) 0 =
-    get_or-take (limit + 1) bytes (length piece) 0 (omega arith) in
-    let line : (piece ++ 10 ∷ []) ++ rest ≡ piece ++ 10 ∷ rest = append_assoc piece (10 ∷ []) rest in
-    let at : get_or (bytes ++ more) (length piece) 0 ≡ 10 = ap (λ l. get_or l (length piece) 0) (is ∙ line)
-    ∙ get_or-append_seam piece 10 rest 0 in
-    let lf : get_or (take (limit + 1) bytes) (length piece) 0 ≡ 10 = front
-    ∙ sym (get_or-append bytes more 0 (length piece) within) ∙ at in
-    long.plain (length piece) 0 (omega (arith, length-take (limit + 1) bytes, long.more)) lf
-
-long_by : (b : Bool) (limit : ℕ) (bytes more piece rest : List ℕ) → IsTooLong limit bytes
-    → bytes ++ more ≡ as_line piece ++ rest → ltb limit (length piece) ≡ b → limit < length piece
-long_by true limit bytes more piece rest long is b = ltb-true limit (length piece) b
-long_by false limit bytes more piece rest long is b = absurd
-    (lf_past limit bytes more piece rest long is (ltb-false limit (length piece) b))
 
 pub rest_is : (number : ℕ) (bytes : List ℕ) (old new : End) (result : Result (Unit {0}) ClientFault) → 0 < length bytes
     → IsWritten (no_line number) old new → result ≡ Ok tt → ReportsRest number bytes old new result

@@ -1,12 +1,8 @@
 //! A record that is pulled.
 
-ghost use Rattle.std.specs.Prelude.{◌≡◌, ◌<◌, ℕ, OnErr, OnOk, length, take};
-ghost use Rattle.replica_core.specs.Journal.{all_arrived};
-
-use lattice_core::NoMemory;
 use replica_core::{Front, Replica};
 use review_ops::Op;
-use site_port::{Sink, SinkFault};
+use site_port::{Sink, SinkFault, take_each};
 use std::marker::Model;
 
 /// A copy of a site's record, as far as it was pulled. Where memory is refused, the first so many of the operations may
@@ -43,16 +39,4 @@ impl Sink for Copied {
             Err(_) => Err(SinkFault::NoMemory),
         }
     }
-}
-
-/// Takes operations, in their order. Where memory is refused the first so many of them are in, and nothing else.
-fn take_each(replica: &mut Replica, ops: Vec<Op>) -> Result<(), NoMemory>
-    ensures ok { OnOk result (replica.new ≡ all_arrived replica.old ops.items) }
-    ensures err { OnErr result ((count : ℕ) × (count < length ops.items)
-        × (replica.new ≡ all_arrived replica.old (take count ops.items))) }
-{
-    for op in ops {
-        replica.take(op)?;
-    }
-    Ok(())
 }

@@ -123,8 +123,9 @@ impl Sink for OwnPort {
     }
 }
 
-/// Takes operations, in their order. Where memory is refused the first so many of them are in, and nothing else.
-fn take_each(replica: &mut Replica, ops: Vec<Op>) -> Result<(), NoMemory>
+/// Takes operations into a replica, in their order. Where memory is refused the first so many of them are in, not all,
+/// and nothing else. It costs what `Replica::take` does for each.
+pub fn take_each(replica: &mut Replica, ops: Vec<Op>) -> Result<(), NoMemory>
     ensures ok { OnOk result (replica.new ≡ all_arrived replica.old ops.items) }
     ensures err { OnErr result ((count : ℕ) × (count < length ops.items)
         × (replica.new ≡ all_arrived replica.old (take count ops.items))) }

@@ -1,5 +1,6 @@
 use Rattle.std.proofs.Common.{refl, ◌∙◌}
-use Rattle.event_feed.proofs.Stepping.{handed, line_step, long_step, none_read, too_long}
+use Rattle.event_feed.proofs.LinesRead.{handed, none_read, too_long}
+use Rattle.event_feed.proofs.Stepping.{line_step, long_step}
 use Rattle.event_feed.proofs.feed.next_line.Goals as goal
 
 pub returns-in-Ok-true-clause-step : goal.returns-in-Ok-true-clause-step

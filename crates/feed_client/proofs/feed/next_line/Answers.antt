@@ -1,7 +1,8 @@
 use Rattle.std.proofs.Common.{refl, ◌∙◌}
 use Rattle.event_feed.specs.Feed.{Begin}
 use Rattle.feed_client.specs.Feeding.{Standing}
-use Rattle.feed_client.proofs.Stepping.{handed, line_step, long_step, none_read, too_long}
+use Rattle.event_feed.proofs.LinesRead.{handed, none_read, too_long}
+use Rattle.feed_client.proofs.Stepping.{line_step, long_step}
 use Rattle.feed_client.proofs.feed.next_line.Goals as goal
 
 pub returns-in-Ok-true-clause-step : goal.returns-in-Ok-true-clause-step
