@@ -40,11 +40,13 @@ const PATIENCE_MS: u64 = 30_000;
 
 /// What the threads of a site share.
 #[derive(Drop)]
-struct Common<E: Drain> {
+struct Common<'a, E: Drain, T: Turn> {
     gate: Gate,
     pause: Duration,
     sessions: Sessions,
     errors: Errors<E>,
+    stop: &'a Stop,
+    turn: &'a T,
     /// Whether another process takes in as this site.
     is_start_taken: AtomicBool,
 }
@@ -122,14 +124,14 @@ where
         pause: Duration::from_millis(pause_ms),
         sessions: sessions_of(alloc, door, sessions, workers, idle_ms),
         errors: Errors::new(errors),
+        stop,
+        turn,
         is_start_taken: AtomicBool::new(false),
     };
     match open_site(rt, site, start, workers + 2, replica) {
-        Ok((desk, windows)) => {
-            run_opened::<Brand, R, W, E, T, K>(
-                rt, alloc, &common, stop, peers, desk, windows, output, turn, keeper,
-            )
-        }
+        Ok((desk, windows)) => run_opened::<Brand, R, W, E, T, K>(
+            rt, &common, peers, desk, windows, output, keeper,
+        ),
         Err(fault) => Err(open_fault(fault)),
     }
 }
@@ -183,14 +185,11 @@ fn open_fault(fault: OpenFault) -> ServeFault
 /// Runs a site that was opened, and ends its desk.
 fn run_opened<J, R, W, E, T, K>(
     rt: &R,
-    alloc: Global,
-    common: &Common<E>,
-    stop: &Stop,
+    common: &Common<'_, E, T>,
     peers: Vec<Peer>,
     desk: Desk,
     windows: Vec<Window>,
     output: W,
-    turn: &T,
     keeper: K,
 ) -> Result<Served, ServeFault>
 where
@@ -206,21 +205,10 @@ where
     requires keeper { (first : List Operation) × K.holds keeper first }
 {
     let mut ledger: OwnLedger<J, K> = OwnLedger::new(Ledger::new(desk, keeper));
-    let served = match seated(alloc, windows) {
+    let served = match seated(common.sessions.alloc, windows) {
         Ok(Some(seats)) => {
             let news = News::new();
-            let ended = run_threads(
-                rt,
-                alloc,
-                common,
-                stop,
-                peers,
-                &mut ledger,
-                &news,
-                seats,
-                output,
-                turn,
-            );
+            let ended = run_threads(rt, common, peers, &mut ledger, &news, seats, output);
             left_of(ended, common.is_start_taken.load(Ordering::SeqCst))
         }
         Ok(None) => Err(ServeFault::NoPlace),
@@ -244,15 +232,12 @@ struct Ended<J: Naming> {
 /// Runs the threads of a site, and keeps its ledger in this one until all have ended.
 fn run_threads<J, R, W, E, T, K>(
     rt: &R,
-    alloc: Global,
-    common: &Common<E>,
-    stop: &Stop,
+    common: &Common<'_, E, T>,
     peers: Vec<Peer>,
     ledger: &mut OwnLedger<J, K>,
     news: &News<J>,
     seats: Seats<J>,
     output: W,
-    turn: &T,
 ) -> Ended<J>
 where
     J: Naming + Send + Sync,
@@ -274,22 +259,20 @@ where
         move |scope| -> Ended<J>
             requires { IsSync R.row × IsSend J.row × IsSync J.row × IsSend W.row × IsSend E.row × IsSync T.row }
         {
-            let reports = scope.spawn(move || print_all(rt, alloc, common, news, reports, output));
+            let reports = scope.spawn(move || print_all(rt, common, news, reports, output));
             // What a refused thread was to have goes at once: the desk works on until no place is left.
             let mut is_refused = scope
-                .spawn(move || pull(rt, alloc, common, stop, peers, puller))
+                .spawn(move || pull(rt, common, peers, puller))
                 .is_err();
             for place in workers {
-                let worker = scope.spawn(move || answer(rt, common, stop, turn, place));
+                let worker = scope.spawn(move || answer(rt, common, place));
                 is_refused |= worker.is_err();
             }
             if is_refused {
-                stop.ask(rt);
-                let _shut = common.sessions.door.shut();
+                stop_all(rt, common);
             }
-            let flushed = keep_desk(rt, alloc, ledger, news, lines);
-            stop.ask(rt);
-            let _shut = common.sessions.door.shut();
+            let flushed = keep_desk(rt, common.sessions.alloc, ledger, news, lines);
+            stop_all(rt, common);
             close(rt, news, &flushed);
             let printed = match reports {
                 Ok(reports) => Some(reports.join(rt)),
@@ -304,38 +287,45 @@ where
     )
 }
 
+/// Asks all threads to stop, and has no more sessions come.
+fn stop_all<R: Wait, E: Drain, T: Turn>(rt: &R, common: &Common<'_, E, T>) {
+    common.stop.ask(rt);
+    let _shut = common.sessions.door.shut();
+}
+
 /// Prints the reports.
-fn print_all<R: Wait + Clock, W: Drain + Drop, E: Drain, J: Naming>(
+fn print_all<R: Wait + Clock, W: Drain + Drop, E: Drain, T: Turn, J: Naming>(
     rt: &R,
-    alloc: Global,
-    common: &Common<E>,
+    common: &Common<'_, E, T>,
     news: &News<J>,
     window: OwnWindow<J>,
     output: W,
 ) -> Printed<J> {
-    print_reports(rt, alloc, &common.gate, news, window, output)
+    print_reports(
+        rt,
+        common.sessions.alloc,
+        &common.gate,
+        news,
+        window,
+        output,
+    )
 }
 
 /// Pulls from the peers, and shuts the door once the site stops. It notes whether another process takes in as this
 /// site.
-fn pull<R, E, J>(
-    rt: &R,
-    alloc: Global,
-    common: &Common<E>,
-    stop: &Stop,
-    peers: Vec<Peer>,
-    place: Place<J>,
-)
+fn pull<R, E, T, J>(rt: &R, common: &Common<'_, E, T>, peers: Vec<Peer>, place: Place<J>)
 where
     R: Wait + Clock + Net<Stream = TcpStream>,
     E: Drain,
+    T: Turn,
     J: Naming,
 {
+    let alloc = common.sessions.alloc;
     let pulling = Pulling {
         alloc,
         pause: common.pause,
         patience: common.sessions.patience,
-        stop,
+        stop: common.stop,
     };
     let mut port = SitePort::new(rt, alloc, &common.gate, place);
     pull_from_peers(rt, pulling, peers, &common.errors, &mut port);
@@ -346,7 +336,7 @@ where
 }
 
 /// Answers sessions.
-fn answer<R, E, T, J>(rt: &R, common: &Common<E>, stop: &Stop, turn: &T, place: Place<J>)
+fn answer<R, E, T, J>(rt: &R, common: &Common<'_, E, T>, place: Place<J>)
 where
     R: Wait + Clock,
     E: Drain,
@@ -360,7 +350,7 @@ where
         ..
     } = common;
     let mut port = SitePort::new(rt, sessions.alloc, gate, place);
-    serve_sessions(rt, sessions, stop, errors, turn, &mut port);
+    serve_sessions(rt, sessions, common.stop, errors, common.turn, &mut port);
 }
 
 /// Brings the last publish, and has nothing new come any more.
