@@ -1,69 +1,26 @@
 use Rattle.std.proofs.Common.{refl, ◌∙◌}
 use Rattle.event_feed.specs.Feed.{Begin}
-use Rattle.feed_client.specs.Feeding.{Standing}
 use Rattle.event_feed.proofs.LinesRead.{handed, none_read, too_long}
 use Rattle.feed_client.proofs.Stepping.{line_step, long_step}
 use Rattle.feed_client.proofs.feed.next_line.Goals as goal
 
 pub returns-in-Ok-true-clause-step : goal.returns-in-Ok-true-clause-step
 returns-in-Ok-true-clause-step g c =
-    let old : Standing _ = record {
-      source = record {
-        left = g.S.Source.left c.args.source.now;
-        failed = g.S.Source.failed c.args.source.now;
-        held = c.args.reader.now.held;
-      };
-      known = c.args.known.now;
-      place = record { site = c.args.site.now; state = c.args.state.now };
-      errors = record { taken = g.E.Drain.taken c.args.errors.now; failed = g.E.Drain.failed c.args.errors.now };
-    } in
-    let new : Standing _ = record {
-      source = record {
-        left = g.S.Source.left c.next_line.new.source;
-        failed = g.S.Source.failed c.next_line.new.source;
-        held = c.next_line.new.self.held;
-      };
-      known = c.take_line.new.known;
-      place = record { site = c.take_line.new.site; state = c.take_line.new.state };
-      errors =
-          record { taken = g.E.Drain.taken c.take_line.new.errors; failed = g.E.Drain.failed c.take_line.new.errors };
-    } in
     let hands = c.in-Ok-true.ensures.hands in
     let line = handed c.args.reader.now c.next_line.new.self hands.0 c.in-Ok-true.field-0 c.in-Ok-true.field-0-test hands.2 in
-    line_step g.T.Intake.replies c.args.reader.now.limit c.args.number old new hands.0 line.0 c.line.result.now hands.1
+    line_step g.T.Intake.replies c.args.reader.now.limit c.args.number _ _ hands.0 line.0 c.line.result.now hands.1
     c.in-Ok-true.ensures.counted line.1
     (c.line.ensures ∙ line.2) c.take_line.result c.and_more.result c.and_more.ensures c.take_line.ensures
 
 pub returns-in-Err-TooLong-clause-step : goal.returns-in-Err-TooLong-clause-step
 returns-in-Err-TooLong-clause-step g c =
-    let old : Standing _ = record {
-      source = record {
-        left = g.S.Source.left c.args.source.now;
-        failed = g.S.Source.failed c.args.source.now;
-        held = c.args.reader.now.held;
-      };
-      known = c.args.known.now;
-      place = record { site = c.args.site.now; state = c.args.state.now };
-      errors = record { taken = g.E.Drain.taken c.args.errors.now; failed = g.E.Drain.failed c.args.errors.now };
-    } in
-    let new : Standing _ = record {
-      source = record {
-        left = g.S.Source.left c.pass_line.new.source;
-        failed = g.S.Source.failed c.pass_line.new.source;
-        held = c.pass_line.new.reader.held;
-      };
-      known = c.args.known.now;
-      place = record { site = c.args.site.now; state = c.args.state.now };
-      errors =
-          record { taken = g.E.Drain.taken c.pass_line.new.errors; failed = g.E.Drain.failed c.pass_line.new.errors };
-    } in
-    let mid : Begin = record {
+    let met : Begin = record {
       left = g.S.Source.left c.next_line.new.source;
       failed = g.S.Source.failed c.next_line.new.source;
       held = c.next_line.new.self.held;
     } in
     let hands = c.in-Err-TooLong.ensures.hands in
     let long = too_long c.args.reader.now c.next_line.new.self hands.0 c.in-Err-TooLong.field-0 c.in-Err-TooLong.field-0-is hands.2 in
-    long_step g.T.Intake.replies c.args.reader.now.limit c.args.number old new mid hands.0 hands.1
+    long_step g.T.Intake.replies c.args.reader.now.limit c.args.number _ _ met hands.0 hands.1
     (none_read _ _ c.in-Err-TooLong.field-0 c.in-Err-TooLong.field-0-is c.in-Err-TooLong.ensures.counted)
     long.0 long.1 refl refl c.pass_line.result c.pass_line.ensures.step
