@@ -9,7 +9,7 @@ use Rattle.serde_json.specs.Data.{Data}
 use Rattle.gerrit_events.specs.Trees.{data_in}
 
 module _ {A B : Type 0} (h : Data → Option B) (vs : List (Value A)) (i : ℕ) (d : Value A) (within : i < length vs) where
-  filtered_at : (o : Option B) → h (data_in (get_or vs i d)) ≡ o
+  pub filtered_at : (o : Option B) → h (data_in (get_or vs i d)) ≡ o
       → filter_map h (map data_in (take (i + 1) vs)) ≡ filter_map h (map data_in (take i vs)) ++ cons_option o []
   filtered_at o is =
       ap (λ xs. filter_map h (map data_in xs)) (take_more vs i d within)

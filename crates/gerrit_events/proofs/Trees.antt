@@ -16,7 +16,7 @@ use Rattle.json.specs.Value.{value_view, items_of, items_view}
 use Rattle.json.specs.declared.value.Value.{Value}
 use Rattle.serde_json.proofs.Views.{get_member-put, get_member-put_other}
 use Rattle.serde_json.specs.Data.{Num, Data, number, array, object, Members, no_members, put}
-use Rattle.serde_json.specs.Find.{as_i64, as_number, as_str, get, get_member}
+use Rattle.serde_json.specs.Find.{as_bool, as_i64, as_number, as_str, get, get_member}
 use Rattle.serde_json.specs.Read.{number_of, of_json, of_items, of_members, max_depth, read}
 use Rattle.gerrit_events.specs.Trees.{number_data, data_of, items_data, members_data, data_in, has_values}
 use Rattle.gerrit_events.specs.Trees.{items_have_values, members_have_values}
@@ -172,6 +172,18 @@ text_found (json.number s) = sym (number_no_text (number_of s))
 text_found (json.string s) = refl
 text_found (json.array js) = refl
 text_found (json.object ms) = refl
+
+number_no_bool : (n : Option Num) → None ≡ as_bool (number_data n)
+number_no_bool None = refl
+number_no_bool (Some n) = refl
+
+pub truth_found : (j : Json) → look.as_bool j ≡ as_bool (data_of j)
+truth_found json.null = refl
+truth_found (json.boolean b) = refl
+truth_found (json.number s) = number_no_bool (number_of s)
+truth_found (json.string s) = refl
+truth_found (json.array js) = refl
+truth_found (json.object ms) = refl
 
 -- what was found, as a caller has it
 pub data_of_found : {A : Type 0} (found : Option (Bor (Value A)))

@@ -10,12 +10,17 @@ use Rattle.gerrit_events.specs.declared.fault.EventFault.{EventFault}
 use Rattle.gerrit_events.specs.declared.fault.EventFault.TheVariants.{BadEvent, Dropped}
 use Rattle.gerrit_events.specs.declared.fault.EventKey.{EventKey}
 use Rattle.gerrit_events.specs.declared.fault.EventKey.TheVariants.{TypeName, CommitMessage, Parents, Value, PatchSets}
-use Rattle.gerrit_events.specs.declared.fault.EventKey.TheVariants.{DependsOn, Status}
+use Rattle.gerrit_events.specs.declared.fault.EventKey.TheVariants.{DependsOn, Status, Username}
 use Rattle.gerrit_events.specs.declared.kind.Kind.{Kind}
 use Rattle.gerrit_events.specs.declared.kind.Kind.TheVariants.{PatchSetCreated, ChangeAbandoned, ChangeRestored}
-use Rattle.gerrit_events.specs.declared.kind.Kind.TheVariants.{ChangeMerged, ChangeDeleted, DroppedOutput, QueryLine}
-use Rattle.gerrit_events.specs.declared.kind.Kind.TheVariants.{QueryStats, OtherEvent}
+use Rattle.gerrit_events.specs.declared.kind.Kind.TheVariants.{ChangeMerged, ChangeDeleted, WipStateChanged}
+use Rattle.gerrit_events.specs.declared.kind.Kind.TheVariants.{PrivateStateChanged, DroppedOutput, QueryLine}
+use Rattle.gerrit_events.specs.declared.kind.Kind.TheVariants.{QueryStats, QueryError, OtherEvent}
+use Rattle.gerrit_events.specs.declared.mark.Mark.{Mark}
+use Rattle.gerrit_events.specs.declared.mark.Mark.TheVariants.{WorkInProgress, Private}
 use Rattle.gerrit_events.specs.Kinds.{account_part, account_key, approvals_part, change_key, set_key}
+use Rattle.gerrit_events.specs.Listings.{Ballot, Listing, ballots_in, mark_ballots}
+use Rattle.gerrit_events.specs.Marks.{is_private, is_wip, mark_label, marks_in, reserved_voter}
 use Rattle.gerrit_events.specs.Patches.{Patch, change_in, set_in, brought_by, parents_part, parents_in}
 use Rattle.gerrit_events.specs.Revisions.{Revision}
 use Rattle.gerrit_events.specs.Values.{text_in, number_in, value_in, user_in, listed}
@@ -23,6 +28,10 @@ use Rattle.gerrit_events.specs.Values.{text_in, number_in, value_in, user_in, li
 pub data Claim : Type 0 where
   -- a body, good or not
   drafts : Deed → Claim
+  -- a patch set, good or not, as an event shows it that isn't about it, or whose parents this run doesn't know
+  shows : Deed → Claim
+  -- all votes of a patch set
+  lists : Listing → Claim
   -- something that is lost
   refuses : EventFault → Claim
 
@@ -42,11 +51,30 @@ lost_parents known QueryLine line =
     length (parents_part QueryLine line) - length (take 1 (parents_in known QueryLine line))
 lost_parents known kind line = length (parents_in known kind line) - 1
 
+-- a new patch set is drafted where a parent is known, that of a query always, and every other one is shown
+abbrev pub patch_claim : Kind → Option ℕ → Deed → Claim
+patch_claim QueryLine parent deed = drafts deed
+patch_claim PatchSetCreated None deed = shows deed
+patch_claim PatchSetCreated (Some parent) deed = drafts deed
+patch_claim kind parent deed = shows deed
+
+abbrev pub patch_deed : Patch → Option ℕ → Deed
+patch_deed patch parent = patch_set patch.change patch.set patch.message parent
+
+-- the reserved voter's vote
+abbrev pub mark_claim : ℕ → ℕ → Mark → Claim
+mark_claim change set mark = drafts (vote change set (mark_label mark) reserved_voter (negsuc 0))
+
+-- a patch set that an event brings has the marks of its change; a query's are listed with the votes
+abbrev pub patch_marks : Kind → Data → Patch → List Claim
+patch_marks QueryLine line patch = []
+patch_marks kind line patch = map (mark_claim patch.change patch.set) (marks_in kind line)
+
 -- a patch set with its first known parent
 abbrev pub patch_claims : List Revision → Kind → Data → Patch → List Claim
 patch_claims known kind line patch =
-    drafts (patch_set patch.change patch.set patch.message (slice_get (parents_in known kind line) 0))
-    ∷ replicate (lost_parents known kind line) (bad (parents_key kind))
+    patch_claim kind (slice_get (parents_in known kind line) 0) (patch_deed patch (slice_get (parents_in known kind line) 0))
+    ∷ replicate (lost_parents known kind line) (bad (parents_key kind)) ++ patch_marks kind line patch
 
 -- a new patch set and one of a query have a message
 abbrev pub without_patch : Kind → List Claim
@@ -80,7 +108,8 @@ value_under (Some d) = Some (value_in (Some d))
 abbrev pub voted : ℕ → ℕ → EventKey → Option (List ℕ) → Option (List ℕ) → Option (Option ℤ) → Claim
 voted change set key None user value = bad TypeName
 voted change set key (Some label) None value = bad key
-voted change set key (Some label) (Some voter) value = vote_of change set label voter value
+voted change set key (Some label) (Some voter) value =
+    if bytes_eq voter reserved_voter then bad Username else vote_of change set label voter value
 
 -- what an approval claims
 abbrev pub vote_claim : Kind → Data → ℕ → ℕ → Data → Claim
@@ -93,37 +122,66 @@ vote_claims kind line change set approvals = map (vote_claim kind line change se
 
 -- ---- a query
 
+-- all votes of a patch set, and then each of them
+abbrev pub listed_claims : ℕ → ℕ → Data → Option Data → List Ballot → List Claim
+listed_claims change set line approvals marks =
+    lists (record { change = change; set = set; ballots = ballots_in approvals ++ marks })
+    ∷ vote_claims QueryLine line change set approvals
+
 -- of a patch set that isn't the current one the approvals alone
 abbrev pub older_by : Data → Data → ℕ → ℕ → Option ℕ → List Claim
 older_by line older change current None = bad PatchSets ∷ []
 older_by line older change current (Some set) =
-    if set == current then [] else vote_claims QueryLine line change set (get (codes "approvals") older)
+    if set == current then [] else listed_claims change set line (get (codes "approvals") older) []
 
 abbrev pub older_claims : Data → ℕ → ℕ → Data → List Claim
 older_claims line change current older = older_by line older change current (number_in (get (codes "number") older))
 
-abbrev pub status_named : ℕ → List ℕ → List Claim
-status_named change name =
-    if bytes_eq name (codes "NEW") then drafts (restore change) ∷ [] else
+-- that a change is closed is claimed first of a row, so that a row that is taken up in part never opens one
+abbrev pub closing_named : ℕ → List ℕ → List Claim
+closing_named change name =
     if bytes_eq name (codes "ABANDONED") then drafts (abandon change) ∷ [] else
     if bytes_eq name (codes "MERGED") then drafts (merged change) ∷ [] else []
 
-abbrev pub status_claims : ℕ → Option (List ℕ) → List Claim
-status_claims change None = bad Status ∷ []
-status_claims change (Some name) = status_named change name
+abbrev pub closing_claims : ℕ → Option (List ℕ) → List Claim
+closing_claims change None = []
+closing_claims change (Some name) = closing_named change name
 
+-- and that it is open, last
+abbrev pub opening_named : ℕ → List ℕ → List Claim
+opening_named change name = if bytes_eq name (codes "NEW") then drafts (restore change) ∷ [] else []
+
+abbrev pub opening_claims : ℕ → Option (List ℕ) → List Claim
+opening_claims change None = bad Status ∷ []
+opening_claims change (Some name) = opening_named change name
+
+abbrev pub status_part : Data → Option (List ℕ)
+status_part line = text_in (get (codes "status") line)
+
+-- the current patch set with its marks, the older ones, and that the change is open
 abbrev pub query_claims : Data → ℕ → ℕ → List Claim
 query_claims line change set =
-    flat_map (older_claims line change set) (listed (get (codes "patchSets") line))
-    ++ status_claims change (text_in (get (codes "status") line))
+    listed_claims change set line (approvals_part QueryLine line) (mark_ballots line)
+    ++ (map (mark_claim change set) (marks_in QueryLine line)
+    ++ (flat_map (older_claims line change set) (listed (get (codes "patchSets") line))
+    ++ opening_claims change (status_part line)))
+
+-- ---- a state that changed: the reserved voter votes while it is so, and withdraws after
+
+abbrev pub state_claim : ℕ → ℕ → Mark → Bool → Claim
+state_claim change set mark is =
+    if is then mark_claim change set mark else drafts (withdraw change set (mark_label mark) reserved_voter)
 
 -- ---- the table
 
 -- what is claimed of a patch set beside itself
 abbrev pub set_claims : Kind → Data → ℕ → ℕ → List Claim
 set_claims PatchSetCreated line change set = []
-set_claims QueryLine line change set =
-    vote_claims QueryLine line change set (approvals_part QueryLine line) ++ query_claims line change set
+set_claims QueryLine line change set = query_claims line change set
+set_claims WipStateChanged line change set =
+    state_claim change set WorkInProgress (is_wip WipStateChanged line) ∷ []
+set_claims PrivateStateChanged line change set =
+    state_claim change set Private (is_private PrivateStateChanged line) ∷ []
 set_claims kind line change set = vote_claims kind line change set (approvals_part kind line)
 
 abbrev pub with_set : List Revision → Kind → Data → ℕ → Option ℕ → List Claim
@@ -139,6 +197,8 @@ change_claims known ChangeRestored line change =
     first_claims known ChangeRestored line ++ drafts (restore change) ∷ []
 change_claims known ChangeMerged line change =
     first_claims known ChangeMerged line ++ drafts (merged change) ∷ []
+change_claims known QueryLine line change =
+    closing_claims change (status_part line) ++ with_set known QueryLine line change (set_in QueryLine line)
 change_claims known kind line change = with_set known kind line change (set_in kind line)
 
 abbrev pub with_change : List Revision → Kind → Data → Option ℕ → List Claim
@@ -149,5 +209,6 @@ with_change known kind line (Some change) = change_claims known kind line change
 abbrev pub claims_by : List Revision → Kind → Data → List Claim
 claims_by known DroppedOutput line = refuses Dropped ∷ []
 claims_by known QueryStats line = []
+claims_by known QueryError line = []
 claims_by known OtherEvent line = first_claims known OtherEvent line
 claims_by known kind line = with_change known kind line (change_in kind line)

@@ -9,8 +9,9 @@ use Rattle.gerrit_events.specs.declared.fault.EventKey.TheVariants.{CurrentPatch
 use Rattle.gerrit_events.specs.declared.kind.Kind.{Kind}
 use Rattle.gerrit_events.specs.declared.kind.Kind.TheVariants.{PatchSetCreated, CommentAdded, VoteDeleted}
 use Rattle.gerrit_events.specs.declared.kind.Kind.TheVariants.{ReviewerDeleted, ChangeAbandoned, ChangeRestored}
-use Rattle.gerrit_events.specs.declared.kind.Kind.TheVariants.{ChangeMerged, ChangeDeleted, DroppedOutput, QueryLine}
-use Rattle.gerrit_events.specs.declared.kind.Kind.TheVariants.{QueryStats, OtherEvent}
+use Rattle.gerrit_events.specs.declared.kind.Kind.TheVariants.{ChangeMerged, ChangeDeleted, WipStateChanged}
+use Rattle.gerrit_events.specs.declared.kind.Kind.TheVariants.{PrivateStateChanged, DroppedOutput, QueryLine}
+use Rattle.gerrit_events.specs.declared.kind.Kind.TheVariants.{QueryStats, QueryError, OtherEvent}
 
 -- the kind that the `type` of a line names
 abbrev pub kind_named : List ℕ → Kind
@@ -23,8 +24,11 @@ kind_named name =
     if bytes_eq name (codes "change-restored") then ChangeRestored else
     if bytes_eq name (codes "change-merged") then ChangeMerged else
     if bytes_eq name (codes "change-deleted") then ChangeDeleted else
+    if bytes_eq name (codes "wip-state-changed") then WipStateChanged else
+    if bytes_eq name (codes "private-state-changed") then PrivateStateChanged else
     if bytes_eq name (codes "dropped-output") then DroppedOutput else
-    if bytes_eq name (codes "stats") then QueryStats else OtherEvent
+    if bytes_eq name (codes "stats") then QueryStats else
+    if bytes_eq name (codes "error") then QueryError else OtherEvent
 
 -- a line of a query has no `type`; a `type` that is no text says nothing
 abbrev pub kind_by : Option Data → Option Kind

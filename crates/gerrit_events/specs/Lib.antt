@@ -6,6 +6,11 @@ pub mod Revisions
 pub mod RevisionsKept
 pub mod Patches
 pub mod PatchShown
+pub mod Marks
+pub mod Listings
+pub mod Projects
+pub mod Parts
 pub mod Claims
 pub mod ClaimShown
 pub mod Reading
+pub mod Tests

@@ -5,6 +5,7 @@ use Rattle.serde_json.specs.Data.{Data}
 use Rattle.serde_json.specs.Find.{get, as_str}
 use Rattle.gerrit_events.specs.declared.kind.Kind.{Kind}
 use Rattle.gerrit_events.specs.declared.kind.Kind.TheVariants.{PatchSetCreated, DroppedOutput, QueryLine, QueryStats}
+use Rattle.gerrit_events.specs.declared.kind.Kind.TheVariants.{QueryError}
 use Rattle.gerrit_events.specs.Kinds.{change_part, set_part}
 use Rattle.gerrit_events.specs.Revisions.{Revision, place_of, with_revision}
 use Rattle.gerrit_events.specs.Values.{under, text_in, number_in, listed}
@@ -57,6 +58,7 @@ brought_by known PatchSetCreated line = patch_in PatchSetCreated line
 brought_by known QueryLine line = patch_in QueryLine line
 brought_by known DroppedOutput line = None
 brought_by known QueryStats line = None
+brought_by known QueryError line = None
 brought_by known kind line = option_and_then (unless_brought known) (patch_in kind line)
 
 abbrev pub with_place : List Revision → ℕ × ℕ → Option (List ℕ) → List Revision

@@ -1,29 +1,46 @@
 -- What is found in a line: each claim is settled, in order.
 use Rattle.std.specs.Prelude.{◌≡◌, ◌⊎◌, ℕ, List, [], ◌∷◌, Option, Some, None, IsUtf8}
+use Rattle.std.specs.Prelude.{if◌then◌else◌}
 use Rattle.serde_json.specs.Data.{Data, object, Members}
 use Rattle.serde_json.specs.Read.{read}
 use Rattle.review_ops.specs.declared.fault.BodyFault.{BodyFault}
-use Rattle.review_ops.specs.Deed.{kept_deed}
+use Rattle.review_ops.specs.Deed.{Deed, kept_deed}
 use Rattle.review_ops.specs.Good.{IsFaultless}
 use Rattle.review_ops.specs.Fault.{IsFirstFault}
+use Rattle.gerrit_events.specs.declared.fault.EventFault.{EventFault}
 use Rattle.gerrit_events.specs.declared.fault.EventFault.TheVariants.{BadEvent, Dropped}
 use Rattle.gerrit_events.specs.declared.fault.EventKey.TheVariants.{Line, TypeName}
 use Rattle.gerrit_events.specs.declared.kind.Kind.{Kind}
 use Rattle.gerrit_events.specs.declared.finding.Finding.{Finding}
-use Rattle.gerrit_events.specs.declared.finding.Finding.TheVariants.{Brings, Refuses}
-use Rattle.gerrit_events.specs.Claims.{Claim, drafts, refuses, claims_by}
+use Rattle.gerrit_events.specs.declared.finding.Finding.TheVariants.{Brings, Shows, Lists, Refuses}
+use Rattle.gerrit_events.specs.declared.part.Part.{Part}
+use Rattle.gerrit_events.specs.declared.part.Part.TheVariants.{Nothing}
+use Rattle.gerrit_events.specs.Claims.{Claim, drafts, shows, lists, refuses, claims_by}
 use Rattle.gerrit_events.specs.Fault.{key_of}
 use Rattle.gerrit_events.specs.Kinds.{kind_of}
+use Rattle.gerrit_events.specs.Listings.{listing_shown}
+use Rattle.gerrit_events.specs.Parts.{part_of}
 use Rattle.gerrit_events.specs.Patches.{brought_by, after_line}
+use Rattle.gerrit_events.specs.Projects.{Choice, feeds}
 use Rattle.gerrit_events.specs.Revisions.{Revision}
 
--- a body without faults is kept; of another the key of its first fault is named
+-- a body without faults is kept
+abbrev pub IsKept : Deed → Deed → Type 0
+IsKept deed body = IsFaultless deed × (body ≡ kept_deed deed)
+
+-- of another the key of its first fault is named
+abbrev pub IsLost : Deed → EventFault → Type 0
+IsLost deed (BadEvent key) = (fault : BodyFault) × IsFirstFault fault deed × (key ≡ key_of fault)
+IsLost deed Dropped = ⊥
+
 abbrev pub IsSettled : Claim → Finding → Type 0
-IsSettled (drafts deed) (Brings body) = IsFaultless deed × (body ≡ kept_deed deed)
-IsSettled (drafts deed) (Refuses (BadEvent key)) = (fault : BodyFault) × IsFirstFault fault deed × (key ≡ key_of fault)
-IsSettled (drafts deed) (Refuses Dropped) = ⊥
-IsSettled (refuses fault) (Brings body) = ⊥
+IsSettled (drafts deed) (Brings body) = IsKept deed body
+IsSettled (drafts deed) (Refuses fault) = IsLost deed fault
+IsSettled (shows deed) (Shows body) = IsKept deed body
+IsSettled (shows deed) (Refuses fault) = IsLost deed fault
+IsSettled (lists listing) (Lists found) = listing_shown found ≡ listing
 IsSettled (refuses fault) (Refuses found) = found ≡ fault
+IsSettled claim finding = ⊥
 
 abbrev pub AreSettled : List Claim → List Finding → Type 0
 AreSettled [] [] = Unit {0}
@@ -36,29 +53,35 @@ pub record IsObject (text : List ℕ) (members : Members) : Type 0 where
   pub utf8 : IsUtf8 text
   pub value : read text ≡ Some (object members)
 
--- what a line whose `type` says this kind claims; one whose `type` is no text is refused
-abbrev pub claims_of : List Revision → Option Kind → Data → List Claim
-claims_of known None line = refuses (BadEvent TypeName) ∷ []
-claims_of known (Some kind) line = claims_by known kind line
+-- what a line whose `type` says this kind claims, where its project is fed; one whose `type` is no text is refused
+abbrev pub claims_of : List Revision → Choice → Option Kind → Data → List Claim
+claims_of known choice None line = refuses (BadEvent TypeName) ∷ []
+claims_of known choice (Some kind) line = if feeds choice kind line then claims_by known kind line else []
 
-abbrev pub known_after : List Revision → Option Kind → Data → List Revision
-known_after known None line = known
-known_after known (Some kind) line = after_line known (brought_by known kind line)
+abbrev pub known_after : List Revision → Choice → Option Kind → Data → List Revision
+known_after known choice None line = known
+known_after known choice (Some kind) line =
+    if feeds choice kind line then after_line known (brought_by known kind line) else known
+
+-- what a line is, and what is found in it
+pub record Told : Type 0 where
+  pub part : Part
+  pub findings : List Finding
 
 -- the line is an object, its claims are settled so, and this is known then
-pub record IsRead (known : List Revision) (text : List ℕ) (findings : List Finding) (after : List Revision) :
+pub record IsRead (known : List Revision) (choice : Choice) (text : List ℕ) (told : Told) (after : List Revision) :
     Type 0 where
   pub members : Members
   pub is_object : IsObject text members
-  pub settled : AreSettled (claims_of known (kind_of (object members)) (object members)) findings
-  pub learned : after ≡ known_after known (kind_of (object members)) (object members)
+  pub settled : AreSettled (claims_of known choice (kind_of (object members)) (object members)) told.findings
+  pub learned : after ≡ known_after known choice (kind_of (object members)) (object members)
+  pub part : told.part ≡ part_of (kind_of (object members)) (object members)
 
 -- the line is no object
-pub record IsNoEvent (known : List Revision) (text : List ℕ) (findings : List Finding) (after : List Revision) :
-    Type 0 where
+pub record IsNoEvent (known : List Revision) (text : List ℕ) (told : Told) (after : List Revision) : Type 0 where
   pub none : (members : Members) → ¬ IsObject text members
-  pub refused : findings ≡ Refuses (BadEvent Line) ∷ []
+  pub refused : told ≡ record { part = Nothing; findings = Refuses (BadEvent Line) ∷ [] }
   pub same : after ≡ known
 
-abbrev pub Reads : List Revision → List ℕ → List Finding → List Revision → Type 0
-Reads known text findings after = IsRead known text findings after ⊎ IsNoEvent known text findings after
+abbrev pub Reads : List Revision → Choice → List ℕ → Told → List Revision → Type 0
+Reads known choice text told after = IsRead known choice text told after ⊎ IsNoEvent known text told after

@@ -2,11 +2,13 @@
 
 ghost use Rattle.std.specs.Prelude.{◌≡◌};
 ghost use Rattle.review_ops.specs.Draft.{deed_of};
-ghost use Rattle.gerrit_events.specs.Claims.{drafts, refuses, bad};
+ghost use Rattle.gerrit_events.specs.Claims.{drafts, shows, lists, refuses, bad};
+ghost use Rattle.gerrit_events.specs.Listings.{listing_shown};
 ghost use Rattle.gerrit_events.specs.Reading.{IsSettled};
 
 use super::fault::{EventFault, EventKey, key_of};
 use super::finding::Finding;
+use super::listing::Listing;
 use review_ops::{Body, Draft};
 use std::marker::Model;
 
@@ -14,10 +16,12 @@ use std::marker::Model;
 #[derive(Drop)]
 pub enum Claimed {
     Draft(Draft),
+    Shown(Draft),
+    Listing(Listing),
     Fault(EventFault),
 }
 
-/// A body that a line spells, good or not, or something of the line that is lost.
+/// A body that a line spells, good or not, what it says beside, or something of the line that is lost.
 #[derive(Drop)]
 pub struct Claim {
     claimed: Claimed,
@@ -39,6 +43,24 @@ impl Claim {
     {
         Claim {
             claimed: Claimed::Draft(draft),
+        }
+    }
+
+    /// A patch set that an event shows.
+    pub fn shows(draft: Draft) -> Claim
+        ensures { result ≡ shows (deed_of draft) }
+    {
+        Claim {
+            claimed: Claimed::Shown(draft),
+        }
+    }
+
+    /// All votes of a patch set.
+    pub fn lists(listing: Listing) -> Claim
+        ensures { result ≡ lists (listing_shown listing) }
+    {
+        Claim {
+            claimed: Claimed::Listing(listing),
         }
     }
 
@@ -65,6 +87,8 @@ impl Claim {
         let Claim { claimed } = self;
         match claimed {
             Claimed::Draft(draft) => settled_draft(draft),
+            Claimed::Shown(draft) => settled_shown(draft),
+            Claimed::Listing(listing) => Finding::Lists(listing),
             Claimed::Fault(fault) => Finding::Refuses(fault),
         }
     }
@@ -76,6 +100,16 @@ fn settled_draft(draft: Draft) -> Finding
 {
     match Body::checked(draft) {
         Ok(body) => Finding::Brings(body),
+        Err(fault) => Finding::Refuses(EventFault::BadEvent(key_of(fault))),
+    }
+}
+
+/// What is found where a patch set is shown: its body, or that it is bad.
+fn settled_shown(draft: Draft) -> Finding
+    ensures { IsSettled (shows (deed_of draft)) result }
+{
+    match Body::checked(draft) {
+        Ok(body) => Finding::Shows(body),
         Err(fault) => Finding::Refuses(EventFault::BadEvent(key_of(fault))),
     }
 }

@@ -1,19 +1,30 @@
 //! What a line of a known kind claims.
 
-ghost use Rattle.std.specs.Prelude.{◌≡◌, ◌++◌, ◌∷◌, [], IfOk, OnOk, option_map, replicate, string_bytes};
+ghost use Rattle.std.specs.Prelude.{◌≡◌, ◌++◌, ◌∷◌, [], IfOk, OnOk, codes, flat_map, map, option_map, replicate};
+ghost use Rattle.std.specs.Prelude.{string_bytes};
 ghost use Rattle.review_ops.specs.Deed.{withdraw};
-ghost use Rattle.gerrit_events.specs.Claims.{drafts, bad, change_claims, claims_by, first_claims, lost_parents};
-ghost use Rattle.gerrit_events.specs.Claims.{older_claims, patch_claims, query_claims, set_claims, status_claims};
+ghost use Rattle.review_ops.specs.Draft.{deed_of};
+ghost use Rattle.gerrit_events.specs.Claims.{drafts, bad, change_claims, claims_by, closing_claims, first_claims};
+ghost use Rattle.gerrit_events.specs.Claims.{listed_claims, lost_parents, mark_claim, older_claims, opening_claims};
+ghost use Rattle.gerrit_events.specs.Claims.{patch_claim, patch_claims, patch_marks, query_claims, set_claims, state_claim};
 ghost use Rattle.gerrit_events.specs.Claims.{vote_claim, vote_claims, vote_of, value_under, with_set};
+ghost use Rattle.gerrit_events.specs.declared.kind.Kind.TheVariants.{QueryLine};
+ghost use Rattle.gerrit_events.specs.Listings.{ballot_of, ballot_shown, ballots_in, mark_ballot};
+ghost use Rattle.gerrit_events.specs.Marks.{marks_in};
 ghost use Rattle.gerrit_events.specs.Patches.{brought_by, change_in, parent_in, parents_in, set_in};
 ghost use Rattle.gerrit_events.specs.PatchShown.{patch_shown};
 ghost use Rattle.gerrit_events.specs.Trees.{data_in};
+ghost use Rattle.gerrit_events.specs.Values.{listed};
+ghost use Rattle.std.specs.List.{cons_option};
+ghost use Rattle.serde_json.specs.Find.{get};
 
 use super::claim::Claim;
 use super::fault::{EventFault, EventKey};
 use super::kind::Kind;
 use super::known::Revisions;
 use super::line::Line;
+use super::listing::{Ballot, Listing};
+use super::mark::{Mark, RESERVED_VOTER};
 use super::patch::Patch;
 use super::tree::{member, text};
 use super::value::{listed, number_in, text_in, under, user_in, value_in};
@@ -129,7 +140,7 @@ impl<'k, 'v, 'a> Event<'k, 'v, 'a> {
     {
         match self.line.kind {
             Kind::DroppedOutput => add(claims, Claim::refuses(EventFault::Dropped)),
-            Kind::QueryStats => Ok(()),
+            Kind::QueryStats | Kind::QueryError => Ok(()),
             Kind::OtherEvent => self.add_first(claims),
             _ => match self.change {
                 None => add(claims, Claim::bad(self.line.kind.change_key())),
@@ -147,10 +158,21 @@ impl<'k, 'v, 'a> Event<'k, 'v, 'a> {
             Kind::ChangeAbandoned | Kind::ChangeDeleted => Draft::Abandon { change },
             Kind::ChangeRestored => Draft::Restore { change },
             Kind::ChangeMerged => Draft::Merged { change },
+            Kind::QueryLine => return self.add_row(claims, change),
             _ => return self.add_set(claims, change),
         };
         self.add_first(claims)?;
         add(claims, Claim::drafts(draft))
+    }
+
+    /// What a row claims of its change. That it is closed comes first.
+    fn add_row(&self, claims: &mut Vec<Claim>, change: u32) -> Result<(), NoMemory>
+        requires { self.now.line.kind ≡ Kind.QueryLine }
+        ensures { OnOk result (claims.new.items ≡ claims.old.items
+            ++ change_claims self.now.known.now QueryLine (data_in self.now.line.value.now) change) }
+    {
+        add_closing(claims, change, text_in(member(self.line.value, "status")))?;
+        self.add_set(claims, change)
     }
 
     /// What the line claims of its patch set.
@@ -188,21 +210,74 @@ impl<'k, 'v, 'a> Event<'k, 'v, 'a> {
             ++ patch_claims self.now.known.now self.now.line.kind (data_in self.now.line.value.now) (patch_shown patch.now)) }
     {
         let parents = self.parents()?;
+        let parent = parents.first().copied();
         let message = String::from_str(self.alloc, patch.message)?;
-        add(
-            claims,
-            Claim::drafts(Draft::PatchSet {
-                change: patch.change,
-                set: patch.set,
-                message,
-                parent: parents.first().copied(),
-            }),
-        )?;
-        add_bad(
-            claims,
-            self.line.parents_key(),
-            self.lost_parents(parents.as_slice()),
-        )
+        let draft = Draft::PatchSet {
+            change: patch.change,
+            set: patch.set,
+            message,
+            parent,
+        };
+        add(claims, self.patch_claim(parent, draft))?;
+        let lost = self.lost_parents(parents.as_slice());
+        add_bad(claims, self.line.parents_key(), lost)?;
+        self.add_patch_marks(claims, patch)
+    }
+
+    /// What is claimed of a patch set with this parent.
+    fn patch_claim(&self, parent: Option<u32>, draft: Draft) -> Claim
+        ensures { result ≡ patch_claim self.now.line.kind parent (deed_of draft) }
+    {
+        match self.line.kind {
+            Kind::QueryLine => Claim::drafts(draft),
+            Kind::PatchSetCreated => match parent {
+                None => Claim::shows(draft),
+                Some(_) => Claim::drafts(draft),
+            },
+            _ => Claim::shows(draft),
+        }
+    }
+
+    /// The marks of a patch set that an event brings.
+    fn add_patch_marks(&self, claims: &mut Vec<Claim>, patch: &Patch<'a>) -> Result<(), NoMemory>
+        ensures { OnOk result (claims.new.items ≡ claims.old.items
+            ++ patch_marks self.now.line.kind (data_in self.now.line.value.now) (patch_shown patch.now)) }
+    {
+        match self.line.kind {
+            Kind::QueryLine => Ok(()),
+            _ => self.add_marks(claims, patch.change, patch.set),
+        }
+    }
+
+    /// What the reserved voter votes on a patch set.
+    fn add_marks(&self, claims: &mut Vec<Claim>, change: u32, set: u32) -> Result<(), NoMemory>
+        ensures { OnOk result (claims.new.items ≡ claims.old.items
+            ++ map (mark_claim change set) (marks_in self.now.line.kind (data_in self.now.line.value.now))) }
+    {
+        let marks = self.line.marks(self.alloc)?;
+        for mark in marks {
+            claims.push(mark_claim(self.alloc, change, set, mark)?)?;
+        }
+        Ok(())
+    }
+
+    /// What the reserved voter votes on a patch set, or takes back, now that this is so or not.
+    fn add_state(
+        &self,
+        claims: &mut Vec<Claim>,
+        change: u32,
+        set: u32,
+        mark: Mark,
+        is_so: bool,
+    ) -> Result<(), NoMemory>
+        ensures { OnOk result (claims.new.items ≡ claims.old.items ++ state_claim change set mark is_so ∷ []) }
+    {
+        if is_so {
+            return add(claims, mark_claim(self.alloc, change, set, mark)?);
+        }
+        let label = String::from_str(self.alloc, mark.label())?;
+        let voter = String::from_str(self.alloc, RESERVED_VOTER)?;
+        add(claims, withdrawn(change, set, label, voter))
     }
 
     /// What the line claims of its patch set beside the patch set.
@@ -217,9 +292,18 @@ impl<'k, 'v, 'a> Event<'k, 'v, 'a> {
     {
         match self.line.kind {
             Kind::PatchSetCreated => Ok(()),
-            Kind::QueryLine => {
-                self.add_votes(claims, change, set, self.line.approvals_part())?;
-                self.add_query(claims, change, set)
+            Kind::QueryLine => self.add_query(claims, change, set),
+            Kind::WipStateChanged => {
+                self.add_state(
+                    claims,
+                    change,
+                    set,
+                    Mark::WorkInProgress,
+                    self.line.is_wip(),
+                )
+            },
+            Kind::PrivateStateChanged => {
+                self.add_state(claims, change, set, Mark::Private, self.line.is_private())
             }
             _ => self.add_votes(claims, change, set, self.line.approvals_part()),
         }
@@ -255,21 +339,38 @@ impl<'k, 'v, 'a> Event<'k, 'v, 'a> {
         let Some(voter) = user_in(self.line.account_part(approval)) else {
             return Ok(Claim::bad(self.line.kind.account_key()));
         };
+        if voter == RESERVED_VOTER {
+            return Ok(Claim::bad(EventKey::Username));
+        }
         let value = member(approval, "value");
         vote_of(self.alloc, change, set, label, voter, value)
     }
 
-    /// What a line of a query claims of other patch sets and of the change's status.
+    /// What a row of a query claims of its patch sets. That the change is open comes last.
     fn add_query(&self, claims: &mut Vec<Claim>, change: u32, set: u32) -> Result<(), NoMemory>
         requires { self.now.line.kind ≡ Kind.QueryLine }
         ensures { OnOk result (claims.new.items ≡ claims.old.items
             ++ query_claims (data_in self.now.line.value.now) change set) }
     {
+        let marks = self.mark_ballots()?;
+        self.add_listed(claims, change, set, self.line.approvals_part(), marks)?;
+        self.add_marks(claims, change, set)?;
+        self.add_older_sets(claims, change, set)?;
+        add_opening(claims, change, text_in(member(self.line.value, "status")))
+    }
+
+    /// What a row claims of the patch sets but the current one.
+    fn add_older_sets(&self, claims: &mut Vec<Claim>, change: u32, set: u32) -> Result<(), NoMemory>
+        requires { self.now.line.kind ≡ Kind.QueryLine }
+        ensures { OnOk result (claims.new.items ≡ claims.old.items
+            ++ flat_map (older_claims (data_in self.now.line.value.now) change set)
+            (listed (get (codes "patchSets") (data_in self.now.line.value.now)))) }
+    {
         let values = listed(member(self.line.value, "patchSets"));
         for older in values {
             self.add_older(claims, change, set, older)?;
         }
-        add_status(claims, change, text_in(member(self.line.value, "status")))
+        Ok(())
     }
 
     /// The votes of a patch set that isn't the current one.
@@ -290,8 +391,120 @@ impl<'k, 'v, 'a> Event<'k, 'v, 'a> {
         if set == current {
             return Ok(());
         }
-        self.add_votes(claims, change, set, member(older, "approvals"))
+        let marks = Vec::new(self.alloc);
+        self.add_listed(claims, change, set, member(older, "approvals"), marks)
     }
+
+    /// All votes of a patch set, and then each of them, with these ballots beside those of the approvals.
+    fn add_listed(
+        &self,
+        claims: &mut Vec<Claim>,
+        change: u32,
+        set: u32,
+        approvals: Option<&'v Value<'a>>,
+        marks: Vec<Ballot>,
+    ) -> Result<(), NoMemory>
+        requires { self.now.line.kind ≡ Kind.QueryLine }
+        ensures { OnOk result (claims.new.items ≡ claims.old.items
+            ++ listed_claims change set (data_in self.now.line.value.now)
+            (option_map (λ value. data_in value.now) approvals.entry) (map ballot_shown marks.items)) }
+    {
+        let mut ballots = self.ballots(approvals)?;
+        for mark in marks {
+            ballots.push(mark)?;
+        }
+        add(
+            claims,
+            Claim::lists(Listing {
+                change,
+                set,
+                ballots,
+            }),
+        )?;
+        self.add_votes(claims, change, set, approvals)
+    }
+
+    /// The ballots of approvals, where they have a label and a voter who isn't the reserved one.
+    fn ballots(&self, approvals: Option<&'v Value<'a>>) -> Result<Vec<Ballot>, NoMemory>
+        ensures { IfOk result (λ ballots. map ballot_shown ballots.items
+            ≡ ballots_in (option_map (λ value. data_in value.now) approvals.entry)) }
+    {
+        let mut ballots = Vec::new(self.alloc);
+        let values = listed(approvals);
+        for approval in values {
+            add_ballot(self.alloc, &mut ballots, approval)?;
+        }
+        Ok(ballots)
+    }
+
+    /// The ballots of the reserved voter.
+    fn mark_ballots(&self) -> Result<Vec<Ballot>, NoMemory>
+        ensures { IfOk result (λ ballots. map ballot_shown ballots.items
+            ≡ map mark_ballot (marks_in self.now.line.kind (data_in self.now.line.value.now))) }
+    {
+        let mut ballots = Vec::new(self.alloc);
+        let marks = self.line.marks(self.alloc)?;
+        for mark in marks {
+            ballots.push(ballot(self.alloc, mark.label(), RESERVED_VOTER)?)?;
+        }
+        Ok(ballots)
+    }
+}
+
+/// Adds the ballot of an approval, where it has one.
+fn add_ballot(
+    alloc: Global,
+    ballots: &mut Vec<Ballot>,
+    approval: &Value<'_>,
+) -> Result<(), NoMemory>
+    ensures { OnOk result (map ballot_shown ballots.new.items
+        ≡ map ballot_shown ballots.old.items ++ cons_option (ballot_of (data_in approval.now)) []) }
+{
+    if let Some(ballot) = ballot_of(alloc, approval)? {
+        ballots.push(ballot)?;
+    }
+    Ok(())
+}
+
+/// The ballot of an approval, where it has a label and a voter who isn't the reserved one.
+fn ballot_of(alloc: Global, approval: &Value<'_>) -> Result<Option<Ballot>, NoMemory>
+    ensures { IfOk result (λ found. option_map ballot_shown found ≡ ballot_of (data_in approval.now)) }
+{
+    let Some(label) = text_in(member(approval, "type")) else {
+        return Ok(None);
+    };
+    let Some(voter) = user_in(member(approval, "by")) else {
+        return Ok(None);
+    };
+    if voter == RESERVED_VOTER {
+        return Ok(None);
+    }
+    let mut ballot = ballot(alloc, label, voter)?;
+    ballot.label.make_ascii_lowercase();
+    Ok(Some(ballot))
+}
+
+/// The ballot of a voter on a label.
+fn ballot(alloc: Global, label: &str, voter: &str) -> Result<Ballot, NoMemory>
+    ensures { IfOk result (λ ballot. ballot_shown ballot ≡ record { label = label.now; voter = voter.now }) }
+{
+    Ok(Ballot {
+        label: String::from_str(alloc, label)?,
+        voter: String::from_str(alloc, voter)?,
+    })
+}
+
+/// The claim that the reserved voter votes on a label.
+fn mark_claim(alloc: Global, change: u32, set: u32, mark: Mark) -> Result<Claim, NoMemory>
+    ensures { IfOk result (λ claim. claim ≡ mark_claim change set mark) }
+{
+    Ok(Claim::drafts(Draft::Vote {
+        change,
+        set,
+        label: String::from_str(alloc, mark.label())?,
+        voter: String::from_str(alloc, RESERVED_VOTER)?,
+        value: -1,
+    }))
 }
 
 /// Adds a claim.
@@ -354,18 +567,26 @@ fn withdrawn(change: u32, set: u32, label: String, voter: String) -> Claim
     })
 }
 
-/// The status of a change in a query.
-fn add_status(claims: &mut Vec<Claim>, change: u32, status: Option<&str>) -> Result<(), NoMemory>
+/// That a change is closed, where a row says so.
+fn add_closing(claims: &mut Vec<Claim>, change: u32, status: Option<&str>) -> Result<(), NoMemory>
     ensures { OnOk result (claims.new.items ≡ claims.old.items
-        ++ status_claims change (option_map (λ text. text.now) status.entry)) }
+        ++ closing_claims change (option_map (λ text. text.now) status.entry)) }
 {
-    let Some(name) = status else {
-        return add(claims, Claim::bad(EventKey::Status));
-    };
-    match name {
-        "NEW" => add(claims, Claim::drafts(Draft::Restore { change })),
-        "ABANDONED" => add(claims, Claim::drafts(Draft::Abandon { change })),
-        "MERGED" => add(claims, Claim::drafts(Draft::Merged { change })),
+    match status {
+        Some("ABANDONED") => add(claims, Claim::drafts(Draft::Abandon { change })),
+        Some("MERGED") => add(claims, Claim::drafts(Draft::Merged { change })),
         _ => Ok(()),
+    }
+}
+
+/// That a change is open, where a row says so, and that its status is lost, where it says none.
+fn add_opening(claims: &mut Vec<Claim>, change: u32, status: Option<&str>) -> Result<(), NoMemory>
+    ensures { OnOk result (claims.new.items ≡ claims.old.items
+        ++ opening_claims change (option_map (λ text. text.now) status.entry)) }
+{
+    match status {
+        None => add(claims, Claim::bad(EventKey::Status)),
+        Some("NEW") => add(claims, Claim::drafts(Draft::Restore { change })),
+        Some(_) => Ok(()),
     }
 }

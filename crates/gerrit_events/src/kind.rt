@@ -19,9 +19,12 @@ pub enum Kind {
     ChangeRestored,
     ChangeMerged,
     ChangeDeleted,
+    WipStateChanged,
+    PrivateStateChanged,
     DroppedOutput,
     QueryLine,
     QueryStats,
+    QueryError,
     OtherEvent,
 }
 
@@ -49,8 +52,11 @@ impl Kind {
             "change-restored" => Kind::ChangeRestored,
             "change-merged" => Kind::ChangeMerged,
             "change-deleted" => Kind::ChangeDeleted,
+            "wip-state-changed" => Kind::WipStateChanged,
+            "private-state-changed" => Kind::PrivateStateChanged,
             "dropped-output" => Kind::DroppedOutput,
             "stats" => Kind::QueryStats,
+            "error" => Kind::QueryError,
             _ => Kind::OtherEvent,
         }
     }

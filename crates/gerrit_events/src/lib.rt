@@ -10,19 +10,20 @@
 //! | `change-abandoned`, `change-deleted` | an abandon |
 //! | `change-restored` | a restore |
 //! | `change-merged` | a merge |
+//! | `wip-state-changed`, `private-state-changed` | a vote of the reserved voter `gerrit`, or its withdrawal |
 //! | `dropped-output` | that events are lost |
-//! | `stats` | nothing |
-//! | none | a line of a query: its patch set, votes and status |
+//! | `stats`, `error` | nothing: the answer to a query ends |
+//! | none | a row of a query: its patch set, all votes, and the status |
 //!
-//! Each event but these last three brings its patch set first, unless this run has brought it.
+//! Each event but `dropped-output` brings its patch set first, unless this run has brought it.
 //!
 //! An example of its use:
 //!
 //! ```
 //! let line = br#"{"type":"change-abandoned","change":{"number":101}}"#;
 //! let mut known = Known::new(alloc);
-//! let findings = read_event(alloc, &mut known, line)?;
-//! assert_eq!(rt; findings.len(), 1);
+//! let told = read_event(alloc, &mut known, &Projects::all(), line)?;
+//! assert_eq!(rt; told.findings.len(), 1);
 //! ```
 #![tactic(auto)]
 
@@ -33,13 +34,22 @@ mod finding;
 mod kind;
 mod known;
 mod line;
+mod listing;
+mod mark;
 mod number;
+mod part;
 mod patch;
+mod projects;
 mod read;
+mod told;
 mod tree;
 mod value;
 
 pub use fault::{EventFault, EventKey};
 pub use finding::Finding;
 pub use known::Known;
+pub use listing::{Ballot, Listing};
+pub use part::Part;
+pub use projects::Projects;
 pub use read::read_event;
+pub use told::Told;

@@ -3,6 +3,7 @@
 ghost use Rattle.std.specs.Prelude.{◌≡◌, map, option_map};
 ghost use Rattle.gerrit_events.specs.Claims.{parents_key};
 ghost use Rattle.gerrit_events.specs.Kinds.{account_part, approvals_part, change_part, set_part};
+ghost use Rattle.gerrit_events.specs.Parts.{part_by};
 ghost use Rattle.gerrit_events.specs.Patches.{brought_by, change_in, parents_part, patch_in, set_in, unless_brought};
 ghost use Rattle.gerrit_events.specs.Patches.{was_brought};
 ghost use Rattle.gerrit_events.specs.PatchShown.{patch_shown};
@@ -11,9 +12,11 @@ ghost use Rattle.gerrit_events.specs.Trees.{data_in};
 use super::fault::EventKey;
 use super::kind::Kind;
 use super::known::Revisions;
+use super::mark::says;
+use super::part::Part;
 use super::patch::Patch;
 use super::tree::member;
-use super::value::{listed, text_in, under};
+use super::value::{listed, number_in, text_in, under};
 use json::Value;
 
 /// A line of a known kind.
@@ -90,6 +93,28 @@ impl<'v, 'a> Line<'v, 'a> {
 }
 
 impl<'v, 'a> Line<'v, 'a> {
+    /// What the line is in what Gerrit writes.
+    pub fn part(&self) -> Part
+        ensures { result ≡ part_by self.now.kind (data_in self.now.value.now) }
+    {
+        match self.kind {
+            Kind::DroppedOutput => Part::Event(None),
+            Kind::QueryLine => Part::Row(self.change()),
+            Kind::QueryStats => Part::Stats {
+                more: says(true, member(self.value, "moreChanges")),
+            },
+            Kind::QueryError => Part::Error,
+            _ => Part::Event(self.change()),
+        }
+    }
+
+    /// The number of the change.
+    fn change(&self) -> Option<u32>
+        ensures { result ≡ change_in self.now.kind (data_in self.now.value.now) }
+    {
+        number_in(under("number", self.change_part()))
+    }
+
     /// The patch set of the line, where it has all that is needed, by its two numbers and attributes.
     pub fn patch(
         &self,
@@ -125,7 +150,7 @@ impl<'v, 'a> Line<'v, 'a> {
     {
         match self.kind {
             Kind::PatchSetCreated | Kind::QueryLine => patch,
-            Kind::DroppedOutput | Kind::QueryStats => None,
+            Kind::DroppedOutput | Kind::QueryStats | Kind::QueryError => None,
             _ => unless_brought(known, patch?),
         }
     }

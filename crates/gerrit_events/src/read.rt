@@ -1,13 +1,15 @@
 //! Reads lines.
 
-ghost use Rattle.std.specs.Prelude.{◌≡◌, ℕ, List, [], ◌∷◌, IfOk, OnErr, MatchOption, OnOk, IsUtf8};
+ghost use Rattle.std.specs.Prelude.{◌≡◌, ℕ, List, [], ◌∷◌, IfOk, OnErr, MatchOption, OnOk, IsUtf8, Some};
 ghost use Rattle.serde_json.specs.Data.{Members, object};
 ghost use Rattle.gerrit_events.specs.declared.fault.EventFault.TheVariants.{BadEvent};
 ghost use Rattle.gerrit_events.specs.declared.finding.Finding.TheVariants.{Refuses};
 ghost use Rattle.gerrit_events.specs.Claims.{claims_by};
 ghost use Rattle.gerrit_events.specs.Patches.{after_line, brought_by, learned};
 ghost use Rattle.gerrit_events.specs.PatchShown.{patch_shown};
-ghost use Rattle.gerrit_events.specs.Reading.{AreSettled, IsObject, Reads};
+ghost use Rattle.gerrit_events.specs.Parts.{part_by};
+ghost use Rattle.gerrit_events.specs.Reading.{AreSettled, IsObject, Reads, claims_of, known_after};
+ghost use Rattle.gerrit_events.specs.declared.part.Part.TheVariants.{Nothing};
 ghost use Rattle.gerrit_events.specs.Trees.{data_in};
 
 use super::claim::Claim;
@@ -17,21 +19,30 @@ use super::finding::Finding;
 use super::kind::Kind;
 use super::known::{Known, Revisions};
 use super::line::Line;
+use super::part::Part;
 use super::patch::Patch;
+use super::projects::Projects;
+use super::told::Told;
 use super::tree::{is_object, value_of};
 use json::{Scratch, Value};
 use lattice_core::NoMemory;
 use std::alloc::Global;
 use std::str;
 
-/// What is found in a line, in order: the bodies that it brings, and what of it is refused. Where memory is refused
-/// nothing is learned. It costs O(n) for n bytes of the line, and a look-up for each parent that it names.
-pub fn read_event(alloc: Global, known: &mut Known, line: &[u8]) -> Result<Vec<Finding>, NoMemory>
-    ensures read { IfOk result (λ findings. Reads known.old line.now findings.items known.new) }
+/// What a line is, and what is found in it, in order: the bodies that it brings, what it says beside, and what of it is
+/// refused. Nothing is found in a line of a project that isn't among these. Where memory is refused nothing is learned.
+/// It costs O(n) for n bytes of the line, and a look-up for each parent that it names.
+pub fn read_event(
+    alloc: Global,
+    known: &mut Known,
+    projects: &Projects,
+    line: &[u8],
+) -> Result<Told, NoMemory>
+    ensures read { IfOk result (λ told. Reads known.old projects.now line.now told known.new) }
     ensures kept { OnErr result (known.new ≡ known.old) }
 {
     match str::from_utf8(line) {
-        Ok(text) => read_text(alloc, &mut known.revisions, &mut known.room, text),
+        Ok(text) => read_text(alloc, &mut known.revisions, &mut known.room, projects, text),
         Err(_) => refused(alloc, EventKey::Line),
     }
 }
@@ -41,10 +52,11 @@ fn read_text(
     alloc: Global,
     known: &mut Revisions,
     room: &mut Scratch,
+    projects: &Projects,
     text: &str,
-) -> Result<Vec<Finding>, NoMemory>
+) -> Result<Told, NoMemory>
     requires { IsUtf8 text.now }
-    ensures read { IfOk result (λ findings. Reads known.old text.now findings.items known.new) }
+    ensures read { IfOk result (λ told. Reads known.old projects.now text.now told known.new) }
     ensures kept { OnErr result (known.new ≡ known.old) }
 {
     let Some(value) = object_of(alloc, room, text)? else {
@@ -52,7 +64,15 @@ fn read_text(
     };
     match Kind::of(&value) {
         None => refused(alloc, EventKey::TypeName),
-        Some(kind) => read_kind(alloc, known, kind, &value),
+        Some(kind) => read_kind(
+            alloc,
+            known,
+            projects,
+            Line {
+                kind,
+                value: &value,
+            },
+        ),
     }
 }
 
@@ -78,27 +98,57 @@ fn object_of<'a>(
 }
 
 /// The line is refused.
-fn refused(alloc: Global, key: EventKey) -> Result<Vec<Finding>, NoMemory>
-    ensures { IfOk result (λ findings. findings.items ≡ Refuses (BadEvent key) ∷ []) }
+fn refused(alloc: Global, key: EventKey) -> Result<Told, NoMemory>
+    ensures { IfOk result (λ told. told ≡ record { part = Nothing; findings = Refuses (BadEvent key) ∷ [] }) }
 {
     let mut findings = Vec::new(alloc);
     findings.push(Finding::Refuses(EventFault::BadEvent(key)))?;
-    Ok(findings)
+    Ok(Told {
+        part: Part::Nothing,
+        findings,
+    })
 }
 
 /// What is found in a line of a known kind.
 fn read_kind(
     alloc: Global,
     known: &mut Revisions,
-    kind: Kind,
-    line: &Value<'_>,
-) -> Result<Vec<Finding>, NoMemory>
-    ensures settled { IfOk result
-        (λ findings. AreSettled (claims_by known.old kind (data_in line.now)) findings.items) }
-    ensures learned { OnOk result (known.new ≡ after_line known.old (brought_by known.old kind (data_in line.now))) }
+    projects: &Projects,
+    line: Line<'_, '_>,
+) -> Result<Told, NoMemory>
+    ensures part { IfOk result (λ told. told.part ≡ part_by line.entry.kind (data_in line.entry.value.now)) }
+    ensures settled { IfOk result (λ told. AreSettled
+        (claims_of known.old projects.now (Some line.entry.kind) (data_in line.entry.value.now)) told.findings) }
+    ensures learned { OnOk result (known.new
+        ≡ known_after known.old projects.now (Some line.entry.kind) (data_in line.entry.value.now)) }
     ensures kept { OnErr result (known.new ≡ known.old) }
 {
-    let event = Event::new(alloc, known, Line { kind, value: line });
+    let part = line.part();
+    if !projects.feeds(line.change_part()) {
+        return Ok(Told {
+            part,
+            findings: Vec::new(alloc),
+        });
+    }
+    Ok(Told {
+        part,
+        findings: read_fed(alloc, known, line)?,
+    })
+}
+
+/// What is found in a line whose project is fed.
+fn read_fed(
+    alloc: Global,
+    known: &mut Revisions,
+    line: Line<'_, '_>,
+) -> Result<Vec<Finding>, NoMemory>
+    ensures settled { IfOk result (λ findings. AreSettled
+        (claims_by known.old line.entry.kind (data_in line.entry.value.now)) findings.items) }
+    ensures learned { OnOk result (known.new
+        ≡ after_line known.old (brought_by known.old line.entry.kind (data_in line.entry.value.now))) }
+    ensures kept { OnErr result (known.new ≡ known.old) }
+{
+    let event = Event::new(alloc, known, line);
     let findings = settled(alloc, event.claims()?)?;
     match event.brought() {
         None => {}

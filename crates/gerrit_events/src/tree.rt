@@ -3,7 +3,7 @@
 ghost use Rattle.std.specs.Prelude.{◌≡◌, Some, None, IfOk, MatchOption, is_some, option_and_then, option_map};
 ghost use Rattle.json.specs.Find.{as_array, as_object};
 ghost use Rattle.json.specs.Value.{items_view, members_view, value_view};
-ghost use Rattle.serde_json.specs.Find.{as_i64, as_number, as_str, get};
+ghost use Rattle.serde_json.specs.Find.{as_bool, as_i64, as_number, as_str, get};
 ghost use Rattle.serde_json.specs.Read.{read};
 ghost use Rattle.gerrit_events.specs.Trees.{data_in, has_values, items_have_values, members_have_values};
 
@@ -91,6 +91,13 @@ pub fn text<'a>(value: &Value<'a>) -> Option<&'a str>
     ensures { option_map (λ text. text.now) result ≡ as_str (data_in value.now) }
 {
     value.as_str()
+}
+
+/// The truth value that a value is.
+pub fn truth(value: &Value<'_>) -> Option<bool>
+    ensures { result ≡ as_bool (data_in value.now) }
+{
+    value.as_bool()
 }
 
 /// The whole number that a value is, where it fits 64 bits.
