@@ -52,7 +52,7 @@ not_merged true = refl
 not_merged false = refl
 
 -- an operation that is none on the status
-status_stays : (b : Bool) (held : Option (Timestamp × Life))
+pub status_stays : (b : Bool) (held : Option (Timestamp × Life))
     → status_in b held ≡ status_in (b || false) (option_joined (ord_max life_order) held None)
 status_stays b held =
     ap (λ x. status_in x held) (sym (not_merged b))
@@ -80,12 +80,12 @@ stays_merged true held e = refl
 stays_merged false held e = e
 
 -- nothing is written to the patch sets, or to the votes
-patches_stay : (c : Change) (stamp : Timestamp) (deed : Deed) (set : ℕ) → (effect_by stamp deed).sets ≡ empty
+pub patches_stay : (c : Change) (stamp : Timestamp) (deed : Deed) (set : ℕ) → (effect_by stamp deed).sets ≡ empty
     → patch_at c set ≡ patch_at (change_joined c (effect_by stamp deed)) set
 patches_stay c stamp deed set e =
     ap (λ m. patch_in (get m set)) (sym (ap (λ n. map_joined (ord_max patch_order) c.sets n) e ∙ map_joined-empty numbers_exact (ord_max patch_order) c.sets))
 
-scores_stay : (c : Change) (stamp : Timestamp) (deed : Deed) (slot : Slot) → (effect_by stamp deed).votes ≡ empty
+pub scores_stay : (c : Change) (stamp : Timestamp) (deed : Deed) (slot : Slot) → (effect_by stamp deed).votes ≡ empty
     → score_at c slot ≡ score_at (change_joined c (effect_by stamp deed)) slot
 scores_stay c stamp deed slot e =
     ap (λ m. score_by (get m slot)) (sym (ap (λ n. map_joined (ord_max vote_order) c.votes n) e ∙ map_joined-empty slots_exact (ord_max vote_order) c.votes))

@@ -1,3 +1,11 @@
 mod Registers
 mod Alike
 mod After
+pub mod Bodies
+pub mod Asks
+pub mod Children
+pub mod Frames
+pub mod Truth
+pub mod Speaking
+pub mod Rows
+pub mod RowsRead

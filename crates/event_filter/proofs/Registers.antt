@@ -38,3 +38,12 @@ module _ {S T : Type 0} {key : S → S → Ordering} (exact_order : IsExactOrder
             ap (λ z. show (option_joined joined (get m z) (Some v))) is ∙ same ∙ sym (ap (λ z. show (get m z)) is)
         | false ↦ λ e. ap show (none_joined joined (get m q))
       ] refl)
+
+  -- at another key nothing changes
+  pub at_another : (q : S) → ¬ (q ≡ k) → get (map_joined joined m (insert empty k v)) q ≡ get m q
+  at_another q apart =
+      joined_entry q
+      ∙ elim (eq_by_cmp key q k) as (λ t. eq_by_cmp key q k ≡ t → option_joined joined (get m q) (cond t (Some v) None) ≡ get m q) [
+        | true ↦ λ e. absurd (apart (same_by_test exact_order q k e))
+        | false ↦ λ e. none_joined joined (get m q)
+      ] refl

@@ -1,2 +1,7 @@
 pub mod Recorded
 pub mod Newest
+pub mod Bringing
+pub mod Vanishing
+pub mod Asking
+pub mod Truth
+pub mod Rows

@@ -1,8 +1,15 @@
 //! What follows of what a record holds, as functions that do nothing: their contracts are the laws.
 
-ghost use Rattle.std.specs.Prelude.{ℕ};
+ghost use Rattle.std.specs.Prelude.{◌≡◌, ℕ, List};
 ghost use Rattle.event_filter.specs.Recorded.{change_at, IsRecorded, LookAlike};
 ghost use Rattle.event_filter.specs.Newest.{IsNewest, IsOpenTo};
+ghost use Rattle.event_filter.specs.Truth.{AgreesWithAll, AreMet, AreNothingNew};
+ghost use Rattle.gerrit_events.specs.declared.finding.Finding.{Finding};
+ghost use Rattle.gerrit_events.specs.Projects.{Choice};
+ghost use Rattle.gerrit_events.specs.Reading.{IsObject, Reads, Told};
+ghost use Rattle.gerrit_events.specs.Revisions.{Revision};
+ghost use Rattle.serde_json.specs.Data.{Members, object};
+ghost use Rattle.event_filter.specs.Rows.{IsRow, SaysRow};
 ghost use Rattle.review_ops.specs.Operation.{Operation};
 ghost use Rattle.state_core.specs.State.{State, with_effect};
 
@@ -18,4 +25,30 @@ pub fn what_is_recorded_changes_no_view()
 pub fn what_is_taken_in_is_recorded()
     ensures { (state : State) → (op : Operation) → IsNewest state op → IsOpenTo state op.deed
         → IsRecorded (with_effect state op) op.deed }
+{}
+
+/// A law: once what was found in a line is met, one finding after the other, and what each brings is taken in under
+/// stamps above those before, the record says what the line says: each body of it is recorded, and on each patch set
+/// that it lists who isn't listed has no score; where two findings speak of the same, the last one counts. What can't be
+/// said of a change that the record has as merged is that it is open or abandoned.
+pub fn what_is_met_is_what_the_record_says()
+    ensures { (state new : State) → (findings : List Finding) → AreMet state findings new
+        → AgreesWithAll findings new }
+{}
+
+/// A law: findings of which the record says each already bring nothing.
+pub fn what_is_nothing_new_brings_nothing()
+    ensures { (state new : State) → (findings : List Finding) → AreNothingNew state findings → AreMet state findings new
+        → new ≡ state }
+{}
+
+/// A law: a row of an answer is the truth on its change. Once it was read, and what was found in it is met, one finding
+/// after the other, under stamps above those before, the record says of the change what the row says, in the terms of
+/// Gerrit's JSON: the commit of the current patch set, the status (a merged change stays merged), each approval of the
+/// current patch set, and that nobody else has a score on it.
+pub fn what_a_row_says_is_what_the_record_says()
+    ensures { (known after : List Revision) → (choice : Choice) → (text : List ℕ) → (told : Told)
+        → Reads known choice text told after → (members : Members) → IsObject text members
+        → (change set : ℕ) → IsRow choice (object members) change set
+        → (state new : State) → AreMet state told.findings new → SaysRow known (object members) change set new }
 {}
