@@ -1,46 +1,59 @@
--- A feed goes on by one line more.
-use Rattle.std.proofs.Common.{◌≡◌, ◌+◌, ℕ, Bool, true, false, List, [], ◌∷◌, ◌++◌, Ok, Err, length, refl, sym, subst}
-use Rattle.std.proofs.Common.{arith}
-use Rattle.event_feed.specs.Feed.{Begin, Fails, IsStep, Outputs, Turn, Turns, IsTurn}
+-- A feed goes on by one line more, and ends.
+use Rattle.std.proofs.Common.{◌≡◌, ◌+◌, ℕ, Bool, true, false, List, [], ◌∷◌, ◌++◌, None, Result, Ok, Err, length, refl}
+use Rattle.std.proofs.Common.{sym, subst, arith}
+use Rattle.gerrit_events.specs.Projects.{Choice}
+use Rattle.gerrit_events.specs.Reading.{Told}
+use Rattle.event_feed.specs.Feed.{IsTurn, Standing, Stops, Turn, Turns, Waits, ended_by, with_taker}
+use Rattle.event_feed.specs.Steps.{Steps}
 use Rattle.event_feed.specs.declared.fault.FeedFault.{FeedFault}
-use Rattle.event_feed.specs.Texts.{drops}
+use Rattle.event_feed.specs.declared.progress.Input.{Input}
 
-pub turns_push : (limit first number : ℕ) (turns : List Turn) (source mid later : Begin) (old between new : Outputs)
-    (turn : Turn) → number ≡ first + length turns
-    → Turns limit first source old turns mid between → IsTurn limit number mid later between new turn
-    → drops turn.findings ≡ false
-    → Turns limit first source old (turns ++ turn ∷ []) later new
-turns_push limit first number [] source mid later old between new turn is before one goes_on =
-    let at : number ≡ first = omega (arith, is) in (
-      later,
-      new,
-      subst (λ n. IsTurn limit n source later old new turn) at
-          (subst (λ b. IsTurn limit number b later old new turn) before.0
-          (subst (λ t. IsTurn limit number mid later t new turn) before.1 one)),
-      goes_on,
-      (refl, refl),
-    )
-turns_push limit first number (t ∷ turns) source mid later old between new turn is before one goes_on = (
-  before.0,
-  before.1,
-  before.2,
-  before.3,
-  turns_push limit
-      (first + 1) number turns before.0 mid later before.1 between new turn (omega (arith, is)) before.4 one goes_on,
-)
+module _ {Taker : Type 0} (rests : Taker → Result (Unit {0}) FeedFault → Taker → Type 0)
+    (takes : Taker → ℕ → Told → Result (Unit {0}) FeedFault → Taker → Type 0) where
+  pub turns_push : (choice : Choice) (limit first number : ℕ) (turns : List Turn) (old mid new : Standing Taker) (waiting : Taker)
+      (turn : Turn) → number ≡ first + length turns → Turns rests takes choice limit first old turns mid
+      → Waits rests mid.source.held mid.taker waiting
+      → IsTurn takes choice limit number (with_taker mid waiting) new turn (Ok tt) → ended_by turn.told ≡ None
+      → Turns rests takes choice limit first old (turns ++ turn ∷ []) new
+  turns_push choice limit first number [] old mid new waiting turn is before waits one unended =
+      let at : number ≡ first = omega (arith, is) in (
+        waiting,
+        new,
+        subst (λ s. Waits rests s.source.held s.taker waiting) before waits,
+        subst (λ n. IsTurn takes choice limit n (with_taker old waiting) new turn (Ok tt)) at
+            (subst (λ s. IsTurn takes choice limit number (with_taker s waiting) new turn (Ok tt)) before one),
+        unended,
+        refl,
+      )
+  turns_push choice limit first number (t ∷ turns) old mid new waiting turn is before waits one unended = (
+    before.0,
+    before.1,
+    before.2,
+    before.3,
+    before.4,
+    turns_push choice limit (first + 1) number turns before.1 mid new waiting turn (omega (arith, is)) before.5 waits one unended,
+  )
 
--- a line was taken, and the feed goes on
-pub step_on : (bound limit number : ℕ) (source later : Begin) (old new : Outputs) (more : Bool) → bound ≡ limit
-    → more ≡ true → IsStep bound number source later old new (Ok more)
-    → (turn : Turn) × IsTurn limit number source later old new turn × (drops turn.findings ≡ false)
-step_on bound limit number source later old new true same is h =
-    subst (λ l. IsStep l number source later old new (Ok true)) same h
-step_on bound limit number source later old new false same is h = cc
+  -- a line was taken, and the feed goes on
+  pub step_on : (input : Input) (choice : Choice) (bound limit number : ℕ) (old new : Standing Taker) (more : Bool) → bound ≡ limit
+      → more ≡ true → Steps rests takes input choice bound number old new (Ok more)
+      → Steps rests takes input choice limit number old new (Ok true)
+  step_on input choice bound limit number old new true same is h =
+      subst (λ l. Steps rests takes input choice l number old new (Ok true)) same h
+  step_on input choice bound limit number old new false same is h = cc
 
--- the feed ends early
-pub step_off : (bound limit number at : ℕ) (source later : Begin) (old new : Outputs) (fault : FeedFault)
-    → bound ≡ limit → at ≡ number → IsStep bound number source later old new (Err fault)
-    → Fails limit at source later old new fault
-step_off bound limit number at source later old new fault same is h =
-    subst (λ l. Fails l at source later old new fault) same (subst (λ n. Fails bound n source later old new fault)
-    (sym is) h)
+  -- the source is at its end
+  pub step_end : (input : Input) (choice : Choice) (bound limit number at : ℕ) (old new : Standing Taker) (more : Bool) → more ≡ false
+      → at ≡ number → Steps rests takes input choice bound number old new (Ok more)
+      → Stops rests takes input choice limit at old new (Ok tt)
+  step_end input choice bound limit number at old new true is same h = cc
+  step_end input choice bound limit number at old new false is same h =
+      subst (λ n. Stops rests takes input choice limit n old new (Ok tt)) (sym same) h
+
+  -- the feed ends early
+  pub step_off : (input : Input) (choice : Choice) (bound limit number at : ℕ) (old new : Standing Taker) (fault : FeedFault)
+      → bound ≡ limit → at ≡ number → Steps rests takes input choice bound number old new (Err fault)
+      → Stops rests takes input choice limit at old new (Err fault)
+  step_off input choice bound limit number at old new fault same is h =
+      subst (λ l. Stops rests takes input choice l at old new (Err fault)) same
+      (subst (λ n. Stops rests takes input choice bound n old new (Err fault)) (sym is) h)

@@ -1,4 +1,4 @@
-pub mod Saying
 pub mod LinesRead
-pub mod Stepping
-pub mod Feeding
+mod Moving
+mod Feeding
+mod Progressing

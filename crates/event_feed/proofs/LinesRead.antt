@@ -9,7 +9,7 @@ use Rattle.byte_ends.specs.Lines.{as_line, without_cr}
 use Rattle.byte_ends.specs.ReadAll.{CountsFault}
 use Rattle.byte_ends.specs.declared.faults.BytesFault.{BytesFault}
 use Rattle.byte_ends.specs.declared.faults.BytesFault.TheVariants.{TooLong}
-use Rattle.line_reader.specs.Lines.{BeginsWithLine, Hands, IsTooLong, Reading}
+use Rattle.line_reader.specs.Lines.{BeginsWithLine, Hands, HasNoLf, IsTooLong, Passes, Reading}
 
 pub handed : (old new : Reading) (came : List ℕ) (whole : Bool) → whole ≡ true → Hands old came (Ok whole) new
     → (piece : List ℕ) × BeginsWithLine old.limit (old.held ++ came) piece new.held × (new.line ≡ without_cr piece)
@@ -44,3 +44,8 @@ pub long_by : (b : Bool) (limit : ℕ) (bytes more piece rest : List ℕ) → Is
 long_by true limit bytes more piece rest long is b = ltb-true limit (length piece) b
 long_by false limit bytes more piece rest long is b = absurd
     (lf_past limit bytes more piece rest long is (ltb-false limit (length piece) b))
+
+pub passed_all : (old came new : List ℕ) (whole : Bool) → whole ≡ false → Passes old came (Ok whole) new
+    → HasNoLf (old ++ came)
+passed_all old came new true is h = cc
+passed_all old came new false is h = h.0

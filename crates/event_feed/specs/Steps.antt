@@ -1,83 +1,140 @@
 -- What the parts of a step answer; for private clauses.
-use Rattle.std.specs.Prelude.{◌≡◌, ◌≢◌, ◌⊎◌, ℕ, Bool, true, false, List, [], ◌++◌, Result, Ok, Err}
+use Rattle.std.specs.Prelude.{◌≡◌, ◌⊎◌, ℕ, Bool, true, false, List, ◌++◌, Option, Some, None, Result, Ok, Err}
 use Rattle.std.specs.Io.KnownBytes.{Consumes, IsAtEnd}
-use Rattle.byte_ends.specs.Lines.{as_line}
-use Rattle.gerrit_events.specs.Reading.{Reads}
-use Rattle.gerrit_events.specs.declared.finding.Finding.{Finding}
-use Rattle.event_feed.specs.declared.fault.FeedFault.{FeedFault}
-use Rattle.event_feed.specs.declared.fault.FeedFault.TheVariants.{Dropped, ReadFault, WriteFault, NoMemory}
-use Rattle.line_reader.specs.Lines.{HasNoLf}
 use Rattle.byte_ends.specs.Failures.{OneFailed}
-use Rattle.event_feed.specs.Feed.{Begin, End, Outputs, HasCome, IsRead, IsWritten, IsCutShort, IsQuiet, no_line}
-use Rattle.event_feed.specs.Feed.{rest_text}
-use Rattle.event_feed.specs.Texts.{take_lines, refusal_lines, drops}
+use Rattle.byte_ends.specs.Lines.{as_line}
+use Rattle.gerrit_events.specs.Projects.{Choice}
+use Rattle.gerrit_events.specs.Reading.{Reads, Told}
+use Rattle.gerrit_events.specs.Revisions.{Revision}
+use Rattle.line_reader.specs.Lines.{HasNoLf}
+use Rattle.event_feed.specs.Ends.{Begin, HasCome, IsRead}
+use Rattle.event_feed.specs.Feed.{EndsWith, Fails, HandsLast, IsEnd, IsTurn, IsUnrested, Standing, Turn, no_event}
+use Rattle.event_feed.specs.Feed.{Waits, ended_by, with_taker}
+use Rattle.event_feed.specs.Progress.{after_part}
+use Rattle.event_feed.specs.declared.fault.FeedFault.{FeedFault}
+use Rattle.event_feed.specs.declared.fault.FeedFault.TheVariants.{Dropped, ReadFault, WriteFault, NoMemory, NoSite, Ended}
+use Rattle.event_feed.specs.declared.fault.FeedFault.TheVariants.{Incomplete}
+use Rattle.event_feed.specs.declared.progress.Input.{Input}
+use Rattle.event_feed.specs.declared.progress.Progress.{Progress}
 
--- all of the text is written, or writing it failed
-abbrev pub Sends : List ℕ → End → End → Result (Unit {0}) FeedFault → Type 0
-Sends text old new (Ok done) = IsWritten text old new
-Sends text old new (Err WriteFault) = IsCutShort text old new
-Sends text old new (Err fault) = ⊥
+-- whether there is more to come, where nothing failed
+abbrev pub with_more : Bool → Result (Unit {0}) FeedFault → Result Bool FeedFault
+with_more more (Ok done) = Ok more
+with_more more (Err fault) = Err fault
 
--- all was written
-pub record AreWritten (number : ℕ) (findings : List Finding) (output errors output' errors' : End) : Type 0 where
-  pub brought : IsWritten (take_lines findings) output output'
-  pub refused : IsWritten (refusal_lines number findings) errors errors'
+-- a feed goes on, unless it ends so
+abbrev pub goes_on : Option FeedFault → Result Bool FeedFault
+goes_on None = Ok true
+goes_on (Some fault) = Err fault
 
--- one of the two texts was cut short
-abbrev pub AreCutShort : ℕ → List Finding → End → End → End → End → Type 0
-AreCutShort number findings output errors output' errors' =
-    (IsCutShort (take_lines findings) output output' × (errors' ≡ errors))
-    ⊎ (IsWritten (take_lines findings) output output' × IsCutShort (refusal_lines number findings) errors errors')
+-- why passing over a line breaks off
+abbrev pub BreaksPassing : Begin → Begin → FeedFault → Type 0
+BreaksPassing source later Dropped = ⊥
+BreaksPassing source later ReadFault = OneFailed source.failed later.failed ⊎ (later.failed ≡ source.failed)
+BreaksPassing source later WriteFault = ⊥
+BreaksPassing source later NoMemory = later.failed ≡ source.failed
+BreaksPassing source later NoSite = ⊥
+BreaksPassing source later Ended = ⊥
+BreaksPassing source later Incomplete = ⊥
 
--- what was found is written
-abbrev pub IsFindingsStep : ℕ → List Finding → End → End → End → End → Result Bool FeedFault → Type 0
-IsFindingsStep number findings output errors output' errors' (Ok true) =
-    AreWritten number findings output errors output' errors' × (drops findings ≡ false)
-IsFindingsStep number findings output errors output' errors' (Ok false) = ⊥
-IsFindingsStep number findings output errors output' errors' (Err Dropped) =
-    AreWritten number findings output errors output' errors' × (drops findings ≡ true)
-IsFindingsStep number findings output errors output' errors' (Err ReadFault) = ⊥
-IsFindingsStep number findings output errors output' errors' (Err WriteFault) =
-    AreCutShort number findings output errors output' errors'
-IsFindingsStep number findings output errors output' errors' (Err NoMemory) = (output' ≡ output) × (errors' ≡ errors)
+module _ {Taker : Type 0} (rests : Taker → Result (Unit {0}) FeedFault → Taker → Type 0) where
+  -- the taker rests where it has to
+  abbrev pub Rests : List ℕ → Taker → Taker → Result (Unit {0}) FeedFault → Type 0
+  Rests held old new (Ok done) = Waits rests held old new
+  Rests held old new (Err fault) = HasNoLf held × rests old (Err fault) new
 
--- a line is read, and what was found is written; or memory was refused for reading it
-abbrev pub IsLineStep : ℕ → List ℕ → Outputs → Outputs → Result Bool FeedFault → Type 0
-IsLineStep number line old new result =
-    ((findings : List Finding) × Reads old.known line findings new.known
-    × IsFindingsStep number findings old.output old.errors new.output new.errors result)
-    ⊎ ((result ≡ Err NoMemory) × IsQuiet old new)
+module _ {Taker : Type 0} (takes : Taker → ℕ → Told → Result (Unit {0}) FeedFault → Taker → Type 0) where
+  -- what a line tells is handed over, and may end the feed
+  abbrev pub IsHanded : ℕ → Told → Progress → Progress → Taker → Taker → Result Bool FeedFault → Type 0
+  IsHanded number told before after old new (Ok true) =
+      takes old number told (Ok tt) new × (ended_by told ≡ None) × (after ≡ after_part before told.part)
+  IsHanded number told before after old new (Ok false) = ⊥
+  IsHanded number told before after old new (Err fault) =
+      (takes old number told (Err fault) new ⊎ (takes old number told (Ok tt) new × (ended_by told ≡ Some fault)))
+      × (after ≡ after_part before told.part)
 
--- it is reported that the line is no event
-abbrev pub IsRefused : ℕ → End → End → Result (Unit {0}) FeedFault → Type 0
-IsRefused number old new (Ok done) = IsWritten (no_line number) old new
-IsRefused number old new (Err Dropped) = ⊥
-IsRefused number old new (Err ReadFault) = ⊥
-IsRefused number old new (Err WriteFault) = IsCutShort (no_line number) old new
-IsRefused number old new (Err NoMemory) = new ≡ old
+  -- a line is read, and what it tells is handed over; or memory is refused for reading it
+  abbrev pub IsLineTaken : Choice → ℕ → List ℕ → List Revision → List Revision → Progress → Progress → Taker → Taker
+      → Result Bool FeedFault → Type 0
+  IsLineTaken choice number line known learned before after old new result =
+      ((told : Told) × Reads known choice line told learned × IsHanded number told before after old new result)
+      ⊎ ((result ≡ Err NoMemory) × (learned ≡ known) × (after ≡ before) × (new ≡ old))
 
--- it is reported that a rest is no event, unless it is empty
-abbrev pub IsRestStep : ℕ → List ℕ → End → End → Result Bool FeedFault → Type 0
-IsRestStep number rest old new (Ok true) = ⊥
-IsRestStep number rest old new (Ok false) = IsWritten (rest_text number rest) old new
-IsRestStep number rest old new (Err Dropped) = ⊥
-IsRestStep number rest old new (Err ReadFault) = ⊥
-IsRestStep number rest old new (Err WriteFault) = (rest ≢ []) × IsCutShort (no_line number) old new
-IsRestStep number rest old new (Err NoMemory) = new ≡ old
+  -- it is handed over that there is no event; or memory is refused for that
+  abbrev pub IsRefused : ℕ → Progress → Progress → Taker → Taker → Result Bool FeedFault → Type 0
+  IsRefused number before after old new result =
+      IsHanded number no_event before after old new result
+      ⊎ ((result ≡ Err NoMemory) × (after ≡ before) × (new ≡ old))
 
--- a line that is too long is reported, and passed over
-abbrev pub IsLongStep : ℕ → Begin → Begin → End → End → Result Bool FeedFault → Type 0
-IsLongStep number source later old new (Ok true) =
-    (piece : List ℕ) × IsRead (as_line piece) source later × HasNoLf piece × IsWritten (no_line number) old new
-IsLongStep number source later old new (Ok false) =
-    (came : List ℕ) × HasCome came source later × HasNoLf (source.held ++ came) × IsAtEnd later.left
-    × IsWritten (no_line number) old new
-IsLongStep number source later old new (Err Dropped) = ⊥
-IsLongStep number source later old new (Err ReadFault) =
-    (came : List ℕ) × Consumes source.left later.left came × HasNoLf (source.held ++ came)
-    × IsWritten (no_line number) old new
-    × (OneFailed source.failed later.failed ⊎ (later.failed ≡ source.failed))
-IsLongStep number source later old new (Err WriteFault) = (later ≡ source) × IsCutShort (no_line number) old new
-IsLongStep number source later old new (Err NoMemory) =
-    ((later ≡ source) × (new ≡ old))
-    ⊎ ((came : List ℕ) × HasCome came source later × HasNoLf (source.held ++ came) × IsWritten (no_line number) old new)
+  -- the same of what came last
+  abbrev pub IsRefusedLast : ℕ → Taker → Taker → Result (Unit {0}) FeedFault → Result (Unit {0}) FeedFault → Type 0
+  IsRefusedLast number old new ending result =
+      HandsLast takes number no_event old new ending result
+      ⊎ ((result ≡ Err NoMemory) × (new ≡ old))
+
+  -- what came last is handed over, unless it is empty
+  abbrev pub IsRestTaken : ℕ → List ℕ → Taker → Taker → Result (Unit {0}) FeedFault → Result (Unit {0}) FeedFault
+      → Type 0
+  IsRestTaken number rest old new ending result =
+      EndsWith takes number rest old new ending result
+      ⊎ ((result ≡ Err NoMemory) × (new ≡ old))
+
+  -- a line that is too long is passed over, and then it is handed over that it is no event
+  pub record IsPassed (number : ℕ) (source later : Begin) (before after : Progress) (old new : Taker)
+      (result : Result Bool FeedFault) : Type 0 where
+    pub piece : List ℕ
+    pub read : IsRead (as_line piece) source later
+    pub plain : HasNoLf piece
+    pub refused : IsRefused number before after old new result
+
+  -- the source ends in it
+  pub record IsPassedLast (number : ℕ) (source later : Begin) (before after : Progress) (old new : Taker)
+      (ending : Result (Unit {0}) FeedFault) (result : Result Bool FeedFault) : Type 0 where
+    pub came : List ℕ
+    pub read : HasCome came source later
+    pub plain : HasNoLf (source.held ++ came)
+    pub end : IsAtEnd later.left
+    pub same : after ≡ before
+    pub last : Result (Unit {0}) FeedFault
+    pub refused : IsRefusedLast number old new ending last
+    pub goes_on : result ≡ with_more false last
+
+  -- passing over it breaks off
+  pub record IsUnpassed (source later : Begin) (before after : Progress) (old new : Taker)
+      (result : Result Bool FeedFault) : Type 0 where
+    pub fault : FeedFault
+    pub is : result ≡ Err fault
+    pub came : List ℕ
+    pub consumed : Consumes source.left later.left came
+    pub plain : HasNoLf (source.held ++ came)
+    pub same : (after ≡ before) × (new ≡ old)
+    pub cause : BreaksPassing source later fault
+
+  abbrev pub PassesOver : ℕ → Begin → Begin → Progress → Progress → Taker → Taker → Result (Unit {0}) FeedFault
+      → Result Bool FeedFault → Type 0
+  PassesOver number source later before after old new ending result =
+      IsPassed number source later before after old new result
+      ⊎ IsPassedLast number source later before after old new ending result
+      ⊎ IsUnpassed source later before after old new result
+
+  -- what a call answers that takes the next line once the taker has rested: whether there was one
+  abbrev pub Moves : Input → Choice → ℕ → ℕ → Standing Taker → Standing Taker → Result Bool FeedFault → Type 0
+  Moves input choice limit number old new (Ok true) =
+      (turn : Turn) × IsTurn takes choice limit number old new turn (Ok tt) × (ended_by turn.told ≡ None)
+  Moves input choice limit number old new (Ok false) = IsEnd takes input number old new (Ok tt)
+  Moves input choice limit number old new (Err fault) = Fails takes input choice limit number old new fault
+
+module _ {Taker : Type 0} (rests : Taker → Result (Unit {0}) FeedFault → Taker → Type 0)
+    (takes : Taker → ℕ → Told → Result (Unit {0}) FeedFault → Taker → Type 0) where
+  -- what a call answers that takes the next line
+  abbrev pub Steps : Input → Choice → ℕ → ℕ → Standing Taker → Standing Taker → Result Bool FeedFault → Type 0
+  Steps input choice limit number old new (Ok true) =
+      (waiting : Taker) × Waits rests old.source.held old.taker waiting
+      × Moves takes input choice limit number (with_taker old waiting) new (Ok true)
+  Steps input choice limit number old new (Ok false) =
+      (waiting : Taker) × Waits rests old.source.held old.taker waiting
+      × Moves takes input choice limit number (with_taker old waiting) new (Ok false)
+  Steps input choice limit number old new (Err fault) =
+      IsUnrested rests old new fault
+      ⊎ ((waiting : Taker) × Waits rests old.source.held old.taker waiting
+      × Moves takes input choice limit number (with_taker old waiting) new (Err fault))

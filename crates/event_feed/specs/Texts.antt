@@ -5,13 +5,19 @@ use Rattle.op_text.specs.Text.{body_text}
 use Rattle.gerrit_events.specs.Fault.{text_of}
 use Rattle.gerrit_events.specs.declared.fault.EventFault.{EventFault}
 use Rattle.gerrit_events.specs.declared.fault.EventFault.TheVariants.{BadEvent, Dropped}
-use Rattle.gerrit_events.specs.declared.fault.EventKey.TheVariants.{Line}
+use Rattle.review_ops.specs.Deed.{Deed}
 use Rattle.gerrit_events.specs.declared.finding.Finding.{Finding}
-use Rattle.gerrit_events.specs.declared.finding.Finding.TheVariants.{Brings, Refuses}
+use Rattle.gerrit_events.specs.declared.finding.Finding.TheVariants.{Brings, Shows, Lists, Refuses}
 
 -- a body, as a session takes it
+abbrev pub body_line : Deed → List ℕ
+body_line body = codes "take " ++ body_text body ++ codes "\n"
+
+-- a patch set that an event shows is a body, too; a listing is none
 abbrev pub take_line : Finding → List ℕ
-take_line (Brings body) = codes "take " ++ body_text body ++ codes "\n"
+take_line (Brings body) = body_line body
+take_line (Shows body) = body_line body
+take_line (Lists listing) = []
 take_line (Refuses fault) = []
 
 -- the key that a fault names, at the end of its line
@@ -31,6 +37,8 @@ fault_line number Dropped = dropped_line number
 
 abbrev pub refusal_line : ℕ → Finding → List ℕ
 refusal_line number (Brings body) = []
+refusal_line number (Shows body) = []
+refusal_line number (Lists listing) = []
 refusal_line number (Refuses fault) = fault_line number fault
 
 abbrev pub take_lines : List Finding → List ℕ
@@ -39,13 +47,11 @@ take_lines findings = flat_map take_line findings
 abbrev pub refusal_lines : ℕ → List Finding → List ℕ
 refusal_lines number findings = flat_map (refusal_line number) findings
 
--- a line that is no event
-abbrev pub no_event : Finding
-no_event = Refuses (BadEvent Line)
-
 -- Gerrit dropped events
 abbrev pub is_drop : Finding → Bool
 is_drop (Brings body) = false
+is_drop (Shows body) = false
+is_drop (Lists listing) = false
 is_drop (Refuses (BadEvent key)) = false
 is_drop (Refuses Dropped) = true
 

@@ -5,7 +5,7 @@ ghost use Rattle.event_feed.specs.Fault.{number_of, name_of};
 
 use thiserror::Error;
 
-/// Why a feed ended before its source did.
+/// Why a feed ended before its source did, or with a source that was cut short.
 #[derive(Clone, Copy, Debug, PartialEq, Eq, Error)]
 pub enum FeedFault {
     /// 2: Gerrit dropped events, which have to be read again.
@@ -20,6 +20,15 @@ pub enum FeedFault {
     /// 5: memory was refused.
     #[error("no memory")]
     NoMemory,
+    /// 7: no site answers at the port.
+    #[error("no site answers at the port")]
+    NoSite,
+    /// 8: the connection to the site ended, or what came over it was no answer.
+    #[error("the session of the site ended")]
+    Ended,
+    /// 9: the answer of a query is cut short, or is an error.
+    #[error("the answer of a query isn't whole")]
+    Incomplete,
 }
 
 impl FeedFault {
@@ -32,6 +41,9 @@ impl FeedFault {
             FeedFault::ReadFault => 3,
             FeedFault::WriteFault => 4,
             FeedFault::NoMemory => 5,
+            FeedFault::NoSite => 7,
+            FeedFault::Ended => 8,
+            FeedFault::Incomplete => 9,
         }
     }
 
@@ -44,6 +56,9 @@ impl FeedFault {
             FeedFault::ReadFault => "ReadFault",
             FeedFault::WriteFault => "WriteFault",
             FeedFault::NoMemory => "NoMemory",
+            FeedFault::NoSite => "NoSite",
+            FeedFault::Ended => "Ended",
+            FeedFault::Incomplete => "Incomplete",
         }
     }
 }

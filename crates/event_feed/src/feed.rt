@@ -1,93 +1,75 @@
-//! Runs a feed.
+//! Reads a source line by line, and hands over what each line tells.
 
-ghost use Rattle.std.specs.Prelude.{◌≡◌, ◌++◌, [], ℕ, List};
-ghost use Rattle.std.specs.Io.KnownBytes.{Consumes, IsAtEnd};
-ghost use Rattle.byte_ends.specs.ReadAll.{CountsRead};
-ghost use Rattle.line_reader.specs.Lines.{IsTooLong};
-ghost use Rattle.event_feed.specs.Feed.{Begin, End, Feeds, IsStep, Moment, Outputs};
-ghost use Rattle.event_feed.specs.Steps.{IsLongStep};
+ghost use Rattle.std.specs.Prelude.{◌≡◌};
+ghost use Rattle.event_feed.specs.Feed.{Feeds};
+ghost use Rattle.event_feed.specs.Progress.{end_of};
+ghost use Rattle.event_feed.specs.Steps.{Moves, PassesOver, Rests, Steps, with_more};
 
 use super::fault::FeedFault;
-use super::line::{end_lines, refuse_line, send, take_line};
-use byte_ends::{BytesFault, Drain, Source};
-use gerrit_events::Known;
+use super::hand::{Learned, end_lines, refuse_last, refuse_line, take_line};
+use super::progress::{Input, Progress};
+use super::taker::Taker;
+use byte_ends::{BytesFault, Source};
+use gerrit_events::{Known, Projects};
 use line_reader::LineReader;
+use memchr::memchr;
 use std::alloc::Global;
 
 /// How many bytes a line may have.
 const LINE_LIMIT: usize = 1048576;
 
-/// Reads the lines of a source, one after the other, and writes what each brings, as a session takes it, to the output:
-/// `hello 2` first, then a line `take BODY` for each body. What is refused of the line of number n, counted from 1, is
-/// reported on the errors: `reviewgate: events 1 BadEvent n KEY` or `reviewgate: events 2 Dropped n`. Both are written
-/// before the next line is read. A line of more than 1,048,576 bytes is reported and passed over without being held,
-/// and what comes last without an LF is reported, too. Ends well at the end of the source. Refusals: 2 `Dropped`,
-/// Gerrit dropped events, which was reported; 3 `ReadFault`, the source failed, or gave 2^64 - 1 lines or blocks of one
-/// line; 4 `WriteFault`, one of the outputs failed; 5 `NoMemory`, memory was refused for a line, of which nothing was
-/// written. It costs O(n) for n bytes that are read and written, and a look-up for each parent that a line names.
-pub fn events_run<S: Source, D: Drain, E: Drain>(
+/// Reads the lines of a source, one after the other, and hands to a taker what each tells, with its number, counted
+/// from 1, before the next one is read. Before more of the source is read the taker rests. A line of more than 1,048,576
+/// bytes is passed over without being held, and is no event, as is what comes last without an LF. Ends well at the end
+/// of the source. Refusals: 2 `Dropped`, a line says that Gerrit dropped events; 3 `ReadFault`, the source failed, or
+/// gave 2^64 - 1 lines or blocks of one line; 5 `NoMemory`, memory was refused for a line, which wasn't handed over; 9
+/// `Incomplete`, a line is an error in place of an answer, or the source ended where the answer of a query has begun
+/// and isn't whole, or, where one is awaited, hasn't begun; and those of the taker. It costs O(n) for n bytes, beside
+/// what the taker costs.
+pub fn feed_lines<S: Source, T: Taker>(
     alloc: Global,
+    input: Input,
+    projects: &Projects,
     source: &mut S,
-    output: &mut D,
-    errors: &mut E,
+    taker: &mut T,
 ) -> Result<(), FeedFault>
-    ensures { Feeds 1048576 18446744073709551615
-        (record {
-          left = S.left source.old;
-          unread = S.failed source.old;
-          output = record { taken = D.taken output.old; failed = D.failed output.old };
-          errors = record { taken = E.taken errors.old; failed = E.failed errors.old };
-        })
-        (record {
-          left = S.left source.new;
-          unread = S.failed source.new;
-          output = record { taken = D.taken output.new; failed = D.failed output.new };
-          errors = record { taken = E.taken errors.new; failed = E.failed errors.new };
-        })
-        result }
+    ensures { Feeds T.rests T.takes input projects.now 1048576 18446744073709551615 (S.left source.old)
+        (S.failed source.old) taker.old (S.left source.new) (S.failed source.new) taker.new result }
 {
-    feed_lines(alloc, LINE_LIMIT, u64::MAX, source, output, errors)
+    feed_most(alloc, input, projects, LINE_LIMIT, u64::MAX, source, taker)
 }
 
-/// Feeds as `events_run` does, from lines of at most `limit` bytes, and of at most `most` lines. Refusals: as there,
+/// Feeds as `feed_lines` does, from lines of at most `limit` bytes, and of at most `most` lines. Refusals: as there,
 /// with these in place of its limits.
-pub fn feed_lines<S: Source, D: Drain, E: Drain>(
+pub fn feed_most<S: Source, T: Taker>(
     alloc: Global,
+    input: Input,
+    projects: &Projects,
     limit: usize,
     most: u64,
     source: &mut S,
-    output: &mut D,
-    errors: &mut E,
+    taker: &mut T,
 ) -> Result<(), FeedFault>
-    ensures { Feeds limit most
-        (record {
-          left = S.left source.old;
-          unread = S.failed source.old;
-          output = record { taken = D.taken output.old; failed = D.failed output.old };
-          errors = record { taken = E.taken errors.old; failed = E.failed errors.old };
-        })
-        (record {
-          left = S.left source.new;
-          unread = S.failed source.new;
-          output = record { taken = D.taken output.new; failed = D.failed output.new };
-          errors = record { taken = E.taken errors.new; failed = E.failed errors.new };
-        })
-        result }
+    ensures { Feeds T.rests T.takes input projects.now limit most (S.left source.old) (S.failed source.old) taker.old
+        (S.left source.new) (S.failed source.new) taker.new result }
 {
-    send(output, "hello 2\n")?;
     let Ok(mut reader) = LineReader::new(alloc, limit) else {
         return Err(FeedFault::NoMemory);
     };
-    let mut known = Known::new(alloc);
+    let mut learned = Learned {
+        known: Known::new(alloc),
+        progress: Progress::Unbegun,
+    };
     for number in 0..most {
         if !next_line(
             alloc,
+            input,
+            projects,
             number + 1,
             &mut reader,
-            &mut known,
+            &mut learned,
             source,
-            output,
-            errors,
+            taker,
         )? {
             return Ok(());
         }
@@ -96,59 +78,130 @@ pub fn feed_lines<S: Source, D: Drain, E: Drain>(
 }
 
 /// Takes the next line, and says whether there was one.
-fn next_line<S: Source, D: Drain, E: Drain>(
+fn next_line<S: Source, T: Taker>(
     alloc: Global,
+    input: Input,
+    projects: &Projects,
     number: u64,
     reader: &mut LineReader,
-    known: &mut Known,
+    learned: &mut Learned,
     source: &mut S,
-    output: &mut D,
-    errors: &mut E,
+    taker: &mut T,
 ) -> Result<bool, FeedFault>
     ensures limit { reader.new.limit ≡ reader.old.limit }
-    ensures step { IsStep reader.old.limit number
-        (record { left = S.left source.old; failed = S.failed source.old; held = reader.old.held })
-        (record { left = S.left source.new; failed = S.failed source.new; held = reader.new.held })
+    ensures step { Steps T.rests T.takes input projects.now reader.old.limit number
         (record {
-          output = record { taken = D.taken output.old; failed = D.failed output.old };
-          errors = record { taken = E.taken errors.old; failed = E.failed errors.old };
-          known = known.old;
+          source = record { left = S.left source.old; failed = S.failed source.old; held = reader.old.held };
+          known = learned.old.known;
+          progress = learned.old.progress;
+          taker = taker.old;
         })
         (record {
-          output = record { taken = D.taken output.new; failed = D.failed output.new };
-          errors = record { taken = E.taken errors.new; failed = E.failed errors.new };
-          known = known.new;
+          source = record { left = S.left source.new; failed = S.failed source.new; held = reader.new.held };
+          known = learned.new.known;
+          progress = learned.new.progress;
+          taker = taker.new;
+        })
+        result }
+{
+    match await_more(reader.held(), taker) {
+        Ok(()) => read_line(
+            alloc, input, projects, number, reader, learned, source, taker,
+        ),
+        Err(fault) => Err(fault),
+    }
+}
+
+/// Lets the taker rest, unless a whole line is held.
+fn await_more<T: Taker>(held: &[u8], taker: &mut T) -> Result<(), FeedFault>
+    ensures { Rests T.rests held.now taker.old taker.new result }
+{
+    match memchr(b'\n', held) {
+        Some(_at) => Ok(()),
+        None => taker.rest(),
+    }
+}
+
+/// Reads the next line and takes it, and says whether there was one.
+fn read_line<S: Source, T: Taker>(
+    alloc: Global,
+    input: Input,
+    projects: &Projects,
+    number: u64,
+    reader: &mut LineReader,
+    learned: &mut Learned,
+    source: &mut S,
+    taker: &mut T,
+) -> Result<bool, FeedFault>
+    ensures limit { reader.new.limit ≡ reader.old.limit }
+    ensures moves { Moves T.takes input projects.now reader.old.limit number
+        (record {
+          source = record { left = S.left source.old; failed = S.failed source.old; held = reader.old.held };
+          known = learned.old.known;
+          progress = learned.old.progress;
+          taker = taker.old;
+        })
+        (record {
+          source = record { left = S.left source.new; failed = S.failed source.new; held = reader.new.held };
+          known = learned.new.known;
+          progress = learned.new.progress;
+          taker = taker.new;
         })
         result }
 {
     match reader.next_line(source) {
-        Ok(true) => take_line(alloc, number, reader.line(), known, output, errors),
-        Ok(false) => end_lines(alloc, number, reader.held(), errors),
-        Err(BytesFault::TooLong) => pass_line(alloc, number, reader, source, errors),
+        Ok(true) => take_line(alloc, projects, number, reader.line(), learned, taker),
+        Ok(false) => and_more(
+            end_lines(
+                alloc,
+                number,
+                reader.held(),
+                input.end(learned.progress),
+                taker,
+            ),
+            false,
+        ),
+        Err(BytesFault::TooLong) => {
+            pass_line(alloc, input, number, reader, learned, source, taker)
+        }
         Err(BytesFault::ReadFault) => Err(FeedFault::ReadFault),
         Err(BytesFault::NoMemory) => Err(FeedFault::NoMemory),
     }
 }
 
-/// Reports that a line is too long, and passes over it. Says whether its LF came.
-fn pass_line<S: Source, E: Drain>(
+/// Whether there is more to come, where nothing failed.
+fn and_more(done: Result<(), FeedFault>, more: bool) -> Result<bool, FeedFault>
+    ensures { result ≡ with_more more done }
+{
+    match done {
+        Ok(()) => Ok(more),
+        Err(fault) => Err(fault),
+    }
+}
+
+/// Passes over a line that is too long, and hands over that it is no event. Says whether its LF came.
+fn pass_line<S: Source, T: Taker>(
     alloc: Global,
+    input: Input,
     number: u64,
     reader: &mut LineReader,
+    learned: &mut Learned,
     source: &mut S,
-    errors: &mut E,
+    taker: &mut T,
 ) -> Result<bool, FeedFault>
     ensures limit { reader.new.limit ≡ reader.old.limit }
-    ensures step { IsLongStep number
+    ensures known { learned.new.known ≡ learned.old.known }
+    ensures passes { PassesOver T.takes number
         (record { left = S.left source.old; failed = S.failed source.old; held = reader.old.held })
         (record { left = S.left source.new; failed = S.failed source.new; held = reader.new.held })
-        (record { taken = E.taken errors.old; failed = E.failed errors.old })
-        (record { taken = E.taken errors.new; failed = E.failed errors.new })
-        result }
+        learned.old.progress learned.new.progress taker.old taker.new (end_of input learned.old.progress) result }
 {
-    refuse_line(alloc, number, errors)?;
     match reader.pass_over(source) {
-        Ok(more) => Ok(more),
+        Ok(true) => refuse_line(alloc, number, &mut learned.progress, taker),
+        Ok(false) => and_more(
+            refuse_last(alloc, number, input.end(learned.progress), taker),
+            false,
+        ),
         Err(BytesFault::NoMemory) => Err(FeedFault::NoMemory),
         Err(_) => Err(FeedFault::ReadFault),
     }

@@ -1,6 +1,7 @@
-//! Feeds what Gerrit writes to a session of a site, line by line: its stream of events, or what it answers to a
-//! query. The output is what a client of the session says, `hello 2` and then a line `take BODY` for each body. What
-//! is lost of a line is reported on the errors:
+//! Feeds what Gerrit writes, line by line: its stream of events, or what it answers to a query. Each line is read and
+//! what it tells is handed to a taker before the next one is read; `events_run` is such a feed to a session of a site.
+//! Its output is what a client of the session says, `hello 2` and then a line `take BODY` for each body. What is lost
+//! of a line is reported on the errors:
 //!
 //! | Line of the errors | Where |
 //! |---|---|
@@ -12,19 +13,28 @@
 //! ```
 //! let line = b"{\"type\":\"change-abandoned\",\"change\":{\"number\":101}}\n".as_slice();
 //! let mut source = Ends::new(line);
-//! let mut output = Ends::new(Vec::new(alloc));
-//! let mut errors = Ends::new(Vec::new(alloc));
-//! events_run(alloc, &mut source, &mut output, &mut errors)?;
+//! let mut writer = EventWriter {
+//!     alloc,
+//!     output: Ends::new(Vec::new(alloc)),
+//!     errors: Ends::new(Vec::new(alloc)),
+//! };
+//! events_run(alloc, Input::Stream, &Projects::all(), &mut source, &mut writer)?;
 //! let lines = b"hello 2\ntake {\"change\":101,\"op\":\"abandon\"}\n".as_slice();
-//! assert_eq!(rt; output.get_ref().as_slice(), lines);
+//! assert_eq!(rt; writer.output.get_ref().as_slice(), lines);
 //! ```
 #![tactic(auto)]
 
+mod events;
 mod fault;
 mod feed;
-mod line;
+mod hand;
+mod progress;
+mod taker;
 mod texts;
 
+pub use events::{EventWriter, events_run, send};
 pub use fault::FeedFault;
-pub use feed::{events_run, feed_lines};
+pub use feed::{feed_lines, feed_most};
+pub use progress::{Input, Progress, answers_end_with_statistics};
+pub use taker::Taker;
 pub use texts::fault_line;

@@ -1,12 +1,13 @@
 //! The lines that are written for what was found in a line.
 
 ghost use Rattle.std.specs.Prelude.{◌≡◌, ◌++◌, IfOk, OnOk, string_bytes};
-ghost use Rattle.event_feed.specs.Texts.{bad_event_line, dropped_line, drops, fault_line, key_text, is_drop};
+ghost use Rattle.event_feed.specs.Texts.{bad_event_line, body_line, dropped_line, drops, fault_line, key_text, is_drop};
 ghost use Rattle.event_feed.specs.Texts.{refusal_line, refusal_lines, take_line, take_lines};
 
 use gerrit_events::{EventFault, Finding};
 use lattice_core::NoMemory;
 use op_text::write_body;
+use review_ops::Body;
 use std::alloc::{AllocError, Global};
 
 /// What a line takes beside its body.
@@ -27,9 +28,17 @@ pub fn take_lines(alloc: Global, findings: &[Finding]) -> Result<String, NoMemor
 fn add_take_line(text: &mut String, alloc: Global, finding: &Finding) -> Result<(), NoMemory>
     ensures { OnOk result (string_bytes text.new ≡ string_bytes text.old ++ take_line finding.now) }
 {
-    let Finding::Brings(body) = finding else {
-        return Ok(());
-    };
+    match finding {
+        Finding::Brings(body) => add_body_line(text, alloc, body),
+        Finding::Shows(body) => add_body_line(text, alloc, body),
+        Finding::Lists(_) | Finding::Refuses(_) => Ok(()),
+    }
+}
+
+/// Adds the line of a body.
+fn add_body_line(text: &mut String, alloc: Global, body: &Body) -> Result<(), NoMemory>
+    ensures { OnOk result (string_bytes text.new ≡ string_bytes text.old ++ body_line body.now) }
+{
     let written = write_body(alloc, body)?;
     text.reserve(written.len().saturating_add(TAKE_ROOM))?;
     text.push_str("take ")?;
@@ -54,11 +63,11 @@ fn add_refusal_line(text: &mut String, number: u64, finding: &Finding) -> Result
     ensures { OnOk result (string_bytes text.new ≡ string_bytes text.old ++ refusal_line number finding.now) }
 {
     match finding {
-        Finding::Brings(_body) => Ok(()),
         Finding::Refuses(fault) => {
             add_fault_line(text, number, *fault)?;
             Ok(())
         }
+        Finding::Brings(_) | Finding::Shows(_) | Finding::Lists(_) => Ok(()),
     }
 }
 

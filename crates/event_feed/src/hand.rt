@@ -1,0 +1,151 @@
+//! Hands over what a line tells.
+
+ghost use Rattle.std.specs.Prelude.{◌≡◌, IfOk};
+ghost use Rattle.event_feed.specs.Feed.{HandsLast, ended_by, no_event};
+ghost use Rattle.event_feed.specs.Steps.{IsHanded, IsLineTaken, IsRefused, IsRefusedLast, IsRestTaken, goes_on};
+
+use super::fault::FeedFault;
+use super::progress::Progress;
+use super::taker::Taker;
+use super::texts::drops;
+use gerrit_events::{EventFault, EventKey, Finding, Known, Part, Projects, Told, read_event};
+use lattice_core::NoMemory;
+use std::alloc::Global;
+
+/// What a feed has learned of the lines so far.
+#[derive(Drop)]
+pub struct Learned {
+    pub known: Known,
+    pub progress: Progress,
+}
+
+/// Reads a line, and hands over what it tells. Says that there was a line.
+pub fn take_line<T: Taker>(
+    alloc: Global,
+    projects: &Projects,
+    number: u64,
+    line: &[u8],
+    learned: &mut Learned,
+    taker: &mut T,
+) -> Result<bool, FeedFault>
+    ensures { IsLineTaken T.takes projects.now number line.now learned.old.known learned.new.known learned.old.progress
+        learned.new.progress taker.old taker.new result }
+{
+    match read_event(alloc, &mut learned.known, projects, line) {
+        Ok(told) => hand_over(number, told, &mut learned.progress, taker),
+        Err(_) => Err(FeedFault::NoMemory),
+    }
+}
+
+/// Hands over what a line tells, and says that there was a line, unless the feed ends with it.
+fn hand_over<T: Taker>(
+    number: u64,
+    told: Told,
+    progress: &mut Progress,
+    taker: &mut T,
+) -> Result<bool, FeedFault>
+    ensures { IsHanded T.takes number told progress.old progress.new taker.old taker.new result }
+{
+    let end = ended_by(&told);
+    *progress = progress.after(told.part);
+    match taker.take(number, told) {
+        Ok(()) => goes_on(end),
+        Err(fault) => Err(fault),
+    }
+}
+
+/// Whether a feed goes on that ends so, if it ends.
+fn goes_on(end: Option<FeedFault>) -> Result<bool, FeedFault>
+    ensures { result ≡ goes_on end }
+{
+    match end {
+        None => Ok(true),
+        Some(fault) => Err(fault),
+    }
+}
+
+/// Why a feed ends with a line, where it does.
+fn ended_by(told: &Told) -> Option<FeedFault>
+    ensures { result ≡ ended_by told.now }
+{
+    if drops(told.findings.as_slice()) {
+        return Some(FeedFault::Dropped);
+    }
+    match told.part {
+        Part::Error => Some(FeedFault::Incomplete),
+        _ => None,
+    }
+}
+
+/// That a line is no event.
+fn no_event(alloc: Global) -> Result<Told, NoMemory>
+    ensures { IfOk result (λ told. told ≡ no_event) }
+{
+    let mut findings = Vec::new(alloc);
+    findings.push(Finding::Refuses(EventFault::BadEvent(EventKey::Line)))?;
+    Ok(Told {
+        part: Part::Nothing,
+        findings,
+    })
+}
+
+/// Hands over that a line is no event. Says that there was a line.
+pub fn refuse_line<T: Taker>(
+    alloc: Global,
+    number: u64,
+    progress: &mut Progress,
+    taker: &mut T,
+) -> Result<bool, FeedFault>
+    ensures { IsRefused T.takes number progress.old progress.new taker.old taker.new result }
+{
+    match no_event(alloc) {
+        Ok(told) => hand_over(number, told, progress, taker),
+        Err(_) => Err(FeedFault::NoMemory),
+    }
+}
+
+/// Hands over that what came last is no event. The feed ends so unless that fails.
+pub fn refuse_last<T: Taker>(
+    alloc: Global,
+    number: u64,
+    ending: Result<(), FeedFault>,
+    taker: &mut T,
+) -> Result<(), FeedFault>
+    ensures { IsRefusedLast T.takes number taker.old taker.new ending result }
+{
+    match no_event(alloc) {
+        Ok(told) => hand_last(number, told, ending, taker),
+        Err(_) => Err(FeedFault::NoMemory),
+    }
+}
+
+/// Hands over the last thing that a source tells.
+fn hand_last<T: Taker>(
+    number: u64,
+    told: Told,
+    ending: Result<(), FeedFault>,
+    taker: &mut T,
+) -> Result<(), FeedFault>
+    ensures { HandsLast T.takes number told taker.old taker.new ending result }
+{
+    match taker.take(number, told) {
+        Ok(()) => ending,
+        Err(fault) => Err(fault),
+    }
+}
+
+/// Hands over that what came last is no event, unless it is empty. The feed ends so unless that fails.
+pub fn end_lines<T: Taker>(
+    alloc: Global,
+    number: u64,
+    rest: &[u8],
+    ending: Result<(), FeedFault>,
+    taker: &mut T,
+) -> Result<(), FeedFault>
+    ensures { IsRestTaken T.takes number rest.now taker.old taker.new ending result }
+{
+    if rest.is_empty() {
+        return ending;
+    }
+    refuse_last(alloc, number, ending, taker)
+}
