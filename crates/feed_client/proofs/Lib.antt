@@ -1,5 +1,4 @@
-mod Meeting
-mod Stepping
-mod Turning
 mod Counted
 mod Stamps
+mod Reporting
+mod Pulling

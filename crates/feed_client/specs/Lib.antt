@@ -1,6 +1,7 @@
-pub mod Fault
 pub mod Refusals
-pub mod Copies
+pub mod Rounds
+pub mod InTurn
 pub mod Meeting
-pub mod Feeding
-pub mod Words
+pub mod Pulling
+pub mod Taking
+pub mod Listing

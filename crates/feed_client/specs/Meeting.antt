@@ -1,25 +1,51 @@
--- What a feed does with what is found in a line: in order, each body that the record doesn't say is offered to the
--- site, once, and each loss is reported.
-use Rattle.std.specs.Prelude.{◌≡◌, ◌⊎◌, ℕ, List, [], ◌∷◌, ◌++◌, Result, Ok, Err, codes, decimal}
-use Rattle.event_feed.specs.Feed.{End, IsCutShort, IsWritten}
+-- What a feed does with what is found in a line: in order, what each finding brings to the record is offered to the
+-- site, body by body, and what is lost is reported.
+use Rattle.std.specs.Prelude.{◌≡◌, ◌⊎◌, ℕ, List, ◌++◌, Option, Result, Ok, Err, codes, decimal}
+use Rattle.event_feed.specs.Ends.{End, IsCutShort, IsWritten}
 use Rattle.event_feed.specs.Texts.{fault_line}
-use Rattle.event_feed.specs.declared.fault.FeedFault.TheVariants as feed
-use Rattle.event_filter.specs.Recorded.{IsRecorded}
+use Rattle.event_feed.specs.declared.fault.FeedFault.{FeedFault}
+use Rattle.event_feed.specs.declared.fault.FeedFault.TheVariants.{Dropped, ReadFault, WriteFault, NoMemory, NoSite, Ended}
+use Rattle.event_feed.specs.declared.fault.FeedFault.TheVariants.{Incomplete}
+use Rattle.event_filter.specs.Bringing.{IsBrought}
+use Rattle.event_filter.specs.Newest.{IsOpenTo}
 use Rattle.gerrit_events.specs.declared.fault.EventFault.{EventFault}
-use Rattle.gerrit_events.specs.declared.fault.EventFault.TheVariants.{BadEvent, Dropped}
+use Rattle.gerrit_events.specs.declared.fault.EventFault.TheVariants.{BadEvent}
+use Rattle.gerrit_events.specs.declared.fault.EventKey.TheVariants.{Status}
 use Rattle.gerrit_events.specs.declared.finding.Finding.{Finding}
-use Rattle.gerrit_events.specs.declared.finding.Finding.TheVariants.{Brings, Refuses}
+use Rattle.gerrit_events.specs.declared.finding.Finding.TheVariants.{Brings, Shows, Lists, Refuses}
 use Rattle.review_ops.specs.Deed.{Deed}
 use Rattle.review_ops.specs.Operation.{Operation}
 use Rattle.review_ops.specs.Timestamp.{Timestamp}
 use Rattle.state_core.specs.State.{State, with_effect}
+use Rattle.feed_client.specs.InTurn.{InTurn}
 use Rattle.feed_client.specs.Refusals.{text_of}
-use Rattle.feed_client.specs.declared.fault.ClientFault.{ClientFault}
-use Rattle.feed_client.specs.declared.fault.ClientFault.TheVariants.{Feed, Ended}
 use Rattle.feed_client.specs.declared.intake.IntakeFault.{IntakeFault}
 use Rattle.feed_client.specs.declared.intake.IntakeFault.TheVariants.{Refused}
 use Rattle.feed_client.specs.declared.intake.IntakeFault.TheVariants as intake
 use Rattle.feed_client.specs.declared.intake.Refusal.{Refusal}
+
+-- a site, the state that a feed keeps of its record, and what it reports to
+pub record Place (Site : Type 0) : Type 0 where
+  pub site : Site
+  pub state : State
+  pub errors : End
+
+abbrev pub place_at : {Site : Type 0} → Site → State → Option (List ℕ) → ℕ → Place Site
+place_at site state taken failed =
+    record { site = site; state = state; errors = record { taken = taken; failed = failed } }
+
+-- ---- reports
+
+-- a text is written, unless that fails or memory is refused for it
+abbrev pub Reports : List ℕ → End → End → Result (Unit {0}) FeedFault → Type 0
+Reports text old new (Ok done) = IsWritten text old new
+Reports text old new (Err Dropped) = ⊥
+Reports text old new (Err ReadFault) = ⊥
+Reports text old new (Err WriteFault) = IsCutShort text old new
+Reports text old new (Err NoMemory) = new ≡ old
+Reports text old new (Err NoSite) = ⊥
+Reports text old new (Err Ended) = ⊥
+Reports text old new (Err Incomplete) = ⊥
 
 -- the end of the line of a refusal
 abbrev pub line_end : List ℕ → List ℕ
@@ -29,39 +55,16 @@ line_end text = codes " " ++ text ++ codes "\n"
 abbrev pub refused_line : ℕ → Refusal → List ℕ
 refused_line number refusal = (codes "reviewgate: events 6 Refused " ++ decimal number) ++ line_end (text_of refusal)
 
--- a line is written to the errors, and the feed goes on
-abbrev pub Reports : List ℕ → End → End → Result (Unit {0}) ClientFault → Type 0
-Reports text old new (Ok done) = IsWritten text old new
-Reports text old new (Err (Feed feed.WriteFault)) = IsCutShort text old new
-Reports text old new (Err (Feed feed.NoMemory)) = new ≡ old
-Reports text old new (Err fault) = ⊥
-
--- a line is written to the errors, and the feed ends with it
-abbrev pub ReportsLast : List ℕ → End → End → Result (Unit {0}) ClientFault → Type 0
-ReportsLast text old new (Err (Feed feed.Dropped)) = IsWritten text old new
-ReportsLast text old new (Err (Feed feed.WriteFault)) = IsCutShort text old new
-ReportsLast text old new (Err (Feed feed.NoMemory)) = new ≡ old
-ReportsLast text old new result = ⊥
-
--- what is lost of the line of this number is reported; where events were dropped the feed ends
-abbrev pub ReportsLoss : ℕ → EventFault → End → End → Result (Unit {0}) ClientFault → Type 0
-ReportsLoss number (BadEvent key) old new result = Reports (fault_line number (BadEvent key)) old new result
-ReportsLoss number Dropped old new result = ReportsLast (fault_line number Dropped) old new result
-
--- a site, and the state that a feed keeps of its record
-pub record Place (Site : Type 0) : Type 0 where
-  pub site : Site
-  pub state : State
+-- ---- a body that is offered
 
 -- what was taken in is taken into the state, unless memory is refused
-abbrev pub Keeps : Operation → State → State → Result (Unit {0}) ClientFault → Type 0
+abbrev pub Keeps : Operation → State → State → Result (Unit {0}) FeedFault → Type 0
 Keeps op old new (Ok done) = new ≡ with_effect old op
-Keeps op old new (Err (Feed feed.NoMemory)) = new ≡ old
-Keeps op old new (Err fault) = ⊥
+Keeps op old new (Err fault) = (fault ≡ NoMemory) × (new ≡ old)
 
 -- how a feed goes on from a reply: what was taken in is taken into the state, a refusal is reported, and without an
 -- answer the feed ends
-abbrev pub TakesUp : ℕ → Deed → Result Timestamp IntakeFault → State → State → End → End → Result (Unit {0}) ClientFault
+abbrev pub TakesUp : ℕ → Deed → Result Timestamp IntakeFault → State → State → End → End → Result (Unit {0}) FeedFault
     → Type 0
 TakesUp number deed (Ok stamp) old new errors after result =
     Keeps (record { stamp = stamp; deed = deed }) old new result × (after ≡ errors)
@@ -70,39 +73,40 @@ TakesUp number deed (Err (Refused refusal)) old new errors after result =
 TakesUp number deed (Err intake.Ended) old new errors after result =
     (result ≡ Err Ended) × (new ≡ old) × (after ≡ errors)
 TakesUp number deed (Err intake.NoMemory) old new errors after result =
-    (result ≡ Err (Feed feed.NoMemory)) × (new ≡ old) × (after ≡ errors)
+    (result ≡ Err NoMemory) × (new ≡ old) × (after ≡ errors)
+
+-- what is lost of a finding: what the line itself loses, and an abandon or a restore of a change that is merged
+abbrev pub IsLost : State → Finding → EventFault → Type 0
+IsLost state (Brings body) fault = (¬ IsOpenTo state body) × (fault ≡ BadEvent Status)
+IsLost state (Shows body) fault = ⊥
+IsLost state (Lists listing) fault = ⊥
+IsLost state (Refuses lost) fault = fault ≡ lost
 
 module _ {Site : Type 0} (replies : Site → Deed → Result Timestamp IntakeFault → Site → Type 0) where
-  -- the record says the deed already, and nothing is done
-  pub record IsPassedOver (deed : Deed) (old new : Place Site) (errors after : End) (result : Result (Unit {0}) ClientFault) : Type 0 where
-    pub said : IsRecorded old.state deed
-    pub same : (new ≡ old) × (after ≡ errors)
-    pub goes_on : result ≡ Ok tt
+  -- a body is offered to the site, once
+  abbrev pub Offers : ℕ → Deed → Place Site → Place Site → Result (Unit {0}) FeedFault → Type 0
+  Offers number deed old new result =
+      (reply : Result Timestamp IntakeFault) × replies old.site deed reply new.site
+      × TakesUp number deed reply old.state new.state old.errors new.errors result
 
-  -- the record doesn't say it, and it is offered once
-  pub record IsOffered (number : ℕ) (deed : Deed) (old new : Place Site) (errors after : End) (result : Result (Unit {0}) ClientFault) : Type 0 where
-    pub unsaid : ¬ IsRecorded old.state deed
-    pub reply : Result Timestamp IntakeFault
-    pub replied : replies old.site deed reply new.site
-    pub taken_up : TakesUp number deed reply old.state new.state errors after result
+  -- a loss is reported
+  pub record IsReported (number : ℕ) (finding : Finding) (old new : Place Site) (result : Result (Unit {0}) FeedFault)
+      : Type 0 where
+    pub fault : EventFault
+    pub lost : IsLost old.state finding fault
+    pub reported : Reports (fault_line number fault) old.errors new.errors result
+    pub same : (new.site ≡ old.site) × (new.state ≡ old.state)
 
-  -- memory was refused for asking whether the record says it
-  pub record IsUnasked (old new : Place Site) (errors after : End) (result : Result (Unit {0}) ClientFault) : Type 0 where
-    pub fault : result ≡ Err (Feed feed.NoMemory)
-    pub same : (new ≡ old) × (after ≡ errors)
+  -- what a finding brings to the record is offered, one body after the other
+  pub record IsOffered (number : ℕ) (finding : Finding) (old new : Place Site) (result : Result (Unit {0}) FeedFault)
+      : Type 0 where
+    pub kept : (fault : EventFault) → ¬ IsLost old.state finding fault
+    pub bodies : List Deed
+    pub brought : IsBrought old.state finding bodies
+    pub offered : InTurn (Offers number) bodies old new result
 
-  abbrev pub MeetsBody : ℕ → Deed → Place Site → Place Site → End → End → Result (Unit {0}) ClientFault → Type 0
-  MeetsBody number deed old new errors after result =
-      IsPassedOver deed old new errors after result ⊎ IsOffered number deed old new errors after result
-      ⊎ IsUnasked old new errors after result
-
-  abbrev pub Meets : ℕ → Finding → Place Site → Place Site → End → End → Result (Unit {0}) ClientFault → Type 0
-  Meets number (Brings body) old new errors after result = MeetsBody number body old new errors after result
-  Meets number (Refuses fault) old new errors after result = (new ≡ old) × ReportsLoss number fault errors after result
-
-  -- one after the other, up to the first that ends the feed
-  abbrev pub MeetsAll : ℕ → List Finding → Place Site → Place Site → End → End → Result (Unit {0}) ClientFault → Type 0
-  MeetsAll number [] old new errors after result = (new ≡ old) × (after ≡ errors) × (result ≡ Ok tt)
-  MeetsAll number (finding ∷ findings) old new errors after result =
-      ((mid : Place Site) × (between : End) × Meets number finding old mid errors between (Ok tt) × MeetsAll number findings mid new between after result)
-      ⊎ ((fault : ClientFault) × (result ≡ Err fault) × Meets number finding old new errors after (Err fault))
+  -- a finding is met; where memory is refused for asking what it brings nothing is done
+  abbrev pub Meets : ℕ → Finding → Place Site → Place Site → Result (Unit {0}) FeedFault → Type 0
+  Meets number finding old new result =
+      IsReported number finding old new result ⊎ IsOffered number finding old new result
+      ⊎ ((result ≡ Err NoMemory) × (new ≡ old))

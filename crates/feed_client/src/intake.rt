@@ -2,10 +2,12 @@
 
 ghost use Rattle.std.specs.Prelude.{◌≡◌, Result};
 ghost use Rattle.feed_client.specs.Refusals.{text_of};
+ghost use Rattle.feed_client.specs.Rounds.{Round, round_by};
 ghost use Rattle.feed_client.specs.declared.intake.IntakeFault.{IntakeFault as Fault};
 ghost use Rattle.review_ops.specs.Deed.{Deed};
 ghost use Rattle.review_ops.specs.Timestamp.{Timestamp};
 
+use replica_core::Missing;
 use review_ops::{Body, Stamp};
 
 /// Why a site refuses a body.
@@ -44,13 +46,22 @@ impl Refusal {
     }
 }
 
-/// A site that takes bodies in. It has a relation of its own between what it is, the body that it is offered, what it
-/// replies and what it is then.
+/// A site that takes bodies in, and answers what else came to it. It has relations of its own between what it is, what
+/// it is asked, what it answers and what it is then.
 pub trait Intake {
     /// From the old state a body may be replied to so, and leave the new state.
     ghost replies: { Self → Deed → Result Timestamp Fault → Self → Type 0 };
 
+    /// From the old state this round may be answered, and leave the new state.
+    ghost answers: { Self → Result Round Fault → Self → Type 0 };
+
     /// Offers a body, and awaits the answer: the stamp under which it was taken in.
     fn take_in(&mut self, body: &Body) -> Result<Stamp, IntakeFault>
         ensures { replies self.old body.now result self.new };
+
+    /// Asks for what came to the site and wasn't answered yet: some of it, and whether there is more to take up before
+    /// the input is read on.
+    fn next_round(&mut self) -> Result<Missing, IntakeFault>
+        ensures { answers self.old
+            (round_by (λ missing. record { ops = missing.ops.items; more = missing.more }) result) self.new };
 }

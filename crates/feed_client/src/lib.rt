@@ -1,27 +1,37 @@
 //! Feeds what Gerrit writes to the site that answers at a port of this machine: what `event_feed` reads of each line
-//! goes to a session of the site, but for what the site's record says already. The client first pulls the record, and
-//! then keeps its state in step with what it sends.
+//! goes to a session of the site, but for what the site's record says already. The feed first pulls the record, and
+//! then keeps its state in step with what it sends and with what others bring to the site.
 //!
 //! | Line of the errors | Where |
 //! |---|---|
 //! | `reviewgate: events 1 BadEvent n KEY` | line n is no event, lacks what its kind needs, or has a bad body |
+//! | `reviewgate: events 1 BadEvent n status` | line n abandons or restores a change that is merged |
 //! | `reviewgate: events 2 Dropped n` | line n says that Gerrit dropped events; the feed ends |
 //! | `reviewgate: events 6 Refused n NUMBER NAME` | the site answered `no NUMBER NAME` to a body of line n |
+//!
+//! | Line of the output | Where |
+//! |---|---|
+//! | `pulled N` | the record of N operations is pulled, and the input is read from now on |
+//! | `ask N` | change N has to be queried |
 #![tactic(auto)]
 
 mod answer;
-mod fault;
-mod feed;
+mod connection;
+mod inlet;
+mod inlet_reader;
 mod intake;
+mod listing;
 mod meet;
+mod noted;
 mod pull;
 mod session;
-mod sink;
-mod words;
+mod site_feed;
+mod watch;
 
 pub use answer::read_answer;
-pub use fault::ClientFault;
-pub use feed::feed_site;
+pub use connection::{FeedOrder, Feeds, feed_to};
 pub use intake::{Intake, IntakeFault, Refusal};
-pub use session::feed_to;
-pub use words::{EventWords, read_event_words};
+pub use listing::{Listing, complete_site};
+pub use noted::Noted;
+pub use pull::{fronts_have_no_gap, go_on, pull_all};
+pub use site_feed::{SiteFeed, feed_site};

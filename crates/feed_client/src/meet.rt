@@ -1,15 +1,18 @@
-//! Meets what is found in a line: what the record doesn't say is offered to the site, and what is refused is reported.
+//! Meets what is found in a line: what it brings to the record is offered to the site, and what is lost is reported.
 
-ghost use Rattle.std.specs.Prelude.{◌≡◌, ◌++◌, IfOk, OnOk, string_bytes};
-ghost use Rattle.feed_client.specs.Meeting.{Meets, MeetsAll, MeetsBody, Keeps, Reports, ReportsLoss, TakesUp, line_end};
-ghost use Rattle.feed_client.specs.Meeting.{refused_line};
+ghost use Rattle.std.specs.Prelude.{◌≡◌, ◌++◌, IfOk, MatchOption, OnOk, string_bytes};
+ghost use Rattle.event_feed.specs.Texts.{fault_line};
+ghost use Rattle.event_filter.specs.Newest.{IsOpenTo};
+ghost use Rattle.feed_client.specs.InTurn.{InTurn};
+ghost use Rattle.feed_client.specs.Meeting.{IsLost, Keeps, Meets, Offers, Reports, TakesUp, line_end};
+ghost use Rattle.feed_client.specs.Meeting.{place_at, refused_line};
+ghost use Rattle.gerrit_events.specs.declared.fault.EventFault.{EventFault as Lost};
 
-use super::fault::ClientFault;
 use super::intake::{Intake, IntakeFault, Refusal};
-use byte_ends::{Drain, write_all};
-use event_feed::{FeedFault, fault_line};
-use event_filter::is_recorded;
-use gerrit_events::{EventFault, Finding};
+use byte_ends::Drain;
+use event_feed::{FeedFault, fault_line, send};
+use event_filter::{brought, is_moot};
+use gerrit_events::{EventFault, EventKey, Finding};
 use lattice_core::NoMemory;
 use review_ops::{Body, Op, Stamp};
 use state_core::State;
@@ -23,11 +26,11 @@ pub fn meet_all<T: Intake, E: Drain>(
     site: &mut T,
     state: &mut State,
     errors: &mut E,
-) -> Result<(), ClientFault>
-    ensures { MeetsAll T.replies number findings.items (record { site = site.old; state = state.old })
-        (record { site = site.new; state = state.new })
-        (record { taken = E.taken errors.old; failed = E.failed errors.old })
-        (record { taken = E.taken errors.new; failed = E.failed errors.new }) result }
+) -> Result<(), FeedFault>
+    ensures { InTurn (Meets T.replies number) findings.items
+        (place_at site.old state.old (E.taken errors.old) (E.failed errors.old))
+        (place_at site.new state.new (E.taken errors.new) (E.failed errors.new))
+        result }
 {
     for finding in findings {
         meet(alloc, number, finding, site, state, errors)?;
@@ -43,19 +46,66 @@ fn meet<T: Intake, E: Drain>(
     site: &mut T,
     state: &mut State,
     errors: &mut E,
-) -> Result<(), ClientFault>
-    ensures { Meets T.replies number finding (record { site = site.old; state = state.old })
-        (record { site = site.new; state = state.new })
-        (record { taken = E.taken errors.old; failed = E.failed errors.old })
-        (record { taken = E.taken errors.new; failed = E.failed errors.new }) result }
+) -> Result<(), FeedFault>
+    ensures { Meets T.replies number finding
+        (place_at site.old state.old (E.taken errors.old) (E.failed errors.old))
+        (place_at site.new state.new (E.taken errors.new) (E.failed errors.new))
+        result }
 {
-    match finding {
-        Finding::Brings(body) => offer(alloc, number, body, site, state, errors),
-        Finding::Refuses(fault) => refuse(alloc, number, fault, errors),
+    match lost_of(state, &finding) {
+        Some(fault) => report_loss(alloc, number, fault, errors),
+        None => match brought(alloc, state, finding) {
+            Ok(bodies) => offer_all(alloc, number, bodies, site, state, errors),
+            Err(_) => Err(FeedFault::NoMemory),
+        },
     }
 }
 
-/// Offers a body to the site, unless the record says it already.
+/// What is lost of a finding, if it is: what the line itself loses, and an abandon or a restore of a change that is
+/// merged.
+fn lost_of(state: &State, finding: &Finding) -> Option<EventFault>
+    ensures { MatchOption result ((fault : Lost) → ¬ IsLost state.now finding.now fault)
+        (IsLost state.now finding.now) }
+{
+    match finding {
+        Finding::Refuses(fault) => Some(*fault),
+        Finding::Brings(body) => moot_fault(state, body),
+        Finding::Shows(_) | Finding::Lists(_) => None,
+    }
+}
+
+/// How a body is lost that can't count, where it can't.
+fn moot_fault(state: &State, body: &Body) -> Option<EventFault>
+    ensures { MatchOption result ((fault : Lost) → ¬ ((¬ IsOpenTo state.now body.now) × (fault ≡ EventFault.BadEvent EventKey.Status)))
+        (λ fault. (¬ IsOpenTo state.now body.now) × (fault ≡ EventFault.BadEvent EventKey.Status)) }
+{
+    if is_moot(state, body) {
+        return Some(EventFault::BadEvent(EventKey::Status));
+    }
+    None
+}
+
+/// Offers bodies to the site, one after the other.
+pub fn offer_all<T: Intake, E: Drain>(
+    alloc: Global,
+    number: u64,
+    bodies: Vec<Body>,
+    site: &mut T,
+    state: &mut State,
+    errors: &mut E,
+) -> Result<(), FeedFault>
+    ensures { InTurn (Offers T.replies number) bodies.items
+        (place_at site.old state.old (E.taken errors.old) (E.failed errors.old))
+        (place_at site.new state.new (E.taken errors.new) (E.failed errors.new))
+        result }
+{
+    for body in bodies {
+        offer(alloc, number, body, site, state, errors)?;
+    }
+    Ok(())
+}
+
+/// Offers a body to the site.
 fn offer<T: Intake, E: Drain>(
     alloc: Global,
     number: u64,
@@ -63,20 +113,14 @@ fn offer<T: Intake, E: Drain>(
     site: &mut T,
     state: &mut State,
     errors: &mut E,
-) -> Result<(), ClientFault>
-    ensures { MeetsBody T.replies number body (record { site = site.old; state = state.old })
-        (record { site = site.new; state = state.new })
-        (record { taken = E.taken errors.old; failed = E.failed errors.old })
-        (record { taken = E.taken errors.new; failed = E.failed errors.new }) result }
+) -> Result<(), FeedFault>
+    ensures { Offers T.replies number body
+        (place_at site.old state.old (E.taken errors.old) (E.failed errors.old))
+        (place_at site.new state.new (E.taken errors.new) (E.failed errors.new))
+        result }
 {
-    match is_recorded(state, &body) {
-        Err(_) => Err(ClientFault::Feed(FeedFault::NoMemory)),
-        Ok(true) => Ok(()),
-        Ok(false) => {
-            let reply = site.take_in(&body);
-            take_up(alloc, number, body, reply, state, errors)
-        }
-    }
+    let reply = site.take_in(&body);
+    take_up(alloc, number, body, reply, state, errors)
 }
 
 /// Goes on from the reply to a body.
@@ -87,43 +131,43 @@ fn take_up<E: Drain>(
     reply: Result<Stamp, IntakeFault>,
     state: &mut State,
     errors: &mut E,
-) -> Result<(), ClientFault>
+) -> Result<(), FeedFault>
     ensures { TakesUp number body reply state.old state.new
         (record { taken = E.taken errors.old; failed = E.failed errors.old })
         (record { taken = E.taken errors.new; failed = E.failed errors.new }) result }
 {
     match reply {
         Ok(stamp) => keep(state, Op::new(stamp, body)),
-        Err(IntakeFault::Refused(refusal)) => report(alloc, number, refusal, errors),
-        Err(IntakeFault::Ended) => Err(ClientFault::Ended),
-        Err(IntakeFault::NoMemory) => Err(ClientFault::Feed(FeedFault::NoMemory)),
+        Err(IntakeFault::Refused(refusal)) => report_refusal(alloc, number, refusal, errors),
+        Err(IntakeFault::Ended) => Err(FeedFault::Ended),
+        Err(IntakeFault::NoMemory) => Err(FeedFault::NoMemory),
     }
 }
 
 /// Takes an operation that the site has taken in.
-fn keep(state: &mut State, op: Op) -> Result<(), ClientFault>
+fn keep(state: &mut State, op: Op) -> Result<(), FeedFault>
     ensures { Keeps op state.old state.new result }
 {
     match state.take(&op) {
         Ok(()) => Ok(()),
-        Err(_) => Err(ClientFault::Feed(FeedFault::NoMemory)),
+        Err(_) => Err(FeedFault::NoMemory),
     }
 }
 
 /// Reports that the site refused a body of the line of this number.
-fn report<E: Drain>(
+fn report_refusal<E: Drain>(
     alloc: Global,
     number: u64,
     refusal: Refusal,
     errors: &mut E,
-) -> Result<(), ClientFault>
+) -> Result<(), FeedFault>
     ensures { Reports (refused_line number refusal)
         (record { taken = E.taken errors.old; failed = E.failed errors.old })
         (record { taken = E.taken errors.new; failed = E.failed errors.new }) result }
 {
     match refused_line(alloc, number, refusal) {
-        Ok(text) => send(errors, text.as_str()),
-        Err(_) => Err(ClientFault::Feed(FeedFault::NoMemory)),
+        Ok(text) => report(errors, text.as_str()),
+        Err(_) => Err(FeedFault::NoMemory),
     }
 }
 
@@ -145,33 +189,30 @@ fn end_line(line: &mut String, text: &str) -> Result<(), NoMemory>
     Ok(())
 }
 
-/// Reports what is refused of the line of this number. Where events were dropped, the feed ends.
-pub fn refuse<E: Drain>(
+/// Reports what is lost of the line of this number.
+fn report_loss<E: Drain>(
     alloc: Global,
     number: u64,
     fault: EventFault,
     errors: &mut E,
-) -> Result<(), ClientFault>
-    ensures { ReportsLoss number fault (record { taken = E.taken errors.old; failed = E.failed errors.old })
+) -> Result<(), FeedFault>
+    ensures { Reports (fault_line number fault)
+        (record { taken = E.taken errors.old; failed = E.failed errors.old })
         (record { taken = E.taken errors.new; failed = E.failed errors.new }) result }
 {
-    let Ok(text) = fault_line(alloc, number, fault) else {
-        return Err(ClientFault::Feed(FeedFault::NoMemory));
-    };
-    send(errors, text.as_str())?;
-    match fault {
-        EventFault::BadEvent(_) => Ok(()),
-        EventFault::Dropped => Err(ClientFault::Feed(FeedFault::Dropped)),
+    match fault_line(alloc, number, fault) {
+        Ok(text) => report(errors, text.as_str()),
+        Err(_) => Err(FeedFault::NoMemory),
     }
 }
 
 /// Writes a text to the errors.
-fn send<E: Drain>(errors: &mut E, text: &str) -> Result<(), ClientFault>
+fn report<E: Drain>(errors: &mut E, text: &str) -> Result<(), FeedFault>
     ensures { Reports text.now (record { taken = E.taken errors.old; failed = E.failed errors.old })
         (record { taken = E.taken errors.new; failed = E.failed errors.new }) result }
 {
-    match write_all(errors, text.as_bytes()) {
+    match send(errors, text) {
         Ok(()) => Ok(()),
-        Err(_) => Err(ClientFault::Feed(FeedFault::WriteFault)),
+        Err(fault) => Err(fault),
     }
 }

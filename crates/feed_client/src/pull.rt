@@ -1,80 +1,99 @@
-//! Pulls a site's record, and keeps its state.
+//! Takes what came to a site into the state that a feed keeps of its record.
 
-use super::fault::ClientFault;
-use super::sink::Copied;
-use byte_ends::Ends;
+ghost use Rattle.std.specs.Prelude.{◌≡◌, ◌<◌, ℕ, List, MatchResult, OnErr, OnOk, fold, length, take};
+ghost use Rattle.std.specs.FinMap.{empty};
+ghost use Rattle.feed_client.specs.Pulling.{AreReached, FailsRound, IsRound, Pulls, ending_of, gone_on};
+ghost use Rattle.review_ops.specs.Timestamp.{Timestamp};
+ghost use Rattle.state_core.specs.State.{with_effect};
+
+use super::intake::{Intake, IntakeFault};
 use event_feed::FeedFault;
-use gossip_line::{LineFault, Pulled, pull_run};
-use lattice_core::Join;
-use replica_core::Replica;
-use site_net::{Patience, PatientReader, PatientWriter, Stop};
+use lattice_core::NoMemory;
+use replica_core::{Front, Missing, Row};
+use review_ops::{Op, Stamp};
 use state_core::State;
-use std::alloc::Global;
-use std::net::{IpAddr, Ipv4Addr, Net, SocketAddr, TcpStream};
-use std::time::Clock;
 
-/// A connection to the site at a port of this machine.
-pub fn connected<R: Net<Stream = TcpStream>>(
-    rt: &R,
-    port: u16,
-    patience: Patience,
-) -> Result<TcpStream, ClientFault> {
-    let address = SocketAddr::new(IpAddr::V4(Ipv4Addr::LOCALHOST), port);
-    let Ok(stream) = TcpStream::connect_timeout(rt, &address, patience.limit) else {
-        return Err(ClientFault::NoSite);
-    };
-    match stream.set_nodelay(true) {
-        Ok(()) => Ok(stream),
-        Err(_) => Err(ClientFault::NoSite),
-    }
+/// What a round brought.
+#[derive(Drop)]
+struct Pulled {
+    count: u64,
+    more: bool,
 }
 
-/// The state of the record of the site at a port. The journal is held until the last of it has come.
-pub fn pulled_state<R: Clock + Net<Stream = TcpStream>>(
-    rt: &R,
-    alloc: Global,
-    port: u16,
-    patience: Patience,
-    stop: &Stop,
-) -> Result<State, ClientFault> {
-    let mut copied = Copied {
-        replica: Replica::new(alloc),
-    };
-    for _ in 0..u64::MAX {
-        let stream = connected(rt, port, patience)?;
-        if !pull_over(rt, alloc, &stream, patience, stop, &mut copied)?.more {
-            return match copied.replica.state().copy() {
-                Ok(state) => Ok(state),
-                Err(_) => Err(ClientFault::Feed(FeedFault::NoMemory)),
-            };
+/// Takes what came to a site into a state, round by round, until there is no more. Answers how many operations came. Of
+/// the record only the state is kept. Refusals: 5 `NoMemory`; 8 `Ended`, the site answered no round, or 2^64 - 1 of them
+/// without an end. Then those that came before were taken in.
+pub fn pull_all<T: Intake>(site: &mut T, state: &mut State) -> Result<u64, FeedFault>
+    ensures { Pulls T.answers site.old state.old site.new state.new result }
+{
+    let mut count: u64 = 0;
+    for _round in 0..u64::MAX {
+        let pulled = pull_round(site, state)?;
+        count = count.saturating_add(pulled.count);
+        if !pulled.more {
+            return Ok(count);
         }
     }
-    Err(ClientFault::Ended)
+    Err(FeedFault::Ended)
 }
 
-/// Pulls over a connection.
-fn pull_over<R: Clock>(
-    rt: &R,
-    alloc: Global,
-    stream: &TcpStream,
-    patience: Patience,
-    stop: &Stop,
-    copied: &mut Copied,
-) -> Result<Pulled, ClientFault> {
-    let (Ok(reader), Ok(writer)) = (
-        PatientReader::new(rt, stream, stop, patience),
-        PatientWriter::new(rt, stream, patience),
-    ) else {
-        return Err(ClientFault::Ended);
-    };
-    match pull_run(
-        alloc,
-        &mut Ends::new(reader),
-        &mut Ends::new(writer),
-        copied,
-    ) {
-        Ok(pulled) => Ok(pulled),
-        Err(LineFault::NoMemory) => Err(ClientFault::Feed(FeedFault::NoMemory)),
-        Err(_) => Err(ClientFault::Ended),
+/// Takes one round into a state.
+fn pull_round<T: Intake>(site: &mut T, state: &mut State) -> Result<Pulled, FeedFault>
+    ensures { MatchResult result
+        (λ pulled. IsRound T.answers pulled.count pulled.more site.old state.old site.new state.new)
+        (FailsRound T.answers site.old state.old site.new state.new) }
+{
+    match site.next_round() {
+        Ok(Missing { ops, more }) => {
+            let count = ops.len() as u64;
+            match take_ops(state, ops) {
+                Ok(()) => Ok(Pulled { count, more }),
+                Err(_) => Err(FeedFault::NoMemory),
+            }
+        }
+        Err(fault) => Err(ending_of(fault)),
     }
 }
+
+/// How a feed ends where a site answers no round.
+fn ending_of(fault: IntakeFault) -> FeedFault
+    ensures { result ≡ ending_of fault }
+{
+    match fault {
+        IntakeFault::Refused(_) | IntakeFault::Ended => FeedFault::Ended,
+        IntakeFault::NoMemory => FeedFault::NoMemory,
+    }
+}
+
+/// Takes operations into a state, one after the other. Where memory is refused the first so many of them are in.
+fn take_ops(state: &mut State, ops: Vec<Op>) -> Result<(), NoMemory>
+    ensures ok { OnOk result (state.new ≡ fold with_effect state.old ops.items) }
+    ensures err { OnErr result ((count : ℕ) × (count < length ops.items)
+        × (state.new ≡ fold with_effect state.old (take count ops.items))) }
+{
+    for op in ops {
+        state.take(&op)?;
+    }
+    Ok(())
+}
+
+/// Lets a front go on to a stamp, where that is the next of its row. Where memory is refused nothing changes. It costs
+/// O(log n) for n rows.
+pub fn go_on(front: &mut Front, stamp: Stamp) -> Result<(), NoMemory>
+    ensures ok { OnOk result (front.new ≡ gone_on front.old stamp) }
+    ensures err { OnErr result (front.new ≡ front.old) }
+{
+    let row = Row {
+        site: stamp.site(),
+        start: stamp.start(),
+    };
+    if stamp.seq() - 1 == front.reach(row) {
+        return front.raise(row, stamp.seq());
+    }
+    Ok(())
+}
+
+/// A law: a front that goes on from stamp to stamp reaches over no number that isn't that of one of them.
+pub fn fronts_have_no_gap()
+    ensures { (stamps : List Timestamp) → AreReached stamps (fold gone_on empty stamps) }
+{}

@@ -1,9 +1,0 @@
--- What sending a text answers.
-use Rattle.std.proofs.Common.{◌≡◌, ℕ, List, Result, subst}
-use Rattle.event_feed.specs.Feed.{End}
-use Rattle.feed_client.specs.Meeting.{Reports}
-use Rattle.feed_client.specs.declared.fault.ClientFault.{ClientFault}
-
-pub reported_as : (text line : List ℕ) (old new : End) (result : Result (Unit {0}) ClientFault) → text ≡ line
-    → Reports text old new result → Reports line old new result
-reported_as text line old new result is h = subst (λ t. Reports t old new result) is h

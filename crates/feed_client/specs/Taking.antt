@@ -1,0 +1,85 @@
+-- How a feed of a site takes up what a line tells: what has to be asked is said first, and then what was found is met.
+use Rattle.std.specs.Prelude.{◌≡◌, ◌⊎◌, ◌↔◌, ℕ, true, List, ◌++◌, Option, Result, Ok, Err, codes, decimal}
+use Rattle.std.specs.Prelude.{flat_map}
+use Rattle.std.specs.BTreeSet.{BTreeSet, contains}
+use Rattle.std.specs.Ordering.{nat_cmp}
+use Rattle.event_feed.specs.Ends.{End, IsCutShort, IsWritten}
+use Rattle.event_feed.specs.Feed.{Feeds}
+use Rattle.event_feed.specs.declared.fault.FeedFault.{FeedFault}
+use Rattle.event_feed.specs.declared.fault.FeedFault.TheVariants.{WriteFault, NoMemory}
+use Rattle.event_feed.specs.declared.progress.Input.{Input}
+use Rattle.event_filter.specs.Asking.{IsAsked}
+use Rattle.gerrit_events.specs.Projects.{Choice}
+use Rattle.gerrit_events.specs.Reading.{Told}
+use Rattle.review_ops.specs.Deed.{Deed}
+use Rattle.review_ops.specs.Timestamp.{Timestamp}
+use Rattle.state_core.specs.State.{State}
+use Rattle.feed_client.specs.InTurn.{InTurn}
+use Rattle.feed_client.specs.Meeting.{Meets, Place}
+use Rattle.feed_client.specs.Pulling.{IsCutOff, IsPulled}
+use Rattle.feed_client.specs.Rounds.{Round}
+use Rattle.feed_client.specs.declared.intake.IntakeFault.{IntakeFault}
+
+-- a feed, as far as contracts see it: the bases of what it asks, where it meets what is found, and the output that it
+-- asks on
+pub record Seen (Site : Type 0) : Type 0 where
+  pub bases : Option (List (List ℕ))
+  pub place : Place Site
+  pub output : End
+
+abbrev pub seen_at : {Site : Type 0} → Option (List (List ℕ)) → Place Site → Option (List ℕ) → ℕ → Seen Site
+seen_at bases place taken failed =
+    record { bases = bases; place = place; output = record { taken = taken; failed = failed } }
+
+-- a change has to be queried
+abbrev pub ask_line : ℕ → List ℕ
+ask_line change = codes "ask " ++ decimal change ++ codes "\n"
+
+abbrev pub ask_lines : List ℕ → List ℕ
+ask_lines changes = flat_map ask_line changes
+
+-- just these changes have to be asked for, where the line is to be met by the record
+abbrev pub AreAsked : Option (List (List ℕ)) → State → Told → BTreeSet ℕ → Type 0
+AreAsked bases state told asks = (change : ℕ) → (contains nat_cmp asks change ≡ true) ↔ IsAsked state bases told change
+
+-- what came to the site is taken into the state
+abbrev pub LearnsNews : {Site : Type 0} → (Site → Result Round IntakeFault → Site → Type 0) → Seen Site → Seen Site
+    → Result (Unit {0}) FeedFault → Type 0
+LearnsNews answers old new (Ok done) =
+    (count : ℕ) × IsPulled answers old.place.site old.place.state new.place.site new.place.state count
+    × (new.place.errors ≡ old.place.errors) × (new.output ≡ old.output) × (new.bases ≡ old.bases)
+LearnsNews answers old new (Err fault) =
+    IsCutOff answers old.place.site old.place.state new.place.site new.place.state fault
+    × (new.place.errors ≡ old.place.errors) × (new.output ≡ old.output) × (new.bases ≡ old.bases)
+
+module _ {Site : Type 0} (replies : Site → Deed → Result Timestamp IntakeFault → Site → Type 0) where
+  -- these changes are asked for, and what was found is met; nothing is met where asking is cut short
+  abbrev pub AsksAndMeets : ℕ → BTreeSet ℕ → Told → Seen Site → Seen Site → Result (Unit {0}) FeedFault → Type 0
+  AsksAndMeets number asks told old new result =
+      (IsWritten (ask_lines asks.keys) old.output new.output
+      × InTurn (Meets replies number) told.findings old.place new.place result)
+      ⊎ (IsCutShort (ask_lines asks.keys) old.output new.output × (result ≡ Err WriteFault) × (new.place ≡ old.place))
+
+  -- what the line of this number tells is taken up; nothing is done where memory is refused for what to ask
+  abbrev pub TakesLine : ℕ → Told → Seen Site → Seen Site → Result (Unit {0}) FeedFault → Type 0
+  TakesLine number told old new result =
+      (((asks : BTreeSet ℕ) × AreAsked old.bases old.place.state told asks × AsksAndMeets number asks told old new result)
+      ⊎ ((result ≡ Err NoMemory) × (new.place ≡ old.place) × (new.output ≡ old.output)))
+      × (new.bases ≡ old.bases)
+
+-- ---- a feed of a site
+
+module _ {Feed Site : Type 0} (shown : Feed → Seen Site)
+    (replies : Site → Deed → Result Timestamp IntakeFault → Site → Type 0)
+    (answers : Site → Result Round IntakeFault → Site → Type 0) where
+  abbrev pub FeedRests : Feed → Result (Unit {0}) FeedFault → Feed → Type 0
+  FeedRests old result new = LearnsNews answers (shown old) (shown new) result
+
+  abbrev pub FeedTakes : Feed → ℕ → Told → Result (Unit {0}) FeedFault → Feed → Type 0
+  FeedTakes old number told result new = TakesLine replies number told (shown old) (shown new) result
+
+  -- the lines of the source are fed to the site
+  abbrev pub FeedsSite : Input → Choice → Option (List ℕ) → ℕ → Feed → Option (List ℕ) → ℕ → Feed
+      → Result (Unit {0}) FeedFault → Type 0
+  FeedsSite input choice left unread old left' unread' new result =
+      Feeds FeedRests FeedTakes input choice 1048576 18446744073709551615 left unread old left' unread' new result

@@ -1,0 +1,119 @@
+//! Feeds the lines of a source to a site.
+
+ghost use Rattle.std.specs.Prelude.{◌≡◌, ◌++◌, IfOk, OnOk, string_bytes};
+ghost use Rattle.feed_client.specs.Meeting.{place_at};
+ghost use Rattle.feed_client.specs.Taking.{FeedsSite, ask_line, ask_lines, seen_at};
+
+use super::intake::Intake;
+use super::meet::meet_all;
+use super::pull::pull_all;
+use byte_ends::{Drain, Source};
+use event_feed::{FeedFault, Input, Taker, feed_lines, send};
+use event_filter::asked;
+use footer_text::Bases;
+use gerrit_events::{Projects, Told};
+use lattice_core::NoMemory;
+use state_core::State;
+use std::alloc::Global;
+use std::collections::BTreeSet;
+
+/// A feed of a site: what it asks under, the state that it keeps of the site's record, the site, what it asks on, and
+/// what it reports to.
+#[derive(Drop)]
+pub struct SiteFeed<T: Intake, O: Drain, E: Drain> {
+    pub alloc: Global,
+    pub bases: Option<Bases>,
+    pub state: State,
+    pub site: T,
+    pub output: O,
+    pub errors: E,
+}
+
+impl<T: Intake, O: Drain, E: Drain> Taker for SiteFeed<T, O, E> {
+    ghost use Rattle.feed_client.specs.Taking.{LearnsNews, TakesLine};
+
+    ghost rests = { λ old result new. LearnsNews T.answers
+        (seen_at old.bases (place_at old.site old.state (E.taken old.errors) (E.failed old.errors)) (O.taken old.output)
+        (O.failed old.output))
+        (seen_at new.bases (place_at new.site new.state (E.taken new.errors) (E.failed new.errors)) (O.taken new.output)
+        (O.failed new.output))
+        result };
+
+    ghost takes = { λ old number told result new. TakesLine T.replies number told
+        (seen_at old.bases (place_at old.site old.state (E.taken old.errors) (E.failed old.errors)) (O.taken old.output)
+        (O.failed old.output))
+        (seen_at new.bases (place_at new.site new.state (E.taken new.errors) (E.failed new.errors)) (O.taken new.output)
+        (O.failed new.output))
+        result };
+
+    fn rest(&mut self) -> Result<(), FeedFault> {
+        match pull_all(&mut self.site, &mut self.state) {
+            Ok(_count) => Ok(()),
+            Err(fault) => Err(fault),
+        }
+    }
+
+    fn take(&mut self, number: u64, told: Told) -> Result<(), FeedFault> {
+        let Ok(asked) = asked(self.alloc, &self.state, self.bases.as_ref(), &told) else {
+            return Err(FeedFault::NoMemory);
+        };
+        let Ok(text) = ask_lines(self.alloc, &asked) else {
+            return Err(FeedFault::NoMemory);
+        };
+        match send(&mut self.output, text.as_str()) {
+            Ok(()) => meet_all(
+                self.alloc,
+                number,
+                told.findings,
+                &mut self.site,
+                &mut self.state,
+                &mut self.errors,
+            ),
+            Err(fault) => Err(fault),
+        }
+    }
+}
+
+/// Reads the lines of a source, as `event_feed::feed_lines` does, and offers what each brings to a site, in order, but
+/// for what the state says already. What the site takes in is taken into the state, too, and so is, before more of the
+/// source is read, what others brought to the site. Which changes a line makes the feed ask for is written to the output
+/// before what it brings is offered, as `ask N` lines, in the order of their numbers. What is refused of the line of
+/// number n, counted from 1, is reported on the errors: by the line itself (`reviewgate: events 1 BadEvent n KEY`,
+/// `reviewgate: events 2 Dropped n`), for the record (`reviewgate: events 1 BadEvent n status`: an abandon or a restore
+/// of a change that is merged) or by the site (`reviewgate: events 6 Refused n NUMBER NAME`). Refusals: those of
+/// `feed_lines`; 4 `WriteFault`, an output failed; 5 `NoMemory`; 8 `Ended`, no answer came from the site. It costs O(n)
+/// for n bytes that are read and written, and O(log m) for each body, for m changes, patch sets and votes of the state.
+pub fn feed_site<S: Source, T: Intake, O: Drain, E: Drain>(
+    alloc: Global,
+    input: Input,
+    projects: &Projects,
+    source: &mut S,
+    feed: &mut SiteFeed<T, O, E>,
+) -> Result<(), FeedFault>
+    ensures { FeedsSite
+        (λ feed. seen_at feed.bases (place_at feed.site feed.state (E.taken feed.errors) (E.failed feed.errors))
+        (O.taken feed.output) (O.failed feed.output))
+        T.replies T.answers input projects.now (S.left source.old) (S.failed source.old) feed.old (S.left source.new)
+        (S.failed source.new) feed.new result }
+{
+    feed_lines(alloc, input, projects, source, feed)
+}
+
+/// The lines that ask for changes.
+fn ask_lines(alloc: Global, changes: &BTreeSet<u32>) -> Result<String, NoMemory>
+    ensures { IfOk result (λ text. string_bytes text ≡ ask_lines changes.now.keys) }
+{
+    let mut text = String::new(alloc);
+    for change in changes {
+        add_ask(&mut text, *change)?;
+    }
+    Ok(text)
+}
+
+/// Adds the line that asks for a change.
+pub fn add_ask(text: &mut String, change: u32) -> Result<(), NoMemory>
+    ensures { OnOk result (string_bytes text.new ≡ string_bytes text.old ++ ask_line change) }
+{
+    write!(text, "ask {change}\n")?;
+    Ok(())
+}
