@@ -1,133 +1,139 @@
--- What the words of a command line ask for. Which command words name, what they give its arguments, and what is wrong
--- with them is clap's (docs.rs/clap), over the program's commands.
-use Rattle.std.specs.Prelude.{◌≡◌, ◌⊎◌, ◌<◌, ◌==◌, ◌^◌, ℕ, Bool, List, [], MatchOption, Option, None, Some, codes}
-use Rattle.std.specs.Prelude.{length, option_map}
-use Rattle.std.specs.List.{position_or_len, before_first, after_first}
-use Rattle.std.specs.Str.Parse.{IsNumeral, digits_value, without_leading_plus}
-use Rattle.clap.specs.Words.{Row, Text, first_of, subcommand_of, fault_of}
-use Rattle.clap.specs.declared.error.kind.ErrorKind.{ErrorKind}
-use Rattle.command_line.specs.declared.words.Command.{Command}
-use Rattle.command_line.specs.declared.words.Command.TheVariants.{Simulate, Ready, Merge, Footers, Why, Graph, Help}
-use Rattle.command_line.specs.declared.words.Command.TheVariants.{Usage, NoMemory}
-use Rattle.command_line.specs.Commands.{program}
-use Rattle.command_line.specs.Faulty.{AsksForHelp, IsFaulty, IsHelp, IsMistake}
+-- What the words of a command line ask for: each command's arguments, with the limits of their numbers, and what they
+-- say.
+use Rattle.std.specs.Prelude.{◌≡◌, ◌⊎◌, ◌↔◌, ℕ, IsTrue, List, None, Option, Some, codes, map, option_map, string_bytes}
+use Rattle.command_tree.specs.Matching.{AreFaulty, AskForHelp, AskForVersion, HasFlag, IsFaultless, Matched, Row}
+use Rattle.command_tree.specs.Matching.{Text, first_of, matched_of}
+use Rattle.command_line.specs.declared.asked.Answer.{Answer}
+use Rattle.command_line.specs.declared.asked.Answer.TheVariants.{Complete, Query, Stream}
+use Rattle.command_line.specs.declared.asked.Asked.{Asked}
+use Rattle.command_line.specs.declared.asked.Asked.TheVariants.{Events, Help, NoMemory, Recover, Run, Serve, Usage}
+use Rattle.command_line.specs.declared.asked.Asked.TheVariants.{Version}
+use Rattle.command_line.specs.declared.asked.Command.TheVariants.{Footers, Graph, Merge, Ready, Simulate, Why}
+use Rattle.command_line.specs.declared.asked.EventWords.{EventWords}
+use Rattle.command_line.specs.declared.asked.ServeWords.{ServeWords}
+use Rattle.command_line.specs.Values.{Gives, GivesAny, GivesItem, GivesNumber, GivesNumbers, GivesTexts}
 
--- what clap matched: the command that the words name, if they name one, and the values of its arguments
-abbrev pub Matched : Type 0
-Matched = Option (List ℕ × List Row)
+-- ---- what the arguments of each command say
 
--- the argument has this value
-abbrev pub Gives : List Row → List ℕ → List ℕ → Type 0
-Gives rows argument value = first_of argument rows ≡ Some value
+-- what a site is run with, but for its peers, is what the arguments give
+pub record AreOptions (rows : List Row) (words : ServeWords) : Type 0 where
+  pub gate : Gives rows (codes "GATE") words.gate.now
+  pub site : GivesNumber rows (codes "site") 1 65535 words.site
+  pub start : GivesAny rows (codes "start") 1 4294967295 words.start
+  pub port : GivesNumber rows (codes "port") 0 65535 words.port
+  pub workers : GivesNumber rows (codes "workers") 1 6 words.workers
+  pub pause : GivesNumber rows (codes "pause") 1 600000 words.pause_ms
+  pub sessions : GivesNumber rows (codes "sessions") 0 18446744073709551615 words.sessions
+  pub idle : GivesNumber rows (codes "idle") 0 18446744073709551615 words.idle_ms
+  pub ending : IsTrue words.until_input_ends ↔ HasFlag rows (codes "until-input-ends")
+  pub load : first_of (codes "load") rows ≡ option_map (λ name. name.now) words.load
+  pub save : first_of (codes "save") rows ≡ option_map (λ name. name.now) words.save
+  pub journal : first_of (codes "journal") rows ≡ option_map (λ name. name.now) words.journal
 
--- the text writes the number in decimal, and it has at most 32 bits
-abbrev pub WritesNumber : List ℕ → ℕ → Type 0
-WritesNumber text number =
-    let digits = without_leading_plus text in
-    IsNumeral 10 digits × (digits_value 10 digits < 2 ^ 32) × (number ≡ digits_value 10 digits)
+-- a start is named, or a journal, which has those before it
+abbrev pub HasStart : List Row → Type 0
+HasStart rows = first_of (codes "start") rows ≡ None → ¬ (first_of (codes "journal") rows ≡ None)
 
--- the change that the option gives, and 0 without it
-abbrev pub GivesChange : List Row → ℕ → Type 0
-GivesChange rows change = MatchOption (first_of (codes "change") rows) (change ≡ 0) (λ text. WritesNumber text change)
+-- the arguments ask for this site
+abbrev pub IsSite : List Row → ServeWords → Type 0
+IsSite rows words = AreOptions rows words × GivesNumbers rows (codes "PEER") 1 65535 words.peers.items × HasStart rows
 
--- a text names an item: the number of a change; or that, a comma and the number of a patch set
-abbrev pub is_comma : ℕ → Bool
-is_comma byte = byte == 44
+-- what Gerrit's lines are, by two options of which one is there at most
+abbrev pub GivesAnswer : List Row → Answer → Type 0
+GivesAnswer rows Stream = (¬ HasFlag rows (codes "query")) × (¬ HasFlag rows (codes "complete"))
+GivesAnswer rows Query = HasFlag rows (codes "query") × (¬ HasFlag rows (codes "complete"))
+GivesAnswer rows Complete = (¬ HasFlag rows (codes "query")) × HasFlag rows (codes "complete")
 
-abbrev pub NamesItem : List ℕ → ℕ → Option ℕ → Type 0
-NamesItem text change None = (position_or_len is_comma text ≡ length text) × WritesNumber text change
-NamesItem text change (Some set) =
-    (position_or_len is_comma text < length text) × WritesNumber (before_first is_comma text) change
-    × WritesNumber (after_first is_comma text) set
+-- what a feed is run with, but for its projects, is what the arguments give
+pub record AreFeedOptions (rows : List Row) (words : EventWords) : Type 0 where
+  pub to : GivesAny rows (codes "to") 1 65535 words.to
+  pub answer : GivesAnswer rows words.answer
+  pub projects_file : first_of (codes "projects") rows ≡ option_map (λ name. name.now) words.projects_file
+  pub gate : first_of (codes "gate") rows ≡ option_map (λ name. name.now) words.gate
 
--- the argument names this item
-abbrev pub GivesItem : List Row → ℕ → Option ℕ → Type 0
-GivesItem rows change set = (text : List ℕ) × Gives rows (codes "CHANGE[,SET]") text × NamesItem text change set
+-- a port is named, or nothing that wants one
+abbrev pub HasPort : List Row → Type 0
+HasPort rows = first_of (codes "to") rows ≡ None
+    → (¬ HasFlag rows (codes "complete")) × (first_of (codes "gate") rows ≡ None)
 
--- the change that the option gives to draw around, and none without it
-abbrev pub GivesAround : List Row → Option ℕ → Type 0
-GivesAround rows None = first_of (codes "around") rows ≡ None
-GivesAround rows (Some number) = (text : List ℕ) × Gives rows (codes "around") text × WritesNumber text number
+-- the arguments ask for this feed
+abbrev pub IsFeed : List Row → EventWords → Type 0
+IsFeed rows words = AreFeedOptions rows words
+    × GivesTexts rows (codes "project") (map string_bytes words.projects.items) × HasPort rows
 
--- what was matched is a command, with all that it needs
-abbrev pub IsCommand : Matched → Command → Type 0
-IsCommand matched (Simulate script gate) =
-    (rows : List Row) × (matched ≡ Some (codes "simulate", rows)) × Gives rows (codes "SCRIPT") script.now
-    × (first_of (codes "GATE") rows ≡ option_map (λ name. name.now) gate)
-IsCommand matched (Ready gate snapshot) =
-    (rows : List Row) × (matched ≡ Some (codes "ready", rows)) × Gives rows (codes "GATE") gate.now
-    × Gives rows (codes "SNAPSHOT") snapshot.now
-IsCommand matched (Merge first second) =
-    (rows : List Row) × (matched ≡ Some (codes "merge", rows)) × Gives rows (codes "FIRST") first.now
-    × Gives rows (codes "SECOND") second.now
-IsCommand matched (Footers gate message change) =
-    (rows : List Row) × (matched ≡ Some (codes "footers", rows)) × Gives rows (codes "GATE") gate.now
-    × Gives rows (codes "FILE") message.now × GivesChange rows change
-IsCommand matched (Why gate snapshot change set) =
-    (rows : List Row) × (matched ≡ Some (codes "why", rows)) × Gives rows (codes "GATE") gate.now
-    × Gives rows (codes "SNAPSHOT") snapshot.now × GivesItem rows change set
-IsCommand matched (Graph gate snapshot around) =
-    (rows : List Row) × (matched ≡ Some (codes "graph", rows)) × Gives rows (codes "GATE") gate.now
-    × Gives rows (codes "SNAPSHOT") snapshot.now × GivesAround rows around
-IsCommand matched (Help text) = ⊥
-IsCommand matched (Usage text) = ⊥
-IsCommand matched NoMemory = ⊥
+-- the commands
+pub data Name : Type 0 where
+  ready : Name
+  why : Name
+  graph : Name
+  merge : Name
+  footers : Name
+  simulate : Name
+  serve : Name
+  recover : Name
+  events : Name
 
--- it is no command, or lacks something
-abbrev pub IsNoCommand : Matched → Type 0
-IsNoCommand matched = (command : Command) → ¬ IsCommand matched command
+abbrev pub text_of : Name → Text
+text_of ready = codes "ready"
+text_of why = codes "why"
+text_of graph = codes "graph"
+text_of merge = codes "merge"
+text_of footers = codes "footers"
+text_of simulate = codes "simulate"
+text_of serve = codes "serve"
+text_of recover = codes "recover"
+text_of events = codes "events"
 
--- clap finds no fault in the words
-abbrev pub IsFaultless : List Text → Type 0
-IsFaultless words = fault_of program words ≡ []
+-- the arguments of the command say that this is asked
+abbrev pub Says : Name → List Row → Asked → Type 0
+Says ready rows (Run (Ready gate snapshot)) =
+    Gives rows (codes "GATE") gate.now × Gives rows (codes "SNAPSHOT") snapshot.now
+Says why rows (Run (Why gate snapshot change set)) =
+    Gives rows (codes "GATE") gate.now × Gives rows (codes "SNAPSHOT") snapshot.now × GivesItem rows change set
+Says graph rows (Run (Graph gate snapshot around)) =
+    Gives rows (codes "GATE") gate.now × Gives rows (codes "SNAPSHOT") snapshot.now
+    × GivesAny rows (codes "around") 0 4294967295 around
+Says merge rows (Run (Merge first second)) =
+    Gives rows (codes "FIRST") first.now × Gives rows (codes "SECOND") second.now
+Says footers rows (Run (Footers gate message change)) =
+    Gives rows (codes "GATE") gate.now × Gives rows (codes "FILE") message.now
+    × GivesNumber rows (codes "change") 0 4294967295 change
+Says simulate rows (Run (Simulate script gate)) =
+    Gives rows (codes "SCRIPT") script.now × (first_of (codes "GATE") rows ≡ option_map (λ name. name.now) gate)
+Says serve rows (Serve words) = IsSite rows words
+Says recover rows (Recover journal) = Gives rows (codes "JOURNAL") journal.now
+Says events rows (Events words) = IsFeed rows words
+Says name rows asked = ⊥
 
--- the words ask for this command, or for what is answered in its place; memory may be refused at any words
-abbrev pub Asks : List Text → Command → Type 0
-Asks words (Simulate script gate) = IsFaultless words × IsCommand (subcommand_of program words) (Simulate script gate)
-Asks words (Ready gate snapshot) = IsFaultless words × IsCommand (subcommand_of program words) (Ready gate snapshot)
-Asks words (Merge first second) = IsFaultless words × IsCommand (subcommand_of program words) (Merge first second)
-Asks words (Footers gate message change) =
-    IsFaultless words × IsCommand (subcommand_of program words) (Footers gate message change)
-Asks words (Why gate snapshot change set) =
-    IsFaultless words × IsCommand (subcommand_of program words) (Why gate snapshot change set)
-Asks words (Graph gate snapshot around) =
-    IsFaultless words × IsCommand (subcommand_of program words) (Graph gate snapshot around)
-Asks words (Help text) = AsksForHelp program words
-Asks words (Usage text) = IsFaulty program words ⊎ IsNoCommand (subcommand_of program words)
+-- ---- what words ask for
+
+-- what clap matched is a command, whose arguments say what is asked
+abbrev pub IsAsked : Matched → Asked → Type 0
+IsAsked matched asked =
+    (name : Name) × (rows : List Row) × (matched ≡ Some (text_of name, rows)) × Says name rows asked
+
+-- it is none, or they say nothing: a start or a port is missing, an item is none, or two options differ
+abbrev pub IsNothing : Matched → Type 0
+IsNothing matched = (asked : Asked) → ¬ IsAsked matched asked
+
+-- the words ask for this, or it is answered in its place; memory may be refused at any words
+abbrev pub Asks : List Text → Asked → Type 0
+Asks words (Help text) = AskForHelp words
+Asks words (Version text) = AskForVersion words
+Asks words (Usage text) = AreFaulty words ⊎ IsNothing (matched_of words)
 Asks words NoMemory = Unit {0}
+Asks words asked = IsFaultless words × IsAsked (matched_of words) asked
 
--- what was matched is this command
-abbrev pub Means : Matched → Command → Type 0
-Means matched (Simulate script gate) = IsCommand matched (Simulate script gate)
-Means matched (Ready gate snapshot) = IsCommand matched (Ready gate snapshot)
-Means matched (Merge first second) = IsCommand matched (Merge first second)
-Means matched (Footers gate message change) = IsCommand matched (Footers gate message change)
-Means matched (Why gate snapshot change set) = IsCommand matched (Why gate snapshot change set)
-Means matched (Graph gate snapshot around) = IsCommand matched (Graph gate snapshot around)
+-- what clap matched means this
+abbrev pub Means : Matched → Asked → Type 0
 Means matched (Help text) = ⊥
-Means matched (Usage text) = IsNoCommand matched
+Means matched (Version text) = ⊥
+Means matched (Usage text) = IsNothing matched
 Means matched NoMemory = Unit {0}
-
--- how a fault of this kind is answered
-abbrev pub IsRefused : ErrorKind → Command → Type 0
-IsRefused kind (Simulate script gate) = ⊥
-IsRefused kind (Ready gate snapshot) = ⊥
-IsRefused kind (Merge first second) = ⊥
-IsRefused kind (Footers gate message change) = ⊥
-IsRefused kind (Why gate snapshot change set) = ⊥
-IsRefused kind (Graph gate snapshot around) = ⊥
-IsRefused kind (Help text) = IsHelp kind
-IsRefused kind (Usage text) = IsMistake kind
-IsRefused kind NoMemory = Unit {0}
+Means matched asked = IsAsked matched asked
 
 -- something is wrong with the words, or memory was refused for saying so
-abbrev pub IsUsage : Command → Type 0
-IsUsage (Simulate script gate) = ⊥
-IsUsage (Ready gate snapshot) = ⊥
-IsUsage (Merge first second) = ⊥
-IsUsage (Footers gate message change) = ⊥
-IsUsage (Why gate snapshot change set) = ⊥
-IsUsage (Graph gate snapshot around) = ⊥
-IsUsage (Help text) = ⊥
+abbrev pub IsUsage : Asked → Type 0
 IsUsage (Usage text) = Unit {0}
 IsUsage NoMemory = Unit {0}
+IsUsage asked = ⊥

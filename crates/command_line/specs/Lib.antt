@@ -1,3 +1,2 @@
-pub mod Commands
-pub mod Faulty
+pub mod Values
 pub mod Asking

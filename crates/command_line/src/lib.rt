@@ -1,15 +1,20 @@
-//! The program's commands, and what the words of a command line ask for. Nothing else of the program names `clap`.
+//! What the words of a command line ask for: a command with what its arguments say.
 //!
 //! An example of its use:
 //!
 //! ```
 //! let words = ["ready", "gate.json", "record.snapshot"];
-//! let command = read_words(alloc, &words);
-//! assert!(rt; matches!(command, Command::Ready { gate: "gate.json", .. }));
+//! let asked = read_words(alloc, &words);
+//! assert!(rt; matches!(asked, Asked::Run(Command::Ready { gate: "gate.json", .. })));
 //! ```
 #![tactic(auto)]
 
-mod commands;
+mod asked;
+mod feeds;
+mod files;
+mod numbers;
+mod sites;
 mod words;
 
-pub use words::{Command, read_words};
+pub use asked::{Answer, Asked, Command, EventWords, ServeWords};
+pub use words::read_words;

@@ -1,274 +1,111 @@
 //! What the words of a command line ask for.
 
-ghost use Rattle.std.specs.Prelude.{◌≡◌, ◌≢◌, ◌⊎◌, ℕ, List, Option, Some, IfErr, IfOk, IfSome, IfNone, map, codes};
-ghost use Rattle.clap.specs.Words.{Row, Text, found_of, rows_of, subcommand_rows_of, fault_of, kind_of, HasKind};
-ghost use Rattle.command_line.specs.Commands.{program};
-ghost use Rattle.command_line.specs.Asking.{GivesAround, GivesChange, GivesItem, NamesItem, WritesNumber};
-ghost use Rattle.command_line.specs.Asking.{Asks, Means, IsCommand, IsNoCommand, IsRefused, IsUsage};
+ghost use Rattle.std.specs.Prelude.{IfOk, Some, map};
+ghost use Rattle.command_line.specs.Asking.{Asks, IsAsked, IsUsage, Means};
+ghost use Rattle.command_line.specs.Values.{Finds};
+ghost use Rattle.command_tree.specs.Rows.{rows_in};
 
-use super::commands::commands;
-use clap::ArgMatches;
-use clap::error::ErrorKind;
-use std::alloc::Global;
+use super::asked::Asked;
+use super::feeds::{events_in, lacks_port};
+use super::files::{footers_in, graph_in, merge_in, ready_in, recover_in, simulate_in, why_in};
+use super::sites::serve_in;
+use command_tree::{Parsed, Values, parse};
+use std::alloc::{AllocError, Global};
 use std::convert::AsStr;
 
-/// What is wrong with words that lack something.
-const MISSING: &str = "error: a command and what it needs are missing\n";
+/// What an item has to be.
+const ITEM_LIMITS: &str =
+    "CHANGE and SET are numbers from 0 to 4294967295\n\nFor more information, try '--help'.\n";
 
-/// What is wrong with a change that is no number.
-const NO_NUMBER: &str = "error: the change has to be a number from 0 to 4294967295\n";
+/// What is wrong where neither a start nor a journal is named.
+const NO_START: &str =
+    "error: without --journal a site needs --start\n\nFor more information, try '--help'.\n";
 
-/// What is wrong with an item that is none.
-const NO_ITEM: &str = "error: CHANGE and SET have to be numbers from 0 to 4294967295\n";
+/// What is wrong where two options differ about what Gerrit's lines are.
+const TWO_ANSWERS: &str =
+    "error: the argument '--query' cannot be used with '--complete'\n\nFor more information, try '--help'.\n";
 
-/// A command, as the words ask for it.
-#[derive(Drop)]
-pub enum Command<'a> {
-    /// To play the script of this name, with reports under a gate file where one is named.
-    Simulate {
-        script: &'a str,
-        gate: Option<&'a str>,
-    },
-    /// To print the report of a snapshot under a gate file.
-    Ready {
-        gate: &'a str,
-        snapshot: &'a str,
-    },
-    /// To print the snapshot of the two of these names together.
-    Merge {
-        first: &'a str,
-        second: &'a str,
-    },
-    /// To print what the footers of a message ask for under a gate file's bases.
-    Footers {
-        gate: &'a str,
-        message: &'a str,
-        change: u32,
-    },
-    /// To print why an item of a snapshot waits under a gate file: the patch set `set` of the change, or its current
-    /// one.
-    Why {
-        gate: &'a str,
-        snapshot: &'a str,
-        change: u32,
-        set: Option<u32>,
-    },
-    /// To draw the items of a snapshot with what they wait for under a gate file: all of them, or those around a
-    /// change.
-    Graph {
-        gate: &'a str,
-        snapshot: &'a str,
-        around: Option<u32>,
-    },
-    /// The help text, or the version, for the output.
-    Help(String),
-    /// What is wrong with the words, for the error output.
-    Usage(String),
-    /// Memory ran out while the words were read.
-    NoMemory,
-}
+/// What is wrong where an option wants a port, and none is named.
+const NO_PORT: &str =
+    "error: --complete and --gate need --to\n\nFor more information, try '--help'.\n";
 
-/// Reads the words that follow the program's name, as `clap` matches them to the program's commands: a command is
-/// answered only where `clap` finds no fault in them. `Usage` is answered where it finds one that isn't a wish for
-/// help or for the version, and where the words ask for no command; its text and that of `Help` are `clap`'s. It costs
-/// O(bytes of the words).
-pub fn read_words<'a, S: AsStr>(alloc: Global, words: &'a [S]) -> Command<'a>
+/// Reads the words that follow the program's name: a command is answered only where `clap` finds no fault in them.
+/// `Usage` is answered where it finds one that isn't a wish for help or for the version, where an item is none, where a
+/// site has neither a start nor a journal, where two options of a feed differ, and where one of them wants a port that
+/// isn't named; its text, and those of `Help` and `Version`, are `clap`'s, but for the last four. It costs O(bytes of
+/// the words).
+pub fn read_words<'a, S: AsStr>(alloc: Global, words: &'a [S]) -> Asked<'a>
     ensures { Asks (map S.text words.entry.now) result }
 {
-    let Ok(command) = commands(alloc) else {
-        return Command::NoMemory;
-    };
-    match command.try_get_matches_from(words) {
-        Ok(matches) => command_in(alloc, &matches),
-        Err(error) => refused(alloc, &error),
+    match parse(alloc, words) {
+        Parsed::Command(name, values) => asked_of(alloc, name, &values),
+        Parsed::Help(text) => Asked::Help(text),
+        Parsed::Version(text) => Asked::Version(text),
+        Parsed::Usage(text) => Asked::Usage(text),
+        Parsed::NoMemory => Asked::NoMemory,
     }
 }
 
-/// What a command line that was matched asks for.
-fn command_in<'a>(alloc: Global, matches: &ArgMatches<'a>) -> Command<'a>
-    ensures { Means (subcommand_rows_of matches.now) result }
+/// What a command with these values asks for.
+fn asked_of<'a>(alloc: Global, name: &str, values: &Values<'a>) -> Asked<'a>
+    ensures { Means (Some (name.now, rows_in values.now)) result }
 {
-    let Some((name, found)) = matches.subcommand() else {
-        return usage(alloc, MISSING);
-    };
-    match named(name, found) {
-        Some(command) => command,
-        None => usage(alloc, wrong_in(name)),
+    match named(alloc, name, values) {
+        Ok(Some(asked)) => asked,
+        Ok(None) => misused(alloc, name, values),
+        Err(_) => Asked::NoMemory,
     }
 }
 
-/// The command of this name, where it has all that it needs.
-fn named<'a>(name: &str, found: &ArgMatches<'a>) -> Option<Command<'a>>
-    ensures some { IfSome result (IsCommand (Some (name.now, rows_of (found_of found.now)))) }
-    ensures none { IfNone result (IsNoCommand (Some (name.now, rows_of (found_of found.now)))) }
+/// The same, where the values say what is asked.
+fn named<'a>(
+    alloc: Global,
+    name: &str,
+    values: &Values<'a>,
+) -> Result<Option<Asked<'a>>, AllocError>
+    ensures { IfOk result (Finds (IsAsked (Some (name.now, rows_in values.now)))) }
 {
     match name {
-        "simulate" => simulate_in(found),
-        "ready" => ready_in(found),
-        "merge" => merge_in(found),
-        "footers" => footers_in(found),
-        "why" => why_in(found),
-        "graph" => graph_in(found),
-        _ => None,
+        "ready" => Ok(ready_in(values)),
+        "why" => Ok(why_in(values)),
+        "graph" => Ok(graph_in(values)),
+        "merge" => Ok(merge_in(values)),
+        "footers" => Ok(footers_in(values)),
+        "simulate" => Ok(simulate_in(values)),
+        "serve" => serve_in(alloc, values),
+        "recover" => Ok(recover_in(values)),
+        "events" => events_in(alloc, values),
+        _ => Ok(None),
     }
 }
 
-/// What is wrong with the words after a command's name, where they don't ask for it.
-fn wrong_in(name: &str) -> &'static str {
-    match name {
-        "footers" | "graph" => NO_NUMBER,
-        "why" => NO_ITEM,
-        _ => MISSING,
-    }
-}
-
-/// `simulate SCRIPT [GATE]`
-fn simulate_in<'a>(found: &ArgMatches<'a>) -> Option<Command<'a>>
-    ensures some { IfSome result (IsCommand (Some (codes "simulate", rows_of (found_of found.now)))) }
-    ensures none { IfNone result (IsNoCommand (Some (codes "simulate", rows_of (found_of found.now)))) }
-{
-    let script = found.get_str("SCRIPT")?;
-    let gate = found.get_str("GATE");
-    Some(Command::Simulate { script, gate })
-}
-
-/// `ready GATE SNAPSHOT`
-fn ready_in<'a>(found: &ArgMatches<'a>) -> Option<Command<'a>>
-    ensures some { IfSome result (IsCommand (Some (codes "ready", rows_of (found_of found.now)))) }
-    ensures none { IfNone result (IsNoCommand (Some (codes "ready", rows_of (found_of found.now)))) }
-{
-    let gate = found.get_str("GATE")?;
-    let snapshot = found.get_str("SNAPSHOT")?;
-    Some(Command::Ready { gate, snapshot })
-}
-
-/// `merge FIRST SECOND`
-fn merge_in<'a>(found: &ArgMatches<'a>) -> Option<Command<'a>>
-    ensures some { IfSome result (IsCommand (Some (codes "merge", rows_of (found_of found.now)))) }
-    ensures none { IfNone result (IsNoCommand (Some (codes "merge", rows_of (found_of found.now)))) }
-{
-    let first = found.get_str("FIRST")?;
-    let second = found.get_str("SECOND")?;
-    Some(Command::Merge { first, second })
-}
-
-/// `footers GATE FILE [--change N]`
-fn footers_in<'a>(found: &ArgMatches<'a>) -> Option<Command<'a>>
-    ensures some { IfSome result (IsCommand (Some (codes "footers", rows_of (found_of found.now)))) }
-    ensures none { IfNone result (IsNoCommand (Some (codes "footers", rows_of (found_of found.now)))) }
-{
-    let gate = found.get_str("GATE")?;
-    let message = found.get_str("FILE")?;
-    let change = change_of(found)?;
-    Some(Command::Footers {
-        gate,
-        message,
-        change,
-    })
-}
-
-/// The change that `--change` gives, and 0 without it.
-fn change_of(found: &ArgMatches<'_>) -> Option<u32>
-    ensures some { IfSome result (GivesChange (rows_of (found_of found.now))) }
-    ensures none { IfNone result ((change : ℕ) → ¬ GivesChange (rows_of (found_of found.now)) change) }
-{
-    match found.get_str("change") {
-        None => Some(0),
-        Some(text) => number_in(text),
-    }
-}
-
-/// The number that a text writes.
-fn number_in(text: &str) -> Option<u32>
-    ensures some { IfSome result (WritesNumber text.now) }
-    ensures none { IfNone result ((number : ℕ) → ¬ WritesNumber text.now number) }
-{
-    text.parse::<u32>().ok()
-}
-
-/// `why GATE SNAPSHOT CHANGE[,SET]`
-fn why_in<'a>(found: &ArgMatches<'a>) -> Option<Command<'a>>
-    ensures some { IfSome result (IsCommand (Some (codes "why", rows_of (found_of found.now)))) }
-    ensures none { IfNone result (IsNoCommand (Some (codes "why", rows_of (found_of found.now)))) }
-{
-    let gate = found.get_str("GATE")?;
-    let snapshot = found.get_str("SNAPSHOT")?;
-    let (change, set) = item_of(found)?;
-    Some(Command::Why {
-        gate,
-        snapshot,
-        change,
-        set,
-    })
-}
-
-/// The item that `CHANGE[,SET]` names.
-fn item_of(found: &ArgMatches<'_>) -> Option<(u32, Option<u32>)>
-    ensures some { IfSome result (λ item. GivesItem (rows_of (found_of found.now)) item.0 item.1) }
-    ensures none { IfNone result ((change : ℕ) (set : Option ℕ)
-        → ¬ GivesItem (rows_of (found_of found.now)) change set) }
-{
-    item_in(found.get_str("CHANGE[,SET]")?)
-}
-
-/// The item that a text names.
-fn item_in(text: &str) -> Option<(u32, Option<u32>)>
-    ensures some { IfSome result (λ item. NamesItem text.now item.0 item.1) }
-    ensures none { IfNone result ((change : ℕ) (set : Option ℕ) → ¬ NamesItem text.now change set) }
-{
-    let Some((change, set)) = text.split_once(',') else {
-        return Some((number_in(text)?, None));
-    };
-    let change = number_in(change)?;
-    Some((change, Some(number_in(set)?)))
-}
-
-/// `graph GATE SNAPSHOT [--around CHANGE]`
-fn graph_in<'a>(found: &ArgMatches<'a>) -> Option<Command<'a>>
-    ensures some { IfSome result (IsCommand (Some (codes "graph", rows_of (found_of found.now)))) }
-    ensures none { IfNone result (IsNoCommand (Some (codes "graph", rows_of (found_of found.now)))) }
-{
-    let gate = found.get_str("GATE")?;
-    let snapshot = found.get_str("SNAPSHOT")?;
-    let around = around_of(found)?;
-    Some(Command::Graph {
-        gate,
-        snapshot,
-        around,
-    })
-}
-
-/// The change that `--around` gives, and none without it.
-fn around_of(found: &ArgMatches<'_>) -> Option<Option<u32>>
-    ensures some { IfSome result (GivesAround (rows_of (found_of found.now))) }
-    ensures none { IfNone result ((around : Option ℕ) → ¬ GivesAround (rows_of (found_of found.now)) around) }
-{
-    let Some(text) = found.get_str("around") else {
-        return Some(None);
-    };
-    Some(Some(number_in(text)?))
-}
-
-/// Help, a fault of the words or want of memory, as `clap` says.
-fn refused<'a>(alloc: Global, error: &clap::Error) -> Command<'a>
-    ensures { IsRefused (kind_of error.now) result }
-{
-    if error.kind() == ErrorKind::OutOfMemory {
-        return Command::NoMemory;
-    }
-    match error.to_string(alloc) {
-        Ok(text) if error.use_stderr() => Command::Usage(text),
-        Ok(text) => Command::Help(text),
-        Err(_) => Command::NoMemory,
-    }
-}
-
-/// A usage fault with a text of our own.
-fn usage<'a>(alloc: Global, text: &str) -> Command<'a>
+/// What is wrong with values in which `clap` found no fault: an item that is none, a site with no start, or a feed
+/// whose options don't go together.
+fn misused<'a>(alloc: Global, name: &str, values: &Values<'_>) -> Asked<'a>
     ensures { IsUsage result }
 {
-    match String::from_str(alloc, text) {
-        Ok(text) => Command::Usage(text),
-        Err(_) => Command::NoMemory,
+    if let Some(item) = values.text("CHANGE[,SET]") {
+        return usage(no_item(alloc, item));
+    }
+    let text = match name {
+        "serve" => NO_START,
+        _ if lacks_port(values) => NO_PORT,
+        _ => TWO_ANSWERS,
+    };
+    usage(String::from_str(alloc, text))
+}
+
+/// What is wrong with an item that is none.
+fn no_item(alloc: Global, item: &str) -> Result<String, AllocError> {
+    format!(in alloc; "error: invalid value '{item}' for '<CHANGE[,SET]>': {ITEM_LIMITS}")
+}
+
+/// What is wrong with the words, in a text of our own.
+fn usage<'a>(text: Result<String, AllocError>) -> Asked<'a>
+    ensures { IsUsage result }
+{
+    match text {
+        Ok(text) => Asked::Usage(text),
+        Err(_) => Asked::NoMemory,
     }
 }

@@ -3,7 +3,7 @@ use Rattle.std.proofs.Common.{◌≡◌, ◌∙◌, ap, inl, inr, true, false, �
 use Rattle.std.specs.Prelude.{if◌then◌else◌}
 use Rattle.byte_ends.specs.declared.faults.BytesFault.{BytesFault}
 use Rattle.byte_ends.specs.declared.faults.BytesFault.TheVariants.{TooLong, ReadFault, NoMemory}
-use Rattle.command_line.specs.declared.words.Command.{Command}
+use Rattle.command_line.specs.declared.asked.Command.{Command}
 use Rattle.console.specs.Printing.{Ended}
 use Rattle.console.specs.Console.{ConsoleState, IsUnread, is_input, once_failed, once_read, one_more}
 use Rattle.commands.specs.Ending.{Ends, Finishes, IsAnswer, inputs_of}

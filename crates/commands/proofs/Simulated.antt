@@ -1,7 +1,7 @@
 -- What is printed of a script file is what its steps print under the gate that was read.
 use Rattle.std.proofs.Common.{◌≡◌, inl, inr, List, ℕ, [], ◌∷◌, Option, None, Some, Bor, Err, refl, subst, sym}
 use Rattle.std.specs.Prelude.{IsSomeAnd, option_map}
-use Rattle.command_line.specs.declared.words.Command.TheVariants.{Simulate}
+use Rattle.command_line.specs.declared.asked.Command.TheVariants.{Simulate}
 use Rattle.gate_rules.specs.Rules.{GateRules}
 use Rattle.script_text.specs.Script.{IsUnreadScript}
 use Rattle.script_text.specs.declared.fault.ScriptFault.{ScriptFault}

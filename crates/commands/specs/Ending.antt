@@ -1,17 +1,15 @@
 -- The law of all commands. A command is one row in each of two tables: its inputs, in the order in which they are read
 -- and judged, and the answer that it prints where all are had.
-use Rattle.std.specs.Prelude.{◌≡◌, ◌⊎◌, ℕ, List, [], ◌∷◌, IsErrAnd, IsErrOf, IsOk, None, Some, string_bytes}
-use Rattle.command_line.specs.declared.words.Command.{Command}
-use Rattle.command_line.specs.declared.words.Command.TheVariants.{Footers, Graph, Help, Merge, NoMemory, Ready}
-use Rattle.command_line.specs.declared.words.Command.TheVariants.{Simulate}
-use Rattle.command_line.specs.declared.words.Command.TheVariants.{Usage, Why}
+use Rattle.std.specs.Prelude.{◌⊎◌, ℕ, List, [], ◌∷◌, IsErrAnd, IsErrOf, None, Some}
+use Rattle.command_line.specs.declared.asked.Command.{Command}
+use Rattle.command_line.specs.declared.asked.Command.TheVariants.{Footers, Graph, Merge, Ready, Simulate, Why}
 use Rattle.console.specs.Printing.{Ended}
 use Rattle.commands.specs.Answers.{AreFooterLines, HasAround, HasItem, IsMerged, IsOf, IsPicture, IsReason, IsReport}
 use Rattle.commands.specs.Answers.{IsSimulated, IsWhole, Lacks}
 use Rattle.console.specs.Console.{ConsoleState, IsCutShort, IsPrinted}
 use Rattle.console.specs.Inputs.{AreHad, Input, IsFirstRefused, input}
 use Rattle.console.specs.Inputs.{gate_file, message_file, script_file, snapshot_file}
-use Rattle.console.specs.declared.refusals.Refusal.TheVariants.{Memory, Output}
+use Rattle.console.specs.declared.refusals.Refusal.TheVariants.{Output}
 
 abbrev pub inputs_of : Command → List Input
 inputs_of (Simulate script None) = input script_file script.now ∷ []
@@ -21,7 +19,6 @@ inputs_of (Merge first second) = input snapshot_file first.now ∷ input snapsho
 inputs_of (Footers gate message change) = input gate_file gate.now ∷ input message_file message.now ∷ []
 inputs_of (Why gate snapshot change set) = input gate_file gate.now ∷ input snapshot_file snapshot.now ∷ []
 inputs_of (Graph gate snapshot around) = input gate_file gate.now ∷ input snapshot_file snapshot.now ∷ []
-inputs_of command = []
 
 -- of these texts the command prints this answer, and ends so once it is printed
 abbrev pub IsAnswer : Command → List (List ℕ) → List ℕ → Ended → Type 0
@@ -34,9 +31,6 @@ IsAnswer (Why gate snapshot change set) (one ∷ other ∷ []) answer ended =
     IsWhole (IsOf one other (IsReason one change set)) (Lacks other (HasItem change set)) answer ended
 IsAnswer (Graph gate snapshot around) (one ∷ other ∷ []) answer ended =
     IsWhole (IsOf one other (IsPicture around)) (Lacks other (HasAround around)) answer ended
-IsAnswer (Help text) [] answer ended = (answer ≡ string_bytes text) × IsOk ended
-IsAnswer (Usage text) [] answer ended = (answer ≡ []) × IsOk ended
-IsAnswer NoMemory [] answer ended = (answer ≡ []) × IsErrOf ended Memory
 IsAnswer command texts answer ended = ⊥
 
 -- all of the answer was printed, and the command ends as it does; or the output failed, and a proper prefix was printed

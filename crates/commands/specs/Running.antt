@@ -1,12 +1,14 @@
 -- How a command runs, what the error output is written of it, and the status that the program ends with.
-use Rattle.std.specs.Prelude.{◌≡◌, ℕ, List, Option, Ok, Err, string_bytes}
-use Rattle.command_line.specs.declared.words.Command.{Command}
-use Rattle.command_line.specs.declared.words.Command.TheVariants.{Usage}
+use Rattle.std.specs.Prelude.{◌≡◌, ◌<◌, ℕ, List, Option, Ok, Err, length, take}
+use Rattle.std.specs.Io.KnownBytes.{Appends}
+use Rattle.byte_ends.specs.Failures.{OneFailed}
+use Rattle.command_line.specs.declared.asked.Command.{Command}
 use Rattle.console.specs.Printing.{Ended}
 use Rattle.console.specs.Console.{ConsoleState, Contents}
 use Rattle.commands.specs.Ending.{Ends}
 use Rattle.console.specs.Refusals.{refusal_line}
-use Rattle.console.specs.Showing.{ErrorOutput, Shows, ShowsLine}
+use Rattle.console.specs.Showing.{ErrorOutput, ShowsLine}
+use Rattle.console.specs.declared.refusals.Refusal.TheVariants.{Output}
 
 -- what was printed, where that is known, and how many calls of the input, the files and the output failed
 pub data Counts : Type 0 where
@@ -27,10 +29,14 @@ pub record Runs (command : Command) (left : Option (List ℕ)) (files : Contents
   pub leaves : counts_of after ≡ new
 
 -- what is written, and the status: nothing and 0 of a command that was done; its line and 1 of one that was refused,
--- or, where memory is refused for the line, the line of that; and what is wrong with the words and 2 where they ask for
--- no command
-abbrev pub Reports : ErrorOutput → ErrorOutput → Command → Ended → ℕ → Type 0
-Reports old new (Usage text) ended status = Shows (string_bytes text) old new × (status ≡ 2)
-Reports old new command (Ok done) status = (new ≡ old) × (status ≡ 0)
-Reports old new command (Err refusal) status =
-    ShowsLine (refusal_line refusal) old new × (status ≡ 1)
+-- or, where memory is refused for the line, the line of that
+abbrev pub Reports : ErrorOutput → ErrorOutput → Ended → ℕ → Type 0
+Reports old new (Ok done) status = (new ≡ old) × (status ≡ 0)
+Reports old new (Err refusal) status = ShowsLine (refusal_line refusal) old new × (status ≡ 1)
+
+-- a text was printed; or the output failed, and a proper prefix of it was
+abbrev pub PrintsText : List ℕ → Option (List ℕ) → Option (List ℕ) → ℕ → ℕ → Ended → Type 0
+PrintsText text old new failed now_failed (Ok done) = Appends old new text × (now_failed ≡ failed)
+PrintsText text old new failed now_failed (Err refusal) =
+    (refusal ≡ Output) × ((count : ℕ) × (count < length text) × Appends old new (take count text))
+    × OneFailed failed now_failed

@@ -1,7 +1,8 @@
 //! The commands but `serve`, `events` and `recover`, under one law: their inputs are read and judged one after the
 //! other, and the answer is printed whole, or a proper prefix of it where the output failed.
 //!
-//! `run_words` runs what the words of a command line ask for, over any ends and files.
+//! `run_command` runs a command over any ends and files; `print_text`, `report_usage` and `report` do what is asked for
+//! in place of one.
 #![tactic(auto)]
 
 mod footers;
@@ -12,4 +13,4 @@ mod run;
 mod simulate;
 mod why;
 
-pub use run::{report, run_words};
+pub use run::{print_text, report, report_usage, run_command};

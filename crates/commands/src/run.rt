@@ -1,12 +1,11 @@
-//! The program, over any words, readers, writers and files.
+//! Runs a command over any readers, writers and files, and prints what is asked for in place of one.
 
-ghost use Rattle.std.specs.Prelude.{map};
-ghost use Rattle.command_line.specs.Asking.{Asks};
-ghost use Rattle.command_line.specs.declared.words.Command.{Command};
+ghost use Rattle.std.specs.Prelude.{◌≡◌};
+ghost use Rattle.command_line.specs.declared.asked.Command.{Command};
 ghost use Rattle.console.specs.Printing.{Ended};
 ghost use Rattle.commands.specs.Ending.{Ends};
-ghost use Rattle.console.specs.Showing.{error_output};
-ghost use Rattle.commands.specs.Running.{Reports, Runs, counts};
+ghost use Rattle.console.specs.Showing.{Shows, error_output};
+ghost use Rattle.commands.specs.Running.{PrintsText, Reports, Runs, counts};
 
 use super::footers::footers;
 use super::graph::graph;
@@ -14,11 +13,10 @@ use super::merge::merge;
 use super::ready::ready;
 use super::simulate::simulate;
 use super::why::why;
-use byte_ends::{Drain, Source};
-use command_line::{Command, read_words};
+use byte_ends::{Drain, Source, write_all};
+use command_line::Command;
 use console::{Console, Named, Refusal, Streams, show, show_refusal};
 use std::alloc::Global;
-use std::convert::AsStr;
 
 /// The status of a command that was done.
 const DONE: u8 = 0;
@@ -26,35 +24,31 @@ const DONE: u8 = 0;
 /// The status of a refusal.
 const REFUSED: u8 = 1;
 
-/// The status of a usage fault.
+/// The status of a usage error.
 const MISUSED: u8 = 2;
 
-/// Runs the command that `words`, the arguments after the program's name, ask for. The file name `-` reads `input`. The
-/// answer is the exit status: 0 for success and for help, 1 for a refusal, of which one line is written to `errors`, 2
-/// for words that ask for no command, of which what `clap` says is written there. What the error output can't take is
-/// lost.
-pub fn run_words<S: AsStr, I: Source, O: Drain, E: Drain, N: Named>(
+/// Runs a command. The file name `-` reads `input`. The answer is the exit status: 0 for success, 1 for a refusal, of
+/// which one line is written to `errors`. What the error output can't take is lost.
+pub fn run_command<I: Source, O: Drain, E: Drain, N: Named>(
     alloc: Global,
-    words: &[S],
+    command: &Command<'_>,
     input: &mut I,
     output: &mut O,
     errors: &mut E,
     files: &mut N,
 ) -> u8
-    ensures { (command : Command) × Asks (map S.text words.now) command × (ended : Ended)
-        × Runs command (I.left input.old) (N.files files.old)
+    ensures { (ended : Ended) × Runs command.now (I.left input.old) (N.files files.old)
         (counts (O.taken output.old) (I.failed input.old) (N.failed files.old) (O.failed output.old))
         (counts (O.taken output.new) (I.failed input.new) (N.failed files.new) (O.failed output.new)) ended
         × Reports (error_output (E.taken errors.old) (E.failed errors.old))
-        (error_output (E.taken errors.new) (E.failed errors.new)) command ended result }
+        (error_output (E.taken errors.new) (E.failed errors.new)) ended result }
 {
-    let command = read_words(alloc, words);
-    let ended = run_command(alloc, &command, input, output, files);
-    report(alloc, &command, &ended, errors)
+    let ended = run_over(alloc, command, input, output, files);
+    report(alloc, &ended, errors)
 }
 
-/// Runs a command.
-fn run_command<I: Source, O: Drain, N: Named>(
+/// Runs a command over a console of these ends.
+fn run_over<I: Source, O: Drain, N: Named>(
     alloc: Global,
     command: &Command<'_>,
     input: &mut I,
@@ -102,27 +96,53 @@ fn do_command<C: Console>(
             snapshot,
             around,
         } => graph(alloc, gate, snapshot, *around, console),
-        Command::Help(text) => console.print(text.as_bytes()),
-        Command::Usage(_) => Ok(()),
-        Command::NoMemory => Err(Refusal::Memory),
     }
+}
+
+/// Prints a text, as help and the version are. The answer is the exit status: 0, or 1 where the output failed, of which
+/// one line is written to `errors`. What the error output can't take is lost.
+pub fn print_text<O: Drain, E: Drain>(
+    alloc: Global,
+    text: &str,
+    output: &mut O,
+    errors: &mut E,
+) -> u8
+    ensures { (ended : Ended) × PrintsText text.now (O.taken output.old) (O.taken output.new) (O.failed output.old)
+        (O.failed output.new) ended × Reports (error_output (E.taken errors.old) (E.failed errors.old))
+        (error_output (E.taken errors.new) (E.failed errors.new)) ended result }
+{
+    let ended = written(text, output);
+    report(alloc, &ended, errors)
+}
+
+/// Writes a text to the output.
+fn written<O: Drain>(text: &str, output: &mut O) -> Result<(), Refusal>
+    ensures { PrintsText text.now (O.taken output.old) (O.taken output.new) (O.failed output.old)
+        (O.failed output.new) result }
+{
+    match write_all(output, text.as_bytes()) {
+        Ok(()) => Ok(()),
+        Err(_) => Err(Refusal::Output),
+    }
+}
+
+/// Writes to the error output what is wrong with the words, and answers the status of that, 2. What the error output
+/// can't take is lost.
+pub fn report_usage<E: Drain>(text: &str, errors: &mut E) -> u8
+    ensures shown { Shows text.now (error_output (E.taken errors.old) (E.failed errors.old))
+        (error_output (E.taken errors.new) (E.failed errors.new)) }
+    ensures status { result ≡ 2 }
+{
+    show(text.as_bytes(), errors);
+    MISUSED
 }
 
 /// Writes to the error output why a command wasn't done, and answers the status. What the error output can't take is
 /// lost.
-pub fn report<E: Drain>(
-    alloc: Global,
-    command: &Command<'_>,
-    ended: &Result<(), Refusal>,
-    errors: &mut E,
-) -> u8
+pub fn report<E: Drain>(alloc: Global, ended: &Result<(), Refusal>, errors: &mut E) -> u8
     ensures { Reports (error_output (E.taken errors.old) (E.failed errors.old))
-        (error_output (E.taken errors.new) (E.failed errors.new)) command.now ended.now result }
+        (error_output (E.taken errors.new) (E.failed errors.new)) ended.now result }
 {
-    if let Command::Usage(text) = command {
-        show(text.as_bytes(), errors);
-        return MISUSED;
-    }
     match ended {
         Ok(()) => DONE,
         Err(refusal) => {

@@ -1,8 +1,3 @@
-use Rattle.std.proofs.Common.{inl, inr, refl, []}
-use Rattle.command_line.specs.declared.words.Command.TheVariants.{Footers, Help, Merge, NoMemory, Ready, Simulate}
-use Rattle.command_line.specs.declared.words.Command.TheVariants.{Usage, Why}
-use Rattle.commands.specs.Ending.{IsAnswer}
-use Rattle.commands.proofs.HowItEnds.{finishes, nothing_printed}
 use Rattle.commands.proofs.run.do_command.Goals as goal
 
 pub returns-in-Simulate : goal.returns-in-Simulate
@@ -22,21 +17,3 @@ returns-in-Why g c = rw c.in-Why.is c.why.ensures
 
 pub returns-in-Graph : goal.returns-in-Graph
 returns-in-Graph g c = rw c.in-Graph.is c.graph.ensures
-
-pub returns-in-Help : goal.returns-in-Help
-returns-in-Help g c =
-    rw c.in-Help.is (inr (
-      [],
-      g.C.Console.state c.args.console.now,
-      refl,
-      finishes (IsAnswer (Help c.in-Help.text) []) c.as_bytes.result.now _ _ c.print.result
-          (c.as_bytes.ensures.value, refl) c.print.ensures,
-    ))
-
-pub returns-in-Usage : goal.returns-in-Usage
-returns-in-Usage g c =
-    rw c.in-Usage.is (inr ([], g.C.Console.state c.args.console.now, refl, inl ([], (refl, refl), nothing_printed (g.C.Console.state c.args.console.now))))
-
-pub returns-in-NoMemory : goal.returns-in-NoMemory
-returns-in-NoMemory g c =
-    rw c.in-NoMemory.is (inr ([], g.C.Console.state c.args.console.now, refl, inl ([], (refl, refl), nothing_printed (g.C.Console.state c.args.console.now))))

@@ -1,0 +1,103 @@
+-- When the values of arguments say no number, no item and no command.
+use Rattle.std.proofs.Common.{◌≡◌, ◌∙◌, ◌<◌, ℕ, List, [], ◌∷◌, map, length, get_or, Option, None, Some, Bool, true, false}
+use Rattle.std.proofs.Common.{not, Bor, option_map, is_some, sym, ap, subst, arith, codes}
+use Rattle.std.specs.Prelude.{MatchBool}
+use Rattle.std.specs.List.{AllZip, position_or_len, before_first, after_first}
+use Rattle.std.proofs.lemmas.Option.{slice_get-get_or}
+use Rattle.lattice_core.specs.ZipLaws.{AllZip-at}
+use Rattle.command_tree.specs.Matching.{Row, Text, first_of}
+use Rattle.command_line.specs.declared.asked.Asked.{Asked}
+use Rattle.command_line.specs.declared.asked.Asked.TheVariants.{Events, Run, Serve}
+use Rattle.command_line.specs.declared.asked.Command.TheVariants.{Footers, Graph, Why}
+use Rattle.command_line.specs.declared.asked.EventWords.{EventWords}
+use Rattle.command_line.specs.declared.asked.ServeWords.{ServeWords}
+use Rattle.command_line.specs.Asking.{AreFeedOptions, AreOptions, HasStart, Says, events, footers, graph, serve, why}
+use Rattle.command_line.specs.Values.{Finds, Gives, GivesAny, GivesItem, GivesNumber, NamesItem, Writes, is_comma}
+
+same_text : (rows : List Row) (argument text other : Text) → Gives rows argument text → Gives rows argument other
+    → text ≡ other
+same_text rows argument text other p q = cc
+
+-- ---- numbers
+
+pub any_unread : (rows : List Row) (option : Text) (least most : ℕ) (text : Option (Bor Text)) (absent : Bool)
+    → first_of option rows ≡ option_map (λ t. t.now) text → is_some text ≡ not absent → absent ≡ false
+    → ((number : ℕ) → ¬ GivesNumber rows option least most number) → (given : Option ℕ)
+    → ¬ GivesAny rows option least most given
+any_unread rows option least most text absent is there present none (Some number) gives = none number gives
+any_unread rows option least most None absent is there present none None gives =
+    let bad : false ≡ true = there ∙ ap not present in cc
+any_unread rows option least most (Some text) absent is there present none None gives =
+    let bad : None ≡ Some text.now = sym gives ∙ is in cc
+
+-- ---- lists of which one is mapped
+
+pub zip_over : {X Y Z : Type 0} (f : X → Y) (R : Y → Z → Type 0) (xs : List X) (zs : List Z)
+    → AllZip (λ x z. R (f x) z) xs zs → AllZip R (map f xs) zs
+zip_over f R [] [] all = tt
+zip_over f R [] (z ∷ zs) all = absurd all
+zip_over f R (x ∷ xs) [] all = absurd all
+zip_over f R (x ∷ xs) (z ∷ zs) all = (all.0, zip_over f R xs zs all.1)
+
+zip_under : {X Y Z : Type 0} (f : X → Y) (R : Y → Z → Type 0) (xs : List X) (zs : List Z)
+    → AllZip R (map f xs) zs → AllZip (λ x z. R (f x) z) xs zs
+zip_under f R [] [] all = tt
+zip_under f R [] (z ∷ zs) all = absurd all
+zip_under f R (x ∷ xs) [] all = absurd all
+zip_under f R (x ∷ xs) (z ∷ zs) all = (all.0, zip_under f R xs zs all.1)
+
+pub none_unwritten : (least most : ℕ) (texts : List (Bor Text)) (index : ℕ) (d : Bor Text) → index < length texts
+    → ((number : ℕ) → ¬ Writes least most (get_or texts index d).now number) → (numbers : List ℕ)
+    → ¬ AllZip (Writes least most) (map (λ text. text.now) texts) numbers
+none_unwritten least most texts index d within none numbers all =
+    let under = zip_under (λ text. text.now) (Writes least most) texts numbers all in
+    let at = AllZip-at (λ text number. Writes least most text.now number) texts numbers under index (get_or texts index d) (slice_get-get_or texts index d within) in
+    none at.0 at.2
+
+-- ---- items
+
+pub no_item_before : (text : Text) → position_or_len is_comma text < length text
+    → ((number : ℕ) → ¬ Writes 0 4294967295 (before_first is_comma text) number) → (item : ℕ × Option ℕ)
+    → ¬ NamesItem text item.0 item.1
+no_item_before text has none (change, None) names = let lacks = names.0 in omega (arith, has, lacks)
+no_item_before text has none (change, Some set) names = none change names.1
+
+pub no_item_after : (text : Text) → position_or_len is_comma text < length text
+    → ((number : ℕ) → ¬ Writes 0 4294967295 (after_first is_comma text) number) → (item : ℕ × Option ℕ)
+    → ¬ NamesItem text item.0 item.1
+no_item_after text has none (change, None) names = let lacks = names.0 in omega (arith, has, lacks)
+no_item_after text has none (change, Some set) names = none set names.2
+
+pub item_found : (rows : List Row) (text : Text) (result : Option (ℕ × Option ℕ))
+    → Gives rows (codes "CHANGE[,SET]") text → Finds (λ item. NamesItem text item.0 item.1) result
+    → Finds (λ item. GivesItem rows item.0 item.1) result
+item_found rows text (Some item) given names = (text, given, names)
+item_found rows text None given none = λ item gives.
+    none item (subst (λ t. NamesItem t item.0 item.1) (same_text rows (codes "CHANGE[,SET]") gives.0 text gives.1 given) gives.2)
+
+-- ---- commands
+
+pub no_why : (rows : List Row) → ((item : ℕ × Option ℕ) → ¬ GivesItem rows item.0 item.1) → (asked : Asked)
+    → ¬ Says why rows asked
+no_why rows none (Run (Why gate snapshot change set)) says = none (change, set) says.2
+no_why rows none asked says = says
+
+pub no_graph : (rows : List Row) → ((around : Option ℕ) → ¬ GivesAny rows (codes "around") 0 4294967295 around)
+    → (asked : Asked) → ¬ Says graph rows asked
+no_graph rows none (Run (Graph gate snapshot around)) says = none around says.2
+no_graph rows none asked says = says
+
+pub no_footers : (rows : List Row) → ((change : ℕ) → ¬ GivesNumber rows (codes "change") 0 4294967295 change)
+    → (asked : Asked) → ¬ Says footers rows asked
+no_footers rows none (Run (Footers gate message change)) says = none change says.2
+no_footers rows none asked says = says
+
+pub no_serve : (rows : List Row) → ((words : ServeWords) → ¬ AreOptions rows words) → (asked : Asked)
+    → ¬ Says serve rows asked
+no_serve rows none (Serve words) says = none words says.0
+no_serve rows none asked says = says
+
+pub no_events : (rows : List Row) → ((words : EventWords) → ¬ AreFeedOptions rows words) → (asked : Asked)
+    → ¬ Says events rows asked
+no_events rows none (Events words) says = none words says.0
+no_events rows none asked says = says

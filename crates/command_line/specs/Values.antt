@@ -1,0 +1,53 @@
+-- What the values of a command's arguments say, over the rows that clap matched.
+use Rattle.std.specs.Prelude.{◌≡◌, ◌≤◌, ◌<◌, ◌==◌, ℕ, Bool, List, [], Option, None, Some, codes, length}
+use Rattle.std.specs.Prelude.{unwrap_or}
+use Rattle.std.specs.List.{AllZip, position_or_len, before_first, after_first}
+use Rattle.std.specs.Str.Parse.{IsNumeral, digits_value, without_leading_plus}
+use Rattle.command_tree.specs.Matching.{Row, all_of, first_of}
+
+-- an answer that is so, or none where nothing is
+abbrev pub Finds : {X : Type 0} → (X → Type 0) → Option X → Type 0
+Finds {X} IsSo None = (other : X) → ¬ IsSo other
+Finds IsSo (Some answer) = IsSo answer
+
+-- the argument has this value
+abbrev pub Gives : List Row → List ℕ → List ℕ → Type 0
+Gives rows argument value = first_of argument rows ≡ Some value
+
+-- the text writes the number in decimal, which is from the least to the greatest
+abbrev pub Writes : ℕ → ℕ → List ℕ → ℕ → Type 0
+Writes least most text number =
+    IsNumeral 10 (without_leading_plus text) × (number ≡ digits_value 10 (without_leading_plus text))
+    × (least ≤ number) × (number ≤ most)
+
+-- the argument's value is this number
+abbrev pub GivesNumber : List Row → List ℕ → ℕ → ℕ → ℕ → Type 0
+GivesNumber rows argument least most number =
+    (text : List ℕ) × Gives rows argument text × Writes least most text number
+
+-- the same of an option that may be left out
+abbrev pub GivesAny : List Row → List ℕ → ℕ → ℕ → Option ℕ → Type 0
+GivesAny rows option least most None = first_of option rows ≡ None
+GivesAny rows option least most (Some number) = GivesNumber rows option least most number
+
+-- the argument's values are these numbers, one after the other
+abbrev pub GivesNumbers : List Row → List ℕ → ℕ → ℕ → List ℕ → Type 0
+GivesNumbers rows argument least most = AllZip (Writes least most) (unwrap_or (all_of argument rows) [])
+
+-- the argument's values are these texts, one after the other
+abbrev pub GivesTexts : List Row → List ℕ → List (List ℕ) → Type 0
+GivesTexts rows argument texts = texts ≡ unwrap_or (all_of argument rows) []
+
+-- a text names an item: the number of a change; or that, a comma and the number of a patch set
+abbrev pub is_comma : ℕ → Bool
+is_comma byte = byte == 44
+
+abbrev pub NamesItem : List ℕ → ℕ → Option ℕ → Type 0
+NamesItem text change None = (position_or_len is_comma text ≡ length text) × Writes 0 4294967295 text change
+NamesItem text change (Some set) =
+    (position_or_len is_comma text < length text) × Writes 0 4294967295 (before_first is_comma text) change
+    × Writes 0 4294967295 (after_first is_comma text) set
+
+-- the argument names this item
+abbrev pub GivesItem : List Row → ℕ → Option ℕ → Type 0
+GivesItem rows change set = (text : List ℕ) × Gives rows (codes "CHANGE[,SET]") text × NamesItem text change set

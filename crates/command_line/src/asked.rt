@@ -1,0 +1,120 @@
+//! What the words of a command line may ask for.
+
+/// What the words of a command line ask for.
+#[derive(Drop)]
+pub enum Asked<'a> {
+    /// To run a command over files.
+    Run(Command<'a>),
+    /// To run a site.
+    Serve(ServeWords<'a>),
+    /// To recover the journal of this name.
+    Recover(&'a str),
+    /// To feed what Gerrit writes.
+    Events(EventWords<'a>),
+    /// The help text, for the output.
+    Help(String),
+    /// The program's name and version, for the output.
+    Version(String),
+    /// What is wrong with the words, for the error output.
+    Usage(String),
+    /// Memory was refused while the words were read.
+    NoMemory,
+}
+
+/// A command over files, which it reads before it prints its answer.
+#[derive(Drop)]
+pub enum Command<'a> {
+    /// To print the report of a snapshot under a gate file.
+    Ready {
+        gate: &'a str,
+        snapshot: &'a str,
+    },
+    /// To print why an item of a snapshot waits under a gate file: the patch set `set` of the change, or its current
+    /// one.
+    Why {
+        gate: &'a str,
+        snapshot: &'a str,
+        change: u32,
+        set: Option<u32>,
+    },
+    /// To draw the items of a snapshot with what they wait for under a gate file: all of them, or those around a
+    /// change.
+    Graph {
+        gate: &'a str,
+        snapshot: &'a str,
+        around: Option<u32>,
+    },
+    /// To print the snapshot of the two of these names together.
+    Merge {
+        first: &'a str,
+        second: &'a str,
+    },
+    /// To print what the footers of a message ask for under a gate file's bases; `change` is the message's own, or 0.
+    Footers {
+        gate: &'a str,
+        message: &'a str,
+        change: u32,
+    },
+    /// To play the script of this name, with reports under a gate file where one is named.
+    Simulate {
+        script: &'a str,
+        gate: Option<&'a str>,
+    },
+}
+
+/// What a site is run with.
+#[derive(Drop)]
+pub struct ServeWords<'a> {
+    /// The gate file's name.
+    pub gate: &'a str,
+    /// The ports of the peers.
+    pub peers: Vec<u16>,
+    /// The site's number.
+    pub site: u16,
+    /// The start of what it takes in; none is only where a journal is named.
+    pub start: Option<u32>,
+    /// The port that it listens at; 0 for one that is free.
+    pub port: u16,
+    /// How many sessions it answers side by side, from 1 to 6.
+    pub workers: usize,
+    /// How many milliseconds pass between two rounds of pulls, from 1 to 600,000.
+    pub pause_ms: u64,
+    /// After how many sessions it ends; 0 is without end.
+    pub sessions: u64,
+    /// How many milliseconds a session may be silent; 0 is without end.
+    pub idle_ms: u64,
+    /// Whether it ends with the standard input.
+    pub until_input_ends: bool,
+    /// The name of the snapshot to begin with.
+    pub load: Option<&'a str>,
+    /// The name of the snapshot that is written at the end.
+    pub save: Option<&'a str>,
+    /// The name of the journal.
+    pub journal: Option<&'a str>,
+}
+
+/// What Gerrit's lines are.
+#[derive(Clone, Copy, Debug, PartialEq, Eq)]
+pub enum Answer {
+    /// The stream of events, or rows of queries among it: no answer that has to be whole.
+    Stream,
+    /// The answer of a query.
+    Query,
+    /// The answer of a query that has every open change.
+    Complete,
+}
+
+/// What a feed is run with.
+#[derive(Drop)]
+pub struct EventWords<'a> {
+    /// The port of the site that is fed; without one the lines of a session are printed.
+    pub to: Option<u16>,
+    /// What the lines are; `Complete` is only where a port is named.
+    pub answer: Answer,
+    /// The names of the projects whose changes alone are fed; with none here and in the file, those of all.
+    pub projects: Vec<String>,
+    /// The name of a file of such names.
+    pub projects_file: Option<&'a str>,
+    /// The name of the gate file by which unknown changes are asked for; only where a port is named.
+    pub gate: Option<&'a str>,
+}

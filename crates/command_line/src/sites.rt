@@ -1,0 +1,57 @@
+//! What the arguments of `serve` say.
+
+ghost use Rattle.std.specs.Prelude.{◌≡◌, IfNone, IfOk, IfSome, MatchBool};
+ghost use Rattle.command_tree.specs.Rows.{rows_in};
+ghost use Rattle.command_line.specs.Asking.{AreOptions, HasStart, Says, serve};
+ghost use Rattle.command_line.specs.Values.{Finds};
+ghost use Rattle.command_line.specs.declared.asked.ServeWords.{ServeWords};
+
+use super::asked::{Asked, ServeWords};
+use super::numbers::{any_long_in, number_in, short_in, shorts_in};
+use command_tree::{IDLE, PAUSE, PEER, PORT, SESSIONS, SITE, START, Values, WORKERS};
+use std::alloc::{AllocError, Global};
+
+/// `serve GATE [PEER].. --site N [option]..`
+pub fn serve_in<'a>(alloc: Global, values: &Values<'a>) -> Result<Option<Asked<'a>>, AllocError>
+    ensures { IfOk result (Finds (Says serve (rows_in values.now))) }
+{
+    let Some(peers) = shorts_in(alloc, values, PEER)? else {
+        return Ok(None);
+    };
+    if lacks_start(values) {
+        return Ok(None);
+    }
+    match serving_in(values, peers) {
+        Some(words) => Ok(Some(Asked::Serve(words))),
+        None => Ok(None),
+    }
+}
+
+/// What a site with these peers is run with.
+fn serving_in<'a>(values: &Values<'a>, peers: Vec<u16>) -> Option<ServeWords<'a>>
+    ensures some { IfSome result (λ words. AreOptions (rows_in values.now) words × (words.peers ≡ peers)) }
+    ensures none { IfNone result ((words : ServeWords) → ¬ AreOptions (rows_in values.now) words) }
+{
+    Some(ServeWords {
+        gate: values.text("GATE")?,
+        peers,
+        site: short_in(values, SITE)?,
+        start: any_long_in(values, START)?,
+        port: short_in(values, PORT)?,
+        workers: number_in(values, WORKERS)? as usize,
+        pause_ms: number_in(values, PAUSE)?,
+        sessions: number_in(values, SESSIONS)?,
+        idle_ms: number_in(values, IDLE)?,
+        until_input_ends: values.flag("until-input-ends"),
+        load: values.text("load"),
+        save: values.text("save"),
+        journal: values.text("journal"),
+    })
+}
+
+/// Whether neither a start nor a journal is named.
+pub fn lacks_start(values: &Values<'_>) -> bool
+    ensures { MatchBool result (¬ HasStart (rows_in values.now)) (HasStart (rows_in values.now)) }
+{
+    values.text("start").is_none() && values.text("journal").is_none()
+}

@@ -1,0 +1,3 @@
+pub mod Building
+pub mod Getting
+pub mod Refusing

@@ -1,0 +1,113 @@
+-- The program's commands and their arguments, as clap's builders make them (docs.rs/clap). They are the project's own.
+use Rattle.std.specs.Prelude.{◌≡◌, true, false, codes}
+use Rattle.clap.specs.Words.{App, app_of, new_app, new_rule, with_rule, with_subcommand}
+use Rattle.clap.specs.declared.builder.command.Command.{Command}
+use Rattle.clap.specs.declared.builder.command.Command.TheViews.{out-Command}
+use Rattle.command_tree.specs.Rules.{flag_rule, needed, needed_number, number_rule, number_with, numbers_rule}
+use Rattle.command_tree.specs.Rules.{option_rule, several_rule}
+
+-- `ready GATE SNAPSHOT`
+abbrev pub ready_app : App
+ready_app = with_rule (with_rule (new_app (codes "ready")) (needed (codes "GATE"))) (needed (codes "SNAPSHOT"))
+
+-- `why GATE SNAPSHOT CHANGE[,SET]`
+abbrev pub why_app : App
+why_app =
+    with_rule (with_rule (with_rule (new_app (codes "why")) (needed (codes "GATE"))) (needed (codes "SNAPSHOT")))
+    (needed (codes "CHANGE[,SET]"))
+
+-- `graph GATE SNAPSHOT [--around CHANGE]`
+abbrev pub graph_app : App
+graph_app =
+    with_rule (with_rule (with_rule (new_app (codes "graph")) (needed (codes "GATE"))) (needed (codes "SNAPSHOT")))
+    (number_rule (codes "around") 0 4294967295)
+
+-- `merge FIRST SECOND`
+abbrev pub merge_app : App
+merge_app = with_rule (with_rule (new_app (codes "merge")) (needed (codes "FIRST"))) (needed (codes "SECOND"))
+
+-- `footers GATE FILE [--change N]`
+abbrev pub footers_app : App
+footers_app =
+    with_rule (with_rule (with_rule (new_app (codes "footers")) (needed (codes "GATE"))) (needed (codes "FILE")))
+    (number_with (codes "change") (codes "0") 0 4294967295)
+
+-- `simulate SCRIPT [GATE]`
+abbrev pub simulate_app : App
+simulate_app = with_rule (with_rule (new_app (codes "simulate")) (needed (codes "SCRIPT"))) (new_rule (codes "GATE"))
+
+-- ---- `serve GATE [PEER].. --site N [option]..`
+
+abbrev pub peered_app : App
+peered_app =
+    with_rule (with_rule (new_app (codes "serve")) (needed (codes "GATE"))) (numbers_rule (codes "PEER") 1 65535)
+
+-- with what the site is, and where it is reached
+abbrev pub placed_app : App
+placed_app =
+    with_rule
+    (with_rule (with_rule peered_app (needed_number (codes "site") 1 65535)) (number_rule (codes "start") 1 4294967295))
+    (number_with (codes "port") (codes "0") 0 65535)
+
+-- with how it works
+abbrev pub paced_app : App
+paced_app =
+    with_rule
+    (with_rule (with_rule placed_app (number_with (codes "workers") (codes "2") 1 6))
+    (number_with (codes "pause") (codes "1000") 1 600000))
+    (number_with (codes "sessions") (codes "0") 0 18446744073709551615)
+
+-- with what ends its sessions and itself
+abbrev pub ending_app : App
+ending_app =
+    with_rule (with_rule paced_app (number_with (codes "idle") (codes "0") 0 18446744073709551615))
+    (flag_rule (codes "until-input-ends"))
+
+-- with the files that keep its record
+abbrev pub serve_app : App
+serve_app =
+    with_rule (with_rule (with_rule ending_app (option_rule (codes "load"))) (option_rule (codes "save")))
+    (option_rule (codes "journal"))
+
+-- ---- the others, and the program
+
+-- `recover JOURNAL`
+abbrev pub recover_app : App
+recover_app = with_rule (new_app (codes "recover")) (needed (codes "JOURNAL"))
+
+-- `events [--to PORT] [--query | --complete] ..`: where Gerrit's lines go to, and what they are
+abbrev pub feeding_app : App
+feeding_app =
+    with_rule
+    (with_rule (with_rule (new_app (codes "events")) (number_rule (codes "to") 1 65535)) (flag_rule (codes "query")))
+    (flag_rule (codes "complete"))
+
+-- with whose changes are fed, and the gate
+abbrev pub events_app : App
+events_app =
+    with_rule
+    (with_rule (with_rule feeding_app (several_rule (codes "project"))) (option_rule (codes "projects")))
+    (option_rule (codes "gate"))
+
+-- the program, before it has its commands: its name isn't among the words, it has a version, and a command has to be
+abbrev pub bare_app : App
+bare_app = let app = new_app (codes "reviewgate") in
+    record app { top = record app.top { no_binary_name = true; has_version = true; subcommand_required = true } }
+
+-- the program with the commands that judge a snapshot
+abbrev pub judging_app : App
+judging_app = with_subcommand (with_subcommand (with_subcommand bare_app ready_app.top) why_app.top) graph_app.top
+
+-- with those that read other files
+abbrev pub reading_app : App
+reading_app =
+    with_subcommand (with_subcommand (with_subcommand judging_app merge_app.top) footers_app.top) simulate_app.top
+
+-- the program
+abbrev pub program : App
+program =
+    with_subcommand (with_subcommand (with_subcommand reading_app serve_app.top) recover_app.top) events_app.top
+
+-- a command that clap reads so, with no argument that its subcommands take
+abbrev pub IsApp : App → Command → Type 0
+IsApp app command = (app_of command ≡ app) × ((out-Command command).has_globals ≡ false)

@@ -1,0 +1,5 @@
+pub mod Rules
+pub mod Commands
+pub mod Matching
+pub mod Rows
+pub mod Parsing

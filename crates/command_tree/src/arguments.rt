@@ -1,0 +1,158 @@
+//! The kinds of arguments that commands have.
+
+ghost use Rattle.std.specs.Prelude.{◌≡◌};
+ghost use Rattle.command_tree.specs.Rules.{IsRule, flag_rule, needed, number_rule, number_with};
+ghost use Rattle.command_tree.specs.Rules.{numbers_rule, option_rule, several_rule};
+
+use clap::builder::ValueParser;
+use clap::{Arg, ArgAction};
+use std::alloc::Global;
+
+/// A number among the arguments: its name, and its least and greatest value.
+#[derive(Clone, Copy)]
+pub struct Number {
+    pub name: &'static str,
+    pub least: u64,
+    pub most: u64,
+}
+
+/// The number of a site.
+pub const SITE: Number = Number {
+    name: "site",
+    least: 1,
+    most: 65_535,
+};
+
+/// The start of what a site takes in.
+pub const START: Number = Number {
+    name: "start",
+    least: 1,
+    most: 4_294_967_295,
+};
+
+/// The port that a site listens at.
+pub const PORT: Number = Number {
+    name: "port",
+    least: 0,
+    most: 65_535,
+};
+
+/// The port of a peer.
+pub const PEER: Number = Number {
+    name: "PEER",
+    least: 1,
+    most: 65_535,
+};
+
+/// How many sessions a site answers side by side.
+pub const WORKERS: Number = Number {
+    name: "workers",
+    least: 1,
+    most: 6,
+};
+
+/// How many milliseconds pass between two rounds of pulls.
+pub const PAUSE: Number = Number {
+    name: "pause",
+    least: 1,
+    most: 600_000,
+};
+
+/// After how many sessions a site ends.
+pub const SESSIONS: Number = Number {
+    name: "sessions",
+    least: 0,
+    most: u64::MAX,
+};
+
+/// How many milliseconds a session may be silent.
+pub const IDLE: Number = Number {
+    name: "idle",
+    least: 0,
+    most: u64::MAX,
+};
+
+/// The port of the site that is fed.
+pub const TO: Number = Number {
+    name: "to",
+    least: 1,
+    most: 65_535,
+};
+
+/// The change that a message is of.
+pub const CHANGE: Number = Number {
+    name: "change",
+    least: 0,
+    most: 4_294_967_295,
+};
+
+/// The change around which items are drawn.
+pub const AROUND: Number = Number {
+    name: "around",
+    least: 0,
+    most: 4_294_967_295,
+};
+
+/// An argument without a dash that has to be there.
+pub fn file<'a>(alloc: Global, name: &'a str, help: &'a str) -> Arg<'a>
+    ensures { IsRule (needed name.entry.now) result }
+{
+    Arg::new(alloc, name).required(true).help(help)
+}
+
+/// An option with a value.
+pub fn option<'a>(alloc: Global, name: &'a str, value: &'a str, help: &'a str) -> Arg<'a>
+    ensures { IsRule (option_rule name.entry.now) result }
+{
+    Arg::new(alloc, name)
+        .long(name)
+        .value_name(value)
+        .help(help)
+}
+
+/// An option that may be there more than once, each time with a value.
+pub fn several<'a>(alloc: Global, name: &'a str, value: &'a str, help: &'a str) -> Arg<'a>
+    ensures { IsRule (several_rule name.entry.now) result }
+{
+    option(alloc, name, value, help).action(ArgAction::Append)
+}
+
+/// An option without a value.
+pub fn flag<'a>(alloc: Global, name: &'a str, help: &'a str) -> Arg<'a>
+    ensures { IsRule (flag_rule name.entry.now) result }
+{
+    Arg::new(alloc, name)
+        .long(name)
+        .action(ArgAction::SetTrue)
+        .help(help)
+}
+
+/// An option with a number.
+pub fn number_option<'a>(alloc: Global, number: Number, value: &'a str, help: &'a str) -> Arg<'a>
+    ensures { IsRule (number_rule number.name.now number.least number.most) result }
+{
+    let limits = ValueParser::unsigned(number.least, number.most);
+    option(alloc, number.name, value, help).value_parser(limits)
+}
+
+/// An option with a number that is `default` where the option is left out.
+pub fn default_option<'a>(
+    alloc: Global,
+    number: Number,
+    default: &'a str,
+    value: &'a str,
+    help: &'a str,
+) -> Arg<'a>
+    ensures { IsRule (number_with number.name.now default.entry.now number.least number.most) result }
+{
+    number_option(alloc, number, value, help).default_value(default)
+}
+
+/// An argument without a dash that is as many numbers as there are.
+pub fn numbers<'a>(alloc: Global, number: Number, help: &'a str) -> Arg<'a>
+    ensures { IsRule (numbers_rule number.name.now number.least number.most) result }
+{
+    let limits = ValueParser::unsigned(number.least, number.most);
+    let several = Arg::new(alloc, number.name).action(ArgAction::Append);
+    several.help(help).value_parser(limits)
+}

@@ -1,0 +1,61 @@
+//! The arguments of `events`.
+
+ghost use Rattle.std.specs.Prelude.{IfOk};
+ghost use Rattle.command_tree.specs.Commands.{IsApp, events_app, feeding_app};
+
+use super::arguments::{TO, flag, number_option, option, several};
+use clap::Command;
+use std::alloc::{AllocError, Global};
+
+/// `events [--to PORT] [--query | --complete] [--project NAME].. [--projects FILE] [--gate GATE]`
+pub fn events_command<'a>(alloc: Global) -> Result<Command<'a>, AllocError>
+    ensures { IfOk result (IsApp events_app) }
+{
+    let project = several(
+        alloc,
+        "project",
+        "NAME",
+        "Feeds the changes of this project alone, and of those that are named beside it",
+    );
+    let projects = option(
+        alloc,
+        "projects",
+        "FILE",
+        "The file of such names, one a line, or - for standard input; # begins a remark",
+    );
+    let gate = option(
+        alloc,
+        "gate",
+        "GATE",
+        "The gate file whose bases say which changes a Depends-On names, so that unknown ones are asked for",
+    );
+    let feeding = feeding_command(alloc)?;
+    feeding.arg(project)?.arg(projects)?.arg(gate)
+}
+
+/// The command with where Gerrit's lines go to, and what they are.
+fn feeding_command<'a>(alloc: Global) -> Result<Command<'a>, AllocError>
+    ensures { IfOk result (IsApp feeding_app) }
+{
+    let to = number_option(
+        alloc,
+        TO,
+        "PORT",
+        "The port on 127.0.0.1 of the site that is fed; without it the lines of a session are printed",
+    );
+    let query = flag(
+        alloc,
+        "query",
+        "The input is the answer of a query, and has to be whole",
+    );
+    let complete = flag(
+        alloc,
+        "complete",
+        "The same, and the answer has every open change: those that it lacks are abandoned",
+    );
+    Command::new(alloc, "events")
+        .about("Feeds what Gerrit writes to a session of a site")
+        .arg(to)?
+        .arg(query)?
+        .arg(complete)
+}

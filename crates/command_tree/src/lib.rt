@@ -1,0 +1,27 @@
+//! The program's commands and their arguments, and what `clap` makes of the words of a command line. Nothing else of
+//! the program names `clap`.
+//!
+//! An example of its use:
+//!
+//! ```
+//! let words = ["ready", "gate.json", "record.snapshot"];
+//! let Parsed::Command(name, values) = parse(alloc, &words) else {
+//!     return Err("a command");
+//! };
+//! assert_eq!(rt; name, "ready");
+//! assert_eq!(rt; values.text("GATE"), Some("gate.json"));
+//! ```
+#![tactic(auto)]
+
+mod arguments;
+mod feed_options;
+mod parsing;
+mod program;
+mod site_options;
+mod values;
+
+pub use arguments::{
+    AROUND, CHANGE, IDLE, Number, PAUSE, PEER, PORT, SESSIONS, SITE, START, TO, WORKERS,
+};
+pub use parsing::{Parsed, parse};
+pub use values::Values;

@@ -1,0 +1,182 @@
+//! The program's commands and their arguments.
+
+ghost use Rattle.std.specs.Prelude.{IfOk};
+ghost use Rattle.command_tree.specs.Commands.{IsApp, bare_app, events_app, footers_app, graph_app, judging_app};
+ghost use Rattle.command_tree.specs.Commands.{merge_app, program, reading_app, ready_app, recover_app, simulate_app};
+ghost use Rattle.command_tree.specs.Commands.{why_app};
+
+use super::arguments::{AROUND, CHANGE, default_option, file, number_option};
+use super::feed_options::events_command;
+use super::site_options::serve_command;
+use clap::{Arg, Command};
+use std::alloc::{AllocError, Global};
+
+/// The program's version, and the identity of the toolchain that proves and builds it, as `rt version` prints it.
+const VERSION: &str = "0.1.0 (logic dac8208d650f15bf)";
+
+/// What a gate file is.
+pub const GATE_HELP: &str = "The gate file, or - for standard input";
+
+/// What a snapshot is.
+const SNAPSHOT_HELP: &str = "The snapshot's file, or - for standard input";
+
+/// The program.
+pub fn program<'a>(alloc: Global) -> Result<Command<'a>, AllocError>
+    ensures { IfOk result (IsApp program) }
+{
+    let reading = reading_commands(alloc)?;
+    let serving = reading.subcommand(serve_command(alloc)?)?;
+    let recovering = serving.subcommand(recover_command(alloc)?)?;
+    recovering.subcommand(events_command(alloc)?)
+}
+
+/// The program with the commands that read files alone.
+fn reading_commands<'a>(alloc: Global) -> Result<Command<'a>, AllocError>
+    ensures { IfOk result (IsApp reading_app) }
+{
+    let judging = judging_commands(alloc)?;
+    let merging = judging.subcommand(merge_command(alloc)?)?;
+    let depending = merging.subcommand(footers_command(alloc)?)?;
+    depending.subcommand(simulate_command(alloc)?)
+}
+
+/// The program with the commands that judge a snapshot.
+fn judging_commands<'a>(alloc: Global) -> Result<Command<'a>, AllocError>
+    ensures { IfOk result (IsApp judging_app) }
+{
+    let bare = bare_program(alloc)?;
+    let reporting = bare.subcommand(ready_command(alloc)?)?;
+    let explaining = reporting.subcommand(why_command(alloc)?)?;
+    explaining.subcommand(graph_command(alloc)?)
+}
+
+/// The program, before it has its commands.
+fn bare_program<'a>(alloc: Global) -> Result<Command<'a>, AllocError>
+    ensures { IfOk result (IsApp bare_app) }
+{
+    let named = Command::new(alloc, "reviewgate").bin_name("reviewgate")?;
+    let program = named
+        .version(VERSION)
+        .about("Keeps the review record of Gerrit changes at several sites")
+        .no_binary_name(true)
+        .subcommand_required(true);
+    Ok(program)
+}
+
+/// `ready GATE SNAPSHOT`
+fn ready_command<'a>(alloc: Global) -> Result<Command<'a>, AllocError>
+    ensures { IfOk result (IsApp ready_app) }
+{
+    Command::new(alloc, "ready")
+        .about("Prints which items may be enqueued, and why each other one waits")
+        .arg(file(alloc, "GATE", GATE_HELP))?
+        .arg(file(alloc, "SNAPSHOT", SNAPSHOT_HELP))
+}
+
+/// `why GATE SNAPSHOT CHANGE[,SET]`
+fn why_command<'a>(alloc: Global) -> Result<Command<'a>, AllocError>
+    ensures { IfOk result (IsApp why_app) }
+{
+    let item = file(
+        alloc,
+        "CHANGE[,SET]",
+        "The change's number, and that of a patch set if not the current one",
+    );
+    Command::new(alloc, "why")
+        .about("Prints why an item waits, down to the cause")
+        .arg(file(alloc, "GATE", GATE_HELP))?
+        .arg(file(alloc, "SNAPSHOT", SNAPSHOT_HELP))?
+        .arg(item)
+}
+
+/// `graph GATE SNAPSHOT [--around CHANGE]`
+fn graph_command<'a>(alloc: Global) -> Result<Command<'a>, AllocError>
+    ensures { IfOk result (IsApp graph_app) }
+{
+    let around = number_option(
+        alloc,
+        AROUND,
+        "CHANGE",
+        "The change around which items are drawn: what it leads to, and what leads to it",
+    );
+    Command::new(alloc, "graph")
+        .about("Prints what items wait for as a Graphviz graph")
+        .arg(file(alloc, "GATE", GATE_HELP))?
+        .arg(file(alloc, "SNAPSHOT", SNAPSHOT_HELP))?
+        .arg(around)
+}
+
+/// `merge FIRST SECOND`
+fn merge_command<'a>(alloc: Global) -> Result<Command<'a>, AllocError>
+    ensures { IfOk result (IsApp merge_app) }
+{
+    let first = file(
+        alloc,
+        "FIRST",
+        "The first snapshot's file, or - for standard input",
+    );
+    let second = file(
+        alloc,
+        "SECOND",
+        "The second snapshot's file, or - for standard input",
+    );
+    Command::new(alloc, "merge")
+        .about("Prints the snapshot of two together")
+        .arg(first)?
+        .arg(second)
+}
+
+/// `footers GATE FILE [--change N]`
+fn footers_command<'a>(alloc: Global) -> Result<Command<'a>, AllocError>
+    ensures { IfOk result (IsApp footers_app) }
+{
+    let message = file(
+        alloc,
+        "FILE",
+        "The file of the commit message, or - for standard input",
+    );
+    let change = default_option(
+        alloc,
+        CHANGE,
+        "0",
+        "N",
+        "The number of the message's own change; 0 is none",
+    );
+    Command::new(alloc, "footers")
+        .about("Prints the changes that a commit message depends on")
+        .arg(file(alloc, "GATE", GATE_HELP))?
+        .arg(message)?
+        .arg(change)
+}
+
+/// `simulate SCRIPT [GATE]`
+fn simulate_command<'a>(alloc: Global) -> Result<Command<'a>, AllocError>
+    ensures { IfOk result (IsApp simulate_app) }
+{
+    let script = file(
+        alloc,
+        "SCRIPT",
+        "The script's file, or - for standard input",
+    );
+    let gate = Arg::new(alloc, "GATE").help(
+        "The gate file for the script's reports, or - for standard input",
+    );
+    Command::new(alloc, "simulate")
+        .about("Plays a script of several sites and prints what each line answers")
+        .arg(script)?
+        .arg(gate)
+}
+
+/// `recover JOURNAL`
+fn recover_command<'a>(alloc: Global) -> Result<Command<'a>, AllocError>
+    ensures { IfOk result (IsApp recover_app) }
+{
+    let journal = file(
+        alloc,
+        "JOURNAL",
+        "The journal's file, or - for standard input",
+    );
+    Command::new(alloc, "recover")
+        .about("Prints the snapshot of a journal, without a line that a crash tore")
+        .arg(journal)
+}

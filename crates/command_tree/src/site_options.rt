@@ -1,0 +1,124 @@
+//! The arguments of `serve`.
+
+ghost use Rattle.std.specs.Prelude.{IfOk, codes};
+ghost use Rattle.command_tree.specs.Commands.{IsApp, ending_app, paced_app, peered_app, placed_app, serve_app};
+ghost use Rattle.command_tree.specs.Rules.{IsRule, needed_number};
+
+use super::arguments::{
+    IDLE, PAUSE, PEER, PORT, SESSIONS, SITE, START, WORKERS, default_option, file, flag,
+    number_option, numbers, option,
+};
+use super::program::GATE_HELP;
+use clap::{Arg, Command};
+use std::alloc::{AllocError, Global};
+
+/// `serve GATE [PEER].. --site N [option]..`
+pub fn serve_command<'a>(alloc: Global) -> Result<Command<'a>, AllocError>
+    ensures { IfOk result (IsApp serve_app) }
+{
+    let load = option(alloc, "load", "FILE", "The snapshot to begin with");
+    let save = option(
+        alloc,
+        "save",
+        "FILE",
+        "The snapshot that is written at the end",
+    );
+    let journal = option(
+        alloc,
+        "journal",
+        "FILE",
+        "The journal that keeps what is taken in",
+    );
+    let ending = ending_command(alloc)?;
+    ending.arg(load)?.arg(save)?.arg(journal)
+}
+
+/// The command with all but the names of files.
+fn ending_command<'a>(alloc: Global) -> Result<Command<'a>, AllocError>
+    ensures { IfOk result (IsApp ending_app) }
+{
+    let idle = default_option(
+        alloc,
+        IDLE,
+        "0",
+        "MS",
+        "How long a session may be silent; 0 is without end",
+    );
+    let ending = flag(
+        alloc,
+        "until-input-ends",
+        "Ends in order with standard input, or at its line stop",
+    );
+    let paced = paced_command(alloc)?;
+    paced.arg(idle)?.arg(ending)
+}
+
+/// The command with what the site is, where it is reached and how it works.
+fn paced_command<'a>(alloc: Global) -> Result<Command<'a>, AllocError>
+    ensures { IfOk result (IsApp paced_app) }
+{
+    let workers = default_option(
+        alloc,
+        WORKERS,
+        "2",
+        "N",
+        "How many sessions side by side, 1 to 6",
+    );
+    let pause = default_option(
+        alloc,
+        PAUSE,
+        "1000",
+        "MS",
+        "Between two rounds of pulls, 1 to 600000",
+    );
+    let sessions = default_option(
+        alloc,
+        SESSIONS,
+        "0",
+        "N",
+        "Ends after so many sessions; 0 is without end",
+    );
+    let placed = placed_command(alloc)?;
+    placed.arg(workers)?.arg(pause)?.arg(sessions)
+}
+
+/// The command with what the site is, and where it is reached.
+fn placed_command<'a>(alloc: Global) -> Result<Command<'a>, AllocError>
+    ensures { IfOk result (IsApp placed_app) }
+{
+    let start = number_option(
+        alloc,
+        START,
+        "N",
+        "The start, above every start that the site ever ran under; with --journal it may be left out",
+    );
+    let port = default_option(
+        alloc,
+        PORT,
+        "0",
+        "P",
+        "The port on 127.0.0.1; 0 has the system choose one",
+    );
+    let peered = peered_command(alloc)?;
+    peered.arg(site_option(alloc))?.arg(start)?.arg(port)
+}
+
+/// The command with what has no name: a gate and peers.
+fn peered_command<'a>(alloc: Global) -> Result<Command<'a>, AllocError>
+    ensures { IfOk result (IsApp peered_app) }
+{
+    let peers = numbers(alloc, PEER, "The ports on 127.0.0.1 that it pulls from");
+    Command::new(alloc, "serve")
+        .about(
+            "Runs a site: answers sessions, pulls from peers, prints the report whenever it changes",
+        )
+        .arg(file(alloc, "GATE", GATE_HELP))?
+        .arg(peers)
+}
+
+/// `--site N`
+fn site_option<'a>(alloc: Global) -> Arg<'a>
+    ensures { IsRule (needed_number (codes "site") 1 65535) result }
+{
+    number_option(alloc, SITE, "N", "The site's number, from 1 to 65535").required(true)
+}

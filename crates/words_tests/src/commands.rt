@@ -1,0 +1,168 @@
+//! Command lines as users write them, and what they ask for.
+
+use command_line::{Asked, Command, read_words};
+use std::alloc::Global;
+use std::process::Abort;
+use std::test::Fail;
+
+/// The command that words ask for.
+fn command_of<'a>(alloc: Global, words: &'a [&'a str]) -> Option<Command<'a>> {
+    match read_words(alloc, words) {
+        Asked::Run(command) => Some(command),
+        _ => None,
+    }
+}
+
+/// The name of the first file that is asked for.
+fn first_name<'a>(command: &Command<'a>) -> &'a str {
+    match command {
+        Command::Simulate { script, .. } => script,
+        Command::Merge { first, .. } => first,
+        Command::Ready { gate, .. }
+        | Command::Footers { gate, .. }
+        | Command::Why { gate, .. }
+        | Command::Graph { gate, .. } => gate,
+    }
+}
+
+/// The name of the second, where there is one.
+fn second_name<'a>(command: &Command<'a>) -> &'a str {
+    match command {
+        Command::Simulate { gate, .. } => gate.unwrap_or(""),
+        Command::Merge { second, .. } => second,
+        Command::Footers { message, .. } => message,
+        Command::Ready { snapshot, .. }
+        | Command::Why { snapshot, .. }
+        | Command::Graph { snapshot, .. } => snapshot,
+    }
+}
+
+/// The change that is asked about, and 7 where none is.
+fn change_of(command: &Command<'_>) -> u32 {
+    match command {
+        Command::Footers { change, .. } | Command::Why { change, .. } => *change,
+        Command::Graph { around, .. } => around.unwrap_or(7),
+        _ => 7,
+    }
+}
+
+/// The names of the two files that words ask for, and the change; no names where they ask for no command.
+fn asked_by<'a>(alloc: Global, words: &'a [&'a str]) -> (&'a str, &'a str, u32) {
+    match command_of(alloc, words) {
+        Some(command) => (
+            first_name(&command),
+            second_name(&command),
+            change_of(&command),
+        ),
+        None => ("", "", 0),
+    }
+}
+
+/// The words ask for these files, and about this change.
+fn assert_asks(
+    rt: &impl Abort,
+    alloc: Global,
+    words: &[&str],
+    first: &str,
+    second: &str,
+    change: u32,
+) {
+    assert_eq!(rt; asked_by(alloc, words), (first, second, change));
+}
+
+#[test]
+fn files_are_named_in_their_order(rt: HostRuntime) {
+    let cases: [(&[&str], &str, &str); 6] = [
+        (&["graph", "g", "-"], "g", "-"),
+        (&["simulate", "-"], "-", ""),
+        (&["simulate", "s", "g"], "s", "g"),
+        (&["ready", "g", "-"], "g", "-"),
+        (&["merge", "a", "b"], "a", "b"),
+        (&["merge", "--", "-a", "--b"], "-a", "--b"),
+    ];
+    for (words, first, second) in cases {
+        assert_asks(&rt, rt.alloc(), words, first, second, 7);
+    }
+}
+
+#[test]
+fn a_change_is_a_number(rt: HostRuntime) {
+    let cases: [(&[&str], u32); 5] = [
+        (&["footers", "g", "m"], 0),
+        (&["graph", "g", "m", "--around", "0"], 0),
+        (&["graph", "--around=12", "g", "m"], 12),
+        (
+            &["footers", "--change", "4294967295", "g", "m"],
+            4_294_967_295,
+        ),
+        (&["footers", "g", "m", "--change=12"], 12),
+    ];
+    for (words, change) in cases {
+        assert_asks(&rt, rt.alloc(), words, "g", "m", change);
+    }
+}
+
+/// The patch set that is asked about, and 7 where none is.
+fn set_of(command: &Command<'_>) -> u32 {
+    match command {
+        Command::Why { set, .. } => set.unwrap_or(7),
+        _ => 7,
+    }
+}
+
+#[test]
+fn an_item_is_a_change_and_a_patch_set(rt: HostRuntime) -> Result<(), Fail> {
+    let cases = [
+        ("101", 101, 7),
+        ("101,2", 101, 2),
+        ("4294967295,0", 4_294_967_295, 0),
+    ];
+    for (item, change, set) in cases {
+        let words = ["why", "g", "-", item];
+        let command = command_of(rt.alloc(), words.as_slice()).ok_or("a command")?;
+        assert_eq!(rt; (first_name(&command), second_name(&command)), ("g", "-"));
+        assert_eq!(rt; (change_of(&command), set_of(&command)), (change, set));
+    }
+    Ok(())
+}
+
+#[test]
+fn other_items_are_usage_errors(rt: HostRuntime) {
+    let items = [
+        "",
+        ",",
+        "1,",
+        ",1",
+        "1,2,3",
+        "1, 2",
+        "4294967296",
+        "1,x",
+        "-1",
+    ];
+    for item in items {
+        let words = ["why", "g", "s", item];
+        let asked = read_words(rt.alloc(), words.as_slice());
+        assert!(rt; matches!(asked, Asked::Usage(_)), "{item}");
+    }
+}
+
+/// The journal that words ask to recover.
+fn journal_of<'a>(alloc: Global, words: &'a [&'a str]) -> Option<&'a str> {
+    match read_words(alloc, words) {
+        Asked::Recover(name) => Some(name),
+        _ => None,
+    }
+}
+
+#[test]
+fn a_journal_is_named_as_any_file_is(rt: HostRuntime) {
+    let cases: [(&[&str], &str); 4] = [
+        (&["recover", "j"], "j"),
+        (&["recover", "-"], "-"),
+        (&["recover", "--", "-j"], "-j"),
+        (&["recover", "--", "--"], "--"),
+    ];
+    for (words, name) in cases {
+        assert_eq!(rt; journal_of(rt.alloc(), words), Some(name));
+    }
+}

@@ -1,0 +1,194 @@
+//! Sites that words ask for.
+
+use command_line::{Asked, ServeWords, read_words};
+use std::alloc::Global;
+use std::process::Abort;
+use std::test::Fail;
+
+/// The site that words ask for.
+fn serving_of<'a>(alloc: Global, words: &'a [&'a str]) -> Option<ServeWords<'a>> {
+    match read_words(alloc, words) {
+        Asked::Serve(serving) => Some(serving),
+        _ => None,
+    }
+}
+
+/// The name of the gate file, the site's number and its start.
+fn site_of<'a>(serving: &ServeWords<'a>) -> (&'a str, u16, Option<u32>) {
+    (serving.gate, serving.site, serving.start)
+}
+
+/// The port, the number of workers and the pause between two rounds of pulls.
+fn numbers_of(serving: &ServeWords<'_>) -> (u16, usize, u64) {
+    (serving.port, serving.workers, serving.pause_ms)
+}
+
+/// After how many sessions the site ends, after how many silent milliseconds a session does, and whether the site ends
+/// with its input.
+fn ends_of(serving: &ServeWords<'_>) -> (u64, u64, bool) {
+    (serving.sessions, serving.idle_ms, serving.until_input_ends)
+}
+
+/// The names of the snapshots and the journal.
+fn files_of<'a>(serving: &ServeWords<'a>) -> (Option<&'a str>, Option<&'a str>, Option<&'a str>) {
+    (serving.load, serving.save, serving.journal)
+}
+
+/// The words ask for a site that is run so.
+fn assert_serves(rt: &impl Abort, serving: &ServeWords<'_>, wanted: &ServeWords<'_>) {
+    assert_eq!(rt; site_of(serving), site_of(wanted));
+    assert_eq!(rt; numbers_of(serving), numbers_of(wanted));
+    assert_eq!(rt; ends_of(serving), ends_of(wanted));
+    assert_eq!(rt; files_of(serving), files_of(wanted));
+    assert_eq!(rt; serving.peers.as_slice(), wanted.peers.as_slice());
+}
+
+/// A site with what options are left out for.
+fn with_defaults(alloc: Global) -> ServeWords<'static> {
+    ServeWords {
+        gate: "gate.json",
+        peers: Vec::new(alloc),
+        site: 1,
+        start: Some(7),
+        port: 0,
+        workers: 2,
+        pause_ms: 1000,
+        sessions: 0,
+        idle_ms: 0,
+        until_input_ends: false,
+        load: None,
+        save: None,
+        journal: None,
+    }
+}
+
+#[test]
+fn options_have_defaults(rt: HostRuntime) -> Result<(), Fail> {
+    let words = ["serve", "gate.json", "--site", "1", "--start", "7"];
+    let serving = serving_of(rt.alloc(), words.as_slice()).ok_or("a site")?;
+    assert_serves(&rt, &serving, &with_defaults(rt.alloc()));
+    Ok(())
+}
+
+/// Words with each option.
+const ALL: [&str; 25] = [
+    "serve",
+    "-",
+    "8001",
+    "8002",
+    "--site",
+    "65535",
+    "--start",
+    "4294967295",
+    "--port",
+    "8000",
+    "--workers",
+    "6",
+    "--pause",
+    "600000",
+    "--sessions",
+    "3",
+    "--idle",
+    "5",
+    "--load",
+    "a",
+    "--save",
+    "b",
+    "--journal",
+    "c",
+    "--until-input-ends",
+];
+
+/// The site that they ask for.
+fn with_all(peers: Vec<u16>) -> ServeWords<'static> {
+    ServeWords {
+        gate: "-",
+        peers,
+        site: 65535,
+        start: Some(4_294_967_295),
+        port: 8000,
+        workers: 6,
+        pause_ms: 600_000,
+        sessions: 3,
+        idle_ms: 5,
+        until_input_ends: true,
+        load: Some("a"),
+        save: Some("b"),
+        journal: Some("c"),
+    }
+}
+
+#[test]
+fn all_options_are_read(rt: HostRuntime) -> Result<(), Fail> {
+    let wanted = with_all([8001, 8002].to_vec(rt.alloc())?);
+    let serving = serving_of(rt.alloc(), ALL.as_slice()).ok_or("a site")?;
+    assert_serves(&rt, &serving, &wanted);
+    Ok(())
+}
+
+/// The least and the greatest number of each option that has limits.
+const LIMITS: [(&str, &str, u64); 13] = [
+    ("--site", "1", 1),
+    ("--site", "65535", 65_535),
+    ("--start", "1", 1),
+    ("--start", "4294967295", 4_294_967_295),
+    ("--port", "0", 0),
+    ("--port", "65535", 65_535),
+    ("--workers", "1", 1),
+    ("--workers", "6", 6),
+    ("--pause", "1", 1),
+    ("--pause", "600000", 600_000),
+    ("--sessions", "0", 0),
+    (
+        "--sessions",
+        "18446744073709551615",
+        18_446_744_073_709_551_615,
+    ),
+    ("--idle", "18446744073709551615", 18_446_744_073_709_551_615),
+];
+
+/// The numbers of a site, in the order of the options above.
+fn number_of(serving: &ServeWords<'_>, option: &str) -> u64 {
+    match option {
+        "--site" => u64::from(serving.site),
+        "--start" => u64::from(serving.start.unwrap_or(0)),
+        "--port" => u64::from(serving.port),
+        "--workers" => serving.workers as u64,
+        "--pause" => serving.pause_ms,
+        "--sessions" => serving.sessions,
+        _ => serving.idle_ms,
+    }
+}
+
+#[test]
+fn limits_are_within_the_ranges(rt: HostRuntime) -> Result<(), Fail> {
+    for (option, number, wanted) in LIMITS {
+        // `--site` has to be there, once.
+        let other = if option == "--site" {
+            "--port"
+        } else {
+            "--site"
+        };
+        let words = ["serve", "g", other, "1", option, number, "--journal", "j"];
+        let serving = serving_of(rt.alloc(), words.as_slice()).ok_or("a site")?;
+        assert_eq!(rt; number_of(&serving, option), wanted);
+    }
+    Ok(())
+}
+
+#[test]
+fn a_journal_has_the_starts_before(rt: HostRuntime) -> Result<(), Fail> {
+    let words = ["serve", "g", "--site=1", "--journal=j"];
+    let serving = serving_of(rt.alloc(), words.as_slice()).ok_or("a site")?;
+    assert_eq!(rt; serving.start, None);
+    assert_eq!(rt; serving.journal, Some("j"));
+    Ok(())
+}
+
+#[test]
+fn ports_of_peers_follow_the_gate(rt: HostRuntime) -> Result<(), Fail> {
+    let words = ["serve", "--site", "1", "--start", "1", "g", "1", "65535"];
+    let serving = serving_of(rt.alloc(), words.as_slice()).ok_or("a site")?;
+    assert_eq!(rt; serving.peers.as_slice(), [1, 65535].as_slice());
+    Ok(())
+}

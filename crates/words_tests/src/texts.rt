@@ -1,0 +1,508 @@
+//! The texts of help and of usage errors, whole.
+
+use command_line::{Asked, read_words};
+use std::alloc::{AllocError, Global};
+use std::process::Abort;
+use std::test::Fail;
+
+/// What a usage error ends with.
+const MORE: &str = "\n\nFor more information, try '--help'.\n";
+
+/// What words ask for, by its kind, and its text.
+fn said(alloc: Global, words: &[&str]) -> (&'static str, String) {
+    match read_words(alloc, words) {
+        Asked::Help(text) => ("help", text),
+        Asked::Version(text) => ("version", text),
+        Asked::Usage(text) => ("usage", text),
+        Asked::NoMemory => ("memory", String::new(alloc)),
+        _ => ("command", String::new(alloc)),
+    }
+}
+
+/// The same of the words of a line.
+fn text_of(alloc: Global, line: &str) -> Result<(&'static str, String), AllocError> {
+    let words: Vec<&str> = line.split_whitespace().collect(alloc)?;
+    let answer = said(alloc, words.as_slice());
+    Ok(answer)
+}
+
+/// The words of a line are answered with a text of this kind.
+fn assert_says(
+    rt: &impl Abort,
+    alloc: Global,
+    line: &str,
+    kind: &str,
+    text: &str,
+) -> Result<(), AllocError> {
+    let (found, said) = text_of(alloc, line)?;
+    assert_eq!(rt; found, kind, "{line}");
+    assert_eq!(rt; said.as_str(), text, "{line}");
+    Ok(())
+}
+
+/// Help, with all commands.
+const PROGRAM: &str = "Keeps the review record of Gerrit changes at several sites
+
+Usage: reviewgate <COMMAND>
+
+Commands:
+  ready     Prints which items may be enqueued, and why each other one waits
+  why       Prints why an item waits, down to the cause
+  graph     Prints what items wait for as a Graphviz graph
+  merge     Prints the snapshot of two together
+  footers   Prints the changes that a commit message depends on
+  simulate  Plays a script of several sites and prints what each line answers
+  serve     Runs a site: answers sessions, pulls from peers, prints the report whenever it changes
+  recover   Prints the snapshot of a journal, without a line that a crash tore
+  events    Feeds what Gerrit writes to a session of a site
+  help      Print this message or the help of the given subcommand(s)
+
+Options:
+  -h, --help     Print help
+  -V, --version  Print version
+";
+
+/// Help of each command.
+const HELP: [(&str, &str); 9] = [
+    (
+        "ready",
+        "Prints which items may be enqueued, and why each other one waits
+
+Usage: reviewgate ready <GATE> <SNAPSHOT>
+
+Arguments:
+  <GATE>      The gate file, or - for standard input
+  <SNAPSHOT>  The snapshot's file, or - for standard input
+
+Options:
+  -h, --help  Print help
+",
+    ),
+    (
+        "why",
+        "Prints why an item waits, down to the cause
+
+Usage: reviewgate why <GATE> <SNAPSHOT> <CHANGE[,SET]>
+
+Arguments:
+  <GATE>          The gate file, or - for standard input
+  <SNAPSHOT>      The snapshot's file, or - for standard input
+  <CHANGE[,SET]>  The change's number, and that of a patch set if not the current one
+
+Options:
+  -h, --help  Print help
+",
+    ),
+    (
+        "graph",
+        "Prints what items wait for as a Graphviz graph
+
+Usage: reviewgate graph [OPTIONS] <GATE> <SNAPSHOT>
+
+Arguments:
+  <GATE>      The gate file, or - for standard input
+  <SNAPSHOT>  The snapshot's file, or - for standard input
+
+Options:
+      --around <CHANGE>  The change around which items are drawn: what it leads to, and what leads to it
+  -h, --help             Print help
+",
+    ),
+    (
+        "merge",
+        "Prints the snapshot of two together
+
+Usage: reviewgate merge <FIRST> <SECOND>
+
+Arguments:
+  <FIRST>   The first snapshot's file, or - for standard input
+  <SECOND>  The second snapshot's file, or - for standard input
+
+Options:
+  -h, --help  Print help
+",
+    ),
+    (
+        "footers",
+        "Prints the changes that a commit message depends on
+
+Usage: reviewgate footers [OPTIONS] <GATE> <FILE>
+
+Arguments:
+  <GATE>  The gate file, or - for standard input
+  <FILE>  The file of the commit message, or - for standard input
+
+Options:
+      --change <N>  The number of the message's own change; 0 is none [default: 0]
+  -h, --help        Print help
+",
+    ),
+    (
+        "simulate",
+        "Plays a script of several sites and prints what each line answers
+
+Usage: reviewgate simulate <SCRIPT> [GATE]
+
+Arguments:
+  <SCRIPT>  The script's file, or - for standard input
+  [GATE]    The gate file for the script's reports, or - for standard input
+
+Options:
+  -h, --help  Print help
+",
+    ),
+    (
+        "serve",
+        "Runs a site: answers sessions, pulls from peers, prints the report whenever it changes
+
+Usage: reviewgate serve [OPTIONS] --site <N> <GATE> [PEER]...
+
+Arguments:
+  <GATE>     The gate file, or - for standard input
+  [PEER]...  The ports on 127.0.0.1 that it pulls from
+
+Options:
+      --site <N>          The site's number, from 1 to 65535
+      --start <N>         The start, above every start that the site ever ran under; with --journal it may be left out
+      --port <P>          The port on 127.0.0.1; 0 has the system choose one [default: 0]
+      --workers <N>       How many sessions side by side, 1 to 6 [default: 2]
+      --pause <MS>        Between two rounds of pulls, 1 to 600000 [default: 1000]
+      --sessions <N>      Ends after so many sessions; 0 is without end [default: 0]
+      --idle <MS>         How long a session may be silent; 0 is without end [default: 0]
+      --until-input-ends  Ends in order with standard input, or at its line stop
+      --load <FILE>       The snapshot to begin with
+      --save <FILE>       The snapshot that is written at the end
+      --journal <FILE>    The journal that keeps what is taken in
+  -h, --help              Print help
+",
+    ),
+    (
+        "recover",
+        "Prints the snapshot of a journal, without a line that a crash tore
+
+Usage: reviewgate recover <JOURNAL>
+
+Arguments:
+  <JOURNAL>  The journal's file, or - for standard input
+
+Options:
+  -h, --help  Print help
+",
+    ),
+    (
+        "events",
+        "Feeds what Gerrit writes to a session of a site
+
+Usage: reviewgate events [OPTIONS]
+
+Options:
+      --to <PORT>        The port on 127.0.0.1 of the site that is fed; without it the lines of a session are printed
+      --query            The input is the answer of a query, and has to be whole
+      --complete         The same, and the answer has every open change: those that it lacks are abandoned
+      --project <NAME>   Feeds the changes of this project alone, and of those that are named beside it
+      --projects <FILE>  The file of such names, one a line, or - for standard input; # begins a remark
+      --gate <GATE>      The gate file whose bases say which changes a Depends-On names, so that unknown ones are asked for
+  -h, --help             Print help
+",
+    ),
+];
+
+#[test]
+fn help_lists_each_command(rt: HostRuntime) -> Result<(), Fail> {
+    for line in ["help", "--help", "-h"] {
+        assert_says(&rt, rt.alloc(), line, "help", PROGRAM)?;
+    }
+    Ok(())
+}
+
+#[test]
+fn each_command_has_its_help(rt: HostRuntime) -> Result<(), Fail> {
+    let alloc = rt.alloc();
+    for (name, text) in HELP {
+        let lines = [
+            format!(in alloc; "help {name}")?,
+            format!(in alloc; "{name} --help")?,
+            format!(in alloc; "{name} -h")?,
+        ];
+        for line in lines {
+            assert_says(&rt, alloc, line.as_str(), "help", text)?;
+        }
+    }
+    Ok(())
+}
+
+#[test]
+fn the_version_names_the_toolchain(rt: HostRuntime) -> Result<(), Fail> {
+    let text = "reviewgate 0.1.0 (logic dac8208d650f15bf)\n";
+    for line in ["--version", "-V"] {
+        assert_says(&rt, rt.alloc(), line, "version", text)?;
+    }
+    Ok(())
+}
+
+/// Words that name no command, or lack a file or have too many.
+const COMMANDS: [(&str, &str); 19] = [
+    (
+        "",
+        "error: 'reviewgate' requires a subcommand but one was not provided\n  [subcommands: ready, why, graph, merge, footers, simulate, serve, recover, events, help]\n\nUsage: reviewgate <COMMAND>",
+    ),
+    (
+        "help nothing",
+        "error: unrecognized subcommand 'nothing'\n\nUsage: reviewgate <COMMAND>",
+    ),
+    (
+        "nothing",
+        "error: unrecognized subcommand 'nothing'\n\nUsage: reviewgate <COMMAND>",
+    ),
+    (
+        "-x",
+        "error: unexpected argument '-x' found\n\nUsage: reviewgate <COMMAND>",
+    ),
+    (
+        "ready",
+        "error: the following required arguments were not provided:\n  <GATE>\n  <SNAPSHOT>\n\nUsage: reviewgate ready <GATE> <SNAPSHOT>",
+    ),
+    (
+        "ready g",
+        "error: the following required arguments were not provided:\n  <SNAPSHOT>\n\nUsage: reviewgate ready <GATE> <SNAPSHOT>",
+    ),
+    (
+        "ready g s t",
+        "error: unexpected argument 't' found\n\nUsage: reviewgate ready <GATE> <SNAPSHOT>",
+    ),
+    (
+        "why g s",
+        "error: the following required arguments were not provided:\n  <CHANGE[,SET]>\n\nUsage: reviewgate why <GATE> <SNAPSHOT> <CHANGE[,SET]>",
+    ),
+    (
+        "merge a",
+        "error: the following required arguments were not provided:\n  <SECOND>\n\nUsage: reviewgate merge <FIRST> <SECOND>",
+    ),
+    (
+        "merge a b c",
+        "error: unexpected argument 'c' found\n\nUsage: reviewgate merge <FIRST> <SECOND>",
+    ),
+    (
+        "merge -a b",
+        "error: unexpected argument '-a' found\n\n  tip: to pass '-a' as a value, use '-- -a'\n\nUsage: reviewgate merge <FIRST> <SECOND>",
+    ),
+    (
+        "simulate",
+        "error: the following required arguments were not provided:\n  <SCRIPT>\n\nUsage: reviewgate simulate <SCRIPT> [GATE]",
+    ),
+    (
+        "simulate s g t",
+        "error: unexpected argument 't' found\n\nUsage: reviewgate simulate <SCRIPT> [GATE]",
+    ),
+    (
+        "serve",
+        "error: the following required arguments were not provided:\n  --site <N>\n  <GATE>\n\nUsage: reviewgate serve --site <N> <GATE> [PEER]...",
+    ),
+    (
+        "serve g",
+        "error: the following required arguments were not provided:\n  --site <N>\n\nUsage: reviewgate serve --site <N> <GATE> [PEER]...",
+    ),
+    (
+        "recover",
+        "error: the following required arguments were not provided:\n  <JOURNAL>\n\nUsage: reviewgate recover <JOURNAL>",
+    ),
+    (
+        "recover a b",
+        "error: unexpected argument 'b' found\n\nUsage: reviewgate recover <JOURNAL>",
+    ),
+    (
+        "recover -a",
+        "error: unexpected argument '-a' found\n\n  tip: to pass '-a' as a value, use '-- -a'\n\nUsage: reviewgate recover <JOURNAL>",
+    ),
+    (
+        "events x",
+        "error: unexpected argument 'x' found\n\nUsage: reviewgate events [OPTIONS]",
+    ),
+];
+
+/// Options that there are none of, that lack a value, or that are there twice.
+const OPTIONS: [(&str, &str); 14] = [
+    (
+        "events --query --complete --to 1",
+        "error: the argument '--query' cannot be used with '--complete'",
+    ),
+    (
+        "events --query --query",
+        "error: the argument '--query' cannot be used multiple times\n\nUsage: reviewgate events [OPTIONS]",
+    ),
+    (
+        "events --complete",
+        "error: --complete and --gate need --to",
+    ),
+    ("events --gate g", "error: --complete and --gate need --to"),
+    (
+        "events --query --complete",
+        "error: --complete and --gate need --to",
+    ),
+    (
+        "events --projects a --projects b",
+        "error: the argument '--projects <FILE>' cannot be used multiple times\n\nUsage: reviewgate events [OPTIONS]",
+    ),
+    (
+        "events --project",
+        "error: a value is required for '--project <NAME>' but none was supplied",
+    ),
+    (
+        "graph g s --around",
+        "error: a value is required for '--around <CHANGE>' but none was supplied",
+    ),
+    (
+        "graph g s --round 1",
+        "error: unexpected argument '--round' found\n\n  tip: a similar argument exists: '--around'\n\nUsage: reviewgate graph --around <CHANGE> <GATE> <SNAPSHOT>",
+    ),
+    (
+        "footers g m --change 1 --change 2",
+        "error: the argument '--change <N>' cannot be used multiple times\n\nUsage: reviewgate footers [OPTIONS] <GATE> <FILE>",
+    ),
+    (
+        "serve g --site 1 --start 1 --nothing",
+        "error: unexpected argument '--nothing' found\n\n  tip: to pass '--nothing' as a value, use '-- --nothing'\n\nUsage: reviewgate serve --site <N> --start <N> <GATE> [PEER]...",
+    ),
+    (
+        "serve g --site 1 --until-input-ends=no",
+        "error: unexpected value 'no' for '--until-input-ends' found; no more were expected\n\nUsage: reviewgate serve --site <N> --until-input-ends <GATE> [PEER]...",
+    ),
+    (
+        "events --too 8101",
+        "error: unexpected argument '--too' found\n\n  tip: a similar argument exists: '--to'\n\nUsage: reviewgate events --to <PORT>",
+    ),
+    (
+        "events --to",
+        "error: a value is required for '--to <PORT>' but none was supplied",
+    ),
+];
+
+/// Numbers one beyond their limits, and what is no number.
+const NUMBERS: [(&str, &str); 24] = [
+    (
+        "why g s x",
+        "error: invalid value 'x' for '<CHANGE[,SET]>': CHANGE and SET are numbers from 0 to 4294967295",
+    ),
+    (
+        "why g s 1,",
+        "error: invalid value '1,' for '<CHANGE[,SET]>': CHANGE and SET are numbers from 0 to 4294967295",
+    ),
+    (
+        "why g s 4294967296",
+        "error: invalid value '4294967296' for '<CHANGE[,SET]>': CHANGE and SET are numbers from 0 to 4294967295",
+    ),
+    (
+        "graph g s --around 4294967296",
+        "error: invalid value '4294967296' for '--around <CHANGE>': 4294967296 is not in 0..=4294967295",
+    ),
+    (
+        "graph g s --around x",
+        "error: invalid value 'x' for '--around <CHANGE>': invalid digit found in string",
+    ),
+    (
+        "footers g m --change 4294967296",
+        "error: invalid value '4294967296' for '--change <N>': 4294967296 is not in 0..=4294967295",
+    ),
+    (
+        "footers g m --change -1",
+        "error: unexpected argument '-1' found\n\n  tip: to pass '-1' as a value, use '-- -1'\n\nUsage: reviewgate footers [OPTIONS] <GATE> <FILE>",
+    ),
+    (
+        "serve g --site 0 --start 1",
+        "error: invalid value '0' for '--site <N>': 0 is not in 1..=65535",
+    ),
+    (
+        "serve g --site 65536 --start 1",
+        "error: invalid value '65536' for '--site <N>': 65536 is not in 1..=65535",
+    ),
+    (
+        "serve g --site 1 --start 0",
+        "error: invalid value '0' for '--start <N>': 0 is not in 1..=4294967295",
+    ),
+    (
+        "serve g --site 1 --start 4294967296",
+        "error: invalid value '4294967296' for '--start <N>': 4294967296 is not in 1..=4294967295",
+    ),
+    (
+        "serve g --site 1 --start 1 --port 65536",
+        "error: invalid value '65536' for '--port <P>': 65536 is not in 0..=65535",
+    ),
+    (
+        "serve g --site 1 --start 1 --workers 0",
+        "error: invalid value '0' for '--workers <N>': 0 is not in 1..=6",
+    ),
+    (
+        "serve g --site 1 --start 1 --workers 7",
+        "error: invalid value '7' for '--workers <N>': 7 is not in 1..=6",
+    ),
+    (
+        "serve g --site 1 --start 1 --pause 0",
+        "error: invalid value '0' for '--pause <MS>': 0 is not in 1..=600000",
+    ),
+    (
+        "serve g --site 1 --start 1 --pause 600001",
+        "error: invalid value '600001' for '--pause <MS>': 600001 is not in 1..=600000",
+    ),
+    (
+        "serve g --site 1 --start 1 --sessions 18446744073709551616",
+        "error: invalid value '18446744073709551616' for '--sessions <N>': number too large to fit in target type",
+    ),
+    (
+        "serve g --site 1 --start 1 --idle x",
+        "error: invalid value 'x' for '--idle <MS>': invalid digit found in string",
+    ),
+    (
+        "serve g 0 --site 1 --start 1",
+        "error: invalid value '0' for '[PEER]...': 0 is not in 1..=65535",
+    ),
+    (
+        "serve g 8101 65536 --site 1 --start 1",
+        "error: invalid value '65536' for '[PEER]...': 65536 is not in 1..=65535",
+    ),
+    (
+        "serve g --site 1",
+        "error: without --journal a site needs --start",
+    ),
+    (
+        "events --to 0",
+        "error: invalid value '0' for '--to <PORT>': 0 is not in 1..=65535",
+    ),
+    (
+        "events --to 65536",
+        "error: invalid value '65536' for '--to <PORT>': 65536 is not in 1..=65535",
+    ),
+    (
+        "events --to x",
+        "error: invalid value 'x' for '--to <PORT>': invalid digit found in string",
+    ),
+];
+
+/// The words of a line are a usage error.
+fn assert_errs(rt: &impl Abort, alloc: Global, line: &str, error: &str) -> Result<(), AllocError> {
+    let text = format!(in alloc; "{error}{MORE}")?;
+    assert_says(rt, alloc, line, "usage", text.as_str())
+}
+
+#[test]
+fn words_name_a_command_and_its_files(rt: HostRuntime) -> Result<(), Fail> {
+    for (line, error) in COMMANDS {
+        assert_errs(&rt, rt.alloc(), line, error)?;
+    }
+    Ok(())
+}
+
+#[test]
+fn options_are_known_and_have_their_values(rt: HostRuntime) -> Result<(), Fail> {
+    for (line, error) in OPTIONS {
+        assert_errs(&rt, rt.alloc(), line, error)?;
+    }
+    Ok(())
+}
+
+#[test]
+fn numbers_are_within_their_limits(rt: HostRuntime) -> Result<(), Fail> {
+    for (line, error) in NUMBERS {
+        assert_errs(&rt, rt.alloc(), line, error)?;
+    }
+    Ok(())
+}
