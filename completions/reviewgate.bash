@@ -5,7 +5,7 @@ _reviewgate() {
         words="ready why graph merge footers simulate serve recover events help --help --version"
     else
         case $command in
-            events) words="--to --help" ;;
+            events) words="--to --query --complete --project --projects --gate --help" ;;
             footers) words="--change --help" ;;
             graph) words="--around --help" ;;
             serve)

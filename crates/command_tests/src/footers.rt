@@ -1,8 +1,8 @@
 //! Messages with footers, and what is printed of them, worked out by hand.
 
 use super::one_file::OneFile;
+use super::program::run_words;
 use byte_ends::{Broken, Ends};
-use commands::run_words;
 use std::alloc::Global;
 use std::process::Abort;
 use std::test::Fail;
@@ -163,7 +163,7 @@ fn what_is_wrong_is_printed(rt: HostRuntime) {
         message,
         2,
         "",
-        "error: the change has to be a number from 0 to 4294967295\n",
+        "error: invalid value '4294967296' for '--change <N>': 4294967296 is not in 0..=4294967295\n\nFor more information, try '--help'.\n",
     );
 }
 

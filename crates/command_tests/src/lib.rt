@@ -10,6 +10,8 @@ mod one_file;
 #[cfg(test)]
 mod pictures;
 #[cfg(test)]
+mod program;
+#[cfg(test)]
 mod reasons;
 #[cfg(test)]
 mod reports;

@@ -1,8 +1,8 @@
 //! Snapshots that are merged, and what is printed, worked out by hand.
 
 use super::one_file::OneFile;
+use super::program::run_words;
 use byte_ends::{Broken, Ends};
-use commands::run_words;
 use std::alloc::Global;
 use std::process::Abort;
 use std::test::Fail;

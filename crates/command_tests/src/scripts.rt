@@ -2,8 +2,8 @@
 
 ghost use Rattle.std.specs.Prelude.{[]};
 
+use super::program::run_words;
 use byte_ends::{Broken, BytesFault, Ends};
-use commands::run_words;
 use console::Named;
 use std::alloc::Global;
 use std::process::Abort;

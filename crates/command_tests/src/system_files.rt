@@ -1,7 +1,7 @@
 //! Real files, opened by their names.
 
+use super::program::run_words;
 use byte_ends::Ends;
-use commands::run_words;
 use console::{Named, SystemFiles};
 use std::alloc::Global;
 use std::fs;

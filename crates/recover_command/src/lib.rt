@@ -20,5 +20,5 @@ mod named;
 mod recovering;
 
 pub use lines::{show_journal_fault, show_torn};
-pub use named::{journal_named, recover_named};
+pub use named::recover_named;
 pub use recovering::recover_to;

@@ -1,55 +1,175 @@
 //! Feeds what Gerrit writes to a session.
 
 use byte_ends::{Drain, Source, write_all};
-use event_feed::events_run;
-use feed_client::{ClientFault, EventWords, feed_to, read_event_words};
+use command_line::{Answer, EventWords};
+use commands::report;
+use console::{Named, Refusal, Streams, SystemFiles, read_gate, read_message};
+use event_feed::{EventWriter, FeedFault, Input, events_run};
+use feed_client::{FeedOrder, Feeds, feed_to};
+use footer_text::Bases;
+use gerrit_events::Projects;
+use lattice_core::NoMemory;
 use std::alloc::Global;
 use std::net::{Net, TcpStream};
+use std::rt::Files;
+use std::sync::Wait;
+use std::thread::Threads;
 use std::time::Clock;
 
-/// What is wrong with words after `events`.
-const EVENTS_USAGE: &str =
-    "error: the port has to be a number from 1 to 65535\n\nUsage: reviewgate events [--to PORT]\n";
+/// What a feed is run with, once its files are read.
+#[derive(Drop)]
+struct Choice {
+    to: Option<u16>,
+    answer: Answer,
+    projects: Projects,
+    bases: Option<Bases>,
+}
 
-/// What the words ask of `events`, where the first of them is that.
-pub fn event_words(words: &[String]) -> Option<EventWords> {
-    match words {
-        [first, rest @ ..] if first.as_str() == "events" => Some(read_event_words(rest)),
-        _ => None,
+/// Feeds what Gerrit writes as the words ask for: to the site at a port, or else to the output. Answers the exit
+/// status: 0 at the end of the input, 1 where a file is refused or the feed ended before.
+pub fn feed<R, I, O, E>(
+    rt: R,
+    alloc: Global,
+    words: EventWords<'_>,
+    input: I,
+    output: &mut O,
+    errors: &mut E,
+) -> u8
+where
+    R: Net<Stream = TcpStream> + Files + Threads + Wait + Clock + AllocGlobal,
+    R: Copy + Send + 'static,
+    I: Source + Send + Drop + 'static,
+    O: Drain,
+    E: Drain,
+{
+    let mut input = input;
+    let files = &mut SystemFiles::new(rt);
+    match read_choice(alloc, words, &mut input, output, files) {
+        Ok(choice) => match choice.to {
+            Some(port) => events_to(rt, alloc, port, choice, input, output, errors),
+            None => events(alloc, choice, &mut input, output, errors),
+        },
+        Err(refusal) => report(alloc, &Err(refusal), errors),
     }
 }
 
-/// Reads Gerrit's lines from the input, and writes what a client of a session says of them to the output, and what is
-/// lost of them to the errors. Answers the status: 0 at the end of the input, 1 where the feed ended before.
-pub fn events<I: Source, O: Drain, E: Drain>(
+/// Reads the files that the words name: the projects, and then the gate.
+fn read_choice<I: Source, O: Drain, N: Named>(
     alloc: Global,
+    words: EventWords<'_>,
+    input: &mut I,
+    output: &mut O,
+    files: &mut N,
+) -> Result<Choice, Refusal> {
+    let mut console = Streams {
+        input,
+        output,
+        files,
+        is_spent: false,
+    };
+    let EventWords {
+        to,
+        answer,
+        mut projects,
+        projects_file,
+        gate,
+    } = words;
+    let is_all = projects.is_empty() && projects_file.is_none();
+    if let Some(name) = projects_file {
+        let text = read_message(alloc, name, &mut console)?;
+        add_names(alloc, &mut projects, text.as_str()).map_err(|_| Refusal::Memory)?;
+    }
+    let bases = match gate {
+        Some(name) => {
+            let gate = read_gate(alloc, name, &mut console)?;
+            Some(gate.bases().copy().map_err(|_| Refusal::Memory)?)
+        }
+        None => None,
+    };
+    let projects = if is_all {
+        Projects::all()
+    } else {
+        Projects::named(projects)
+    };
+    Ok(Choice {
+        to,
+        answer,
+        projects,
+        bases,
+    })
+}
+
+/// Adds the names of a text, one a line. Empty lines and lines that begin with `#` are passed over.
+fn add_names(alloc: Global, names: &mut Vec<String>, text: &str) -> Result<(), NoMemory> {
+    for line in text.split('\n') {
+        let name = line.strip_suffix('\r').unwrap_or(line);
+        if !name.is_empty() && !name.starts_with('#') {
+            names.push(String::from_str(alloc, name)?)?;
+        }
+    }
+    Ok(())
+}
+
+/// Reads Gerrit's lines from the input, and writes what a client of a session says of them to the output, and what is
+/// lost of them to the errors.
+fn events<I: Source, O: Drain, E: Drain>(
+    alloc: Global,
+    choice: Choice,
     input: &mut I,
     output: &mut O,
     errors: &mut E,
 ) -> u8 {
-    let Err(fault) = events_run(alloc, input, output, errors) else {
-        return 0;
+    let reads = match choice.answer {
+        Answer::Stream => Input::Stream,
+        Answer::Query | Answer::Complete => Input::Answer,
     };
-    report_end(alloc, fault.number(), fault.name(), errors)
-}
-
-/// Reads Gerrit's lines from the input, and feeds them to the site at a port, and writes what is lost of them to the
-/// errors. Answers the status: 0 at the end of the input, 1 where the feed ended before.
-pub fn events_to<R: Clock + Net<Stream = TcpStream>, I: Source, E: Drain>(
-    rt: &R,
-    alloc: Global,
-    port: u16,
-    input: &mut I,
-    errors: &mut E,
-) -> u8 {
-    match feed_to(rt, alloc, port, input, errors) {
+    let mut writer = EventWriter {
+        alloc,
+        output: &mut *output,
+        errors: &mut *errors,
+    };
+    match events_run(alloc, reads, &choice.projects, input, &mut writer) {
         Ok(()) => 0,
-        Err(ClientFault::NoSite) => report_no_site(alloc, port, errors),
-        Err(fault) => report_end(alloc, fault.number(), fault.name(), errors),
+        Err(fault) => report_end(alloc, fault, errors),
     }
 }
 
-/// Reports that no site answers at a port. Answers the status.
+/// Reads Gerrit's lines from the input, and feeds them to the site at a port, and writes what has to be asked for to the
+/// output, and what is lost of them to the errors.
+fn events_to<R, I, O, E>(
+    rt: R,
+    alloc: Global,
+    port: u16,
+    choice: Choice,
+    input: I,
+    output: &mut O,
+    errors: &mut E,
+) -> u8
+where
+    R: Net<Stream = TcpStream> + Threads + Wait + Clock + Copy + Send + 'static,
+    I: Source + Send + Drop + 'static,
+    O: Drain,
+    E: Drain,
+{
+    let feeds = match choice.answer {
+        Answer::Stream => Feeds::Stream,
+        Answer::Query => Feeds::Query,
+        Answer::Complete => Feeds::Complete,
+    };
+    let order = FeedOrder {
+        port,
+        feeds,
+        projects: choice.projects,
+        bases: choice.bases,
+    };
+    match feed_to(rt, alloc, order, input, output, errors) {
+        Ok(()) => 0,
+        Err(FeedFault::NoSite) => report_no_site(alloc, port, errors),
+        Err(fault) => report_end(alloc, fault, errors),
+    }
+}
+
+/// Reports that no site answers at a port. Answers the exit status.
 fn report_no_site<E: Drain>(alloc: Global, port: u16, errors: &mut E) -> u8 {
     if let Ok(line) = format!(in alloc; "reviewgate: events 7 NoSite {port}\n") {
         let _lost = write_all(errors, line.as_bytes());
@@ -57,18 +177,13 @@ fn report_no_site<E: Drain>(alloc: Global, port: u16, errors: &mut E) -> u8 {
     1
 }
 
-/// Reports how a feed ended early, where that wasn't reported with a line. Answers the status.
-fn report_end<E: Drain>(alloc: Global, number: u8, name: &'static str, errors: &mut E) -> u8 {
-    if number > 2
+/// Reports how a feed ended early, where that wasn't reported with a line. Answers the exit status.
+fn report_end<E: Drain>(alloc: Global, fault: FeedFault, errors: &mut E) -> u8 {
+    let (number, name) = (fault.number(), fault.name());
+    if fault != FeedFault::Dropped
         && let Ok(line) = format!(in alloc; "reviewgate: events {number} {name}\n")
     {
         let _lost = write_all(errors, line.as_bytes());
     }
     1
-}
-
-/// Reports that the words after `events` ask for nothing. Answers the status.
-pub fn report_misuse<E: Drain>(errors: &mut E) -> u8 {
-    let _lost = write_all(errors, EVENTS_USAGE.as_bytes());
-    2
 }

@@ -9,10 +9,10 @@ use super::output::PatientOutput;
 use super::save::save;
 use super::start::start_of;
 use byte_ends::{Drain, Ends, Source, write_all};
+use command_line::ServeWords;
 use console::{Console, Named, Refusal, Streams, SystemFiles, read_gate, read_snapshot};
 use gate_rules::Gate;
 use replica_core::Replica;
-use serve_words::{ServeWords, Serving, read_serve_words};
 use site_journal::JournalFault;
 use site_ledger::{Keeps, NoJournal};
 use site_net::Stop;
@@ -30,10 +30,8 @@ use std::time::Clock;
 /// How `serve` ended.
 #[derive(Drop)]
 pub enum Ended {
-    /// In order; or its help was printed.
+    /// In order.
     Well,
-    /// The words ask for no site: what is wrong with them.
-    Usage(String),
     /// Its gate file, its snapshot or its output, or memory.
     Refused(Refusal),
     /// Its journal, as it was opened.
@@ -52,10 +50,10 @@ impl Turn for NoTurn {
     fn left(&self, _session: u64) {}
 }
 
-/// Runs the site that the words after `serve` ask for. It reads and judges the gate file and then the snapshot, if one
+/// Runs the site that words ask for. It reads and judges the gate file and then the snapshot, if one
 /// is named, opens the journal, asks whether the start was used, binds, prints `listening P`, runs the site and saves
 /// what it has. What is wrong while it runs is written to `errors`.
-pub fn serve<R, I, E>(rt: R, alloc: Global, words: &[String], input: I, errors: E) -> Ended
+pub fn serve<R, I, E>(rt: R, alloc: Global, words: ServeWords<'_>, input: I, errors: E) -> Ended
 where
     R: Net<Listener = TcpListener, Stream = TcpStream>,
     R: Files<File = File> + Print + Threads + Wait + Clock + AllocGlobal,
@@ -63,20 +61,9 @@ where
     I: Source + Send + Drop + 'static,
     E: Drain + Send + Drop,
 {
-    match read_serve_words(alloc, words) {
-        ServeWords::Serve(serving) => match run_site(rt, alloc, serving, input, errors) {
-            Ok(()) => Ended::Well,
-            Err(ended) => ended,
-        },
-        ServeWords::Help(text) => match write_all(
-            &mut Ends::new(io::writer(&rt)),
-            text.as_bytes(),
-        ) {
-            Ok(()) => Ended::Well,
-            Err(_) => Ended::Refused(Refusal::Output),
-        },
-        ServeWords::Usage(text) => Ended::Usage(text),
-        ServeWords::NoMemory => Ended::Refused(Refusal::Memory),
+    match run_site(rt, alloc, words, input, errors) {
+        Ok(()) => Ended::Well,
+        Err(ended) => ended,
     }
 }
 
@@ -84,7 +71,7 @@ where
 fn run_site<R, I, E>(
     rt: R,
     alloc: Global,
-    serving: Serving<'_>,
+    serving: ServeWords<'_>,
     input: I,
     errors: E,
 ) -> Result<(), Ended>
@@ -126,7 +113,7 @@ where
 /// What a site is run with, once its inputs are read.
 #[derive(Drop)]
 struct Site<'a> {
-    serving: Serving<'a>,
+    serving: ServeWords<'a>,
     gate: Gate,
     replica: Replica,
 }
@@ -191,8 +178,8 @@ fn output_of<R: Print + Threads + Wait + Clock + Copy + Send + 'static>(
 }
 
 /// What a site is run with.
-fn setup_of(serving: Serving<'_>, start: u32, gate: Gate, replica: Replica) -> Setup {
-    let Serving {
+fn setup_of(serving: ServeWords<'_>, start: u32, gate: Gate, replica: Replica) -> Setup {
+    let ServeWords {
         peers,
         site,
         workers,
