@@ -1,19 +1,23 @@
 //! Feeds of sites that answer by a script, in this process or over sockets of this machine.
 
 use super::sites::listening;
-use byte_ends::{Broken, Ends};
-use event_feed::FeedFault;
+use byte_ends::{Broken, Drain, Ends};
+use event_feed::{FeedFault, Input};
 use feed_client::{
-    ClientFault, EventWords, Intake, IntakeFault, Refusal, feed_site, feed_to, read_answer,
-    read_event_words,
+    FeedOrder, Feeds, Intake, IntakeFault, Listing, Noted, Refusal, SiteFeed, complete_site,
+    feed_site, feed_to, read_answer,
 };
-use op_text::write_body;
-use review_ops::{Body, Stamp};
+use footer_text::Bases;
+use gerrit_events::Projects;
+use op_text::{read_op, write_body};
+use replica_core::Missing;
+use review_ops::{Body, Op, Stamp};
 use state_core::State;
 use std::alloc::Global;
 use std::io::{Read, Write};
 use std::net::{Net, TcpListener, TcpStream};
 use std::process::Abort;
+use std::sync::Wait;
 use std::test::Fail;
 use std::thread::Threads;
 use std::time::Clock;
@@ -50,7 +54,8 @@ const BODIES: &str = concat!(
 
 pub const BAD_LINE: &str = "reviewgate: events 1 BadEvent 3 line\n";
 
-/// A site that notes what it is offered, and answers one of its offers so.
+/// A site that notes what it is offered, answers one of its offers so, and tells of some operations before the first
+/// line.
 #[derive(Drop)]
 struct Scripted {
     alloc: Global,
@@ -58,6 +63,8 @@ struct Scripted {
     count: u64,
     /// The number of that offer, from 1, and its answer.
     special: (u64, Result<Stamp, IntakeFault>),
+    /// What came to it beside.
+    news: Vec<Op>,
 }
 
 impl Scripted {
@@ -67,6 +74,7 @@ impl Scripted {
             offered: String::new(alloc),
             count: 0,
             special: (number, answer),
+            news: Vec::new(alloc),
         }
     }
 
@@ -82,6 +90,8 @@ impl Scripted {
 impl Intake for Scripted {
     ghost replies = { λ old deed reply new. Unit {0} };
 
+    ghost answers = { λ old round new. Unit {0} };
+
     fn take_in(&mut self, body: &Body) -> Result<Stamp, IntakeFault> {
         let Some(stamp) = self.note(body) else {
             return Err(IntakeFault::NoMemory);
@@ -91,111 +101,317 @@ impl Intake for Scripted {
         }
         Ok(stamp)
     }
+
+    /// Two rounds, of which the first has one operation.
+    fn next_round(&mut self) -> Result<Missing, IntakeFault> {
+        let mut ops = Vec::new(self.alloc);
+        if let Some(op) = self.news.pop()
+            && ops.push(op).is_err()
+        {
+            return Err(IntakeFault::NoMemory);
+        }
+        let more = !ops.is_empty();
+        Ok(Missing { ops, more })
+    }
 }
 
-/// Feeds lines to a site, and asserts what is reported and how the feed ends.
-fn assert_feed(
+/// A feed of a site, whose outputs are texts.
+type TestFeed = SiteFeed<Scripted, Ends<Vec<u8>>, Ends<Vec<u8>>>;
+
+/// A feed of a site with this script that knows nothing yet.
+fn feed_of(alloc: Global, number: u64, answer: Result<Stamp, IntakeFault>) -> TestFeed {
+    SiteFeed {
+        alloc,
+        bases: None,
+        state: State::new(alloc),
+        site: Scripted::new(alloc, number, answer),
+        output: Ends::new(Vec::new(alloc)),
+        errors: Ends::new(Vec::new(alloc)),
+    }
+}
+
+/// A feed of a site that takes in all.
+fn taking_feed(alloc: Global) -> TestFeed {
+    feed_of(alloc, 0, Err(IntakeFault::Ended))
+}
+
+/// What is wanted of a feed: what is asked for, what is reported, and how it ends.
+#[derive(Clone, Copy)]
+struct Wanted {
+    asks: &'static str,
+    reports: &'static str,
+    ended: Result<(), FeedFault>,
+}
+
+/// Asserts what is asked for and reported by a feed that ended so, and forgets both.
+fn assert_ended(
     rt: &(impl Abort + AllocGlobal),
-    state: &mut State,
-    site: &mut Scripted,
-    lines: &str,
-    wanted: (&str, Result<(), ClientFault>),
+    feed: &mut TestFeed,
+    ended: Result<(), FeedFault>,
+    wanted: Wanted,
 ) {
-    let mut errors = Ends::new(Vec::new(rt.alloc()));
-    let mut source = Ends::new(lines.as_bytes());
-    let ended = feed_site(rt.alloc(), state, &mut source, site, &mut errors);
-    assert_eq!(rt; ended, wanted.1);
-    assert_eq!(rt; errors.into_inner().as_slice(), wanted.0.as_bytes());
+    assert_eq!(rt; ended, wanted.ended);
+    assert_eq!(rt; feed.output.get_ref().as_slice(), wanted.asks.as_bytes());
+    assert_eq!(rt; feed.errors.get_ref().as_slice(), wanted.reports.as_bytes());
+    feed.output = Ends::new(Vec::new(rt.alloc()));
+    feed.errors = Ends::new(Vec::new(rt.alloc()));
 }
 
-/// No offer is answered in a way of its own.
-const ALL_TAKEN: (u64, Result<Stamp, IntakeFault>) = (0, Err(IntakeFault::Ended));
+/// Feeds lines to a site, and asserts what is asked for and reported and how the feed ends.
+fn assert_feed(rt: &(impl Abort + AllocGlobal), feed: &mut TestFeed, lines: &str, wanted: Wanted) {
+    let mut source = Ends::new(lines.as_bytes());
+    let ended = feed_site(
+        rt.alloc(),
+        Input::Stream,
+        &Projects::all(),
+        &mut source,
+        feed,
+    );
+    assert_ended(rt, feed, ended, wanted);
+}
 
 #[test]
 fn what_is_new_is_sent_once(rt: HostRuntime) {
-    let alloc = rt.alloc();
-    let mut state = State::new(alloc);
-    let mut site = Scripted::new(alloc, ALL_TAKEN.0, ALL_TAKEN.1);
-    assert_feed(&rt, &mut state, &mut site, EVENTS, (BAD_LINE, Ok(())));
-    assert_eq!(rt; site.offered.as_str(), BODIES);
-    assert_feed(&rt, &mut state, &mut site, EVENTS, (BAD_LINE, Ok(())));
-    assert_eq!(rt; site.count, 4);
+    let mut feed = taking_feed(rt.alloc());
+    let wanted = Wanted {
+        asks: "ask 7\n",
+        reports: BAD_LINE,
+        ended: Ok(()),
+    };
+    assert_feed(&rt, &mut feed, EVENTS, wanted);
+    assert_eq!(rt; feed.site.offered.as_str(), BODIES);
+    let again = Wanted { asks: "", ..wanted };
+    assert_feed(&rt, &mut feed, EVENTS, again);
+    assert_eq!(rt; feed.site.count, 4);
 }
 
 #[test]
 fn what_the_site_refuses_is_reported(rt: HostRuntime) {
-    let alloc = rt.alloc();
-    let mut state = State::new(alloc);
     let refused = Err(IntakeFault::Refused(Refusal::BadBody));
-    let mut site = Scripted::new(alloc, 2, refused);
-    let lines = "reviewgate: events 6 Refused 2 8 BadBody\nreviewgate: events 1 BadEvent 3 line\n";
-    assert_feed(&rt, &mut state, &mut site, EVENTS, (lines, Ok(())));
-    assert_eq!(rt; site.count, 4);
-    assert_feed(&rt, &mut state, &mut site, EVENTS, (BAD_LINE, Ok(())));
-    assert_eq!(rt; site.count, 5);
+    let mut feed = feed_of(rt.alloc(), 2, refused);
+    let wanted = Wanted {
+        asks: "ask 7\n",
+        reports: "reviewgate: events 6 Refused 2 8 BadBody\nreviewgate: events 1 BadEvent 3 line\n",
+        ended: Ok(()),
+    };
+    assert_feed(&rt, &mut feed, EVENTS, wanted);
+    assert_eq!(rt; feed.site.count, 4);
+    let again = Wanted {
+        asks: "",
+        reports: BAD_LINE,
+        ended: Ok(()),
+    };
+    assert_feed(&rt, &mut feed, EVENTS, again);
+    assert_eq!(rt; feed.site.count, 5);
 }
 
 #[test]
 fn a_feed_ends_where_no_answer_comes(rt: HostRuntime) {
-    let alloc = rt.alloc();
     for (lost, fault) in [
-        (IntakeFault::Ended, ClientFault::Ended),
-        (
-            IntakeFault::NoMemory,
-            ClientFault::Feed(FeedFault::NoMemory),
-        ),
+        (IntakeFault::Ended, FeedFault::Ended),
+        (IntakeFault::NoMemory, FeedFault::NoMemory),
     ] {
-        let mut state = State::new(alloc);
-        let mut site = Scripted::new(alloc, 2, Err(lost));
-        assert_feed(&rt, &mut state, &mut site, EVENTS, ("", Err(fault)));
-        assert_eq!(rt; site.count, 2);
+        let mut feed = feed_of(rt.alloc(), 2, Err(lost));
+        let wanted = Wanted {
+            asks: "ask 7\n",
+            reports: "",
+            ended: Err(fault),
+        };
+        assert_feed(&rt, &mut feed, EVENTS, wanted);
+        assert_eq!(rt; feed.site.count, 2);
     }
 }
 
 #[test]
 fn a_feed_ends_where_events_were_dropped(rt: HostRuntime) {
-    let alloc = rt.alloc();
-    let mut state = State::new(alloc);
-    let mut site = Scripted::new(alloc, ALL_TAKEN.0, ALL_TAKEN.1);
+    let mut feed = taking_feed(rt.alloc());
     let lines = "{\"type\":\"stats\"}\n{\"type\":\"dropped-output\"}\n{}\n";
-    let ended = Err(ClientFault::Feed(FeedFault::Dropped));
-    let wanted = ("reviewgate: events 2 Dropped 2\n", ended);
-    assert_feed(&rt, &mut state, &mut site, lines, wanted);
-    assert_feed(
-        &rt,
-        &mut state,
-        &mut site,
-        "{",
-        ("reviewgate: events 1 BadEvent 1 line\n", Ok(())),
-    );
-    assert_eq!(rt; site.count, 0);
+    let wanted = Wanted {
+        asks: "",
+        reports: "reviewgate: events 2 Dropped 2\n",
+        ended: Err(FeedFault::Dropped),
+    };
+    assert_feed(&rt, &mut feed, lines, wanted);
+    let rest = Wanted {
+        asks: "",
+        reports: "reviewgate: events 1 BadEvent 1 line\n",
+        ended: Ok(()),
+    };
+    assert_feed(&rt, &mut feed, "{", rest);
+    assert_eq!(rt; feed.site.count, 0);
 }
 
+/// A merged change, that is abandoned and restored afterwards.
+const AFTER_ITS_MERGE: &str = concat!(
+    r#"{"type":"change-merged","change":{"number":7}}"#,
+    "\n",
+    r#"{"type":"change-abandoned","change":{"number":7}}"#,
+    "\n",
+    r#"{"type":"change-restored","change":{"number":7}}"#,
+    "\n",
+);
+
 #[test]
-fn ends_that_fail_end_the_feed(rt: HostRuntime) -> Result<(), Fail> {
-    let alloc = rt.alloc();
-    let mut state = State::new(alloc);
-    let mut site = Scripted::new(alloc, ALL_TAKEN.0, ALL_TAKEN.1);
-    let mut errors = Ends::new(Vec::new(alloc));
-    let mut source = Broken::at_call(Ends::new(EVENTS.as_bytes()), 1);
-    let ended = feed_site(alloc, &mut state, &mut source, &mut site, &mut errors);
-    assert_eq!(rt; ended, Err(ClientFault::Feed(FeedFault::ReadFault)));
-    let mut errors = Broken::at_call(errors, 1);
-    let mut source = Ends::new(EVENTS.as_bytes());
-    let ended = feed_site(alloc, &mut state, &mut source, &mut site, &mut errors);
-    assert_eq!(rt; ended, Err(ClientFault::Feed(FeedFault::WriteFault)));
+fn a_merged_change_is_neither_abandoned_nor_restored(rt: HostRuntime) {
+    let mut feed = taking_feed(rt.alloc());
+    let wanted = Wanted {
+        asks: "",
+        reports: "reviewgate: events 1 BadEvent 2 status\nreviewgate: events 1 BadEvent 3 status\n",
+        ended: Ok(()),
+    };
+    assert_feed(&rt, &mut feed, AFTER_ITS_MERGE, wanted);
+    assert_eq!(rt;
+        feed.site.offered.as_str(),
+        "{\"change\":7,\"op\":\"merged\"}\n"
+    );
+}
+
+/// A merge that another client brought.
+const NEWS: &[u8] = br#"{"change":7,"op":"merged","seq":9,"site":2,"start":2,"time":9}"#;
+
+#[test]
+fn what_others_bring_is_not_sent(rt: HostRuntime) -> Result<(), Fail> {
+    let mut feed = taking_feed(rt.alloc());
+    feed.site.news.push(read_op(rt.alloc(), NEWS)?)?;
+    let wanted = Wanted {
+        asks: "",
+        reports: "",
+        ended: Ok(()),
+    };
+    let line = "{\"type\":\"change-merged\",\"change\":{\"number\":7}}\n";
+    assert_feed(&rt, &mut feed, line, wanted);
+    assert_eq!(rt; feed.site.count, 0);
     Ok(())
 }
 
+/// A new patch set on a parent that nothing is known of, which needs another change beside one that it names by
+/// something else.
+const NEEDY: &str = concat!(
+    r#"{"number":9,"status":"NEW","commitMessage":"m\n\nDepends-On: https://r/4\nDepends-On: https://s/5\n","#,
+    r#""currentPatchSet":{"number":1},"dependsOn":[{"number":3}]}"#,
+    "\n",
+    r#"{"type":"stats","rowCount":1}"#,
+    "\n",
+);
+
 #[test]
-fn faults_have_numbers(rt: HostRuntime) {
-    for (fault, number, name) in [
-        (ClientFault::Feed(FeedFault::Dropped), 2, "Dropped"),
-        (ClientFault::NoSite, 7, "NoSite"),
-        (ClientFault::Ended, 8, "Ended"),
+fn what_is_unknown_is_asked_for(rt: HostRuntime) -> Result<(), Fail> {
+    let mut feed = taking_feed(rt.alloc());
+    feed.bases = Some(Bases::new(rt.alloc(), &["https://r/"])?);
+    let wanted = Wanted {
+        asks: "ask 3\nask 4\n",
+        reports: "",
+        ended: Ok(()),
+    };
+    assert_feed(&rt, &mut feed, NEEDY, wanted);
+    Ok(())
+}
+
+/// Feeds the answer of a query that lists every open change, to a feed whose record has change 9 as new. Asserts what is
+/// asked for and reported, how that ends and how many bodies were offered.
+fn assert_completed(rt: &(impl Abort + AllocGlobal), lines: &str, wanted: Wanted, count: u64) {
+    let alloc = rt.alloc();
+    let mut feed = taking_feed(alloc);
+    let known = Wanted {
+        asks: "ask 3\n",
+        reports: "",
+        ended: Ok(()),
+    };
+    assert_feed(rt, &mut feed, NEEDY, known);
+    let before = feed.site.count;
+    let mut listing = Listing {
+        feed,
+        noted: Noted::new(alloc),
+    };
+    let mut source = Ends::new(lines.as_bytes());
+    let ended = complete_site(alloc, &Projects::all(), &mut source, &mut listing);
+    assert_ended(rt, &mut listing.feed, ended, wanted);
+    assert_eq!(rt; listing.feed.site.count.wrapping_sub(before), count);
+}
+
+/// Change 9 is asked for and abandoned where a whole answer doesn't list it, and each line of the answer was read.
+#[test]
+fn what_an_answer_lacks_is_abandoned(rt: HostRuntime) {
+    for (lines, asks, count) in [
+        ("{\"type\":\"stats\"}\n", "ask 9\n", 1u64),
+        (NEEDY, "ask 3\n", 0),
     ] {
-        assert_eq!(rt; (fault.number(), fault.name()), (number, name));
+        let wanted = Wanted {
+            asks,
+            reports: "",
+            ended: Ok(()),
+        };
+        assert_completed(&rt, lines, wanted, count);
     }
+}
+
+/// Where an answer isn't whole, or a line of it wasn't read, nothing is asked for or abandoned.
+#[test]
+fn an_answer_that_is_not_whole_abandons_nothing(rt: HostRuntime) {
+    for (lines, reports) in [
+        ("", ""),
+        ("{\"type\":\"stats\",\"moreChanges\":true}\n", ""),
+        (
+            "{}\n{\"type\":\"stats\"}\n",
+            "reviewgate: events 1 BadEvent 1 number\n",
+        ),
+        (
+            "[]\n{\"type\":\"stats\"}\n",
+            "reviewgate: events 1 BadEvent 1 line\n",
+        ),
+    ] {
+        let wanted = Wanted {
+            asks: "",
+            reports,
+            ended: Err(FeedFault::Incomplete),
+        };
+        assert_completed(&rt, lines, wanted, 0);
+    }
+}
+
+/// How a feed of the events ends from a source that fails at its first call, or to outputs of which one does.
+fn ended_with<O: Drain + Drop, E: Drain + Drop>(
+    alloc: Global,
+    fails: bool,
+    output: O,
+    errors: E,
+) -> Result<(), FeedFault> {
+    let mut feed = SiteFeed {
+        alloc,
+        bases: None,
+        state: State::new(alloc),
+        site: Scripted::new(alloc, 0, Err(IntakeFault::Ended)),
+        output,
+        errors,
+    };
+    let call = if fails { 1 } else { 99 };
+    let mut source = Broken::at_call(Ends::new(EVENTS.as_bytes()), call);
+    feed_site(
+        alloc,
+        Input::Stream,
+        &Projects::all(),
+        &mut source,
+        &mut feed,
+    )
+}
+
+#[test]
+fn ends_that_fail_end_the_feed(rt: HostRuntime) {
+    let alloc = rt.alloc();
+    let text = || Ends::new(Vec::<u8>::new(alloc));
+    let broken = || Broken::at_call(Ends::new(Vec::<u8>::new(alloc)), 1);
+    assert_eq!(rt;
+        ended_with(alloc, true, text(), text()),
+        Err(FeedFault::ReadFault)
+    );
+    assert_eq!(rt;
+        ended_with(alloc, false, broken(), text()),
+        Err(FeedFault::WriteFault)
+    );
+    assert_eq!(rt;
+        ended_with(alloc, false, text(), broken()),
+        Err(FeedFault::WriteFault)
+    );
 }
 
 /// What the session of a site may answer, beside the greatest stamp, and how each is read.
@@ -227,61 +443,72 @@ fn answers_are_read(rt: HostRuntime) -> Result<(), Fail> {
     Ok(())
 }
 
-/// Words after `events`, and what they ask for.
-const WORDS: [(&[&str], EventWords); 11] = [
-    (&[], EventWords::Output),
-    (&["--to", "8101"], EventWords::To(8101)),
-    (&["--to=65535"], EventWords::To(65535)),
-    (&["--to", "0"], EventWords::Usage),
-    (&["--to", "65536"], EventWords::Usage),
-    (&["--to", ""], EventWords::Usage),
-    (&["--port", "1"], EventWords::Usage),
-    (&["--help"], EventWords::Help),
-    (&["--to"], EventWords::Usage),
-    (&["x=1"], EventWords::Usage),
-    (&["--to", "1", "2"], EventWords::Usage),
-];
+/// How a feed of a site ended, what it said on its output, and what was reported.
+pub type Ending = (Result<(), FeedFault>, Vec<u8>, Vec<u8>);
 
-#[test]
-fn words_ask_for_a_port(rt: HostRuntime) {
-    for (words, wanted) in WORDS {
-        assert_eq!(rt; read_event_words(words), wanted);
-    }
+/// Feeds an input to the site at a port.
+pub fn feed_from<R, I>(rt: R, alloc: Global, port: u16, feeds: Feeds, input: I) -> Ending
+where
+    R: Net<Stream = TcpStream> + Threads + Wait + Clock + Copy + Send + 'static,
+    I: Read + Send + Drop + 'static,
+{
+    let order = FeedOrder {
+        port,
+        feeds,
+        projects: Projects::all(),
+        bases: None,
+    };
+    let (mut output, mut errors) = (Ends::new(Vec::new(alloc)), Ends::new(Vec::new(alloc)));
+    let input = Ends::new(input);
+    let ended = feed_to(rt, alloc, order, input, &mut output, &mut errors);
+    (ended, output.into_inner(), errors.into_inner())
 }
 
-/// Feeds the events to the site at a port. How that ended, and what was reported.
-pub fn feed<R: Clock + Net<Listener = TcpListener, Stream = TcpStream>>(
-    rt: &R,
-    alloc: Global,
-    port: u16,
-) -> (Result<(), ClientFault>, Vec<u8>) {
-    let mut errors = Ends::new(Vec::new(alloc));
-    let mut source = Ends::new(EVENTS.as_bytes());
-    let ended = feed_to(rt, alloc, port, &mut source, &mut errors);
-    (ended, errors.into_inner())
+/// Feeds the events to the site at a port.
+pub fn feed<R>(rt: R, alloc: Global, port: u16) -> Ending
+where
+    R: Net<Stream = TcpStream> + Threads + Wait + Clock + Copy + Send + 'static,
+{
+    feed_from(rt, alloc, port, Feeds::Stream, EVENTS.as_bytes())
+}
+
+/// Reads up to the end of a line.
+fn read_line(session: &mut TcpStream) -> io::Result<()> {
+    let mut byte = [0u8; 1];
+    for _ in 0..4096 {
+        if session.read(&mut byte)? == 0 || byte[0] == b'\n' {
+            break;
+        }
+    }
+    Ok(())
+}
+
+/// A site with nothing, whose record is pulled.
+fn answer_pull(listener: &TcpListener) -> io::Result<TcpStream> {
+    let (mut session, _address) = listener.accept()?;
+    read_line(&mut session)?;
+    session.write_all(b"hello 2\n")?;
+    read_line(&mut session)?;
+    session.write_all(b"done\n")?;
+    Ok(session)
 }
 
 /// A site with nothing, which answers this to the first body and then goes.
 fn go_away(listener: TcpListener, answer: &str) -> io::Result<()> {
-    let (mut pulls, _address) = listener.accept()?;
-    pulls.write_all(b"hello 2\ndone\n")?;
-    let _count = pulls.read(&mut [0; 64])?;
-    let (mut session, _address) = listener.accept()?;
-    session.write_all(b"hello 2\n")?;
-    let _count = session.read(&mut [0; 64])?;
-    session.write_all(answer.as_bytes())?;
-    let _count = session.read(&mut [0; 64])?;
-    Ok(())
+    let mut session = answer_pull(&listener)?;
+    read_line(&mut session)?;
+    session.write_all(answer.as_bytes())
 }
 
-/// How a feed of the events ends whose site goes with this answer, and what is reported.
-fn feed_that_ends<R>(rt: &R, answer: &str) -> io::Result<(Result<(), ClientFault>, Vec<u8>)>
+/// How a feed of the events ends whose site goes with this answer.
+fn feed_that_ends<R>(rt: R, answer: &str) -> io::Result<Ending>
 where
-    R: Clock + Net<Listener = TcpListener, Stream = TcpStream> + Threads + Sync + AllocGlobal,
+    R: Clock + Net<Listener = TcpListener, Stream = TcpStream> + Threads + Wait,
+    R: AllocGlobal + Copy + Send + Sync + 'static,
 {
-    let (listener, port) = listening(rt)?;
+    let (listener, port) = listening(&rt)?;
     let (gone, fed) = thread::join(
-        rt,
+        &rt,
         || go_away(listener, answer),
         || feed(rt, rt.alloc(), port),
     );
@@ -291,9 +518,10 @@ where
 
 #[test]
 fn the_end_of_a_site_ends_the_feed(rt: HostRuntime) -> Result<(), Fail> {
-    for answer in ["", "what\n", "ok 1,2,3,"] {
-        let (ended, errors) = feed_that_ends(&rt, answer)?;
-        assert_eq!(rt; ended, Err(ClientFault::Ended));
+    for answer in ["", "what\n", "ok 1,2,3,", "no 11 Else\n"] {
+        let (ended, output, errors) = feed_that_ends(rt, answer)?;
+        assert_eq!(rt; ended, Err(FeedFault::Ended));
+        assert_eq!(rt; output.as_slice(), b"pulled 0\nask 7\n".as_slice());
         assert!(rt; errors.is_empty());
     }
     Ok(())
@@ -303,8 +531,45 @@ fn the_end_of_a_site_ends_the_feed(rt: HostRuntime) -> Result<(), Fail> {
 fn a_port_without_a_site_is_refused(rt: HostRuntime) -> Result<(), Fail> {
     let (listener, port) = listening(&rt)?;
     drop(listener);
-    let (ended, errors) = feed(&rt, rt.alloc(), port);
-    assert_eq!(rt; ended, Err(ClientFault::NoSite));
+    let (ended, output, errors) = feed(rt, rt.alloc(), port);
+    assert_eq!(rt; ended, Err(FeedFault::NoSite));
+    assert!(rt; output.is_empty());
     assert!(rt; errors.is_empty());
+    Ok(())
+}
+
+/// An input that is silent until something is sent, and what sends it.
+pub fn silent_input<R>(rt: &R) -> io::Result<(TcpStream, TcpStream)>
+where
+    R: Net<Listener = TcpListener, Stream = TcpStream>,
+{
+    let (listener, port) = listening(rt)?;
+    let sender = TcpStream::connect(rt, ("127.0.0.1", port))?;
+    let (input, _address) = listener.accept()?;
+    Ok((sender, input))
+}
+
+/// A site that ends its session once its record was pulled.
+fn end_after_pull(listener: TcpListener) -> io::Result<()> {
+    drop(answer_pull(&listener)?);
+    Ok(())
+}
+
+/// Where the session ends while the input is silent the feed does, also one of a query.
+#[test]
+fn a_feed_sees_the_end_of_its_session(rt: HostRuntime) -> Result<(), Fail> {
+    for feeds in [Feeds::Stream, Feeds::Query, Feeds::Complete] {
+        let (listener, port) = listening(&rt)?;
+        let (sender, input) = silent_input(&rt)?;
+        let (gone, (ended, output, _errors)) = thread::join(
+            &rt,
+            || end_after_pull(listener),
+            || feed_from(rt, rt.alloc(), port, feeds, input),
+        );
+        gone?;
+        drop(sender);
+        assert_eq!(rt; ended, Err(FeedFault::Ended));
+        assert_eq!(rt; output.as_slice(), b"pulled 0\n".as_slice());
+    }
     Ok(())
 }

@@ -1,11 +1,12 @@
-//! `serve` by words, over files and sockets of this machine.
+//! `serve` by what words ask for, over files and sockets of this machine.
 
 use super::sites::listening;
 use byte_ends::Ends;
+use command_line::ServeWords;
 use serve_command::{Ended, serve};
 use site_journal::JournalFault;
 use site_serve::ServeFault;
-use std::alloc::{AllocError, Global};
+use std::alloc::Global;
 use std::fs::{File, OpenOptions};
 use std::io::Print;
 use std::net::{Net, TcpListener, TcpStream};
@@ -31,39 +32,54 @@ const JOURNAL: &[u8] =
 const TORN: &[u8] =
     b"reviewgate 2\n{\"change\":5,\"op\":\"merged\",\"seq\":1,\"site\":1,\"start\":2,\"time\":1}\n{\"change\":5,";
 
-/// Words as the command line hands them over.
-fn words_of(alloc: Global, words: &[&str]) -> Result<Vec<String>, AllocError> {
-    let mut owned = Vec::new(alloc);
-    for word in words {
-        owned.push(String::from_str(alloc, word)?)?;
+/// A site whose gate file is the standard input.
+fn site_words<'a>(alloc: Global) -> ServeWords<'a> {
+    ServeWords {
+        gate: "-",
+        peers: Vec::new(alloc),
+        site: 1,
+        start: Some(1),
+        port: 0,
+        workers: 2,
+        pause_ms: 1000,
+        sessions: 0,
+        idle_ms: 0,
+        until_input_ends: false,
+        load: None,
+        save: None,
+        journal: None,
     }
-    Ok(owned)
 }
 
-/// Runs the site that these words ask for, under a gate file on the input, which ends after it.
-fn serve_input<R>(rt: R, words: &[&str]) -> Result<Ended, AllocError>
+/// A site that ends with its input, and keeps a journal in the file of this name.
+fn journal_words<'a>(alloc: Global, name: &'a str) -> ServeWords<'a> {
+    ServeWords {
+        gate: "-",
+        peers: Vec::new(alloc),
+        site: 1,
+        start: None,
+        port: 0,
+        workers: 2,
+        pause_ms: 1000,
+        sessions: 0,
+        idle_ms: 0,
+        until_input_ends: true,
+        load: None,
+        save: None,
+        journal: Some(name),
+    }
+}
+
+/// Runs such a site, under a gate file on the input, which ends after it.
+fn serve_input<R>(rt: R, words: ServeWords<'_>) -> Ended
 where
     R: Net<Listener = TcpListener, Stream = TcpStream>,
     R: Files<File = File> + Print + Threads + Wait + Clock + AllocGlobal,
     R: Copy + Send + Sync + 'static,
 {
-    let words = words_of(rt.alloc(), words)?;
     let input = Ends::new(GATE.as_bytes());
     let errors = Ends::new(Vec::new(rt.alloc()));
-    Ok(serve(rt, rt.alloc(), words.as_slice(), input, errors))
-}
-
-/// How a site ends with its input that keeps a journal in the file of this name.
-fn serve_journal<R>(rt: R, name: &str) -> Result<Ended, AllocError>
-where
-    R: Net<Listener = TcpListener, Stream = TcpStream>,
-    R: Files<File = File> + Print + Threads + Wait + Clock + AllocGlobal,
-    R: Copy + Send + Sync + 'static,
-{
-    serve_input(
-        rt,
-        &["-", "--site", "1", "--journal", name, "--until-input-ends"],
-    )
+    serve(rt, rt.alloc(), words, input, errors)
 }
 
 /// The contents of a file, which is then removed.
@@ -74,96 +90,59 @@ fn take_away<R: Files<File = File> + AllocGlobal>(rt: &R, name: &str) -> io::Res
 }
 
 #[test]
-fn words_that_ask_for_no_site_are_misuse(rt: HostRuntime) -> Result<(), Fail> {
-    let ended = serve_input(rt, &["-", "--site", "0", "--start", "1"])?;
-    assert!(rt; matches!(&ended, Ended::Usage(_)));
-    Ok(())
-}
-
-#[test]
-fn a_gate_file_that_is_not_there_is_refused(rt: HostRuntime) -> Result<(), Fail> {
-    let ended = serve_input(rt, &["no/such/file", "--site", "1", "--start", "1"])?;
+fn a_gate_file_that_is_not_there_is_refused(rt: HostRuntime) {
+    let mut words = site_words(rt.alloc());
+    words.gate = "no/such/file";
+    let ended = serve_input(rt, words);
     assert!(rt; matches!(&ended, Ended::Refused(_)));
-    Ok(())
-}
-
-/// How a site ends that is to listen at this port.
-fn serve_at<R>(rt: R, port: u16) -> Result<Ended, AllocError>
-where
-    R: Net<Listener = TcpListener, Stream = TcpStream>,
-    R: Files<File = File> + Print + Threads + Wait + Clock + AllocGlobal,
-    R: Copy + Send + Sync + 'static,
-{
-    let port = format!(in rt.alloc(); "{port}")?;
-    serve_input(
-        rt,
-        &["-", "--site", "1", "--start", "1", "--port", port.as_str()],
-    )
 }
 
 #[test]
 fn a_port_that_is_taken_is_refused(rt: HostRuntime) -> Result<(), Fail> {
     let (_listener, port) = listening(&rt)?;
-    let ended = serve_at(rt, port)?;
+    let mut words = site_words(rt.alloc());
+    words.port = port;
+    let ended = serve_input(rt, words);
     assert!(rt; matches!(&ended, Ended::Site(ServeFault::NoBind)));
     Ok(())
 }
 
 #[test]
-fn a_site_ends_in_order_with_its_input(rt: HostRuntime) -> Result<(), Fail> {
-    let ended = serve_input(
-        rt,
-        &["-", "--site", "1", "--start", "1", "--until-input-ends"],
-    )?;
+fn a_site_ends_in_order_with_its_input(rt: HostRuntime) {
+    let mut words = site_words(rt.alloc());
+    words.until_input_ends = true;
+    let ended = serve_input(rt, words);
     assert!(rt; matches!(&ended, Ended::Well));
-    Ok(())
 }
 
 #[test]
-fn a_record_that_cannot_be_saved_is_a_fault(rt: HostRuntime) -> Result<(), Fail> {
-    let save = "no/such/folder/record.snapshot";
-    let words = [
-        "-",
-        "--site",
-        "1",
-        "--start",
-        "1",
-        "--until-input-ends",
-        "--save",
-        save,
-    ];
-    let ended = serve_input(rt, words.as_slice())?;
+fn a_record_that_cannot_be_saved_is_a_fault(rt: HostRuntime) {
+    let mut words = site_words(rt.alloc());
+    words.until_input_ends = true;
+    words.save = Some("no/such/folder/record.snapshot");
+    let ended = serve_input(rt, words);
     assert!(rt; matches!(&ended, Ended::Site(ServeFault::NoSave)));
-    Ok(())
 }
 
 /// Whether a site ends well with its input that keeps a journal and is given a snapshot.
-fn adds_to_journal<R>(rt: R, journal: &str, snapshot: &str) -> Result<bool, AllocError>
+fn adds_to_journal<R>(rt: R, journal: &str, snapshot: &str) -> bool
 where
     R: Net<Listener = TcpListener, Stream = TcpStream>,
     R: Files<File = File> + Print + Threads + Wait + Clock + AllocGlobal,
     R: Copy + Send + Sync + 'static,
 {
-    let site = [
-        "-",
-        "--site",
-        "1",
-        "--journal",
-        journal,
-        "--load",
-        snapshot,
-        "--until-input-ends",
-    ];
-    let ended = serve_input(rt, site.as_slice())?;
-    Ok(matches!(&ended, Ended::Well))
+    let mut words = journal_words(rt.alloc(), journal);
+    words.load = Some(snapshot);
+    let ended = serve_input(rt, words);
+    matches!(&ended, Ended::Well)
 }
 
 #[test]
 fn a_journal_gets_what_a_snapshot_has_once(rt: HostRuntime) -> Result<(), Fail> {
     fs::write(&rt, "given.tmp", SNAPSHOT)?;
-    assert!(rt; adds_to_journal(rt, "added.tmp", "given.tmp")?);
+    assert!(rt; adds_to_journal(rt, "added.tmp", "given.tmp"));
     assert_eq!(rt; fs::read(&rt, "added.tmp")?.as_slice(), JOURNAL);
-    assert!(rt; adds_to_journal(rt, "added.tmp", "given.tmp")?);
+    assert!(rt; adds_to_journal(rt, "added.tmp", "given.tmp"));
     assert_eq!(rt; take_away(&rt, "added.tmp")?.as_slice(), JOURNAL);
     fs::remove_file(&rt, "given.tmp")?;
     Ok(())
@@ -172,7 +151,7 @@ fn a_journal_gets_what_a_snapshot_has_once(rt: HostRuntime) -> Result<(), Fail> 
 #[test]
 fn a_torn_line_is_cut_off(rt: HostRuntime) -> Result<(), Fail> {
     fs::write(&rt, "torn.tmp", TORN)?;
-    let ended = serve_journal(rt, "torn.tmp")?;
+    let ended = serve_input(rt, journal_words(rt.alloc(), "torn.tmp"));
     assert!(rt; matches!(&ended, Ended::Well));
     assert_eq!(rt; take_away(&rt, "torn.tmp")?.as_slice(), JOURNAL);
     Ok(())
@@ -181,7 +160,7 @@ fn a_torn_line_is_cut_off(rt: HostRuntime) -> Result<(), Fail> {
 #[test]
 fn another_file_is_no_journal_and_stays(rt: HostRuntime) -> Result<(), Fail> {
     fs::write(&rt, "other.tmp", SNAPSHOT)?;
-    let ended = serve_journal(rt, "other.tmp")?;
+    let ended = serve_input(rt, journal_words(rt.alloc(), "other.tmp"));
     assert!(rt; matches!(&ended, Ended::Journal(JournalFault::BadLine(3, _))));
     assert_eq!(rt; take_away(&rt, "other.tmp")?.as_slice(), SNAPSHOT);
     Ok(())
@@ -199,10 +178,10 @@ fn locked<R: Files<File = File>>(rt: &R, name: &str) -> Result<File, Fail> {
 #[test]
 fn a_journal_is_one_process_s(rt: HostRuntime) -> Result<(), Fail> {
     let held = locked(&rt, "held.tmp")?;
-    let ended = serve_journal(rt, "held.tmp")?;
+    let ended = serve_input(rt, journal_words(rt.alloc(), "held.tmp"));
     assert!(rt; matches!(&ended, Ended::Site(ServeFault::Locked)));
     drop(held);
-    let ended = serve_journal(rt, "held.tmp")?;
+    let ended = serve_input(rt, journal_words(rt.alloc(), "held.tmp"));
     assert!(rt; matches!(&ended, Ended::Well));
     fs::remove_file(&rt, "held.tmp")?;
     Ok(())

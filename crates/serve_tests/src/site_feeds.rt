@@ -1,21 +1,23 @@
 //! Feeds of sites that run, over sockets of this machine.
 
-use super::feeds::{BAD_LINE, feed};
-use super::sites::{NoTurn, listening};
+use super::feeds::{BAD_LINE, feed, feed_from, silent_input};
+use super::sites::{NoTurn, listening, talk};
 use byte_ends::Ends;
+use feed_client::Feeds;
 use gate_rules::Gate;
 use op_text::read_op;
 use replica_core::Replica;
 use site_net::Stop;
 use site_serve::{Setup, serve_run};
 use std::alloc::Global;
+use std::io::Write;
 use std::net::{Net, TcpListener, TcpStream};
 use std::process::Abort;
 use std::sync::Wait;
 use std::test::Fail;
-use std::thread;
 use std::thread::Threads;
-use std::time::Clock;
+use std::time::{Clock, Duration};
+use std::{io, thread};
 
 /// A gate that wants nothing.
 const GATE: &[u8] = br#"{"bases":["https://review.example.org/"]}"#;
@@ -54,11 +56,13 @@ fn a_site_has_what_it_was_fed_and_nothing_twice(rt: HostRuntime) -> Result<(), F
     let (listener, port) = listening(&rt)?;
     let (operations, (first, again)) = thread::join(
         &rt,
-        || run_site(&rt, alloc, listener, Replica::new(alloc), 4),
-        || (feed(&rt, alloc, port), feed(&rt, alloc, port)),
+        || run_site(&rt, alloc, listener, Replica::new(alloc), 2),
+        || (feed(rt, alloc, port), feed(rt, alloc, port)),
     );
     assert_eq!(rt; (first.0, again.0), (Ok(()), Ok(())));
-    assert_eq!(rt; first.1.as_slice(), BAD_LINE.as_bytes());
+    assert_eq!(rt; first.1.as_slice(), b"pulled 0\nask 7\n".as_slice());
+    assert_eq!(rt; again.1.as_slice(), b"pulled 4\n".as_slice());
+    assert_eq!(rt; first.2.as_slice(), BAD_LINE.as_bytes());
     assert_eq!(rt; operations?, 4);
     Ok(())
 }
@@ -79,11 +83,12 @@ fn a_refusal_is_reported_with_its_line(rt: HostRuntime) -> Result<(), Fail> {
     let alloc = rt.alloc();
     let (listener, port) = listening(&rt)?;
     let replica = at_the_last_time(alloc)?;
-    let (operations, (ended, errors)) = thread::join(
+    let (operations, (ended, output, errors)) = thread::join(
         &rt,
-        || run_site(&rt, alloc, listener, replica, 2),
-        || feed(&rt, alloc, port),
+        || run_site(&rt, alloc, listener, replica, 1),
+        || feed(rt, alloc, port),
     );
+    assert_eq!(rt; output.as_slice(), b"pulled 1\nask 7\n".as_slice());
     assert_eq!(rt; ended, Ok(()));
     assert_eq!(rt;
         errors.as_slice(),
@@ -97,5 +102,45 @@ fn a_refusal_is_reported_with_its_line(rt: HostRuntime) -> Result<(), Fail> {
         .as_bytes()
     );
     assert_eq!(rt; operations?, 1);
+    Ok(())
+}
+
+/// Another client, which brings a merge.
+const BRING: &str = "hello 2\ntake {\"change\":7,\"op\":\"merged\"}\nquit\n";
+
+/// What another client brings to a site, and then the event of it on the input of a feed, which was silent until then.
+fn bring_beside<R>(rt: &R, alloc: Global, port: u16, sender: TcpStream) -> io::Result<()>
+where
+    R: Net<Listener = TcpListener, Stream = TcpStream> + Wait + Clock,
+{
+    let mut sender = sender;
+    let _ = thread::sleep(rt, Duration::from_millis(500));
+    let _answers = talk(rt, alloc, port, BRING)?;
+    let _ = thread::sleep(rt, Duration::from_millis(2500));
+    sender.write_all(b"{\"type\":\"change-merged\",\"change\":{\"number\":7}}\n")
+}
+
+/// After a second of silence a feed pulls again, and doesn't send what another client brought.
+#[test]
+fn a_silent_feed_sees_what_others_bring(rt: HostRuntime) -> Result<(), Fail> {
+    let alloc = rt.alloc();
+    let (listener, port) = listening(&rt)?;
+    let (sender, input) = silent_input(&rt)?;
+    let (operations, (brought, (ended, output, errors))) = thread::join(
+        &rt,
+        || run_site(&rt, alloc, listener, Replica::new(alloc), 2),
+        || {
+            thread::join(
+                &rt,
+                || bring_beside(&rt, alloc, port, sender),
+                || feed_from(rt, alloc, port, Feeds::Stream, input),
+            )
+        },
+    );
+    assert_eq!(rt; operations?, 1);
+    brought?;
+    assert_eq!(rt; ended, Ok(()));
+    assert_eq!(rt; output.as_slice(), b"pulled 0\n".as_slice());
+    assert!(rt; errors.is_empty());
     Ok(())
 }

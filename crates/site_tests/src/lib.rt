@@ -1,10 +1,7 @@
-//! Tests of what a running site is made of (desks and windows, ledgers, journals, ports, lines), of the recovery of
-//! journals, and of the words of the command line, through the public functions of their crates. A crate of tests
-//! alone, as `record_tests` is.
+//! Tests of what a running site is made of (desks and windows, ledgers, journals, ports, lines) and of the recovery of
+//! journals, through the public functions of their crates. A crate of tests alone, as `record_tests` is.
 #![tactic(auto)]
 
-#[cfg(test)]
-mod commands;
 #[cfg(test)]
 mod journals;
 #[cfg(test)]
@@ -19,8 +16,6 @@ mod recoveries;
 mod refused;
 #[cfg(test)]
 mod running;
-#[cfg(test)]
-mod site_words;
 #[cfg(test)]
 mod talks;
 #[cfg(test)]

@@ -1,7 +1,7 @@
 //! Journals that are recovered as a command: what is printed, what is reported, and the status.
 
 use byte_ends::{Broken, Drain, Ends, Source};
-use recover_command::{journal_named, recover_named, recover_to, show_journal_fault, show_torn};
+use recover_command::{recover_named, recover_to, show_journal_fault, show_torn};
 use site_journal::{JournalFault, LineCause, RecoverFault, recover};
 use std::alloc::{AllocError, Global};
 use std::fs;
@@ -186,24 +186,6 @@ fn journals_are_recovered_by_name(rt: HostRuntime) -> Result<(), Fail> {
     assert_eq!(rt; fs::read(&rt, "recovered.tmp")?.as_slice(), JOURNAL);
     fs::remove_file(&rt, "recovered.tmp")?;
     Ok(())
-}
-
-/// Words after `recover`, and the journal that they name.
-const WORDS: [(&[&str], Option<&str>); 7] = [
-    (&["site1.journal"], Some("site1.journal")),
-    (&["-"], Some("-")),
-    (&["--", "-x"], Some("-x")),
-    (&["--help"], None),
-    (&["--"], None),
-    (&["a", "b"], None),
-    (&[], None),
-];
-
-#[test]
-fn one_word_names_a_journal(rt: HostRuntime) {
-    for (words, name) in WORDS {
-        assert_eq!(rt; journal_named(words), name);
-    }
 }
 
 /// What is reported of a bad line, of a whole one and of a torn one.

@@ -1,6 +1,8 @@
 //! Lines as Gerrit writes them, and what is found in them.
 
-use gerrit_events::{EventFault, EventKey, Finding, Known, read_event};
+use gerrit_events::{
+    Ballot, EventFault, EventKey, Finding, Known, Listing, Part, Projects, read_event,
+};
 use op_text::write_body;
 use review_ops::Body;
 use std::alloc::{AllocError, Global};
@@ -29,24 +31,60 @@ fn push_body(alloc: Global, text: &mut String, body: &Body) -> Result<(), Fail> 
     Ok(text.push_str(written.as_str())?)
 }
 
+/// Adds a body as it is written, behind a mark.
+fn push_shown(alloc: Global, text: &mut String, body: &Body) -> Result<(), Fail> {
+    text.push_str("~ ")?;
+    push_body(alloc, text, body)
+}
+
+/// Adds a ballot, as ` LABEL/VOTER`.
+fn push_ballot(text: &mut String, ballot: &Ballot) -> Result<(), AllocError> {
+    let label = ballot.label.as_str();
+    let voter = ballot.voter.as_str();
+    write!(text, " {label}/{voter}")
+}
+
+/// Adds the votes of a patch set, as `= CHANGE,SET LABEL/VOTER ..`.
+fn push_listing(text: &mut String, listing: &Listing) -> Result<(), Fail> {
+    let change = listing.change;
+    let set = listing.set;
+    write!(text, "= {change},{set}")?;
+    for ballot in listing.ballots.as_slice() {
+        push_ballot(text, ballot)?;
+    }
+    Ok(())
+}
+
 /// Adds what was found, on a line.
 fn push_finding(alloc: Global, text: &mut String, finding: &Finding) -> Result<(), Fail> {
     match finding {
         Finding::Brings(body) => push_body(alloc, text, body)?,
+        Finding::Shows(body) => push_shown(alloc, text, body)?,
+        Finding::Lists(listing) => push_listing(text, listing)?,
         Finding::Refuses(fault) => push_fault(text, *fault)?,
     }
     Ok(text.push('\n')?)
 }
 
-/// What is found in a line, as one text: the bodies as they are written, and the faults as `! NAME KEY`, each on a
-/// line.
-fn found_in(alloc: Global, known: &mut Known, line: &[u8]) -> Result<String, Fail> {
-    let findings = read_event(alloc, known, line)?;
+/// What is found in a line where these projects are fed, as one text: the bodies as they are written, behind `~ ` where
+/// an event shows them, the listings as `= CHANGE,SET LABEL/VOTER ..`, and the faults as `! NAME KEY`, each on a line.
+fn found_of(
+    alloc: Global,
+    known: &mut Known,
+    projects: &Projects,
+    line: &[u8],
+) -> Result<String, Fail> {
+    let told = read_event(alloc, known, projects, line)?;
     let mut text = String::new(alloc);
-    for finding in findings.as_slice() {
+    for finding in told.findings.as_slice() {
         push_finding(alloc, &mut text, finding)?;
     }
     Ok(text)
+}
+
+/// What is found in a line where all projects are fed.
+fn found_in(alloc: Global, known: &mut Known, line: &[u8]) -> Result<String, Fail> {
+    found_of(alloc, known, &Projects::all(), line)
 }
 
 /// Lines that come one after the other, and what is found in the last one.
@@ -85,11 +123,11 @@ const CHILD: &str =
 const PATCH_SETS: &[Row] = &[
     Row {
         lines: &[CREATED],
-        found: "{\"change\":101,\"message\":\"m\\n\",\"op\":\"patchset\",\"set\":1}\n",
+        found: "~ {\"change\":101,\"message\":\"m\\n\",\"op\":\"patchset\",\"set\":1}\n",
     },
     Row {
         lines: &[CREATED, CREATED],
-        found: "{\"change\":101,\"message\":\"m\\n\",\"op\":\"patchset\",\"set\":1}\n",
+        found: "~ {\"change\":101,\"message\":\"m\\n\",\"op\":\"patchset\",\"set\":1}\n",
     },
     Row {
         lines: &[CREATED, CHILD],
@@ -97,7 +135,7 @@ const PATCH_SETS: &[Row] = &[
     },
     Row {
         lines: &[CHILD],
-        found: "{\"change\":102,\"message\":\"n\",\"op\":\"patchset\",\"set\":2}\n",
+        found: "~ {\"change\":102,\"message\":\"n\",\"op\":\"patchset\",\"set\":2}\n",
     },
     Row {
         lines: &[
@@ -187,7 +225,7 @@ const ENDS: &[Row] = &[
         lines: &[
             r#"{"type":"change-merged","change":{"number":101,"commitMessage":"m"},"patchSet":{"number":1,"revision":"a1"},"newRev":"c3"}"#,
         ],
-        found: "{\"change\":101,\"message\":\"m\",\"op\":\"patchset\",\"set\":1}\n{\"change\":101,\"op\":\"merged\"}\n",
+        found: "~ {\"change\":101,\"message\":\"m\",\"op\":\"patchset\",\"set\":1}\n{\"change\":101,\"op\":\"merged\"}\n",
     },
     Row {
         lines: &[r#"{"type":"change-deleted","change":{"number":7},"deleter":{"username":"ann"}}"#],
@@ -211,27 +249,27 @@ const QUERIES: &[Row] = &[
             CREATED,
             r#"{"number":101,"commitMessage":"m","status":"NEW","currentPatchSet":{"number":2,"revision":"a2","approvals":[{"type":"Verified","value":"1","by":{"username":"zuul"}}]},"patchSets":[{"number":1,"approvals":[{"type":"Verified","value":"-1","by":{"email":"z@example.org"}}]},{"number":2,"approvals":[{"type":"Verified","value":"1","by":{"username":"zuul"}}]}],"dependsOn":[{"number":"99"},{"number":98}]}"#,
         ],
-        found: "{\"change\":101,\"message\":\"m\",\"op\":\"patchset\",\"parent\":99,\"set\":2}\n! BadEvent dependsOn\n{\"change\":101,\"label\":\"verified\",\"op\":\"vote\",\"set\":2,\"value\":1,\"voter\":\"zuul\"}\n{\"change\":101,\"label\":\"verified\",\"op\":\"vote\",\"set\":1,\"value\":-1,\"voter\":\"z@example.org\"}\n{\"change\":101,\"op\":\"restore\"}\n",
+        found: "{\"change\":101,\"message\":\"m\",\"op\":\"patchset\",\"parent\":99,\"set\":2}\n! BadEvent dependsOn\n= 101,2 verified/zuul\n{\"change\":101,\"label\":\"verified\",\"op\":\"vote\",\"set\":2,\"value\":1,\"voter\":\"zuul\"}\n= 101,1 verified/z@example.org\n{\"change\":101,\"label\":\"verified\",\"op\":\"vote\",\"set\":1,\"value\":-1,\"voter\":\"z@example.org\"}\n{\"change\":101,\"op\":\"restore\"}\n",
     },
     Row {
         lines: &[r#"{"number":5,"status":"MERGED","currentPatchSet":{"number":1}}"#],
-        found: "! BadEvent commitMessage\n{\"change\":5,\"op\":\"merged\"}\n",
+        found: "{\"change\":5,\"op\":\"merged\"}\n! BadEvent commitMessage\n= 5,1\n",
     },
     Row {
         lines: &[
             r#"{"number":5,"status":"ABANDONED","commitMessage":"m","currentPatchSet":{"number":1,"approvals":{"type":"L","value":1}},"patchSets":[{}],"dependsOn":[{}]}"#,
         ],
-        found: "{\"change\":5,\"message\":\"m\",\"op\":\"patchset\",\"set\":1}\n! BadEvent dependsOn\n! BadEvent by\n! BadEvent patchSets\n{\"change\":5,\"op\":\"abandon\"}\n",
+        found: "{\"change\":5,\"op\":\"abandon\"}\n{\"change\":5,\"message\":\"m\",\"op\":\"patchset\",\"set\":1}\n! BadEvent dependsOn\n= 5,1\n! BadEvent by\n! BadEvent patchSets\n",
     },
     Row {
         lines: &[
             r#"{"number":5,"commitMessage":"m","status":"DRAFT","currentPatchSet":{"number":1}}"#,
         ],
-        found: "{\"change\":5,\"message\":\"m\",\"op\":\"patchset\",\"set\":1}\n",
+        found: "{\"change\":5,\"message\":\"m\",\"op\":\"patchset\",\"set\":1}\n= 5,1\n",
     },
     Row {
         lines: &[r#"{"number":5,"commitMessage":"m","currentPatchSet":{"number":1}}"#],
-        found: "{\"change\":5,\"message\":\"m\",\"op\":\"patchset\",\"set\":1}\n! BadEvent status\n",
+        found: "{\"change\":5,\"message\":\"m\",\"op\":\"patchset\",\"set\":1}\n= 5,1\n! BadEvent status\n",
     },
     Row {
         lines: &[r#"{"type":"stats","rowCount":1,"runTimeMilliseconds":9}"#],
@@ -245,11 +283,158 @@ const QUERIES: &[Row] = &[
         lines: &[r#"{"number":1}"#],
         found: "! BadEvent currentPatchSet\n",
     },
+    Row {
+        lines: &[r#"{"number":1,"status":"MERGED"}"#],
+        found: "{\"change\":1,\"op\":\"merged\"}\n! BadEvent currentPatchSet\n",
+    },
 ];
 
 #[test]
 fn queries_put_right(rt: HostRuntime) -> Result<(), Fail> {
     assert_rows(&rt, rt.alloc(), QUERIES)
+}
+
+/// Changes that are work in progress or private, or based on an outdated patch set, and an account that has the name of
+/// the reserved voter.
+const MARKS: &[Row] = &[
+    Row {
+        lines: &[
+            r#"{"type":"patchset-created","change":{"number":7,"commitMessage":"m","wip":true,"private":true},"patchSet":{"number":2,"revision":"a1"}}"#,
+        ],
+        found: "~ {\"change\":7,\"message\":\"m\",\"op\":\"patchset\",\"set\":2}\n{\"change\":7,\"label\":\"work-in-progress\",\"op\":\"vote\",\"set\":2,\"value\":-1,\"voter\":\"gerrit\"}\n{\"change\":7,\"label\":\"private\",\"op\":\"vote\",\"set\":2,\"value\":-1,\"voter\":\"gerrit\"}\n",
+    },
+    Row {
+        lines: &[
+            r#"{"type":"wip-state-changed","change":{"number":7,"wip":true},"patchSet":{"number":2}}"#,
+        ],
+        found: "{\"change\":7,\"label\":\"work-in-progress\",\"op\":\"vote\",\"set\":2,\"value\":-1,\"voter\":\"gerrit\"}\n",
+    },
+    Row {
+        lines: &[r#"{"type":"wip-state-changed","change":{"number":7},"patchSet":{"number":2}}"#],
+        found: "{\"change\":7,\"label\":\"work-in-progress\",\"op\":\"withdraw\",\"set\":2,\"voter\":\"gerrit\"}\n",
+    },
+    Row {
+        lines: &[
+            r#"{"type":"private-state-changed","change":{"number":7,"private":false},"patchSet":{"number":2}}"#,
+        ],
+        found: "{\"change\":7,\"label\":\"private\",\"op\":\"withdraw\",\"set\":2,\"voter\":\"gerrit\"}\n",
+    },
+    Row {
+        lines: &[
+            r#"{"type":"private-state-changed","change":{"number":7,"private":true},"patchSet":{"number":2}}"#,
+        ],
+        found: "{\"change\":7,\"label\":\"private\",\"op\":\"vote\",\"set\":2,\"value\":-1,\"voter\":\"gerrit\"}\n",
+    },
+    Row {
+        lines: &[r#"{"type":"wip-state-changed","change":{"number":7,"wip":true}}"#],
+        found: "! BadEvent patchSet\n",
+    },
+    Row {
+        lines: &[
+            r#"{"number":7,"commitMessage":"m","status":"NEW","wip":true,"currentPatchSet":{"number":2,"approvals":[{"type":"Code-Review","value":"2","by":{"username":"ann"}},{"type":"Verified","value":"1","by":{"username":"gerrit"}}]},"dependsOn":[{"number":6,"isCurrentPatchSet":false}]}"#,
+        ],
+        found: "{\"change\":7,\"message\":\"m\",\"op\":\"patchset\",\"parent\":6,\"set\":2}\n= 7,2 code-review/ann work-in-progress/gerrit outdated-parent/gerrit\n{\"change\":7,\"label\":\"code-review\",\"op\":\"vote\",\"set\":2,\"value\":2,\"voter\":\"ann\"}\n! BadEvent username\n{\"change\":7,\"label\":\"work-in-progress\",\"op\":\"vote\",\"set\":2,\"value\":-1,\"voter\":\"gerrit\"}\n{\"change\":7,\"label\":\"outdated-parent\",\"op\":\"vote\",\"set\":2,\"value\":-1,\"voter\":\"gerrit\"}\n{\"change\":7,\"op\":\"restore\"}\n",
+    },
+    Row {
+        lines: &[
+            r#"{"number":7,"commitMessage":"m","status":"MERGED","wip":false,"private":"true","currentPatchSet":{"number":2},"dependsOn":[{"number":6,"isCurrentPatchSet":true}]}"#,
+        ],
+        found: "{\"change\":7,\"op\":\"merged\"}\n{\"change\":7,\"message\":\"m\",\"op\":\"patchset\",\"parent\":6,\"set\":2}\n= 7,2\n",
+    },
+    Row {
+        lines: &[
+            r#"{"type":"comment-added","change":{"number":7},"patchSet":{"number":3},"author":{"username":"gerrit"},"approvals":[{"type":"Workflow","value":1}]}"#,
+        ],
+        found: "! BadEvent username\n",
+    },
+];
+
+#[test]
+fn what_gerrit_says_beside_is_voted(rt: HostRuntime) -> Result<(), Fail> {
+    assert_rows(&rt, rt.alloc(), MARKS)
+}
+
+/// What a line is.
+fn part_of(alloc: Global, line: &str) -> Result<Part, Fail> {
+    let mut known = Known::new(alloc);
+    Ok(read_event(alloc, &mut known, &Projects::all(), line.as_bytes())?.part)
+}
+
+/// Lines, and what they are.
+const PARTS: &[(&str, Part)] = &[
+    ("[]", Part::Nothing),
+    (r#"{"type":1}"#, Part::Nothing),
+    (
+        r#"{"type":"dropped-output","change":{"number":7}}"#,
+        Part::Event(None),
+    ),
+    (
+        r#"{"type":"topic-changed","change":{"number":7}}"#,
+        Part::Event(Some(7)),
+    ),
+    (r#"{"type":"ref-updated"}"#, Part::Event(None)),
+    (r#"{"number":7}"#, Part::Row(Some(7))),
+    ("{}", Part::Row(None)),
+    (
+        r#"{"type":"stats","rowCount":1}"#,
+        Part::Stats { more: false },
+    ),
+    (
+        r#"{"type":"stats","moreChanges":false}"#,
+        Part::Stats { more: false },
+    ),
+    (
+        r#"{"type":"stats","moreChanges":true}"#,
+        Part::Stats { more: true },
+    ),
+    (
+        r#"{"type":"error","message":"fatal: no query"}"#,
+        Part::Error,
+    ),
+];
+
+#[test]
+fn lines_are_parts_of_what_gerrit_writes(rt: HostRuntime) -> Result<(), Fail> {
+    for (line, wanted) in PARTS {
+        assert_eq!(rt; part_of(rt.alloc(), line)?, *wanted);
+    }
+    Ok(())
+}
+
+/// What is found in a line where the changes of one project alone are fed.
+fn found_fed(alloc: Global, project: &str, line: &str) -> Result<String, Fail> {
+    let mut names = Vec::new(alloc);
+    names.push(String::from_str(alloc, project)?)?;
+    let projects = Projects::named(names);
+    found_of(alloc, &mut Known::new(alloc), &projects, line.as_bytes())
+}
+
+/// Lines of changes of project `p` and of others, and whether something is found in them where that one is fed.
+const FED: &[(&str, bool)] = &[
+    (
+        r#"{"type":"change-merged","change":{"project":"p","number":7}}"#,
+        true,
+    ),
+    (
+        r#"{"type":"change-merged","change":{"project":"q","number":7}}"#,
+        false,
+    ),
+    (r#"{"type":"change-merged","change":{"number":7}}"#, false),
+    (r#"{"type":"change-merged"}"#, true),
+    (r#"{"type":"dropped-output"}"#, true),
+    (r#"{"project":"p","number":7}"#, true),
+    (r#"{"project":"p/q","number":7}"#, false),
+    ("7", true),
+];
+
+#[test]
+fn projects_are_fed_by_their_names(rt: HostRuntime) -> Result<(), Fail> {
+    for (line, wanted) in FED {
+        let found = found_fed(rt.alloc(), "p", line)?;
+        assert_eq!(rt; !found.as_str().is_empty(), *wanted);
+    }
+    assert!(rt; Projects::all().has("q"));
+    Ok(())
 }
 
 /// Events of other types, and lines that are no events.
@@ -262,7 +447,7 @@ const OTHERS: &[Row] = &[
         lines: &[
             r#"{"type":"topic-changed","change":{"number":101,"commitMessage":"m"},"patchSet":{"number":1,"revision":"a1"}}"#,
         ],
-        found: "{\"change\":101,\"message\":\"m\",\"op\":\"patchset\",\"set\":1}\n",
+        found: "~ {\"change\":101,\"message\":\"m\",\"op\":\"patchset\",\"set\":1}\n",
     },
     Row {
         lines: &[
@@ -276,7 +461,7 @@ const OTHERS: &[Row] = &[
             CREATED,
             r#"{"type":"topic-changed","change":{"number":7,"commitMessage":"m"},"patchSet":{"number":1,"revision":"a1"}}"#,
         ],
-        found: "{\"change\":7,\"message\":\"m\",\"op\":\"patchset\",\"set\":1}\n",
+        found: "~ {\"change\":7,\"message\":\"m\",\"op\":\"patchset\",\"set\":1}\n",
     },
     Row {
         lines: &[r#"{"type":"ref-updated","refUpdate":{}}"#],

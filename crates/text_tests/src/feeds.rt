@@ -1,7 +1,8 @@
 //! Feeds over texts, worked out by hand.
 
-use byte_ends::{Broken, Ends};
-use event_feed::{FeedFault, events_run, feed_lines};
+use byte_ends::{Broken, Drain, Ends, Source};
+use event_feed::{EventWriter, FeedFault, Input, Progress, Taker, events_run, feed_most};
+use gerrit_events::{Part, Projects, Told};
 use std::alloc::{AllocError, Global};
 use std::process::Abort;
 use std::test::Fail;
@@ -23,16 +24,44 @@ struct Fed {
     fault: Option<FeedFault>,
 }
 
-/// What the feed of these lines writes.
-fn fed_lines(alloc: Global, lines: &[u8]) -> Fed {
-    let mut output = Ends::new(Vec::new(alloc));
-    let mut errors = Ends::new(Vec::new(alloc));
-    let ended = events_run(alloc, &mut Ends::new(lines), &mut output, &mut errors);
+/// A writer to two outputs.
+fn writer_to<D: Drain, E: Drain>(alloc: Global, output: D, errors: E) -> EventWriter<D, E> {
+    EventWriter {
+        alloc,
+        output,
+        errors,
+    }
+}
+
+/// A writer to two texts.
+fn writer(alloc: Global) -> EventWriter<Ends<Vec<u8>>, Ends<Vec<u8>>> {
+    writer_to(
+        alloc,
+        Ends::new(Vec::new(alloc)),
+        Ends::new(Vec::new(alloc)),
+    )
+}
+
+/// What a writer has written, where its feed ended so.
+fn fed_by(writer: EventWriter<Ends<Vec<u8>>, Ends<Vec<u8>>>, ended: Result<(), FeedFault>) -> Fed {
+    let EventWriter { output, errors, .. } = writer;
     Fed {
         output: output.into_inner(),
         errors: errors.into_inner(),
         fault: ended.err(),
     }
+}
+
+/// What the feed of an input of these lines writes.
+fn fed_input(alloc: Global, input: Input, projects: &Projects, lines: &[u8]) -> Fed {
+    let mut writer = writer(alloc);
+    let ended = events_run(alloc, input, projects, &mut Ends::new(lines), &mut writer);
+    fed_by(writer, ended)
+}
+
+/// What the feed of a stream of these lines writes.
+fn fed_lines(alloc: Global, lines: &[u8]) -> Fed {
+    fed_input(alloc, Input::Stream, &Projects::all(), lines)
 }
 
 /// A feed wrote what stands in the row.
@@ -105,46 +134,44 @@ fn each_line_is_fed(rt: HostRuntime) {
 
 /// What the feed of these lines writes where a line has at most 30 bytes and a feed three lines.
 fn fed_limited(alloc: Global, lines: &[u8]) -> Fed {
-    let mut output = Ends::new(Vec::new(alloc));
-    let mut errors = Ends::new(Vec::new(alloc));
-    let ended = feed_lines(
+    let mut writer = writer(alloc);
+    let mut source = Ends::new(lines);
+    let projects = Projects::all();
+    let ended = feed_most(
         alloc,
+        Input::Stream,
+        &projects,
         30,
         3,
-        &mut Ends::new(lines),
-        &mut output,
-        &mut errors,
+        &mut source,
+        &mut writer,
     );
-    Fed {
-        output: output.into_inner(),
-        errors: errors.into_inner(),
-        fault: ended.err(),
-    }
+    fed_by(writer, ended)
 }
 
 /// Feeds with lines that are too long, or too many.
 const LIMITED: &[Row] = &[
     Row {
         lines: "{\"type\":\"stats\",\"rowCount\":1234}\n{\"type\":\"stats\",\"rowCount\":1}\n",
-        output: "hello 2\n",
+        output: "",
         errors: "reviewgate: events 1 BadEvent 1 line\n",
         fault: None,
     },
     Row {
         lines: "{\"type\":\"stats\",\"rowCount\":1234}",
-        output: "hello 2\n",
+        output: "",
         errors: "reviewgate: events 1 BadEvent 1 line\n",
         fault: None,
     },
     Row {
         lines: "{\"type\":\"dropped-output\"}\n",
-        output: "hello 2\n",
+        output: "",
         errors: "reviewgate: events 2 Dropped 1\n",
         fault: Some(FeedFault::Dropped),
     },
     Row {
         lines: "{\"type\":\"a\"}\n{\"type\":\"b\"}\n{\"type\":\"c\"}\n",
-        output: "hello 2\n",
+        output: "",
         errors: "",
         fault: Some(FeedFault::ReadFault),
     },
@@ -186,11 +213,242 @@ fn lines_have_their_limit(rt: HostRuntime) -> Result<(), Fail> {
 /// A line that merges a change, and one that is no event.
 const TWO_LINES: &[u8] = b"{\"type\":\"change-merged\",\"change\":{\"number\":7}}\n{}\n";
 
+/// A line of statistics that ends an answer, one after which more is left, a row of a merged change, and an error.
+const ENDS: &str = "{\"type\":\"stats\",\"rowCount\":1}\n";
+
+const MORE: &str = "{\"type\":\"stats\",\"rowCount\":1,\"moreChanges\":true}\n";
+
+const MERGED: &str = concat!(
+    r#"{"project":"p","number":5,"status":"MERGED","commitMessage":"m","currentPatchSet":{"number":1}}"#,
+    "\n",
+);
+
+const ERROR: &str = "{\"type\":\"error\",\"message\":\"timeout\"}\n";
+
+const EVENT: &str = "{\"type\":\"ref-updated\"}\n";
+
+/// The parts of an input, one after the other, and how the feed of a stream of them ends, and of an answer.
+#[derive(Clone, Copy)]
+struct Parts {
+    lines: &'static [&'static str],
+    stream: Option<FeedFault>,
+    answer: Option<FeedFault>,
+}
+
+/// An answer has to come to its end where it is awaited or has begun.
+const ANSWERS: &[Parts] = &[
+    Parts {
+        lines: &[],
+        stream: None,
+        answer: Some(FeedFault::Incomplete),
+    },
+    Parts {
+        lines: &[ENDS],
+        stream: None,
+        answer: None,
+    },
+    Parts {
+        lines: &[EVENT],
+        stream: None,
+        answer: Some(FeedFault::Incomplete),
+    },
+    Parts {
+        lines: &[MERGED, ENDS, EVENT],
+        stream: None,
+        answer: None,
+    },
+    Parts {
+        lines: &[MERGED],
+        stream: Some(FeedFault::Incomplete),
+        answer: Some(FeedFault::Incomplete),
+    },
+    Parts {
+        lines: &[MERGED, MORE],
+        stream: Some(FeedFault::Incomplete),
+        answer: Some(FeedFault::Incomplete),
+    },
+    Parts {
+        lines: &[MERGED, MORE, MERGED, ENDS],
+        stream: None,
+        answer: None,
+    },
+    Parts {
+        lines: &[MERGED, ENDS, MERGED],
+        stream: Some(FeedFault::Incomplete),
+        answer: Some(FeedFault::Incomplete),
+    },
+    Parts {
+        lines: &[ENDS, "{\"type\":\"stats\"}"],
+        stream: None,
+        answer: None,
+    },
+    Parts {
+        lines: &[ERROR],
+        stream: Some(FeedFault::Incomplete),
+        answer: Some(FeedFault::Incomplete),
+    },
+];
+
+/// Lines one after the other.
+fn joined(alloc: Global, lines: &[&str]) -> Result<String, AllocError> {
+    let mut text = String::new(alloc);
+    for line in lines {
+        text.push_str(line)?;
+    }
+    Ok(text)
+}
+
+#[test]
+fn an_answer_has_to_be_whole(rt: HostRuntime) -> Result<(), Fail> {
+    let alloc = rt.alloc();
+    for parts in ANSWERS {
+        let lines = joined(alloc, parts.lines)?;
+        let stream = fed_lines(alloc, lines.as_bytes());
+        assert_eq!(rt; stream.fault, parts.stream);
+        let answer = fed_input(alloc, Input::Answer, &Projects::all(), lines.as_bytes());
+        assert_eq!(rt; answer.fault, parts.answer);
+        assert_eq!(rt; answer.output.as_slice(), stream.output.as_slice());
+    }
+    Ok(())
+}
+
+/// An error ends the feed at once: what comes after it isn't read.
+#[test]
+fn an_error_ends_the_feed(rt: HostRuntime) -> Result<(), Fail> {
+    let alloc = rt.alloc();
+    let lines = joined(alloc, &[MERGED, ERROR, MERGED, "{", ENDS])?;
+    let row = Row {
+        lines: "",
+        output: concat!(
+            "hello 2\n",
+            "take {\"change\":5,\"op\":\"merged\"}\n",
+            "take {\"change\":5,\"message\":\"m\",\"op\":\"patchset\",\"set\":1}\n",
+        ),
+        errors: "",
+        fault: Some(FeedFault::Incomplete),
+    };
+    assert_fed(&rt, &fed_lines(alloc, lines.as_bytes()), &row);
+    Ok(())
+}
+
+/// Of changes of other projects nothing is written, but their rows are rows.
+#[test]
+fn the_named_projects_are_fed(rt: HostRuntime) -> Result<(), Fail> {
+    let alloc = rt.alloc();
+    for (name, length) in [("p", 96usize), ("q", 8)] {
+        let names = vec![in alloc; String::from_str(alloc, name)?]?;
+        let fed = fed_input(
+            alloc,
+            Input::Answer,
+            &Projects::named(names),
+            MERGED.as_bytes(),
+        );
+        assert_eq!(rt; fed.output.len(), length);
+        assert_eq!(rt; fed.fault, Some(FeedFault::Incomplete));
+    }
+    Ok(())
+}
+
+/// What was handed to a taker, as far as the tests look.
+#[derive(Drop)]
+struct Counting {
+    rests: u64,
+    lines: u64,
+    /// At which rest or line it fails.
+    last_rest: u64,
+    last_line: u64,
+}
+
+impl Taker for Counting {
+    ghost rests = { λ old result new. Unit {0} };
+
+    ghost takes = { λ old number told result new. Unit {0} };
+
+    fn rest(&mut self) -> Result<(), FeedFault> {
+        self.rests = self.rests.wrapping_add(1);
+        if self.rests == self.last_rest {
+            return Err(FeedFault::Ended);
+        }
+        Ok(())
+    }
+
+    fn take(&mut self, number: u64, _told: Told) -> Result<(), FeedFault> {
+        self.lines = number;
+        if number == self.last_line {
+            return Err(FeedFault::NoSite);
+        }
+        Ok(())
+    }
+}
+
+/// How often a taker rested and which line it was handed last, and how the feed of these lines ended.
+fn counted<S: Source>(
+    alloc: Global,
+    source: &mut S,
+    last_rest: u64,
+    last_line: u64,
+) -> (u64, u64, Option<FeedFault>) {
+    let mut taker = Counting {
+        rests: 0,
+        lines: 0,
+        last_rest,
+        last_line,
+    };
+    let projects = Projects::all();
+    let ended = feed_most(alloc, Input::Stream, &projects, 100, 9, source, &mut taker);
+    (taker.rests, taker.lines, ended.err())
+}
+
+/// A taker rests where no whole line is held: before the three lines that come at once, and before the end.
+#[test]
+fn a_taker_rests_before_more_is_read(rt: HostRuntime) {
+    let alloc = rt.alloc();
+    for (last_rest, last_line, wanted) in [
+        (0u64, 0u64, (2u64, 3u64, None)),
+        (1, 0, (1, 0, Some(FeedFault::Ended))),
+        (2, 0, (2, 3, Some(FeedFault::Ended))),
+        (0, 2, (1, 2, Some(FeedFault::NoSite))),
+    ] {
+        let mut source = Ends::new(
+            b"{\"type\":\"a\"}\n{\"type\":\"b\"}\n{\"type\":\"c\"}\n".as_slice(),
+        );
+        assert_eq!(rt; counted(alloc, &mut source, last_rest, last_line), wanted);
+    }
+}
+
+/// The progress of an answer after each part of one.
+#[test]
+fn rows_open_an_answer_and_statistics_end_it(rt: HostRuntime) {
+    let mut progress = Progress::Unbegun;
+    for (part, wanted) in [
+        (Part::Nothing, Progress::Unbegun),
+        (Part::Event(Some(1)), Progress::Unbegun),
+        (Part::Row(None), Progress::Open),
+        (Part::Event(None), Progress::Open),
+        (Part::Stats { more: false }, Progress::Whole),
+        (Part::Nothing, Progress::Whole),
+        (Part::Stats { more: true }, Progress::Open),
+        (Part::Stats { more: false }, Progress::Whole),
+        (Part::Row(Some(1)), Progress::Open),
+    ] {
+        progress = progress.after(part);
+        assert_eq!(rt; progress, wanted);
+    }
+}
+
 /// What the feed of the two lines writes where its output fails at this call.
 fn fed_to_failing_output(alloc: Global, call: u64) -> Fed {
-    let mut output = Broken::at_call(Ends::new(Vec::new(alloc)), call);
-    let mut errors = Ends::new(Vec::new(alloc));
-    let ended = events_run(alloc, &mut Ends::new(TWO_LINES), &mut output, &mut errors);
+    let output = Broken::at_call(Ends::new(Vec::new(alloc)), call);
+    let mut writer = writer_to(alloc, output, Ends::new(Vec::new(alloc)));
+    let mut source = Ends::new(TWO_LINES);
+    let ended = events_run(
+        alloc,
+        Input::Stream,
+        &Projects::all(),
+        &mut source,
+        &mut writer,
+    );
+    let EventWriter { output, errors, .. } = writer;
     Fed {
         output: output.into_inner().into_inner(),
         errors: errors.into_inner(),
@@ -214,9 +472,16 @@ fn a_failing_end_ends_the_feed(rt: HostRuntime) {
 
 /// How the feed of the two lines ends where its reports fail at the first call.
 fn fault_of_failing_errors(alloc: Global) -> Option<FeedFault> {
-    let mut output = Ends::new(Vec::new(alloc));
-    let mut errors = Broken::at_call(Ends::new(Vec::new(alloc)), 1);
-    let ended = events_run(alloc, &mut Ends::new(TWO_LINES), &mut output, &mut errors);
+    let errors = Broken::at_call(Ends::new(Vec::new(alloc)), 1);
+    let mut writer = writer_to(alloc, Ends::new(Vec::new(alloc)), errors);
+    let mut source = Ends::new(TWO_LINES);
+    let ended = events_run(
+        alloc,
+        Input::Stream,
+        &Projects::all(),
+        &mut source,
+        &mut writer,
+    );
     ended.err()
 }
 
@@ -231,14 +496,15 @@ fn failing_reports_end_the_feed(rt: HostRuntime) {
 /// What the feed of the two lines writes where its source fails before this byte.
 fn fed_from_failing_source(alloc: Global, byte: u64) -> Fed {
     let mut source = Broken::before_byte(Ends::new(TWO_LINES), byte);
-    let mut output = Ends::new(Vec::new(alloc));
-    let mut errors = Ends::new(Vec::new(alloc));
-    let ended = events_run(alloc, &mut source, &mut output, &mut errors);
-    Fed {
-        output: output.into_inner(),
-        errors: errors.into_inner(),
-        fault: ended.err(),
-    }
+    let mut writer = writer(alloc);
+    let ended = events_run(
+        alloc,
+        Input::Stream,
+        &Projects::all(),
+        &mut source,
+        &mut writer,
+    );
+    fed_by(writer, ended)
 }
 
 #[test]
@@ -258,6 +524,9 @@ fn faults_have_numbers_and_names(rt: HostRuntime) {
         (FeedFault::ReadFault, 3, "ReadFault"),
         (FeedFault::WriteFault, 4, "WriteFault"),
         (FeedFault::NoMemory, 5, "NoMemory"),
+        (FeedFault::NoSite, 7, "NoSite"),
+        (FeedFault::Ended, 8, "Ended"),
+        (FeedFault::Incomplete, 9, "Incomplete"),
     ] {
         assert_eq!(rt; fault.number(), number);
         assert_eq!(rt; fault.name(), name);

@@ -1,0 +1,414 @@
+//! What findings bring to a record, what has to be asked for, and what has vanished, worked out by hand.
+
+use deeds::{Deed, draft_of, op_of};
+use event_filter::{
+    asked, brought, is_moot, vanished, what_a_row_says_is_what_the_record_says,
+    what_is_met_is_what_the_record_says, what_is_nothing_new_brings_nothing,
+};
+use footer_text::Bases;
+use gerrit_events::{Ballot, EventFault, EventKey, Finding, Listing, Part, Told};
+use op_text::write_body;
+use review_ops::Body;
+use state_core::State;
+use std::alloc::Global;
+use std::collections::BTreeSet;
+use std::process::Abort;
+use std::test::Fail;
+
+/// The state of deeds on changes, one after the other.
+fn state_of(alloc: Global, deeds: &[(u32, Deed)]) -> Option<State> {
+    let mut state = State::new(alloc);
+    for (time, (change, deed)) in (1u64..).zip(deeds) {
+        let op = op_of(alloc, time, *change, *deed)?;
+        state.take(&op).ok()?;
+    }
+    Some(state)
+}
+
+/// The body of a deed on a change.
+fn body_of(alloc: Global, change: u32, deed: Deed) -> Option<Body> {
+    Body::checked(draft_of(alloc, change, deed)?).ok()
+}
+
+/// A finding in a few words.
+#[derive(Clone, Copy)]
+enum Found {
+    Brings(u32, Deed),
+    Shows(u32, Deed),
+    /// All votes of a patch set: the change, the patch set, and the labels and voters.
+    Lists(u32, u32, &'static [(&'static str, &'static str)]),
+    Refuses,
+}
+
+/// A listing of these ballots.
+fn listing_of(alloc: Global, change: u32, set: u32, votes: &[(&str, &str)]) -> Option<Listing> {
+    let mut ballots = Vec::new(alloc);
+    for (label, voter) in votes {
+        let label = String::from_str(alloc, label).ok()?;
+        let voter = String::from_str(alloc, voter).ok()?;
+        ballots.push(Ballot { label, voter }).ok()?;
+    }
+    Some(Listing {
+        change,
+        set,
+        ballots,
+    })
+}
+
+/// The finding.
+fn finding_of(alloc: Global, found: Found) -> Option<Finding> {
+    match found {
+        Found::Brings(change, deed) => Some(Finding::Brings(body_of(alloc, change, deed)?)),
+        Found::Shows(change, deed) => Some(Finding::Shows(body_of(alloc, change, deed)?)),
+        Found::Lists(change, set, votes) => {
+            Some(Finding::Lists(listing_of(alloc, change, set, votes)?))
+        }
+        Found::Refuses => Some(Finding::Refuses(EventFault::BadEvent(EventKey::Value))),
+    }
+}
+
+/// Adds bodies, each on a line.
+fn push_bodies(alloc: Global, text: &mut String, bodies: &[Body]) -> Option<()> {
+    for body in bodies {
+        let written = write_body(alloc, body).ok()?;
+        text.push_str(written.as_str()).ok()?;
+        text.push('\n').ok()?;
+    }
+    Some(())
+}
+
+/// What a finding brings to the record of these deeds, a body a line.
+fn brought_by(alloc: Global, record: &[(u32, Deed)], found: Found) -> Option<String> {
+    let state = state_of(alloc, record)?;
+    let bodies = brought(alloc, &state, finding_of(alloc, found)?).ok()?;
+    let mut text = String::new(alloc);
+    push_bodies(alloc, &mut text, bodies.as_slice())?;
+    Some(text)
+}
+
+/// A record, a finding, and what it brings.
+type Case = (&'static [(u32, Deed)], Found, &'static str);
+
+/// Each finding brings to its record what it is to bring.
+fn assert_brought(rt: &impl Abort, alloc: Global, cases: &[Case]) {
+    for (number, case) in (1u64..).zip(cases) {
+        let (record, found, wanted) = *case;
+        let text = brought_by(alloc, record, found);
+        let is_so = text.is_some_and(|text| text.as_str() == wanted);
+        assert!(rt; is_so, "case {number}");
+    }
+}
+
+const COMMIT: Deed = Deed::PatchSet(1, "m", Some(5));
+
+const FIRST: (u32, Deed) = (7, COMMIT);
+
+const FIRST_TEXT: &str =
+    "{\"change\":7,\"message\":\"m\",\"op\":\"patchset\",\"parent\":5,\"set\":1}\n";
+
+/// Patch sets that a line says, and that an event shows.
+const PATCH_SETS: &[Case] = &[
+    (&[], Found::Brings(7, COMMIT), FIRST_TEXT),
+    (&[FIRST], Found::Brings(7, COMMIT), ""),
+    (
+        &[FIRST],
+        Found::Brings(7, Deed::PatchSet(1, "m", None)),
+        "{\"change\":7,\"message\":\"m\",\"op\":\"patchset\",\"set\":1}\n",
+    ),
+    (&[], Found::Shows(7, COMMIT), FIRST_TEXT),
+    (&[FIRST], Found::Shows(7, COMMIT), ""),
+    (&[FIRST], Found::Shows(7, Deed::PatchSet(1, "m", None)), ""),
+    (
+        &[FIRST],
+        Found::Shows(7, Deed::PatchSet(1, "n", Some(6))),
+        "",
+    ),
+    (
+        &[(7, Deed::PatchSet(1, "m", None))],
+        Found::Shows(7, COMMIT),
+        FIRST_TEXT,
+    ),
+    (
+        &[(7, Deed::PatchSet(2, "n", None))],
+        Found::Shows(7, COMMIT),
+        "",
+    ),
+    (
+        &[FIRST],
+        Found::Shows(7, Deed::PatchSet(2, "n", None)),
+        "{\"change\":7,\"message\":\"n\",\"op\":\"patchset\",\"set\":2}\n",
+    ),
+    (&[], Found::Refuses, ""),
+];
+
+#[test]
+fn a_patch_set_is_brought_where_it_is_new(rt: HostRuntime) {
+    assert_brought(&rt, rt.alloc(), PATCH_SETS);
+}
+
+const VETO: (u32, Deed) = (7, Deed::Vote(1, "code-review", "bob", -2));
+
+const APPROVED: (u32, Deed) = (7, Deed::Vote(1, "verified", "zuul", 1));
+
+const NO_VETO: &str =
+    "{\"change\":7,\"label\":\"code-review\",\"op\":\"withdraw\",\"set\":1,\"voter\":\"bob\"}\n";
+
+/// Votes that a row lists, and that it doesn't list.
+const LISTINGS: &[Case] = &[
+    (&[], Found::Lists(7, 1, &[]), ""),
+    (&[VETO], Found::Lists(7, 1, &[]), NO_VETO),
+    (
+        &[VETO, APPROVED],
+        Found::Lists(7, 1, &[("verified", "zuul")]),
+        NO_VETO,
+    ),
+    (
+        &[VETO, APPROVED],
+        Found::Lists(7, 1, &[("verified", "zuul"), ("code-review", "bob")]),
+        "",
+    ),
+    (&[VETO], Found::Lists(7, 2, &[]), ""),
+    (&[VETO], Found::Lists(8, 1, &[]), ""),
+    (
+        &[VETO],
+        Found::Lists(7, 1, &[("code-review", "ann"), ("verified", "bob")]),
+        NO_VETO,
+    ),
+    (
+        &[VETO, (7, Deed::Withdraw(1, "code-review", "bob"))],
+        Found::Lists(7, 1, &[]),
+        "",
+    ),
+];
+
+#[test]
+fn who_is_not_listed_is_withdrawn(rt: HostRuntime) {
+    assert_brought(&rt, rt.alloc(), LISTINGS);
+}
+
+const MERGED: (u32, Deed) = (7, Deed::Merged);
+
+/// What is said of the status of changes, merged ones and others.
+const STATUSES: &[Case] = &[
+    (&[], Found::Brings(7, Deed::Restore), ""),
+    (
+        &[],
+        Found::Brings(7, Deed::Abandon),
+        "{\"change\":7,\"op\":\"abandon\"}\n",
+    ),
+    (&[MERGED], Found::Brings(7, Deed::Restore), ""),
+    (&[MERGED], Found::Brings(7, Deed::Abandon), ""),
+    (
+        &[FIRST],
+        Found::Brings(7, Deed::Merged),
+        "{\"change\":7,\"op\":\"merged\"}\n",
+    ),
+];
+
+#[test]
+fn a_merged_change_stays_so(rt: HostRuntime) {
+    assert_brought(&rt, rt.alloc(), STATUSES);
+}
+
+/// Whether a deed can't count where the record has these.
+fn moot(alloc: Global, record: &[(u32, Deed)], deed: Deed) -> Option<bool> {
+    let state = state_of(alloc, record)?;
+    Some(is_moot(&state, &body_of(alloc, 7, deed)?))
+}
+
+#[test]
+fn what_comes_after_a_merge_is_moot(rt: HostRuntime) {
+    for (deed, wanted) in [
+        (Deed::Abandon, true),
+        (Deed::Restore, true),
+        (Deed::Merged, false),
+        (VETO.1, false),
+    ] {
+        assert_eq!(rt; moot(rt.alloc(), &[MERGED], deed), Some(wanted));
+        assert_eq!(rt; moot(rt.alloc(), &[FIRST], deed), Some(false));
+    }
+}
+
+/// What is asked for where a line with these findings is to be met by the record of these deeds.
+fn asks_of(alloc: Global, record: &[(u32, Deed)], part: Part, found: &[Found]) -> Option<Vec<u32>> {
+    let state = state_of(alloc, record)?;
+    let bases = Bases::new(alloc, &["https://r/"]).ok()?;
+    let mut findings = Vec::new(alloc);
+    for one in found {
+        findings.push(finding_of(alloc, *one)?).ok()?;
+    }
+    let asks = asked(alloc, &state, Some(&bases), &Told { part, findings }).ok()?;
+    let mut numbers = Vec::new(alloc);
+    for number in &asks {
+        numbers.push(*number).ok()?;
+    }
+    Some(numbers)
+}
+
+const NEEDY: Deed = Deed::PatchSet(
+    1,
+    "m\n\nDepends-On: https://r/4\nDepends-On: https://r/3\n",
+    Some(5),
+);
+
+const OPEN: Found = Found::Brings(7, Deed::Restore);
+
+/// Change 5, its open child, one that was abandoned, one that has another parent now, and one that is merged.
+const FAMILY: &[(u32, Deed)] = &[
+    (5, Deed::PatchSet(1, "p", None)),
+    (8, Deed::PatchSet(1, "m", Some(5))),
+    (9, Deed::PatchSet(1, "m", Some(5))),
+    (9, Deed::Abandon),
+    (10, Deed::PatchSet(1, "m", Some(5))),
+    (10, Deed::PatchSet(2, "m", Some(4))),
+    (11, Deed::PatchSet(1, "m", Some(5))),
+    (11, Deed::Merged),
+];
+
+/// A record, what a line is, what is found in it, and what is asked for.
+type Question = (
+    &'static [(u32, Deed)],
+    Part,
+    &'static [Found],
+    &'static [u32],
+);
+
+/// Events and rows of changes that need others, of which the record has some.
+const QUESTIONS: &[Question] = &[
+    (
+        &[],
+        Part::Event(Some(7)),
+        &[Found::Shows(7, NEEDY)],
+        &[3, 4, 5, 7],
+    ),
+    (
+        &[],
+        Part::Event(Some(7)),
+        &[Found::Brings(7, NEEDY)],
+        &[3, 4, 5, 7],
+    ),
+    (
+        &[(7, NEEDY)],
+        Part::Event(Some(7)),
+        &[Found::Shows(7, NEEDY)],
+        &[],
+    ),
+    (
+        &[
+            (3, Deed::Merged),
+            (4, Deed::PatchSet(1, "n", None)),
+            (5, Deed::Abandon),
+        ],
+        Part::Event(Some(7)),
+        &[Found::Brings(7, NEEDY)],
+        &[5, 7],
+    ),
+    (
+        FAMILY,
+        Part::Event(Some(5)),
+        &[Found::Shows(5, Deed::PatchSet(2, "p", None))],
+        &[5, 8],
+    ),
+    (
+        FAMILY,
+        Part::Event(Some(5)),
+        &[Found::Shows(5, Deed::PatchSet(1, "p", None))],
+        &[],
+    ),
+    (
+        FAMILY,
+        Part::Row(Some(5)),
+        &[Found::Brings(5, Deed::PatchSet(2, "p", None)), OPEN],
+        &[],
+    ),
+    (
+        FAMILY,
+        Part::Event(Some(9)),
+        &[Found::Brings(9, Deed::Restore)],
+        &[9],
+    ),
+    (
+        FAMILY,
+        Part::Event(Some(8)),
+        &[Found::Brings(8, Deed::Restore)],
+        &[],
+    ),
+    (&[], Part::Event(Some(7)), &[Found::Refuses], &[7]),
+    (&[], Part::Event(None), &[Found::Refuses], &[]),
+    (
+        &[],
+        Part::Event(Some(7)),
+        &[Found::Brings(7, Deed::Merged)],
+        &[],
+    ),
+    (
+        &[(7, NEEDY)],
+        Part::Row(Some(7)),
+        &[Found::Brings(7, NEEDY), OPEN],
+        &[3, 4, 5],
+    ),
+    (
+        &[],
+        Part::Row(Some(7)),
+        &[Found::Brings(7, NEEDY), Found::Brings(7, Deed::Merged)],
+        &[],
+    ),
+    (&[], Part::Row(Some(7)), &[Found::Refuses, OPEN], &[]),
+    (&[], Part::Stats { more: false }, &[Found::Refuses], &[]),
+];
+
+#[test]
+fn what_is_unknown_is_asked_for(rt: HostRuntime) {
+    for (number, question) in (1u64..).zip(QUESTIONS) {
+        let (record, part, found, wanted) = *question;
+        let asks = asks_of(rt.alloc(), record, part, found);
+        let is_so = asks.is_some_and(|asks| asks.as_slice() == wanted);
+        assert!(rt; is_so, "question {number}");
+    }
+}
+
+/// The abandons of what has vanished from an answer that lists these changes, a body a line.
+fn vanished_from(alloc: Global, record: &[(u32, Deed)], listed: &[u32]) -> Option<String> {
+    let state = state_of(alloc, record)?;
+    let mut numbers = BTreeSet::new(alloc);
+    for number in listed {
+        numbers.insert(*number).ok()?;
+    }
+    let bodies = vanished(alloc, &state, &numbers).ok()?;
+    let mut text = String::new(alloc);
+    push_bodies(alloc, &mut text, bodies.as_slice())?;
+    Some(text)
+}
+
+const SEVERAL: &[(u32, Deed)] = &[
+    (3, Deed::Merged),
+    (4, Deed::Abandon),
+    (5, Deed::PatchSet(1, "m", None)),
+    (6, Deed::Vote(1, "l", "ann", 1)),
+    FIRST,
+];
+
+#[test]
+fn open_changes_that_are_not_listed_have_vanished(rt: HostRuntime) {
+    for (listed, wanted) in [
+        (
+            [].as_slice(),
+            "{\"change\":5,\"op\":\"abandon\"}\n{\"change\":6,\"op\":\"abandon\"}\n{\"change\":7,\"op\":\"abandon\"}\n",
+        ),
+        (
+            [5u32, 7, 9].as_slice(),
+            "{\"change\":6,\"op\":\"abandon\"}\n",
+        ),
+        ([5u32, 6, 7].as_slice(), ""),
+    ] {
+        let text = vanished_from(rt.alloc(), SEVERAL, listed);
+        assert!(rt; text.is_some_and(|text| text.as_str() == wanted));
+    }
+}
+
+#[test]
+fn laws_are_called() {
+    what_a_row_says_is_what_the_record_says();
+    what_is_met_is_what_the_record_says();
+    what_is_nothing_new_brings_nothing();
+}
