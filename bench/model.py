@@ -206,15 +206,19 @@ def front_text(front: dict) -> bytes:
 @dataclass
 class Record:
     ops: dict = field(default_factory=dict)
+    time: int = 0  # the greatest of all
+    seqs: dict = field(default_factory=dict)  # the greatest of each site and start
 
     def take(self, op: Op) -> bool:
         """Whether the operation is new; the order of arrival is that of the keys."""
         is_new = op not in self.ops
         self.ops.setdefault(op)
+        self.time = max(self.time, op.time)
+        self.seqs[op.site, op.start] = max(op.seq, self.seqs.get((op.site, op.start), 0))
         return is_new
 
     def copy(self):
-        return Record(dict(self.ops))
+        return Record(dict(self.ops), self.time, dict(self.seqs))
 
     def front(self) -> dict:
         rows = {}
@@ -234,13 +238,10 @@ class Record:
         return sorted(lacked, key=lambda op: (op.site, op.start, op.seq, op.time, op.deed.key()))
 
     def is_spent(self, site: int, start: int) -> bool:
-        seqs = [op.seq for op in self.ops if (op.site, op.start) == (site, start)]
-        return max([op.time for op in self.ops], default=0) == TOP_U64 or max(seqs, default=0) == TOP_U64
+        return TOP_U64 in (self.time, self.seqs.get((site, start), 0))
 
     def next_op(self, site: int, start: int, deed: Deed) -> Op:
-        seqs = [op.seq for op in self.ops if (op.site, op.start) == (site, start)]
-        time = max([op.time for op in self.ops], default=0)
-        return Op(time + 1, site, start, max(seqs, default=0) + 1, deed)
+        return Op(self.time + 1, site, start, self.seqs.get((site, start), 0) + 1, deed)
 
 
 class State:
@@ -248,21 +249,23 @@ class State:
 
     def __init__(self, record: Record):
         self.sets, self.votes, self.lives, self.merged, self.changes = {}, {}, {}, set(), set()
-        for op in record.ops:
-            deed, stamp = op.deed, op.stamp()
-            self.changes.add(deed.change)
-            if deed.kind == "patchset":
-                parent = -1 if deed.parent is None else deed.parent
-                self.win(self.sets, (deed.change, deed.set), (stamp, (deed.message, parent)))
-            elif deed.kind in ("vote", "withdraw"):
-                self.win(self.votes, (deed.change, deed.set, deed.label, deed.voter), (stamp, deed.value))
-            elif deed.kind == "merged":
-                self.merged.add(deed.change)
-            else:
-                self.win(self.lives, deed.change, (stamp, deed.kind == "restore"))
         self.current = {}
-        for change, number in self.sets:
-            self.current[change] = max(number, self.current.get(change, 0))
+        for op in record.ops:
+            self.take(op)
+
+    def take(self, op: Op) -> None:
+        deed, stamp = op.deed, op.stamp()
+        self.changes.add(deed.change)
+        if deed.kind == "patchset":
+            parent = -1 if deed.parent is None else deed.parent
+            self.win(self.sets, (deed.change, deed.set), (stamp, (deed.message, parent)))
+            self.current[deed.change] = max(deed.set, self.current.get(deed.change, 0))
+        elif deed.kind in ("vote", "withdraw"):
+            self.win(self.votes, (deed.change, deed.set, deed.label, deed.voter), (stamp, deed.value))
+        elif deed.kind == "merged":
+            self.merged.add(deed.change)
+        else:
+            self.win(self.lives, deed.change, (stamp, deed.kind == "restore"))
 
     @staticmethod
     def win(registers: dict, slot, write) -> None:
@@ -793,8 +796,37 @@ TURNS = {
     "change-restored": "restore",
     "change-merged": "merged",
 }
+TURNED = {"wip-state-changed": "wip", "private-state-changed": "private"}
 STATUSES = {"NEW": "restore", "ABANDONED": "abandon", "MERGED": "merged"}
 BODY_KEYS = {"BadLabel": "type", "BadVoter": "username", "LongMessage": "commitMessage"}
+RESERVED = b"gerrit"
+MARKS = {"wip": b"work-in-progress", "private": b"private", "outdated": b"outdated-parent"}
+
+
+@dataclass(frozen=True)
+class Shown:
+    """A patch set that an event shows: it says nothing against what is known."""
+
+    deed: Deed
+
+
+@dataclass(frozen=True)
+class Listed:
+    """All who voted on a patch set, by label and voter."""
+
+    change: int
+    set: int
+    ballots: frozenset
+
+
+@dataclass
+class Told:
+    """What a line is, of which change, and what is found in it. A `part` is event, row, stats, error or None."""
+
+    part: str | None
+    change: int | None = None
+    has_more: bool = False
+    found: list = field(default_factory=list)
 
 
 def under(value, key: str):
@@ -813,6 +845,11 @@ def number_in(value, low: int = 1, high: int = TOP_U32) -> int | None:
     return value if is_whole(value, low, high) else None
 
 
+def user_in(account) -> bytes | None:
+    names = [name for name in (under(account, "username"), under(account, "email")) if isinstance(name, str)]
+    return names[0].encode() if names else None
+
+
 class Event:
     """A line's object. What it brings are deeds, and what is lost of it are keys."""
 
@@ -824,31 +861,53 @@ class Event:
         self.change, self.set = number_in(under(self.about, "number")), number_in(under(self.patch, "number"))
         self.message, self.revision = under(self.about, "commitMessage"), under(self.patch, "revision")
 
-    def found(self) -> list:
+    def told(self, projects: list | None) -> Told:
         if not self.is_query and not isinstance(self.kind, str):
-            return ["type"]
-        if self.kind == "stats":
+            return Told(None, found=["type"])
+        part = {"stats": "stats", "error": "error"}.get(self.kind, "row" if self.is_query else "event")
+        change = None if part in ("stats", "error") or self.kind == "dropped-output" else self.change
+        told = Told(part, change, part == "stats" and under(self.value, "moreChanges") is True)
+        told.found = self.found() if self.is_fed(projects) else []
+        return told
+
+    def is_fed(self, projects: list | None) -> bool:
+        return projects is None or self.about is MISSING or under(self.about, "project") in projects
+
+    def found(self) -> list:
+        if self.kind in ("stats", "error"):
             return []
         if self.kind == "dropped-output":
             return [DROPPED]
-        if not self.is_query and self.kind not in {"patchset-created", *VOTED, *TURNS}:
+        if not self.is_query and self.kind not in {"patchset-created", *VOTED, *TURNS, *TURNED}:
             return self.first()
         if self.change is None:
             return ["number" if self.is_query else "change"]
         if self.kind in TURNS:
             return self.first() + [Deed(TURNS[self.kind], self.change)]
+        closing, opening = self.status() if self.is_query else ([], [])
         if self.set is None:
-            return ["currentPatchSet" if self.is_query else "patchSet"]
+            return closing + ["currentPatchSet" if self.is_query else "patchSet"]
+        return closing + self.first() + self.beside() + opening
+
+    def beside(self) -> list:
+        """What a line brings beside its patch set."""
         if self.is_query:
-            return self.first() + self.votes(self.set, under(self.patch, "approvals")) + self.older() + self.status()
-        return self.first() + (self.votes(self.set, under(self.value, "approvals")) if self.kind in VOTED else [])
+            current = self.listing(self.set, under(self.patch, "approvals"), self.marks())
+            return current + self.mark_votes() + self.older()
+        if self.kind in VOTED:
+            return self.votes(self.set, under(self.value, "approvals"))
+        if self.kind in TURNED:
+            mark = MARKS[TURNED[self.kind]]
+            score = -1 if mark in self.marks() else 0
+            return [self.ballot(self.set, mark, RESERVED, score)]
+        return []
 
     def first(self) -> list:
         """The patch set, where the line brings it, which is known from then on."""
-        needs = self.is_query or self.kind == "patchset-created"
+        is_new = self.kind == "patchset-created"
         if self.change is None or self.set is None or not isinstance(self.message, str):
-            return ["commitMessage"] if needs else []
-        if not needs and self.revision is not MISSING and self.known_as(self.revision) == (self.change, self.set):
+            return ["commitMessage"] if self.is_query or is_new else []
+        if not (self.is_query or is_new) and self.known_as(self.revision) == (self.change, self.set):
             return []
         named = listed(under(self.value, "dependsOn") if self.is_query else under(self.patch, "parents"))
         parents = [parent for parent in map(self.parent, named) if parent is not None]
@@ -856,7 +915,9 @@ class Event:
         if isinstance(self.revision, str):
             self.known.setdefault(self.revision, (self.change, self.set))
         deed = Deed("patchset", self.change, self.set, self.message.encode(), parents[0] if parents else None)
-        return [deed] + ["dependsOn" if self.is_query else "parents"] * lost
+        says_all = self.is_query or is_new and parents
+        keys = ["dependsOn" if self.is_query else "parents"] * lost
+        return [deed if says_all else Shown(deed)] + keys + ([] if self.is_query else self.mark_votes())
 
     def known_as(self, revision):
         return self.known.get(revision) if isinstance(revision, str) else None
@@ -867,6 +928,29 @@ class Event:
         place = self.known_as(named)
         return place and place[0]
 
+    def marks(self) -> list:
+        """What Gerrit says beside votes, of a change or of the parents in a row."""
+        found = [MARKS[key] for key in ("wip", "private") if under(self.about, key) is True]
+        parents = listed(under(self.value, "dependsOn")) if self.is_query else []
+        is_outdated = any(under(parent, "isCurrentPatchSet") is False for parent in parents)
+        return found + [MARKS["outdated"]] * is_outdated
+
+    def mark_votes(self) -> list:
+        return [self.ballot(self.set, mark, RESERVED, -1) for mark in self.marks()]
+
+    def ballot(self, number: int, label: bytes, voter: bytes, score: int) -> Deed:
+        kind = "vote" if score else "withdraw"
+        return Deed(kind, self.change, number, label=label, voter=voter, value=score)
+
+    def listing(self, number: int, approvals, marks: list) -> list:
+        """All who voted on a patch set, and then each vote."""
+        ballots = {(mark, RESERVED) for mark in marks}
+        for approval in listed(approvals):
+            label, voter = under(approval, "type"), user_in(under(approval, "by"))
+            if isinstance(label, str) and voter not in (None, RESERVED):
+                ballots.add((label.encode().lower(), voter))
+        return [Listed(self.change, number, frozenset(ballots))] + self.votes(number, approvals)
+
     def votes(self, number: int, approvals) -> list:
         return [self.vote(number, approval) for approval in listed(approvals)]
 
@@ -874,15 +958,13 @@ class Event:
         label, value = under(approval, "type"), under(approval, "value")
         if not isinstance(label, str):
             return "type"
-        account = under(approval, "by") if self.is_query else under(self.value, VOTED[self.kind])
-        names = [name for name in (under(account, "username"), under(account, "email")) if isinstance(name, str)]
-        if not names:
+        voter = user_in(under(approval, "by") if self.is_query else under(self.value, VOTED[self.kind]))
+        if voter is None:
             return "by" if self.is_query else VOTED[self.kind]
+        if voter == RESERVED:
+            return "username"
         score = 0 if value is MISSING else number_in(value, -128, 127)
-        if score is None:
-            return "value"
-        kind = "vote" if score else "withdraw"
-        return Deed(kind, self.change, number, label=label.encode(), voter=names[0].encode(), value=score)
+        return "value" if score is None else self.ballot(number, label.encode(), voter, score)
 
     def older(self) -> list:
         found = []
@@ -891,46 +973,222 @@ class Event:
             if number is None:
                 found.append("patchSets")
             elif number != self.set:
-                found += self.votes(number, under(patch, "approvals"))
+                found += self.listing(number, under(patch, "approvals"), [])
         return found
 
-    def status(self) -> list:
+    def status(self) -> tuple:
+        """What a row says first, that its change is closed, and what it says last, that it is open."""
         name = under(self.value, "status")
         if not isinstance(name, str):
-            return ["status"]
-        return [Deed(STATUSES[name], self.change)] if name in STATUSES else []
+            return [], ["status"]
+        said = [Deed(STATUSES[name], self.change)] if name in STATUSES else []
+        return ([], said) if name == "NEW" else (said, [])
 
 
-def found_in(line: bytes, known: dict) -> list:
-    """What a line brings, and what is lost of it."""
+def told_by(line: bytes, known: dict, projects: list | None = None) -> Told:
+    """What a line is, what it brings, and what is lost of it."""
     try:
         value = read_json(line)
     except (ValueError, RecursionError):
-        return ["line"]
+        return Told(None, found=["line"])
     if not isinstance(value, dict) or len(line) > 1048576:
-        return ["line"]
-    return [settled(found) for found in Event(value, known).found()]
+        return Told(None, found=["line"])
+    told = Event(value, known).told(projects)
+    told.found = [settled(found) for found in told.found]
+    return told
 
 
 def settled(found):
     try:
+        if isinstance(found, Shown):
+            return Shown(checked(found.deed))
         return checked(found) if isinstance(found, Deed) else found
     except Refused as cause:
         return BODY_KEYS[str(cause)]
 
 
-def events(text: bytes):
-    """What a feed prints, what it reports, and its status."""
-    *lines, rest = text.split(b"\n")
-    known, output, errors = {}, b"hello 2\n", b""
-    for number, line in enumerate(lines, 1):
-        for found in found_in(line.removesuffix(b"\r"), known):
+# ---- feeds
+
+STREAM, QUERY, COMPLETE = "stream", "query", "complete"
+
+
+class FeedEnds(Exception):
+    """What ends a feed before its source: `line` says whether it was reported with a line already."""
+
+
+class Feed:
+    """A source that is read line by line; subclasses say what is done with what was found."""
+
+    def __init__(self, way: str = STREAM, projects: list | None = None):
+        self.way, self.projects = way, projects
+        self.known, self.output, self.errors = {}, b"", b""
+        self.progress, self.listed, self.is_sure = None, set(), True
+
+    def run(self, text: bytes):
+        """What it prints, what it reports, and its status."""
+        try:
+            *lines, rest = text.split(b"\n")
+            for number, line in enumerate(lines, 1):
+                self.line(number, line.removesuffix(b"\r"))
+            if rest:
+                self.is_sure = False
+                self.report(len(lines) + 1, "line")
+            self.end()
+        except FeedEnds as cause:
+            return self.output, self.errors + f"reviewgate: events {cause}\n".encode(), 1
+        return self.output, self.errors, 0
+
+    def line(self, number: int, line: bytes) -> None:
+        told = told_by(line, self.known, self.projects)
+        self.is_sure = self.is_sure and not (told.part is None or told.part == "row" and told.change is None)
+        self.before(told)
+        for found in told.found:
             if found is DROPPED:
-                return output, errors + b"reviewgate: events 2 Dropped %d\n" % number, 1
-            if isinstance(found, Deed):
-                output += b"take " + compact(found.body()) + b"\n"
+                raise FeedEnds(f"2 Dropped {number}")
+            if isinstance(found, str):
+                self.report(number, found)
             else:
-                errors += b"reviewgate: events 1 BadEvent %d %s\n" % (number, found.encode())
-    if rest:
-        errors += b"reviewgate: events 1 BadEvent %d line\n" % (len(lines) + 1)
-    return output, errors, 0
+                self.meet(number, found)
+        if told.part == "error":
+            raise FeedEnds("9 Incomplete")
+        if told.part == "row":
+            self.progress = "open"
+            self.listed |= {told.change} - {None}
+        elif told.part == "stats":
+            self.progress = "open" if told.has_more else "whole"
+
+    def end(self) -> None:
+        if self.progress == "open" or self.progress is None and self.way != STREAM:
+            raise FeedEnds("9 Incomplete")
+
+    def report(self, number: int, key: str) -> None:
+        self.errors += b"reviewgate: events 1 BadEvent %d %s\n" % (number, key.encode())
+
+    def before(self, told: Told) -> None:
+        """What is said of a line before it is met."""
+
+    def meet(self, number: int, found) -> None:
+        raise NotImplementedError
+
+
+class Written(Feed):
+    """A feed whose bodies are written."""
+
+    def run(self, text: bytes):
+        self.output = b"hello 2\n"
+        return super().run(text)
+
+    def meet(self, number: int, found) -> None:
+        if not isinstance(found, Listed):
+            deed = found.deed if isinstance(found, Shown) else found
+            self.output += b"take " + compact(deed.body()) + b"\n"
+
+
+class Offered(Feed):
+    """A feed of a site's record, of which it keeps the state."""
+
+    def __init__(self, record: Record, site: int, start: int, bases: list | None, *ways):
+        super().__init__(*ways)
+        self.record, self.site, self.start, self.bases = record, site, start, bases
+        self.state = State(record)
+
+    def run(self, text: bytes):
+        self.output = b"pulled %d\n" % len(self.record.ops)
+        return super().run(text)
+
+    def before(self, told: Told) -> None:
+        for number in self.asked(told):
+            self.output += b"ask %d\n" % number
+
+    def asked(self, told: Told) -> list:
+        """The changes that have to be queried: that of an event which brings a patch set, restores an abandoned change
+        or of which something was lost; what a new patch set of an event may outdate; and what it or that of an open row
+        waits for and the record doesn't know.
+        """
+        patches = [found.deed if isinstance(found, Shown) else found for found in told.found]
+        patches = [deed for deed in patches if isinstance(deed, Deed) and deed.kind == "patchset"]
+        asked = set()
+        if told.part == "event":
+            patches = [deed for deed in patches if (deed.change, deed.set) not in self.state.sets]
+            asked = {deed.change for deed in patches} | {child for deed in patches for child in self.children(deed.change)}
+            asked |= {found.change for found in told.found if self.is_return(found)}
+            if told.change is not None and any(isinstance(found, str) for found in told.found):
+                asked.add(told.change)
+        elif Deed("restore", told.change or 0) not in told.found:
+            patches = []
+        for deed in patches:
+            asked |= {name for name in self.names(deed) if not self.is_known(name)}
+        return sorted(asked)
+
+    def is_return(self, found) -> bool:
+        is_restore = isinstance(found, Deed) and found.kind == "restore"
+        return is_restore and self.state.status(found.change) == "ABANDONED"
+
+    def children(self, parent: int) -> list:
+        """The open changes whose current patch set has this parent."""
+        current = [(change, self.state.sets[change, number][1]) for change, number in self.state.current.items()]
+        return [change for change, (_, of) in current if of == parent and self.state.status(change) == "NEW"]
+
+    def names(self, deed: Deed) -> set:
+        named = footers(self.bases, deed.change, deed.message)[0] if self.bases is not None else []
+        return set(named) | {deed.parent} - {None, deed.change}
+
+    def is_known(self, change: int) -> bool:
+        return change in self.state.current or change in self.state.merged
+
+    def meet(self, number: int, found) -> None:
+        if isinstance(found, Deed) and found.kind in ("abandon", "restore") and found.change in self.state.merged:
+            self.report(number, "status")
+            return
+        for deed in self.brought(found):
+            self.take(deed)
+
+    def brought(self, found) -> list:
+        """What brings the record to what was found."""
+        if isinstance(found, Listed):
+            place = (found.change, found.set)
+            votes = [(slot, value) for slot, (_, value) in self.state.votes.items() if slot[:2] == place and value]
+            gone = sorted(slot for slot, _ in votes if slot[2:] not in found.ballots)
+            return [Deed("withdraw", *place, label=label, voter=voter) for _, _, label, voter in gone]
+        if isinstance(found, Shown):
+            return [found.deed] if self.is_news(found.deed) else []
+        return [] if self.is_recorded(found) else [found]
+
+    def is_news(self, deed: Deed) -> bool:
+        """Of a patch set that is known only a parent is news, of a commit that is the same; of another one all is,
+        unless a later one is known, whose message it bears.
+        """
+        held = self.state.sets.get((deed.change, deed.set))
+        if held is None:
+            return self.state.current.get(deed.change, 0) < deed.set
+        message, parent = held[1]
+        return deed.parent is not None and message == deed.message and parent != deed.parent
+
+    def is_recorded(self, deed: Deed) -> bool:
+        if deed.kind == "patchset":
+            held = self.state.sets.get((deed.change, deed.set))
+            return bool(held) and held[1] == (deed.message, -1 if deed.parent is None else deed.parent)
+        if deed.kind in ("vote", "withdraw"):
+            return self.state.votes.get((deed.change, deed.set, deed.label, deed.voter), (None, 0))[1] == deed.value
+        return STATUSES[self.state.status(deed.change)] == deed.kind
+
+    def take(self, deed: Deed) -> None:
+        op = self.record.next_op(self.site, self.start, deed)
+        self.record.take(op)
+        self.state.take(op)
+
+    def end(self) -> None:
+        super().end()
+        if self.way == COMPLETE:
+            if not self.is_sure:
+                raise FeedEnds("9 Incomplete")
+            open_ones = {change for change in self.state.changes if self.state.status(change) == "NEW"}
+            gone = sorted(open_ones - self.listed)
+            self.output += b"".join(b"ask %d\n" % change for change in gone)
+            for change in gone:
+                self.take(Deed("abandon", change))
+
+
+def events(text: bytes, way: str = STREAM, projects: list | None = None):
+    """What a feed without a site prints, what it reports, and its status."""
+    return Written(way, projects).run(text)
