@@ -1,7 +1,9 @@
 //! Runs a site over sockets of this machine, as the words of the command line ask for.
 
-ghost use Rattle.std.specs.Prelude.{List};
+ghost use Rattle.std.specs.Prelude.{◌≡◌, IfOk, List, option_map};
 ghost use Rattle.review_ops.specs.Operation.{Operation};
+ghost use Rattle.serve_command.specs.Beginning.{AreInputs};
+ghost use Rattle.serve_command.specs.Endings.{EndsAs};
 
 use super::input_end::stop_with_input;
 use super::journal::open_journal;
@@ -178,7 +180,13 @@ fn output_of<R: Print + Threads + Wait + Clock + Copy + Send + 'static>(
 }
 
 /// What a site is run with.
-fn setup_of(serving: ServeWords<'_>, start: u32, gate: Gate, replica: Replica) -> Setup {
+fn setup_of(serving: ServeWords<'_>, start: u32, gate: Gate, replica: Replica) -> Setup
+    ensures held { (result.gate ≡ gate) × (result.replica ≡ replica) }
+    ensures stamps { (result.site ≡ serving.entry.site) × (result.start ≡ start) }
+    ensures peers { (result.peers ≡ serving.entry.peers) × (result.pause_ms ≡ serving.entry.pause_ms) }
+    ensures sessions { (result.workers ≡ serving.entry.workers) × (result.sessions ≡ serving.entry.sessions)
+        × (result.idle_ms ≡ serving.entry.idle_ms) }
+{
     let ServeWords {
         peers,
         site,
@@ -245,7 +253,10 @@ fn read_inputs<C: Console>(
     gate: &str,
     load: Option<&str>,
     console: &mut C,
-) -> Result<(Gate, Replica), Refusal> {
+) -> Result<(Gate, Replica), Refusal>
+    ensures { IfOk result (λ inputs. AreInputs gate.now (option_map (λ name. name.now) load.entry) inputs.0 inputs.1
+        (C.state console.old) (C.state console.new)) }
+{
     let rules = read_gate(alloc, gate, console)?;
     let replica = match load {
         Some(name) => read_snapshot(Replica::new(alloc), name, console)?,
@@ -277,9 +288,16 @@ fn keep<R: Files>(rt: &R, alloc: Global, name: Option<&str>, served: &Served) ->
     {
         return Err(Ended::Site(ServeFault::NoSave));
     }
-    if served.is_start_taken {
+    ending_of(served.is_start_taken, served.written)
+}
+
+/// How a site ends whose start is taken or not, and whose reports were all written or not.
+fn ending_of(is_start_taken: bool, written: bool) -> Result<(), Ended>
+    ensures { EndsAs is_start_taken written result }
+{
+    if is_start_taken {
         Err(Ended::Site(ServeFault::StartTaken))
-    } else if served.written {
+    } else if written {
         Ok(())
     } else {
         Err(Ended::Refused(Refusal::Output))

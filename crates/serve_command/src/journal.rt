@@ -1,8 +1,11 @@
 //! The record of a site that has a journal.
 
-ghost use Rattle.std.specs.Prelude.{IfOk, List, OnOk};
+ghost use Rattle.std.specs.Prelude.{◌≡◌, ◌++◌, ◌∷◌, [], IfOk, IfSome, List, OnOk};
+ghost use Rattle.replica_core.specs.Sets.{IsSameSet};
 ghost use Rattle.review_ops.specs.Operation.{Operation};
 ghost use Rattle.site_journal.specs.Book.{IsHolding};
+ghost use Rattle.site_journal.specs.Tape.{IsAtStart};
+ghost use Rattle.serve_command.specs.Beginning.{IsAdded, IsBegun, lacking_of};
 
 use super::command::Ended;
 use super::tape::{FileTape, TapeFault};
@@ -10,7 +13,7 @@ use byte_ends::Drain;
 use recover_command::show_torn;
 use replica_core::Replica;
 use review_ops::Op;
-use site_journal::{Journal, JournalFault, KeepFault, Started, Tape};
+use site_journal::{Journal, JournalFault, KeepFault, Tape};
 use site_serve::ServeFault;
 use std::alloc::Global;
 use std::fs::File;
@@ -19,8 +22,7 @@ use std::rt::Files;
 /// How many operations of a snapshot are added to a journal at once.
 const BATCH: usize = 4096;
 
-/// Opens the journal of this name, and adds to it what the snapshot has and it lacks: all of the record that is
-/// answered was synced. How many bytes of a torn line were cut off is written to `errors`.
+/// Opens the journal of this name, and begins a record by it, as `begin` does.
 pub fn open_journal<R: Files<File = File>, E: Drain>(
     rt: &R,
     alloc: Global,
@@ -28,15 +30,46 @@ pub fn open_journal<R: Files<File = File>, E: Drain>(
     loaded: Replica,
     errors: &mut E,
 ) -> Result<(Journal<FileTape>, Replica), Ended>
-    ensures { IfOk result (λ opened. (ops : List Operation) × IsHolding opened.0 ops) }
+    ensures { IfOk result (λ begun. (ops : List Operation) × IsHolding begun.0 ops × IsSameSet begun.1 ops) }
 {
     let tape = FileTape::open(rt, name).map_err(tape_fault)?;
-    let Started {
-        journal,
-        replica,
-        torn,
-    } = Journal::open(alloc, tape).map_err(Ended::Journal)?;
-    show_torn(alloc, torn, errors);
+    begin(alloc, tape, loaded, errors)
+}
+
+/// Begins a site's record by a journal on a tape that was just opened: it has what the journal says and what was loaded
+/// beside, which is added to the journal where that lacks it, and synced. So the journal says just the record. How many
+/// bytes of a torn line were cut off is written to `errors`. It costs O(n log n) for n operations, and a sync for each
+/// 4,096 that are added.
+pub fn begin<T: Tape + Drop, E: Drain>(
+    alloc: Global,
+    tape: T,
+    loaded: Replica,
+    errors: &mut E,
+) -> Result<(Journal<T>, Replica), Ended>
+    requires { IsAtStart (T.image tape) (T.left tape) }
+    ensures kept { IfOk result (λ begun. (ops : List Operation) × IsHolding begun.0 ops × IsSameSet begun.1 ops) }
+    ensures whole { IfOk result (λ begun. IfSome (T.image tape) (λ i. IsBegun i.contents loaded begun.1)) }
+{
+    match Journal::open(alloc, tape) {
+        Ok(started) => {
+            show_torn(alloc, started.torn, errors);
+            add_loaded(alloc, started.journal, started.replica, loaded)
+        }
+        Err(fault) => Err(Ended::Journal(fault)),
+    }
+}
+
+/// Adds to a record, and to its journal, what was loaded and they lack.
+fn add_loaded<T: Tape + Drop>(
+    alloc: Global,
+    journal: Journal<T>,
+    replica: Replica,
+    loaded: Replica,
+) -> Result<(Journal<T>, Replica), Ended>
+    ensures kept { (before : List Operation) → IsHolding journal before
+        → IfOk result (λ begun. IsHolding begun.0 (before ++ lacking_of replica loaded)) }
+    ensures both { IfOk result (λ begun. IsSameSet begun.1 (replica ++ loaded)) }
+{
     let (mut journal, mut replica) = (journal, replica);
     add_lacking(alloc, &mut journal, &replica, &loaded).map_err(Ended::Site)?;
     match replica.absorb(loaded) {
@@ -60,38 +93,48 @@ fn add_lacking<T: Tape>(
     replica: &Replica,
     loaded: &Replica,
 ) -> Result<(), ServeFault>
-    ensures { OnOk result ((before : List Operation) → IsHolding journal.old before
-        → (after : List Operation) × IsHolding journal.new after) }
+    ensures { OnOk result (IsAdded journal.old (lacking_of replica.now loaded.now) journal.new []) }
 {
     let mut lacking = Vec::new(alloc);
     for op in loaded.as_slice() {
-        if replica.has(op) {
-            continue;
-        }
-        let Ok(op) = op.copy() else {
-            return Err(ServeFault::NoMemory);
-        };
-        if lacking.push(op).is_err() {
-            return Err(ServeFault::NoMemory);
-        }
-        if lacking.len() >= BATCH {
-            add_all(journal, &mut lacking)?;
+        if !replica.has(op) {
+            gather(journal, &mut lacking, op)?;
         }
     }
     add_all(journal, &mut lacking)
 }
 
-/// Adds operations to a journal, if there are any.
-fn add_all<T: Tape>(journal: &mut Journal<T>, lacking: &mut Vec<Op>) -> Result<(), ServeFault>
-    ensures { OnOk result ((before : List Operation) → IsHolding journal.old before
-        → (after : List Operation) × IsHolding journal.new after) }
+/// Gathers an operation, and adds to a journal what is gathered once that is much.
+fn gather<T: Tape>(
+    journal: &mut Journal<T>,
+    gathered: &mut Vec<Op>,
+    op: &Op,
+) -> Result<(), ServeFault>
+    ensures { OnOk result (IsAdded journal.old (gathered.old.items ++ op.now ∷ []) journal.new gathered.new.items) }
 {
-    if lacking.is_empty() {
+    let Ok(op) = op.copy() else {
+        return Err(ServeFault::NoMemory);
+    };
+    if gathered.push(op).is_err() {
+        return Err(ServeFault::NoMemory);
+    }
+    if gathered.len() < BATCH {
         return Ok(());
     }
-    match journal.append(lacking.as_slice()) {
+    add_all(journal, gathered)
+}
+
+/// Adds the operations that are gathered to a journal, if there are any.
+fn add_all<T: Tape>(journal: &mut Journal<T>, gathered: &mut Vec<Op>) -> Result<(), ServeFault>
+    ensures added { OnOk result (IsAdded journal.old gathered.old.items journal.new []) }
+    ensures none { OnOk result (gathered.new.items ≡ []) }
+{
+    if gathered.is_empty() {
+        return Ok(());
+    }
+    match journal.append(gathered.as_slice()) {
         Ok(()) => {
-            lacking.clear();
+            gathered.clear();
             Ok(())
         }
         Err(KeepFault::NoMemory) => Err(ServeFault::NoMemory),

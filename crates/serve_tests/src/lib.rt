@@ -11,6 +11,8 @@ mod gossip;
 #[cfg(test)]
 mod programs;
 #[cfg(test)]
+mod restarts;
+#[cfg(test)]
 mod site_feeds;
 #[cfg(test)]
 mod sites;

@@ -19,7 +19,7 @@ use std::time::Clock;
 use std::{fs, io};
 
 /// A gate file.
-const GATE: &str = "{\"bases\":[\"https://review.example.org/\"]}";
+pub const GATE: &str = "{\"bases\":[\"https://review.example.org/\"]}";
 
 /// A snapshot of one operation, and a journal that has it.
 const SNAPSHOT: &[u8] =
@@ -33,7 +33,7 @@ const TORN: &[u8] =
     b"reviewgate 2\n{\"change\":5,\"op\":\"merged\",\"seq\":1,\"site\":1,\"start\":2,\"time\":1}\n{\"change\":5,";
 
 /// A site whose gate file is the standard input.
-fn site_words<'a>(alloc: Global) -> ServeWords<'a> {
+pub fn site_words<'a>(alloc: Global) -> ServeWords<'a> {
     ServeWords {
         gate: "-",
         peers: Vec::new(alloc),
@@ -71,7 +71,7 @@ fn journal_words<'a>(alloc: Global, name: &'a str) -> ServeWords<'a> {
 }
 
 /// Runs such a site, under a gate file on the input, which ends after it.
-fn serve_input<R>(rt: R, words: ServeWords<'_>) -> Ended
+pub fn serve_input<R>(rt: R, words: ServeWords<'_>) -> Ended
 where
     R: Net<Listener = TcpListener, Stream = TcpStream>,
     R: Files<File = File> + Print + Threads + Wait + Clock + AllocGlobal,

@@ -114,7 +114,7 @@ where
     R: Net<Listener = TcpListener, Stream = TcpStream> + Wait + Clock,
 {
     let mut sender = sender;
-    let _ = thread::sleep(rt, Duration::from_millis(500));
+    let _ = thread::sleep(rt, Duration::from_millis(2000));
     let _answers = talk(rt, alloc, port, BRING)?;
     let _ = thread::sleep(rt, Duration::from_millis(2500));
     sender.write_all(b"{\"type\":\"change-merged\",\"change\":{\"number\":7}}\n")

@@ -25,12 +25,12 @@ const GATE: &[u8] =
 const MERGED: &[u8] = br#"{"change":5,"op":"merged","seq":1,"site":1,"start":2,"time":1}"#;
 
 /// A client that takes in a merge.
-const TAKE: &str = "hello 2\ntake {\"change\":7,\"op\":\"merged\"}\nquit\n";
+pub const TAKE: &str = "hello 2\ntake {\"change\":7,\"op\":\"merged\"}\nquit\n";
 
 /// A client that asks for all that a site has, and the answer of one that has that merge.
-const PASS_ON: &str = "hello 2\nfront []\nquit\n";
+pub const PASS_ON: &str = "hello 2\nfront []\nquit\n";
 
-const PASSED: &str =
+pub const PASSED: &str =
     "hello 2\nop {\"change\":7,\"op\":\"merged\",\"seq\":1,\"site\":1,\"start\":1,\"time\":1}\ndone\nbye\n";
 
 /// Nothing is done before and after a session.
@@ -156,6 +156,20 @@ fn a_client_takes_a_patch_set_and_reads_its_report(rt: HostRuntime) -> Result<()
     Ok(())
 }
 
+/// A body that isn't good is refused as that, and the next one is taken in.
+#[test]
+fn a_bad_body_is_answered_as_one(rt: HostRuntime) -> Result<(), Fail> {
+    let lines =
+        "hello 2\ntake {\"change\":0,\"op\":\"merged\"}\ntake {\"change\":7,\"op\":\"merged\"}\nquit\n";
+    let ran = run_session(&rt, rt.alloc(), one_session(rt.alloc(), 1)?, &NoTurn, lines)?;
+    assert_eq!(rt; ran.ending, Some((1, true, false)));
+    assert_eq!(rt;
+        text_of(&ran.answers),
+        "hello 2\nno 8 BadBody\nok 1,1,1,1\nbye\n"
+    );
+    Ok(())
+}
+
 /// A site under the start of the merge that it has.
 fn with_used_start(alloc: Global) -> Result<Setup, Fail> {
     let mut setup = one_session(alloc, 1)?;
@@ -276,13 +290,20 @@ pub fn pulling(alloc: Global, site: u16, peers: &[u16]) -> Result<Setup, Fail> {
     Ok(setup)
 }
 
-/// Whether a site passes on what a client gives its peer; both are then asked to end.
+/// A client that takes in three merges, and all that a site has which pulled them.
+const TAKE_THREE: &str =
+    "hello 2\ntake {\"change\":7,\"op\":\"merged\"}\ntake {\"change\":8,\"op\":\"merged\"}\ntake {\"change\":9,\"op\":\"merged\"}\nquit\n";
+
+const PASSED_THREE: &str =
+    "hello 2\nop {\"change\":7,\"op\":\"merged\",\"seq\":1,\"site\":1,\"start\":1,\"time\":1}\nop {\"change\":8,\"op\":\"merged\",\"seq\":2,\"site\":1,\"start\":1,\"time\":2}\nop {\"change\":9,\"op\":\"merged\",\"seq\":3,\"site\":1,\"start\":1,\"time\":3}\ndone\nbye\n";
+
+/// Whether a site passes on all that a client gives its peer; both are then asked to end.
 fn is_passed_on<R>(rt: &R, alloc: Global, from: u16, to: u16, stop: &Stop, stops: &Stop) -> bool
 where
     R: Net<Listener = TcpListener, Stream = TcpStream> + Wait + Clock,
 {
-    let is_taken = talk(rt, alloc, from, TAKE).is_ok();
-    let is_passed = await_answer(rt, alloc, to, PASS_ON, PASSED, stops);
+    let is_taken = talk(rt, alloc, from, TAKE_THREE).is_ok();
+    let is_passed = await_answer(rt, alloc, to, PASS_ON, PASSED_THREE, stops);
     stop.ask(rt);
     is_taken && is_passed
 }
@@ -307,8 +328,60 @@ fn a_site_pulls_what_its_peer_took(rt: HostRuntime) -> Result<(), Fail> {
     assert!(rt; is_answered);
     assert_eq!(rt;
         (served, pulled),
-        (Some((1, true, false)), Some((1, true, false)))
+        (Some((3, true, false)), Some((3, true, false)))
     );
+    Ok(())
+}
+
+/// All that a site has which pulled a merge from each of two peers.
+const PASSED_BOTH: &str =
+    "hello 2\nop {\"change\":7,\"op\":\"merged\",\"seq\":1,\"site\":1,\"start\":1,\"time\":1}\nop {\"change\":7,\"op\":\"merged\",\"seq\":1,\"site\":2,\"start\":1,\"time\":1}\ndone\nbye\n";
+
+/// Runs two sites, to each of which a client gives a merge, and a third one that pulls from both: whether that has both.
+fn both_are_pulled<R>(rt: &R, alloc: Global) -> Result<bool, Fail>
+where
+    R: Net<Listener = TcpListener, Stream = TcpStream> + Threads + Wait + Clock + Sync,
+{
+    let ((first, one), (second, two)) = (listening(rt)?, listening(rt)?);
+    let (third, three) = listening(rt)?;
+    let (here, there) = (pulling(alloc, 1, &[])?, pulling(alloc, 2, &[])?);
+    let beyond = pulling(alloc, 3, &[one, two])?;
+    let stop = Stop::new();
+    let ((one_ended, two_ended), (pulled, is_answered)) = thread::join(
+        rt,
+        || {
+            thread::join(
+                rt,
+                || ending(run_one(rt, alloc, first, here, &stop, &NoTurn)),
+                || ending(run_one(rt, alloc, second, there, &stop, &NoTurn)),
+            )
+        },
+        || {
+            thread::join(
+                rt,
+                || ending(run_one(rt, alloc, third, beyond, &stop, &NoTurn)),
+                || gives_both(rt, alloc, [one, two], three, &stop),
+            )
+        },
+    );
+    let are_ended = one_ended.is_some() && two_ended.is_some() && pulled.is_some();
+    Ok(are_ended && is_answered)
+}
+
+/// Gives a merge to each of two sites: whether a third one has both after a while. All are then asked to end.
+fn gives_both<R>(rt: &R, alloc: Global, from: [u16; 2], to: u16, stop: &Stop) -> bool
+where
+    R: Net<Listener = TcpListener, Stream = TcpStream> + Wait + Clock,
+{
+    let are_taken = talk(rt, alloc, from[0], TAKE).is_ok()
+        && talk(rt, alloc, from[1], TAKE).is_ok();
+    let is_passed = await_answer(rt, alloc, to, PASS_ON, PASSED_BOTH, stop);
+    are_taken && is_passed
+}
+
+#[test]
+fn each_peer_is_pulled(rt: HostRuntime) -> Result<(), Fail> {
+    assert!(rt; both_are_pulled(&rt, rt.alloc())?);
     Ok(())
 }
 
@@ -399,7 +472,7 @@ impl<R: Wait + Copy> Write for Shared<R> {
     }
 }
 
-/// Holds a session until a report was printed.
+/// Holds a session until a report was printed, and its end until more than that is.
 #[derive(Drop)]
 struct AfterReport<R: Wait + Clock + Copy> {
     rt: R,
@@ -407,19 +480,38 @@ struct AfterReport<R: Wait + Clock + Copy> {
     is_printed: AtomicBool,
 }
 
-impl<R: Wait + Clock + Copy> Turn for AfterReport<R> {
-    fn enter(&self, _session: u64) {
+impl<R: Wait + Clock + Copy> AfterReport<R> {
+    /// Waits until more bytes than these are printed, for ten seconds at most: whether they are.
+    fn await_more(&self, count: usize) -> bool {
         for _ in 0..10_000 {
-            if !self.printed.lock(&self.rt).is_empty() {
-                self.is_printed.store(true, Ordering::SeqCst);
-                return;
+            if self.printed.lock(&self.rt).len() > count {
+                return true;
             }
             let _ = thread::sleep(&self.rt, Duration::from_millis(1));
         }
+        false
+    }
+}
+
+impl<R: Wait + Clock + Copy> Turn for AfterReport<R> {
+    fn enter(&self, _session: u64) {
+        let is_printed = self.await_more(0);
+        self.is_printed.store(is_printed, Ordering::SeqCst);
     }
 
-    fn left(&self, _session: u64) {}
+    fn left(&self, _session: u64) {
+        let _is_more = self.await_more(FIRST_REPORT.len());
+    }
 }
+
+/// The report of a site with nothing, and that of one with a change that lacks a vote.
+const FIRST_REPORT: &str = "end 0 0\n";
+
+const REPORTS: &str = "end 0 0\nout 101,1 require approval 1\nend 0 1\n";
+
+/// A client that takes in a patch set.
+const TAKE_PATCH: &str =
+    "hello 2\ntake {\"change\":101,\"message\":\"m\",\"op\":\"patchset\",\"set\":1}\nquit\n";
 
 /// Runs a site for one session that waits for the site's first report: whether all was answered and written.
 fn run_after_report<R>(
@@ -444,13 +536,14 @@ where
     let (served, answers) = thread::join(
         rt,
         || ending(serve_run(rt, alloc, listener, setup, &stop, output, errors, turn)),
-        || talk(rt, alloc, port, TAKE),
+        || talk(rt, alloc, port, TAKE_PATCH),
     );
     Ok(served == Some((1, true, false)) && answers.is_ok())
 }
 
+/// A report is printed before anything comes, and the next one once that changes it.
 #[test]
-fn a_report_is_printed_before_anything_comes(rt: HostRuntime) -> Result<(), Fail> {
+fn each_report_is_printed(rt: HostRuntime) -> Result<(), Fail> {
     let printed = Arc::new(rt.alloc(), Mutex::new(Vec::new(rt.alloc())))?;
     let output = Ends::new(Shared {
         rt,
@@ -463,6 +556,6 @@ fn a_report_is_printed_before_anything_comes(rt: HostRuntime) -> Result<(), Fail
     };
     assert!(rt; run_after_report(&rt, rt.alloc(), output, &turn)?);
     assert!(rt; turn.is_printed.load(Ordering::SeqCst));
-    assert_eq!(rt; turn.printed.lock(&rt).as_slice(), b"end 0 0\n".as_slice());
+    assert_eq!(rt; turn.printed.lock(&rt).as_slice(), REPORTS.as_bytes());
     Ok(())
 }

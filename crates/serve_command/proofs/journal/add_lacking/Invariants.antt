@@ -1,9 +1,8 @@
-use Rattle.std.proofs.Common.{List}
-use Rattle.review_ops.specs.Operation.{Operation}
-use Rattle.site_journal.specs.Book.{IsHolding}
+use Rattle.std.proofs.Common.{take}
+use Rattle.serve_command.specs.Beginning.{IsAdded, lacking_of}
 use Rattle.serve_command.proofs.journal.add_lacking.Given as goal
 
--- a journal that had some operations, all of which stay, is still one
+-- what the record lacks of the operations so far is added, or gathered
 abbrev pub invariant-loop-op : goal.invariant-loop-op
 invariant-loop-op g l =
-    (before : List Operation) → IsHolding l.fn.journal before → (after : List Operation) × IsHolding l.journal after
+    IsAdded l.fn.journal (lacking_of l.replica (take l.op-index l.op-items)) l.journal l.lacking.items
