@@ -1,12 +1,13 @@
 //! Why a command ended with status 1.
 
-ghost use Rattle.std.specs.Prelude.{◌≡◌, ◌++◌, [], IfOk, OnOk, string_bytes};
+ghost use Rattle.std.specs.Prelude.{◌≡◌, ◌++◌, IfOk, OnOk, string_bytes};
 ghost use Rattle.console.specs.declared.refusals.Refusal.TheVariants.{Script as BadScript, Gate as BadGate};
 ghost use Rattle.console.specs.declared.refusals.Refusal.TheVariants.{File as BadFile};
-ghost use Rattle.console.specs.Refusals.{fault_text, refusal_line, refusal_text};
+ghost use Rattle.console.specs.Refusals.{number_of, part_of, refusal_line, words_of};
 
 use byte_ends::BytesFault;
 use gate_rules::GateFault;
+use refusal_line::{Part, refusal_line};
 use script_text::ScriptFault;
 use snapshot_text::SnapFault;
 use std::alloc::{AllocError, Global};
@@ -33,46 +34,55 @@ impl Refusal {
     pub fn line(&self, alloc: Global) -> Result<String, AllocError>
         ensures { IfOk result (λ line. string_bytes line ≡ refusal_line self.now) }
     {
-        let mut line = String::from_str(alloc, "reviewgate: ")?;
-        write_refusal(&mut line, self)?;
-        line.push_str("\n")?;
-        Ok(line)
+        let mut words = String::new(alloc);
+        self.write_words(&mut words)?;
+        refusal_line(alloc, self.part(), self.number(), words.as_str())
     }
-}
 
-/// The part that refused, the number of the fault, and its words.
-fn write_refusal(line: &mut String, refusal: &Refusal) -> Result<(), AllocError>
-    ensures { OnOk result (string_bytes line.new ≡ string_bytes line.old ++ refusal_text refusal.now) }
-{
-    match refusal {
-        Refusal::Script(fault) => {
-            write_part(line, "script", fault.number())?;
-            fault.write_words(line)
+    /// The part that refused.
+    fn part(&self) -> Part
+        ensures { result ≡ part_of self.now }
+    {
+        match self {
+            Refusal::Script(_) => Part::Script,
+            Refusal::Snapshot(_) => Part::Snapshot,
+            Refusal::Gate(_) => Part::Gate,
+            Refusal::File(_) | Refusal::NotText => Part::File,
+            Refusal::NoItem => Part::Item,
+            Refusal::Output => Part::Output,
+            Refusal::Memory => Part::Memory,
         }
-        Refusal::Snapshot(fault) => {
-            write_part(line, "snapshot", fault.number())?;
-            fault.write_words(line)
-        }
-        Refusal::Gate(fault) => {
-            write_part(line, "gate", fault.number())?;
-            fault.write_words(line)
-        }
-        Refusal::File(fault) => {
-            write_part(line, "file", fault.number())?;
-            line.push_str(fault.name())
-        }
-        Refusal::NotText => line.push_str("file 9 NotText"),
-        Refusal::NoItem => line.push_str("item 1 NoItem"),
-        Refusal::Output => line.push_str("output 1 WriteFault"),
-        Refusal::Memory => line.push_str("memory 1 NoMemory"),
     }
-}
 
-/// The part and the number, with a blank after each.
-fn write_part(line: &mut String, part: &str, number: u8) -> Result<(), AllocError>
-    ensures { OnOk result (string_bytes line.new ≡ string_bytes line.old ++ fault_text part.now number []) }
-{
-    write!(line, "{part} {number} ")
+    /// The number of the fault.
+    fn number(&self) -> u8
+        ensures { result ≡ number_of self.now }
+    {
+        match self {
+            Refusal::Script(fault) => fault.number(),
+            Refusal::Snapshot(fault) => fault.number(),
+            Refusal::Gate(fault) => fault.number(),
+            Refusal::File(fault) => fault.number(),
+            Refusal::NotText => 9,
+            Refusal::NoItem | Refusal::Output | Refusal::Memory => 1,
+        }
+    }
+
+    /// Writes the words of the fault: its name, and what is known of it.
+    fn write_words(&self, words: &mut String) -> Result<(), AllocError>
+        ensures { OnOk result (string_bytes words.new ≡ string_bytes words.old ++ words_of self.now) }
+    {
+        match self {
+            Refusal::Script(fault) => fault.write_words(words),
+            Refusal::Snapshot(fault) => fault.write_words(words),
+            Refusal::Gate(fault) => fault.write_words(words),
+            Refusal::File(fault) => words.push_str(fault.name()),
+            Refusal::NotText => words.push_str("NotText"),
+            Refusal::NoItem => words.push_str("NoItem"),
+            Refusal::Output => words.push_str("WriteFault"),
+            Refusal::Memory => words.push_str("NoMemory"),
+        }
+    }
 }
 
 impl From<ScriptFault> for Refusal {

@@ -6,10 +6,8 @@ ghost use Rattle.console.specs.Showing.{Shows, ShowsLine, error_output};
 
 use super::refusals::Refusal;
 use byte_ends::{Drain, write_all};
+use refusal_line::memory_line;
 use std::alloc::{AllocError, Global};
-
-/// The line of want of memory.
-const MEMORY_LINE: &str = "reviewgate: memory 1 NoMemory\n";
 
 /// Writes the line of a refusal to the error output, or that of want of memory, where memory is refused for it. What
 /// the error output can't take is lost.
@@ -30,7 +28,7 @@ pub fn show_line<E: Drain>(line: &Result<String, AllocError>, errors: &mut E)
 {
     match line {
         Ok(line) => show(line.as_bytes(), errors),
-        Err(_) => show(MEMORY_LINE.as_bytes(), errors),
+        Err(_) => show(memory_line().as_bytes(), errors),
     }
 }
 

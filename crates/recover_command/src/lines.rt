@@ -6,6 +6,7 @@ ghost use Rattle.recover_command.specs.Lines.{journal_line, torn_line};
 
 use byte_ends::Drain;
 use console::show_line;
+use refusal_line::{Part, refusal_line};
 use site_journal::JournalFault;
 use std::alloc::{AllocError, Global};
 
@@ -36,16 +37,15 @@ pub fn show_torn<E: Drain>(alloc: Global, torn: usize, errors: &mut E)
 fn journal_line(alloc: Global, fault: &JournalFault) -> Result<String, AllocError>
     ensures { IfOk result (λ line. string_bytes line ≡ journal_line fault.now) }
 {
-    let number = fault.number();
-    let mut line = format!(in alloc; "reviewgate: journal {number} ")?;
-    fault.write_words(&mut line)?;
-    line.push_str("\n")?;
-    Ok(line)
+    let mut words = String::new(alloc);
+    fault.write_words(&mut words)?;
+    refusal_line(alloc, Part::Journal, fault.number(), words.as_str())
 }
 
 /// The line of so many bytes that were left out.
 fn torn_line(alloc: Global, torn: usize) -> Result<String, AllocError>
     ensures { IfOk result (λ line. string_bytes line ≡ torn_line torn) }
 {
-    format!(in alloc; "reviewgate: journal 6 Torn {torn}\n")
+    let words = format!(in alloc; "Torn {torn}")?;
+    refusal_line(alloc, Part::Journal, 6, words.as_str())
 }

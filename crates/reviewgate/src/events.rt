@@ -1,15 +1,20 @@
 //! Feeds what Gerrit writes to a session.
 
-use byte_ends::{Drain, Source, write_all};
+ghost use Rattle.std.specs.Prelude.{◌≡◌, ◌++◌, IfOk, codes, decimal, string_bytes};
+ghost use Rattle.refusal_line.specs.Line.{line_of};
+ghost use Rattle.refusal_line.specs.declared.part.Part.TheVariants.{Events};
+
+use byte_ends::{Drain, Source};
 use command_line::{Answer, EventWords};
 use commands::report;
-use console::{Named, Refusal, Streams, SystemFiles, read_gate, read_message};
+use console::{Named, Refusal, Streams, SystemFiles, read_gate, read_message, show};
 use event_feed::{EventWriter, FeedFault, Input, events_run};
 use feed_client::{FeedOrder, Feeds, feed_to};
 use footer_text::Bases;
 use gerrit_events::Projects;
 use lattice_core::NoMemory;
-use std::alloc::Global;
+use refusal_line::{Part, refusal_line};
+use std::alloc::{AllocError, Global};
 use std::net::{Net, TcpStream};
 use std::rt::Files;
 use std::sync::Wait;
@@ -171,19 +176,26 @@ where
 
 /// Reports that no site answers at a port. Answers the exit status.
 fn report_no_site<E: Drain>(alloc: Global, port: u16, errors: &mut E) -> u8 {
-    if let Ok(line) = format!(in alloc; "reviewgate: events 7 NoSite {port}\n") {
-        let _lost = write_all(errors, line.as_bytes());
+    if let Ok(line) = no_site_line(alloc, port) {
+        show(line.as_bytes(), errors);
     }
     1
 }
 
+/// The line of a port at which no site answers.
+fn no_site_line(alloc: Global, port: u16) -> Result<String, AllocError>
+    ensures { IfOk result (λ line. string_bytes line ≡ line_of Events 7 (codes "NoSite " ++ decimal port)) }
+{
+    let words = format!(in alloc; "NoSite {port}")?;
+    refusal_line(alloc, Part::Events, 7, words.as_str())
+}
+
 /// Reports how a feed ended early, where that wasn't reported with a line. Answers the exit status.
 fn report_end<E: Drain>(alloc: Global, fault: FeedFault, errors: &mut E) -> u8 {
-    let (number, name) = (fault.number(), fault.name());
     if fault != FeedFault::Dropped
-        && let Ok(line) = format!(in alloc; "reviewgate: events {number} {name}\n")
+        && let Ok(line) = refusal_line(alloc, Part::Events, fault.number(), fault.name())
     {
-        let _lost = write_all(errors, line.as_bytes());
+        show(line.as_bytes(), errors);
     }
     1
 }

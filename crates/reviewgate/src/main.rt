@@ -3,12 +3,13 @@
 
 mod events;
 
-use byte_ends::{Drain, Ends, write_all};
+use byte_ends::{Drain, Ends};
 use command_line::{Asked, read_words};
 use commands::{print_text, report, report_usage, run_command};
-use console::{Refusal, SystemFiles};
+use console::{Refusal, SystemFiles, show};
 use events::feed;
 use recover_command::{recover_named, show_journal_fault};
+use refusal_line::{Part, refusal_line};
 use serve_command::{Ended, serve};
 use site_serve::ServeFault;
 use std::alloc::Global;
@@ -71,9 +72,8 @@ fn report_site<E: Drain>(alloc: Global, ended: Ended, errors: &mut E) -> u8 {
 
 /// Writes the line of a site's fault.
 fn write_fault<E: Drain>(alloc: Global, fault: ServeFault, errors: &mut E) {
-    let (number, name) = (fault.number(), fault.name());
-    if let Ok(line) = format!(in alloc; "reviewgate: serve {number} {name}\n") {
-        let _lost = write_all(errors, line.as_bytes());
+    if let Ok(line) = refusal_line(alloc, Part::Serve, fault.number(), fault.name()) {
+        show(line.as_bytes(), errors);
     }
 }
 

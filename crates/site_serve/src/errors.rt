@@ -1,7 +1,11 @@
 //! What the threads of a site say on its error output.
 
+ghost use Rattle.std.specs.Prelude.{◌≡◌, ◌++◌, IfOk, codes, decimal, string_bytes};
+ghost use Rattle.refusal_line.specs.Line.{line_of};
+
 use byte_ends::{Drain, write_all};
 use gossip_line::LineFault;
+use refusal_line::{Part, refusal_line};
 use std::alloc::{AllocError, Global};
 use std::sync::{Mutex, Wait};
 
@@ -22,28 +26,29 @@ impl<E: Drain> Errors<E> {
 
     /// Writes that a session ended with a fault.
     pub fn session_failed(&self, rt: &impl Wait, alloc: Global, fault: LineFault, session: u64) {
-        if let Ok(line) = line_of(alloc, "session", fault.number(), fault.name(), session) {
+        if let Ok(line) = line_about(alloc, Part::Session, fault.number(), fault.name(), session) {
             self.write(rt, line.as_str());
         }
     }
 
     /// Writes that every worker answers a session, so that the next one waits.
     pub fn all_busy(&self, rt: &impl Wait, alloc: Global) {
-        if let Ok(line) = String::from_str(alloc, "reviewgate: workers 1 AllBusy\n") {
+        if let Ok(line) = refusal_line(alloc, Part::Workers, 1, "AllBusy") {
             self.write(rt, line.as_str());
         }
     }
 
     /// Writes that a pull from a peer failed.
     pub fn pull_failed(&self, rt: &impl Wait, alloc: Global, fault: LineFault, peer: u16) {
-        if let Ok(line) = line_of(alloc, "peer", fault.number(), fault.name(), u64::from(peer)) {
+        let port = u64::from(peer);
+        if let Ok(line) = line_about(alloc, Part::Peer, fault.number(), fault.name(), port) {
             self.write(rt, line.as_str());
         }
     }
 
     /// Writes that a peer can't be reached.
     pub fn not_reached(&self, rt: &impl Wait, alloc: Global, peer: u16) {
-        if let Ok(line) = line_of(alloc, "peer", 8, "Unreachable", u64::from(peer)) {
+        if let Ok(line) = line_about(alloc, Part::Peer, 8, "Unreachable", u64::from(peer)) {
             self.write(rt, line.as_str());
         }
     }
@@ -56,12 +61,15 @@ impl<E: Drain> Errors<E> {
 }
 
 /// The line of a fault, and of what it is about.
-fn line_of(
+fn line_about(
     alloc: Global,
-    part: &str,
+    part: Part,
     number: u8,
     name: &str,
     about: u64,
-) -> Result<String, AllocError> {
-    format!(in alloc; "reviewgate: {part} {number} {name} {about}\n")
+) -> Result<String, AllocError>
+    ensures { IfOk result (λ line. string_bytes line ≡ line_of part number (name.now ++ codes " " ++ decimal about)) }
+{
+    let words = format!(in alloc; "{name} {about}")?;
+    refusal_line(alloc, part, number, words.as_str())
 }
