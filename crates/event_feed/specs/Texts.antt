@@ -2,9 +2,11 @@
 use Rattle.std.specs.Prelude.{ℕ, List, [], ◌++◌, Bool, true, false, codes, decimal, flat_map}
 use Rattle.std.specs.List.{list_any}
 use Rattle.op_text.specs.Text.{body_text}
-use Rattle.gerrit_events.specs.Fault.{text_of}
+use Rattle.gerrit_events.specs.Fault.{number_of, text_of}
 use Rattle.gerrit_events.specs.declared.fault.EventFault.{EventFault}
 use Rattle.gerrit_events.specs.declared.fault.EventFault.TheVariants.{BadEvent, Dropped}
+use Rattle.refusal_line.specs.Line.{line_of}
+use Rattle.refusal_line.specs.declared.part.Part.TheVariants.{Events}
 use Rattle.review_ops.specs.Deed.{Deed}
 use Rattle.gerrit_events.specs.declared.finding.Finding.{Finding}
 use Rattle.gerrit_events.specs.declared.finding.Finding.TheVariants.{Brings, Shows, Lists, Refuses}
@@ -20,20 +22,16 @@ take_line (Shows body) = body_line body
 take_line (Lists listing) = []
 take_line (Refuses fault) = []
 
--- the key that a fault names, at the end of its line
-abbrev pub key_text : List ℕ → List ℕ
-key_text key = codes " " ++ key ++ codes "\n"
+abbrev pub bad_event_words : ℕ → List ℕ → List ℕ
+bad_event_words number key = (codes "BadEvent " ++ decimal number ++ codes " ") ++ key
 
-abbrev pub bad_event_line : ℕ → List ℕ → List ℕ
-bad_event_line number key = (codes "reviewgate: events 1 BadEvent " ++ decimal number) ++ key_text key
-
-abbrev pub dropped_line : ℕ → List ℕ
-dropped_line number = codes "reviewgate: events 2 Dropped " ++ decimal number ++ codes "\n"
+abbrev pub fault_words : ℕ → EventFault → List ℕ
+fault_words number (BadEvent key) = bad_event_words number (text_of key)
+fault_words number Dropped = codes "Dropped " ++ decimal number
 
 -- what is refused of the line of this number
 abbrev pub fault_line : ℕ → EventFault → List ℕ
-fault_line number (BadEvent key) = bad_event_line number (text_of key)
-fault_line number Dropped = dropped_line number
+fault_line number fault = line_of Events (number_of fault) (fault_words number fault)
 
 abbrev pub refusal_line : ℕ → Finding → List ℕ
 refusal_line number (Brings body) = []

@@ -1,12 +1,13 @@
 //! The lines that are written for what was found in a line.
 
 ghost use Rattle.std.specs.Prelude.{◌≡◌, ◌++◌, IfOk, OnOk, string_bytes};
-ghost use Rattle.event_feed.specs.Texts.{bad_event_line, body_line, dropped_line, drops, fault_line, key_text, is_drop};
+ghost use Rattle.event_feed.specs.Texts.{bad_event_words, body_line, drops, fault_line, fault_words, is_drop};
 ghost use Rattle.event_feed.specs.Texts.{refusal_line, refusal_lines, take_line, take_lines};
 
 use gerrit_events::{EventFault, Finding};
 use lattice_core::NoMemory;
 use op_text::write_body;
+use refusal_line::{Part, refusal_line};
 use review_ops::Body;
 use std::alloc::{AllocError, Global};
 
@@ -53,64 +54,56 @@ pub fn refusal_lines(alloc: Global, number: u64, findings: &[Finding]) -> Result
 {
     let mut text = String::new(alloc);
     for finding in findings {
-        add_refusal_line(&mut text, number, finding)?;
+        add_refusal_line(&mut text, alloc, number, finding)?;
     }
     Ok(text)
 }
 
 /// Adds the line of what is found in the line of this number, where that is refused.
-fn add_refusal_line(text: &mut String, number: u64, finding: &Finding) -> Result<(), NoMemory>
+fn add_refusal_line(
+    text: &mut String,
+    alloc: Global,
+    number: u64,
+    finding: &Finding,
+) -> Result<(), NoMemory>
     ensures { OnOk result (string_bytes text.new ≡ string_bytes text.old ++ refusal_line number finding.now) }
 {
     match finding {
         Finding::Refuses(fault) => {
-            add_fault_line(text, number, *fault)?;
+            let line = fault_line(alloc, number, *fault)?;
+            text.push_str(line.as_str())?;
             Ok(())
         }
         Finding::Brings(_) | Finding::Shows(_) | Finding::Lists(_) => Ok(()),
     }
 }
 
-/// Adds the line of what is refused of the line of this number.
-fn add_fault_line(text: &mut String, number: u64, fault: EventFault) -> Result<(), AllocError>
-    ensures { OnOk result (string_bytes text.new ≡ string_bytes text.old ++ fault_line number fault) }
-{
-    match fault {
-        EventFault::BadEvent(key) => add_bad_event(text, number, key.text()),
-        EventFault::Dropped => add_dropped(text, number),
-    }
-}
-
-/// Adds the line of a bad event, with the key that it is refused for.
-fn add_bad_event(text: &mut String, number: u64, key: &str) -> Result<(), AllocError>
-    ensures { OnOk result (string_bytes text.new ≡ string_bytes text.old ++ bad_event_line number key.now) }
-{
-    write!(text, "reviewgate: events 1 BadEvent {number}")?;
-    add_key(text, key)?;
-    Ok(())
-}
-
-/// Adds the key that a line is refused for, and ends the line.
-fn add_key(text: &mut String, key: &str) -> Result<(), AllocError>
-    ensures { OnOk result (string_bytes text.new ≡ string_bytes text.old ++ key_text key.now) }
-{
-    write!(text, " {key}\n")
-}
-
-/// Adds the line of events that Gerrit dropped.
-fn add_dropped(text: &mut String, number: u64) -> Result<(), AllocError>
-    ensures { OnOk result (string_bytes text.new ≡ string_bytes text.old ++ dropped_line number) }
-{
-    write!(text, "reviewgate: events 2 Dropped {number}\n")
-}
-
 /// The line of what is refused of the line of this number.
 pub fn fault_line(alloc: Global, number: u64, fault: EventFault) -> Result<String, NoMemory>
     ensures { IfOk result (λ text. string_bytes text ≡ fault_line number fault) }
 {
-    let mut text = String::new(alloc);
-    add_fault_line(&mut text, number, fault)?;
-    Ok(text)
+    let words = fault_words(alloc, number, fault)?;
+    let line = refusal_line(alloc, Part::Events, fault.number(), words.as_str())?;
+    Ok(line)
+}
+
+/// The words of what is refused of the line of this number: the fault's name, that number, and the key of a bad event.
+fn fault_words(alloc: Global, number: u64, fault: EventFault) -> Result<String, AllocError>
+    ensures { IfOk result (λ words. string_bytes words ≡ fault_words number fault) }
+{
+    match fault {
+        EventFault::BadEvent(key) => bad_event_words(alloc, number, key.text()),
+        EventFault::Dropped => format!(in alloc; "Dropped {number}"),
+    }
+}
+
+/// The words of a bad event, with the key that it is refused for.
+fn bad_event_words(alloc: Global, number: u64, key: &str) -> Result<String, AllocError>
+    ensures { IfOk result (λ words. string_bytes words ≡ bad_event_words number key.now) }
+{
+    let mut words = format!(in alloc; "BadEvent {number} ")?;
+    words.push_str(key)?;
+    Ok(words)
 }
 
 /// Whether events were dropped.

@@ -13,6 +13,8 @@ use Rattle.gerrit_events.specs.declared.fault.EventFault.TheVariants.{BadEvent}
 use Rattle.gerrit_events.specs.declared.fault.EventKey.TheVariants.{Status}
 use Rattle.gerrit_events.specs.declared.finding.Finding.{Finding}
 use Rattle.gerrit_events.specs.declared.finding.Finding.TheVariants.{Brings, Shows, Lists, Refuses}
+use Rattle.refusal_line.specs.Line.{line_of}
+use Rattle.refusal_line.specs.declared.part.Part.TheVariants.{Events}
 use Rattle.review_ops.specs.Deed.{Deed}
 use Rattle.review_ops.specs.Operation.{Operation}
 use Rattle.review_ops.specs.Timestamp.{Timestamp}
@@ -47,13 +49,12 @@ Reports text old new (Err NoSite) = ⊥
 Reports text old new (Err Ended) = ⊥
 Reports text old new (Err Incomplete) = ⊥
 
--- the end of the line of a refusal
-abbrev pub line_end : List ℕ → List ℕ
-line_end text = codes " " ++ text ++ codes "\n"
+abbrev pub refused_words : ℕ → List ℕ → List ℕ
+refused_words number text = (codes "Refused " ++ decimal number ++ codes " ") ++ text
 
 -- the site refused a body of the line of this number
 abbrev pub refused_line : ℕ → Refusal → List ℕ
-refused_line number refusal = (codes "reviewgate: events 6 Refused " ++ decimal number) ++ line_end (text_of refusal)
+refused_line number refusal = line_of Events 6 (refused_words number (text_of refusal))
 
 -- ---- a body that is offered
 

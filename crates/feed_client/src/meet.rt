@@ -1,11 +1,11 @@
 //! Meets what is found in a line: what it brings to the record is offered to the site, and what is lost is reported.
 
-ghost use Rattle.std.specs.Prelude.{◌≡◌, ◌++◌, IfOk, MatchOption, OnOk, string_bytes};
+ghost use Rattle.std.specs.Prelude.{◌≡◌, IfOk, MatchOption, string_bytes};
 ghost use Rattle.event_feed.specs.Texts.{fault_line};
 ghost use Rattle.event_filter.specs.Newest.{IsOpenTo};
 ghost use Rattle.feed_client.specs.InTurn.{InTurn};
-ghost use Rattle.feed_client.specs.Meeting.{IsLost, Keeps, Meets, Offers, Reports, TakesUp, line_end};
-ghost use Rattle.feed_client.specs.Meeting.{place_at, refused_line};
+ghost use Rattle.feed_client.specs.Meeting.{IsLost, Keeps, Meets, Offers, Reports, TakesUp, place_at};
+ghost use Rattle.feed_client.specs.Meeting.{refused_line, refused_words};
 ghost use Rattle.gerrit_events.specs.declared.fault.EventFault.{EventFault as Lost};
 
 use super::intake::{Intake, IntakeFault, Refusal};
@@ -14,9 +14,13 @@ use event_feed::{FeedFault, fault_line, send};
 use event_filter::{brought, is_moot};
 use gerrit_events::{EventFault, EventKey, Finding};
 use lattice_core::NoMemory;
+use refusal_line::{Part, refusal_line};
 use review_ops::{Body, Op, Stamp};
 use state_core::State;
-use std::alloc::Global;
+use std::alloc::{AllocError, Global};
+
+/// The number of a body that the site refused.
+const REFUSED: u8 = 6;
 
 /// Meets what was found in the line of this number, one after the other.
 pub fn meet_all<T: Intake, E: Drain>(
@@ -175,18 +179,18 @@ fn report_refusal<E: Drain>(
 fn refused_line(alloc: Global, number: u64, refusal: Refusal) -> Result<String, NoMemory>
     ensures { IfOk result (λ line. string_bytes line ≡ refused_line number refusal) }
 {
-    let mut line = String::new(alloc);
-    write!(line, "reviewgate: events 6 Refused {number}")?;
-    end_line(&mut line, refusal.text())?;
+    let words = refused_words(alloc, number, refusal.text())?;
+    let line = refusal_line(alloc, Part::Events, REFUSED, words.as_str())?;
     Ok(line)
 }
 
-/// Ends the line of a refusal.
-fn end_line(line: &mut String, text: &str) -> Result<(), NoMemory>
-    ensures { OnOk result (string_bytes line.new ≡ string_bytes line.old ++ line_end text.now) }
+/// The words of a refusal, with the site's own of it.
+fn refused_words(alloc: Global, number: u64, text: &str) -> Result<String, AllocError>
+    ensures { IfOk result (λ words. string_bytes words ≡ refused_words number text.now) }
 {
-    write!(line, " {text}\n")?;
-    Ok(())
+    let mut words = format!(in alloc; "Refused {number} ")?;
+    words.push_str(text)?;
+    Ok(words)
 }
 
 /// Reports what is lost of the line of this number.
