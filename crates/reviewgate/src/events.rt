@@ -7,7 +7,7 @@ ghost use Rattle.refusal_line.specs.declared.part.Part.TheVariants.{Events};
 use byte_ends::{Drain, Source};
 use command_line::{Answer, EventWords};
 use commands::report;
-use console::{Named, Refusal, Streams, SystemFiles, read_gate, read_message, show};
+use console::{Named, Refusal, Streams, SystemFiles, read_gate, read_message, show_line};
 use event_feed::{EventWriter, FeedFault, Input, events_run};
 use feed_client::{FeedOrder, Feeds, feed_to};
 use footer_text::Bases;
@@ -176,9 +176,7 @@ where
 
 /// Reports that no site answers at a port. Answers the exit status.
 fn report_no_site<E: Drain>(alloc: Global, port: u16, errors: &mut E) -> u8 {
-    if let Ok(line) = no_site_line(alloc, port) {
-        show(line.as_bytes(), errors);
-    }
+    show_line(&no_site_line(alloc, port), errors);
     1
 }
 
@@ -192,10 +190,9 @@ fn no_site_line(alloc: Global, port: u16) -> Result<String, AllocError>
 
 /// Reports how a feed ended early, where that wasn't reported with a line. Answers the exit status.
 fn report_end<E: Drain>(alloc: Global, fault: FeedFault, errors: &mut E) -> u8 {
-    if fault != FeedFault::Dropped
-        && let Ok(line) = refusal_line(alloc, Part::Events, fault.number(), fault.name())
-    {
-        show(line.as_bytes(), errors);
+    if fault != FeedFault::Dropped {
+        let line = refusal_line(alloc, Part::Events, fault.number(), fault.name());
+        show_line(&line, errors);
     }
     1
 }

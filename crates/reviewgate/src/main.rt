@@ -6,7 +6,7 @@ mod events;
 use byte_ends::{Drain, Ends};
 use command_line::{Asked, read_words};
 use commands::{print_text, report, report_usage, run_command};
-use console::{Refusal, SystemFiles, show};
+use console::{Refusal, SystemFiles, show_line};
 use events::feed;
 use recover_command::{recover_named, show_journal_fault};
 use refusal_line::{Part, refusal_line};
@@ -72,9 +72,8 @@ fn report_site<E: Drain>(alloc: Global, ended: Ended, errors: &mut E) -> u8 {
 
 /// Writes the line of a site's fault.
 fn write_fault<E: Drain>(alloc: Global, fault: ServeFault, errors: &mut E) {
-    if let Ok(line) = refusal_line(alloc, Part::Serve, fault.number(), fault.name()) {
-        show(line.as_bytes(), errors);
-    }
+    let line = refusal_line(alloc, Part::Serve, fault.number(), fault.name());
+    show_line(&line, errors);
 }
 
 /// The words of the command line after the program's name.
