@@ -9,7 +9,7 @@ use Rattle.snapshot_text.specs.Fault.{snap_fault_of}
 use Rattle.snapshot_text.specs.Snapshot.{IsOfText, IsRefusal, SaysOperations, most_bytes}
 use Rattle.snapshot_text.specs.declared.fault.SnapFault.{SnapFault}
 use Rattle.review_ops.specs.Operation.{Operation}
-use Rattle.console.specs.Console.{ConsoleState, IsRead, IsUnread, once_read}
+use Rattle.console.specs.Console.{ConsoleState, IsRead, IsUnread}
 use Rattle.console.specs.declared.refusals.Refusal.{Refusal}
 use Rattle.console.specs.declared.refusals.Refusal.TheVariants.{File, Gate, NotText, Snapshot}
 
