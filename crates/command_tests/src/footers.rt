@@ -123,7 +123,7 @@ fn what_is_wrong_is_printed(rt: HostRuntime) {
         b"\xff",
         1,
         "",
-        "reviewgate: file 9 NotText\n",
+        "reviewgate: file 9 NotText message\n",
     );
     assert_prints(
         &rt,
@@ -133,7 +133,7 @@ fn what_is_wrong_is_printed(rt: HostRuntime) {
         message,
         1,
         "",
-        "reviewgate: file 7 ReadFault\n",
+        "reviewgate: file 7 ReadFault another\n",
     );
     assert_prints(
         &rt,
@@ -143,7 +143,7 @@ fn what_is_wrong_is_printed(rt: HostRuntime) {
         message,
         1,
         "",
-        "reviewgate: file 7 ReadFault\n",
+        "reviewgate: file 7 ReadFault another\n",
     );
     assert_prints(
         &rt,

@@ -83,14 +83,12 @@ fn a_picture_is_printed(rt: HostRuntime) {
 
 #[test]
 fn a_change_that_is_not_known(rt: HostRuntime) {
-    for change in ["9", "97", "0"] {
-        assert_around(
-            &rt,
-            rt.alloc(),
-            change,
-            1,
-            "",
-            "reviewgate: item 1 NoItem\n",
-        );
+    let cases = [
+        ("9", "reviewgate: item 1 NoItem 9\n"),
+        ("97", "reviewgate: item 1 NoItem 97\n"),
+        ("0", "reviewgate: item 1 NoItem 0\n"),
+    ];
+    for (change, line) in cases {
+        assert_around(&rt, rt.alloc(), change, 1, "", line);
     }
 }

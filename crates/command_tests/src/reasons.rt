@@ -62,8 +62,14 @@ have verified ann 1
 
 #[test]
 fn an_item_that_is_not_known(rt: HostRuntime) {
-    for item in ["98,1", "97", "0", "101,2"] {
-        assert_why(&rt, rt.alloc(), item, 1, "", "reviewgate: item 1 NoItem\n");
+    let cases = [
+        ("98,1", "reviewgate: item 1 NoItem 98,1\n"),
+        ("97", "reviewgate: item 1 NoItem 97\n"),
+        ("0", "reviewgate: item 1 NoItem 0\n"),
+        ("101,2", "reviewgate: item 1 NoItem 101,2\n"),
+    ];
+    for (item, line) in cases {
+        assert_why(&rt, rt.alloc(), item, 1, "", line);
     }
 }
 

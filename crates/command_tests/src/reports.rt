@@ -162,7 +162,7 @@ fn a_report_needs_a_gate_and_a_site(rt: HostRuntime) {
     let line = "reviewgate: script 1 BadSites\n";
     assert_prints(&rt, alloc, words.as_slice(), GATE, "sites 0\n", 1, "", line);
     let words = ["simulate", "-", "lost"];
-    let line = "reviewgate: file 7 ReadFault\n";
+    let line = "reviewgate: file 7 ReadFault lost\n";
     assert_prints(&rt, alloc, words.as_slice(), GATE, script, 1, "", line);
 }
 
@@ -226,7 +226,7 @@ fn faults_of_reports_are_printed(rt: HostRuntime) {
     let line = "reviewgate: snapshot 1 BadHeader\n";
     assert_prints(&rt, alloc, words.as_slice(), "", GATE, 1, "", line);
     let words = ["ready", "lost", "-"];
-    let line = "reviewgate: file 7 ReadFault\n";
+    let line = "reviewgate: file 7 ReadFault lost\n";
     assert_prints(&rt, alloc, words.as_slice(), GATE, "", 1, "", line);
     let words = ["ready", "gate", "lost"];
     let line = "reviewgate: snapshot 7 ReadFault\n";

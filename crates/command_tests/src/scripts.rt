@@ -257,7 +257,7 @@ fn a_missing_file_and_broken_ends_are_refusals(rt: HostRuntime) -> Result<(), Fa
     assert_eq!(rt; ended, 1);
     assert_eq!(rt;
         error_output.get_ref().as_slice(),
-        b"reviewgate: file 7 ReadFault\n".as_slice()
+        b"reviewgate: file 7 ReadFault no.script\n".as_slice()
     );
 
     let mut error_output = Ends::new(Vec::new(rt.alloc()));

@@ -49,9 +49,15 @@ fn real_files_are_read_by_name(rt: HostRuntime) -> Result<(), Fail> {
     let mut files = SystemFiles::new(rt);
     let cases: [(&str, &[u8]); 4] = [
         ("reviewgate_whole.tmp", b""),
-        ("reviewgate_longer.tmp", b"reviewgate: file 6 TooLong\n"),
-        (".", b"reviewgate: file 7 ReadFault\n"),
-        ("reviewgate_missing.tmp", b"reviewgate: file 7 ReadFault\n"),
+        (
+            "reviewgate_longer.tmp",
+            b"reviewgate: file 6 TooLong reviewgate_longer.tmp\n",
+        ),
+        (".", b"reviewgate: file 7 ReadFault .\n"),
+        (
+            "reviewgate_missing.tmp",
+            b"reviewgate: file 7 ReadFault reviewgate_missing.tmp\n",
+        ),
     ];
     for (name, line) in cases {
         assert_plays(&rt, alloc, &mut files, name, line);

@@ -1,5 +1,5 @@
 -- How a command ends that reads a gate file and then a snapshot.
-use Rattle.std.proofs.Common.{◌≡◌, ◌⊎◌, inl, inr, ℕ, List, [], ◌∷◌, Err, refl, subst, sym}
+use Rattle.std.proofs.Common.{◌≡◌, ◌⊎◌, inl, inr, ℕ, List, [], ◌∷◌, Err, Option, refl, subst, sym}
 use Rattle.byte_ends.specs.Lines.{lines_of}
 use Rattle.gate_rules.specs.Rules.{GateRules}
 use Rattle.gate_rules.specs.Spelling.{SpellsGate}
@@ -11,7 +11,7 @@ use Rattle.console.specs.Console.{ConsoleState}
 use Rattle.console.specs.Inputs.{AreHad, Input, IsFirstRefused, IsHad, IsRefused, gate_file, input, snapshot_file}
 use Rattle.console.specs.declared.refusals.Refusal.{Refusal}
 use Rattle.console.specs.declared.refusals.Refusal.TheVariants.{Memory, NoItem}
-use Rattle.commands.specs.Answers.{IsWhole, Lacks}
+use Rattle.commands.specs.Answers.{IsWhole, Misses}
 use Rattle.commands.proofs.HowItEnds.{both_had, second_refused}
 
 abbrev pub both_inputs : List ℕ → List ℕ → List Input
@@ -34,12 +34,14 @@ module _ (gate snapshot : List ℕ) (rules : GateRules) (IsThis : List ℕ → T
       (λ text. SaysOperations (lines_of text) ops) (λ text says. (ops, says))
 
 -- what is refused once both were read
-pub not_there : (IsSo : List ℕ → Type 0) (snapshot : List ℕ) (HasIt : State → Type 0) (refusal : Refusal)
-    (ops : List Operation) (state : State) → SaysOperations (lines_of snapshot) ops
-    → state ≡ state_of (all_arrived [] ops) → ((refusal ≡ NoItem) × ¬ HasIt state) ⊎ (refusal ≡ Memory)
-    → IsWhole IsSo (Lacks snapshot HasIt) [] (Err refusal)
-not_there IsSo snapshot HasIt refusal ops state says is (inl none) =
-    subst (λ r. IsWhole IsSo (Lacks snapshot HasIt) [] (Err r)) (sym none.0)
-    (record { ops = ops; says = says; none = subst (λ s. ¬ HasIt s) is none.1 }, refl)
-not_there IsSo snapshot HasIt refusal ops state says is (inr memory) =
-    subst (λ r. IsWhole IsSo (Lacks snapshot HasIt) [] (Err r)) (sym memory) (refl, refl)
+pub not_there : (IsSo : List ℕ → Type 0) (IsAskedFor : ℕ → Option ℕ → Type 0) (snapshot : List ℕ)
+    (HasIt : State → Type 0) (refusal : Refusal) (ops : List Operation) (state : State)
+    → SaysOperations (lines_of snapshot) ops → state ≡ state_of (all_arrived [] ops)
+    → ((number : ℕ) × (other : Option ℕ) × IsAskedFor number other × (refusal ≡ NoItem number other) × ¬ HasIt state)
+    ⊎ (refusal ≡ Memory)
+    → IsWhole IsSo (Misses IsAskedFor snapshot HasIt) [] (Err refusal)
+not_there IsSo IsAskedFor snapshot HasIt refusal ops state says is (inl none) =
+    subst (λ r. IsWhole IsSo (Misses IsAskedFor snapshot HasIt) [] (Err r)) (sym none.3)
+    ((none.2, record { ops = ops; says = says; none = subst (λ s. ¬ HasIt s) is none.4 }), refl)
+not_there IsSo IsAskedFor snapshot HasIt refusal ops state says is (inr memory) =
+    subst (λ r. IsWhole IsSo (Misses IsAskedFor snapshot HasIt) [] (Err r)) (sym memory) (refl, refl)

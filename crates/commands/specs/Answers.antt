@@ -25,12 +25,14 @@ use Rattle.why_text.specs.Asked.{IsAsked}
 use Rattle.why_text.specs.Why.{IsWhy}
 use Rattle.world_core.specs.World.{new_world}
 use Rattle.console.specs.Printing.{Ended}
+use Rattle.console.specs.declared.refusals.Refusal.{Refusal}
 use Rattle.console.specs.declared.refusals.Refusal.TheVariants.{Memory, NoItem, Script}
 
--- the answer is printed; or what is asked for isn't there, or memory was refused, before anything was printed
-abbrev pub IsWhole : (List ℕ → Type 0) → Type 0 → List ℕ → Ended → Type 0
+-- the answer is printed; or the change or the patch set that is asked for isn't there, or memory was refused, before
+-- anything was printed
+abbrev pub IsWhole : (List ℕ → Type 0) → (ℕ → Option ℕ → Type 0) → List ℕ → Ended → Type 0
 IsWhole IsSo IsMissing answer (Ok done) = IsSo answer
-IsWhole IsSo IsMissing answer (Err NoItem) = IsMissing × (answer ≡ [])
+IsWhole IsSo IsMissing answer (Err (NoItem change set)) = IsMissing change set × (answer ≡ [])
 IsWhole IsSo IsMissing answer (Err refusal) = (refusal ≡ Memory) × (answer ≡ [])
 
 -- the answer is so of the rules that the gate file spells, and of the state of the operations that the snapshot says
@@ -47,6 +49,14 @@ pub record Lacks (snapshot : List ℕ) (HasIt : State → Type 0) : Type 0 where
   pub says : SaysOperations (lines_of snapshot) ops
   pub none : ¬ HasIt (state_of (all_arrived [] ops))
 
+-- this is asked for, and the state that the snapshot says hasn't got it
+abbrev pub Misses : (ℕ → Option ℕ → Type 0) → List ℕ → (State → Type 0) → ℕ → Option ℕ → Type 0
+Misses IsAskedFor snapshot HasIt change set = IsAskedFor change set × Lacks snapshot HasIt
+
+-- nothing is asked for
+abbrev pub MissesNone : ℕ → Option ℕ → Type 0
+MissesNone change set = ⊥
+
 -- ---- `ready`: the report of the state
 
 abbrev pub IsReport : GateRules → State → List ℕ → Type 0
@@ -56,6 +66,9 @@ IsReport rules state answer = (verdicts : Judged) × AreVerdicts rules state ver
 
 abbrev pub HasItem : ℕ → Option ℕ → State → Type 0
 HasItem change set state = (item : Item) × IsAsked state change set item
+
+abbrev pub IsItem : ℕ → Option ℕ → ℕ → Option ℕ → Type 0
+IsItem change set number other = (number ≡ change) × (other ≡ set)
 
 abbrev pub IsReason : List ℕ → ℕ → Option ℕ → GateRules → State → List ℕ → Type 0
 IsReason gate change set rules state answer =
@@ -67,6 +80,15 @@ IsReason gate change set rules state answer =
 abbrev pub HasAround : Option ℕ → State → Type 0
 HasAround None state = Unit {0}
 HasAround (Some number) state = IsKnown state number
+
+abbrev pub IsAround : Option ℕ → ℕ → Option ℕ → Type 0
+IsAround around number other = (around ≡ Some number) × (other ≡ None)
+
+-- the change isn't known, and is named
+abbrev pub IsRefusedAround : Option ℕ → State → Refusal → Type 0
+IsRefusedAround around state refusal =
+    (number : ℕ) × (other : Option ℕ) × IsAround around number other × (refusal ≡ NoItem number other)
+    × ¬ HasAround around state
 
 abbrev pub IsPicture : Option ℕ → GateRules → State → List ℕ → Type 0
 IsPicture around rules state answer = HasAround around state × IsGraphText rules state around answer

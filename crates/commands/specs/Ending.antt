@@ -5,7 +5,7 @@ use Rattle.command_line.specs.declared.asked.Command.{Command}
 use Rattle.command_line.specs.declared.asked.Command.TheVariants.{Footers, Graph, Merge, Ready, Simulate, Why}
 use Rattle.console.specs.Printing.{Ended}
 use Rattle.commands.specs.Answers.{AreFooterLines, HasAround, HasItem, IsMerged, IsOf, IsPicture, IsReason, IsReport}
-use Rattle.commands.specs.Answers.{IsSimulated, IsWhole, Lacks}
+use Rattle.commands.specs.Answers.{IsAround, IsItem, IsSimulated, IsWhole, Misses, MissesNone}
 use Rattle.console.specs.Console.{ConsoleState, IsCutShort, IsPrinted}
 use Rattle.console.specs.Inputs.{AreHad, Input, IsFirstRefused, input}
 use Rattle.console.specs.Inputs.{gate_file, message_file, script_file, snapshot_file}
@@ -23,14 +23,14 @@ inputs_of (Graph gate snapshot around) = input gate_file gate.now ∷ input snap
 -- of these texts the command prints this answer, and ends so once it is printed
 abbrev pub IsAnswer : Command → List (List ℕ) → List ℕ → Ended → Type 0
 IsAnswer (Simulate script gate) (text ∷ gates) answer ended = IsSimulated text gates answer ended
-IsAnswer (Ready gate snapshot) (one ∷ other ∷ []) answer ended = IsWhole (IsOf one other IsReport) ⊥ answer ended
-IsAnswer (Merge first second) (one ∷ other ∷ []) answer ended = IsWhole (IsMerged one other) ⊥ answer ended
+IsAnswer (Ready gate snapshot) (one ∷ other ∷ []) answer ended = IsWhole (IsOf one other IsReport) MissesNone answer ended
+IsAnswer (Merge first second) (one ∷ other ∷ []) answer ended = IsWhole (IsMerged one other) MissesNone answer ended
 IsAnswer (Footers gate message change) (one ∷ other ∷ []) answer ended =
-    IsWhole (AreFooterLines one other change) ⊥ answer ended
+    IsWhole (AreFooterLines one other change) MissesNone answer ended
 IsAnswer (Why gate snapshot change set) (one ∷ other ∷ []) answer ended =
-    IsWhole (IsOf one other (IsReason one change set)) (Lacks other (HasItem change set)) answer ended
+    IsWhole (IsOf one other (IsReason one change set)) (Misses (IsItem change set) other (HasItem change set)) answer ended
 IsAnswer (Graph gate snapshot around) (one ∷ other ∷ []) answer ended =
-    IsWhole (IsOf one other (IsPicture around)) (Lacks other (HasAround around)) answer ended
+    IsWhole (IsOf one other (IsPicture around)) (Misses (IsAround around) other (HasAround around)) answer ended
 IsAnswer command texts answer ended = ⊥
 
 -- all of the answer was printed, and the command ends as it does; or the output failed, and a proper prefix was printed

@@ -15,13 +15,13 @@ use std::alloc::Global;
 /// Prints what the footers of a message of the change say, 0 where it has no number: `need N` for each other change
 /// that they name, `ignored VALUE` for each other value, and `end` with the counts of both. Refusals: those of the gate
 /// file, then of the message; `Memory`, memory was refused once both were read; `Output`. It costs O(bytes of both).
-pub fn footers<C: Console>(
+pub fn footers<'n, C: Console>(
     alloc: Global,
-    gate: &str,
-    message: &str,
+    gate: &'n str,
+    message: &'n str,
     change: u32,
     console: &mut C,
-) -> Result<(), Refusal>
+) -> Result<(), Refusal<'n>>
     ensures { Ends (Command.Footers gate.entry message.entry change) (C.state console.old)
         (C.state console.new) result }
 {

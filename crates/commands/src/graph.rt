@@ -1,8 +1,8 @@
 //! Prints the items of a snapshot and what they wait for under a gate, as a graph.
 
-ghost use Rattle.std.specs.Prelude.{◌≡◌, ◌⊎◌, ◌↔◌, IfErr, IfOk, IsTrue, string_bytes};
+ghost use Rattle.std.specs.Prelude.{◌≡◌, ◌⊎◌, IfErr, IfOk, MatchOption, Some, string_bytes};
 ghost use Rattle.graph_text.specs.Drawing.{IsGraphText};
-ghost use Rattle.commands.specs.Answers.{HasAround};
+ghost use Rattle.commands.specs.Answers.{HasAround, IsRefusedAround};
 ghost use Rattle.commands.specs.Ending.{Ends};
 
 use command_line::Command;
@@ -18,13 +18,13 @@ use std::mem::ManuallyDrop;
 /// what leads to the items of the change `around` and what these lead to. Refusals: those of the gate file, then of
 /// the snapshot; `NoItem`, no patch set of that change is known; `Memory`, memory was refused once both were read;
 /// `Output`. It costs what reading both costs, and what `graph_text` does.
-pub fn graph<C: Console>(
+pub fn graph<'n, C: Console>(
     alloc: Global,
-    gate: &str,
-    snapshot: &str,
+    gate: &'n str,
+    snapshot: &'n str,
     around: Option<u32>,
     console: &mut C,
-) -> Result<(), Refusal>
+) -> Result<(), Refusal<'n>>
     ensures { Ends (Command.Graph gate.entry snapshot.entry around)
         (C.state console.old) (C.state console.new) result }
 {
@@ -45,14 +45,13 @@ fn picture_of(
     rules: &Gate,
     state: &State,
     around: Option<u32>,
-) -> Result<String, Refusal>
+) -> Result<String, Refusal<'static>>
     ensures known { IfOk result (λ text. HasAround around state.now) }
     ensures drawn { IfOk result (λ text. IsGraphText rules.now state.now around (string_bytes text)) }
-    ensures refused { IfErr result (λ refusal. ((refusal ≡ Refusal.NoItem) × ¬ HasAround around state.now)
-        ⊎ (refusal ≡ Refusal.Memory)) }
+    ensures refused { IfErr result (λ refusal. IsRefusedAround around state.now refusal ⊎ (refusal ≡ Refusal.Memory)) }
 {
-    if !is_known_around(state, around) {
-        return Err(Refusal::NoItem);
+    if let Some(change) = unknown_around(state, around) {
+        return Err(Refusal::NoItem(change, None));
     }
     match graph_text(alloc, rules, state, around) {
         Ok(text) => Ok(text),
@@ -60,12 +59,14 @@ fn picture_of(
     }
 }
 
-/// Whether a patch set is known of the change to draw around, where there is one.
-fn is_known_around(state: &State, around: Option<u32>) -> bool
-    ensures { IsTrue result ↔ HasAround around state.now }
+/// The change to draw around, where no patch set of it is known.
+fn unknown_around(state: &State, around: Option<u32>) -> Option<u32>
+    ensures { MatchOption result (HasAround around state.now)
+        (λ change. (around ≡ Some change) × ¬ HasAround around state.now) }
 {
-    match around {
-        Some(change) => state.is_known(change),
-        None => true,
+    let change = around?;
+    if state.is_known(change) {
+        return None;
     }
+    Some(change)
 }

@@ -12,12 +12,12 @@ use std::mem::ManuallyDrop;
 /// the first, so that one journal and one state are held. Refusals: those of the first snapshot, then of the second;
 /// `Memory`, memory was refused once both were read; `Output`. It costs what reading both costs, and what writing
 /// costs.
-pub fn merge<C: Console>(
+pub fn merge<'n, C: Console>(
     alloc: Global,
-    first: &str,
-    second: &str,
+    first: &'n str,
+    second: &'n str,
     console: &mut C,
-) -> Result<(), Refusal>
+) -> Result<(), Refusal<'n>>
     ensures { Ends (Command.Merge first.entry second.entry) (C.state console.old) (C.state console.new) result }
 {
     operations_arrive_as_a_set();

@@ -12,12 +12,12 @@ use std::mem::ManuallyDrop;
 /// Prints which items of a snapshot may be enqueued under a gate, and why each other one waits. Refusals: those of the
 /// gate file, then of the snapshot; `Memory`, memory was refused once both were read; `Output`. It costs what reading
 /// both costs, and what `evaluate` and `write_report` do.
-pub fn ready<C: Console>(
+pub fn ready<'n, C: Console>(
     alloc: Global,
-    gate: &str,
-    snapshot: &str,
+    gate: &'n str,
+    snapshot: &'n str,
     console: &mut C,
-) -> Result<(), Refusal>
+) -> Result<(), Refusal<'n>>
     ensures { Ends (Command.Ready gate.entry snapshot.entry) (C.state console.old) (C.state console.new) result }
 {
     let rules = read_gate(alloc, gate, console)?;

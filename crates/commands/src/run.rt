@@ -48,13 +48,13 @@ pub fn run_command<I: Source, O: Drain, E: Drain, N: Named>(
 }
 
 /// Runs a command over a console of these ends.
-fn run_over<I: Source, O: Drain, N: Named>(
+fn run_over<'n, I: Source, O: Drain, N: Named>(
     alloc: Global,
-    command: &Command<'_>,
+    command: &Command<'n>,
     input: &mut I,
     output: &mut O,
     files: &mut N,
-) -> Result<(), Refusal>
+) -> Result<(), Refusal<'n>>
     ensures { Runs command.now (I.left input.old) (N.files files.old)
         (counts (O.taken output.old) (I.failed input.old) (N.failed files.old) (O.failed output.old))
         (counts (O.taken output.new) (I.failed input.new) (N.failed files.new) (O.failed output.new)) result }
@@ -69,11 +69,11 @@ fn run_over<I: Source, O: Drain, N: Named>(
 }
 
 /// Does what a command asks for.
-fn do_command<C: Console>(
+fn do_command<'n, C: Console>(
     alloc: Global,
-    command: &Command<'_>,
+    command: &Command<'n>,
     console: &mut C,
-) -> Result<(), Refusal>
+) -> Result<(), Refusal<'n>>
     ensures { Ends command.now (C.state console.old) (C.state console.new) result }
 {
     match command {
@@ -116,7 +116,7 @@ pub fn print_text<O: Drain, E: Drain>(
 }
 
 /// Writes a text to the output.
-fn written<O: Drain>(text: &str, output: &mut O) -> Result<(), Refusal>
+fn written<O: Drain>(text: &str, output: &mut O) -> Result<(), Refusal<'static>>
     ensures { PrintsText text.now (O.taken output.old) (O.taken output.new) (O.failed output.old)
         (O.failed output.new) result }
 {
@@ -139,7 +139,7 @@ pub fn report_usage<E: Drain>(text: &str, errors: &mut E) -> u8
 
 /// Writes to the error output why a command wasn't done, and answers the status. What the error output can't take is
 /// lost.
-pub fn report<E: Drain>(alloc: Global, ended: &Result<(), Refusal>, errors: &mut E) -> u8
+pub fn report<E: Drain>(alloc: Global, ended: &Result<(), Refusal<'_>>, errors: &mut E) -> u8
     ensures { Reports (error_output (E.taken errors.old) (E.failed errors.old))
         (error_output (E.taken errors.new) (E.failed errors.new)) ended.now result }
 {

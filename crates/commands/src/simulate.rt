@@ -19,12 +19,12 @@ use world_core::{World, worlds_converge};
 /// `BadSites`; `Script` 2 `BadLine`, the script ends at a line that says nothing, once the lines before it are
 /// answered; `Script` 3 `NoMemory`, the script, the sites or an answer couldn't be held; `Output`. It costs what
 /// reading and the events cost.
-pub fn simulate<C: Console>(
+pub fn simulate<'n, C: Console>(
     alloc: Global,
-    script: &str,
-    gate: Option<&str>,
+    script: &'n str,
+    gate: Option<&'n str>,
     console: &mut C,
-) -> Result<(), Refusal>
+) -> Result<(), Refusal<'n>>
     ensures { Ends (Command.Simulate script.entry gate.entry) (C.state console.old) (C.state console.new) result }
 {
     worlds_converge::<Global>();
@@ -39,7 +39,7 @@ fn play_text<C: Console>(
     text: &[u8],
     gate: Option<&Gate>,
     console: &mut C,
-) -> Result<(), Refusal>
+) -> Result<(), Refusal<'static>>
     ensures { Finishes (IsPlayedText (option_copied gate.entry) text.now) (C.state console.old)
         (C.state console.new) result }
 {
@@ -48,7 +48,11 @@ fn play_text<C: Console>(
 }
 
 /// Plays a script.
-fn play<C: Console>(alloc: Global, script: Script<'_>, console: &mut C) -> Result<(), Refusal>
+fn play<C: Console>(
+    alloc: Global,
+    script: Script<'_>,
+    console: &mut C,
+) -> Result<(), Refusal<'static>>
     ensures { Finishes (IsPlayed script.entry.sites script.entry.steps.items script.entry.bad_line)
         (C.state console.old) (C.state console.new) result }
 {
@@ -70,7 +74,7 @@ fn play<C: Console>(alloc: Global, script: Script<'_>, console: &mut C) -> Resul
 }
 
 /// How a script ends whose steps were played: at the line that says none, if there is one.
-fn end_of(bad_line: Option<u64>) -> Result<(), Refusal>
+fn end_of(bad_line: Option<u64>) -> Result<(), Refusal<'static>>
     ensures { MatchOption bad_line (IsOk result) (λ line. IsErrOf result (Refusal.Script (ScriptFault.BadLine line))) }
 {
     match bad_line {

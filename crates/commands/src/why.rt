@@ -20,14 +20,14 @@ use why_text::{item_asked, why_text};
 /// none is named. Refusals: those of the gate file, then of the snapshot; `NoItem`, the item isn't known; `Memory`,
 /// memory was refused once both were read; `Output`. It costs what reading both costs, and what `evaluate` and
 /// `why_text` do.
-pub fn why<C: Console>(
+pub fn why<'n, C: Console>(
     alloc: Global,
-    gate: &str,
-    snapshot: &str,
+    gate: &'n str,
+    snapshot: &'n str,
     change: u32,
     set: Option<u32>,
     console: &mut C,
-) -> Result<(), Refusal>
+) -> Result<(), Refusal<'n>>
     ensures { Ends (Command.Why gate.entry snapshot.entry change set)
         (C.state console.old) (C.state console.new) result }
 {
@@ -49,16 +49,16 @@ fn reason_of(
     state: &State,
     change: u32,
     set: Option<u32>,
-) -> Result<String, Refusal>
+) -> Result<String, Refusal<'static>>
     requires { SpellsGate file.now.text.items file.now.rules }
     ensures reason { IfOk result
         (λ text. IsReason file.now.text.items change set file.now.rules state.now (string_bytes text)) }
     ensures refused { IfErr result (λ refusal.
-        ((refusal ≡ Refusal.NoItem) × ((item : Item) → ¬ IsAsked state.now change set item))
+        ((refusal ≡ Refusal.NoItem change set) × ((item : Item) → ¬ IsAsked state.now change set item))
         ⊎ (refusal ≡ Refusal.Memory)) }
 {
     let Some(item) = item_asked(state, change, set) else {
-        return Err(Refusal::NoItem);
+        return Err(Refusal::NoItem(change, set));
     };
     let Ok(verdicts) = evaluate(alloc, state, &file.rules) else {
         return Err(Refusal::Memory);

@@ -1,5 +1,6 @@
 -- The inputs of a command, read and judged one after the other: each kind's limit, what it has to be, and its refusals.
 use Rattle.std.specs.Prelude.{◌≡◌, ◌⊎◌, ℕ, List, [], ◌∷◌, IsUtf8, Option, None, Some}
+use Rattle.std.specs.Borrow.{Bor}
 use Rattle.byte_ends.specs.Lines.{lines_of}
 use Rattle.byte_ends.specs.declared.faults.BytesFault.{BytesFault}
 use Rattle.gate_rules.specs.Rules.{GateRules}
@@ -31,10 +32,18 @@ abbrev pub limit_of : Kind → ℕ
 limit_of snapshot_file = most_bytes
 limit_of kind = 1048576
 
--- how an input is refused whose bytes can't be had
-abbrev pub unread_as : Kind → BytesFault → Refusal
-unread_as snapshot_file fault = Snapshot (snap_fault_of fault)
-unread_as kind fault = File fault
+-- how the file of a name is refused whose bytes can't be had
+abbrev pub IsUnreadAs : List ℕ → BytesFault → Refusal → Type 0
+IsUnreadAs name fault refusal = (named : Bor (List ℕ)) × (named.now ≡ name) × (refusal ≡ File named fault)
+
+-- how a message is refused that isn't UTF-8
+abbrev pub IsNoText : List ℕ → Refusal → Type 0
+IsNoText name refusal = (named : Bor (List ℕ)) × (named.now ≡ name) × (refusal ≡ NotText named)
+
+-- the same of an input: a snapshot has faults of its own for that
+abbrev pub IsUnreadOf : Kind → List ℕ → BytesFault → Refusal → Type 0
+IsUnreadOf snapshot_file name fault refusal = refusal ≡ Snapshot (snap_fault_of fault)
+IsUnreadOf kind name fault refusal = IsUnreadAs name fault refusal
 
 -- what an input has to be. A script is judged as it is played
 abbrev pub IsSound : Kind → List ℕ → Type 0
@@ -44,11 +53,11 @@ IsSound script_file text = Unit {0}
 IsSound snapshot_file text = (ops : List Operation) × SaysOperations (lines_of text) ops
 
 -- how an input is refused that isn't so, or for which memory was refused
-abbrev pub IsFlawed : Kind → List ℕ → Refusal → Type 0
-IsFlawed gate_file text refusal = (fault : GateFault) × (refusal ≡ Gate fault) × IsRefusalOf text fault
-IsFlawed message_file text refusal = (refusal ≡ NotText) × (¬ IsUtf8 text)
-IsFlawed script_file text refusal = ⊥
-IsFlawed snapshot_file text refusal =
+abbrev pub IsFlawed : Kind → List ℕ → List ℕ → Refusal → Type 0
+IsFlawed gate_file name text refusal = (fault : GateFault) × (refusal ≡ Gate fault) × IsRefusalOf text fault
+IsFlawed message_file name text refusal = IsNoText name refusal × (¬ IsUtf8 text)
+IsFlawed script_file name text refusal = ⊥
+IsFlawed snapshot_file name text refusal =
     (fault : SnapFault) × (refusal ≡ Snapshot fault) × IsRefusal text fault × IsOfText fault
 
 -- the input is had: it is read, and its text is so
@@ -64,9 +73,9 @@ IsGateHad name rules old new = ⊥
 -- the input is refused: its bytes can't be had, or aren't what they have to be
 abbrev pub IsRefused : Input → ConsoleState → ConsoleState → Refusal → Type 0
 IsRefused input old new refusal =
-    ((fault : BytesFault) × (refusal ≡ unread_as input.kind fault)
+    ((fault : BytesFault) × IsUnreadOf input.kind input.name fault refusal
     × IsUnread input.name (limit_of input.kind) old new fault)
-    ⊎ IsHad input (λ text. IsFlawed input.kind text refusal) old new
+    ⊎ IsHad input (λ text. IsFlawed input.kind input.name text refusal) old new
 
 -- all inputs are had, one after the other, and these are their texts
 abbrev pub AreHad : List Input → ConsoleState → List (List ℕ) → ConsoleState → Type 0

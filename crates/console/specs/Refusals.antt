@@ -1,5 +1,5 @@
 -- How a refusal is printed: the part that refused, the number of the fault, and its name with what is known of it.
-use Rattle.std.specs.Prelude.{ℕ, List, codes}
+use Rattle.std.specs.Prelude.{ℕ, List, ◌++◌, Option, None, Some, codes, decimal, if◌then◌else◌}
 use Rattle.byte_ends.specs.ReadAll as bytes
 use Rattle.gate_rules.specs.Fault as gate
 use Rattle.refusal_line.specs.Line.{line_of}
@@ -7,6 +7,7 @@ use Rattle.refusal_line.specs.declared.part.Part.{Part}
 use Rattle.refusal_line.specs.declared.part.Part.TheVariants as part
 use Rattle.snapshot_text.specs.Fault as snapshot
 use Rattle.script_text.specs.Fault as script
+use Rattle.console.specs.Console.{is_input}
 use Rattle.console.specs.declared.refusals.Refusal.{Refusal}
 use Rattle.console.specs.declared.refusals.Refusal.TheVariants.{Script, Snapshot, Gate, File, NotText, NoItem, Output}
 use Rattle.console.specs.declared.refusals.Refusal.TheVariants.{Memory}
@@ -15,9 +16,9 @@ abbrev pub part_of : Refusal → Part
 part_of (Script fault) = part.Script
 part_of (Snapshot fault) = part.Snapshot
 part_of (Gate fault) = part.Gate
-part_of (File fault) = part.File
-part_of NotText = part.File
-part_of NoItem = part.Item
+part_of (File name fault) = part.File
+part_of (NotText name) = part.File
+part_of (NoItem change set) = part.Item
 part_of Output = part.Output
 part_of Memory = part.Memory
 
@@ -25,19 +26,28 @@ abbrev pub number_of : Refusal → ℕ
 number_of (Script fault) = script.number_of fault
 number_of (Snapshot fault) = snapshot.number_of fault
 number_of (Gate fault) = gate.number_of fault
-number_of (File fault) = bytes.number_of fault
-number_of NotText = 9
-number_of NoItem = 1
+number_of (File name fault) = bytes.number_of fault
+number_of (NotText name) = 9
+number_of (NoItem change set) = 1
 number_of Output = 1
 number_of Memory = 1
+
+-- a fault of a file, with the file's name after that of the fault, which the input has none of
+abbrev pub file_words : List ℕ → List ℕ → List ℕ
+file_words fault name = if is_input name then fault else fault ++ codes " " ++ name
+
+-- an item that isn't known: a patch set of a change, or the change
+abbrev pub item_words : ℕ → Option ℕ → List ℕ
+item_words change None = codes "NoItem " ++ decimal change
+item_words change (Some set) = codes "NoItem " ++ decimal change ++ codes "," ++ decimal set
 
 abbrev pub words_of : Refusal → List ℕ
 words_of (Script fault) = script.words_of fault
 words_of (Snapshot fault) = snapshot.words_of fault
 words_of (Gate fault) = gate.words_of fault
-words_of (File fault) = bytes.name_of fault
-words_of NotText = codes "NotText"
-words_of NoItem = codes "NoItem"
+words_of (File name fault) = file_words (bytes.name_of fault) name.now
+words_of (NotText name) = file_words (codes "NotText") name.now
+words_of (NoItem change set) = item_words change set
 words_of Output = codes "WriteFault"
 words_of Memory = codes "NoMemory"
 

@@ -2,9 +2,9 @@
 
 ghost use Rattle.std.specs.Prelude.{◌≡◌, ◌++◌, IfOk, OnOk, string_bytes};
 ghost use Rattle.console.specs.declared.refusals.Refusal.TheVariants.{Script as BadScript, Gate as BadGate};
-ghost use Rattle.console.specs.declared.refusals.Refusal.TheVariants.{File as BadFile};
-ghost use Rattle.console.specs.Refusals.{number_of, part_of, refusal_line, words_of};
+ghost use Rattle.console.specs.Refusals.{file_words, item_words, number_of, part_of, refusal_line, words_of};
 
+use super::streams::is_input;
 use byte_ends::BytesFault;
 use gate_rules::GateFault;
 use refusal_line::{Part, refusal_line};
@@ -14,22 +14,23 @@ use std::alloc::{AllocError, Global};
 
 /// Why a command ended with status 1, by the part of the program that refused.
 #[derive(Debug, Drop)]
-pub enum Refusal {
+pub enum Refusal<'n> {
     Script(ScriptFault),
     Snapshot(SnapFault),
     Gate(GateFault),
-    File(BytesFault),
-    /// A message isn't UTF-8.
-    NotText,
-    /// The item that is asked for isn't known.
-    NoItem,
+    /// The file of this name, or the input, isn't read.
+    File(&'n str, BytesFault),
+    /// The message of this name isn't UTF-8.
+    NotText(&'n str),
+    /// What is asked for isn't known: this patch set of the change, or, where none is named, the change's items.
+    NoItem(u32, Option<u32>),
     /// The output failed.
     Output,
     /// Memory was refused where no other part says so.
     Memory,
 }
 
-impl Refusal {
+impl<'n> Refusal<'n> {
     /// The line that is printed of the refusal.
     pub fn line(&self, alloc: Global) -> Result<String, AllocError>
         ensures { IfOk result (λ line. string_bytes line ≡ refusal_line self.now) }
@@ -47,8 +48,8 @@ impl Refusal {
             Refusal::Script(_) => Part::Script,
             Refusal::Snapshot(_) => Part::Snapshot,
             Refusal::Gate(_) => Part::Gate,
-            Refusal::File(_) | Refusal::NotText => Part::File,
-            Refusal::NoItem => Part::Item,
+            Refusal::File(_, _) | Refusal::NotText(_) => Part::File,
+            Refusal::NoItem(_, _) => Part::Item,
             Refusal::Output => Part::Output,
             Refusal::Memory => Part::Memory,
         }
@@ -62,9 +63,9 @@ impl Refusal {
             Refusal::Script(fault) => fault.number(),
             Refusal::Snapshot(fault) => fault.number(),
             Refusal::Gate(fault) => fault.number(),
-            Refusal::File(fault) => fault.number(),
-            Refusal::NotText => 9,
-            Refusal::NoItem | Refusal::Output | Refusal::Memory => 1,
+            Refusal::File(_, fault) => fault.number(),
+            Refusal::NotText(_) => 9,
+            Refusal::NoItem(_, _) | Refusal::Output | Refusal::Memory => 1,
         }
     }
 
@@ -76,35 +77,49 @@ impl Refusal {
             Refusal::Script(fault) => fault.write_words(words),
             Refusal::Snapshot(fault) => fault.write_words(words),
             Refusal::Gate(fault) => fault.write_words(words),
-            Refusal::File(fault) => words.push_str(fault.name()),
-            Refusal::NotText => words.push_str("NotText"),
-            Refusal::NoItem => words.push_str("NoItem"),
+            Refusal::File(name, fault) => write_file(words, fault.name(), name),
+            Refusal::NotText(name) => write_file(words, "NotText", name),
+            Refusal::NoItem(change, set) => write_item(words, *change, *set),
             Refusal::Output => words.push_str("WriteFault"),
             Refusal::Memory => words.push_str("NoMemory"),
         }
     }
 }
 
-impl From<ScriptFault> for Refusal {
+/// Writes the words of a file's fault: the file's name comes after the fault's, and that of the input is left out.
+fn write_file(words: &mut String, fault: &str, name: &str) -> Result<(), AllocError>
+    ensures { OnOk result (string_bytes words.new ≡ string_bytes words.old ++ file_words fault.now name.now) }
+{
+    words.push_str(fault)?;
+    if is_input(name) {
+        return Ok(());
+    }
+    words.push_str(" ")?;
+    words.push_str(name)
+}
+
+/// Writes the words of an item that isn't known.
+fn write_item(words: &mut String, change: u32, set: Option<u32>) -> Result<(), AllocError>
+    ensures { OnOk result (string_bytes words.new ≡ string_bytes words.old ++ item_words change set) }
+{
+    match set {
+        Some(set) => write!(words, "NoItem {change},{set}"),
+        None => write!(words, "NoItem {change}"),
+    }
+}
+
+impl<'n> From<ScriptFault> for Refusal<'n> {
     ghost from_gives = { λ fault refusal. refusal ≡ BadScript fault };
 
-    fn from(fault: ScriptFault) -> Refusal {
+    fn from(fault: ScriptFault) -> Refusal<'n> {
         Refusal::Script(fault)
     }
 }
 
-impl From<GateFault> for Refusal {
+impl<'n> From<GateFault> for Refusal<'n> {
     ghost from_gives = { λ fault refusal. refusal ≡ BadGate fault };
 
-    fn from(fault: GateFault) -> Refusal {
+    fn from(fault: GateFault) -> Refusal<'n> {
         Refusal::Gate(fault)
-    }
-}
-
-impl From<BytesFault> for Refusal {
-    ghost from_gives = { λ fault refusal. refusal ≡ BadFile fault };
-
-    fn from(fault: BytesFault) -> Refusal {
-        Refusal::File(fault)
     }
 }

@@ -31,16 +31,16 @@ pub trait Console {
         ensures unread { IfErr result (IsUnread name.now limit (state self.old) (state self.new)) };
 
     /// Prints a text. Refusal: `Output`, the output failed.
-    fn print(&mut self, text: &[u8]) -> Result<(), Refusal>
+    fn print(&mut self, text: &[u8]) -> Result<(), Refusal<'static>>
         ensures { Prints text.now (state self.old) (state self.new) result };
 
     /// Prints a report, as `write_report` writes it. Refusal: `Output`, the output failed.
-    fn print_report(&mut self, verdicts: &Verdicts) -> Result<(), Refusal>
+    fn print_report(&mut self, verdicts: &Verdicts) -> Result<(), Refusal<'static>>
         ensures { Prints (report_of verdicts.now) (state self.old) (state self.new) result };
 
     /// Prints the snapshot of a replica, as `write_snapshot` writes it. Refusals: `Output`, the output failed;
     /// `Memory`, nothing was printed.
-    fn print_snapshot(&mut self, alloc: Global, replica: &Replica) -> Result<(), Refusal>
+    fn print_snapshot(&mut self, alloc: Global, replica: &Replica) -> Result<(), Refusal<'static>>
         ensures { PrintsSnapshot replica.now (state self.old) (state self.new) result };
 }
 
@@ -54,7 +54,7 @@ pub struct Streams<'i, 'o, 'f, I: Source, O: Drain, N: Named> {
 }
 
 /// Whether a name is that of the input, `-`.
-fn is_input(name: &str) -> bool
+pub fn is_input(name: &str) -> bool
     ensures { result ≡ is_input name.now }
 {
     name == "-"
@@ -82,21 +82,21 @@ impl<'i, 'o, 'f, I: Source, O: Drain, N: Named> Console for Streams<'i, 'o, 'f, 
         read_all(alloc, self.input, limit)
     }
 
-    fn print(&mut self, text: &[u8]) -> Result<(), Refusal> {
+    fn print(&mut self, text: &[u8]) -> Result<(), Refusal<'static>> {
         match write_all(self.output, text) {
             Ok(()) => Ok(()),
             Err(_) => Err(Refusal::Output),
         }
     }
 
-    fn print_report(&mut self, verdicts: &Verdicts) -> Result<(), Refusal> {
+    fn print_report(&mut self, verdicts: &Verdicts) -> Result<(), Refusal<'static>> {
         match write_report(verdicts, self.output) {
             Ok(()) => Ok(()),
             Err(WriteReportFault::WriteFault) => Err(Refusal::Output),
         }
     }
 
-    fn print_snapshot(&mut self, alloc: Global, replica: &Replica) -> Result<(), Refusal> {
+    fn print_snapshot(&mut self, alloc: Global, replica: &Replica) -> Result<(), Refusal<'static>> {
         match write_snapshot(alloc, replica, self.output) {
             Ok(()) => Ok(()),
             Err(WriteSnapFault::WriteFault) => Err(Refusal::Output),

@@ -67,7 +67,7 @@ fn show_fault<E: Drain>(alloc: Global, fault: &RecoverFault, errors: &mut E)
 }
 
 /// How it is refused that the snapshot isn't written.
-fn refusal_of(fault: &WriteSnapFault) -> Refusal
+fn refusal_of(fault: &WriteSnapFault) -> Refusal<'static>
     ensures { result ≡ refusal_of fault.now }
 {
     match fault {

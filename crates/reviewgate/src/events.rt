@@ -59,13 +59,13 @@ where
 }
 
 /// Reads the files that the words name: the projects, and then the gate.
-fn read_choice<I: Source, O: Drain, N: Named>(
+fn read_choice<'n, I: Source, O: Drain, N: Named>(
     alloc: Global,
-    words: EventWords<'_>,
+    words: EventWords<'n>,
     input: &mut I,
     output: &mut O,
     files: &mut N,
-) -> Result<Choice, Refusal> {
+) -> Result<Choice, Refusal<'n>> {
     let mut console = Streams {
         input,
         output,

@@ -55,7 +55,7 @@ fn main(rt: HostRuntime) -> ExitCode {
 }
 
 /// Reports how `serve` ended. Answers the status: 0 where it ended in order, else 1.
-fn report_site<E: Drain>(alloc: Global, ended: Ended, errors: &mut E) -> u8 {
+fn report_site<E: Drain>(alloc: Global, ended: Ended<'_>, errors: &mut E) -> u8 {
     match ended {
         Ended::Well => 0,
         Ended::Refused(refusal) => report(alloc, &Err(refusal), errors),

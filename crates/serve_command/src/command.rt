@@ -31,11 +31,11 @@ use std::time::Clock;
 
 /// How `serve` ended.
 #[derive(Drop)]
-pub enum Ended {
+pub enum Ended<'n> {
     /// In order.
     Well,
     /// Its gate file, its snapshot or its output, or memory.
-    Refused(Refusal),
+    Refused(Refusal<'n>),
     /// Its journal, as it was opened.
     Journal(JournalFault),
     /// The site itself.
@@ -55,7 +55,13 @@ impl Turn for NoTurn {
 /// Runs the site that words ask for. It reads and judges the gate file and then the snapshot, if one
 /// is named, opens the journal, asks whether the start was used, binds, prints `listening P`, runs the site and saves
 /// what it has. What is wrong while it runs is written to `errors`.
-pub fn serve<R, I, E>(rt: R, alloc: Global, words: ServeWords<'_>, input: I, errors: E) -> Ended
+pub fn serve<'n, R, I, E>(
+    rt: R,
+    alloc: Global,
+    words: ServeWords<'n>,
+    input: I,
+    errors: E,
+) -> Ended<'n>
 where
     R: Net<Listener = TcpListener, Stream = TcpStream>,
     R: Files<File = File> + Print + Threads + Wait + Clock + AllocGlobal,
@@ -70,13 +76,13 @@ where
 }
 
 /// Runs a site, from its inputs to its snapshot.
-fn run_site<R, I, E>(
+fn run_site<'n, R, I, E>(
     rt: R,
     alloc: Global,
-    serving: ServeWords<'_>,
+    serving: ServeWords<'n>,
     input: I,
     errors: E,
-) -> Result<(), Ended>
+) -> Result<(), Ended<'n>>
 where
     R: Net<Listener = TcpListener, Stream = TcpStream>,
     R: Files<File = File> + Print + Threads + Wait + Clock + AllocGlobal,
@@ -128,7 +134,7 @@ fn run_kept<R, I, E, K>(
     input: I,
     errors: E,
     keeper: K,
-) -> Result<(), Ended>
+) -> Result<(), Ended<'static>>
 where
     R: Net<Listener = TcpListener, Stream = TcpStream>,
     R: Files<File = File> + Print + Threads + Wait + Clock + AllocGlobal,
@@ -168,7 +174,7 @@ fn output_of<R: Print + Threads + Wait + Clock + Copy + Send + 'static>(
     rt: R,
     alloc: Global,
     stop: &Arc<Stop, Global>,
-) -> Result<Ends<PatientOutput<R>>, Ended> {
+) -> Result<Ends<PatientOutput<R>>, Ended<'static>> {
     let Ok(theirs) = Arc::try_clone(stop) else {
         return Err(Ended::Site(ServeFault::NoMemory));
     };
@@ -210,7 +216,11 @@ fn setup_of(serving: ServeWords<'_>, start: u32, gate: Gate, replica: Replica) -
 }
 
 /// The wish to stop, which comes with the end of the input where there is one.
-fn stop_of<R, I>(rt: R, alloc: Global, input: Option<I>) -> Result<Arc<Stop, Global>, Ended>
+fn stop_of<R, I>(
+    rt: R,
+    alloc: Global,
+    input: Option<I>,
+) -> Result<Arc<Stop, Global>, Ended<'static>>
 where
     R: Threads + Wait + Copy + Send + 'static,
     I: Source + Send + Drop + 'static,
@@ -230,14 +240,14 @@ where
 }
 
 /// The gate, and the record to begin with, from these ends.
-fn read_from<I: Source, O: Drain, N: Named>(
+fn read_from<'n, I: Source, O: Drain, N: Named>(
     alloc: Global,
-    gate: &str,
-    load: Option<&str>,
+    gate: &'n str,
+    load: Option<&'n str>,
     input: &mut I,
     output: &mut O,
     files: &mut N,
-) -> Result<(Gate, Replica), Refusal> {
+) -> Result<(Gate, Replica), Refusal<'n>> {
     let mut console = Streams {
         input,
         output,
@@ -248,12 +258,12 @@ fn read_from<I: Source, O: Drain, N: Named>(
 }
 
 /// The gate, and the record to begin with.
-fn read_inputs<C: Console>(
+fn read_inputs<'n, C: Console>(
     alloc: Global,
-    gate: &str,
-    load: Option<&str>,
+    gate: &'n str,
+    load: Option<&'n str>,
     console: &mut C,
-) -> Result<(Gate, Replica), Refusal>
+) -> Result<(Gate, Replica), Refusal<'n>>
     ensures { IfOk result (λ inputs. AreInputs gate.now (option_map (λ name. name.now) load.entry) inputs.0 inputs.1
         (C.state console.old) (C.state console.new)) }
 {
@@ -266,7 +276,7 @@ fn read_inputs<C: Console>(
 }
 
 /// Prints the port at which the site listens.
-fn say_port<R: Print>(rt: &R, alloc: Global, listener: &TcpListener) -> Result<(), Ended> {
+fn say_port<R: Print>(rt: &R, alloc: Global, listener: &TcpListener) -> Result<(), Ended<'static>> {
     let Ok(address) = listener.local_addr() else {
         return Err(Ended::Site(ServeFault::NoBind));
     };
@@ -282,7 +292,12 @@ fn say_port<R: Print>(rt: &R, alloc: Global, listener: &TcpListener) -> Result<(
 
 /// Saves what a site has left, where a file is named, also where a report couldn't be written, or where the site ended
 /// because its start is taken.
-fn keep<R: Files>(rt: &R, alloc: Global, name: Option<&str>, served: &Served) -> Result<(), Ended> {
+fn keep<R: Files>(
+    rt: &R,
+    alloc: Global,
+    name: Option<&str>,
+    served: &Served,
+) -> Result<(), Ended<'static>> {
     if let Some(name) = name
         && save(rt, alloc, name, &served.replica).is_err()
     {

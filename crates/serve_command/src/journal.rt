@@ -29,7 +29,7 @@ pub fn open_journal<R: Files<File = File>, E: Drain>(
     name: &str,
     loaded: Replica,
     errors: &mut E,
-) -> Result<(Journal<FileTape>, Replica), Ended>
+) -> Result<(Journal<FileTape>, Replica), Ended<'static>>
     ensures { IfOk result (λ begun. (ops : List Operation) × IsHolding begun.0 ops × IsSameSet begun.1 ops) }
 {
     let tape = FileTape::open(rt, name).map_err(tape_fault)?;
@@ -45,7 +45,7 @@ pub fn begin<T: Tape + Drop, E: Drain>(
     tape: T,
     loaded: Replica,
     errors: &mut E,
-) -> Result<(Journal<T>, Replica), Ended>
+) -> Result<(Journal<T>, Replica), Ended<'static>>
     requires { IsAtStart (T.image tape) (T.left tape) }
     ensures kept { IfOk result (λ begun. (ops : List Operation) × IsHolding begun.0 ops × IsSameSet begun.1 ops) }
     ensures whole { IfOk result (λ begun. IfSome (T.image tape) (λ i. IsBegun i.contents loaded begun.1)) }
@@ -65,7 +65,7 @@ fn add_loaded<T: Tape + Drop>(
     journal: Journal<T>,
     replica: Replica,
     loaded: Replica,
-) -> Result<(Journal<T>, Replica), Ended>
+) -> Result<(Journal<T>, Replica), Ended<'static>>
     ensures kept { (before : List Operation) → IsHolding journal before
         → IfOk result (λ begun. IsHolding begun.0 (before ++ lacking_of replica loaded)) }
     ensures both { IfOk result (λ begun. IsSameSet begun.1 (replica ++ loaded)) }
@@ -79,7 +79,7 @@ fn add_loaded<T: Tape + Drop>(
 }
 
 /// How a site ends whose journal isn't opened.
-fn tape_fault(fault: TapeFault) -> Ended {
+fn tape_fault(fault: TapeFault) -> Ended<'static> {
     match fault {
         TapeFault::Locked => Ended::Site(ServeFault::Locked),
         TapeFault::Failed => Ended::Journal(JournalFault::Failed),

@@ -71,7 +71,7 @@ fn journal_words<'a>(alloc: Global, name: &'a str) -> ServeWords<'a> {
 }
 
 /// Runs such a site, under a gate file on the input, which ends after it.
-pub fn serve_input<R>(rt: R, words: ServeWords<'_>) -> Ended
+pub fn serve_input<R>(rt: R, words: ServeWords<'_>) -> Ended<'_>
 where
     R: Net<Listener = TcpListener, Stream = TcpStream>,
     R: Files<File = File> + Print + Threads + Wait + Clock + AllocGlobal,

@@ -5,7 +5,7 @@ use Rattle.ready_core.specs.Verdicts.{AreVerdicts}
 use Rattle.replica_core.specs.Journal.{all_arrived}
 use Rattle.state_core.specs.State.{state_of}
 use Rattle.report_text.specs.Report.{report_of}
-use Rattle.commands.specs.Answers.{IsOf, IsReport, IsWhole}
+use Rattle.commands.specs.Answers.{IsOf, IsReport, IsWhole, MissesNone}
 use Rattle.commands.proofs.HowItEnds.{finishes, stops}
 use Rattle.commands.proofs.OfRecord.{record_had, snapshot_refused}
 use Rattle.commands.proofs.ready.ready.Goals as goal
@@ -40,7 +40,7 @@ returns g c =
       g.C.Console.state c.read_snapshot.new.console,
       record_had c.args.gate.now c.args.snapshot.now rules (λ text. SpellsGate text rules)
           (λ text spells. spells) second.0 _ _ _ first second.2,
-      finishes (IsWhole (IsOf first.0 second.2.0 IsReport) ⊥)
+      finishes (IsWhole (IsOf first.0 second.2.0 IsReport) MissesNone)
           (report_of c.in-Ok.verdicts) _ _ c.print_report-printed.result
           (record {
             rules = rules;
