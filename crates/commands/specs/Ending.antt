@@ -23,12 +23,14 @@ inputs_of (Graph gate snapshot around) = input gate_file gate.now ∷ input snap
 -- of these texts the command prints this answer, and ends so once it is printed
 abbrev pub IsAnswer : Command → List (List ℕ) → List ℕ → Ended → Type 0
 IsAnswer (Simulate script gate) (text ∷ gates) answer ended = IsSimulated text gates answer ended
-IsAnswer (Ready gate snapshot) (one ∷ other ∷ []) answer ended = IsWhole (IsOf one other IsReport) MissesNone answer ended
+IsAnswer (Ready gate snapshot) (one ∷ other ∷ []) answer ended =
+    IsWhole (IsOf one other IsReport) MissesNone answer ended
 IsAnswer (Merge first second) (one ∷ other ∷ []) answer ended = IsWhole (IsMerged one other) MissesNone answer ended
 IsAnswer (Footers gate message change) (one ∷ other ∷ []) answer ended =
     IsWhole (AreFooterLines one other change) MissesNone answer ended
 IsAnswer (Why gate snapshot change set) (one ∷ other ∷ []) answer ended =
-    IsWhole (IsOf one other (IsReason one change set)) (Misses (IsItem change set) other (HasItem change set)) answer ended
+    IsWhole (IsOf one other (IsReason one change set)) (Misses (IsItem change set) other (HasItem change set))
+    answer ended
 IsAnswer (Graph gate snapshot around) (one ∷ other ∷ []) answer ended =
     IsWhole (IsOf one other (IsPicture around)) (Misses (IsAround around) other (HasAround around)) answer ended
 IsAnswer command texts answer ended = ⊥
