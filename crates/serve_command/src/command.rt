@@ -307,7 +307,7 @@ fn keep<R: Files>(
 }
 
 /// How a site ends whose start is taken or not, and whose reports were all written or not.
-fn ending_of(is_start_taken: bool, written: bool) -> Result<(), Ended>
+fn ending_of(is_start_taken: bool, written: bool) -> Result<(), Ended<'static>>
     ensures { EndsAs is_start_taken written result }
 {
     if is_start_taken {
