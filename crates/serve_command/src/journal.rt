@@ -32,8 +32,10 @@ pub fn open_journal<R: Files<File = File>, E: Drain>(
 ) -> Result<(Journal<FileTape>, Replica), Ended<'static>>
     ensures { IfOk result (λ begun. (ops : List Operation) × IsHolding begun.0 ops × IsSameSet begun.1 ops) }
 {
-    let tape = FileTape::open(rt, name).map_err(tape_fault)?;
-    begin(alloc, tape, loaded, errors)
+    match FileTape::open(rt, name) {
+        Ok(tape) => begin(alloc, tape, loaded, errors),
+        Err(fault) => Err(tape_fault(fault)),
+    }
 }
 
 /// Begins a site's record by a journal on a tape that was just opened: it has what the journal says and what was loaded
@@ -71,10 +73,12 @@ fn add_loaded<T: Tape + Drop>(
     ensures both { IfOk result (λ begun. IsSameSet begun.1 (replica ++ loaded)) }
 {
     let (mut journal, mut replica) = (journal, replica);
-    add_lacking(alloc, &mut journal, &replica, &loaded).map_err(Ended::Site)?;
-    match replica.absorb(loaded) {
-        Ok(()) => Ok((journal, replica)),
-        Err(_) => Err(Ended::Site(ServeFault::NoMemory)),
+    match add_lacking(alloc, &mut journal, &replica, &loaded) {
+        Ok(()) => match replica.absorb(loaded) {
+            Ok(()) => Ok((journal, replica)),
+            Err(_) => Err(Ended::Site(ServeFault::NoMemory)),
+        },
+        Err(fault) => Err(Ended::Site(fault)),
     }
 }
 
