@@ -7,7 +7,9 @@ ghost use Rattle.refusal_line.specs.declared.part.Part.TheVariants.{Events};
 use byte_ends::{Drain, Source};
 use command_line::{Answer, EventWords};
 use commands::report;
-use console::{Named, Refusal, Streams, SystemFiles, read_gate, read_message, show_line};
+use console::{
+    Console, Named, Refusal, Streams, SystemFiles, read_any_gate, read_message, show_line,
+};
 use event_feed::{EventWriter, FeedFault, Input, events_run};
 use feed_client::{FeedOrder, Feeds, feed_to};
 use footer_text::Bases;
@@ -82,15 +84,11 @@ fn read_choice<'n, I: Source, O: Drain, N: Named>(
     let is_all = projects.is_empty() && projects_file.is_none();
     if let Some(name) = projects_file {
         let text = read_message(alloc, name, &mut console)?;
-        add_names(alloc, &mut projects, text.as_str()).map_err(|_| Refusal::Memory)?;
+        let Ok(()) = add_names(alloc, &mut projects, text.as_str()) else {
+            return Err(Refusal::Memory);
+        };
     }
-    let bases = match gate {
-        Some(name) => {
-            let gate = read_gate(alloc, name, &mut console)?;
-            Some(gate.bases().copy().map_err(|_| Refusal::Memory)?)
-        }
-        None => None,
-    };
+    let bases = read_bases(alloc, gate, &mut console)?;
     let projects = if is_all {
         Projects::all()
     } else {
@@ -102,6 +100,21 @@ fn read_choice<'n, I: Source, O: Drain, N: Named>(
         projects,
         bases,
     })
+}
+
+/// The bases of the gate file of a name, where one is named.
+fn read_bases<'n, C: Console>(
+    alloc: Global,
+    name: Option<&'n str>,
+    console: &mut C,
+) -> Result<Option<Bases>, Refusal<'n>> {
+    let Some(rules) = read_any_gate(alloc, name, console)? else {
+        return Ok(None);
+    };
+    match rules.bases().copy() {
+        Ok(bases) => Ok(Some(bases)),
+        Err(_) => Err(Refusal::Memory),
+    }
 }
 
 /// Adds the names of a text, one a line. Empty lines and lines that begin with `#` are passed over.
