@@ -125,7 +125,7 @@ fn a_record_that_cannot_be_saved_is_a_fault(rt: HostRuntime) {
 }
 
 /// Whether a site ends well with its input that keeps a journal and is given a snapshot.
-fn adds_to_journal<R>(rt: R, journal: &str, snapshot: &str) -> bool
+fn adds_to_journal<'a, R>(rt: R, journal: &'a str, snapshot: &'a str) -> bool
 where
     R: Net<Listener = TcpListener, Stream = TcpStream>,
     R: Files<File = File> + Print + Threads + Wait + Clock + AllocGlobal,

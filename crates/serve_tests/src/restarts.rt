@@ -39,7 +39,12 @@ where
 
 /// Runs a site of these words for one session, of these lines: whether they are answered so, and it ends well. Its input
 /// has ended before, which ends no site that isn't to end with it.
-fn answers_once<R>(rt: R, words: ServeWords<'_>, lines: &str, wanted: &str) -> io::Result<bool>
+fn answers_once<R>(
+    rt: R,
+    words: ServeWords<'_>,
+    lines: &'static str,
+    wanted: &str,
+) -> io::Result<bool>
 where
     R: Net<Listener = TcpListener, Stream = TcpStream>,
     R: Files<File = File> + Print + Threads + Wait + Clock + AllocGlobal,
@@ -50,13 +55,10 @@ where
     let mut words = words;
     words.port = port;
     words.sessions = 1;
-    let (ended, answers) = thread::join(
-        &rt,
-        || serve_input(rt, words),
-        || talk_once_up(&rt, rt.alloc(), port, lines),
-    );
-    let is_answered = answers?.as_str() == wanted;
-    Ok(is_answered && matches!(&ended, Ended::Well))
+    let client = thread::spawn(&rt, move || talk_once_up(&rt, rt.alloc(), port, lines))?;
+    let is_well = matches!(&serve_input(rt, words), Ended::Well);
+    let answers = client.join(&rt)?;
+    Ok(is_well && answers.as_str() == wanted)
 }
 
 /// What was answered `ok` is in the journal, and the site has it when it begins again, under another start.
