@@ -2,6 +2,8 @@
 //! counts the calls that failed, so that a caller can say that an error came only where its end
 //! failed.
 //!
+//! Its tests are in the crate `text_tests`.
+//!
 //! An example of its use:
 //!
 //! ```

@@ -1,5 +1,7 @@
 //! The state of one Gerrit change: last-writer-wins registers and a grow-only flag, joined as a lattice.
 //!
+//! Its tests are in the crate `change_tests`.
+//!
 //! An example of its use:
 //!
 //! ```

@@ -1,6 +1,8 @@
 //! Lists in an order of the caller's, kept in chunks, so that an item comes in or goes anywhere in about logarithmic
 //! time.
 //!
+//! Its tests are in the crate `change_tests`.
+//!
 //! An example of its use:
 //!
 //! ```

@@ -1,5 +1,7 @@
 //! What the words of a command line ask for: a command with what its arguments say.
 //!
+//! Its tests are in the crate `words_tests`.
+//!
 //! An example of its use:
 //!
 //! ```

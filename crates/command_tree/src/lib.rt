@@ -1,12 +1,14 @@
 //! The program's commands and their arguments, and what `clap` makes of the words of a command line. Nothing else of
 //! the program names `clap`.
 //!
+//! Its tests are in the crate `words_tests`.
+//!
 //! An example of its use:
 //!
 //! ```
 //! let words = ["ready", "gate.json", "record.snapshot"];
 //! let Parsed::Command(name, values) = parse(alloc, &words) else {
-//!     return Err("a command");
+//!     return Err(Fail::from("a command"));
 //! };
 //! assert_eq!(rt; name, "ready");
 //! assert_eq!(rt; values.text("GATE"), Some("gate.json"));

@@ -1,6 +1,8 @@
 //! The commands but `serve`, `events` and `recover`, under one law: their inputs are read and judged one after the
 //! other, and the answer is printed whole, or a proper prefix of it where the output failed.
 //!
+//! Its tests are in the crate `command_tests`.
+//!
 //! `run_command` runs a command over any ends and files; `print_text`, `report_usage` and `report` do what is asked for
 //! in place of one.
 #![tactic(auto)]

@@ -1,6 +1,8 @@
 //! The console of a command: its input, its output and the files that it names, the inputs that it reads from there,
 //! and how it is refused, as the error output says.
 //!
+//! Its tests are in the crate `command_tests`.
+//!
 //! The name `-` is that of the input, which is read once: a second `-` is empty. Each kind of input has its limit, and
 //! is judged once it is read.
 #![tactic(auto)]

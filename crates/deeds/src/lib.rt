@@ -3,6 +3,7 @@
 //! An example of its use:
 //!
 //! ```
+//! use deeds::{Deed, op_of};
 //! let vote = Deed::Vote(1, "Workflow", "ann", 1);
 //! let op = op_of(alloc, 7, 101, vote).ok_or("an operation")?;
 //! assert_eq!(rt; op.body().draft().label(), Some("workflow"));

@@ -3,6 +3,8 @@
 //! Its output is what a client of the session says, `hello 2` and then a line `take BODY` for each body. What is lost
 //! of a line is reported on the errors:
 //!
+//! Its tests are in the crate `text_tests`.
+//!
 //! | Line of the errors | Where |
 //! |---|---|
 //! | `reviewgate: events 1 BadEvent n KEY` | line n is no event, lacks what its kind needs, or has a bad body |

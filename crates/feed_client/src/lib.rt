@@ -2,6 +2,8 @@
 //! goes to a session of the site, but for what the site's record says already. The feed first pulls the record, and
 //! then keeps its state in step with what it sends and with what others bring to the site.
 //!
+//! Its tests are in the crate `serve_tests`.
+//!
 //! | Line of the errors | Where |
 //! |---|---|
 //! | `reviewgate: events 1 BadEvent n KEY` | line n is no event, lacks what its kind needs, or has a bad body |

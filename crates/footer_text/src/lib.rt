@@ -1,5 +1,7 @@
 //! The changes that a message's `Depends-On:` footers name.
 //!
+//! Its tests are in the crate `text_tests`.
+//!
 //! An example of its use:
 //!
 //! ```

@@ -1,5 +1,7 @@
 //! The rules of a gate: the settings of a gate file, and the conditions that an item has to meet.
 //!
+//! Its tests are in the crate `gate_tests`.
+//!
 //! A gate file is one JSON object (RFC 8259), read as serde_json's `Value` reads it.
 //!
 //! | Key | Value |

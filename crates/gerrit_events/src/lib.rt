@@ -2,6 +2,8 @@
 //! its query ("query"), whose attributes are those of "JSON Data". A line is one JSON object; `docs/FORMATS.md` has
 //! the table of all that is read of it.
 //!
+//! Its tests are in the crate `text_tests`.
+//!
 //! | `type` | What it brings |
 //! |---|---|
 //! | `patchset-created` | the patch set |

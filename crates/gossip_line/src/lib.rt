@@ -1,6 +1,8 @@
 //! Sessions, in which a site answers line by line, and pulls, by which one site takes what another has. Lines end in
 //! LF, and one carriage return before it is dropped.
 //!
+//! Its tests are in the crate `site_tests`.
+//!
 //! | Line | Answer |
 //! |---|---|
 //! | `hello 2`, which comes first | `hello 2` |

@@ -1,5 +1,7 @@
 //! The items of a state and what they wait for as a picture: a graph in the DOT language of Graphviz.
 //!
+//! Its tests are in the crate `gate_tests`.
+//!
 //! An example of its use:
 //!
 //! ```

@@ -1,6 +1,8 @@
 //! States that replicas merge by a join: in whatever order, grouping and number they are joined, the same state comes
 //! out.
 //!
+//! Its tests are in the crate `change_tests`.
+//!
 //! `Join` is the trait of such states, with its laws. `Flag`, `Register` and `Greatest` are the least of them; `Both`
 //! and `JoinMap` are made of others, and their laws follow from those of their parts. `Keep` is the trait of what they
 //! hold: keys and values with an exact order. Contracts speak of shapes: what values are, wherever they lie in memory.

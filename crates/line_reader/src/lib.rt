@@ -1,5 +1,7 @@
 //! Lines that come from a source: each is handed out once its LF was read, whatever pieces the bytes come in.
 //!
+//! Its tests are in the crate `site_tests`.
+//!
 //! An example of its use:
 //!
 //! ```

@@ -1,5 +1,7 @@
 //! The JSON texts of operations, bodies and fronts.
 //!
+//! Its tests are in the crate `text_tests`.
+//!
 //! An operation is one JSON object (RFC 8259), read as serde_json's `Value` reads it and written compactly, with its
 //! members in byte order of their keys, on one line. `op` says the kind; a body is the same object without `seq`,
 //! `site`, `start` and `time`.

@@ -1,5 +1,7 @@
 //! What leads to the marked nodes of a graph, and what is reached from them.
 //!
+//! Its tests are in the crate `gate_tests`.
+//!
 //! An example of its use:
 //!
 //! ```

@@ -1,5 +1,7 @@
 //! Which items of a state are ready under a gate, and why each other one isn't.
 //!
+//! Its tests are in the crate `judge_tests`.
+//!
 //! An item is eligible where it breaks no condition of its own, waits for no unknown change, and is on no cycle, unless
 //! the gate allows cycles. The ready items are the union of all sets of eligible items that hold the current items of
 //! what their members wait for. Each other item has one refusal and a rank, by the first of these causes:

@@ -1,5 +1,7 @@
 //! `recover`: the snapshot of a journal as a command, and the lines of a journal on the error output.
 //!
+//! Its tests are in the crate `site_tests`.
+//!
 //! The journal is read block by block, and neither locked nor changed. A torn line at its end is left out, and its
 //! length is reported.
 //!

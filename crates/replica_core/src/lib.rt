@@ -1,5 +1,7 @@
 //! The record of one site: a journal of operations and the state that they join to.
 //!
+//! Its tests are in the crate `record_tests`.
+//!
 //! An example of its use:
 //!
 //! ```

@@ -1,5 +1,7 @@
 //! The texts of reports and of states.
 //!
+//! Its tests are in the crate `text_tests`.
+//!
 //! An example of its use:
 //!
 //! ```

@@ -1,5 +1,7 @@
 //! Review operations: what a site records about a Gerrit change, when, and in which order.
 //!
+//! Its tests are in the crate `change_tests`.
+//!
 //! An operation is a stamp and a body. The body is a deed of review: a patch set is uploaded, a vote is cast or
 //! withdrawn, a change is abandoned, restored or merged. Operations are ordered by stamp, then by body, and two
 //! operations that compare alike are equal.

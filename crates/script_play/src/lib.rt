@@ -1,6 +1,8 @@
 //! Scripts played over a world of sites: the steps of a script are played one after the other, and what each prints is
 //! defined here.
 //!
+//! Its tests are in the crate `text_tests`.
+//!
 //! | Printed | Of what |
 //! |---|---|
 //! | `ok TIME,SITE,START,SEQ` | a body that was taken in |

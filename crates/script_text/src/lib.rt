@@ -1,5 +1,7 @@
 //! The texts of scripts: what their lines ask of a world of sites.
 //!
+//! Its tests are in the crate `text_tests`.
+//!
 //! A script is read line by line. Empty lines and those that begin with `#` are passed over. The first of the others is
 //! `sites N`, with N from 1 to 64, and each later one is one of these, with one blank between its fields:
 //!

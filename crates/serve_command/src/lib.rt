@@ -1,4 +1,6 @@
 //! `serve`: a site that runs as a program, from its files and its port to its snapshot.
+//!
+//! Its tests are in the crate `serve_tests`.
 #![tactic(auto)]
 
 mod command;

@@ -1,5 +1,7 @@
 //! A journal on disk: what its file means, how it is opened, and the promise that what is acknowledged survives.
 //!
+//! Its tests are in the crate `site_tests`.
+//!
 //! The first line is `reviewgate 2`; then comes one operation a line, in the order in which they came. What is past the
 //! last line end was torn while it was written, and counts for nothing.
 //!

@@ -1,14 +1,16 @@
 //! A ledger: the desk of a running site with what keeps its operations. What it has published was kept before, always.
 //! And the latest start that a site's record has, above which it begins again.
 //!
+//! Its tests are in the crate `site_tests`.
+//!
 //! An example of its use, without a journal:
 //!
 //! ```
-//! let (desk, windows) = open_site(rt, 1, 1, 1, Replica::new(alloc))?;
+//! let (desk, windows) = open_site(&rt, 1, 1, 1, Replica::new(alloc))?;
 //! let mut ledger = Ledger::new(desk, NoJournal);
 //! let _stamp = ledger.hold(Draft::Merged { change: 101 })?;
-//! let receipt = ledger.publish(rt)?;
-//! ledger.end(rt);
+//! let receipt = ledger.publish(&rt)?;
+//! ledger.end(&rt);
 //! ```
 #![tactic(auto)]
 

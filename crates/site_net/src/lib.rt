@@ -1,5 +1,7 @@
 //! The connections of a site: a listener that can be shut from beside, ends that don't wait for ever, and the wish that
 //! a site stops.
+//!
+//! Its tests are in the crate `serve_tests`.
 #![tactic(auto)]
 
 mod door;

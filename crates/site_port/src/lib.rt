@@ -1,5 +1,7 @@
 //! What sessions ask of a site, and what pulls hand to one; and the plain site that answers both by itself.
 //!
+//! Its tests are in the crate `site_tests`.
+//!
 //! | Fault | Where |
 //! |---|---|
 //! | 1 `ClockSpent`, 2 `BadBody` | of an intake alone |

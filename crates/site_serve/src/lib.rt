@@ -1,5 +1,7 @@
 //! A site that runs: it answers sessions over sockets, pulls from its peers, and prints its report whenever that
 //! changes.
+//!
+//! Its tests are in the crate `serve_tests`.
 #![tactic(auto)]
 
 mod ask;

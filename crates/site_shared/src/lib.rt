@@ -1,6 +1,8 @@
 //! A running site that threads share without locks: one desk takes in and publishes, up to eight windows look beside it
 //! and never wait for it, and receipts show a window what it must have seen.
 //!
+//! Its tests are in the crate `site_tests`.
+//!
 //! What was published is one list, which begins with the journal that the site was opened with and only grows. The
 //! desk's account is that list and what is held; each look of a window is at one prefix of the list, which goes on from
 //! all that the window has seen and learnt. A watch keeps the verdicts on what a window saw, and a window brings it up

@@ -1,5 +1,7 @@
 //! The texts of snapshots: how the operations of a replica are written, and what a text says.
 //!
+//! Its tests are in the crate `text_tests`.
+//!
 //! An example of its use:
 //!
 //! ```

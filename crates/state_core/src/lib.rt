@@ -1,6 +1,8 @@
 //! The state of all changes of a review record: a finite map from their numbers to their states, joined as a lattice,
 //! and its items.
 //!
+//! Its tests are in the crate `record_tests`.
+//!
 //! An example of its use:
 //!
 //! ```

@@ -3,6 +3,7 @@
 //! An example of its use:
 //!
 //! ```
+//! use verdict_lines::lines_of;
 //! let gate = Gate::read(alloc, b"{\"bases\":[\"/\"]}")?;
 //! let verdicts = evaluate(alloc, &State::new(alloc), &gate)?;
 //! assert_eq!(rt; lines_of(alloc, &verdicts)?.as_str(), "");

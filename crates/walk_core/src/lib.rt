@@ -1,5 +1,7 @@
 //! Directed graphs: walks, distances and cycles.
 //!
+//! Its tests are in the crate `walk_tests`.
+//!
 //! An example of its use:
 //!
 //! ```

@@ -1,6 +1,8 @@
 //! Verdicts that follow a replica. What stays as it is when operations come to a record: of changes without a new
 //! operation all that a gate asks of them, and of items that don't reach a change with one their verdicts.
 //!
+//! Its tests are in the crate `watch_tests`.
+//!
 //! An example of its use:
 //!
 //! ```

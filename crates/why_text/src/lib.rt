@@ -1,6 +1,8 @@
 //! Why an item is left out: the items that wait for each other, down to the cause, and then what is asked and what is
 //! there.
 //!
+//! Its tests are in the crate `gate_tests`.
+//!
 //! An example of its use:
 //!
 //! ```

@@ -1,5 +1,7 @@
 //! A world of sites that take in operations and pass them on in packets, which may be lost, repeated or reordered.
 //!
+//! Its tests are in the crate `record_tests`.
+//!
 //! An example of its use:
 //!
 //! ```
