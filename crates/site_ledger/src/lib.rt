@@ -8,9 +8,10 @@
 //! ```
 //! let (desk, windows) = open_site(&rt, 1, 1, 1, Replica::new(alloc))?;
 //! let mut ledger = Ledger::new(desk, NoJournal);
-//! let _stamp = ledger.hold(Draft::Merged { change: 101 })?;
-//! let receipt = ledger.publish(&rt)?;
+//! let stamp = ledger.hold(Draft::Merged { change: 101 });
+//! let receipt = ledger.publish(&rt);
 //! ledger.end(&rt);
+//! assert!(rt; stamp.is_ok() && receipt.is_ok());
 //! ```
 #![tactic(auto)]
 
