@@ -11,6 +11,4 @@ mod graphs;
 #[cfg(test)]
 mod pictures;
 #[cfg(test)]
-mod reaching;
-#[cfg(test)]
 mod record;

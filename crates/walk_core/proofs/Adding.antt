@@ -19,7 +19,7 @@ use Rattle.walk_core.specs.RankLaws.{LeadsTo-trans, AreTogether-sym, AreTogether
 use Rattle.walk_core.specs.Components.{AreFirsts}
 use Rattle.walk_core.specs.Marks.{HoldEnds, LeadsToCount}
 use Rattle.walk_core.specs.Sums.{option_at, IsNext, IsHereOrNext, AreSums, sum_with}
-use Rattle.walk_core.proofs.Gathering.{first_within}
+use Rattle.walk_core.specs.FirstLaws.{first_within}
 use Rattle.walk_core.proofs.Blocks.{count_within, none_sorted}
 use Rattle.walk_core.proofs.Ordered.{count_same}
 

@@ -30,7 +30,8 @@ use Rattle.walk_core.specs.Marks.{HasMark, PutsMark, words_of, words_at, IsMarke
 use Rattle.walk_core.specs.Marks.{AreCountsElsewhere, AreSound, LeadsToTarget, AreMarked, PassesAll, TakesCounts}
 use Rattle.walk_core.specs.Marks.{LeadsToCount, CountsBlock, HoldEnds}
 use Rattle.walk_core.specs.declared.block.Marks.{Marks}
-use Rattle.walk_core.proofs.Gathering.{first_within, row_set}
+use Rattle.walk_core.specs.FirstLaws.{first_within}
+use Rattle.walk_core.proofs.Gathering.{row_set}
 
 -- ---- the targets of a block are marked, one after the other
 

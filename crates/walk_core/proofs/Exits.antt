@@ -13,9 +13,9 @@ use Rattle.walk_core.specs.Ranks.{LeadsTo, HasCount}
 use Rattle.walk_core.specs.RankLaws.{LeadsTo-trans, LeadsTo-edge}
 use Rattle.walk_core.specs.Components.{AreFirsts}
 use Rattle.walk_core.specs.Sums.{option_at, IsNext, AreNexts, IsHereOrNext, AreForks, AreSizes, IsWayOut}
-use Rattle.walk_core.proofs.EdgeLemmas.{Contains-more}
-use Rattle.walk_core.proofs.Writes.{same_read, slice_get-set_other, slice_get-set_same}
-use Rattle.walk_core.proofs.Gathering.{first_within}
+use Rattle.walk_core.specs.EdgeLaws.{Contains-more}
+use Rattle.walk_core.specs.Writes.{same_read, slice_get-set_other, slice_get-set_same}
+use Rattle.walk_core.specs.FirstLaws.{first_within}
 use Rattle.walk_core.proofs.Blocks.{count_none_of, count_within, count_yes, count_no, sorted_part_left}
 use Rattle.walk_core.proofs.Adding.{first_again}
 

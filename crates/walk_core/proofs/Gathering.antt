@@ -16,22 +16,15 @@ use Rattle.walk_core.specs.Ranks.{LeadsTo}
 use Rattle.walk_core.specs.RankLaws.{LeadsTo-trans, LeadsTo-edge}
 use Rattle.lattice_core.specs.MemberLaws.{Contains-none, Contains-first, Contains-cons_cases}
 use Rattle.walk_core.specs.Components.{AreFirsts}
+use Rattle.walk_core.specs.FirstLaws.{first_within}
 use Rattle.walk_core.specs.Marks.{HasMark, AreJoined, words_of, words_at, IsMarkedAt, AreSound, LeadsToTarget, Passes}
 use Rattle.walk_core.specs.Marks.{HoldEnds}
 use Rattle.walk_core.specs.declared.block.Marks.{Marks}
-use Rattle.walk_core.proofs.EdgeLemmas.{Contains-more}
+use Rattle.walk_core.specs.EdgeLaws.{Contains-more}
 use Rattle.walk_core.proofs.MarkLemmas.{HasMark-joined, joined_left, joined_right}
-use Rattle.walk_core.proofs.Writes.{slice_get-set_other, slice_get-set_same}
+use Rattle.walk_core.specs.Writes.{slice_get-set_other, slice_get-set_same}
 
--- ---- the first node of a node is a node
-
-begins_within : (graph : List (List ℕ)) (x y : ℕ) → y < length graph → LeadsTo (HasEdge graph) x y → x < length graph
-begins_within graph x y within (zero, same) = omega (arith, within, same)
-begins_within graph x y within (suc n, walk) = HasEdge-starts graph x walk.0 walk.1
-
-pub first_within : (graph : List (List ℕ)) (firsts : List ℕ) → AreFirsts graph firsts → (x : ℕ) → x < length graph
-    → get_or firsts x 0 < length graph
-first_within graph firsts are x within = begins_within graph (get_or firsts x 0) x within (are.each x within).here.back
+-- ---- the first nodes of nodes are nodes
 
 pub firsts_within : {graph : List (List ℕ)} {firsts nodes : List ℕ} → AreFirsts graph firsts → HoldEnds graph nodes
     → (x : ℕ) → Contains nodes x → get_or firsts x 0 < length graph

@@ -20,7 +20,7 @@ use Rattle.walk_core.specs.Components.{place_of, AreConnected, HasComponent, Are
 use Rattle.walk_core.specs.Components.{AreFirsts, IsFirst, AreFound}
 use Rattle.walk_core.specs.declared.component.Place.{Place}
 use Rattle.walk_core.specs.declared.component.Place.TheVariants.{Waiting, Behind, OnCycle, OffCycle}
-use Rattle.walk_core.proofs.EdgeLemmas.{Contains-more}
+use Rattle.walk_core.specs.EdgeLaws.{Contains-more}
 use Rattle.walk_core.proofs.Places.{place_set, place_within}
 use Rattle.walk_core.proofs.Settling.{settled_on, settled_off}
 

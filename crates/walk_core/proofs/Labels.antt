@@ -11,7 +11,7 @@ use Rattle.std.proofs.lemmas.List.Sums.{sum_by-set}
 use Rattle.lattice_core.specs.MemberLaws.{Contains-none}
 use Rattle.walk_core.specs.Digraphs.{HasEdge, IsMarked, ends_of, row}
 use Rattle.walk_core.specs.Regions.{label_of, AreAlike, AreRegions, Waits, HasLabelled, is_label, has_label, AreGrouped}
-use Rattle.walk_core.proofs.Writes.{same_read, slice_get-set_other, slice_get-set_same}
+use Rattle.walk_core.specs.Writes.{same_read, slice_get-set_other, slice_get-set_same}
 
 -- ---- labels read and written
 

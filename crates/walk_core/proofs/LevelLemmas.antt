@@ -8,8 +8,8 @@ use Rattle.std.proofs.lemmas.List.{length-set, length-replicate, length_push}
 use Rattle.std.proofs.lemmas.List.Sums.{sum_by-set, count_by-le-length}
 use Rattle.std.proofs.lemmas.List.Elements.{Contains-push, Contains-push_cases, Contains-append_left, Contains-get_or}
 use Rattle.std.proofs.lemmas.Option.{slice_get_within, slice_get_read, get_or_from_slice_get}
-use Rattle.walk_core.proofs.Writes.{slice_get-set_other, slice_get-set_same}
-use Rattle.walk_core.proofs.EdgeLemmas.{Contains-more}
+use Rattle.walk_core.specs.Writes.{slice_get-set_other, slice_get-set_same}
+use Rattle.walk_core.specs.EdgeLaws.{Contains-more}
 use Rattle.walk_core.specs.Walks.{Leads, IsDistance, IsDistance-zero}
 use Rattle.walk_core.specs.Digraphs.{HasEdge, IsMarked, IsDistanceTo, AreDistances}
 use Rattle.walk_core.specs.Levels.{HasDistance, is_unreached, unreached, Discovers, LeadsInto, AreKnownTo, IsLevel}

@@ -1,5 +1,3 @@
-pub mod Writes
-pub mod EdgeLemmas
 pub mod LevelLemmas
 pub mod Turned
 pub mod Tasks
@@ -22,3 +20,4 @@ pub mod Labels
 pub mod Adding
 pub mod Exits
 pub mod Regional
+pub mod Reaching

@@ -7,7 +7,7 @@ use Rattle.lattice_core.specs.MemberLaws.{Contains-none, Contains-first, Contain
 use Rattle.walk_core.specs.Marks.{AreKept, AreKeptElsewhere, AreSound, IsGathered, AreGathered, total_of, Passes}
 use Rattle.walk_core.specs.Marks.{PassesAll}
 use Rattle.walk_core.specs.declared.block.Marks.{Marks}
-use Rattle.walk_core.proofs.EdgeLemmas.{Contains-more}
+use Rattle.walk_core.specs.EdgeLaws.{Contains-more}
 use Rattle.walk_core.proofs.MarkLemmas.{words_in_range}
 
 module _ (graph : List (List ℕ)) (firsts : List ℕ) where

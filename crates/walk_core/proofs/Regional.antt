@@ -17,7 +17,7 @@ use Rattle.walk_core.specs.Regions.{AreGrouped, AreRegions, has_label, label_of}
 use Rattle.walk_core.specs.Sums.{AreSums, LacksSum, PutsSums, option_at}
 use Rattle.walk_core.proofs.Labels.{labelled_as, labelled_yes}
 use Rattle.walk_core.proofs.Ordered.{count_same}
-use Rattle.walk_core.proofs.Writes.{same_read}
+use Rattle.walk_core.specs.Writes.{same_read}
 
 -- the nodes of the first regions that lack a sum are counted, and those of the others have the count 0
 pub record AreCountedTo (graph : List (List ℕ)) (firsts nodes targets : List ℕ) (sums labels : List (Option ℕ))

@@ -9,7 +9,7 @@ use Rattle.std.proofs.lemmas.Nat.Bits.{bit_at-lt}
 use Rattle.lattice_core.specs.MemberLaws.{Contains-none}
 use Rattle.walk_core.specs.Marks.{HasMark, words_at, IsFirstOf, IsTaken, TakesCounts}
 use Rattle.walk_core.specs.declared.block.Marks.{Marks}
-use Rattle.walk_core.proofs.EdgeLemmas.{Contains-more}
+use Rattle.walk_core.specs.EdgeLaws.{Contains-more}
 use Rattle.walk_core.proofs.Gathering.{row_set}
 use Rattle.walk_core.proofs.Blocks.{mark_at, words_bits, bits_none, bit_cases}
 

@@ -5,8 +5,12 @@ pub mod RankLaws
 pub mod Digraphs
 pub mod Components
 pub mod Edges
+pub mod Writes
+pub mod EdgeLaws
+pub mod FirstLaws
 pub mod Levels
 pub mod Marks
 pub mod NodeRanks
 pub mod Regions
 pub mod Sums
+pub mod Reach

@@ -1,12 +1,14 @@
 -- Lists in order, by their members.
-use Rattle.std.specs.Prelude.{◌≡◌, ◌↔◌, ◌≤◌, ◌⊎◌, List, [], ◌∷◌, Contains, length}
+use Rattle.std.specs.Prelude.{◌≡◌, ◌↔◌, ◌≤◌, ◌<◌, ◌⊎◌, ℕ, List, [], ◌∷◌, Contains, length, take}
 use Rattle.std.specs.declared.cmp.Ordering.{Ordering}
 use Rattle.std.specs.declared.cmp.Ordering.TheVariants.{Less}
 use Rattle.std.specs.Cmp.{IsTotalOrder}
 use Rattle.std.specs.List.{AllByRecursion}
-use Rattle.std.specs.List.Sorted.{IsStrictlySortedBy}
-use Rattle.std.proofs.Common.{refl, sym, ◌∙◌, subst, arith, inl, inr}
+use Rattle.std.specs.List.Sorted.{IsStrictlyIncreasing, IsStrictlySortedBy}
+use Rattle.std.proofs.Common.{get_or, refl, sym, ◌∙◌, subst, arith, inl, inr}
+use Rattle.std.proofs.lemmas.List.{get_or-take, get_or_default, length-take-le}
 use Rattle.std.proofs.lemmas.List.Elements.{All-from_recursion, All-contains}
+use Rattle.std.proofs.lemmas.List.Kept.{AllPairs-from_increasing}
 use Rattle.lattice_core.specs.MemberLaws.{Contains-cons_cases, Contains-first, Contains-later, Contains-none}
 use Rattle.lattice_core.specs.PlaceLaws.{not_below_itself}
 
@@ -94,3 +96,12 @@ module _ {X : Type 0} {cmp : X → X → Ordering} (total : IsTotalOrder cmp) wh
               ];
             }
       ]
+
+-- what comes before a place of a rising list is less than what is there
+pub taken_below : (xs : List ℕ) (i : ℕ) → IsStrictlyIncreasing xs → i < length xs → (m : ℕ) → Contains (take i xs) m
+    → m < get_or xs i 0
+taken_below xs i rising within m c =
+    let k_less : c.0 < i = omega (arith, c.1, length-take-le i xs (omega (arith, within))) in
+    let here : get_or xs c.0 m ≡ m = sym (get_or-take i xs c.0 m k_less) ∙ c.2 in
+    let same : get_or xs c.0 0 ≡ m = get_or_default xs c.0 0 m (omega (arith, k_less, within)) ∙ here in
+    subst (λ l. l < get_or xs i 0) same (AllPairs-from_increasing xs rising c.0 i 0 k_less within)

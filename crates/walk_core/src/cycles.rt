@@ -4,7 +4,7 @@
 
 ghost use Rattle.std.specs.Prelude.{◌≡◌, ◌<◌, ℕ, Contains, IfOk, OnOk, length, map};
 ghost use Rattle.walk_core.specs.Digraphs.{AreOnCycles};
-ghost use Rattle.walk_core.specs.Components.{AreLabelled, IsLeastOf, is_on_cycle};
+ghost use Rattle.walk_core.specs.Components.{AreFirsts, AreLabelled, IsLeastOf, is_on_cycle};
 
 use super::component::{Place, find_component};
 use super::digraph::Digraph;
@@ -74,15 +74,23 @@ impl<A: Allocator + Copy> Components<A> {
     }
 }
 
-/// Which nodes are on a cycle.
-pub fn cycle_flags<A: Allocator + Copy>(
-    alloc: A,
-    graph: &Digraph<A>,
-) -> Result<Vec<bool, A>, NoMemory>
-    ensures { IfOk result (λ marked. AreOnCycles graph.now marked.items) }
-{
-    let components = Components::find(alloc, graph)?;
-    flags_of(alloc, components.places.as_slice())
+impl<A: Allocator + Copy> Digraph<A> {
+    /// Which nodes are on a cycle. It costs O(n + m) time and memory for n nodes and m edges.
+    pub fn on_cycles(&self) -> Result<Vec<bool, A>, NoMemory>
+        ensures { IfOk result (λ marked. AreOnCycles self.now marked.items) }
+    {
+        let components = Components::find(self.alloc, self)?;
+        flags_of(self.alloc, components.places.as_slice())
+    }
+
+    /// Of each node the least of its cycle, or itself where it is on none: the least of the nodes that lead to it and
+    /// that it leads to, over some edges or none. It costs O(n + m) time and memory for n nodes and m edges.
+    pub fn firsts(&self) -> Result<Vec<usize, A>, NoMemory>
+        ensures { IfOk result (λ firsts. AreFirsts self.now firsts.items) }
+    {
+        let components = Components::find(self.alloc, self)?;
+        Ok(components.firsts)
+    }
 }
 
 /// Which nodes are known to be on a cycle.

@@ -1,16 +1,8 @@
 //! A directed graph over numbered nodes, and what is found in it.
 
 ghost use Rattle.std.specs.Prelude.{◌≡◌, ◌↔◌, ◌<◌, ℕ, List, [], All, Contains, IfOk, OnOk, length, map, replicate};
-ghost use Rattle.std.specs.Ordering.{nat_cmp};
-ghost use Rattle.walk_core.specs.Components.{AreFirsts};
-ghost use Rattle.walk_core.specs.Digraphs.{AddsEdges, AreDistances, AreOnCycles, HasEdge, IsMarked, IsReversed};
-ghost use Rattle.walk_core.specs.Digraphs.{IsWithin, ends_of};
-ghost use Rattle.walk_core.specs.NodeRanks.{to_rank};
-ghost use Rattle.walk_core.specs.Ranks.{AreRanksInOrder, IsInRankOrder};
+ghost use Rattle.walk_core.specs.Digraphs.{AddsEdges, HasEdge, IsReversed, IsWithin, ends_of};
 
-use super::cycles::{Components, cycle_flags};
-use super::distances::distances_to;
-use super::ranks::{NodeRank, kept_ranks, nodes_of};
 use lattice_core::NoMemory;
 use std::alloc::{Allocator, Global};
 use std::marker::Model;
@@ -20,7 +12,7 @@ use std::marker::Model;
 pub struct Digraph<A: Allocator + Copy = Global> {
     ends: Vec<Vec<usize, A>, A>,
     namers: Vec<Vec<usize, A>, A>,
-    alloc: A,
+    pub(super) alloc: A,
 }
 
 impl<A: Allocator + Copy> Model for Digraph<A> {
@@ -73,58 +65,6 @@ impl<A: Allocator + Copy> Digraph<A> {
         ensures within { All (λ namer. namer < length self.now) result.now }
     {
         self.namers[node].as_slice()
-    }
-
-    /// How many edges the shortest walk has from each node to a marked one, or none where no walk leads to one: a
-    /// search by levels from the marked nodes over the edges turned round. It costs O(n + m) time and memory for n
-    /// nodes and m edges.
-    pub fn distances(&self, marked: &[bool]) -> Result<Vec<Option<usize>, A>, NoMemory>
-        requires { length marked.now ≡ length self.now }
-        ensures { IfOk result (λ distances. AreDistances self.now marked.now distances.items) }
-    {
-        distances_to(self.alloc, self, marked)
-    }
-
-    /// Which nodes are on a cycle. It costs O(n + m) time and memory for n nodes and m edges.
-    pub fn on_cycles(&self) -> Result<Vec<bool, A>, NoMemory>
-        ensures { IfOk result (λ marked. AreOnCycles self.now marked.items) }
-    {
-        cycle_flags(self.alloc, self)
-    }
-
-    /// Of each node the least of its cycle, or itself where it is on none: the least of the nodes that lead to it and
-    /// that it leads to, over some edges or none. It costs O(n + m) time and memory for n nodes and m edges.
-    pub fn firsts(&self) -> Result<Vec<usize, A>, NoMemory>
-        ensures { IfOk result (λ firsts. AreFirsts self.now firsts.items) }
-    {
-        let components = Components::find(self.alloc, self)?;
-        Ok(components.firsts)
-    }
-
-    /// The kept nodes, which hold the ends of their edges, in rank order: by how many nodes each leads to, itself among
-    /// them, so that each comes after what it leads to; the nodes of a cycle, which lead to the same nodes, are side by
-    /// side, by the first of them. With n nodes and m edges it costs O(n log n + m) where no cycle of kept nodes leads
-    /// into two others (a node on no cycle is one by itself). Else each region that has such a cycle, where a region is
-    /// what edges between kept nodes join in either direction, takes a walk over itself for each 512 of its nodes
-    /// besides. It takes O(n + m) memory.
-    pub fn in_rank_order(&self, kept: &[bool]) -> Result<Vec<usize, A>, NoMemory>
-        requires sized { length kept.now ≡ length self.now }
-        requires closed { (x y : ℕ) → IsMarked kept.now x → HasEdge self.now x y → IsMarked kept.now y }
-        ensures { IfOk result (λ nodes. IsInRankOrder nat_cmp (HasEdge self.now) (IsMarked kept.now) nodes.items) }
-    {
-        let ranks = self.ranks(kept)?;
-        nodes_of(self.alloc, ranks.as_slice())
-    }
-
-    /// The ranks of the kept nodes, which hold the ends of their edges, in order, as `in_rank_order` has the nodes, and
-    /// at its cost.
-    pub fn ranks(&self, kept: &[bool]) -> Result<Vec<NodeRank, A>, NoMemory>
-        requires sized { length kept.now ≡ length self.now }
-        requires closed { (x y : ℕ) → IsMarked kept.now x → HasEdge self.now x y → IsMarked kept.now y }
-        ensures { IfOk result (λ ranks. AreRanksInOrder nat_cmp (HasEdge self.now) (IsMarked kept.now)
-            (map to_rank ranks.items)) }
-    {
-        kept_ranks(self.alloc, self, kept)
     }
 }
 

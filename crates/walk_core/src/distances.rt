@@ -84,22 +84,23 @@ impl<A: Allocator + Copy> Search<A> {
     }
 }
 
-/// The distance of each node to the marked ones, as `Digraph::distances` answers it.
-pub fn distances_to<A: Allocator + Copy>(
-    alloc: A,
-    graph: &Digraph<A>,
-    marked: &[bool],
-) -> Result<Vec<Option<usize>, A>, NoMemory>
-    requires { length marked.now ≡ length graph.now }
-    ensures { IfOk result (λ distances. AreDistances graph.now marked.now distances.items) }
-{
-    let mut search = Search::new(alloc, graph.len())?;
-    search.reach_marked(marked)?;
-    let mut distance = 0;
-    while !search.level.is_empty() {
-        let level = mem::replace(&mut search.level, Vec::new(alloc));
-        distance += 1;
-        search.reach_namers(graph, level.as_slice(), distance)?;
+impl<A: Allocator + Copy> Digraph<A> {
+    /// How many edges the shortest walk has from each node to a marked one, or none where no walk leads to one: a
+    /// search by levels from the marked nodes over the edges turned round. It costs O(n + m) time and memory for n
+    /// nodes and m edges.
+    pub fn distances(&self, marked: &[bool]) -> Result<Vec<Option<usize>, A>, NoMemory>
+        requires { length marked.now ≡ length self.now }
+        ensures { IfOk result (λ distances. AreDistances self.now marked.now distances.items) }
+    {
+        let alloc = self.alloc;
+        let mut search = Search::new(alloc, self.len())?;
+        search.reach_marked(marked)?;
+        let mut distance = 0;
+        while !search.level.is_empty() {
+            let level = mem::replace(&mut search.level, Vec::new(alloc));
+            distance += 1;
+            search.reach_namers(self, level.as_slice(), distance)?;
+        }
+        Ok(search.distances)
     }
-    Ok(search.distances)
 }

@@ -1,4 +1,4 @@
-//! Directed graphs: walks, distances and cycles.
+//! Directed graphs: walks, distances, cycles, and what leads to nodes and is reached from them.
 //!
 //! Its tests are in the crate `walk_tests`.
 //!
@@ -26,9 +26,11 @@ mod finish;
 mod laws;
 mod leads;
 mod ranks;
+mod reach;
 mod regions;
 mod sums;
 
 pub use digraph::Digraph;
 pub use laws::{distances_along_edges, distances_go_down, rank_order_is_one, reaching_goes_on};
 pub use ranks::NodeRank;
+pub use reach::{leading, reached};

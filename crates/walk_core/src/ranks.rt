@@ -5,7 +5,7 @@ ghost use Rattle.std.specs.Prelude.{◌≡◌, ◌↔◌, ◌<◌, ℕ, Contains
 ghost use Rattle.std.specs.Ordering.{nat_cmp};
 ghost use Rattle.std.specs.List.Sorted.{IsStrictlySortedBy};
 ghost use Rattle.walk_core.specs.Digraphs.{HasEdge, IsMarked};
-ghost use Rattle.walk_core.specs.Ranks.{AreRanksInOrder};
+ghost use Rattle.walk_core.specs.Ranks.{AreRanksInOrder, IsInRankOrder};
 ghost use Rattle.walk_core.specs.NodeRanks.{node_rank, to_rank};
 
 use super::cycles::Components;
@@ -25,32 +25,46 @@ pub struct NodeRank {
     pub node: usize,
 }
 
-/// The ranks of the kept nodes, in order.
-pub fn kept_ranks<A: Allocator + Copy>(
-    alloc: A,
-    graph: &Digraph<A>,
-    kept: &[bool],
-) -> Result<Vec<NodeRank, A>, NoMemory>
-    requires sized { length kept.now ≡ length graph.now }
-    requires closed { (x y : ℕ) → IsMarked kept.now x → HasEdge graph.now x y → IsMarked kept.now y }
-    ensures { IfOk result (λ ranks. AreRanksInOrder nat_cmp (HasEdge graph.now) (IsMarked kept.now)
-        (map to_rank ranks.items)) }
-{
-    let components = Components::find(alloc, graph)?;
-    let firsts = components.firsts.as_slice();
-    let targets = kept_numbers(alloc, kept)?;
-    let nodes = kept_from_last(alloc, components.nodes.as_slice(), kept)?;
-    let counts = lead_counts(
-        alloc,
-        graph,
-        firsts,
-        kept,
-        nodes.as_slice(),
-        targets.as_slice(),
-    )?;
-    let mut ranks = ranks_of(alloc, firsts, counts.as_slice(), targets.as_slice())?;
-    ranks.sort_unstable();
-    Ok(ranks)
+impl<A: Allocator + Copy> Digraph<A> {
+    /// The kept nodes, which hold the ends of their edges, in rank order: by how many nodes each leads to, itself among
+    /// them, so that each comes after what it leads to; the nodes of a cycle, which lead to the same nodes, are side by
+    /// side, by the first of them. With n nodes and m edges it costs O(n log n + m) where no cycle of kept nodes leads
+    /// into two others (a node on no cycle is one by itself). Else each region that has such a cycle, where a region is
+    /// what edges between kept nodes join in either direction, takes a walk over itself for each 512 of its nodes
+    /// besides. It takes O(n + m) memory.
+    pub fn in_rank_order(&self, kept: &[bool]) -> Result<Vec<usize, A>, NoMemory>
+        requires sized { length kept.now ≡ length self.now }
+        requires closed { (x y : ℕ) → IsMarked kept.now x → HasEdge self.now x y → IsMarked kept.now y }
+        ensures { IfOk result (λ nodes. IsInRankOrder nat_cmp (HasEdge self.now) (IsMarked kept.now) nodes.items) }
+    {
+        let ranks = self.ranks(kept)?;
+        nodes_of(self.alloc, ranks.as_slice())
+    }
+
+    /// The ranks of the kept nodes, which hold the ends of their edges, in order, as `in_rank_order` has the nodes, and
+    /// at its cost.
+    pub fn ranks(&self, kept: &[bool]) -> Result<Vec<NodeRank, A>, NoMemory>
+        requires sized { length kept.now ≡ length self.now }
+        requires closed { (x y : ℕ) → IsMarked kept.now x → HasEdge self.now x y → IsMarked kept.now y }
+        ensures { IfOk result (λ ranks. AreRanksInOrder nat_cmp (HasEdge self.now) (IsMarked kept.now)
+            (map to_rank ranks.items)) }
+    {
+        let components = Components::find(self.alloc, self)?;
+        let firsts = components.firsts.as_slice();
+        let targets = kept_numbers(self.alloc, kept)?;
+        let nodes = kept_from_last(self.alloc, components.nodes.as_slice(), kept)?;
+        let counts = lead_counts(
+            self.alloc,
+            self,
+            firsts,
+            kept,
+            nodes.as_slice(),
+            targets.as_slice(),
+        )?;
+        let mut ranks = ranks_of(self.alloc, firsts, counts.as_slice(), targets.as_slice())?;
+        ranks.sort_unstable();
+        Ok(ranks)
+    }
 }
 
 /// The kept nodes, in order.
@@ -113,10 +127,7 @@ fn ranks_of<A: Allocator + Copy>(
 }
 
 /// The nodes of some ranks.
-pub fn nodes_of<A: Allocator + Copy>(
-    alloc: A,
-    ranks: &[NodeRank],
-) -> Result<Vec<usize, A>, NoMemory>
+fn nodes_of<A: Allocator + Copy>(alloc: A, ranks: &[NodeRank]) -> Result<Vec<usize, A>, NoMemory>
     ensures { IfOk result (λ nodes. nodes.items ≡ map (λ rank. rank.node) ranks.now) }
 {
     let nodes = ranks.iter().map(|rank| rank.node).collect(alloc)?;

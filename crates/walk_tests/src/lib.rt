@@ -1,4 +1,4 @@
-//! Tests of `walk_core` through its public functions: distances, cycles and orders, beside slow plain programs, and
+//! Tests of `walk_core` through its public functions: distances, cycles, orders, and what is reached, beside slow plain programs, and
 //! with each request for memory refused in turn. A crate of tests alone, as `record_tests` is.
 #![tactic(auto)]
 
@@ -10,5 +10,7 @@ mod digraphs;
 mod distances;
 #[cfg(test)]
 mod orders;
+#[cfg(test)]
+mod reaching;
 #[cfg(test)]
 mod refused;

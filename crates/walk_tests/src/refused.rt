@@ -6,9 +6,9 @@ use super::distances::distances_of;
 use super::orders::order_of;
 use lattice_core::NoMemory;
 use linked_list_allocator::LocalHeap;
-use reach_core::{leading, reached};
 use refusing_memory::{Call, Refusing, Seen, requests};
 use std::alloc::{Allocator, Global};
+use walk_core::{leading, reached};
 
 /// A cycle of three nodes, of which the last leads to another one.
 const EDGES: [(usize, usize); 4] = [(0, 1), (1, 2), (2, 0), (2, 3)];

@@ -2,7 +2,8 @@ use Rattle.std.proofs.Common.{◌<◌, length, slice_index, sym, ◌∙◌, arit
 use Rattle.std.specs.Cmp.Lexicographic.{same_text}
 use Rattle.std.proofs.lemmas.List.{get_or_default, take_all}
 use Rattle.std.proofs.lemmas.List.Elements.{All-contains}
-use Rattle.walk_core.proofs.Gathering.{first_within, row_read, gathered_more, words_differ, passes_new, passes_none}
+use Rattle.walk_core.specs.FirstLaws.{first_within}
+use Rattle.walk_core.proofs.Gathering.{row_read, gathered_more, words_differ, passes_new, passes_none}
 use Rattle.walk_core.proofs.counts.gather.Goals as goal
 
 pub index-requires : goal.index-requires

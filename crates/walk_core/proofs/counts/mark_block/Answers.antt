@@ -1,7 +1,8 @@
 use Rattle.std.proofs.Common.{◌<◌, length, slice_index, arith}
 use Rattle.std.proofs.lemmas.List.Elements.{Contains-get_or}
 use Rattle.walk_core.proofs.Blocks.{marked_none, marked_more}
-use Rattle.walk_core.proofs.Gathering.{first_within, row_read}
+use Rattle.walk_core.specs.FirstLaws.{first_within}
+use Rattle.walk_core.proofs.Gathering.{row_read}
 use Rattle.walk_core.proofs.counts.mark_block.Goals as goal
 
 pub loop-target-init : goal.loop-target-init

@@ -1,6 +1,6 @@
 use Rattle.std.specs.Prelude.{slice_index}
 use Rattle.std.proofs.lemmas.List.{get_or_default}
-use Rattle.walk_core.proofs.EdgeLemmas.{Named-more, Named-all}
+use Rattle.walk_core.specs.EdgeLaws.{Named-more, Named-all}
 use Rattle.walk_core.proofs.digraph.name_ends.Goals as goal
 
 pub loop-end-preserved : goal.loop-end-preserved

@@ -3,7 +3,7 @@ use Rattle.std.proofs.lemmas.List.{length-map, length-replicate}
 use Rattle.std.specs.List.{All}
 use Rattle.walk_core.specs.Digraphs.{ends_of}
 use Rattle.walk_core.specs.Edges.{IsWithin-row}
-use Rattle.walk_core.proofs.EdgeLemmas.{Turned-more, Turned-all, ends_of-read}
+use Rattle.walk_core.specs.EdgeLaws.{Turned-more, Turned-all, ends_of-read}
 use Rattle.walk_core.proofs.digraph.turned_round.Goals as goal
 
 pub name_ends-requires : goal.name_ends-requires

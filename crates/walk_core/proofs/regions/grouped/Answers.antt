@@ -3,7 +3,7 @@ use Rattle.std.proofs.Common.{subst, arith}
 use Rattle.std.proofs.lemmas.List.{get_or_default, length-map, map-set}
 use Rattle.std.proofs.lemmas.List.Elements.{Contains-get_or}
 use Rattle.walk_core.specs.Regions.{AreGrouped, label_of}
-use Rattle.walk_core.proofs.EdgeLemmas.{ends_of-read}
+use Rattle.walk_core.specs.EdgeLaws.{ends_of-read}
 use Rattle.walk_core.proofs.Labels.{grouped_none, grouped_skips, grouped_takes}
 use Rattle.walk_core.proofs.regions.grouped.Goals as goal
 

@@ -1,7 +1,7 @@
 use Rattle.std.proofs.Common.{◌<◌, slice_index, length, arith}
 use Rattle.std.proofs.lemmas.List.{get_or_default}
 use Rattle.std.proofs.lemmas.List.Elements.{Contains-get_or, All-contains}
-use Rattle.walk_core.proofs.Gathering.{first_within}
+use Rattle.walk_core.specs.FirstLaws.{first_within}
 use Rattle.walk_core.proofs.Exits.{forks_none, forks_keep, forks_mark}
 use Rattle.walk_core.proofs.sums.forks_of.Goals as goal
 

@@ -7,7 +7,7 @@ use Rattle.walk_core.specs.Ranks.{HasCount}
 use Rattle.walk_core.specs.Sums.{AreForks, IsHereOrNext, option_at}
 use Rattle.walk_core.proofs.Kept.{unmarked_of}
 use Rattle.std.proofs.lemmas.List.Elements.{Contains-get_or}
-use Rattle.walk_core.proofs.Gathering.{first_within}
+use Rattle.walk_core.specs.FirstLaws.{first_within}
 use Rattle.walk_core.proofs.Adding.{sums_more}
 use Rattle.walk_core.proofs.sums.lead_sums.Goals as goal
 

@@ -1,6 +1,6 @@
 use Rattle.std.proofs.Common.{◌≡◌, ◌<◌, None, replicate, rules, slice_index, length, arith}
 use Rattle.std.proofs.lemmas.List.Elements.{Contains-get_or, All-contains}
-use Rattle.walk_core.proofs.Gathering.{first_within}
+use Rattle.walk_core.specs.FirstLaws.{first_within}
 use Rattle.walk_core.proofs.Exits.{nexts_none, nexts_more}
 use Rattle.walk_core.proofs.sums.next_cycles.Goals as goal
 

@@ -1,4 +1,4 @@
-use Rattle.walk_core.proofs.EdgeLemmas.{AddsEdges-pushed}
+use Rattle.walk_core.specs.EdgeLaws.{AddsEdges-pushed}
 use Rattle.walk_tests.proofs.digraphs.add_edge.Goals as goal
 
 pub returns : goal.returns

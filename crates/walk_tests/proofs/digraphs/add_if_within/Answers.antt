@@ -1,6 +1,6 @@
 use Rattle.std.proofs.Common.{◌<◌, ℕ, Vec, map, length, arith}
 use Rattle.std.proofs.lemmas.List.{length-map}
-use Rattle.walk_core.proofs.EdgeLemmas.{AddsEdges-within}
+use Rattle.walk_core.specs.EdgeLaws.{AddsEdges-within}
 use Rattle.walk_tests.proofs.digraphs.add_if_within.Goals as goal
 
 pub returns : goal.returns

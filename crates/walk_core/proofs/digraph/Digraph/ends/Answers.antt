@@ -1,7 +1,7 @@
 use Rattle.std.proofs.Common.{◌<◌, ◌≡◌, ℕ, Vec, length, map, sym, ap, subst, ◌∙◌, arith}
 use Rattle.std.specs.List.{All}
 use Rattle.std.proofs.lemmas.List.{length-map}
-use Rattle.walk_core.proofs.EdgeLemmas.{ends_of-read, lent_ends_within}
+use Rattle.walk_core.specs.EdgeLaws.{ends_of-read, lent_ends_within}
 use Rattle.walk_core.proofs.digraph.Digraph.ends.Goals as goal
 
 pub returns-clause-within : goal.returns-clause-within

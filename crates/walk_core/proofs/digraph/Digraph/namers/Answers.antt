@@ -2,7 +2,7 @@ use Rattle.std.proofs.Common.{◌<◌, ◌≡◌, ◌↔◌, ℕ, Vec, length, m
 use Rattle.std.specs.List.{All, Contains}
 use Rattle.std.proofs.lemmas.List.{length-map}
 use Rattle.walk_core.specs.Digraphs.{HasEdge, ends_of}
-use Rattle.walk_core.proofs.EdgeLemmas.{ends_of-read, lent_names, lent_names_within}
+use Rattle.walk_core.specs.EdgeLaws.{ends_of-read, lent_names, lent_names_within}
 use Rattle.walk_core.proofs.digraph.Digraph.namers.Goals as goal
 
 pub returns-clause-row : goal.returns-clause-row

@@ -2,7 +2,7 @@ use Rattle.std.proofs.Common.{◌≡◌, ◌+◌, take}
 use Rattle.std.specs.List.{Contains}
 use Rattle.std.specs.Prelude.{slice_index}
 use Rattle.std.proofs.lemmas.List.{get_or_default}
-use Rattle.walk_core.proofs.EdgeLemmas.{Contains-more}
+use Rattle.walk_core.specs.EdgeLaws.{Contains-more}
 use Rattle.walk_core.proofs.LevelLemmas.{Discovers-then}
 use Rattle.walk_core.proofs.distances.Search.reach_all.Goals as goal
 
