@@ -4,4 +4,7 @@ pub mod Reading
 pub mod Walk
 pub mod Spelling
 pub mod Own
+pub mod Words
+pub mod Wanted
+pub mod WantedLaws
 pub mod FirstFaults

@@ -35,8 +35,10 @@ mod laws;
 mod own;
 mod value;
 mod walk;
+mod wanted;
 
 pub use condition::{Clause, Condition, Side};
 pub use fault::GateFault;
 pub use gate::{Clauses, Gate, LabelValues, Pattern};
 pub use laws::the_first_fault_is_found;
+pub use wanted::wanted_text;

@@ -8,7 +8,7 @@ use Rattle.std.proofs.lemmas.List.{length-take-le, take_more, get_or-map}
 use Rattle.std.proofs.lemmas.List.Folds.{Any-from_list_any, list_any-append}
 use Rattle.state_core.specs.declared.item.Item.{Item}
 use Rattle.graph_core.specs.ItemGraph.{has, namers_of}
-use Rattle.graph_core.proofs.Placing.{taken_below}
+use Rattle.walk_core.specs.SortedLists.{taken_below}
 
 -- ---- within one item's targets
 pub Contains-from_has : (targets : List ℕ) (number : ℕ) → has targets number ≡ true → Contains targets number

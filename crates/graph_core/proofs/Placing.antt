@@ -5,15 +5,15 @@ use Rattle.std.specs.declared.cmp.Ordering.TheVariants.{Less, Equal, Greater}
 use Rattle.std.specs.Ordering.{nat_cmp}
 use Rattle.std.specs.List.Sorted.{IsStrictlyIncreasing, IsStrictlySortedBy}
 use Rattle.std.proofs.lemmas.Bool.{lt-ltb}
-use Rattle.std.proofs.lemmas.List.{get_or-take, get_or_default, length-take-le, take_more}
+use Rattle.std.proofs.lemmas.List.{take_more}
 use Rattle.std.proofs.lemmas.List.Elements.{Contains-push, Contains-push_cases, Contains-append_left}
-use Rattle.std.proofs.lemmas.List.Kept.{AllPairs-from_increasing}
 use Rattle.std.proofs.lemmas.Map.Keys.{sorted_from_strictly_increasing, IsStrictlyIncreasing-from_sorted}
 use Rattle.state_core.specs.declared.item.Item.{Item}
 use Rattle.state_core.specs.Items.{item_cmp}
 use Rattle.graph_core.specs.ItemGraph.{IsAt}
 use Rattle.graph_core.specs.Listed.{IsLastOf, ArePlaces}
 use Rattle.lattice_core.specs.MemberLaws.{sorted_push}
+use Rattle.walk_core.specs.SortedLists.{taken_below}
 use Rattle.state_core.specs.ItemLaws.{changes_rise}
 
 less_is : (m n : ℕ) → m < n → nat_cmp m n ≡ Less
@@ -24,15 +24,6 @@ increasing_push : (xs : List ℕ) (n : ℕ) → IsStrictlyIncreasing xs → ((m 
 increasing_push xs n rising above =
     IsStrictlyIncreasing-from_sorted (xs ++ n ∷ [])
     (sorted_push nat_cmp xs n (sorted_from_strictly_increasing xs rising) (λ m c. less_is m n (above m c)))
-
--- what comes before a place of a rising list is less than what is there
-pub taken_below : (xs : List ℕ) (i : ℕ) → IsStrictlyIncreasing xs → i < length xs → (m : ℕ) → Contains (take i xs) m
-    → m < get_or xs i 0
-taken_below xs i rising within m c =
-    let k_less : c.0 < i = omega (arith, c.1, length-take-le i xs (omega (arith, within))) in
-    let here : get_or xs c.0 m ≡ m = sym (get_or-take i xs c.0 m k_less) ∙ c.2 in
-    let same : get_or xs c.0 0 ≡ m = get_or_default xs c.0 0 m (omega (arith, k_less, within)) ∙ here in
-    subst (λ l. l < get_or xs i 0) same (AllPairs-from_increasing xs rising c.0 i 0 k_less within)
 
 least_place : (a b : ℕ) → ¬ (a < b) → ¬ (b < a) → a ≡ b
 least_place a b p q = omega (arith, p, q)

@@ -1,7 +1,6 @@
 //! The items of a state, in order.
 
 ghost use Rattle.std.specs.Prelude.{◌≡◌, ◌≢◌, ◌++◌, ◌≤◌, ℕ, IfOk, OnOk, MatchOption, Contains, flat_map};
-ghost use Rattle.std.specs.Ordering.{is_lt};
 ghost use Rattle.std.specs.List.Sorted.{IsStrictlySortedBy};
 ghost use Rattle.state_core.specs.Items.{item_cmp};
 ghost use Rattle.graph_core.specs.ItemGraph.{AreItems, IsAt};
@@ -34,20 +33,13 @@ pub fn add_items(items: &mut Vec<Item>, change: u32, state: &ChangeState) -> Res
     Ok(())
 }
 
-/// Whether an item comes before another.
-pub fn is_before(item: &Item, other: &Item) -> bool
-    ensures { result ≡ is_lt (item_cmp item.now other.now) }
-{
-    item.change < other.change || item.change == other.change && item.set < other.set
-}
-
 /// The place of an item of the list.
 pub fn place_of(items: &[Item], item: Item) -> usize
     requires in_order { IsStrictlySortedBy item_cmp items.now }
     requires there { Contains items.now item }
     ensures { IsAt items.now result item }
 {
-    items.partition_point(|other| is_before(other, &item))
+    items.partition_point(|other| *other < item)
 }
 
 /// The place of the last item of a change, if it has any.

@@ -15,7 +15,7 @@ use Rattle.graph_core.specs.Dependencies.{IsDependency}
 use Rattle.graph_core.specs.ItemGraph.{AreItems, ItemGraph, IsAt, IsGraphOf}
 use Rattle.graph_core.specs.WalkLaws.{Leads-items, Leads-places}
 use Rattle.lattice_core.specs.PlaceLaws.{Contains-at, at_Contains, at_below, one_item, one_place}
-use Rattle.reach_core.specs.Reach.{AreLeading, AreReached}
+use Rattle.walk_core.specs.Reach.{AreLeading, AreReached}
 use Rattle.graph_text.specs.Drawing.{IsAhead, IsBehind}
 use Rattle.graph_text.specs.Near.{AreAhead, AreBehind, is_of}
 

@@ -16,7 +16,7 @@ use Rattle.std.proofs.lemmas.Option.{slice_get-get_or, slice_get_within, get_or_
 use Rattle.walk_core.specs.Components.{AreFirsts}
 use Rattle.walk_core.specs.Digraphs.{IsMarked, ends_of, row}
 use Rattle.walk_core.specs.Walks.{IsOnCycle}
-use Rattle.walk_core.proofs.Gathering.{first_within}
+use Rattle.walk_core.specs.FirstLaws.{first_within}
 use Rattle.lattice_core.specs.MemberLaws.{Contains-none, Contains-cons_cases, Contains-first, Contains-later}
 use Rattle.lattice_core.specs.MemberLaws.{Contains-to_map, Contains-of_map}
 use Rattle.lattice_core.specs.PlaceLaws.{Contains-at, at_Contains, at_below, one_item, one_place, sorted_at}

@@ -15,7 +15,9 @@ use Rattle.gate_rules.specs.declared.condition.Clause.{Clause}
 use Rattle.gate_rules.specs.declared.condition.Clause.TheVariants.{OpenState, CurrentSet, StatusIn, Approval}
 use Rattle.ready_core.specs.declared.verdicts.Refusal.{Refusal}
 use Rattle.ready_core.specs.declared.verdicts.Refusal.TheVariants.{Own, Cycle, Unknown, Dependency}
-use Rattle.report_text.specs.Report.{side_name, clause_text, refusal_text, item_text}
+use Rattle.gate_rules.specs.Words.{clause_text, side_name}
+use Rattle.ready_core.specs.Words.{refusal_text}
+use Rattle.report_text.specs.Report.{item_text}
 use Rattle.report_text.specs.Printed.{IsSmallItem, IsSmallClause, IsSmallRefusal}
 use Rattle.graph_text.specs.Lines.{IsPlain, IsPlainByte}
 

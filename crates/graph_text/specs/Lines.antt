@@ -5,7 +5,8 @@
 use Rattle.std.specs.Prelude.{◌≢◌, ℕ, List, ◌++◌, All, Option, None, Some, codes, decimal, flat_map}
 use Rattle.state_core.specs.declared.item.Item.{Item}
 use Rattle.ready_core.specs.declared.verdicts.Refusal.{Refusal}
-use Rattle.report_text.specs.Report.{item_text, refusal_text}
+use Rattle.ready_core.specs.Words.{refusal_text}
+use Rattle.report_text.specs.Report.{item_text}
 use Rattle.graph_text.specs.declared.node.Node.{Node}
 
 -- a byte that stands for itself between quotes

@@ -2,7 +2,7 @@
 use Rattle.std.specs.Prelude.{◌≡◌, ◌==◌, ℕ, Bool, true, List, Option, None, Some, length, map, replicate}
 use Rattle.state_core.specs.declared.item.Item.{Item}
 use Rattle.graph_core.specs.ItemGraph.{ItemGraph}
-use Rattle.reach_core.specs.Reach.{AreLeading, AreReached}
+use Rattle.walk_core.specs.Reach.{AreLeading, AreReached}
 
 abbrev pub is_of : ℕ → Item → Bool
 is_of number item = item.change == number

@@ -2,7 +2,8 @@
 
 ghost use Rattle.state_core.specs.declared.item.Item.{Item};
 ghost use Rattle.ready_core.specs.declared.verdicts.Refusal.{Refusal};
-ghost use Rattle.report_text.specs.Report.{item_text, refusal_text};
+ghost use Rattle.ready_core.specs.Words.{refusal_text};
+ghost use Rattle.report_text.specs.Report.{item_text};
 ghost use Rattle.report_text.specs.Printed.{IsSmallItem, IsSmallRefusal};
 ghost use Rattle.graph_text.specs.Lines.{IsPlain};
 

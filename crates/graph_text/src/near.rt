@@ -6,9 +6,9 @@ ghost use Rattle.graph_text.specs.Near.{AreAhead, AreBehind, is_of};
 
 use graph_core::Graph;
 use lattice_core::NoMemory;
-use reach_core::{leading, reached};
 use state_core::Item;
 use std::alloc::Global;
+use walk_core::{leading, reached};
 
 /// Of each item whether an item of the change leads to it, and whether it leads to one; without a change both hold of
 /// all.

@@ -6,7 +6,6 @@ ghost use Rattle.walk_core.specs.Components.{AreFirsts};
 ghost use Rattle.walk_core.specs.Digraphs.{ends_of};
 ghost use Rattle.state_core.specs.Items.{item_cmp};
 ghost use Rattle.state_core.specs.Known.{IsKnown};
-ghost use Rattle.graph_core.proofs.Searching.{stands_before};
 ghost use Rattle.ready_core.specs.Causes.{item_at};
 ghost use Rattle.ready_core.specs.Verdicts.{items_out};
 ghost use Rattle.graph_text.specs.Places.{AreKept, AreNodesAt, AreSides, AreUnknownAt};
@@ -16,7 +15,7 @@ use super::near::Near;
 use super::node::Node;
 use graph_core::Graph;
 use lattice_core::NoMemory;
-use ready_core::{Left, Refusal, Verdicts};
+use ready_core::{Left, Refusal, Verdicts, place_out};
 use state_core::{Item, State};
 use std::alloc::Global;
 
@@ -173,22 +172,8 @@ fn refusal_of(out: &[Left], item: Item) -> Option<Refusal>
     requires { IsStrictlySortedBy item_cmp (items_out out.now) }
     ensures { IsOutFor out.now item result }
 {
-    let place = out.partition_point(|left| is_before(left.item, item));
-    if place == out.len() {
-        return None;
-    }
-    let left = out[place];
-    if left.item != item {
-        return None;
-    }
-    Some(left.refusal)
-}
-
-/// Whether an item comes before another.
-fn is_before(item: Item, other: Item) -> bool
-    ensures { result ≡ stands_before other item }
-{
-    item.change < other.change || item.change == other.change && item.set < other.set
+    let place = place_out(out, item)?;
+    Some(out[place].refusal)
 }
 
 /// The first item of the cycle that the item at a place is on, if it is on one.

@@ -5,3 +5,4 @@ pub mod Causes
 pub mod WholeLaws
 pub mod ItemRanks
 pub mod RankedVerdicts
+pub mod Words

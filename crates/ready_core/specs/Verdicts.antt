@@ -1,5 +1,5 @@
 -- What evaluating a state under a gate gives.
-use Rattle.std.specs.Prelude.{◌≡◌, ◌↔◌, ℕ, List, Contains, map}
+use Rattle.std.specs.Prelude.{◌≡◌, ◌↔◌, ℕ, List, Contains, Some, map, slice_get}
 use Rattle.std.proofs.Common.{suc}
 use Rattle.std.specs.List.Sorted.{IsStrictlySortedBy}
 use Rattle.walk_core.specs.Ranks.{IsInRankOrder}
@@ -22,6 +22,12 @@ pub record Judged : Type 0 where
 
 abbrev pub items_out : List Left → List Item
 items_out = map (λ left. left.item)
+
+-- at the place is the verdict on the item
+pub record IsOutAt (out : List Left) (item : Item) (place : ℕ) : Type 0 where
+  pub left : Left
+  pub here : slice_get out place ≡ Some left
+  pub of : left.item ≡ item
 
 -- just the ready items, in rank order: by how many ready items an item waits for, over others, itself among them, then
 -- by the least item of its cycle, then by itself

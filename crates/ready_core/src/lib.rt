@@ -34,6 +34,7 @@
 mod causes;
 mod judge;
 mod laws;
+mod places;
 mod ranked;
 mod verdicts;
 
@@ -43,5 +44,6 @@ pub use laws::{
     closed_sets_are_safe, dependencies_lead_to_a_cause, ready_items_are_in_gate_order,
     ready_items_are_the_greatest_closed_set, safe_nodes_are_closed, verdicts_are_unique,
 };
+pub use places::place_out;
 pub use ranked::{ItemRank, Ranked, items_of};
 pub use verdicts::{Left, Refusal, Verdicts};

@@ -1,7 +1,8 @@
 //! The verdicts on the items of a state.
 
-ghost use Rattle.std.specs.Prelude.{◌≡◌, map};
+ghost use Rattle.std.specs.Prelude.{◌≡◌, ◌≤◌, length, map};
 ghost use Rattle.ready_core.specs.ItemRanks.{to_rank};
+ghost use Rattle.ready_core.specs.Words.{refusal_word};
 
 use super::ranked::{ItemRank, Ranked};
 use gate_rules::Condition;
@@ -19,6 +20,21 @@ pub enum Refusal {
     Unknown(u32),
     /// It waits for this change, whose current item is left out, too.
     Dependency(u32),
+}
+
+impl Refusal {
+    /// The first word of the refusal in a report; that of an own condition is its side's.
+    pub fn word(self) -> &'static str
+        ensures word { result.now ≡ refusal_word self }
+        ensures short { length result.now ≤ 10 }
+    {
+        match self {
+            Refusal::Own(condition) => condition.side.name(),
+            Refusal::Cycle => "cycle",
+            Refusal::Unknown(_) => "unknown",
+            Refusal::Dependency(_) => "dependency",
+        }
+    }
 }
 
 /// An item that is left out.

@@ -15,8 +15,9 @@ use Rattle.ready_core.specs.declared.verdicts.Left.{Left}
 use Rattle.ready_core.specs.declared.verdicts.Refusal.{Refusal}
 use Rattle.ready_core.specs.declared.verdicts.Refusal.TheVariants.{Own, Cycle, Unknown, Dependency}
 use Rattle.ready_core.specs.Verdicts.{Judged}
-use Rattle.report_text.specs.Report.{side_name, clause_text, refusal_text, item_text, ready_line, out_line, end_line}
-use Rattle.report_text.specs.Report.{report_of}
+use Rattle.gate_rules.specs.Words.{clause_text, side_name}
+use Rattle.ready_core.specs.Words.{refusal_text}
+use Rattle.report_text.specs.Report.{item_text, ready_line, out_line, end_line, report_of}
 use Rattle.report_text.specs.Printed.{printed, IsSmallItem, IsSmallClause, IsSmallRefusal, IsSmallLeft, AreSmall}
 
 -- ---- numbers, up to a byte that is no digit

@@ -1,36 +1,12 @@
--- The text of a report: which items are ready under a gate, and why each other item isn't. The names of conditions are
--- the keys of Zuul's Gerrit driver (zuul-ci.org/docs, "Gerrit", pipeline requirements); the form is the project's own.
+-- The text of a report: which items are ready under a gate, and why each other item isn't. The form is the project's
+-- own.
 use Rattle.std.specs.Prelude.{ℕ, List, ◌++◌, codes, length, flat_map}
 use Rattle.std.specs.Fmt.{decimal}
 use Rattle.state_core.specs.declared.item.Item.{Item}
-use Rattle.gate_rules.specs.declared.condition.Side.{Side}
-use Rattle.gate_rules.specs.declared.condition.Side.TheVariants.{Require, Reject}
-use Rattle.gate_rules.specs.declared.condition.Clause.{Clause}
-use Rattle.gate_rules.specs.declared.condition.Clause.TheVariants.{OpenState, CurrentSet, StatusIn, Approval}
 use Rattle.ready_core.specs.declared.verdicts.Left.{Left}
-use Rattle.ready_core.specs.declared.verdicts.Refusal.{Refusal}
-use Rattle.ready_core.specs.declared.verdicts.Refusal.TheVariants.{Own, Cycle, Unknown, Dependency}
 use Rattle.ready_core.specs.Verdicts.{Judged}
+use Rattle.ready_core.specs.Words.{refusal_text}
 use Rattle.byte_ends.specs.Lines.{as_line}
-
--- ---- the words of a refusal
-
-abbrev pub side_name : Side → List ℕ
-side_name Require = codes "require"
-side_name Reject = codes "reject"
-
--- approvals are counted from 1, as in the condition itself
-abbrev pub clause_text : Clause → List ℕ
-clause_text OpenState = codes "open"
-clause_text CurrentSet = codes "current-patchset"
-clause_text StatusIn = codes "status"
-clause_text (Approval number) = codes "approval " ++ decimal number
-
-abbrev pub refusal_text : Refusal → List ℕ
-refusal_text (Own condition) = side_name condition.side ++ codes " " ++ clause_text condition.clause
-refusal_text Cycle = codes "cycle"
-refusal_text (Unknown number) = codes "unknown " ++ decimal number
-refusal_text (Dependency number) = codes "dependency " ++ decimal number
 
 -- ---- the lines
 

@@ -1,17 +1,18 @@
 //! The text of a report.
 
-ghost use Rattle.std.specs.Prelude.{◌≡◌, ◌++◌, ◌+◌, ◌≤◌, length, decimal, flat_map, OnOk, OnErr};
+ghost use Rattle.std.specs.Prelude.{◌≡◌, ◌++◌, ◌+◌, ◌≤◌, codes, length, decimal, flat_map, OnOk, OnErr};
+ghost use Rattle.gate_rules.specs.Words.{clause_text};
+ghost use Rattle.ready_core.specs.Words.{refusal_text};
 ghost use Rattle.std.specs.Io.KnownBytes.{Appends};
 ghost use Rattle.arrayvec.specs.ArrayString.{array_string_len};
 ghost use Rattle.byte_ends.specs.Failures.{CountsFailure};
 ghost use Rattle.report_text.specs.Pages.{HasRoom, IsCut, Passes};
-ghost use Rattle.report_text.specs.Report.{side_name, clause_text, refusal_text, item_text, ready_line, out_line};
-ghost use Rattle.report_text.specs.Report.{end_line, report_of};
+ghost use Rattle.report_text.specs.Report.{item_text, ready_line, out_line, end_line, report_of};
 
 use super::fault::WriteReportFault;
 use super::page::{Page, add_number, make_room, send};
 use byte_ends::{Drain, Failed};
-use gate_rules::{Clause, Condition, Side};
+use gate_rules::{Clause, Condition};
 use ready_core::{Left, Refusal, Verdicts};
 use state_core::Item;
 
@@ -113,59 +114,48 @@ fn add_item(page: &mut Page, item: Item)
 
 /// Adds why an item is left out.
 fn add_refusal(page: &mut Page, refusal: Refusal)
-    requires { HasRoom page.old 37 }
+    requires { HasRoom page.old 45 }
     ensures text { page.new.bytes ≡ page.old.bytes ++ refusal_text refusal }
-    ensures grown { array_string_len page.new ≤ array_string_len page.old + 37 }
+    ensures grown { array_string_len page.new ≤ array_string_len page.old + 45 }
 {
     match refusal {
         Refusal::Own(condition) => add_condition(page, condition),
-        Refusal::Cycle => page.push_str("cycle"),
-        Refusal::Unknown(change) => add_named(page, "unknown ", u64::from(change)),
-        Refusal::Dependency(change) => add_named(page, "dependency ", u64::from(change)),
+        Refusal::Cycle => page.push_str(refusal.word()),
+        Refusal::Unknown(change) => add_named(page, refusal.word(), u64::from(change)),
+        Refusal::Dependency(change) => add_named(page, refusal.word(), u64::from(change)),
     }
 }
 
 /// Adds a condition, as `require approval 2`.
 fn add_condition(page: &mut Page, condition: Condition)
-    requires { HasRoom page.old 37 }
+    requires { HasRoom page.old 45 }
     ensures text { page.new.bytes ≡ page.old.bytes ++ refusal_text (Refusal.Own condition) }
-    ensures grown { array_string_len page.new ≤ array_string_len page.old + 37 }
+    ensures grown { array_string_len page.new ≤ array_string_len page.old + 45 }
 {
-    page.push_str(side_word(condition.side));
+    page.push_str(condition.side.name());
     page.push_str(" ");
     add_clause(page, condition.clause);
 }
 
-/// A side's key in a gate file.
-fn side_word(side: Side) -> &'static str
-    ensures { result.now ≡ side_name side }
-{
-    match side {
-        Side::Require => "require",
-        Side::Reject => "reject",
-    }
-}
-
 /// Adds a clause: its key in a gate file, and for an approval which one it is, from 1.
 fn add_clause(page: &mut Page, clause: Clause)
-    requires { HasRoom page.old 29 }
+    requires { HasRoom page.old 37 }
     ensures text { page.new.bytes ≡ page.old.bytes ++ clause_text clause }
-    ensures grown { array_string_len page.new ≤ array_string_len page.old + 29 }
+    ensures grown { array_string_len page.new ≤ array_string_len page.old + 37 }
 {
-    match clause {
-        Clause::OpenState => page.push_str("open"),
-        Clause::CurrentSet => page.push_str("current-patchset"),
-        Clause::StatusIn => page.push_str("status"),
-        Clause::Approval(number) => add_named(page, "approval ", number as u64),
+    match clause.place() {
+        Some(number) => add_named(page, clause.key(), number as u64),
+        None => page.push_str(clause.key()),
     }
 }
 
 /// Adds a number after what names it.
 fn add_named(page: &mut Page, name: &str, number: u64)
-    requires { HasRoom page.old (length name.now + 20) }
-    ensures text { page.new.bytes ≡ page.old.bytes ++ (name.now ++ decimal number) }
-    ensures grown { array_string_len page.new ≤ array_string_len page.old + length name.now + 20 }
+    requires { HasRoom page.old (length name.now + 21) }
+    ensures text { page.new.bytes ≡ page.old.bytes ++ (name.now ++ codes " " ++ decimal number) }
+    ensures grown { array_string_len page.new ≤ array_string_len page.old + length name.now + 21 }
 {
     page.push_str(name);
+    page.push_str(" ");
     add_number(page, number);
 }

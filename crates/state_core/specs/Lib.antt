@@ -5,3 +5,4 @@ pub mod ItemLaws
 pub mod GreatestKnown
 pub mod Known
 pub mod KnownLaws
+pub mod SearchLaws

@@ -10,7 +10,7 @@
 //! ```
 #![tactic(auto)]
 
-use gate_rules::{Clause, Condition, Side};
+use gate_rules::Clause;
 use ready_core::{Left, Refusal, Verdicts};
 use state_core::Item;
 use std::alloc::{AllocError, Global};
@@ -39,29 +39,19 @@ fn write_left(text: &mut String, left: Left) -> Result<(), AllocError> {
 
 /// Writes why an item is left out.
 fn write_refusal(text: &mut String, refusal: Refusal) -> Result<(), AllocError> {
+    text.push_str(refusal.word())?;
     match refusal {
-        Refusal::Own(condition) => write_condition(text, condition),
-        Refusal::Cycle => text.push_str("cycle"),
-        Refusal::Unknown(number) => write_named(text, "unknown", u64::from(number)),
-        Refusal::Dependency(number) => write_named(text, "dependency", u64::from(number)),
+        Refusal::Own(condition) => write_clause(text, condition.clause),
+        Refusal::Cycle => Ok(()),
+        Refusal::Unknown(change) | Refusal::Dependency(change) => write!(text, " {change}"),
     }
 }
 
-/// Writes a condition.
-fn write_condition(text: &mut String, condition: Condition) -> Result<(), AllocError> {
-    text.push_str(match condition.side {
-        Side::Require => "require ",
-        Side::Reject => "reject ",
-    })?;
-    match condition.clause {
-        Clause::OpenState => text.push_str("open"),
-        Clause::CurrentSet => text.push_str("current-patchset"),
-        Clause::StatusIn => text.push_str("status"),
-        Clause::Approval(number) => write_named(text, "approval", number as u64),
+/// Writes a clause after its side.
+fn write_clause(text: &mut String, clause: Clause) -> Result<(), AllocError> {
+    let key = clause.key();
+    match clause.place() {
+        Some(number) => write!(text, " {key} {number}"),
+        None => write!(text, " {key}"),
     }
-}
-
-/// A number after what names it.
-fn write_named(text: &mut String, name: &str, number: u64) -> Result<(), AllocError> {
-    write!(text, "{name} {number}")
 }

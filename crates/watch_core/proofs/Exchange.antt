@@ -22,15 +22,12 @@ use Rattle.lattice_core.specs.MemberLaws.{Contains-cons_cases, Contains-first, C
 use Rattle.lattice_core.specs.PlaceLaws.{Contains-at, at_Contains, not_below_itself, one_item, one_place}
 use Rattle.state_core.specs.declared.item.Item.{Item}
 use Rattle.state_core.specs.Items.{item_cmp}
-use Rattle.state_core.specs.ItemLaws.{items_exact, items_total}
+use Rattle.state_core.specs.ItemLaws.{items_exact, items_order, items_total}
 use Rattle.watch_core.specs.Placed.{HasNew, IsFoundAgain, IsOneEach, AreApart, item_of}
 use Rattle.ready_core.specs.ItemRanks.{to_rank}
 use Rattle.watch_core.proofs.Placing.{above_first, by_key, left_below, parts_at, sorted_right}
 
 -- ---- two items
-pub items_order : IsExactOrder item_cmp
-items_order = record { total = items_total; exact = items_exact }
-
 rank_exact : (a b : Rank Item) → rank_cmp item_cmp a b ≡ Equal → a ≡ b
 rank_exact a b e =
     ap (λ (p : ℕ × (Item × Item)). record { count = p.0; first = p.1.0; node = p.1.1 })

@@ -50,7 +50,8 @@ use Rattle.watch_core.specs.Asked.{AreTouchedItems}
 use Rattle.watch_core.specs.KeptOwns.{is_of_touched}
 use Rattle.watch_core.proofs.Bringing.{brought_up, either}
 use Rattle.watch_core.proofs.KeptLemmas.{touched_count}
-use Rattle.watch_core.proofs.Exchange.{has_or_not, items_order, one_each_sorted}
+use Rattle.state_core.specs.ItemLaws.{items_order}
+use Rattle.watch_core.proofs.Exchange.{has_or_not, one_each_sorted}
 use Rattle.watch_core.proofs.Local.{target_along, turned}
 use Rattle.watch_core.proofs.Spread.{all_held, holds_what_waits}
 use Rattle.watch_core.proofs.Stays.{after_is, rest_untouched}

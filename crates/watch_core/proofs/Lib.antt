@@ -3,7 +3,6 @@ pub mod Local
 pub mod Stays
 pub mod Bringing
 pub mod KeptLemmas
-pub mod SameItems
 pub mod Spread
 pub mod Placing
 pub mod Exchange

@@ -15,7 +15,8 @@ use Rattle.ready_core.specs.declared.ranked.ItemRank.{ItemRank}
 use Rattle.ready_core.specs.declared.verdicts.Left.{Left}
 use Rattle.ready_core.specs.ItemRanks.{to_rank}
 use Rattle.ready_core.specs.Verdicts.{items_out}
-use Rattle.watch_core.specs.Placed.{AreApart, AreLists, AreReady, HasNew, IsLeftAt, item_of, node_of}
+use Rattle.ready_core.specs.Verdicts.{IsOutAt}
+use Rattle.watch_core.specs.Placed.{AreApart, AreLists, AreReady, HasNew, item_of, node_of}
 use Rattle.watch_core.proofs.Exchange.{HasNew-none, apart_on, by_item_total, by_rank_total, exchanged_remove}
 use Rattle.watch_core.proofs.Exchange.{exchanged_set, one_each_none, one_each_on, one_each_sorted}
 use Rattle.watch_core.proofs.Placing.{map-remove, sorted_of_map, sorted_taken}
@@ -79,7 +80,7 @@ module _ (ready : List Item) (ranks : List ItemRank) (are : AreReady ready ranks
 
 -- ---- an item that is left out
 module _ (ready : List Item) (ranks : List ItemRank) (out : List Left) (are : AreLists ready ranks out) (place : ℕ)
-    (item : Item) (is : IsLeftAt out place item) where
+    (item : Item) (is : IsOutAt out item place) where
   pub rank_absent : HasNew node_of (λ other. other ≡ item) [] ranks ranks
   rank_absent = HasNew-absent node_of item ranks
       (λ rank has same. are.apart.none rank is.left has (Contains-at out place is.left is.here) (same ∙ sym is.of))

@@ -33,12 +33,6 @@ node_of rank = rank.node
 abbrev pub item_of : Left → Item
 item_of left = left.item
 
--- the item is left out at the place
-pub record IsLeftAt (out : List Left) (place : ℕ) (item : Item) : Type 0 where
-  pub left : Left
-  pub here : slice_get out place ≡ Some left
-  pub of : left.item ≡ item
-
 -- what is before the place is below the key, and what is from the place on is above
 pub record IsPlaceFor {X Y : Type 0} (key_of : X → Y) (cmp : Y → Y → Ordering) (xs : List X) (key : Y) (place : ℕ) : Type 0 where
   pub within : place ≤ length xs

@@ -16,10 +16,9 @@ ghost use Rattle.watch_core.specs.KeptOwns.{IsOutWith, is_of_touched};
 ghost use Rattle.watch_core.specs.Touched.{touches};
 
 use super::judge::Judge;
-use super::places::place_out;
 use gate_rules::{Condition, Gate};
 use lattice_core::NoMemory;
-use ready_core::{Left, Refusal, Verdicts};
+use ready_core::{Left, Refusal, Verdicts, place_out};
 use replica_core::Replica;
 use state_core::Item;
 use std::collections::BTreeSet;

@@ -6,7 +6,6 @@ ghost use Rattle.graph_core.specs.ItemGraph.{StandsAt};
 ghost use Rattle.graph_core.specs.Listed.{items_at};
 ghost use Rattle.watch_core.specs.Namers.{KeepsNamers, IsNamer};
 
-use super::places::is_before;
 use graph_core::Graph;
 use lattice_core::NoMemory;
 use state_core::Item;
@@ -66,7 +65,7 @@ fn put(items: &mut Vec<Item>, item: Item) -> Result<(), NoMemory>
     ensures keeps { OnOk result ((other : Item) → Contains items.old.items other → Contains items.new.items other) }
     ensures puts { OnOk result (Contains items.new.items item) }
 {
-    let place = items.partition_point(|other| is_before(*other, item));
+    let place = items.partition_point(|other| *other < item);
     if place < items.len() && items[place] == item {
         return Ok(());
     }

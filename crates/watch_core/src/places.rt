@@ -9,17 +9,10 @@ ghost use Rattle.ready_core.specs.declared.ranked.ItemRank.{ItemRank};
 ghost use Rattle.ready_core.specs.declared.verdicts.Left.{Left};
 ghost use Rattle.ready_core.specs.ItemRanks.{to_rank};
 ghost use Rattle.ready_core.specs.Verdicts.{items_out};
-ghost use Rattle.watch_core.specs.Placed.{IsLeftAt, IsPlaceFor, item_of};
+ghost use Rattle.watch_core.specs.Placed.{IsPlaceFor, item_of};
 
 use ready_core::{ItemRank, Left};
 use state_core::Item;
-
-/// Whether an item comes before another.
-pub fn is_before(item: Item, other: Item) -> bool
-    ensures { result ≡ is_lt (item_cmp item other) }
-{
-    item.change < other.change || item.change == other.change && item.set < other.set
-}
 
 /// Whether a rank comes before another.
 pub fn is_lower(rank: ItemRank, other: ItemRank) -> bool
@@ -29,23 +22,9 @@ pub fn is_lower(rank: ItemRank, other: ItemRank) -> bool
         return rank.count < other.count;
     }
     if rank.first != other.first {
-        return is_before(rank.first, other.first);
+        return rank.first < other.first;
     }
-    is_before(rank.node, other.node)
-}
-
-/// The place at which an item is left out, by binary search.
-pub fn place_out(out: &[Left], item: Item) -> Option<usize>
-    requires { IsStrictlySortedBy item_cmp (items_out out.now) }
-    ensures { MatchOption result ((left : Left) → Contains out.now left → ¬ (left.item ≡ item))
-        (λ place. IsLeftAt out.now place item) }
-{
-    let place = out.partition_point(|left| is_before(left.item, item));
-    let left = out.get(place)?;
-    if left.item != item {
-        return None;
-    }
-    Some(place)
+    rank.node < other.node
 }
 
 /// The place to which an item belongs that isn't left out yet, by binary search.
@@ -54,7 +33,7 @@ pub fn place_for_left(out: &[Left], item: Item) -> usize
     requires none { (left : Left) → Contains out.now left → ¬ (left.item ≡ item) }
     ensures { IsPlaceFor item_of item_cmp out.now item result }
 {
-    out.partition_point(|left| is_before(left.item, item))
+    out.partition_point(|left| left.item < item)
 }
 
 /// The place to which the rank of an item belongs that isn't ready yet, by binary search.

@@ -8,9 +8,9 @@ ghost use Rattle.ready_core.specs.declared.verdicts.Left.{Left};
 ghost use Rattle.ready_core.specs.Verdicts.{items_out};
 ghost use Rattle.watch_core.specs.Placed.{AreLists, AreReady, HasNew, item_of, node_of};
 
-use super::places::{has_rank, place_for_left, place_for_rank, place_in, place_out};
+use super::places::{has_rank, place_for_left, place_for_rank, place_in};
 use lattice_core::NoMemory;
-use ready_core::{ItemRank, Left};
+use ready_core::{ItemRank, Left, place_out};
 use state_core::Item;
 
 /// Puts a ready item, with what it is ordered by, to its place, and takes out what was kept of it.

@@ -18,7 +18,7 @@ use Rattle.gate_rules.specs.declared.condition.Side.TheVariants.{Require, Reject
 use Rattle.gate_rules.specs.declared.condition.Clause.{Clause}
 use Rattle.gate_rules.specs.declared.condition.Clause.TheVariants.{OpenState, CurrentSet, StatusIn, Approval}
 use Rattle.gate_rules.specs.declared.condition.Condition.{Condition}
-use Rattle.why_text.specs.Wanted.{clause_value, conditions_at, wanted_value}
+use Rattle.gate_rules.specs.Wanted.{clause_value, conditions_at, wanted_value}
 
 -- ---- what is made of something was there
 mapped_there : {A B : Type 0} (f : A → B) (o : Option A) (y : B) → option_map f o ≡ Some y → (x : A) × (o ≡ Some x)

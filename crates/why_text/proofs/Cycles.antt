@@ -19,7 +19,7 @@ use Rattle.graph_core.specs.ItemGraph.{AreItems, ItemGraph, IsAt, IsGraphOf}
 use Rattle.graph_core.specs.WalkLaws.{Leads-items, Leads-places}
 use Rattle.lattice_core.specs.MemberLaws.{Contains-none, sorted_push}
 use Rattle.lattice_core.specs.PlaceLaws.{at_Contains, at_below, one_item, one_place, sorted_at, earlier_or_same}
-use Rattle.reach_core.specs.Reach.{AreLeading, AreReached}
+use Rattle.walk_core.specs.Reach.{AreLeading, AreReached}
 use Rattle.why_text.specs.Cycle.{AreOnItsCycle, AreTaken, IsOther, IsTaken, is_item}
 
 -- ---- the items of marked places, place after place

@@ -9,12 +9,6 @@ use Rattle.ready_core.specs.declared.verdicts.Left.{Left}
 use Rattle.ready_core.specs.declared.verdicts.Refusal.{Refusal}
 use Rattle.ready_core.specs.declared.verdicts.Refusal.TheVariants.{Own, Cycle, Unknown, Dependency}
 
--- at the place is the verdict on the item
-pub record IsOutAt (out : List Left) (item : Item) (place : ℕ) : Type 0 where
-  pub left : Left
-  pub here : slice_get out place ≡ Some left
-  pub of : left.item ≡ item
-
 -- an item is left out for a change, whose current item is left out, too
 pub record WaitsFor (state : State) (verdicts : Judged) (left next : Left) : Type 0 where
   pub refusal : left.refusal ≡ Dependency next.item.change

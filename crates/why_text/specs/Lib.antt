@@ -1,5 +1,4 @@
 pub mod Asked
 pub mod Chain
 pub mod Cycle
-pub mod Wanted
 pub mod Why

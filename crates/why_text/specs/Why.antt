@@ -20,10 +20,11 @@ use Rattle.ready_core.specs.Verdicts.{Judged}
 use Rattle.ready_core.specs.declared.verdicts.Left.{Left}
 use Rattle.ready_core.specs.declared.verdicts.Refusal.{Refusal}
 use Rattle.ready_core.specs.declared.verdicts.Refusal.TheVariants.{Own, Cycle, Unknown, Dependency}
-use Rattle.report_text.specs.Report.{item_text, refusal_text}
+use Rattle.ready_core.specs.Words.{refusal_text}
+use Rattle.report_text.specs.Report.{item_text}
 use Rattle.why_text.specs.Chain.{IsChain}
 use Rattle.why_text.specs.Cycle.{AreOnItsCycle}
-use Rattle.why_text.specs.Wanted.{wanted_value}
+use Rattle.gate_rules.specs.Wanted.{wanted_value}
 
 -- ---- the lines of items
 

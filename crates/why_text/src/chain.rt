@@ -3,13 +3,12 @@
 ghost use Rattle.std.specs.Prelude.{◌≡◌, ◌+◌, IfOk, Contains};
 ghost use Rattle.std.specs.List.Sorted.{IsStrictlySortedBy};
 ghost use Rattle.state_core.specs.Items.{item_cmp};
-ghost use Rattle.graph_core.proofs.Searching.{stands_before};
 ghost use Rattle.ready_core.specs.Verdicts.{LeadsOn, items_out};
 ghost use Rattle.ready_core.specs.declared.verdicts.Left.{Left as LeftOut};
-ghost use Rattle.why_text.specs.Chain.{IsChain, IsOutAt, WaitsFor};
+ghost use Rattle.why_text.specs.Chain.{IsChain, WaitsFor};
 
 use lattice_core::NoMemory;
-use ready_core::{Left, Refusal, Verdicts};
+use ready_core::{Left, Refusal, Verdicts, place_out};
 use state_core::{Item, State};
 use std::alloc::Global;
 
@@ -20,13 +19,6 @@ pub struct Chain {
     pub cause: Left,
 }
 
-/// Whether an item comes before another.
-fn is_before(item: Item, other: Item) -> bool
-    ensures { result ≡ stands_before other item }
-{
-    item.change < other.change || item.change == other.change && item.set < other.set
-}
-
 /// The verdict on an item that is left out. In O(log n) for n items.
 pub fn left_at(out: &[Left], item: Item) -> Left
     requires in_order { IsStrictlySortedBy item_cmp (items_out out.now) }
@@ -34,16 +26,7 @@ pub fn left_at(out: &[Left], item: Item) -> Left
     ensures there { Contains out.now result }
     ensures of { result.item ≡ item }
 {
-    out[place_of(out, item)]
-}
-
-/// The place of the verdict on an item that is left out.
-fn place_of(out: &[Left], item: Item) -> usize
-    requires in_order { IsStrictlySortedBy item_cmp (items_out out.now) }
-    requires there { Contains (items_out out.now) item }
-    ensures { IsOutAt out.now item result }
-{
-    out.partition_point(|left| is_before(left.item, item))
+    out[place_out(out, item).unwrap()]
 }
 
 /// The verdict on the current item of a change that an item waits for.

@@ -8,9 +8,9 @@ ghost use Rattle.why_text.specs.Cycle.{AreOnItsCycle, AreTaken, IsOther, is_item
 use gate_rules::Gate;
 use graph_core::Graph;
 use lattice_core::NoMemory;
-use reach_core::{leading, reached};
 use state_core::{Item, State};
 use std::alloc::Global;
+use walk_core::{leading, reached};
 
 /// The other items of an item's cycle, in order. It costs what building the graph costs.
 pub fn others_on_cycle(

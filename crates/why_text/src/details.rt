@@ -1,25 +1,21 @@
 //! The lines of a cause, after the one of its item.
 
 ghost use Rattle.std.specs.Prelude.{◌≡◌, ◌++◌, IfOk, OnOk, flat_map, string_bytes};
-ghost use Rattle.serde_json.specs.View.{members_view};
+ghost use Rattle.serde_json.specs.Data.{Members};
 ghost use Rattle.change_core.specs.Votes.{approvals_of};
 ghost use Rattle.change_core.specs.VoteShown.{approval_shown};
 ghost use Rattle.state_core.specs.Items.{IsItem};
-ghost use Rattle.gate_rules.specs.Spelling.{SpellsGate};
-ghost use Rattle.gate_rules.specs.Walk.{gate_fault};
-ghost use Rattle.std.specs.Prelude.{None, true};
+ghost use Rattle.gate_rules.specs.Spelling.{IsObject, SpellsGate};
+ghost use Rattle.gate_rules.specs.Wanted.{wanted_value};
 ghost use Rattle.why_text.specs.Why.{TellsCause, TellsCondition, approval_line, current_line, have_lines, status_line};
 ghost use Rattle.why_text.specs.Why.{want_lines, with_line};
-ghost use Rattle.why_text.specs.Wanted.{wanted_value};
 
 use super::cycle::others_on_cycle;
-use super::wanted::{members_of, wanted};
 use super::words::add_item;
 use change_core::{Approval, ChangeState};
-use gate_rules::{Clause, Condition, Gate};
+use gate_rules::{Clause, Condition, Gate, wanted_text};
 use lattice_core::NoMemory;
 use ready_core::{Left, Refusal};
-use serde_json::{Map, Value};
 use state_core::{Item, State};
 use std::alloc::Global;
 
@@ -81,8 +77,7 @@ fn condition_text(
     requires there { IsItem state.now item }
     ensures { IfOk result (λ text. TellsCondition file.now state.now item condition (string_bytes text)) }
 {
-    let members = members_of(alloc, file)?;
-    let mut text = want_text(alloc, &members, condition)?;
+    let mut text = want_text(alloc, file, gate, condition)?;
     let change = state.change(item.change).unwrap();
     let current = change.current().unwrap();
     add_have(&mut text, change, current, condition.clause)?;
@@ -92,18 +87,18 @@ fn condition_text(
 /// The line of what the gate file has at the place of a condition.
 fn want_text(
     alloc: Global,
-    members: &Map<String, Value>,
+    file: &[u8],
+    gate: &Gate,
     condition: Condition,
 ) -> Result<String, NoMemory>
-    requires { gate_fault true (members_view members.now.entries) ≡ None }
-    ensures { IfOk result (λ text. string_bytes text
-        ≡ want_lines (wanted_value condition (members_view members.now.entries))) }
+    requires { SpellsGate file.now gate.now }
+    ensures { IfOk result (λ text. (members : Members) × IsObject file.now members
+        × (string_bytes text ≡ want_lines (wanted_value condition members))) }
 {
-    let Some(value) = wanted(members, condition) else {
-        return Ok(String::new(alloc));
-    };
-    let json = value.to_string(alloc)?;
-    Ok(format!(in alloc; "want {json}\n")?)
+    match wanted_text(alloc, gate, file, condition)? {
+        Some(json) => Ok(format!(in alloc; "want {json}\n")?),
+        None => Ok(String::new(alloc)),
+    }
 }
 
 /// Adds what a change has of what a clause asks.

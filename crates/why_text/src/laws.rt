@@ -6,7 +6,7 @@ ghost use Rattle.gate_rules.specs.Own.{IsBroken, ItemStanding};
 ghost use Rattle.gate_rules.specs.Rules.{GateRules};
 ghost use Rattle.gate_rules.specs.Spelling.{IsObject, SpellsGate};
 ghost use Rattle.gate_rules.specs.declared.condition.Condition.{Condition};
-ghost use Rattle.why_text.specs.Wanted.{wanted_value};
+ghost use Rattle.gate_rules.specs.Wanted.{wanted_value};
 
 /// A law: of a condition that is broken the gate file has a value, so that what it asks is always named.
 pub fn broken_conditions_are_wanted()

@@ -25,7 +25,6 @@ mod chain;
 mod cycle;
 mod details;
 mod laws;
-mod wanted;
 mod why;
 mod words;
 

@@ -1,9 +1,11 @@
 //! The words of items and refusals.
 
-ghost use Rattle.std.specs.Prelude.{◌≡◌, ◌++◌, OnOk, string_bytes, decimal};
-ghost use Rattle.report_text.specs.Report.{clause_text, item_text, refusal_text, side_name};
+ghost use Rattle.std.specs.Prelude.{◌≡◌, ◌++◌, OnOk, codes, string_bytes, decimal};
+ghost use Rattle.gate_rules.specs.Words.{clause_text};
+ghost use Rattle.ready_core.specs.Words.{refusal_text};
+ghost use Rattle.report_text.specs.Report.{item_text};
 
-use gate_rules::{Clause, Condition, Side};
+use gate_rules::{Clause, Condition};
 use lattice_core::NoMemory;
 use ready_core::Refusal;
 use state_core::Item;
@@ -23,9 +25,9 @@ pub fn add_refusal(text: &mut String, refusal: Refusal) -> Result<(), NoMemory>
 {
     match refusal {
         Refusal::Own(condition) => add_condition(text, condition),
-        Refusal::Cycle => add_word(text, "cycle"),
-        Refusal::Unknown(change) => add_named(text, "unknown ", u64::from(change)),
-        Refusal::Dependency(change) => add_named(text, "dependency ", u64::from(change)),
+        Refusal::Cycle => add_word(text, refusal.word()),
+        Refusal::Unknown(change) => add_named(text, refusal.word(), u64::from(change)),
+        Refusal::Dependency(change) => add_named(text, refusal.word(), u64::from(change)),
     }
 }
 
@@ -33,30 +35,18 @@ pub fn add_refusal(text: &mut String, refusal: Refusal) -> Result<(), NoMemory>
 fn add_condition(text: &mut String, condition: Condition) -> Result<(), NoMemory>
     ensures { OnOk result (string_bytes text.new ≡ string_bytes text.old ++ refusal_text (Refusal.Own condition)) }
 {
-    text.push_str(side_word(condition.side))?;
+    text.push_str(condition.side.name())?;
     text.push_str(" ")?;
     add_clause(text, condition.clause)
-}
-
-/// A side's key in a gate file.
-pub fn side_word(side: Side) -> &'static str
-    ensures { result.now ≡ side_name side }
-{
-    match side {
-        Side::Require => "require",
-        Side::Reject => "reject",
-    }
 }
 
 /// Adds a clause: its key in a gate file, and for an approval which one it is, from 1.
 fn add_clause(text: &mut String, clause: Clause) -> Result<(), NoMemory>
     ensures { OnOk result (string_bytes text.new ≡ string_bytes text.old ++ clause_text clause) }
 {
-    match clause {
-        Clause::OpenState => add_word(text, "open"),
-        Clause::CurrentSet => add_word(text, "current-patchset"),
-        Clause::StatusIn => add_word(text, "status"),
-        Clause::Approval(number) => add_named(text, "approval ", number as u64),
+    match clause.place() {
+        Some(number) => add_named(text, clause.key(), number as u64),
+        None => add_word(text, clause.key()),
     }
 }
 
@@ -70,8 +60,8 @@ fn add_word(text: &mut String, word: &str) -> Result<(), NoMemory>
 
 /// Adds a number after what names it.
 fn add_named(text: &mut String, name: &str, number: u64) -> Result<(), NoMemory>
-    ensures { OnOk result (string_bytes text.new ≡ string_bytes text.old ++ (name.now ++ decimal number)) }
+    ensures { OnOk result (string_bytes text.new ≡ string_bytes text.old ++ (name.now ++ codes " " ++ decimal number)) }
 {
-    write!(text, "{name}{number}")?;
+    write!(text, "{name} {number}")?;
     Ok(())
 }

@@ -1,5 +1,5 @@
 use Rattle.std.proofs.Common.{rules, ◌<◌, length, get_or, ap, arith}
-use Rattle.walk_core.proofs.Gathering.{first_within}
+use Rattle.walk_core.specs.FirstLaws.{first_within}
 use Rattle.graph_text.proofs.nodes.cycle_at.Goals as goal
 
 pub bounds-items-firsts : goal.bounds-items-firsts

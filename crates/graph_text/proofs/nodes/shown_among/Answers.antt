@@ -1,5 +1,5 @@
 use Rattle.std.proofs.Common.{◌+◌, Contains, get_or, take}
-use Rattle.graph_core.proofs.Placing.{taken_below}
+use Rattle.walk_core.specs.SortedLists.{taken_below}
 use Rattle.graph_text.specs.Places.{IsShown}
 use Rattle.graph_text.proofs.Kept.{kept_skips, kept_takes, taken_grows}
 use Rattle.graph_text.proofs.nodes.shown_among.Goals as goal

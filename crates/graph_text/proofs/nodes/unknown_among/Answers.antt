@@ -1,6 +1,6 @@
 use Rattle.std.proofs.Common.{◌+◌, Contains, get_or, take, sym, ◌∙◌}
 use Rattle.std.proofs.lemmas.Bool.{false≢true}
-use Rattle.graph_core.proofs.Placing.{taken_below}
+use Rattle.walk_core.specs.SortedLists.{taken_below}
 use Rattle.state_core.specs.Known.{IsKnown}
 use Rattle.graph_text.proofs.Kept.{kept_all, kept_skips, kept_takes, taken_grows}
 use Rattle.graph_text.proofs.nodes.unknown_among.Goals as goal

@@ -2,8 +2,9 @@ use Rattle.std.proofs.Common.{rules}
 use Rattle.std.proofs.lemmas.List.Sorted.{IsPartitionPoint-from_clause}
 use Rattle.state_core.specs.Items.{item_cmp}
 use Rattle.watch_core.specs.Placed.{item_of}
-use Rattle.watch_core.proofs.Placing.{comes_before, partitioned, place_for}
-use Rattle.watch_core.proofs.Exchange.{items_order}
+use Rattle.state_core.specs.ItemLaws.{items_order}
+use Rattle.state_core.specs.SearchLaws.{comes_before, partitioned}
+use Rattle.watch_core.proofs.Placing.{place_for}
 use Rattle.watch_core.proofs.places.place_for_left.Goals as goal
 
 pub returns : goal.returns

@@ -4,7 +4,8 @@ use Rattle.walk_core.specs.Ranks.{Rank, rank_cmp}
 use Rattle.state_core.specs.declared.item.Item.{Item}
 use Rattle.state_core.specs.Items.{item_cmp}
 use Rattle.ready_core.specs.ItemRanks.{to_rank}
-use Rattle.watch_core.proofs.Placing.{comes_before, partitioned, place_for}
+use Rattle.state_core.specs.SearchLaws.{comes_before, partitioned}
+use Rattle.watch_core.proofs.Placing.{place_for}
 use Rattle.watch_core.proofs.Exchange.{ranks_order}
 use Rattle.watch_core.proofs.places.place_for_rank.Goals as goal
 

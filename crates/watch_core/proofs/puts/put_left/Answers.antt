@@ -2,8 +2,8 @@ use Rattle.std.proofs.Common.{◌≡◌, [], ◌∷◌, Contains, List, arith, r
 use Rattle.std.specs.List.Sorted.{IsStrictlySortedBy}
 use Rattle.state_core.specs.Items.{item_cmp}
 use Rattle.ready_core.specs.declared.verdicts.Left.{Left}
-use Rattle.ready_core.specs.Verdicts.{items_out}
-use Rattle.watch_core.specs.Placed.{AreLists, HasNew, IsLeftAt, item_of, node_of}
+use Rattle.ready_core.specs.Verdicts.{IsOutAt, items_out}
+use Rattle.watch_core.specs.Placed.{AreLists, HasNew, item_of, node_of}
 use Rattle.watch_core.proofs.Putting.{apart_first, both_ok, left_set, left_within, lists_ranked, lists_set, rank_absent}
 use Rattle.watch_core.proofs.puts.put_left.Goals as goal
 
@@ -26,21 +26,21 @@ returns-in_default-clause-lists c =
 
 pub index_mut-requires : goal.index_mut-requires
 index_mut-requires c =
-    let at = subst (λ (l : List Left). IsLeftAt l c.in-Some.place c.args.left.item) c.as_slice.ensures.value c.in-Some.ensures in
+    let at = subst (λ (l : List Left). IsOutAt l c.args.left.item c.in-Some.place) c.as_slice.ensures.value c.in-Some.ensures in
     let within = left_within c.args.ready.now.items c.args.ranks.now.items c.args.out.now.items c.requires c.in-Some.place c.args.left.item at in
     omega (arith, within, c.args.out.now.ok.0)
 
 pub returns-clause-lists : goal.returns-clause-lists
 returns-clause-lists c =
-    let at = subst (λ (l : List Left). IsLeftAt l c.in-Some.place c.args.left.item) c.as_slice.ensures.value c.in-Some.ensures in
+    let at = subst (λ (l : List Left). IsOutAt l c.args.left.item c.in-Some.place) c.as_slice.ensures.value c.in-Some.ensures in
     lists_set c.args.ready.now.items c.args.ranks.now.items c.args.out.now.items c.requires c.in-Some.place c.args.left.item at c.args.left refl
 
 pub returns-clause-ranks : goal.returns-clause-ranks
 returns-clause-ranks c =
-    let at = subst (λ (l : List Left). IsLeftAt l c.in-Some.place c.args.left.item) c.as_slice.ensures.value c.in-Some.ensures in
+    let at = subst (λ (l : List Left). IsOutAt l c.args.left.item c.in-Some.place) c.as_slice.ensures.value c.in-Some.ensures in
     rank_absent c.args.ready.now.items c.args.ranks.now.items c.args.out.now.items c.requires c.in-Some.place c.args.left.item at
 
 pub returns-clause-out : goal.returns-clause-out
 returns-clause-out c =
-    let at = subst (λ (l : List Left). IsLeftAt l c.in-Some.place c.args.left.item) c.as_slice.ensures.value c.in-Some.ensures in
+    let at = subst (λ (l : List Left). IsOutAt l c.args.left.item c.in-Some.place) c.as_slice.ensures.value c.in-Some.ensures in
     left_set c.args.ready.now.items c.args.ranks.now.items c.args.out.now.items c.requires c.in-Some.place c.args.left.item at c.args.left refl

@@ -1,6 +1,7 @@
 use Rattle.std.proofs.Common.{[], Contains, List, arith, subst, sym}
 use Rattle.ready_core.specs.declared.verdicts.Left.{Left}
-use Rattle.watch_core.specs.Placed.{IsLeftAt, item_of, node_of}
+use Rattle.ready_core.specs.Verdicts.{IsOutAt}
+use Rattle.watch_core.specs.Placed.{item_of, node_of}
 use Rattle.watch_core.proofs.Putting.{HasNew-absent, apart_first, left_taken, left_within, lists_ranked, lists_taken}
 use Rattle.watch_core.proofs.Putting.{rank_absent}
 use Rattle.watch_core.proofs.puts.take_item.Goals as goal
@@ -20,21 +21,21 @@ returns-in_default-clause-out c =
 
 pub remove-requires : goal.remove-requires
 remove-requires c =
-    let at = subst (λ (l : List Left). IsLeftAt l c.in-Some.place c.args.item) c.as_slice.ensures.value c.in-Some.ensures in
+    let at = subst (λ (l : List Left). IsOutAt l c.args.item c.in-Some.place) c.as_slice.ensures.value c.in-Some.ensures in
     let within = left_within c.args.ready.now.items c.args.ranks.now.items c.args.out.now.items c.requires c.in-Some.place c.args.item at in
     omega (arith, within, c.args.out.now.ok.0)
 
 pub returns-clause-lists : goal.returns-clause-lists
 returns-clause-lists c =
-    let at = subst (λ (l : List Left). IsLeftAt l c.in-Some.place c.args.item) c.as_slice.ensures.value c.in-Some.ensures in
+    let at = subst (λ (l : List Left). IsOutAt l c.args.item c.in-Some.place) c.as_slice.ensures.value c.in-Some.ensures in
     rw c.remove.ensures.items (lists_taken c.args.ready.now.items c.args.ranks.now.items c.args.out.now.items c.requires c.in-Some.place c.args.item at)
 
 pub returns-clause-ranks : goal.returns-clause-ranks
 returns-clause-ranks c =
-    let at = subst (λ (l : List Left). IsLeftAt l c.in-Some.place c.args.item) c.as_slice.ensures.value c.in-Some.ensures in
+    let at = subst (λ (l : List Left). IsOutAt l c.args.item c.in-Some.place) c.as_slice.ensures.value c.in-Some.ensures in
     rank_absent c.args.ready.now.items c.args.ranks.now.items c.args.out.now.items c.requires c.in-Some.place c.args.item at
 
 pub returns-clause-out : goal.returns-clause-out
 returns-clause-out c =
-    let at = subst (λ (l : List Left). IsLeftAt l c.in-Some.place c.args.item) c.as_slice.ensures.value c.in-Some.ensures in
+    let at = subst (λ (l : List Left). IsOutAt l c.args.item c.in-Some.place) c.as_slice.ensures.value c.in-Some.ensures in
     rw c.remove.ensures.items (left_taken c.args.ready.now.items c.args.ranks.now.items c.args.out.now.items c.requires c.in-Some.place c.args.item at)

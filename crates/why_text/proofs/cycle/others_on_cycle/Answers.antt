@@ -5,7 +5,7 @@ use Rattle.walk_core.specs.Digraphs.{IsWithin}
 use Rattle.state_core.specs.declared.item.Item.{Item}
 use Rattle.graph_core.specs.Dependencies.{IsDependency}
 use Rattle.graph_core.specs.WalkLaws.{ends_within}
-use Rattle.reach_core.specs.Reach.{AreLeading, AreReached}
+use Rattle.walk_core.specs.Reach.{AreLeading, AreReached}
 use Rattle.why_text.specs.Cycle.{AreOnItsCycle, AreTaken, is_item}
 use Rattle.why_text.proofs.Cycles.{others_are}
 use Rattle.why_text.proofs.cycle.others_on_cycle.Goals as goal

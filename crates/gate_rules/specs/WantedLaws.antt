@@ -27,8 +27,8 @@ use Rattle.gate_rules.specs.declared.condition.Side.TheVariants.{Require, Reject
 use Rattle.gate_rules.specs.declared.condition.Clause.{Clause}
 use Rattle.gate_rules.specs.declared.condition.Clause.TheVariants.{OpenState, CurrentSet, StatusIn, Approval}
 use Rattle.gate_rules.specs.declared.condition.Condition.{Condition}
-use Rattle.report_text.specs.Report.{side_name}
-use Rattle.why_text.specs.Wanted.{numbered, conditions_at, clause_value, wanted_value}
+use Rattle.gate_rules.specs.Words.{side_name}
+use Rattle.gate_rules.specs.Wanted.{numbered, conditions_at, clause_value, wanted_value}
 
 -- ---- faults
 or_parts : (a b : Option Fault) → or_later a b ≡ None → (a ≡ None) × (b ≡ None)

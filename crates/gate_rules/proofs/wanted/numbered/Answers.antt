@@ -1,7 +1,7 @@
 use Rattle.std.proofs.Common.{arith}
 use Rattle.serde_json.specs.View.{view}
-use Rattle.why_text.proofs.Values.{numbered_at}
-use Rattle.why_text.proofs.wanted.numbered.Goals as goal
+use Rattle.gate_rules.specs.WantedLaws.{numbered_at}
+use Rattle.gate_rules.proofs.wanted.numbered.Goals as goal
 
 pub returns : goal.returns
 returns c = numbered_at view c.args.values.now c.args.number c.index-values-number.result

@@ -2,13 +2,15 @@ use Rattle.std.proofs.Common.{ap, ◌∙◌, rules, length, refl}
 use Rattle.std.proofs.lemmas.List.Sorted.{IsPartitionPoint-from_clause}
 use Rattle.std.proofs.lemmas.Option.{slice_get_past, slice_get_read}
 use Rattle.lattice_core.specs.PlaceLaws.{one_item}
+use Rattle.state_core.specs.declared.item.Item.{Item}
 use Rattle.state_core.specs.Items.{item_cmp}
+use Rattle.state_core.specs.ItemLaws.{items_alike, items_apart, items_order}
+use Rattle.state_core.specs.SearchLaws.{at_point, comes_before, partitioned}
 use Rattle.ready_core.specs.declared.verdicts.Left.{Left}
-use Rattle.watch_core.specs.Placed.{item_of}
-use Rattle.watch_core.proofs.Placing.{at_point, comes_before, partitioned}
-use Rattle.watch_core.proofs.Exchange.{items_order}
-use Rattle.watch_core.proofs.SameItems.{alike, apart}
-use Rattle.watch_core.proofs.places.place_out.Goals as goal
+use Rattle.ready_core.proofs.places.place_out.Goals as goal
+
+abbrev item_of : Left → Item
+item_of left = left.item
 
 pub returns-in_err-left : goal.returns-in_err-left
 returns-in_err-left c =
@@ -31,7 +33,7 @@ returns-then-ne c =
     let here = slice_get_read out (length out) c.partition_point-place.result left refl look.3.0 look.1 in
     λ other has of.
     let there = at_point item_of items_order out c.requires item c.partition_point-place.result point other has of in
-    apart left.item item c.ne.result c.ne.ensures c.if-ne.true
+    items_apart left.item item c.ne.result c.ne.ensures c.if-ne.true
     (ap (λ (l : Left). l.item) (one_item out c.partition_point-place.result left other here there) ∙ of)
 
 pub returns : goal.returns
@@ -42,5 +44,5 @@ returns c =
     record {
       left = left;
       here = slice_get_read out (length out) c.partition_point-place.result left refl look.3.0 look.1;
-      of = alike left.item c.args.item c.ne.result c.ne.ensures c.if-ne.false;
+      of = items_alike left.item c.args.item c.ne.result c.ne.ensures c.if-ne.false;
     }

@@ -1,14 +1,16 @@
 -- What a gate file has at the place of a condition. The conditions are those of Zuul's Gerrit driver (zuul-ci.org/docs,
 -- "Gerrit").
-use Rattle.std.specs.Prelude.{ℕ, zero, suc, List, Option, None, option_and_then, codes, slice_get}
+use Rattle.std.specs.Prelude.{◌≡◌, ℕ, zero, suc, List, Option, None, option_and_then, option_map, codes, slice_get}
 use Rattle.serde_json.specs.Data.{Data, Members}
 use Rattle.serde_json.specs.Find.{get_member}
+use Rattle.serde_json.specs.Written.{compact_text}
 use Rattle.gate_rules.specs.Reading.{connection_of, listed_or_none, object_under}
 use Rattle.gate_rules.specs.declared.condition.Side.{Side}
 use Rattle.gate_rules.specs.declared.condition.Clause.{Clause}
 use Rattle.gate_rules.specs.declared.condition.Clause.TheVariants.{OpenState, CurrentSet, StatusIn, Approval}
 use Rattle.gate_rules.specs.declared.condition.Condition.{Condition}
-use Rattle.report_text.specs.Report.{side_name}
+use Rattle.gate_rules.specs.Spelling.{IsObject}
+use Rattle.gate_rules.specs.Words.{side_name}
 
 -- the element of a number, from 1
 abbrev pub numbered : {X : Type 0} → List X → ℕ → Option X
@@ -29,3 +31,9 @@ clause_value (Approval number) conditions = numbered (listed_or_none (get_member
 
 abbrev pub wanted_value : Condition → Members → Option Data
 wanted_value condition members = option_and_then (clause_value condition.clause) (conditions_at condition.side members)
+
+-- the text is what a file has there as compact JSON, or there is none where it has nothing
+pub record IsWantedText (file : List ℕ) (condition : Condition) (text : Option (List ℕ)) : Type 0 where
+  pub members : Members
+  pub is_object : IsObject file members
+  pub is : text ≡ option_map compact_text (wanted_value condition members)
