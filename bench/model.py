@@ -1102,15 +1102,16 @@ class Offered(Feed):
 
     def asked(self, told: Told) -> list:
         """The changes that have to be queried: that of an event which brings a patch set, restores an abandoned change
-        or of which something was lost; what a new patch set of an event may outdate; and what it or that of an open row
-        waits for and the record doesn't know.
+        or of which something was lost; what a new patch set of an event, but for the first, may outdate; and what it or
+        that of an open row waits for and the record doesn't know.
         """
         patches = [found.deed if isinstance(found, Shown) else found for found in told.found]
         patches = [deed for deed in patches if isinstance(deed, Deed) and deed.kind == "patchset"]
         asked = set()
         if told.part == "event":
             patches = [deed for deed in patches if (deed.change, deed.set) not in self.state.sets]
-            asked = {deed.change for deed in patches} | {child for deed in patches for child in self.children(deed.change)}
+            asked = {deed.change for deed in patches}
+            asked |= {child for deed in patches if deed.set > 1 for child in self.children(deed.change)}
             asked |= {found.change for found in told.found if self.is_return(found)}
             if told.change is not None and any(isinstance(found, str) for found in told.found):
                 asked.add(told.change)

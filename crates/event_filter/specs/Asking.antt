@@ -1,6 +1,6 @@
 -- The changes of which too little is known, so that Gerrit has to be asked (Gerrit, "stream-events", shows the change of
 -- an event alone).
-use Rattle.std.specs.Prelude.{◌≡◌, ◌≢◌, ◌⊎◌, ◌↔◌, ℕ, List, Bool, true, false, Option, Some, None, Contains}
+use Rattle.std.specs.Prelude.{◌≡◌, ◌≢◌, ◌⊎◌, ◌↔◌, ◌<◌, ℕ, List, Bool, true, false, Option, Some, None, Contains}
 use Rattle.std.specs.BTreeSet.{BTreeSet, contains}
 use Rattle.std.specs.List.{list_any}
 use Rattle.std.specs.Ordering.{nat_cmp}
@@ -47,9 +47,9 @@ HasParent change parent = (set : ℕ) × IsGreatestKnown change set × (parent_o
 abbrev pub IsChild : Change → ℕ → Type 0
 IsChild change parent = (status_of change ≡ New) × HasParent change parent
 
--- the deed's patch set may outdate this change, of which no event says so
+-- the deed's patch set, which isn't its change's first, may outdate this change, of which no event says so
 abbrev pub IsOutdated : State → Deed → ℕ → Type 0
-IsOutdated state (patch_set change set message parent) number = IsChild (change_at state number) change
+IsOutdated state (patch_set change set message parent) number = (1 < set) × IsChild (change_at state number) change
 IsOutdated state deed number = ⊥
 
 -- what is new is asked for itself, for what it lacks and for what it may outdate

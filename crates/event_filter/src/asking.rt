@@ -23,11 +23,11 @@ use std::collections::BTreeSet;
 
 /// The changes that Gerrit has to be asked for, where a line is to be met by a record: the change of an event that
 /// brings a patch set which the record hasn't, that restores what the record has as abandoned, or of which something is
-/// lost; the open changes whose current patch set has that change as its parent, where the patch set is new, since it
-/// may outdate them; and of such a patch set, and of that of an open row, the parent and what the message needs by these
-/// bases, where the record has no patch set of that change and no merge. Refused is only memory. It costs
-/// O(n + m log k) for n bytes of messages and m of such changes, of k changes of the record, and O(k) more where the
-/// patch set is new.
+/// lost; the open changes whose current patch set has that change as its parent, where the patch set is new and isn't
+/// the first, since it may outdate them; and of such a patch set, and of that of an open row, the parent and what the
+/// message needs by these bases, where the record has no patch set of that change and no merge. Refused is only memory.
+/// It costs O(n + m log k) for n bytes of messages and m of such changes, of k changes of the record, and O(k) more
+/// where a patch set that isn't the first is new.
 pub fn asked(
     alloc: Global,
     state: &State,
@@ -174,12 +174,17 @@ fn lacks_set(change: &ChangeState, set: u32) -> bool
     change.sets().get(&set).is_none()
 }
 
-/// Adds what a patch set may outdate.
+/// Adds what a patch set may outdate: the first of a change outdates nothing.
 fn add_outdated(state: &State, body: &Body, asks: &mut BTreeSet<u32>) -> Result<(), NoMemory>
     ensures { OnOk result (Gains (IsOutdated state.now body.now) asks.old asks.new) }
 {
     match body.draft() {
-        Draft::PatchSet { change, .. } => add_children(state, *change, asks),
+        Draft::PatchSet { change, set, .. } => {
+            if *set > 1 {
+                return add_children(state, *change, asks);
+            }
+            Ok(())
+        }
         _ => Ok(()),
     }
 }

@@ -317,6 +317,12 @@ const QUESTIONS: &[Question] = &[
     ),
     (
         FAMILY,
+        Part::Event(Some(4)),
+        &[Found::Shows(4, Deed::PatchSet(1, "p", None))],
+        &[4],
+    ),
+    (
+        FAMILY,
         Part::Row(Some(5)),
         &[Found::Brings(5, Deed::PatchSet(2, "p", None)), OPEN],
         &[],
