@@ -12,10 +12,10 @@ use byte_ends::{Drain, Ends, Source};
 use event_feed::{FeedFault, Input, send};
 use footer_text::Bases;
 use gerrit_events::Projects;
-use site_net::Stop;
+use site_net::{Stop, connected};
 use state_core::State;
 use std::alloc::Global;
-use std::net::{IpAddr, Ipv4Addr, Net, SocketAddr, TcpStream};
+use std::net::{Net, TcpStream};
 use std::sync::{Arc, Wait};
 use std::thread::Threads;
 use std::time::Clock;
@@ -64,7 +64,9 @@ where
     E: Drain,
 {
     let stop = Stop::new();
-    let stream = connected(&rt, order.port)?;
+    let Ok(stream) = connected(&rt, order.port, patience()) else {
+        return Err(FeedFault::NoSite);
+    };
     let Ok(inlet) = Arc::new(alloc, Inlet::new()) else {
         return Err(FeedFault::NoMemory);
     };
@@ -97,18 +99,6 @@ where
     let ended = run(alloc, feeds, &projects, &mut source, feed, &stream);
     inlet.close(&rt);
     ended
-}
-
-/// A connection to the site at a port of this machine.
-fn connected<R: Net<Stream = TcpStream>>(rt: &R, port: u16) -> Result<TcpStream, FeedFault> {
-    let address = SocketAddr::new(IpAddr::V4(Ipv4Addr::LOCALHOST), port);
-    let Ok(stream) = TcpStream::connect_timeout(rt, &address, patience().limit) else {
-        return Err(FeedFault::NoSite);
-    };
-    match stream.set_nodelay(true) {
-        Ok(()) => Ok(stream),
-        Err(_) => Err(FeedFault::NoSite),
-    }
 }
 
 /// Says that a record of so many operations is pulled.

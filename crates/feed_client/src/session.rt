@@ -7,24 +7,20 @@ use super::pull::go_on;
 use super::watch::is_over;
 use byte_ends::{BytesFault, Ends, write_all};
 use event_feed::FeedFault;
-use line_reader::LineReader;
-use op_text::{OpTextFault, read_op, write_body, write_front};
+use gossip_line::{LineFault, greet, read_round, send_front};
+use line_reader::{LINE_LIMIT, LineReader};
+use op_text::write_body;
 use replica_core::{Front, Missing};
-use review_ops::{Body, Op, Stamp};
+use review_ops::{Body, Stamp};
 use site_net::{Patience, PatientReader, PatientWriter, Stop};
 use std::alloc::Global;
+use std::io;
 use std::net::TcpStream;
 use std::sync::Wait;
 use std::time::{Clock, Duration};
 
 /// How many milliseconds a site has for an answer.
 const PATIENCE_MS: u64 = 60_000;
-
-/// How many bytes a line of an answer may have.
-const ANSWER_LIMIT: usize = 524_288;
-
-/// How many operations a round may have.
-const ROUND_LIMIT: usize = 256;
 
 /// How many milliseconds a wait for the input takes before it is looked again whether the session lasts.
 const TICK_MS: u64 = 100;
@@ -68,7 +64,7 @@ impl<'a, R: Wait + Clock> Session<'a, R> {
         inlet: &'a Inlet,
         pulls_again: bool,
     ) -> Result<Session<'a, R>, FeedFault> {
-        let Ok(reader) = LineReader::new(alloc, ANSWER_LIMIT) else {
+        let Ok(reader) = LineReader::new(alloc, LINE_LIMIT) else {
             return Err(FeedFault::NoMemory);
         };
         let mut session = Session {
@@ -83,8 +79,32 @@ impl<'a, R: Wait + Clock> Session<'a, R> {
             is_pulled: false,
             is_behind: false,
         };
-        session.expect("hello 2\n", b"hello 2")?;
+        session.begin()?;
         Ok(session)
+    }
+
+    /// Greets the site.
+    fn begin(&mut self) -> Result<(), FeedFault> {
+        let (Ok(mut source), Ok(mut drain)) = (self.source(), self.drain()) else {
+            return Err(FeedFault::Ended);
+        };
+        match greet(&mut self.reader, &mut source, &mut drain) {
+            Ok(()) => Ok(()),
+            Err(LineFault::NoMemory) => Err(FeedFault::NoMemory),
+            Err(_) => Err(FeedFault::Ended),
+        }
+    }
+
+    /// Where the site's answers come from.
+    fn source(&self) -> io::Result<Ends<PatientReader<'a, R>>> {
+        let reader = PatientReader::new(self.rt, self.stream, self.stop, patience())?;
+        Ok(Ends::new(reader))
+    }
+
+    /// Where what the site is asked goes to.
+    fn drain(&self) -> io::Result<Ends<PatientWriter<'a, R>>> {
+        let writer = PatientWriter::new(self.rt, self.stream, patience())?;
+        Ok(Ends::new(writer))
     }
 
     /// Sends a line, and awaits this answer.
@@ -98,66 +118,37 @@ impl<'a, R: Wait + Clock> Session<'a, R> {
 
     /// Sends a line, and awaits the first line of its answer.
     fn ask(&mut self, line: &str) -> Result<(), IntakeFault> {
-        let Ok(writer) = PatientWriter::new(self.rt, self.stream, patience()) else {
+        let (Ok(mut source), Ok(mut drain)) = (self.source(), self.drain()) else {
             return Err(IntakeFault::Ended);
         };
-        if write_all(&mut Ends::new(writer), line.as_bytes()).is_err() {
+        if write_all(&mut drain, line.as_bytes()).is_err() {
             return Err(IntakeFault::Ended);
         }
-        self.await_line()
-    }
-
-    /// Awaits the next line of an answer.
-    fn await_line(&mut self) -> Result<(), IntakeFault> {
-        let Ok(reader) = PatientReader::new(self.rt, self.stream, self.stop, patience()) else {
-            return Err(IntakeFault::Ended);
-        };
-        match self.reader.next_line(&mut Ends::new(reader)) {
+        match self.reader.next_line(&mut source) {
             Ok(true) => Ok(()),
             Err(BytesFault::NoMemory) => Err(IntakeFault::NoMemory),
             _ => Err(IntakeFault::Ended),
         }
     }
 
-    /// Pulls a round: what the front lacks, at most 256 operations, and whether the site has more.
+    /// Pulls a round: what the front lacks, at most 256 operations, and whether the site has more. The front goes on to
+    /// them.
     fn pull(&mut self) -> Result<Missing, IntakeFault> {
-        let Ok(front) = write_front(self.alloc, &self.front) else {
-            return Err(IntakeFault::NoMemory);
-        };
-        let Ok(line) = format!(in self.alloc; "front {front}\n") else {
-            return Err(IntakeFault::NoMemory);
-        };
-        let mut ops = Vec::new(self.alloc);
-        self.ask(line.as_str())?;
-        for _ in 0..ROUND_LIMIT {
-            if let Some(more) = rest_of(self.reader.line()) {
-                return Ok(Missing { ops, more });
-            }
-            let op = self.read_operation()?;
-            if ops.push(op).is_err() {
-                return Err(IntakeFault::NoMemory);
-            }
-            self.await_line()?;
+        let round = self.read_round()?;
+        for op in &round.ops {
+            self.reach(op.stamp())?;
         }
-        match rest_of(self.reader.line()) {
-            Some(more) => Ok(Missing { ops, more }),
-            None => Err(IntakeFault::Ended),
-        }
+        Ok(round)
     }
 
-    /// The operation of the line that was read last. The front goes on to it.
-    fn read_operation(&mut self) -> Result<Op, IntakeFault> {
-        let Some(text) = self.reader.line().strip_prefix(b"op ".as_slice()) else {
+    /// Asks for a round, and reads it.
+    fn read_round(&mut self) -> Result<Missing, IntakeFault> {
+        let (Ok(mut source), Ok(mut drain)) = (self.source(), self.drain()) else {
             return Err(IntakeFault::Ended);
         };
-        match read_op(self.alloc, text) {
-            Ok(op) => {
-                self.reach(op.stamp())?;
-                Ok(op)
-            }
-            Err(OpTextFault::NoMemory) => Err(IntakeFault::NoMemory),
-            Err(_) => Err(IntakeFault::Ended),
-        }
+        let asked = send_front(self.alloc, &mut drain, &self.front);
+        asked.map_err(line_fault)?;
+        read_round(self.alloc, &mut self.reader, &mut source).map_err(line_fault)
     }
 
     /// Lets the front go on to a stamp.
@@ -185,12 +176,12 @@ impl<'a, R: Wait + Clock> Session<'a, R> {
     }
 }
 
-/// Whether others are left, where a line says so.
-fn rest_of(line: &[u8]) -> Option<bool> {
-    if line == b"more".as_slice() {
-        return Some(true);
+/// How a session fails in which a pull does.
+fn line_fault(fault: LineFault) -> IntakeFault {
+    match fault {
+        LineFault::NoMemory => IntakeFault::NoMemory,
+        _ => IntakeFault::Ended,
     }
-    (line == b"done".as_slice()).then_some(false)
 }
 
 impl<'a, R: Wait + Clock> Intake for Session<'a, R> {

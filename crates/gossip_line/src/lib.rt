@@ -48,5 +48,5 @@ mod session;
 
 pub use fault::LineFault;
 pub use laws::pulls_pass_on_all;
-pub use pull::{Pulled, pull_run};
+pub use pull::{Pulled, greet, pull_run, read_round, send_front};
 pub use session::{answer_lines, session_run};

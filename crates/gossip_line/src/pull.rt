@@ -14,10 +14,9 @@ ghost use Rattle.gossip_line.specs.Session.{Moment};
 use super::command::{HELLO, after};
 use super::fault::LineFault;
 use super::send::send;
-use super::session::LINE_LIMIT;
 use byte_ends::{BytesFault, Drain, Source};
 use lattice_core::NoMemory;
-use line_reader::LineReader;
+use line_reader::{LINE_LIMIT, LineReader};
 use op_text::{OpTextFault, read_op, write_front};
 use replica_core::{Front, Missing};
 use review_ops::Op;
@@ -110,8 +109,10 @@ pub fn pull_rounds<S: Source, D: Drain, K: Sink>(
     })
 }
 
-/// Names the version, and awaits that it is named back.
-fn greet<S: Source, D: Drain>(
+/// Begins a session: sends the version, and awaits that the other side sends it back. Refusals: 1 `LongLine`, its line
+/// is longer than the reader's limit; 2 `BadVersion`, it names another version; 3 `ReadFault`; 4 `WriteFault`; 5
+/// `NoMemory`; 6 `BadAnswer`, another line or none came.
+pub fn greet<S: Source, D: Drain>(
     reader: &mut LineReader,
     source: &mut S,
     drain: &mut D,
@@ -153,7 +154,7 @@ fn pull_round<S: Source, D: Drain, K: Sink>(
         Err(fault) => return Err(declined(fault)),
     };
     send_front(alloc, drain, &front)?;
-    let Missing { ops, more } = read_answer(alloc, reader, source)?;
+    let Missing { ops, more } = read_round(alloc, reader, source)?;
     let count = ops.as_slice().len();
     match sink.take_all(ops) {
         Ok(()) => Ok(Handed { count, more }),
@@ -171,8 +172,9 @@ fn declined(fault: SinkFault) -> LineFault
     }
 }
 
-/// Asks for what a front lacks.
-fn send_front<D: Drain>(alloc: Global, drain: &mut D, front: &Front) -> Result<(), LineFault>
+/// Asks a session for the operations that a front lacks. Refusals: 4 `WriteFault`, the drain failed; 5 `NoMemory`,
+/// nothing was sent.
+pub fn send_front<D: Drain>(alloc: Global, drain: &mut D, front: &Front) -> Result<(), LineFault>
     ensures { SendsFront front.now (D.taken drain.old) (D.taken drain.new) (D.failed drain.old)
         (D.failed drain.new) result }
 {
@@ -194,8 +196,11 @@ fn line_of(alloc: Global, front: &Front) -> Result<String, NoMemory>
     Ok(line)
 }
 
-/// Reads an answer whole.
-fn read_answer<S: Source>(
+/// Reads the answer of a session to a front, whole: its operations, at most 256, and whether others are left. Refusals: 1
+/// `LongLine`, a line is longer than the reader's limit; 3 `ReadFault`, the source failed; 5 `NoMemory`; 6 `BadAnswer`,
+/// a line is none that an answer has, an operation isn't read, a 257th one came, or the source ended before the answer.
+/// It costs O(n) for n bytes.
+pub fn read_round<S: Source>(
     alloc: Global,
     reader: &mut LineReader,
     source: &mut S,

@@ -8,12 +8,9 @@ use super::answer::answer;
 use super::fault::LineFault;
 use super::send::send;
 use byte_ends::{BytesFault, Drain, Source};
-use line_reader::LineReader;
+use line_reader::{LINE_LIMIT, LineReader};
 use site_port::Port;
 use std::alloc::Global;
-
-/// How many bytes a line may have.
-pub const LINE_LIMIT: usize = 524288;
 
 /// How many lines a session may have.
 const LINES: usize = 1000000;

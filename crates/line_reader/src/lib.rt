@@ -15,3 +15,6 @@
 mod reader;
 
 pub use reader::LineReader;
+
+/// How many bytes a line of a session or of a journal may have, without its line end.
+pub const LINE_LIMIT: usize = 524_288;

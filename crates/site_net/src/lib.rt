@@ -4,12 +4,14 @@
 //! Its tests are in the crate `serve_tests`.
 #![tactic(auto)]
 
+mod connect;
 mod door;
 mod patience;
 mod reader;
 mod stop;
 mod writer;
 
+pub use connect::connected;
 pub use door::Door;
 pub use patience::{Awaited, Patience};
 pub use reader::PatientReader;

@@ -2,31 +2,23 @@
 -- are the project's own.
 use Rattle.std.specs.Prelude.{ℕ, List, codes}
 use Rattle.site_serve.specs.declared.setup.ServeFault.{ServeFault}
-use Rattle.site_serve.specs.declared.setup.ServeFault.TheVariants.{NoBind, StartUsed, NoMemory, NoPlace, NoSave, NoJournal, Locked, StartTaken}
+use Rattle.site_serve.specs.declared.setup.ServeFault.TheVariants.{StartUsed, NoMemory, NoPlace, NoJournal}
 use Rattle.site_shared.specs.declared.fault.OpenFault.{OpenFault}
 use Rattle.site_shared.specs.declared.fault.OpenFault.TheVariants as opening
 use Rattle.site_shared.specs.declared.fault.WindowFault.{WindowFault}
 use Rattle.site_shared.specs.declared.fault.WindowFault.TheVariants as window
 
 abbrev pub number_of : ServeFault → ℕ
-number_of NoBind = 1
 number_of StartUsed = 2
 number_of NoMemory = 3
 number_of NoPlace = 4
-number_of NoSave = 5
 number_of NoJournal = 6
-number_of Locked = 7
-number_of StartTaken = 8
 
 abbrev pub name_of : ServeFault → List ℕ
-name_of NoBind = codes "NoBind"
 name_of StartUsed = codes "StartUsed"
 name_of NoMemory = codes "NoMemory"
 name_of NoPlace = codes "NoPlace"
-name_of NoSave = codes "NoSave"
 name_of NoJournal = codes "NoJournal"
-name_of Locked = codes "Locked"
-name_of StartTaken = codes "StartTaken"
 
 abbrev pub after_opening : OpenFault → ServeFault
 after_opening opening.NoMemory = NoMemory

@@ -4,11 +4,11 @@ use super::errors::Errors;
 use super::port::SitePort;
 use byte_ends::{Drain, Ends};
 use gossip_line::{LineFault, pull_run};
-use site_net::{Patience, PatientReader, PatientWriter, Stop};
+use site_net::{Patience, PatientReader, PatientWriter, Stop, connected};
 use site_shared::Naming;
 use std::alloc::Global;
 use std::io;
-use std::net::{IpAddr, Ipv4Addr, Net, SocketAddr, TcpStream};
+use std::net::{Net, TcpStream};
 use std::sync::Wait;
 use std::time::{Clock, Duration};
 
@@ -104,18 +104,6 @@ fn pull_from<R: Wait + Clock + Net<Stream = TcpStream>, J: Naming>(
         Ok(Err(fault)) => Condition::Failed(fault),
         Err(_) => Condition::Unreachable,
     }
-}
-
-/// A connection to a peer.
-fn connected<R: Net<Stream = TcpStream>>(
-    rt: &R,
-    peer: u16,
-    patience: Patience,
-) -> io::Result<TcpStream> {
-    let address = SocketAddr::new(IpAddr::V4(Ipv4Addr::LOCALHOST), peer);
-    let stream = TcpStream::connect_timeout(rt, &address, patience.limit)?;
-    stream.set_nodelay(true)?;
-    Ok(stream)
 }
 
 /// Pulls over a connection.

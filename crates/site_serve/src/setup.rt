@@ -41,13 +41,9 @@ pub struct Served {
     pub is_start_taken: bool,
 }
 
-/// Why a site doesn't run, or doesn't run to its end: `serve_keeping` answers 2 to 4 and 6, and who calls it the
-/// others.
+/// Why a site doesn't run, or doesn't run to its end. The numbers that are left out are those of `serve_command`.
 #[derive(Clone, Copy, Debug, PartialEq, Eq, Error)]
 pub enum ServeFault {
-    /// 1: the port can't be listened at.
-    #[error("the port can't be listened at")]
-    NoBind,
     /// 2: the record has a stamp of the site under this start or a later one.
     #[error("the start was used before")]
     StartUsed,
@@ -57,18 +53,9 @@ pub enum ServeFault {
     /// 4: the system refused a thread or a place for one.
     #[error("no place")]
     NoPlace,
-    /// 5: what the site has couldn't be saved.
-    #[error("the record couldn't be saved")]
-    NoSave,
     /// 6: what the site took in can't be kept any more.
     #[error("the journal failed")]
     NoJournal,
-    /// 7: another process has the journal.
-    #[error("the journal is locked")]
-    Locked,
-    /// 8: another process runs as this site under this start or a later one.
-    #[error("another process runs under this site's number and start")]
-    StartTaken,
 }
 
 impl ServeFault {
@@ -77,14 +64,10 @@ impl ServeFault {
         ensures { result ≡ number_of self.now }
     {
         match self {
-            ServeFault::NoBind => 1,
             ServeFault::StartUsed => 2,
             ServeFault::NoMemory => 3,
             ServeFault::NoPlace => 4,
-            ServeFault::NoSave => 5,
             ServeFault::NoJournal => 6,
-            ServeFault::Locked => 7,
-            ServeFault::StartTaken => 8,
         }
     }
 
@@ -93,14 +76,10 @@ impl ServeFault {
         ensures { result.now ≡ name_of self.now }
     {
         match self {
-            ServeFault::NoBind => "NoBind",
             ServeFault::StartUsed => "StartUsed",
             ServeFault::NoMemory => "NoMemory",
             ServeFault::NoPlace => "NoPlace",
-            ServeFault::NoSave => "NoSave",
             ServeFault::NoJournal => "NoJournal",
-            ServeFault::Locked => "Locked",
-            ServeFault::StartTaken => "StartTaken",
         }
     }
 }

@@ -17,7 +17,7 @@ pub returns-in_err-ops-clause-pulls : goal.returns-in_err-ops-clause-pulls
 returns-in_err-ops-clause-pulls g c =
     let p = err_from_is_err_and c.from_residual-in_err-ops.result c.from_residual-in_err-ops.ensures.1 in
     let mid = moment_of g.S.Source g.D.Drain c.args.sink.now c.args.source.now c.args.drain.now in
-    let after = moment_of g.S.Source g.D.Drain c.front.new.self c.read_answer.new.source c.send_front.new.drain in
+    let after = moment_of g.S.Source g.D.Drain c.front.new.self c.read_round.new.source c.send_front.new.drain in
     let reads = c.in_err-ops.ensures.reads in
     let failed = not_read g.K.Sink.sinks mid after c.in-Ok.front c.args.reader.now reads.0 c.in_err-ops.field-0.0
     c.in-Ok.ensures c.in_ok-send_front.ensures reads.1 reads.2 c.in_err-ops.ensures.counted in
@@ -26,19 +26,19 @@ returns-in_err-ops-clause-pulls g c =
 pub returns-in-Ok-take_all-clause-pulls : goal.returns-in-Ok-take_all-clause-pulls
 returns-in-Ok-take_all-clause-pulls g c =
     let mid = moment_of g.S.Source g.D.Drain c.args.sink.now c.args.source.now c.args.drain.now in
-    let after = moment_of g.S.Source g.D.Drain c.take_all.new.self c.read_answer.new.source c.send_front.new.drain in
+    let after = moment_of g.S.Source g.D.Drain c.take_all.new.self c.read_round.new.source c.send_front.new.drain in
     let reads = c.in_ok-ops.ensures.reads in
-    handed_over g.K.Sink.sinks mid after c.front.new.self c.in-Ok.front c.args.reader.now c.read_answer.new.reader
+    handed_over g.K.Sink.sinks mid after c.front.new.self c.in-Ok.front c.args.reader.now c.read_round.new.reader
     reads.0 c.in_ok-ops.field-0 c.in-Ok.ensures c.in_ok-send_front.ensures reads.1 reads.2
     c.in_ok-ops.ensures.counted _ (ap length c.as_slice-count.ensures.value) c.in-Ok-take_all.ensures
 
 pub returns-clause-pulls : goal.returns-clause-pulls
 returns-clause-pulls g c =
     let mid = moment_of g.S.Source g.D.Drain c.args.sink.now c.args.source.now c.args.drain.now in
-    let after = moment_of g.S.Source g.D.Drain c.take_all.new.self c.read_answer.new.source c.send_front.new.drain in
+    let after = moment_of g.S.Source g.D.Drain c.take_all.new.self c.read_round.new.source c.send_front.new.drain in
     let reads = c.in_ok-ops.ensures.reads in
     let failed = not_taken g.K.Sink.sinks mid after c.front.new.self c.in-Ok.front c.args.reader.now
-    c.read_answer.new.reader reads.0 c.in_ok-ops.field-0 c.in-Ok.ensures c.in_ok-send_front.ensures reads.1 reads.2
+    c.read_round.new.reader reads.0 c.in_ok-ops.field-0 c.in-Ok.ensures c.in_ok-send_front.ensures reads.1 reads.2
     c.in_ok-ops.ensures.counted c.in-Err-take_all.fault c.declined-in-Err-take_all.result
     c.declined-in-Err-take_all.ensures c.in-Err-take_all.ensures in
     (failed.leaves, failed.counts)

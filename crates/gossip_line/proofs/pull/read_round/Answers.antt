@@ -3,7 +3,7 @@ use Rattle.std.proofs.KnownBytes.{Consumes-nil}
 use Rattle.std.proofs.lemmas.Result.{err_from_is_err_and}
 use Rattle.gossip_line.proofs.OneAnswer.{all_read, awaits_breaks, begun_breaks, not_in_answer, not_said, one_said}
 use Rattle.gossip_line.specs.Pull.{IsNoAnswer, SaysOperation}
-use Rattle.gossip_line.proofs.pull.read_answer.Goals as goal
+use Rattle.gossip_line.proofs.pull.read_round.Goals as goal
 
 pub lines-init : goal.lines-init
 lines-init g c = (

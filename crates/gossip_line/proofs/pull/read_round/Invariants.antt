@@ -1,6 +1,6 @@
 use Rattle.std.proofs.Common.{◌≡◌, ◌-◌, length}
 use Rattle.gossip_line.proofs.OneAnswer.{IsBegun}
-use Rattle.gossip_line.proofs.pull.read_answer.Given as goal
+use Rattle.gossip_line.proofs.pull.read_round.Given as goal
 
 -- the lines so far are operations, and what came past them is held
 abbrev pub invariant-lines : goal.invariant-lines
