@@ -8,16 +8,16 @@ ghost use Rattle.commands.specs.Answers.{IsPlayed, IsPlayedText};
 use command_line::Command;
 use console::{Console, Refusal, read_any_gate, read_script};
 use gate_rules::Gate;
-use script_play::play_step;
+use script_play::{play_step, the_same_operations_print_the_same};
 use script_text::{Script, ScriptFault};
 use std::alloc::Global;
-use world_core::{World, worlds_converge};
+use world_core::World;
 
 /// Plays the script of a name, with reports under the gate of another, where that is named: its events happen in a new
 /// world one after the other, by `World::step`, and what a line answers is printed once it is known. Every such run
-/// converges, as `worlds_converge` says. Refusals: those of the script's bytes, then of the gate file; `Script` 1
-/// `BadSites`; `Script` 2 `BadLine`, the script ends at a line that says nothing, once the lines before it are
-/// answered; `Script` 3 `NoMemory`, the script, the sites or an answer couldn't be held; `Output`. It costs what
+/// keeps the promise of `the_same_operations_print_the_same`. Refusals: those of the script's bytes, then of the gate
+/// file; `Script` 1 `BadSites`; `Script` 2 `BadLine`, the script ends at a line that says nothing, once the lines before
+/// it are answered; `Script` 3 `NoMemory`, the script, the sites or an answer couldn't be held; `Output`. It costs what
 /// reading and the events cost.
 pub fn simulate<'n, C: Console>(
     alloc: Global,
@@ -27,7 +27,7 @@ pub fn simulate<'n, C: Console>(
 ) -> Result<(), Refusal<'n>>
     ensures { Ends (Command.Simulate script.entry gate.entry) (C.state console.old) (C.state console.new) result }
 {
-    worlds_converge::<Global>();
+    the_same_operations_print_the_same::<Global>();
     let text = read_script(alloc, script, console)?;
     let rules = read_any_gate(alloc, gate, console)?;
     play_text(alloc, text.as_slice(), rules.as_ref(), console)

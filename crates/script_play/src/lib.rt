@@ -20,8 +20,10 @@
 //! ```
 #![tactic(auto)]
 
+mod laws;
 mod play;
 mod texts;
 
+pub use laws::the_same_operations_print_the_same;
 pub use play::play_step;
 pub use texts::Text;
