@@ -1,8 +1,11 @@
 -- What the error output is written.
-use Rattle.std.specs.Prelude.{◌≡◌, ◌⊎◌, ◌<◌, ℕ, List, Option, Result, Ok, Err, IfOk, MatchResult, length, take}
+use Rattle.std.specs.Prelude.{◌≡◌, ◌⊎◌, ◌<◌, ◌++◌, ℕ, List, Option, Result, Ok, Err, IfOk, MatchResult, codes, decimal}
+use Rattle.std.specs.Prelude.{length, take}
 use Rattle.std.proofs.Common.{inl, inr, subst}
 use Rattle.std.specs.Io.KnownBytes.{Appends}
 use Rattle.byte_ends.specs.Failures.{OneFailed}
+use Rattle.refusal_line.specs.Line.{line_of}
+use Rattle.refusal_line.specs.declared.part.Part.TheVariants.{Journal}
 use Rattle.console.specs.Refusals.{refusal_line}
 use Rattle.console.specs.declared.refusals.Refusal.TheVariants.{Memory}
 
@@ -19,6 +22,10 @@ Shows text (error_output old failed) (error_output new now_failed) =
 -- the same of a line; or, where memory is refused for it, of the line of that
 abbrev pub ShowsLine : List ℕ → ErrorOutput → ErrorOutput → Type 0
 ShowsLine line old new = Shows line old new ⊎ Shows (refusal_line Memory) old new
+
+-- how many bytes of a journal's torn line were left out
+abbrev pub torn_line : ℕ → List ℕ
+torn_line torn = line_of Journal 6 (codes "Torn " ++ decimal torn)
 
 -- a line that is written as it was made, or that of want of memory in its place, is written so
 pub shows_line : {T E : Type 0} (bytes : T → List ℕ) (line : Result T E) (text : List ℕ) (old new : ErrorOutput)

@@ -18,5 +18,5 @@ pub use inputs::{
     GateFile, read_any_gate, read_gate, read_gate_file, read_message, read_script, read_snapshot,
 };
 pub use refusals::Refusal;
-pub use showing::{show, show_line, show_refusal};
+pub use showing::{show, show_line, show_refusal, show_torn};
 pub use streams::{Console, Streams};

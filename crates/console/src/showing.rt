@@ -1,12 +1,12 @@
 //! Writes lines to the error output.
 
-ghost use Rattle.std.specs.Prelude.{MatchResult, string_bytes};
+ghost use Rattle.std.specs.Prelude.{◌≡◌, ◌<◌, IfOk, MatchResult, string_bytes};
 ghost use Rattle.console.specs.Refusals.{refusal_line};
-ghost use Rattle.console.specs.Showing.{Shows, ShowsLine, error_output};
+ghost use Rattle.console.specs.Showing.{Shows, ShowsLine, error_output, torn_line};
 
 use super::refusals::Refusal;
 use byte_ends::{Drain, write_all};
-use refusal_line::memory_line;
+use refusal_line::{Part, memory_line, refusal_line};
 use std::alloc::{AllocError, Global};
 
 /// Writes the line of a refusal to the error output, or that of want of memory, where memory is refused for it. What
@@ -38,4 +38,25 @@ pub fn show<E: Drain>(text: &[u8], errors: &mut E)
         (error_output (E.taken errors.new) (E.failed errors.new)) }
 {
     let _ = write_all(errors, text);
+}
+
+/// Writes to the error output how many bytes of a torn line were left out, if any, or the line of want of memory, where
+/// memory is refused for that. What the error output can't take is lost.
+pub fn show_torn<E: Drain>(alloc: Global, torn: usize, errors: &mut E)
+    ensures whole { torn ≡ 0 → errors.new ≡ errors.old }
+    ensures torn { 0 < torn → ShowsLine (torn_line torn)
+        (error_output (E.taken errors.old) (E.failed errors.old))
+        (error_output (E.taken errors.new) (E.failed errors.new)) }
+{
+    if torn > 0 {
+        show_line(&torn_line(alloc, torn), errors);
+    }
+}
+
+/// The line of so many bytes that were left out.
+fn torn_line(alloc: Global, torn: usize) -> Result<String, AllocError>
+    ensures { IfOk result (λ line. string_bytes line ≡ torn_line torn) }
+{
+    let words = format!(in alloc; "Torn {torn}")?;
+    refusal_line(alloc, Part::Journal, 6, words.as_str())
 }

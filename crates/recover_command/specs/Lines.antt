@@ -1,5 +1,5 @@
--- The lines of a journal on the error output, as those of refusals. They are the project's own.
-use Rattle.std.specs.Prelude.{ℕ, List, ◌++◌, codes, decimal}
+-- The line of a journal's fault on the error output, as those of refusals. It is the project's own.
+use Rattle.std.specs.Prelude.{ℕ, List}
 use Rattle.refusal_line.specs.Line.{line_of}
 use Rattle.refusal_line.specs.declared.part.Part.TheVariants.{Journal}
 use Rattle.site_journal.specs.Fault.{number_of, words_of}
@@ -8,7 +8,3 @@ use Rattle.site_journal.specs.declared.fault.JournalFault.{JournalFault}
 -- why a journal isn't read
 abbrev pub journal_line : JournalFault → List ℕ
 journal_line fault = line_of Journal (number_of fault) (words_of fault)
-
--- how many bytes of a torn line were left out
-abbrev pub torn_line : ℕ → List ℕ
-torn_line torn = line_of Journal 6 (codes "Torn " ++ decimal torn)

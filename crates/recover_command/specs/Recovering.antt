@@ -2,7 +2,7 @@
 use Rattle.std.specs.Prelude.{◌≡◌, ◌<◌, ℕ, List, [], Option, Result, Ok, Err, IfSome, MatchResult}
 use Rattle.std.specs.Io.KnownBytes.{Appends}
 use Rattle.console.specs.Refusals.{refusal_line}
-use Rattle.console.specs.Showing.{ErrorOutput, ShowsLine}
+use Rattle.console.specs.Showing.{ErrorOutput, ShowsLine, torn_line}
 use Rattle.console.specs.declared.refusals.Refusal.{Refusal}
 use Rattle.console.specs.declared.refusals.Refusal.TheVariants.{Memory, Output}
 use Rattle.replica_core.specs.InOrder.{IsInOrderOf}
@@ -14,7 +14,7 @@ use Rattle.site_journal.specs.declared.recovery.RecoverFault.TheVariants.{Journa
 use Rattle.snapshot_text.specs.Snapshot.{snapshot_text}
 use Rattle.snapshot_text.specs.declared.fault.WriteSnapFault.{WriteSnapFault}
 use Rattle.snapshot_text.specs.declared.fault.WriteSnapFault.TheVariants.{NoMemory, WriteFault}
-use Rattle.recover_command.specs.Lines.{journal_line, torn_line}
+use Rattle.recover_command.specs.Lines.{journal_line}
 
 -- how a recovery ends: how many bytes of a torn line it left out, or why it isn't whole
 abbrev pub Ended : Type 0

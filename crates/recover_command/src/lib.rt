@@ -21,6 +21,6 @@ mod lines;
 mod named;
 mod recovering;
 
-pub use lines::{show_journal_fault, show_torn};
+pub use lines::show_journal_fault;
 pub use named::recover_named;
 pub use recovering::recover_to;

@@ -1,8 +1,8 @@
-//! The lines of a journal on the error output.
+//! The line of a journal's fault on the error output.
 
-ghost use Rattle.std.specs.Prelude.{◌≡◌, ◌<◌, IfOk, string_bytes};
+ghost use Rattle.std.specs.Prelude.{◌≡◌, IfOk, string_bytes};
 ghost use Rattle.console.specs.Showing.{ShowsLine, error_output};
-ghost use Rattle.recover_command.specs.Lines.{journal_line, torn_line};
+ghost use Rattle.recover_command.specs.Lines.{journal_line};
 
 use byte_ends::Drain;
 use console::show_line;
@@ -20,19 +20,6 @@ pub fn show_journal_fault<E: Drain>(alloc: Global, fault: &JournalFault, errors:
     show_line(&journal_line(alloc, fault), errors);
 }
 
-/// Writes to the error output how many bytes of a torn line were left out, if any, or the line of want of memory, where
-/// memory is refused for that. What the error output can't take is lost.
-pub fn show_torn<E: Drain>(alloc: Global, torn: usize, errors: &mut E)
-    ensures whole { torn ≡ 0 → errors.new ≡ errors.old }
-    ensures torn { 0 < torn → ShowsLine (torn_line torn)
-        (error_output (E.taken errors.old) (E.failed errors.old))
-        (error_output (E.taken errors.new) (E.failed errors.new)) }
-{
-    if torn > 0 {
-        show_line(&torn_line(alloc, torn), errors);
-    }
-}
-
 /// The line of a journal's fault.
 fn journal_line(alloc: Global, fault: &JournalFault) -> Result<String, AllocError>
     ensures { IfOk result (λ line. string_bytes line ≡ journal_line fault.now) }
@@ -40,12 +27,4 @@ fn journal_line(alloc: Global, fault: &JournalFault) -> Result<String, AllocErro
     let mut words = String::new(alloc);
     fault.write_words(&mut words)?;
     refusal_line(alloc, Part::Journal, fault.number(), words.as_str())
-}
-
-/// The line of so many bytes that were left out.
-fn torn_line(alloc: Global, torn: usize) -> Result<String, AllocError>
-    ensures { IfOk result (λ line. string_bytes line ≡ torn_line torn) }
-{
-    let words = format!(in alloc; "Torn {torn}")?;
-    refusal_line(alloc, Part::Journal, 6, words.as_str())
 }

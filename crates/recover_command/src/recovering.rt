@@ -4,9 +4,9 @@ ghost use Rattle.std.specs.Prelude.{◌≡◌};
 ghost use Rattle.console.specs.Showing.{ShowsLine, error_output};
 ghost use Rattle.recover_command.specs.Recovering.{Recovers, Reports, fault_line, refusal_of};
 
-use super::lines::{show_journal_fault, show_torn};
+use super::lines::show_journal_fault;
 use byte_ends::{Drain, Source};
-use console::{Refusal, show_refusal};
+use console::{Refusal, show_refusal, show_torn};
 use site_journal::{RecoverFault, recover};
 use snapshot_text::WriteSnapFault;
 use std::alloc::Global;

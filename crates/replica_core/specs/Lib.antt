@@ -12,3 +12,4 @@ pub mod RowLine
 pub mod Lines
 pub mod Searches
 pub mod Record
+pub mod Starts

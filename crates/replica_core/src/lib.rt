@@ -24,10 +24,12 @@ mod lines;
 mod missing;
 mod probes;
 mod replica;
+mod starts;
 mod taken;
 
 pub use front::{Front, Reach, Row};
 pub use laws::{equal_journals_agree, operations_arrive_as_a_set};
 pub use missing::Missing;
 pub use replica::Replica;
+pub use starts::latest_start;
 pub use taken::{ClockSpent, Partly, Taken};

@@ -11,7 +11,6 @@ use events::feed;
 use recover_command::{recover_named, show_journal_fault};
 use refusal_line::{Part, refusal_line};
 use serve_command::{Ended, serve};
-use site_serve::ServeFault;
 use std::alloc::Global;
 use std::env::Env;
 use std::io::ErrorKind;
@@ -28,7 +27,7 @@ fn main(rt: HostRuntime) -> ExitCode {
     let mut errors = Ends::new(rt.stderr());
     let words = match words_of(&rt) {
         Ok(words) => words,
-        Err(error) => return ExitCode::from(report_fault(alloc, &error, &mut errors)),
+        Err(error) => return ExitCode::from(report_words(alloc, &error, &mut errors)),
     };
     let status = match read_words(alloc, words.as_slice()) {
         Asked::Run(command) => run_command(
@@ -63,17 +62,15 @@ fn report_site<E: Drain>(alloc: Global, ended: Ended<'_>, errors: &mut E) -> u8 
             show_journal_fault(alloc, &fault, errors);
             1
         }
-        Ended::Site(fault) => {
-            write_fault(alloc, fault, errors);
-            1
-        }
+        Ended::Site(fault) => report_fault(alloc, fault.number(), fault.name(), errors),
+        Ended::Program(fault) => report_fault(alloc, fault.number(), fault.name(), errors),
     }
 }
 
-/// Writes the line of a site's fault.
-fn write_fault<E: Drain>(alloc: Global, fault: ServeFault, errors: &mut E) {
-    let line = refusal_line(alloc, Part::Serve, fault.number(), fault.name());
-    show_line(&line, errors);
+/// Writes the line of a site's fault, and answers its status.
+fn report_fault<E: Drain>(alloc: Global, number: u8, name: &str, errors: &mut E) -> u8 {
+    show_line(&refusal_line(alloc, Part::Serve, number, name), errors);
+    1
 }
 
 /// The words of the command line after the program's name.
@@ -82,7 +79,7 @@ fn words_of<R: Env + AllocGlobal>(rt: &R) -> io::Result<Vec<String>> {
 }
 
 /// Reports that the words can't be had: memory was refused, or one of them isn't UTF-8. Answers the status.
-fn report_fault<E: Drain>(alloc: Global, error: &io::Error, errors: &mut E) -> u8 {
+fn report_words<E: Drain>(alloc: Global, error: &io::Error, errors: &mut E) -> u8 {
     if error.kind() == ErrorKind::OutOfMemory {
         return report(alloc, &Err(Refusal::Memory), errors);
     }

@@ -1,7 +1,7 @@
 -- Which starts are above the latest of a site.
 use Rattle.std.proofs.Common.{ℕ, ◌-◌, ◌≤◌, ◌<◌, List, arith}
 use Rattle.review_ops.specs.Operation.{Operation}
-use Rattle.site_ledger.specs.Starts.{HasNoLater, IsLatest, IsUnused}
+use Rattle.replica_core.specs.Starts.{HasNoLater, IsLatest, IsUnused}
 
 -- a start from 1 that is unused is above the latest one
 pub unused_is_above : (site latest start : ℕ) (ops : List Operation) → IsLatest site latest ops → 1 ≤ start

@@ -5,6 +5,7 @@ ghost use Rattle.review_ops.specs.Operation.{Operation};
 ghost use Rattle.serve_command.specs.Beginning.{AreInputs};
 ghost use Rattle.serve_command.specs.Endings.{EndsAs};
 
+use super::fault::ProgramFault;
 use super::input_end::stop_with_input;
 use super::journal::open_journal;
 use super::output::PatientOutput;
@@ -40,6 +41,8 @@ pub enum Ended<'n> {
     Journal(JournalFault),
     /// The site itself.
     Site(ServeFault),
+    /// Its port or its files, or a start that another process has.
+    Program(ProgramFault),
 }
 
 /// Nothing is done before and after a session.
@@ -153,7 +156,7 @@ where
         return Err(Ended::Site(ServeFault::StartUsed));
     };
     let Ok(listener) = TcpListener::bind(&rt, ("127.0.0.1", serving.port)) else {
-        return Err(Ended::Site(ServeFault::NoBind));
+        return Err(Ended::Program(ProgramFault::NoBind));
     };
     say_port(&rt, alloc, &listener)?;
     let ending = serving.until_input_ends.then_some(input);
@@ -278,7 +281,7 @@ fn read_inputs<'n, C: Console>(
 /// Prints the port at which the site listens.
 fn say_port<R: Print>(rt: &R, alloc: Global, listener: &TcpListener) -> Result<(), Ended<'static>> {
     let Ok(address) = listener.local_addr() else {
-        return Err(Ended::Site(ServeFault::NoBind));
+        return Err(Ended::Program(ProgramFault::NoBind));
     };
     let port = address.port();
     let Ok(line) = format!(in alloc; "listening {port}\n") else {
@@ -301,7 +304,7 @@ fn keep<R: Files>(
     if let Some(name) = name
         && save(rt, alloc, name, &served.replica).is_err()
     {
-        return Err(Ended::Site(ServeFault::NoSave));
+        return Err(Ended::Program(ProgramFault::NoSave));
     }
     ending_of(served.is_start_taken, served.written)
 }
@@ -311,7 +314,7 @@ fn ending_of(is_start_taken: bool, written: bool) -> Result<(), Ended<'static>>
     ensures { EndsAs is_start_taken written result }
 {
     if is_start_taken {
-        Err(Ended::Site(ServeFault::StartTaken))
+        Err(Ended::Program(ProgramFault::StartTaken))
     } else if written {
         Ok(())
     } else {

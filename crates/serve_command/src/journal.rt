@@ -8,9 +8,10 @@ ghost use Rattle.site_journal.specs.Tape.{IsAtStart};
 ghost use Rattle.serve_command.specs.Beginning.{IsAdded, IsBegun, lacking_of};
 
 use super::command::Ended;
+use super::fault::ProgramFault;
 use super::tape::{FileTape, TapeFault};
 use byte_ends::Drain;
-use recover_command::show_torn;
+use console::show_torn;
 use replica_core::Replica;
 use review_ops::Op;
 use site_journal::{Journal, JournalFault, KeepFault, Tape};
@@ -85,7 +86,7 @@ fn add_loaded<T: Tape + Drop>(
 /// How a site ends whose journal isn't opened.
 fn tape_fault(fault: TapeFault) -> Ended<'static> {
     match fault {
-        TapeFault::Locked => Ended::Site(ServeFault::Locked),
+        TapeFault::Locked => Ended::Program(ProgramFault::Locked),
         TapeFault::Failed => Ended::Journal(JournalFault::Failed),
     }
 }

@@ -4,6 +4,7 @@
 #![tactic(auto)]
 
 mod command;
+mod fault;
 mod input_end;
 mod journal;
 mod output;
@@ -12,3 +13,4 @@ mod start;
 mod tape;
 
 pub use command::{Ended, serve};
+pub use fault::ProgramFault;

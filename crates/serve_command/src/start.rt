@@ -1,10 +1,9 @@
 //! The start that a site runs under.
 
 ghost use Rattle.std.specs.Prelude.{◌≡◌, ◌≤◌, ◌<◌, IfSome, Some};
-ghost use Rattle.site_ledger.specs.Starts.{IsUnused};
+ghost use Rattle.replica_core.specs.Starts.{IsUnused};
 
-use replica_core::Replica;
-use site_ledger::latest_start;
+use replica_core::{Replica, latest_start};
 use std::time::{Clock, SystemTime};
 
 /// The start that a site runs under: the one that is named, from 1, unless the record has a stamp of the site under it

@@ -3,9 +3,8 @@
 use super::sites::listening;
 use byte_ends::Ends;
 use command_line::ServeWords;
-use serve_command::{Ended, serve};
+use serve_command::{Ended, ProgramFault, serve};
 use site_journal::JournalFault;
-use site_serve::ServeFault;
 use std::alloc::Global;
 use std::fs::{File, OpenOptions};
 use std::io::Print;
@@ -103,7 +102,7 @@ fn a_port_that_is_taken_is_refused(rt: HostRuntime) -> Result<(), Fail> {
     let mut words = site_words(rt.alloc());
     words.port = port;
     let ended = serve_input(rt, words);
-    assert!(rt; matches!(&ended, Ended::Site(ServeFault::NoBind)));
+    assert!(rt; matches!(&ended, Ended::Program(ProgramFault::NoBind)));
     Ok(())
 }
 
@@ -121,7 +120,7 @@ fn a_record_that_cannot_be_saved_is_a_fault(rt: HostRuntime) {
     words.until_input_ends = true;
     words.save = Some("no/such/folder/record.snapshot");
     let ended = serve_input(rt, words);
-    assert!(rt; matches!(&ended, Ended::Site(ServeFault::NoSave)));
+    assert!(rt; matches!(&ended, Ended::Program(ProgramFault::NoSave)));
 }
 
 /// Whether a site ends well with its input that keeps a journal and is given a snapshot.
@@ -179,7 +178,7 @@ fn locked<R: Files<File = File>>(rt: &R, name: &str) -> Result<File, Fail> {
 fn a_journal_is_one_process_s(rt: HostRuntime) -> Result<(), Fail> {
     let held = locked(&rt, "held.tmp")?;
     let ended = serve_input(rt, journal_words(rt.alloc(), "held.tmp"));
-    assert!(rt; matches!(&ended, Ended::Site(ServeFault::Locked)));
+    assert!(rt; matches!(&ended, Ended::Program(ProgramFault::Locked)));
     drop(held);
     let ended = serve_input(rt, journal_words(rt.alloc(), "held.tmp"));
     assert!(rt; matches!(&ended, Ended::Well));

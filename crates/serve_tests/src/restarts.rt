@@ -5,7 +5,7 @@ use super::programs::{GATE, serve_input, site_words};
 use super::sites::{NoTurn, PASS_ON, PASSED, TAKE, ending, listening, pulling, run_one, talk};
 use byte_ends::Ends;
 use command_line::ServeWords;
-use serve_command::{Ended, serve};
+use serve_command::{Ended, ProgramFault, serve};
 use site_net::Stop;
 use site_serve::ServeFault;
 use std::alloc::Global;
@@ -149,6 +149,6 @@ fn a_start_that_a_peer_has_ends_a_site(rt: HostRuntime) -> Result<(), Fail> {
         },
     );
     assert!(rt; served.is_some() && is_taken);
-    assert!(rt; matches!(&ended, Ended::Site(ServeFault::StartTaken)));
+    assert!(rt; matches!(&ended, Ended::Program(ProgramFault::StartTaken)));
     Ok(())
 }

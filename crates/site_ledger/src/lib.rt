@@ -1,5 +1,4 @@
 //! A ledger: the desk of a running site with what keeps its operations. What it has published was kept before, always.
-//! And the latest start that a site's record has, above which it begins again.
 //!
 //! Its tests are in the crate `site_tests`.
 //!
@@ -17,8 +16,6 @@
 
 mod keeps;
 mod ledger;
-mod starts;
 
 pub use keeps::{Keeps, NoJournal};
 pub use ledger::{Ledger, LedgerFault};
-pub use starts::latest_start;

@@ -1,7 +1,8 @@
 //! Journals that are recovered as a command: what is printed, what is reported, and the status.
 
 use byte_ends::{Broken, Drain, Ends, Source};
-use recover_command::{recover_named, recover_to, show_journal_fault, show_torn};
+use console::show_torn;
+use recover_command::{recover_named, recover_to, show_journal_fault};
 use site_journal::{JournalFault, LineCause, RecoverFault, recover};
 use std::alloc::{AllocError, Global};
 use std::fs;

@@ -1,7 +1,7 @@
 use Rattle.std.proofs.Common.{string_bytes}
 use Rattle.console.specs.Showing.{error_output, shows_line}
-use Rattle.recover_command.specs.Lines.{torn_line}
-use Rattle.recover_command.proofs.lines.show_torn.Goals as goal
+use Rattle.console.specs.Showing.{torn_line}
+use Rattle.console.proofs.showing.show_torn.Goals as goal
 
 pub returns-then-torn-gt0-clause-torn : goal.returns-then-torn-gt0-clause-torn
 returns-then-torn-gt0-clause-torn g c some =

@@ -1,6 +1,6 @@
 use Rattle.std.proofs.Common.{ℕ, ◌≤◌, take}
-use Rattle.site_ledger.specs.Starts.{HasNoLater}
-use Rattle.site_ledger.proofs.starts.latest_start.Given as goal
+use Rattle.replica_core.specs.Starts.{HasNoLater}
+use Rattle.replica_core.proofs.starts.latest_start.Given as goal
 
 -- none of the first operations has a later start, and no less is that of all
 abbrev pub invariant-loop-op : goal.invariant-loop-op

@@ -1,8 +1,8 @@
 //! The starts that a site ran under.
 
-ghost use Rattle.site_ledger.specs.Starts.{IsLatest};
+ghost use Rattle.replica_core.specs.Starts.{IsLatest};
 
-use replica_core::Replica;
+use super::replica::Replica;
 
 /// The latest start of a site in a record, in whatever order its operations came; 0 where it has none. Costs O(n) for n
 /// operations.
