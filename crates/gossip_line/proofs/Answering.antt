@@ -1,5 +1,5 @@
 -- How an answer comes about: what the text after a command spells, and what is written.
-use Rattle.std.proofs.Common.{◌≡◌, ◌++◌, ℕ, Bool, true, List, Option, Result, Ok, Err, refl, sym, subst, inl, inr}
+use Rattle.std.proofs.Common.{◌≡◌, ◌++◌, ℕ, Bool, true, false, List, Option, Result, Ok, Err, refl, sym, subst, inl, inr}
 use Rattle.std.proofs.Common.{◌<◌, length, take}
 use Rattle.std.specs.Prelude.{IsErrOf}
 use Rattle.std.specs.Io.KnownBytes.{Appends}
@@ -15,9 +15,10 @@ use Rattle.op_text.specs.declared.fault.OpTextFault.TheVariants as text
 use Rattle.replica_core.specs.Front.{Reaches}
 use Rattle.review_ops.specs.Deed.{Deed}
 use Rattle.site_port.specs.Ports.{Call, Reply}
-use Rattle.gossip_line.specs.Answers.{IsAnswer, IsMisspelled, IsCutShort, IsWritten, Sends}
+use Rattle.gossip_line.specs.Answers.{Answers, Asks, IsAnswered, IsCutShort, IsWritten, Sends}
 use Rattle.gossip_line.specs.Commands.{take_word, front_word}
-use Rattle.gossip_line.specs.Texts.{Answer, no_memory, bad_text, answer_text, next_of, unread_line}
+use Rattle.gossip_line.specs.Steps.{IsSaid, IsShown, unread_answer}
+use Rattle.gossip_line.specs.Texts.{Answer, greeting, bad_version, replied, no_memory, bad_command, bad_text, farewell}
 use Rattle.gossip_line.specs.declared.fault.LineFault.{LineFault}
 
 -- a fault that isn't want of memory says that nothing is spelled
@@ -25,49 +26,57 @@ not_spelled : {X : Type 0} (Spelled : X → Type 0) (fault : OpTextFault) → ¬
     → ((x : X) → Spelled x → fault ≡ text.NoMemory) → (x : X) → ¬ Spelled x
 not_spelled Spelled fault other only x is = other (only x is)
 
-module _ {P : Type 0} (gives : P → Call → Reply → P → Type 0) (old : P) where
-  -- which answer it is where the text isn't read
-  pub record IsUnread (line : List ℕ) (fault : OpTextFault) : Type 0 where
-    pub answer : Answer
-    pub is : IsAnswer gives old line answer old
-    pub says : answer_text answer ≡ unread_line fault
-    pub goes_on : next_of answer ≡ Ok true
+-- what is said where the text after a command isn't read
+pub unread_body : (body : List ℕ) (fault : OpTextFault)
+    → ((deed : Deed) → SpellsBody body deed → fault ≡ text.NoMemory) → IsSaid false (take_word ++ body) (unread_answer fault)
+unread_body body text.NoMemory only = inl (inl (body, refl), refl)
+unread_body body text.NotJson only =
+    (inl (body, refl, not_spelled (SpellsBody body) text.NotJson (λ e. cc) only), refl)
+unread_body body (text.BadShape key) only =
+    (inl (body, refl, not_spelled (SpellsBody body) (text.BadShape key) (λ e. cc) only), refl)
+unread_body body (text.BadBody cause) only =
+    (inl (body, refl, not_spelled (SpellsBody body) (text.BadBody cause) (λ e. cc) only), refl)
 
-  bad : (line : List ℕ) → IsMisspelled line → (fault : OpTextFault) → unread_line fault ≡ answer_text bad_text
-      → IsUnread line fault
-  bad line misspelled fault says =
-      record { answer = bad_text; is = (misspelled, refl); says = sym says; goes_on = refl }
+pub unread_front : (front : List ℕ) (fault : OpTextFault)
+    → ((reaches : Reaches) → SpellsFront front reaches → fault ≡ text.NoMemory)
+    → IsSaid false (front_word ++ front) (unread_answer fault)
+unread_front front text.NoMemory only = inl (inr (front, refl), refl)
+unread_front front text.NotJson only =
+    (inr (front, refl, not_spelled (SpellsFront front) text.NotJson (λ e. cc) only), refl)
+unread_front front (text.BadShape key) only =
+    (inr (front, refl, not_spelled (SpellsFront front) (text.BadShape key) (λ e. cc) only), refl)
+unread_front front (text.BadBody cause) only =
+    (inr (front, refl, not_spelled (SpellsFront front) (text.BadBody cause) (λ e. cc) only), refl)
 
-  pub unread_body : (body : List ℕ) (fault : OpTextFault)
-      → ((deed : Deed) → SpellsBody body deed → fault ≡ text.NoMemory) → IsUnread (take_word ++ body) fault
-  unread_body body text.NoMemory only =
-      record { answer = no_memory; is = inl (inl (body, refl), refl); says = refl; goes_on = refl }
-  unread_body body text.NotJson only = bad (take_word ++ body)
-      (inl (body, refl, not_spelled (SpellsBody body) text.NotJson (λ e. cc) only)) text.NotJson refl
-  unread_body body (text.BadShape key) only = bad (take_word ++ body)
-      (inl (body, refl, not_spelled (SpellsBody body) (text.BadShape key) (λ e. cc) only)) (text.BadShape key) refl
-  unread_body body (text.BadBody cause) only = bad (take_word ++ body)
-      (inl (body, refl, not_spelled (SpellsBody body) (text.BadBody cause) (λ e. cc) only)) (text.BadBody cause) refl
+-- what is said of a line is said by any port
+module _ {P : Type 0} (gives : P → Call → Reply → P → Type 0) (old : P) (line : List ℕ) where
+  pub said_by_any : (first : Bool) (answer : Answer) → IsSaid first line answer → Answers gives first old line answer old
+  said_by_any true answer is = (is.0, refl)
+  said_by_any false greeting is = (is.0, refl)
+  said_by_any false bad_version (begins, other, same) = (begins, other, refl)
+  said_by_any false (replied reply) (call, asks, given) = absurd given
+  said_by_any false no_memory (inl is) = inl (is.0, refl)
+  said_by_any false no_memory (inr (call, reply, asks, made, given)) = absurd given
+  said_by_any false bad_command is = (is.0, refl)
+  said_by_any false bad_text is = (is.0, refl)
+  said_by_any false farewell is = (is.0, refl)
 
-  pub unread_front : (front : List ℕ) (fault : OpTextFault)
-      → ((reaches : Reaches) → SpellsFront front reaches → fault ≡ text.NoMemory) → IsUnread (front_word ++ front) fault
-  unread_front front text.NoMemory only =
-      record { answer = no_memory; is = inl (inr (front, refl), refl); says = refl; goes_on = refl }
-  unread_front front text.NotJson only = bad (front_word ++ front)
-      (inr (front, refl, not_spelled (SpellsFront front) text.NotJson (λ e. cc) only)) text.NotJson refl
-  unread_front front (text.BadShape key) only = bad (front_word ++ front)
-      (inr (front, refl, not_spelled (SpellsFront front) (text.BadShape key) (λ e. cc) only)) (text.BadShape key) refl
-  unread_front front (text.BadBody cause) only = bad (front_word ++ front)
-      (inr (front, refl, not_spelled (SpellsFront front) (text.BadBody cause) (λ e. cc) only)) (text.BadBody cause) refl
+  -- what a look shows is an answer to the line that asks for it
+  pub shown_as_asked : (new : P) (call : Call) (taken later : Option (List ℕ)) (failed failures : ℕ)
+      (result : Result Bool LineFault) → Asks line call
+      → IsShown gives old call new taken later failed failures result
+      → IsAnswered gives false old line new taken later failed failures result
+  shown_as_asked new call taken later failed failures result asks (reply, given, inl sent) =
+      (replied reply, (call, asks, given), sent)
+  shown_as_asked new call taken later failed failures result asks (reply, given, inr sent) =
+      (no_memory, inr (call, reply, asks, sent.0, given), sent.1)
 
--- a text that is that of an answer is written as the answer is
-pub sends_as : (answer : Answer) (said : List ℕ) (taken later : Option (List ℕ)) (failed failures : ℕ)
-    (result : Result Bool LineFault) → answer_text answer ≡ said → next_of answer ≡ Ok true
-    → Sends said (Ok true) taken later failed failures result
-    → Sends (answer_text answer) (next_of answer) taken later failed failures result
-sends_as answer said taken later failed failures result says goes_on h =
-    subst (λ t. Sends t (next_of answer) taken later failed failures result) (sym says)
-    (subst (λ n. Sends said n taken later failed failures result) (sym goes_on) h)
+-- a text that is another one is written as that is
+pub sent_as : (wanted said : List ℕ) (taken later : Option (List ℕ)) (failed failures : ℕ)
+    (result : Result Bool LineFault) → wanted ≡ said → Sends said (Ok true) taken later failed failures result
+    → Sends wanted (Ok true) taken later failed failures result
+sent_as wanted said taken later failed failures result is h =
+    subst (λ t. Sends t (Ok true) taken later failed failures result) (sym is) h
 
 -- ---- the state text
 module _ (state of : State) (is : state ≡ of) (taken later : Option (List ℕ)) (failed failures : ℕ) where

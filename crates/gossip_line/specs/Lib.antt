@@ -4,3 +4,4 @@ pub mod Commands
 pub mod Answers
 pub mod Session
 pub mod Pull
+pub mod Steps

@@ -3,8 +3,6 @@ use Rattle.std.specs.Prelude.{ℕ, Bool, true, false, List, ◌++◌, codes, fla
 use Rattle.byte_ends.specs.Lines.{as_line}
 use Rattle.gossip_line.specs.declared.fault.LineFault.{LineFault}
 use Rattle.gossip_line.specs.declared.fault.LineFault.TheVariants.{BadVersion}
-use Rattle.op_text.specs.declared.fault.OpTextFault.{OpTextFault}
-use Rattle.op_text.specs.declared.fault.OpTextFault.TheVariants as text
 use Rattle.op_text.specs.Text.{operation_text}
 use Rattle.report_text.specs.Report.{report_of}
 use Rattle.report_text.specs.StateText.{state_text}
@@ -49,11 +47,6 @@ lacked_text ops more = flat_map operation_line ops ++ rest_line more
 
 abbrev pub no_memory_line : List ℕ
 no_memory_line = codes "no 5 NoMemory\n"
-
--- where the text after a command isn't read
-abbrev pub unread_line : OpTextFault → List ℕ
-unread_line text.NoMemory = no_memory_line
-unread_line fault = codes "no 7 BadText\n"
 
 abbrev pub refusal_line : PortFault → List ℕ
 refusal_line port.ClockSpent = codes "no 9 ClockSpent\n"

@@ -6,7 +6,7 @@ ghost use Rattle.gossip_line.specs.Session.{EndsUnread, Moment, Session};
 
 use super::answer::answer;
 use super::fault::LineFault;
-use super::send::send;
+use super::step::say_too_long;
 use byte_ends::{BytesFault, Drain, Source};
 use line_reader::{LINE_LIMIT, LineReader};
 use site_port::Port;
@@ -73,10 +73,7 @@ fn end_unread<D: Drain>(fault: BytesFault, drain: &mut D) -> Result<(), LineFaul
         (D.failed drain.new) result }
 {
     match fault {
-        BytesFault::TooLong => {
-            send(drain, "no 1 LongLine\n")?;
-            Err(LineFault::LongLine)
-        }
+        BytesFault::TooLong => say_too_long(drain),
         BytesFault::ReadFault => Err(LineFault::ReadFault),
         BytesFault::NoMemory => Err(LineFault::NoMemory),
     }

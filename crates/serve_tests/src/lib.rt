@@ -5,6 +5,8 @@
 #[cfg(test)]
 mod connections;
 #[cfg(test)]
+mod crowds;
+#[cfg(test)]
 mod feeds;
 #[cfg(test)]
 mod gossip;

@@ -4,6 +4,9 @@ use Rattle.std.specs.Prelude.{◌≡◌, Bool, true, IfOk, List, Option, None, S
 use Rattle.replica_core.specs.Journal.{has_stamp}
 use Rattle.review_ops.specs.Operation.{Operation}
 use Rattle.review_ops.specs.Timestamp.{Timestamp}
+use Rattle.site_serve.specs.declared.ask.Ask.{Ask}
+use Rattle.site_serve.specs.declared.ask.Ask.TheVariants as ask
+use Rattle.site_serve.specs.declared.ask.Asker.{Asker}
 use Rattle.site_shared.specs.Accounts.{Account, record_of}
 use Rattle.site_shared.specs.declared.fault.DeskFault.{DeskFault}
 
@@ -19,3 +22,8 @@ IsTakenInto journal held = IfOk held (λ stamp. has_stamped journal stamp ≡ tr
 -- what was stamped is among all that was published or is held
 abbrev pub IsHeldBy : Account → Result (Option Timestamp) DeskFault → Type 0
 IsHeldBy account = IsTakenInto (record_of account)
+
+-- who asked
+abbrev pub asker_of : Ask → Asker
+asker_of (ask.Intake asker draft) = asker
+asker_of (ask.TakeAll asker ops) = asker

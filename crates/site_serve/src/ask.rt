@@ -1,4 +1,4 @@
-//! What the threads of a site ask its desk, and what it answers.
+//! What a site's desk is asked, and what it answers.
 
 ghost use Rattle.std.specs.Prelude.{◌≡◌, true};
 ghost use Rattle.std.specs.Arc.{arc_value};
@@ -12,13 +12,22 @@ use site_shared::{BrandedReceipt, DeskFault, Naming};
 use std::alloc::Global;
 use std::sync::Arc;
 
-/// What the desk is asked, and by which worker.
+/// Whom the desk answers.
+#[derive(Clone, Copy, Debug, PartialEq, Eq)]
+pub enum Asker {
+    /// The session of this number, at its place.
+    Session { place: usize, session: u64 },
+    /// A thread that pulls.
+    Puller(usize),
+}
+
+/// What the desk is asked, and by whom.
 #[derive(Drop)]
 pub enum Ask {
     /// To stamp a body and take it in.
-    Intake { worker: usize, draft: Draft },
+    Intake { asker: Asker, draft: Draft },
     /// To take these operations.
-    TakeAll { worker: usize, ops: Vec<Op> },
+    TakeAll { asker: Asker, ops: Vec<Op> },
 }
 
 /// What was published: the receipt that threads share, and the stamp of a body that was taken in. It can't be made
@@ -33,15 +42,15 @@ pub struct Done<J: Naming> {
 /// What was published, or why nothing was.
 pub type Answer<J> = Result<Done<J>, DeskFault>;
 
-/// A worker's way to the desk and back.
+/// A puller's way to the desk and back.
 #[derive(Drop)]
 pub struct Wire<J: Naming> {
-    pub worker: usize,
+    pub puller: usize,
     pub asks: Sender<Ask, Global>,
     pub answers: Receiver<Answer<J>, Global>,
 }
 
-/// What a worker works with: a window to look through, and a wire to the desk.
+/// What a puller works with: a window to look through, and a wire to the desk.
 #[derive(Drop)]
 pub struct Place<J: Naming> {
     pub window: OwnWindow<J>,

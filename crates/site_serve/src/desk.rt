@@ -1,32 +1,25 @@
-//! Keeps the ledger of a site: what its workers ask is held, then kept, then published, and only then answered.
+//! Keeps the ledger of a site: what it is asked is held, then kept, then published, and only then answered.
 
 ghost use Rattle.std.specs.Prelude.{◌≡◌, ◌+◌, ◌<◌, ◌≤◌, [], All, Err, IfErr, IfOk, IsOk, None, Ok, OnErr, OnOk, true};
 ghost use Rattle.std.specs.Prelude.{vec_capacity, vec_len};
 ghost use Rattle.std.specs.Arc.{arc_value};
 ghost use Rattle.replica_core.specs.JournalLaws.{IsPartOf};
-ghost use Rattle.site_serve.specs.Acknowledged.{IsHeldBy, IsTakenInto, has_stamped};
+ghost use Rattle.site_serve.specs.Acknowledged.{IsHeldBy, IsTakenInto, asker_of, has_stamped};
 ghost use Rattle.site_shared.specs.Accounts.{receipt_of, record_of};
 ghost use Rattle.site_shared.specs.Publishes.{arrive};
 
-use super::ask::{Answer, Ask, Done};
-use super::news::News;
+use super::ask::{Answer, Ask, Asker, Done};
 use super::opening::OwnLedger;
-use crossbeam_channel::{Receiver, Sender};
+use super::places::Places;
+use crossbeam_channel::Sender;
 use review_ops::{Draft, Op, Stamp};
 use site_ledger::{Keeps, LedgerFault};
 use site_shared::{BrandedReceipt, DeskFault, Naming};
 use std::alloc::Global;
 use std::sync::{Arc, Wait};
 
-/// How many asks are done at once, so that one sync does for all of them.
-const BATCH: usize = 64;
-
-/// The desk's ends of the channels: one by which all workers ask, and one to each of them.
-#[derive(Drop)]
-pub struct Lines<J: Naming> {
-    pub asks: Receiver<Ask, Global>,
-    pub answers: Vec<Sender<Answer<J>, Global>>,
-}
+/// How many asks are done at once at most, so that one sync does for all of them.
+pub const BATCH: usize = 4096;
 
 /// The journal failed: nothing more is published or answered.
 #[derive(Clone, Copy, Debug)]
@@ -34,76 +27,43 @@ pub struct NotKept;
 
 /// Who waits for an answer, and what was held for that, or why nothing was.
 #[derive(Clone, Copy)]
-struct Waiter {
-    worker: usize,
-    held: Result<Option<Stamp>, DeskFault>,
+pub struct Waiter {
+    pub asker: Asker,
+    pub held: Result<Option<Stamp>, DeskFault>,
+}
+
+/// Where the answers go: to the sessions at their places, and to the pullers by their channels.
+#[derive(Drop)]
+pub struct Replies<'a, J: Naming> {
+    pub places: &'a mut Places<J>,
+    pub pullers: &'a [Sender<Answer<J>, Global>],
+}
+
+impl<'a, J: Naming> Replies<'a, J> {
+    /// Answers who asked.
+    fn reply<R: Wait>(&mut self, rt: &R, alloc: Global, asker: Asker, answer: Answer<J>) {
+        match asker {
+            Asker::Session { place, session } => {
+                self.places.take_answer(alloc, place, session, answer);
+            }
+            Asker::Puller(puller) => {
+                if let Some(answers) = self.pullers.get(puller) {
+                    let _sent = answers.send(rt, answer);
+                }
+            }
+        }
+    }
 }
 
 /// The receipt of a publish that threads share, or why there was none.
 pub type Published<J> = Result<Arc<BrandedReceipt<J>, Global>, DeskFault>;
 
-/// Does what the workers ask, until none of them is left, and brings each receipt to who prints, once who waits is
-/// answered. What is asked is held, and what is held is kept before it is published, and published before it is
-/// answered. Answers the last publish, which has shown all that was taken. Where it can't be kept, those who wait are
-/// answered nothing: their channels end.
-pub fn keep_desk<R: Wait, J: Naming, K: Keeps>(
-    rt: &R,
-    alloc: Global,
+/// Holds what is asked: who asked waits from now on.
+pub fn hold_more<J: Naming, K: Keeps>(
     ledger: &mut OwnLedger<J, K>,
-    news: &News<J>,
-    lines: Lines<J>,
-) -> Result<Published<J>, NotKept>
-    ensures last { IfOk result
-        (λ last. IfOk last (λ receipt. arc_value receipt ≡ receipt_of ledger.new.ledger.account None)) }
-    ensures over { OnErr result (ledger.new.ledger.is_over ≡ true) }
-{
-    let Lines { asks, answers } = lines;
-    let Ok(mut waiters) = Vec::with_capacity(alloc, BATCH) else {
-        return Ok(Err(DeskFault::NoMemory(0)));
-    };
-    for first in asks.iter(rt) {
-        hold_batch(rt, ledger, &asks, first, &mut waiters);
-        let published = publish_and_answer(
-            rt,
-            alloc,
-            ledger,
-            answers.as_slice(),
-            waiters.as_slice(),
-        )?;
-        waiters.clear();
-        if let Ok(receipt) = &published {
-            news.bring(rt, receipt);
-        }
-    }
-    publish_held(rt, alloc, ledger)
-}
-
-/// Holds what is asked, with what else is asked by now. Each ask has a waiter, for whom there is room.
-#[tactic(auto, using(crate::proofs::Held::none_waits))]
-fn hold_batch<R: Wait, J: Naming, K: Keeps>(
-    rt: &R,
-    ledger: &mut OwnLedger<J, K>,
-    asks: &Receiver<Ask, Global>,
-    first: Ask,
+    ask: Ask,
     waiters: &mut Vec<Waiter>,
 )
-    requires none { (waiters.old.items ≡ []) × (vec_len waiters.old ≡ 0) }
-    requires room { BATCH ≤ vec_capacity waiters.old }
-    ensures held { All (λ waiter. IsHeldBy ledger.new.ledger.account waiter.held) waiters.new.items }
-    ensures most { vec_len waiters.new ≤ BATCH }
-    ensures room { vec_capacity waiters.new ≡ vec_capacity waiters.old }
-{
-    hold_more(ledger, first, waiters);
-    for _waiting in 1..BATCH {
-        let Ok(ask) = asks.try_recv(rt) else {
-            return;
-        };
-        hold_more(ledger, ask, waiters);
-    }
-}
-
-/// Holds what a worker asks, who waits from now on.
-fn hold_more<J: Naming, K: Keeps>(ledger: &mut OwnLedger<J, K>, ask: Ask, waiters: &mut Vec<Waiter>)
     requires held { All (λ waiter. IsHeldBy ledger.old.ledger.account waiter.held) waiters.old.items }
     requires room { vec_len waiters.old < vec_capacity waiters.old }
     ensures held { All (λ waiter. IsHeldBy ledger.new.ledger.account waiter.held) waiters.new.items }
@@ -114,18 +74,19 @@ fn hold_more<J: Naming, K: Keeps>(ledger: &mut OwnLedger<J, K>, ask: Ask, waiter
     waiters.push_reserved(waiter);
 }
 
-/// Holds what a worker asks.
+/// Holds what is asked.
 fn hold_ask<J: Naming, K: Keeps>(ledger: &mut OwnLedger<J, K>, ask: Ask) -> Waiter
+    ensures asker { result.asker ≡ asker_of ask }
     ensures held { IsHeldBy ledger.new.ledger.account result.held }
     ensures grows { IsPartOf (record_of ledger.old.ledger.account) (record_of ledger.new.ledger.account) }
 {
     match ask {
-        Ask::Intake { worker, draft } => Waiter {
-            worker,
+        Ask::Intake { asker, draft } => Waiter {
+            asker,
             held: hold_draft(ledger, draft),
         },
-        Ask::TakeAll { worker, ops } => Waiter {
-            worker,
+        Ask::TakeAll { asker, ops } => Waiter {
+            asker,
             held: hold_all_new(ledger, ops),
         },
     }
@@ -162,7 +123,7 @@ fn hold_all_new<J: Naming, K: Keeps>(
 }
 
 /// Has what is held kept, and publishes it.
-fn publish_held<R: Wait, J: Naming, K: Keeps>(
+pub fn publish_held<R: Wait, J: Naming, K: Keeps>(
     rt: &R,
     alloc: Global,
     ledger: &mut OwnLedger<J, K>,
@@ -181,11 +142,11 @@ fn publish_held<R: Wait, J: Naming, K: Keeps>(
 }
 
 /// Has what is held kept, publishes it, and then answers all who wait. Where it can't be kept nobody is answered.
-fn publish_and_answer<R: Wait, J: Naming, K: Keeps>(
+pub fn publish_and_answer<R: Wait, J: Naming, K: Keeps>(
     rt: &R,
     alloc: Global,
     ledger: &mut OwnLedger<J, K>,
-    answers: &[Sender<Answer<J>, Global>],
+    replies: &mut Replies<'_, J>,
     waiters: &[Waiter],
 ) -> Result<Published<J>, NotKept>
     requires { All (λ waiter. IsHeldBy ledger.old.ledger.account waiter.held) waiters.now }
@@ -193,7 +154,7 @@ fn publish_and_answer<R: Wait, J: Naming, K: Keeps>(
 {
     match publish_held(rt, alloc, ledger) {
         Ok(published) => {
-            reply_all(rt, answers, waiters, &published);
+            reply_all(rt, alloc, replies, waiters, &published);
             Ok(published)
         }
         Err(fault) => Err(fault),
@@ -203,7 +164,8 @@ fn publish_and_answer<R: Wait, J: Naming, K: Keeps>(
 /// Answers all who wait, once what was held for them is published or isn't.
 fn reply_all<R: Wait, J: Naming>(
     rt: &R,
-    answers: &[Sender<Answer<J>, Global>],
+    alloc: Global,
+    replies: &mut Replies<'_, J>,
     waiters: &[Waiter],
     published: &Published<J>,
 )
@@ -212,9 +174,7 @@ fn reply_all<R: Wait, J: Naming>(
 {
     for waiter in waiters {
         let answer = answer_to(waiter.held, published);
-        if let Some(answers) = answers.get(waiter.worker) {
-            let _sent = answers.send(rt, answer);
-        }
+        replies.reply(rt, alloc, waiter.asker, answer);
     }
 }
 

@@ -1,7 +1,7 @@
 //! Pulls from peers, round after round.
 
 use super::errors::Errors;
-use super::port::SitePort;
+use super::port::PullPort;
 use byte_ends::{Drain, Ends};
 use gossip_line::{LineFault, pull_run};
 use site_net::{Patience, PatientReader, PatientWriter, Stop, connected};
@@ -44,7 +44,7 @@ pub fn pull_from_peers<R: Wait + Clock + Net<Stream = TcpStream>, E: Drain, J: N
     pulling: Pulling<'_>,
     peers: Vec<Peer>,
     errors: &Errors<E>,
-    port: &mut SitePort<'_, '_, R, J>,
+    port: &mut PullPort<'_, R, J>,
 ) {
     let mut peers = peers;
     for _ in rt.forever() {
@@ -63,7 +63,7 @@ fn pull_round<R: Wait + Clock + Net<Stream = TcpStream>, E: Drain, J: Naming>(
     pulling: Pulling<'_>,
     peers: &mut [Peer],
     errors: &Errors<E>,
-    port: &mut SitePort<'_, '_, R, J>,
+    port: &mut PullPort<'_, R, J>,
 ) {
     for peer in peers {
         let condition = pull_from(rt, pulling, peer.port, port);
@@ -94,7 +94,7 @@ fn pull_from<R: Wait + Clock + Net<Stream = TcpStream>, J: Naming>(
     rt: &R,
     pulling: Pulling<'_>,
     peer: u16,
-    port: &mut SitePort<'_, '_, R, J>,
+    port: &mut PullPort<'_, R, J>,
 ) -> Condition {
     let Ok(stream) = connected(rt, peer, pulling.patience) else {
         return Condition::Unreachable;
@@ -111,7 +111,7 @@ fn pull_over<R: Wait + Clock, J: Naming>(
     rt: &R,
     pulling: Pulling<'_>,
     stream: &TcpStream,
-    port: &mut SitePort<'_, '_, R, J>,
+    port: &mut PullPort<'_, R, J>,
 ) -> io::Result<Result<(), LineFault>> {
     let mut source = Ends::new(PatientReader::new(rt, stream, pulling.stop, pulling.patience)?);
     let mut drain = Ends::new(PatientWriter::new(rt, stream, pulling.patience)?);

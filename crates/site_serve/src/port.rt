@@ -1,73 +1,67 @@
 //! The site, as a session or a pull of it sees it.
 
-ghost use Rattle.std.specs.Prelude.{◌≡◌};
+ghost use Rattle.std.specs.Prelude.{◌≡◌, true};
 ghost use Rattle.std.specs.Option.{ForSome};
+ghost use Rattle.replica_core.specs.JournalLaws.{IsPartOf};
 ghost use Rattle.site_port.specs.Ports.{IsLookingFault};
+ghost use Rattle.site_shared.specs.Accounts.{GoesOn};
+ghost use Rattle.site_shared.specs.Publishes.{arrive};
 
-use super::ask::{Answer, Ask, Done, Place, Wire};
+use super::ask::{Answer, Ask, Asker, Place, Wire};
 use super::kept::{brought_up, copied};
 use super::opening::{OwnWatch, OwnWindow};
 use gate_rules::Gate;
+use mio::Waker;
 use ready_core::Verdicts;
 use replica_core::{Front, Missing, Replica};
 use review_ops::{Draft, Op, Stamp};
 use site_port::{Port, PortFault, Sink, SinkFault};
-use site_shared::{DeskFault, Naming, WindowFault};
+use site_shared::{BrandedReceipt, DeskFault, Naming, WindowFault};
 use std::alloc::Global;
 use std::sync::Wait;
 
 /// How many operations are answered at once.
 const ANSWER_LIMIT: usize = 256;
 
-/// A worker's view of the site: a window to look through, and a wire to the desk. What the desk answered, the window
-/// has learnt.
+/// A worker's view of the site: a window to look through. It takes nothing in: the desk does that.
 #[derive(Drop)]
 pub struct SitePort<'a, 'g, R: Wait, J: Naming> {
     rt: &'a R,
     alloc: Global,
     gate: &'g Gate,
     window: OwnWindow<J>,
-    wire: Wire<J>,
     /// The verdicts of the last report.
     kept: Option<OwnWatch<J>>,
-    is_start_taken: bool,
     ghost under_gate: { ForSome kept (λ watch. watch.watch.gate ≡ gate.now) },
 }
 
 impl<'a, 'g, R: Wait, J: Naming> SitePort<'a, 'g, R, J> {
-    /// The site as it is seen from a place.
+    /// The site as it is seen through a window.
     pub fn new(
         rt: &'a R,
         alloc: Global,
         gate: &'g Gate,
-        place: Place<J>,
+        window: OwnWindow<J>,
     ) -> SitePort<'a, 'g, R, J> {
-        let Place { window, wire } = place;
         SitePort {
             rt,
             alloc,
             gate,
             window,
-            wire,
             kept: None,
-            is_start_taken: false,
         }
     }
 
-    /// Whether a peer has handed over an operation that another process took in as this site.
-    pub fn is_start_taken(&self) -> bool {
-        self.is_start_taken
-    }
-
-    /// Asks the desk, and waits for its answer. None where the desk has ended.
-    fn ask(&mut self, ask: Ask) -> Option<Answer<J>>
-        ensures window { self.new.window ≡ self.old.window }
+    /// Sees no less than a publish from now on. False where that is none of this opening.
+    pub fn learn(&mut self, receipt: &BrandedReceipt<J>) -> bool
+        ensures later { GoesOn self.old.window.window self.new.window.window }
         ensures gate { self.new.gate ≡ self.old.gate }
+        ensures learnt { result ≡ true → IsPartOf (arrive receipt.now.published) (arrive self.new.window.window.seen) }
     {
-        if self.wire.asks.send(self.rt, ask).is_err() {
-            return None;
+        match self.window.learn(receipt) {
+            Ok(()) => true,
+            Err(_) => false,
         }
-        self.wire.answers.recv(self.rt).ok()
     }
 }
 
@@ -76,20 +70,8 @@ impl<'a, 'g, R: Wait, J: Naming> Port for SitePort<'a, 'g, R, J> {
 
     ghost gives = { λ old call reply new. SiteGives old.gate.now old.window.window call reply new.window.window };
 
-    fn intake(&mut self, draft: Draft) -> Result<Stamp, PortFault> {
-        let worker = self.wire.worker;
-        let Some(answer) = self.ask(Ask::Intake { worker, draft }) else {
-            return Err(PortFault::Closed);
-        };
-        let Done { receipt, stamp } = match answer {
-            Ok(done) => done,
-            Err(fault) => return Err(desk_fault(fault)),
-        };
-        let learnt = self.window.learn(&receipt);
-        match (learnt, stamp) {
-            (Ok(()), Some(stamp)) => Ok(stamp),
-            _ => Err(PortFault::Closed),
-        }
+    fn intake(&mut self, _draft: Draft) -> Result<Stamp, PortFault> {
+        Err(PortFault::Closed)
     }
 
     fn missing(&mut self, front: &Front) -> Result<Missing, PortFault> {
@@ -117,7 +99,52 @@ impl<'a, 'g, R: Wait, J: Naming> Port for SitePort<'a, 'g, R, J> {
     }
 }
 
-impl<'a, 'g, R: Wait, J: Naming> Sink for SitePort<'a, 'g, R, J> {
+/// A pull's view of the site: a window to look through, and a wire to the desk. What the desk answered, the window has
+/// learnt.
+#[derive(Drop)]
+pub struct PullPort<'a, R: Wait, J: Naming> {
+    rt: &'a R,
+    waker: &'a Waker,
+    window: OwnWindow<J>,
+    wire: Wire<J>,
+    is_start_taken: bool,
+}
+
+impl<'a, R: Wait, J: Naming> PullPort<'a, R, J> {
+    /// The site as it is seen from a place.
+    pub fn new(rt: &'a R, waker: &'a Waker, place: Place<J>) -> PullPort<'a, R, J> {
+        let Place { window, wire } = place;
+        PullPort {
+            rt,
+            waker,
+            window,
+            wire,
+            is_start_taken: false,
+        }
+    }
+
+    /// Whether a peer has handed over an operation that another process took in as this site.
+    pub fn is_start_taken(&self) -> bool {
+        self.is_start_taken
+    }
+
+    /// Asks the desk, and waits for its answer. None where the desk has ended.
+    fn ask(&mut self, ops: Vec<Op>) -> Option<Answer<J>>
+        ensures window { self.new.window ≡ self.old.window }
+    {
+        let ask = Ask::TakeAll {
+            asker: Asker::Puller(self.wire.puller),
+            ops,
+        };
+        if self.wire.asks.send(self.rt, ask).is_err() {
+            return None;
+        }
+        let _woken = self.waker.wake();
+        self.wire.answers.recv(self.rt).ok()
+    }
+}
+
+impl<'a, R: Wait, J: Naming> Sink for PullPort<'a, R, J> {
     ghost use Rattle.site_serve.specs.SitePorts.{SiteSinks};
 
     ghost sinks = { λ old offer uptake new. SiteSinks old.window.window offer uptake new.window.window };
@@ -138,8 +165,7 @@ impl<'a, 'g, R: Wait, J: Naming> Sink for SitePort<'a, 'g, R, J> {
             }
             Err(fault) => return Err(sink_fault(fault)),
         }
-        let worker = self.wire.worker;
-        match self.ask(Ask::TakeAll { worker, ops }) {
+        match self.ask(ops) {
             Some(Ok(done)) => {
                 let _own = self.window.learn(&done.receipt);
                 Ok(())
@@ -151,7 +177,7 @@ impl<'a, 'g, R: Wait, J: Naming> Sink for SitePort<'a, 'g, R, J> {
 }
 
 /// How a port refuses where the desk does.
-fn desk_fault(fault: DeskFault) -> PortFault {
+pub fn desk_fault(fault: DeskFault) -> PortFault {
     match fault {
         DeskFault::ClockSpent => PortFault::ClockSpent,
         DeskFault::BadBody(cause) => PortFault::BadBody(cause),

@@ -8,32 +8,40 @@ ghost use Rattle.site_serve.specs.Fault.{after_opening};
 ghost use Rattle.site_shared.specs.Accounts.{is_used};
 
 use super::ask::Place;
-use super::desk::{NotKept, Published, keep_desk};
+use super::desk::{NotKept, Published};
 use super::errors::Errors;
 use super::evaluator::{Printed, print_reports, serve_fault};
+use super::floor::{BELL, DOOR, Floor, House, Site, serve_floor};
 use super::gossip::{Condition, Peer, Pulling, pull_from_peers};
+use super::jobs::Worker;
+use super::looks::do_jobs;
 use super::news::News;
 use super::opening::{OwnLedger, OwnWindow};
-use super::port::SitePort;
-use super::seats::{Seats, seated};
-use super::sessions::{Sessions, serve_sessions};
+use super::places::PLACES;
+use super::port::PullPort;
+use super::seats::{Lines, Seats, seated};
 use super::setup::{ServeFault, Served, Setup, Turn};
 use byte_ends::Drain;
 use gate_rules::Gate;
+use mio::net::TcpListener as Listener;
+use mio::{Interest, Poll, Waker};
 use site_ledger::{Keeps, Ledger, NoJournal};
-use site_net::{Door, Patience, Stop};
+use site_net::{Patience, Stop};
 use site_shared::{Desk, Naming, OpenFault, Window, open_site};
 use std::alloc::{AllocError, Global};
 use std::marker::Brand;
 use std::net::{Net, TcpListener, TcpStream};
 use std::sync::Wait;
-use std::sync::atomic::{AtomicBool, AtomicU64, Ordering};
-use std::thread;
+use std::sync::atomic::{AtomicBool, Ordering};
 use std::thread::Threads;
 use std::time::{Clock, Duration};
+use std::{io, thread};
 
-/// How many sessions are answered side by side at most.
+/// How many workers look side by side at most.
 const MOST_WORKERS: usize = 6;
+
+/// How many windows a site has.
+const WINDOWS: usize = 8;
 
 /// How many milliseconds a site waits for the other side of a connection.
 const PATIENCE_MS: u64 = 30_000;
@@ -41,9 +49,10 @@ const PATIENCE_MS: u64 = 30_000;
 /// What the threads of a site share.
 #[derive(Drop)]
 struct Common<'a, E: Drain, T: Turn> {
+    alloc: Global,
     gate: Gate,
     pause: Duration,
-    sessions: Sessions,
+    patience: Patience,
     errors: Errors<E>,
     stop: &'a Stop,
     turn: &'a T,
@@ -113,24 +122,35 @@ where
         idle_ms,
     } = setup;
     let workers = workers.max(1).min(MOST_WORKERS);
-    let Ok(door) = Door::new(listener) else {
+    let Ok((poll, listener)) = polled(rt, listener) else {
         return Err(ServeFault::NoPlace);
     };
     let Ok(peers) = peers_of(alloc, peers.as_slice()) else {
         return Err(ServeFault::NoMemory);
     };
+    let pullers = peers.len().max(1).min(WINDOWS - 1 - workers);
+    let Ok(shares) = shares_of(alloc, peers, pullers) else {
+        return Err(ServeFault::NoMemory);
+    };
     let common = Common {
+        alloc,
         gate,
         pause: Duration::from_millis(pause_ms),
-        sessions: sessions_of(alloc, door, sessions, workers, idle_ms),
+        patience: patience_of(idle_ms),
         errors: Errors::new(errors),
         stop,
         turn,
         is_start_taken: AtomicBool::new(false),
     };
-    match open_site(rt, site, start, workers + 2, replica) {
+    let loft = Loft {
+        poll,
+        listener,
+        most: sessions,
+        workers,
+    };
+    match open_site(rt, site, start, workers + 1 + pullers, replica) {
         Ok((desk, windows)) => run_opened::<Brand, R, W, E, T, K>(
-            rt, &common, peers, desk, windows, output, keeper,
+            rt, &common, loft, shares, desk, windows, output, keeper,
         ),
         Err(fault) => Err(open_fault(fault)),
     }
@@ -148,26 +168,55 @@ fn peers_of(alloc: Global, ports: &[u16]) -> Result<Vec<Peer>, AllocError> {
     Ok(peers)
 }
 
-/// Sessions that come in by a door.
-fn sessions_of(alloc: Global, door: Door, most: u64, workers: usize, idle_ms: u64) -> Sessions {
+/// Peers in as many shares as there are threads that pull.
+fn shares_of(
+    alloc: Global,
+    peers: Vec<Peer>,
+    pullers: usize,
+) -> Result<Vec<Vec<Peer>>, AllocError> {
+    let mut shares = Vec::with_capacity(alloc, pullers)?;
+    for _ in 0..pullers {
+        shares.push(Vec::new(alloc))?;
+    }
+    let mut next = 0;
+    for peer in peers {
+        if let Some(share) = shares.get_mut(next) {
+            share.push(peer)?;
+        }
+        next = if next + 1 < pullers { next + 1 } else { 0 };
+    }
+    Ok(shares)
+}
+
+/// What the loop is made of.
+#[derive(Drop)]
+struct Loft {
+    poll: Poll,
+    listener: Listener,
+    most: u64,
+    workers: usize,
+}
+
+/// A poll, and a listener that it reports.
+fn polled<R: Net>(rt: &R, listener: TcpListener) -> io::Result<(Poll, Listener)> {
+    listener.set_nonblocking(true)?;
+    let poll = Poll::new(rt)?;
+    let mut listener = Listener::from_std(listener);
+    poll.registry()
+        .register(&mut listener, DOOR, Interest::READABLE)?;
+    Ok((poll, listener))
+}
+
+/// The patience with the other sides of connections.
+fn patience_of(idle_ms: u64) -> Patience {
     let idle = if idle_ms > 0 {
         Some(Duration::from_millis(idle_ms))
     } else {
         None
     };
-    Sessions {
-        alloc,
-        door,
-        most,
-        claimed: AtomicU64::new(0),
-        accepted: AtomicU64::new(0),
-        ended: AtomicU64::new(0),
-        workers: u64::try_from(workers).unwrap_or(u64::MAX),
-        busy: AtomicU64::new(0),
-        patience: Patience {
-            limit: Duration::from_millis(PATIENCE_MS),
-            idle,
-        },
+    Patience {
+        limit: Duration::from_millis(PATIENCE_MS),
+        idle,
     }
 }
 
@@ -186,7 +235,8 @@ fn open_fault(fault: OpenFault) -> ServeFault
 fn run_opened<J, R, W, E, T, K>(
     rt: &R,
     common: &Common<'_, E, T>,
-    peers: Vec<Peer>,
+    loft: Loft,
+    shares: Vec<Vec<Peer>>,
     desk: Desk,
     windows: Vec<Window>,
     output: W,
@@ -205,17 +255,78 @@ where
     requires keeper { (first : List Operation) × K.holds keeper first }
 {
     let mut ledger: OwnLedger<J, K> = OwnLedger::new(Ledger::new(desk, keeper));
-    let served = match seated(common.sessions.alloc, windows) {
-        Ok(Some(seats)) => {
-            let news = News::new();
-            let ended = run_threads(rt, common, peers, &mut ledger, &news, seats, output);
-            left_of(ended, common.is_start_taken.load(Ordering::SeqCst))
-        }
+    let served = match seated(common.alloc, windows, loft.workers, PLACES) {
+        Ok(Some(seats)) => { run_seated(rt, common, loft, shares, &mut ledger, seats, output) }
         Ok(None) => Err(ServeFault::NoPlace),
         Err(_) => Err(ServeFault::NoMemory),
     };
     ledger.end(rt);
     served
+}
+
+/// Runs a site whose threads have their seats.
+fn run_seated<J, R, W, E, T, K>(
+    rt: &R,
+    common: &Common<'_, E, T>,
+    loft: Loft,
+    shares: Vec<Vec<Peer>>,
+    ledger: &mut OwnLedger<J, K>,
+    seats: Seats<J>,
+    output: W,
+) -> Result<Served, ServeFault>
+where
+    J: Naming + Send + Sync,
+    R: Net<Listener = TcpListener, Stream = TcpStream> + Threads + Wait + Clock + Sync,
+    W: Drain + Send + Drop,
+    E: Drain + Send + Drop,
+    T: Turn + Sync,
+    K: Keeps,
+{
+    let news = News::new();
+    let Seats {
+        reports,
+        pullers,
+        workers,
+        lines,
+    } = seats;
+    let Loft {
+        poll,
+        listener,
+        most,
+        workers: _,
+    } = loft;
+    let Ok(waker) = Waker::new(poll.registry(), BELL) else {
+        return Err(ServeFault::NoPlace);
+    };
+    let house = House {
+        alloc: common.alloc,
+        poll,
+        listener,
+        patience: common.patience,
+        most,
+    };
+    let Ok(floor) = Floor::new(house) else {
+        return Err(ServeFault::NoMemory);
+    };
+    let hands = Hands {
+        reports,
+        pullers,
+        workers,
+        waker: &waker,
+    };
+    let ended = run_threads(
+        rt, common, shares, ledger, &news, hands, floor, lines, output,
+    );
+    left_of(ended, common.is_start_taken.load(Ordering::SeqCst))
+}
+
+/// The seats of the threads beside the loop.
+#[derive(Drop)]
+struct Hands<'a, J: Naming> {
+    reports: OwnWindow<J>,
+    pullers: Vec<Place<J>>,
+    workers: Vec<Worker<J>>,
+    waker: &'a Waker,
 }
 
 /// How the threads of a site ended.
@@ -229,14 +340,16 @@ struct Ended<J: Naming> {
     is_refused: bool,
 }
 
-/// Runs the threads of a site, and keeps its ledger in this one until all have ended.
+/// Runs the threads of a site, and its loop in this one.
 fn run_threads<J, R, W, E, T, K>(
     rt: &R,
     common: &Common<'_, E, T>,
-    peers: Vec<Peer>,
+    shares: Vec<Vec<Peer>>,
     ledger: &mut OwnLedger<J, K>,
     news: &News<J>,
-    seats: Seats<J>,
+    hands: Hands<'_, J>,
+    floor: Floor,
+    lines: Lines<J>,
     output: W,
 ) -> Ended<J>
 where
@@ -247,12 +360,12 @@ where
     T: Turn + Sync,
     K: Keeps,
 {
-    let Seats {
+    let Hands {
         reports,
-        puller,
+        pullers,
         workers,
-        lines,
-    } = seats;
+        waker,
+    } = hands;
     thread::scope(
         thread::scope_env(),
         rt,
@@ -260,19 +373,25 @@ where
             requires { IsSync R.row × IsSend J.row × IsSync J.row × IsSend W.row × IsSend E.row × IsSync T.row }
         {
             let reports = scope.spawn(move || print_all(rt, common, news, reports, output));
-            // What a refused thread was to have goes at once: the desk works on until no place is left.
-            let mut is_refused = scope
-                .spawn(move || pull(rt, common, peers, puller))
-                .is_err();
-            for place in workers {
-                let worker = scope.spawn(move || answer(rt, common, place));
+            let mut is_refused = false;
+            for (peers, place) in shares.into_iter().zip(pullers) {
+                let puller = scope.spawn(move || pull(rt, common, waker, peers, place));
+                is_refused |= puller.is_err();
+            }
+            for worker in workers {
+                let worker = scope.spawn(move || work(rt, common, waker, worker));
                 is_refused |= worker.is_err();
             }
             if is_refused {
-                stop_all(rt, common);
+                common.stop.ask(rt);
             }
-            let flushed = keep_desk(rt, common.sessions.alloc, ledger, news, lines);
-            stop_all(rt, common);
+            let site = Site {
+                news,
+                errors: &common.errors,
+                stop: common.stop,
+            };
+            let flushed = serve_floor(rt, site, floor, lines, ledger);
+            common.stop.ask(rt);
             close(rt, news, &flushed);
             let printed = match reports {
                 Ok(reports) => Some(reports.join(rt)),
@@ -287,12 +406,6 @@ where
     )
 }
 
-/// Asks all threads to stop, and has no more sessions come.
-fn stop_all<R: Wait, E: Drain, T: Turn>(rt: &R, common: &Common<'_, E, T>) {
-    common.stop.ask(rt);
-    let _shut = common.sessions.door.shut();
-}
-
 /// Prints the reports.
 fn print_all<R: Wait + Clock, W: Drain + Drop, E: Drain, T: Turn, J: Naming>(
     rt: &R,
@@ -301,56 +414,52 @@ fn print_all<R: Wait + Clock, W: Drain + Drop, E: Drain, T: Turn, J: Naming>(
     window: OwnWindow<J>,
     output: W,
 ) -> Printed<J> {
-    print_reports(
-        rt,
-        common.sessions.alloc,
-        &common.gate,
-        news,
-        window,
-        output,
-    )
+    print_reports(rt, common.alloc, &common.gate, news, window, output)
 }
 
-/// Pulls from the peers, and shuts the door once the site stops. It notes whether another process takes in as this
-/// site.
-fn pull<R, E, T, J>(rt: &R, common: &Common<'_, E, T>, peers: Vec<Peer>, place: Place<J>)
+/// Pulls from its share of the peers. It notes whether another process takes in as this site.
+fn pull<R, E, T, J>(
+    rt: &R,
+    common: &Common<'_, E, T>,
+    waker: &Waker,
+    peers: Vec<Peer>,
+    place: Place<J>,
+)
 where
     R: Wait + Clock + Net<Stream = TcpStream>,
     E: Drain,
     T: Turn,
     J: Naming,
 {
-    let alloc = common.sessions.alloc;
     let pulling = Pulling {
-        alloc,
+        alloc: common.alloc,
         pause: common.pause,
-        patience: common.sessions.patience,
+        patience: common.patience,
         stop: common.stop,
     };
-    let mut port = SitePort::new(rt, alloc, &common.gate, place);
+    let mut port = PullPort::new(rt, waker, place);
     pull_from_peers(rt, pulling, peers, &common.errors, &mut port);
-    common
-        .is_start_taken
-        .store(port.is_start_taken(), Ordering::SeqCst);
-    let _shut = common.sessions.door.shut();
+    if port.is_start_taken() {
+        common.is_start_taken.store(true, Ordering::SeqCst);
+    }
 }
 
-/// Answers sessions.
-fn answer<R, E, T, J>(rt: &R, common: &Common<'_, E, T>, place: Place<J>)
+/// Looks for sessions.
+fn work<R, E, T, J>(rt: &R, common: &Common<'_, E, T>, waker: &Waker, worker: Worker<J>)
 where
-    R: Wait + Clock,
+    R: Wait,
     E: Drain,
     T: Turn,
     J: Naming,
 {
     let Common {
+        alloc,
         gate,
-        sessions,
         errors,
+        turn,
         ..
     } = common;
-    let mut port = SitePort::new(rt, sessions.alloc, gate, place);
-    serve_sessions(rt, sessions, common.stop, errors, common.turn, &mut port);
+    do_jobs(rt, *alloc, gate, worker, waker, errors, *turn);
 }
 
 /// Brings the last publish, and has nothing new come any more.

@@ -2,14 +2,14 @@
 
 ghost use Rattle.std.specs.Prelude.{◌≡◌, All};
 
-use super::ask::{Place, Wire};
-use super::desk::Lines;
+use super::ask::{Answer, Ask, Place, Wire};
+use super::jobs::{Job, Reply, Worker};
 use super::opening::OwnWindow;
-use crossbeam_channel::bounded;
+use crossbeam_channel::{Receiver, Sender, bounded};
 use site_shared::{Naming, Window};
 use std::alloc::{AllocError, Global};
 
-/// How many asks may wait for the desk.
+/// How many asks of pulls may wait for the desk.
 const WAITING_ASKS: usize = 8;
 
 /// Where the threads of a site sit.
@@ -17,18 +17,30 @@ const WAITING_ASKS: usize = 8;
 pub struct Seats<J: Naming> {
     /// The window of the thread that prints the reports.
     pub reports: OwnWindow<J>,
-    /// The place of the thread that pulls from the peers.
-    pub puller: Place<J>,
-    /// The places of those that answer sessions.
-    pub workers: Vec<Place<J>>,
-    /// The desk's ends of all channels.
+    /// The places of those that pull from the peers.
+    pub pullers: Vec<Place<J>>,
+    /// Those that look for sessions.
+    pub workers: Vec<Worker<J>>,
+    /// The ends of all channels that are the loop's.
     pub lines: Lines<J>,
 }
 
-/// A seat for each thread. None where there are fewer than two windows.
+/// The ends of the channels that are the loop's.
+#[derive(Drop)]
+pub struct Lines<J: Naming> {
+    pub jobs: Sender<Job<J>, Global>,
+    pub replies: Receiver<Reply, Global>,
+    pub asks: Receiver<Ask, Global>,
+    pub answers: Vec<Sender<Answer<J>, Global>>,
+}
+
+/// A seat for each thread: so many workers, and a puller at each window that is left. None where there are fewer windows
+/// than workers and one.
 pub fn seated<J: Naming>(
     alloc: Global,
     windows: Vec<Window>,
+    workers: usize,
+    jobs: usize,
 ) -> Result<Option<Seats<J>>, AllocError>
     requires { All (λ window. window.book ≡ J.book) windows.items }
 {
@@ -36,45 +48,73 @@ pub fn seated<J: Naming>(
     let Some(own) = windows.pop() else {
         return Ok(None);
     };
-    let (places, lines) = wired(alloc, windows)?;
-    let mut workers = places;
-    let Some(puller) = workers.pop() else {
+    let (given, taken) = bounded(alloc, jobs)?;
+    let (answered, replies) = bounded(alloc, jobs)?;
+    let Some(hired) = hired(alloc, &mut windows, workers, &taken, &answered)? else {
         return Ok(None);
     };
+    let (asks, asked) = bounded(alloc, WAITING_ASKS)?;
+    let (pullers, answers) = wired(alloc, windows, &asks)?;
     Ok(Some(Seats {
         reports: OwnWindow::new(own),
-        puller,
-        workers,
-        lines,
+        pullers,
+        workers: hired,
+        lines: Lines {
+            jobs: given,
+            replies,
+            asks: asked,
+            answers,
+        },
     }))
 }
 
-/// A place at each window, with channels to the desk.
+/// So many workers, each at a window of its own. None where there are fewer windows.
+fn hired<J: Naming>(
+    alloc: Global,
+    windows: &mut Vec<Window>,
+    workers: usize,
+    jobs: &Receiver<Job<J>, Global>,
+    replies: &Sender<Reply, Global>,
+) -> Result<Option<Vec<Worker<J>>>, AllocError>
+    requires { All (λ window. window.book ≡ J.book) windows.old.items }
+    ensures { All (λ window. window.book ≡ J.book) windows.new.items }
+{
+    let mut hired = Vec::new(alloc);
+    for _worker in 0..workers {
+        let Some(window) = windows.pop() else {
+            return Ok(None);
+        };
+        hired.push(Worker {
+            window: OwnWindow::new(window),
+            jobs: jobs.clone()?,
+            replies: replies.clone()?,
+        })?;
+    }
+    Ok(Some(hired))
+}
+
+/// A puller's place at each window, and the desk's ends of the channels back to them.
 fn wired<J: Naming>(
     alloc: Global,
     windows: Vec<Window>,
-) -> Result<(Vec<Place<J>>, Lines<J>), AllocError>
+    asks: &Sender<Ask, Global>,
+) -> Result<(Vec<Place<J>>, Vec<Sender<Answer<J>, Global>>), AllocError>
     requires { All (λ window. window.book ≡ J.book) windows.items }
 {
-    let (asks, taken) = bounded(alloc, WAITING_ASKS)?;
-    let mut places = Vec::new(alloc);
+    let mut pullers = Vec::new(alloc);
     let mut answers = Vec::new(alloc);
     for window in windows {
         let (answer, answered) = bounded(alloc, 1)?;
         let wire = Wire {
-            worker: answers.len(),
+            puller: answers.len(),
             asks: asks.clone()?,
             answers: answered,
         };
         answers.push(answer)?;
-        places.push(Place {
+        pullers.push(Place {
             window: OwnWindow::new(window),
             wire,
         })?;
     }
-    let lines = Lines {
-        asks: taken,
-        answers,
-    };
-    Ok((places, lines))
+    Ok((pullers, answers))
 }

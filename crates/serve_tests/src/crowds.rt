@@ -1,0 +1,192 @@
+//! Sessions side by side, and lines that come at once or in pieces.
+
+use super::sites::{
+    NoTurn, PASS_ON, ending, listening, one_session, pulling, run_one, stall, talk, text_of,
+};
+use site_net::Stop;
+use site_serve::Setup;
+use std::alloc::Global;
+use std::io::Write;
+use std::net::{Net, Shutdown, TcpListener, TcpStream};
+use std::process::Abort;
+use std::sync::Wait;
+use std::test::Fail;
+use std::thread::Threads;
+use std::time::{Clock, Duration, Instant};
+use std::{io, thread};
+
+/// How many clients are silent.
+const SILENT: usize = 200;
+
+/// Connects so many clients that say nothing, or only that they are there.
+fn silent_crowd<R: Net<Stream = TcpStream>>(
+    rt: &R,
+    alloc: Global,
+    port: u16,
+) -> io::Result<Vec<TcpStream>> {
+    let mut crowd = Vec::new(alloc);
+    for number in 0..SILENT {
+        let said = if number % 2 == 0 { "" } else { "hello 2\n" };
+        crowd.push(stall(rt, port, said)?)?;
+    }
+    Ok(crowd)
+}
+
+/// What a client is answered beside a silent crowd.
+fn talk_beside_crowd<R: Net<Listener = TcpListener, Stream = TcpStream> + Wait>(
+    rt: &R,
+    alloc: Global,
+    port: u16,
+    stop: &Stop,
+) -> io::Result<String> {
+    let crowd = silent_crowd(rt, alloc, port);
+    let answers = talk(rt, alloc, port, PASS_ON);
+    stop.ask(rt);
+    let _ended = crowd?;
+    answers
+}
+
+#[test]
+fn a_silent_crowd_holds_no_other_and_no_end(rt: HostRuntime) -> Result<(), Fail> {
+    let alloc = rt.alloc();
+    let began = Instant::now(&rt)?;
+    let (listener, port) = listening(&rt)?;
+    let setup = pulling(alloc, 1, &[])?;
+    let stop = Stop::new();
+    let (ended, answers) = thread::join(
+        &rt,
+        || ending(run_one(&rt, alloc, listener, setup, &stop, &NoTurn)),
+        || talk_beside_crowd(&rt, alloc, port, &stop),
+    );
+    assert_eq!(rt; ended, Some((0, true, false)));
+    assert_eq!(rt; text_of(&answers), "hello 2\ndone\nbye\n");
+    assert!(rt; began.elapsed(&rt)? < Duration::from_secs(20));
+    Ok(())
+}
+
+/// Runs a site for one session, which sends these pieces one after the other with a pause between: what it is answered.
+fn answers_to<R>(rt: &R, alloc: Global, setup: Setup, pieces: &[&str]) -> io::Result<String>
+where
+    R: Net<Listener = TcpListener, Stream = TcpStream> + Threads + Wait + Clock + Sync,
+{
+    let (listener, port) = listening(rt)?;
+    let stop = Stop::new();
+    let (_served, answers) = thread::join(
+        rt,
+        || run_one(rt, alloc, listener, setup, &stop, &NoTurn),
+        || send_pieces(rt, alloc, port, pieces),
+    );
+    answers
+}
+
+/// What a site answers to pieces of lines.
+fn send_pieces<R: Net<Listener = TcpListener, Stream = TcpStream> + Clock + Wait>(
+    rt: &R,
+    alloc: Global,
+    port: u16,
+    pieces: &[&str],
+) -> io::Result<String> {
+    let mut stream = TcpStream::connect(rt, ("127.0.0.1", port))?;
+    stream.set_nodelay(true)?;
+    for piece in pieces {
+        stream.write_all(piece.as_bytes())?;
+        let _ = thread::sleep(rt, Duration::from_millis(30));
+    }
+    stream.shutdown(Shutdown::Write)?;
+    io::read_to_string(alloc, stream)
+}
+
+#[test]
+fn lines_may_come_in_pieces(rt: HostRuntime) -> Result<(), Fail> {
+    let setup = one_session(rt.alloc(), 1)?;
+    let pieces = [
+        "hel",
+        "lo 2\r\ntake {\"change\":7,",
+        "\"op\":\"merged\"}",
+        "\nfront []\nqu",
+        "it\n",
+    ];
+    let answers = answers_to(&rt, rt.alloc(), setup, pieces.as_slice());
+    assert_eq!(rt;
+        text_of(&answers),
+        "hello 2\nok 1,1,1,1\nop {\"change\":7,\"op\":\"merged\",\"seq\":1,\"site\":1,\"start\":1,\"time\":1}\ndone\nbye\n"
+    );
+    Ok(())
+}
+
+/// How many bodies are taken in at once.
+const AT_ONCE: u32 = 300;
+
+/// The lines of a session that takes in so many bodies, with a look after each hundredth, and what they are answered.
+fn taking_many(alloc: Global) -> Result<(String, String), Fail> {
+    let mut lines = String::new(alloc);
+    let mut wanted = String::new(alloc);
+    lines.push_str("hello 2\n")?;
+    wanted.push_str("hello 2\n")?;
+    for number in 1..=AT_ONCE {
+        let line = format!(in alloc; "take {{\"change\":{number},\"op\":\"merged\"}}\n")?;
+        lines.push_str(line.as_str())?;
+        let answer = format!(in alloc; "ok {number},1,1,{number}\n")?;
+        wanted.push_str(answer.as_str())?;
+        if number % 100 == 0 {
+            let line = format!(in alloc; "front [[1,1,{number}]]\nno command\n")?;
+            lines.push_str(line.as_str())?;
+            wanted.push_str("done\nno 6 BadCommand\n")?;
+        }
+    }
+    lines.push_str("quit\n")?;
+    wanted.push_str("bye\n")?;
+    Ok((lines, wanted))
+}
+
+/// Each answer stands at the place of its line, and a look sees what was taken in before it.
+#[test]
+fn lines_at_once_are_answered_in_order(rt: HostRuntime) -> Result<(), Fail> {
+    let setup = one_session(rt.alloc(), 1)?;
+    let (lines, wanted) = taking_many(rt.alloc())?;
+    let answers = answers_to(&rt, rt.alloc(), setup, [lines.as_str()].as_slice());
+    assert_eq!(rt; text_of(&answers), wanted.as_str());
+    Ok(())
+}
+
+/// How many times a client asks for a large answer.
+const ASKED: usize = 100;
+
+/// How many bytes a client that begins to read late is answered, where it asks again and again for a patch set with a
+/// message of 60,000 bytes.
+fn read_late<R: Net<Listener = TcpListener, Stream = TcpStream> + Clock + Wait>(
+    rt: &R,
+    alloc: Global,
+    port: u16,
+) -> io::Result<usize> {
+    let mut message = String::new(alloc);
+    for _ in 0..60_000 {
+        message.push('m')?;
+    }
+    let mut stream = stall(rt, port, "hello 2\ntake {\"change\":7,\"message\":\"")?;
+    stream.write_all(message.as_bytes())?;
+    stream.write_all(b"\",\"op\":\"patchset\",\"set\":1}\n")?;
+    for _ in 0..ASKED {
+        stream.write_all(b"front []\n")?;
+    }
+    stream.write_all(b"quit\n")?;
+    let _ = thread::sleep(rt, Duration::from_millis(300));
+    let answers = io::read_to_string(alloc, stream)?;
+    Ok(answers.len())
+}
+
+#[test]
+fn who_reads_late_is_answered_all(rt: HostRuntime) -> Result<(), Fail> {
+    let alloc = rt.alloc();
+    let (listener, port) = listening(&rt)?;
+    let setup = one_session(alloc, 1)?;
+    let stop = Stop::new();
+    let (ended, count) = thread::join(
+        &rt,
+        || ending(run_one(&rt, alloc, listener, setup, &stop, &NoTurn)),
+        || read_late(&rt, alloc, port),
+    );
+    assert_eq!(rt; ended, Some((1, true, false)));
+    assert!(rt; matches!(count, Ok(count) if count > ASKED * 60_000));
+    Ok(())
+}

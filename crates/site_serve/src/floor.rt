@@ -1,0 +1,488 @@
+//! The thread that has all sockets and the desk of a site: in each turn it reads what is there, holds what is to be
+//! taken in, publishes that, and only then writes the answers.
+
+ghost use Rattle.std.specs.Prelude.{◌≡◌, ◌≤◌, [], All, IfOk, None, OnErr, true, vec_capacity, vec_len};
+ghost use Rattle.std.specs.Arc.{arc_value};
+ghost use Rattle.site_serve.specs.Acknowledged.{IsHeldBy};
+ghost use Rattle.site_shared.specs.Accounts.{receipt_of};
+
+use super::desk::{
+    BATCH, NotKept, Published, Replies, Waiter, hold_more, publish_and_answer, publish_held,
+};
+use super::errors::Errors;
+use super::jobs::{Job, Task};
+use super::lines::{Means, do_lines};
+use super::news::News;
+use super::opening::OwnLedger;
+use super::places::Places;
+use super::seats::Lines;
+use super::session::Session;
+use byte_ends::Drain;
+use mio::net::{TcpListener, TcpStream};
+use mio::{Events, Interest, Poll, Token};
+use site_ledger::Keeps;
+use site_net::{Patience, Stop};
+use site_shared::{DeskFault, Naming};
+use std::alloc::{AllocError, Global};
+use std::sync::Wait;
+use std::time::{Clock, Duration, Instant};
+
+/// The token of the listener, and that of who has done something for the loop.
+pub const DOOR: Token = Token(usize::MAX);
+
+pub const BELL: Token = Token(usize::MAX - 1);
+
+/// How many milliseconds a turn waits for something to do.
+const TICK_MS: u64 = 100;
+
+/// How many milliseconds are left to write what waits once the site stops.
+const LAST_MS: u64 = 400;
+
+/// How many bytes are read at once.
+const BLOCK: usize = 65_536;
+
+/// How many connections are accepted in a turn, and how many asks of pullers are done.
+const GUESTS: usize = 64;
+
+/// How many things are noted in a turn.
+const EVENTS: usize = 256;
+
+/// What the loop has beside the sessions.
+#[derive(Drop)]
+pub struct Floor {
+    alloc: Global,
+    poll: Poll,
+    events: Events,
+    listener: Option<TcpListener>,
+    buffer: Vec<u8>,
+    patience: Patience,
+    /// How many sessions there are to be; without end where that is 0.
+    most: u64,
+    accepted: u64,
+    ended: u64,
+    may_accept: bool,
+    is_rung: bool,
+    /// How long the loop has run, when it last looked at the clock for its sessions, when it last said that all places
+    /// are taken, and when it was stopped.
+    now: Duration,
+    looked: Duration,
+    refused: Option<Duration>,
+    stopped: Option<Duration>,
+}
+
+/// What the loop is run with.
+#[derive(Drop)]
+pub struct House {
+    pub alloc: Global,
+    pub poll: Poll,
+    pub listener: TcpListener,
+    pub patience: Patience,
+    /// How many sessions there are to be; without end where that is 0.
+    pub most: u64,
+}
+
+impl Floor {
+    /// A loop that has accepted nothing yet.
+    pub fn new(house: House) -> Result<Floor, AllocError> {
+        let House {
+            alloc,
+            poll,
+            listener,
+            patience,
+            most,
+        } = house;
+        Ok(Floor {
+            alloc,
+            poll,
+            events: Events::with_capacity(alloc, EVENTS)?,
+            listener: Some(listener),
+            buffer: vec![in alloc; 0u8; BLOCK]?,
+            patience,
+            most,
+            accepted: 0,
+            ended: 0,
+            may_accept: true,
+            is_rung: false,
+            now: Duration::ZERO,
+            looked: Duration::ZERO,
+            refused: None,
+            stopped: None,
+        })
+    }
+
+    /// Waits until there is something to do, at most so long.
+    fn wait<J: Naming>(&mut self, places: &mut Places<J>) {
+        let limit = if places.listed() > 0 {
+            Duration::ZERO
+        } else {
+            Duration::from_millis(TICK_MS)
+        };
+        let _interrupted = self.poll.poll(&mut self.events, Some(limit));
+        for event in self.events.iter() {
+            let token = event.token();
+            if token == DOOR {
+                self.may_accept = true;
+            } else if token == BELL {
+                self.is_rung = true;
+            } else {
+                places.note_ready(token.0);
+            }
+        }
+    }
+
+    /// Notes what time it is.
+    fn note_time<R: Clock>(&mut self, rt: &R, begun: &Option<Instant>) {
+        if let Some(begun) = begun {
+            if let Ok(now) = begun.elapsed(rt) {
+                self.now = now;
+            }
+        }
+    }
+
+    /// Accepts the connections that wait.
+    fn accept<R: Wait, E: Drain, J: Naming>(
+        &mut self,
+        rt: &R,
+        errors: &Errors<E>,
+        places: &mut Places<J>,
+        lines: &Lines<J>,
+    ) {
+        for _guest in 0..GUESTS {
+            let Some(stream) = self.next_guest() else {
+                return;
+            };
+            match places.free_one() {
+                Some(place) => self.seat(rt, places, lines, place, stream),
+                None => self.refuse(rt, errors),
+            }
+        }
+    }
+
+    /// The next connection that waits.
+    fn next_guest(&mut self) -> Option<TcpStream> {
+        if !self.may_accept || (self.most > 0 && self.accepted >= self.most) {
+            return None;
+        }
+        let Some(listener) = &self.listener else {
+            return None;
+        };
+        match listener.accept() {
+            Ok((stream, _address)) => Some(stream),
+            Err(_) => {
+                self.may_accept = false;
+                None
+            }
+        }
+    }
+
+    /// Says that every place is taken, at most once a second.
+    fn refuse<R: Wait, E: Drain>(&mut self, rt: &R, errors: &Errors<E>) {
+        if let Some(refused) = self.refused {
+            if self.now.saturating_sub(refused) < Duration::from_secs(1) {
+                return;
+            }
+        }
+        self.refused = Some(self.now);
+        errors.all_busy(rt, self.alloc);
+    }
+
+    /// Begins a session at a place.
+    fn seat<R: Wait, J: Naming>(
+        &mut self,
+        rt: &R,
+        places: &mut Places<J>,
+        lines: &Lines<J>,
+        place: usize,
+        stream: TcpStream,
+    ) {
+        self.accepted = self.accepted.wrapping_add(1);
+        let mut stream = stream;
+        let _nodelay = stream.set_nodelay(true);
+        let both = Interest::READABLE | Interest::WRITABLE;
+        let _registered = self
+            .poll
+            .registry()
+            .register(&mut stream, Token(place), both);
+        let session = Session::new(self.alloc, self.accepted, stream, self.now);
+        places.seat(place, session);
+        send_job(rt, lines, place, self.accepted, Task::Enter);
+    }
+
+    /// Takes what the workers have done.
+    fn take_replies<R: Wait, J: Naming>(
+        &mut self,
+        rt: &R,
+        places: &mut Places<J>,
+        lines: &Lines<J>,
+    ) {
+        for _reply in 0..places.count() {
+            let Ok(reply) = lines.replies.try_recv(rt) else {
+                return;
+            };
+            if places.take_reply(reply) {
+                self.ended = self.ended.wrapping_add(1);
+            }
+        }
+    }
+
+    /// Does the lines of all listed sessions.
+    fn do_sessions<R: Wait, J: Naming, K: Keeps>(
+        &mut self,
+        rt: &R,
+        places: &mut Places<J>,
+        lines: &Lines<J>,
+        ledger: &mut OwnLedger<J, K>,
+        waiters: &mut Vec<Waiter>,
+    )
+        requires held { All (λ waiter. IsHeldBy ledger.old.ledger.account waiter.held) waiters.old.items }
+        requires room { BATCH ≤ vec_capacity waiters.old }
+        ensures held { All (λ waiter. IsHeldBy ledger.new.ledger.account waiter.held) waiters.new.items }
+        ensures room { BATCH ≤ vec_capacity waiters.new }
+    {
+        for at in 0..places.listed() {
+            let place = places.listed_at(at).unwrap_or(usize::MAX);
+            if let Some(session) = places.session(place) {
+                let means = Means {
+                    alloc: self.alloc,
+                    place,
+                    now: self.now,
+                    jobs: &lines.jobs,
+                };
+                let buffer = self.buffer.as_mut_slice();
+                do_lines(rt, &means, buffer, session, ledger, waiters);
+            }
+        }
+    }
+
+    /// Writes what waits, and has those sessions end that are over.
+    fn write_all<R: Wait, J: Naming>(&mut self, rt: &R, places: &mut Places<J>, lines: &Lines<J>) {
+        for at in 0..places.listed() {
+            let place = places.listed_at(at).unwrap_or(usize::MAX);
+            if let Some(session) = places.session(place) {
+                session.write(self.now);
+                if session.is_over() {
+                    session.go_away();
+                    session.close();
+                    let (number, ended) = (session.number, session.ended());
+                    send_job(rt, lines, place, number, Task::Leave(ended));
+                }
+            }
+        }
+        places.unlist();
+    }
+
+    /// Ends the sessions with whom there is no patience left, and all where the site stops.
+    fn look_at_clock<J: Naming>(&mut self, places: &mut Places<J>) {
+        if self.now.saturating_sub(self.looked) < Duration::from_millis(TICK_MS) {
+            return;
+        }
+        self.looked = self.now;
+        self.may_accept = true;
+        self.end_sessions(places);
+    }
+
+    /// Ends the sessions with whom there is no patience left, and all where the site stops.
+    fn end_sessions<J: Naming>(&mut self, places: &mut Places<J>) {
+        for place in 0..places.count() {
+            places.end_if_over(place, self.patience, self.now, self.stopped.is_some());
+        }
+    }
+
+    /// Whether the loop is at its end: a while after the stop, or once all sessions have ended.
+    fn is_over<R: Wait, J: Naming>(&mut self, rt: &R, places: &mut Places<J>, stop: &Stop) -> bool {
+        if self.most > 0 && self.ended >= self.most {
+            stop.ask(rt);
+        }
+        let Some(stopped) = self.stopped else {
+            if stop.is_asked() {
+                self.stopped = Some(self.now);
+                self.listener = None;
+                self.end_sessions(places);
+            }
+            return false;
+        };
+        places.are_free() || self.now.saturating_sub(stopped) >= Duration::from_millis(LAST_MS)
+    }
+}
+
+/// Gives a worker something to do for a session. There is room for a job of each place.
+fn send_job<R: Wait, J: Naming>(rt: &R, lines: &Lines<J>, place: usize, session: u64, task: Task) {
+    let job = Job {
+        place,
+        session,
+        receipt: None,
+        task,
+    };
+    let _sent = lines.jobs.send(rt, job);
+}
+
+/// Holds what the pullers hand over.
+fn hold_pulled<R: Wait, J: Naming, K: Keeps>(
+    rt: &R,
+    lines: &Lines<J>,
+    ledger: &mut OwnLedger<J, K>,
+    waiters: &mut Vec<Waiter>,
+)
+    requires held { All (λ waiter. IsHeldBy ledger.old.ledger.account waiter.held) waiters.old.items }
+    requires room { BATCH ≤ vec_capacity waiters.old }
+    ensures held { All (λ waiter. IsHeldBy ledger.new.ledger.account waiter.held) waiters.new.items }
+    ensures room { BATCH ≤ vec_capacity waiters.new }
+{
+    for _ask in 0..GUESTS {
+        if waiters.len() >= BATCH {
+            return;
+        }
+        let Ok(ask) = lines.asks.try_recv(rt) else {
+            return;
+        };
+        hold_more(ledger, ask, waiters);
+    }
+}
+
+/// Publishes what is held where somebody waits for that, and answers all who wait.
+fn publish<R: Wait, J: Naming, K: Keeps>(
+    rt: &R,
+    alloc: Global,
+    ledger: &mut OwnLedger<J, K>,
+    news: &News<J>,
+    replies: &mut Replies<'_, J>,
+    waiters: &[Waiter],
+) -> Result<(), NotKept>
+    requires { All (λ waiter. IsHeldBy ledger.old.ledger.account waiter.held) waiters.now }
+    ensures over { OnErr result (ledger.new.ledger.is_over ≡ true) }
+{
+    if waiters.is_empty() {
+        return Ok(());
+    }
+    let published = publish_and_answer(rt, alloc, ledger, replies, waiters)?;
+    if let Ok(receipt) = &published {
+        news.bring(rt, receipt);
+    }
+    Ok(())
+}
+
+/// What the loop works for.
+#[derive(Drop)]
+pub struct Site<'a, E: Drain, J: Naming> {
+    pub news: &'a News<J>,
+    pub errors: &'a Errors<E>,
+    pub stop: &'a Stop,
+}
+
+/// A turn of the loop. Nobody waits after it.
+#[tactic(auto, using(crate::proofs::Held::none_waits))]
+fn turn<R: Wait + Clock, J: Naming, K: Keeps, E: Drain>(
+    rt: &R,
+    site: &Site<'_, E, J>,
+    floor: &mut Floor,
+    places: &mut Places<J>,
+    lines: &Lines<J>,
+    ledger: &mut OwnLedger<J, K>,
+    waiters: &mut Vec<Waiter>,
+) -> Result<(), NotKept>
+    requires none { (waiters.old.items ≡ []) × (vec_len waiters.old ≡ 0) }
+    requires room { BATCH ≤ vec_capacity waiters.old }
+    ensures none { (waiters.new.items ≡ []) × (vec_len waiters.new ≡ 0) }
+    ensures room { BATCH ≤ vec_capacity waiters.new }
+    ensures over { OnErr result (ledger.new.ledger.is_over ≡ true) }
+{
+    floor.accept(rt, site.errors, places, lines);
+    if floor.is_rung {
+        floor.is_rung = false;
+        floor.take_replies(rt, places, lines);
+        hold_pulled(rt, lines, ledger, waiters);
+    }
+    floor.look_at_clock(places);
+    floor.do_sessions(rt, places, lines, ledger, waiters);
+    let mut replies = Replies {
+        places,
+        pullers: lines.answers.as_slice(),
+    };
+    let published = publish(
+        rt,
+        floor.alloc,
+        ledger,
+        site.news,
+        &mut replies,
+        waiters.as_slice(),
+    );
+    waiters.clear();
+    published?;
+    floor.write_all(rt, replies.places, lines);
+    Ok(())
+}
+
+/// Serves until the site stops, and then does what the pullers still ask. Answers the last publish, which has shown all
+/// that was taken.
+pub fn serve_floor<R: Wait + Clock, J: Naming, K: Keeps, E: Drain>(
+    rt: &R,
+    site: Site<'_, E, J>,
+    floor: Floor,
+    lines: Lines<J>,
+    ledger: &mut OwnLedger<J, K>,
+) -> Result<Published<J>, NotKept>
+    ensures last { IfOk result
+        (λ last. IfOk last (λ receipt. arc_value receipt ≡ receipt_of ledger.new.ledger.account None)) }
+    ensures over { OnErr result (ledger.new.ledger.is_over ≡ true) }
+{
+    let mut floor = floor;
+    let alloc = floor.alloc;
+    let begun = Instant::now(rt).ok();
+    let (Ok(mut places), Ok(mut waiters)) = (Places::new(alloc), Vec::with_capacity(alloc, BATCH))
+    else {
+        return Ok(Err(DeskFault::NoMemory(0)));
+    };
+    for _ in rt.forever() {
+        floor.wait(&mut places);
+        floor.note_time(rt, &begun);
+        turn(
+            rt,
+            &site,
+            &mut floor,
+            &mut places,
+            &lines,
+            ledger,
+            &mut waiters,
+        )?;
+        if floor.is_over(rt, &mut places, site.stop) {
+            return end_asks(rt, alloc, places, lines, ledger, waiters);
+        }
+    }
+    unreachable!()
+}
+
+/// Does what the pullers ask until all of them have ended.
+#[tactic(auto, using(crate::proofs::Held::none_waits))]
+fn end_asks<R: Wait, J: Naming, K: Keeps>(
+    rt: &R,
+    alloc: Global,
+    places: Places<J>,
+    lines: Lines<J>,
+    ledger: &mut OwnLedger<J, K>,
+    waiters: Vec<Waiter>,
+) -> Result<Published<J>, NotKept>
+    requires none { (waiters.items ≡ []) × (vec_len waiters ≡ 0) }
+    requires room { BATCH ≤ vec_capacity waiters }
+    ensures last { IfOk result
+        (λ last. IfOk last (λ receipt. arc_value receipt ≡ receipt_of ledger.new.ledger.account None)) }
+    ensures over { OnErr result (ledger.new.ledger.is_over ≡ true) }
+{
+    let Lines {
+        jobs,
+        replies: _,
+        asks,
+        answers,
+    } = lines;
+    drop(jobs);
+    let (mut places, mut waiters) = (places, waiters);
+    for ask in asks.iter(rt) {
+        hold_more(ledger, ask, &mut waiters);
+        let mut replies = Replies {
+            places: &mut places,
+            pullers: answers.as_slice(),
+        };
+        let _published = publish_and_answer(rt, alloc, ledger, &mut replies, waiters.as_slice())?;
+        waiters.clear();
+    }
+    publish_held(rt, alloc, ledger)
+}

@@ -1,0 +1,55 @@
+//! What the workers of a site do for its sessions.
+
+use super::opening::OwnWindow;
+use crossbeam_channel::{Receiver, Sender};
+use gossip_line::{LineFault, Look};
+use site_shared::{BrandedReceipt, Naming};
+use std::alloc::Global;
+use std::sync::Arc;
+
+/// What a worker does for a session.
+#[derive(Drop)]
+pub enum Task {
+    /// It begins.
+    Enter,
+    /// It asks to look at what the site has.
+    Look(Look),
+    /// It has ended so.
+    Leave(Result<(), LineFault>),
+}
+
+/// A task of the session of a number, at its place. It is shown no less than what its receipt has seen published.
+#[derive(Drop)]
+pub struct Job<J: Naming> {
+    pub place: usize,
+    pub session: u64,
+    pub receipt: Option<Arc<BrandedReceipt<J>, Global>>,
+    pub task: Task,
+}
+
+/// What a worker has done.
+#[derive(Drop)]
+pub enum Work {
+    /// The session has begun.
+    Entered,
+    /// A look is answered so, and the session goes on or not.
+    Looked(Vec<u8>, Result<bool, LineFault>),
+    /// The session has ended.
+    Left,
+}
+
+/// What a worker has done for the session of a number, at its place.
+#[derive(Drop)]
+pub struct Reply {
+    pub place: usize,
+    pub session: u64,
+    pub work: Work,
+}
+
+/// What a worker works with: a window to look through, and the ends of two channels.
+#[derive(Drop)]
+pub struct Worker<J: Naming> {
+    pub window: OwnWindow<J>,
+    pub jobs: Receiver<Job<J>, Global>,
+    pub replies: Sender<Reply, Global>,
+}

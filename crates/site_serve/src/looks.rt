@@ -1,0 +1,100 @@
+//! The workers of a site: they look at what it has for its sessions.
+
+use super::errors::Errors;
+use super::jobs::{Job, Reply, Task, Work, Worker};
+use super::port::SitePort;
+use super::setup::Turn;
+use byte_ends::{Drain, Ends};
+use gate_rules::Gate;
+use gossip_line::{LineFault, Look, say_taken, show};
+use mio::Waker;
+use review_ops::Stamp;
+use site_port::PortFault;
+use site_shared::{BrandedReceipt, Naming};
+use std::alloc::Global;
+use std::sync::{Arc, Wait};
+
+/// Does the jobs of sessions until no more come.
+pub fn do_jobs<R: Wait, E: Drain, T: Turn, J: Naming>(
+    rt: &R,
+    alloc: Global,
+    gate: &Gate,
+    worker: Worker<J>,
+    waker: &Waker,
+    errors: &Errors<E>,
+    turn: &T,
+) {
+    let Worker {
+        window,
+        jobs,
+        replies,
+    } = worker;
+    let mut port = SitePort::new(rt, alloc, gate, window);
+    for job in jobs.iter(rt) {
+        let reply = done(rt, alloc, job, &mut port, errors, turn);
+        let _sent = replies.send(rt, reply);
+        let _woken = waker.wake();
+    }
+}
+
+/// Does a job of a session.
+fn done<R: Wait, E: Drain, T: Turn, J: Naming>(
+    rt: &R,
+    alloc: Global,
+    job: Job<J>,
+    port: &mut SitePort<'_, '_, R, J>,
+    errors: &Errors<E>,
+    turn: &T,
+) -> Reply {
+    let Job {
+        place,
+        session,
+        receipt,
+        task,
+    } = job;
+    let work = match task {
+        Task::Enter => {
+            turn.enter(session);
+            Work::Entered
+        }
+        Task::Look(look) => looked(alloc, &look, &receipt, port),
+        Task::Leave(ended) => {
+            turn.left(session);
+            if let Err(fault) = ended {
+                errors.session_failed(rt, alloc, fault, session);
+            }
+            Work::Left
+        }
+    };
+    Reply {
+        place,
+        session,
+        work,
+    }
+}
+
+/// What is answered to a look, which sees no less than what the receipt has seen published.
+fn looked<R: Wait, J: Naming>(
+    alloc: Global,
+    look: &Look,
+    receipt: &Option<Arc<BrandedReceipt<J>, Global>>,
+    port: &mut SitePort<'_, '_, R, J>,
+) -> Work {
+    if let Some(receipt) = receipt {
+        if !port.learn(receipt) {
+            return said(alloc, Err(PortFault::Closed));
+        }
+    }
+    let mut drain = Ends::new(Vec::new(alloc));
+    match show(alloc, look, &mut drain, port) {
+        Err(LineFault::WriteFault) => said(alloc, Err(PortFault::NoMemory)),
+        answered => Work::Looked(drain.into_inner(), answered),
+    }
+}
+
+/// What is answered where nothing could be looked at.
+fn said(alloc: Global, refused: Result<Stamp, PortFault>) -> Work {
+    let mut drain = Ends::new(Vec::new(alloc));
+    let answered = say_taken(refused, &mut drain);
+    Work::Looked(drain.into_inner(), answered)
+}

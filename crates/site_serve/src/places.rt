@@ -1,0 +1,193 @@
+//! The sessions that are open, each at its place.
+
+use super::ask::Answer;
+use super::jobs::{Reply, Work};
+use super::session::Session;
+use site_shared::Naming;
+use std::alloc::{AllocError, Global};
+use std::time::Duration;
+
+/// How many sessions may be open at once.
+pub const PLACES: usize = 1024;
+
+/// The sessions that are open, each at its place, and which of them are looked at in the next turn.
+#[derive(Drop)]
+pub struct Places<J: Naming> {
+    sessions: Vec<Option<Session<J>>>,
+    free: Vec<usize>,
+    listed: Vec<usize>,
+}
+
+impl<J: Naming> Places<J> {
+    /// Places that are all free.
+    pub fn new(alloc: Global) -> Result<Places<J>, AllocError> {
+        let mut sessions = Vec::with_capacity(alloc, PLACES)?;
+        let mut free = Vec::with_capacity(alloc, PLACES)?;
+        for place in 0..PLACES {
+            sessions.push(None)?;
+            free.push(place)?;
+        }
+        Ok(Places {
+            sessions,
+            free,
+            listed: Vec::with_capacity(alloc, PLACES)?,
+        })
+    }
+
+    /// How many places there are.
+    pub fn count(&self) -> usize {
+        self.sessions.len()
+    }
+
+    /// Whether every place is free.
+    pub fn are_free(&self) -> bool {
+        self.free.len() >= self.sessions.len()
+    }
+
+    /// A place that is free, which from then on isn't.
+    pub fn free_one(&mut self) -> Option<usize> {
+        self.free.pop()
+    }
+
+    /// Seats a session at a place.
+    pub fn seat(&mut self, place: usize, session: Session<J>) {
+        if let Some(seat) = self.sessions.get_mut(place) {
+            *seat = Some(session);
+        }
+    }
+
+    /// Frees a place.
+    pub fn vacate(&mut self, place: usize) {
+        if let Some(seat) = self.sessions.get_mut(place) {
+            *seat = None;
+            // There is room for each place.
+            let _kept = self.free.push(place);
+        }
+    }
+
+    /// The session at a place.
+    pub fn session(&mut self, place: usize) -> Option<&mut Session<J>> {
+        match self.sessions.get_mut(place) {
+            Some(Some(session)) => Some(session),
+            _ => None,
+        }
+    }
+
+    /// Has a session looked at in the next turn.
+    pub fn list(&mut self, place: usize) {
+        if let Some(session) = self.session(place) {
+            if session.is_listed {
+                return;
+            }
+            session.is_listed = true;
+            let _kept = self.listed.push(place);
+        }
+    }
+
+    /// How many sessions are looked at in the next turn.
+    pub fn listed(&self) -> usize {
+        self.listed.len()
+    }
+
+    /// The place of one of those that are looked at in the next turn.
+    pub fn listed_at(&self, at: usize) -> Option<usize> {
+        match self.listed.get(at) {
+            Some(place) => Some(*place),
+            None => None,
+        }
+    }
+
+    /// Keeps only those among the listed that have more to do.
+    pub fn unlist(&mut self) {
+        let mut kept = 0;
+        for at in 0..self.listed.len() {
+            if let Some(place) = self.listed_at(at) {
+                if self.stays(place) {
+                    self.put_listed(kept, place);
+                    kept = kept.saturating_add(1);
+                }
+            }
+        }
+        self.listed.truncate(kept);
+    }
+
+    /// Puts a place among the listed.
+    fn put_listed(&mut self, at: usize, place: usize) {
+        if let Some(slot) = self.listed.get_mut(at) {
+            *slot = place;
+        }
+    }
+
+    /// Whether the session at a place stays listed.
+    fn stays(&mut self, place: usize) -> bool {
+        match self.session(place) {
+            Some(session) => {
+                session.is_listed = session.is_open() && session.has_more();
+                session.is_listed
+            }
+            None => false,
+        }
+    }
+
+    /// Notes that the connection of a session may have more to read, or takes more.
+    pub fn note_ready(&mut self, place: usize) {
+        if let Some(session) = self.session(place) {
+            session.note_ready();
+            self.list(place);
+        }
+    }
+
+    /// Answers a session by what the desk did, unless it has gone.
+    pub fn take_answer(&mut self, alloc: Global, place: usize, number: u64, answer: Answer<J>) {
+        if let Some(session) = self.session(place) {
+            if session.number == number {
+                session.take_answer(alloc, answer);
+                self.list(place);
+            }
+        }
+    }
+
+    /// Takes what a worker has done for a session, unless that has gone.
+    pub fn take_reply(&mut self, reply: Reply) -> bool {
+        let Reply {
+            place,
+            session: number,
+            work,
+        } = reply;
+        let Some(session) = self.session(place) else {
+            return false;
+        };
+        if session.number != number {
+            return false;
+        }
+        match work {
+            Work::Entered => session.come_back(),
+            Work::Looked(text, answered) => session.take_text(text.as_slice(), answered),
+            Work::Left => {
+                self.vacate(place);
+                return true;
+            }
+        }
+        self.list(place);
+        false
+    }
+
+    /// Ends a session with whom there is no patience left, or each one where the site stops.
+    pub fn end_if_over(
+        &mut self,
+        place: usize,
+        patience: site_net::Patience,
+        now: Duration,
+        is_stopped: bool,
+    ) {
+        if let Some(session) = self.session(place) {
+            if is_stopped {
+                session.end(Ok(()));
+            }
+            session.end_if_over(patience, now);
+            if session.is_ending() {
+                self.list(place);
+            }
+        }
+    }
+}
