@@ -1,4 +1,5 @@
 pub mod Fault
+pub mod Canonical
 pub mod Field
 pub mod Shape
 pub mod Spelling

@@ -26,11 +26,12 @@
 //! ```
 #![tactic(auto)]
 
+mod canonical;
 mod fault;
 mod field;
 mod front;
 mod laws;
-mod quick;
+mod parts;
 mod read;
 mod shape;
 mod write;
