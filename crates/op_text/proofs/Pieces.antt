@@ -26,7 +26,7 @@ decimal-digit_more n d some low high fits =
     rw (front, last) at step
 
 pub with_digit_is : (r : Option ℕ) (product last n d : ℕ)
-    → SomeIff r (product + last < 2 ^ 64) (product + last) → product ≡ n * 10 → last ≡ d - 48 → n ≢ 0
+    → SomeIff r (product + last < 2 ^ 64) (product + last) → product ≡ n * 10 → last ≡ d - 48 → 1 ≤ n
     → is_ascii_digit d ≡ true → IfSome r (λ longer. decimal longer ≡ decimal n ++ d ∷ [])
 with_digit_is None product last n d sum ten is some digit = tt
 with_digit_is (Some m) product last n d sum ten is some digit =
@@ -35,7 +35,7 @@ with_digit_is (Some m) product last n d sum ten is some digit =
     let high = leb-true d 57 bounds.1 in
     let value : m ≡ n * 10 + (d - 48) = sum.1 ∙ (λ k. ten k + is k) in
     let fits : n * 10 + (d - 48) < 2 ^ 64 = omega (arith, sum.0, ten, is) in
-    ap decimal value ∙ decimal-digit_more n d (omega (arith, some)) low high fits
+    ap decimal value ∙ decimal-digit_more n d some low high fits
 
 -- a number begins with its first digit
 pub decimal_is : (r : Option (ℕ × Bor (List ℕ))) (text rest : List ℕ) (first front : ℕ) → text ≡ first ∷ rest

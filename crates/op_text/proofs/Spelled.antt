@@ -1,6 +1,6 @@
 -- The written text of a good body, or of an operation, spells it.
 use Rattle.std.proofs.Common.{◌≡◌, ℕ, ℤ, ◌^◌, ◌<◌, ◌≤◌, pos, negsuc, List, [], ◌∷◌, true, ◌&&◌, cond, Option, Some}
-use Rattle.std.proofs.Common.{None, IfSome, Result, Ok, Err, IfOk, option_map, refl, sym, ap, ◌∙◌, append-nil, arith}
+use Rattle.std.proofs.Common.{None, IfSome, option_map, refl, sym, ap, ◌∙◌, append-nil, arith}
 use Rattle.std.proofs.Common.{rules, le-leb}
 use Rattle.std.proofs.lemmas.Bool.{lt-ltb}
 use Rattle.std.proofs.lemmas.Bool.Decides.{nat_tests}
@@ -9,27 +9,23 @@ use Rattle.std.specs.Int.{w8}
 use Rattle.json.specs.Json as json
 use Rattle.json.specs.Lex.{tokens}
 use Rattle.json.specs.Token.{Token}
-use Rattle.json.specs.Print.{print}
 use Rattle.json.specs.Tree as tree
 use Rattle.serde_json.specs.Data.{Data, number, string, object, Members, no_members, member, put}
 use Rattle.serde_json.specs.Find.{of_integer, as_str}
 use Rattle.serde_json.specs.Read.{read, max_depth, of_json, of_members}
 use Rattle.serde_json.specs.Written.{outline, members_outline}
-use Rattle.serde_json.proofs.Texts.{print-outline}
 use Rattle.serde_json.proofs.Numbers.{number_of-decimal, number_of-negative}
 use Rattle.json.proofs.Printed.Trees.{value-json_tokens}
 use Rattle.review_ops.specs.Timestamp.{Timestamp, IsNumbered}
 use Rattle.review_ops.specs.Deed.{Deed, patch_set, vote, withdraw, abandon, restore, merged, change_of, set_of}
 use Rattle.review_ops.specs.Deed.{message_of, parent_of, label_of, voter_of, value_of}
-use Rattle.review_ops.specs.Operation.{Operation}
 use Rattle.op_text.specs.declared.field.Field.{Field}
 use Rattle.op_text.specs.declared.field.Field.TheVariants.{Change, Label, Message, Op, Parent, Seq, Set, Site, Start}
 use Rattle.op_text.specs.declared.field.Field.TheVariants.{Time, Value, Voter}
 use Rattle.op_text.specs.Field.{key_of, name_of, rule_of, stamp_rule, set_rule, message_rule, parent_rule, vote_rule}
 use Rattle.op_text.specs.Field.{value_rule, obeys, accepts, is_within, is_vote_value, number_in, integer_in}
 use Rattle.op_text.specs.Canonical.{FitsText}
-use Rattle.op_text.specs.Text.{form_of, whole, data_of, all_fields, with_member, members_over, members_of, body_text}
-use Rattle.op_text.specs.Text.{operation_text}
+use Rattle.op_text.specs.Text.{form_of, whole, data_of, all_fields, with_member, members_over, members_of}
 use Rattle.op_text.specs.Spelling.{kind_of, SpellsDeed, HoldsStamp}
 use Rattle.op_text.proofs.Found.{found_at-members_over, only_fields}
 
@@ -289,18 +285,3 @@ holds_written stamp deed =
       start = ap (option_and_then number_in) (found Start);
       seq = ap (option_and_then number_in) (found Seq);
     }
-
--- two facts of what a call returned
-pub both_facts : {T E : Type 0} (r : Result T E) (P Q R : T → Type 0) → ((x : T) → P x → Q x → R x) → IfOk r P
-    → IfOk r Q → IfOk r R
-both_facts (Ok x) P Q R f p q = f x p q
-both_facts (Err e) P Q R f p q = tt
-
-pub printed_body : (deed : Deed) → print (tree.json_tokens (outline (object (members_of None deed)))) ≡ body_text deed
-unfolding body_text
-printed_body deed = print-outline (object (members_of None deed))
-
-pub printed_operation : (op : Operation)
-    → print (tree.json_tokens (outline (object (members_of (Some op.stamp) op.deed)))) ≡ operation_text op
-unfolding operation_text
-printed_operation op = print-outline (object (members_of (Some op.stamp) op.deed))

@@ -1,12 +1,16 @@
 -- The text of an operation or a body as it is written, by its parts; for private clauses.
-use Rattle.std.specs.Prelude.{ℕ, ◌<◌, ◌^◌, List, ◌++◌, Option, Some, None, IfSome, IsUtf8, FitsSigned, option_map}
+use Rattle.std.specs.Prelude.{◌≡◌, ℕ, ◌<◌, ◌^◌, List, [], ◌∷◌, ◌++◌, Option, Some, None, IfSome, IsUtf8, FitsSigned, option_map}
 use Rattle.std.specs.Prelude.{decimal, codes}
 use Rattle.std.specs.Int.{w8}
 use Rattle.json.specs.Print.{quoted}
-use Rattle.serde_json.specs.Data.{object}
+use Rattle.serde_json.specs.Data.{Data, object}
 use Rattle.serde_json.specs.Written.{compact_text}
 use Rattle.review_ops.specs.Timestamp.{Timestamp}
 use Rattle.review_ops.specs.Deed.{Deed, change_of, set_of, message_of, parent_of, label_of, voter_of, value_of}
+use Rattle.op_text.specs.declared.field.Field.{Field}
+use Rattle.op_text.specs.declared.field.Field.TheVariants.{Label, Message, Op, Parent, Seq, Set, Site, Start, Time}
+use Rattle.op_text.specs.declared.field.Field.TheVariants.{Value, Voter}
+use Rattle.op_text.specs.Field.{key_of}
 use Rattle.op_text.specs.Text.{members_of}
 
 -- the text of a deed, with a stamp or without
@@ -50,3 +54,21 @@ pub record FitsText (deed : Deed) : Type 0 where
   pub label : IfSome (label_of deed) IsUtf8
   pub voter : IfSome (voter_of deed) IsUtf8
   pub value : IfSome (value_of deed) (FitsSigned w8)
+
+-- a member behind another, if it has a value
+abbrev pub member_text : List ℕ → Option Data → List ℕ
+member_text key None = []
+member_text key (Some d) = 44 ∷ (quoted key ++ 58 ∷ compact_text d)
+
+abbrev pub members_texts : List Field → (Field → Option Data) → List ℕ
+members_texts [] values = []
+members_texts (field ∷ fields) values = member_text (key_of field) (values field) ++ members_texts fields values
+
+-- the fields behind the change, in byte order of their keys
+abbrev pub later_fields : List Field
+later_fields = Label ∷ Message ∷ Op ∷ Parent ∷ Seq ∷ Set ∷ Site ∷ Start ∷ Time ∷ Value ∷ Voter ∷ []
+
+-- something was added at the end
+pub record Extends (old new : List ℕ) : Type 0 where
+  pub more : List ℕ
+  pub is : new ≡ old ++ more

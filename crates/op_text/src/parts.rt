@@ -10,13 +10,23 @@ ghost use Rattle.op_text.specs.Canonical.{optional_text};
 use std::alloc::Global;
 
 /// What follows a literal.
+#[inline(always)]
 pub fn after<'a>(text: &'a [u8], literal: &[u8]) -> Option<&'a [u8]>
     ensures { IfSome result (λ rest. text.now ≡ literal.now ++ rest.now) }
 {
-    text.strip_prefix(literal)
+    if text.len() < literal.len() {
+        return None;
+    }
+    for (i, byte) in literal.iter().enumerate() {
+        if text[i] != *byte {
+            return None;
+        }
+    }
+    Some(&text[literal.len()..])
 }
 
 /// A number behind a literal.
+#[inline(always)]
 pub fn number<'a>(text: &'a [u8], literal: &[u8]) -> Option<(u64, &'a [u8])>
     ensures { IfSome result (λ (number, rest). text.now ≡ literal.now ++ (decimal number ++ rest.now)) }
 {
@@ -24,6 +34,7 @@ pub fn number<'a>(text: &'a [u8], literal: &[u8]) -> Option<(u64, &'a [u8])>
 }
 
 /// A number of 32 bits behind a literal.
+#[inline(always)]
 pub fn number32<'a>(text: &'a [u8], literal: &[u8]) -> Option<(u32, &'a [u8])>
     ensures { IfSome result (λ (number, rest). text.now ≡ literal.now ++ (decimal number ++ rest.now)) }
 {
@@ -33,6 +44,7 @@ pub fn number32<'a>(text: &'a [u8], literal: &[u8]) -> Option<(u32, &'a [u8])>
 }
 
 /// A number of 16 bits behind a literal.
+#[inline(always)]
 pub fn number16<'a>(text: &'a [u8], literal: &[u8]) -> Option<(u16, &'a [u8])>
     ensures { IfSome result (λ (number, rest). text.now ≡ literal.now ++ (decimal number ++ rest.now)) }
 {
@@ -42,6 +54,7 @@ pub fn number16<'a>(text: &'a [u8], literal: &[u8]) -> Option<(u16, &'a [u8])>
 }
 
 /// A number behind a literal, or none where the literal isn't there.
+#[inline(always)]
 pub fn optional<'a>(text: &'a [u8], literal: &[u8]) -> Option<(Option<u64>, &'a [u8])>
     ensures { IfSome result (λ (number, rest). text.now ≡ optional_text literal.now number rest.now) }
 {
@@ -53,6 +66,7 @@ pub fn optional<'a>(text: &'a [u8], literal: &[u8]) -> Option<(Option<u64>, &'a 
 }
 
 /// A number of 32 bits behind a literal, or none where the literal isn't there.
+#[inline(always)]
 pub fn optional32<'a>(text: &'a [u8], literal: &[u8]) -> Option<(Option<u32>, &'a [u8])>
     ensures { IfSome result (λ (number, rest). text.now ≡ optional_text literal.now number rest.now) }
 {
@@ -65,6 +79,7 @@ pub fn optional32<'a>(text: &'a [u8], literal: &[u8]) -> Option<(Option<u32>, &'
 }
 
 /// A small integer behind a literal.
+#[inline(always)]
 pub fn integer<'a>(text: &'a [u8], literal: &[u8]) -> Option<(i8, &'a [u8])>
     ensures { IfSome result
         (λ (integer, rest). text.now ≡ literal.now ++ (signed_decimal integer ++ rest.now)) }
@@ -73,6 +88,7 @@ pub fn integer<'a>(text: &'a [u8], literal: &[u8]) -> Option<(i8, &'a [u8])>
 }
 
 /// A quoted text behind a literal.
+#[inline(always)]
 pub fn text<'a>(alloc: Global, bytes: &'a [u8], literal: &[u8]) -> Option<(String, &'a [u8])>
     ensures { IfSome result
         (λ (read, rest). bytes.now ≡ literal.now ++ (quoted (string_bytes read) ++ rest.now)) }
@@ -81,6 +97,7 @@ pub fn text<'a>(alloc: Global, bytes: &'a [u8], literal: &[u8]) -> Option<(Strin
 }
 
 /// A quoted text.
+#[inline(always)]
 pub fn unquoted(alloc: Global, text: &[u8]) -> Option<(String, &[u8])>
     ensures { IfSome result (λ (read, rest). text.now ≡ quoted (string_bytes read) ++ rest.now) }
 {
@@ -169,7 +186,7 @@ fn unescaped(alloc: Global, text: &[u8]) -> Option<(String, &[u8])>
 }
 
 /// How many bytes come before the first quote, backslash or control byte.
-fn plain_len(text: &[u8]) -> usize
+pub fn plain_len(text: &[u8]) -> usize
     ensures within { result ≤ length text.now }
     ensures plain { escape (take result text.now) ≡ take result text.now }
 {

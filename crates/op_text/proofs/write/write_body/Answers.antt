@@ -1,15 +1,15 @@
-use Rattle.std.proofs.Common.{◌∙◌, sym, subst}
-use Rattle.std.proofs.lemmas.Result.{IfOk-weaker}
+use Rattle.std.proofs.Common.{◌≡◌, ◌++◌, string_bytes, sym, ap, ◌∙◌, subst, rules}
+use Rattle.std.specs.Prelude.{IsUtf8}
 use Rattle.op_text.specs.Spelling.{SpellsBody}
-use Rattle.op_text.proofs.Spelled.{printed_body}
-use Rattle.op_text.proofs.Lines.{body_text_spells}
+use Rattle.op_text.specs.Text.{body_text}
 use Rattle.op_text.proofs.write.write_body.Goals as goal
 
-pub returns-clause-text : goal.returns-clause-text
-returns-clause-text c = IfOk-weaker c.object_text.result _ _
-    (λ text printed. printed ∙ printed_body c.args.body.now) c.object_text.ensures.printed
+pub unwrap-requires : goal.unwrap-requires
+unwrap-requires c =
+    let is = c.in_ok-append_body.ensures.ok ∙ ap (λ l. l ++ body_text c.args.body.now) c.in_ok-page.ensures.items in
+    c.from_utf8.ensures.succeeds (subst IsUtf8 (sym is) c.append_body.ensures.spells.1.object.utf8)
 
 pub returns-clause-spells : goal.returns-clause-spells
 returns-clause-spells c =
-    let spells = body_text_spells c.args.body.now c.object_text.ensures.good in
-    IfOk-weaker c.object_text.result _ _ (λ text is. subst (λ bytes. SpellsBody bytes c.args.body.now) (sym (is ∙ printed_body c.args.body.now)) spells) c.object_text.ensures.printed
+    let is : string_bytes c.unwrap.result ≡ body_text c.args.body.now = search rules in
+    subst (λ text. SpellsBody text c.args.body.now) (sym is) c.append_body.ensures.spells
