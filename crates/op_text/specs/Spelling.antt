@@ -52,6 +52,11 @@ pub record SpellsDeed (form : Form) (text : List ℕ) (members : Members) (deed 
 abbrev pub SpellsBody : List ℕ → Deed → Type 0
 SpellsBody text deed = (members : Members) × SpellsDeed form.Body text members deed
 
+-- the text spells this stamp and this deed, good or not
+abbrev pub SpellsParts : List ℕ → Timestamp → Deed → Type 0
+SpellsParts text stamp deed =
+    (members : Members) × SpellsDeed form.Operation text members deed × HoldsStamp members stamp
+
 -- the text spells an operation: its stamp, and a body without faults, which is kept
 pub record SpellsOperation (text : List ℕ) (op : Operation) : Type 0 where
   pub members : Members

@@ -17,7 +17,7 @@ use crate::laws::{crashes_lose_nothing_acknowledged, journals_say_their_operatio
 use crate::opening::{Opened, open_tape};
 use crate::reading::LINE_LIMIT;
 use crate::tape::Tape;
-use op_text::write_op;
+use op_text::append_op;
 use replica_core::Replica;
 use review_ops::Op;
 use std::alloc::Global;
@@ -137,11 +137,11 @@ fn lines_of(alloc: Global, ops: &[Op]) -> Result<Vec<u8>, KeepFault>
     for op in ops {
         prove!(op.stamp().seq() >= 1);
         prove!(op.body().change() >= 1);
-        let line = write_op(alloc, op)?;
-        if line.as_bytes().len() > LINE_LIMIT {
+        let start = lines.as_slice().len();
+        append_op(&mut lines, op)?;
+        if lines.as_slice().len() - start > LINE_LIMIT {
             return Err(KeepFault::TooLong);
         }
-        lines.extend_from_slice(line.as_bytes())?;
         lines.push(b'\n')?;
     }
     Ok(lines)

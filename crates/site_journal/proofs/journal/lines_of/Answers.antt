@@ -1,4 +1,4 @@
-use Rattle.std.proofs.Common.{◌≤◌, length, ap, ◌∙◌, arith, subst}
+use Rattle.std.proofs.Common.{◌≤◌, length, length-append, ap, ◌∙◌, arith, subst}
 use Rattle.std.proofs.lemmas.List.{take_all}
 use Rattle.snapshot_text.specs.Sound.{AreSound}
 use Rattle.std.proofs.lemmas.Grind.{common_steps}
@@ -9,7 +9,10 @@ use Rattle.site_journal.proofs.journal.lines_of.Goals as goal
 
 pub loop-op-preserved : goal.loop-op-preserved
 loop-op-preserved c =
-    let short : length (operation_text c.op-item.result) ≤ most_line = omega (arith, c.if-as_bytes-gt-LINE_LIMIT.false, ap length (c.as_bytes.ensures.value ∙ c.in_ok-line.ensures.text)) in record {
+    let text = operation_text c.op-item.result in
+    let grown = ap length (c.as_slice.ensures.value ∙ c.in_ok-append_op.ensures.ok) in
+    let began = ap length c.as_slice-start.ensures.value in
+    let short : length text ≤ most_line = omega (arith, c.if-as_slice-start-gt-LINE_LIMIT.false, grown, began, length-append c.loop-op.lines.items text) in record {
       written = grind (arith, common_steps);
       sound = sound_next c.args.ops.now c.loop-op.op-index c.op-item.result c.loop-op-test.true c.op-item.is c.stamp.ensures.numbered c.body.ensures.good c.loop-op.invariant.sound;
       short = short_next c.args.ops.now c.loop-op.op-index c.op-item.result c.loop-op-test.true c.op-item.is short c.loop-op.invariant.short;
