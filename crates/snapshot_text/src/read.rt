@@ -14,7 +14,7 @@ use super::end_line::claimed;
 use super::fault::SnapFault;
 use byte_ends::{Lines, Source, read_all};
 use op_text::{OpTextFault, read_op};
-use replica_core::Replica;
+use replica_core::{Gathering, Replica};
 use std::alloc::Global;
 
 /// The most bytes that a snapshot has: 1 GiB.
@@ -80,7 +80,7 @@ pub fn snapshot_onto(replica: Replica, text: &[u8]) -> Result<Replica, SnapFault
 }
 
 /// The replica to which the operations of a text, of any length, came.
-fn read_onto(mut replica: Replica, text: &[u8]) -> Result<Replica, SnapFault>
+fn read_onto(replica: Replica, text: &[u8]) -> Result<Replica, SnapFault>
     ensures ok { IfOk result (λ both. (ops : List Operation)
         × SaysOperations (lines_of text.now) ops × (both ≡ all_arrived replica ops)) }
     ensures err { IfErr result (IsFirstFault (lines_of text.now)) }
@@ -96,16 +96,28 @@ fn read_onto(mut replica: Replica, text: &[u8]) -> Result<Replica, SnapFault>
         return Err(SnapFault::BadHeader);
     }
     let alloc = replica.allocator();
+    let mut gathering = Gathering::onto(replica);
     let mut count = 0u64;
     while let Some(line) = lines.next_line() {
         if let Some(said) = claimed(line) {
             judge_end(said, count, lines)?;
-            return Ok(replica);
+            return joined(gathering);
         }
-        take_line(alloc, &mut replica, line, count + 2)?;
+        take_line(alloc, &mut gathering, line, count + 2)?;
         count += 1;
     }
     Err(SnapFault::NoEnd)
+}
+
+/// The replica to which all came that was taken.
+fn joined(gathering: Gathering) -> Result<Replica, SnapFault>
+    ensures { MatchResult result
+        (λ replica. replica ≡ gathering) (λ fault. fault ≡ SnapFault.NoMemory) }
+{
+    match gathering.joined() {
+        Ok(replica) => Ok(replica),
+        Err(_) => Err(SnapFault::NoMemory),
+    }
 }
 
 /// Whether a line is the header of a version that is read.
@@ -132,12 +144,12 @@ fn judge_end(said: u128, count: u64, mut rest: Lines) -> Result<(), SnapFault>
 /// Takes the operation of the line with this number.
 fn take_line(
     alloc: Global,
-    replica: &mut Replica,
+    gathering: &mut Gathering,
     line: &[u8],
     number: u64,
 ) -> Result<(), SnapFault>
     ensures ok { IfOk result (λ _. (op : Operation) × SpellsOperation line.now op
-        × (replica.new ≡ arrived replica.old op)
+        × (gathering.new ≡ arrived gathering.old op)
         × ((other : Operation) → SpellsOperation line.now other → other ≡ op)) }
     ensures err { IfErr result (IsLineFault line.now number) }
 {
@@ -145,7 +157,7 @@ fn take_line(
         Ok(op) => op,
         Err(cause) => return Err(line_fault(number, cause)),
     };
-    match replica.take(op) {
+    match gathering.take(op) {
         Ok(_) => Ok(()),
         Err(_) => Err(SnapFault::NoMemory),
     }
