@@ -4,10 +4,9 @@ use Rattle.replica_core.specs.Journal.{taken_of, has}
 use Rattle.chunk_list.specs.Ranks.{rank}
 use Rattle.replica_core.specs.Lines.{ops_of, row_of, IsFiled}
 use Rattle.replica_core.specs.Searches.{is_below, with_place}
-use Rattle.state_core.specs.State.{with_effect}
 use Rattle.replica_core.proofs.Absorbing.{on_err_always}
 use Rattle.replica_core.proofs.Filing.{has_row, filed_new, held_new}
-use Rattle.replica_core.proofs.replica.file.Goals as goal
+use Rattle.replica_core.proofs.arriving.file.Goals as goal
 
 pub has-requires : goal.has-requires
 has-requires g c = subst (λ j. IsFiled j c.args.line.now) (sym c.as_slice.ensures.value) c.requires.line.filed
@@ -22,7 +21,7 @@ returns-then-has-clause-ok g c =
       ap (λ t. cond t journal (journal ++ op ∷ [])) (sym known),
       c.requires.line,
       refl,
-      ap (λ t. cond t c.args.state.now (with_effect c.args.state.now op)) (sym known),
+      ap (λ t. cond t c.args.follower.now (g.F.Follows.after c.args.follower.now op)) (sym known),
     )
 
 pub enter-requires : goal.enter-requires
@@ -75,5 +74,5 @@ returns-clause-ok g c =
             (subst (λ l. IsGapless (holds c.as_slice-3.result.now l.site l.start) c.climbed-line-inside.result) (sym c.line.view_is) c.climbed-line-inside.ensures);
       },
       ap row_of is,
-      c.in_ok-enter.ensures.ok.1 ∙ ap (λ t. cond t c.args.state.now (with_effect c.args.state.now op)) (sym new),
+      c.in_ok-enter.ensures.ok.1 ∙ ap (λ t. cond t c.args.follower.now (g.F.Follows.after c.args.follower.now op)) (sym new),
     )

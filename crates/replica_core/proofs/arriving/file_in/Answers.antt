@@ -6,7 +6,7 @@ use Rattle.replica_core.specs.Searches.{line_rank}
 use Rattle.replica_core.proofs.Absorbing.{if_ok}
 use Rattle.replica_core.proofs.Exchanged.{never_none, out_there, out_row, still_sorted, back_in, as_it_was, changed}
 use Rattle.replica_core.proofs.Lookups.{line_in}
-use Rattle.replica_core.proofs.replica.file_in.Goals as goal
+use Rattle.replica_core.proofs.arriving.file_in.Goals as goal
 
 pub exchange-requires : goal.exchange-requires
 exchange-requires g c = c.requires.lines.sorted

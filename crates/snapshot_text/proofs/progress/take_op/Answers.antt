@@ -1,7 +1,7 @@
 use Rattle.std.proofs.Common.{subst, sym}
 use Rattle.snapshot_text.specs.Reading.{IsLineFault}
 use Rattle.snapshot_text.proofs.Reading.{line_refused}
-use Rattle.snapshot_text.proofs.read.take_line.Goals as goal
+use Rattle.snapshot_text.proofs.progress.take_op.Goals as goal
 
 pub returns-in-Err-clause-err : goal.returns-in-Err-clause-err
 returns-in-Err-clause-err c =

@@ -11,7 +11,7 @@ use Rattle.replica_core.specs.Searches.{is_below, passes_at}
 use Rattle.replica_core.proofs.Absorbing.{at_err, at_no_err}
 use Rattle.replica_core.proofs.Filed.{placed_parts, placed_rank}
 use Rattle.replica_core.proofs.Sought.{below_falls}
-use Rattle.replica_core.proofs.replica.enter.Goals as goal
+use Rattle.replica_core.proofs.arriving.enter.Goals as goal
 
 pub insert-requires : goal.insert-requires
 insert-requires g c =
@@ -41,7 +41,7 @@ returns-then-is_err-clause-err g c =
     ∙ ap (remove (insert places (rank test places) (length c.args.arrivals.now)))
     (rank-inserted test places (length c.args.arrivals.now) fails)
     ∙ remove-inserted places (rank test places) (length c.args.arrivals.now) (rank-le test places) in
-    (ap (λ p. record { site = inside.row.site; start = inside.row.start; places = p; reach = inside.reach }) back ∙ c.line.view_is, at_err c.take.result c.is_err.result c.is_err.ensures.value c.if-is_err.true c.take.ensures.err)
+    (ap (λ p. record { site = inside.row.site; start = inside.row.start; places = p; reach = inside.reach }) back ∙ c.line.view_is, at_err c.follow.result c.is_err.result c.is_err.ensures.value c.if-is_err.true c.follow.ensures.err)
 
 pub returns-clause-ok : goal.returns-clause-ok
 returns-clause-ok g c =
@@ -58,5 +58,5 @@ returns-clause-ok g c =
     ∙ ap (λ l. insert l index (length journal)) are in (
       ap (λ p. record { site = inside.row.site; start = inside.row.start; places = p; reach = inside.reach }) added
           ∙ ap (λ (l : RowLine). record { site = l.site; start = l.start; places = insert line.places index (length journal); reach = l.reach }) c.line.view_is,
-      at_no_err c.take.result c.is_err.result c.is_err.ensures.value c.if-is_err.false c.take.ensures.ok,
+      at_no_err c.follow.result c.is_err.result c.is_err.ensures.value c.if-is_err.false c.follow.ensures.ok,
     )
