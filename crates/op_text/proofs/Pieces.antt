@@ -5,10 +5,12 @@ use Rattle.std.proofs.Common.{append_assoc, append-nil}
 use Rattle.std.proofs.lemmas.Bool.{and_parts, leb-true}
 use Rattle.std.specs.Char.{is_ascii_digit}
 use Rattle.std.proofs.lemmas.Fmt.{decimal_step, decimal_digit}
-use Rattle.std.proofs.lemmas.List.{take_more}
+use Rattle.std.proofs.lemmas.List.{get_or-take, length-take}
 use Rattle.std.proofs.lemmas.List.Concat.{flat_map-append}
 use Rattle.json.specs.Print.{escape, escape_byte}
-use Rattle.json.proofs.Printed.Strings.{escape_byte_plain}
+use Rattle.json.specs.Run.{is_plain}
+use Rattle.json.specs.Written.{PlainBetween}
+use Rattle.json.proofs.Printed.Plain.{escape_on_plain}
 
 pub IfSome-from_cases : {T : Type 0} (o : Option T) (P : Type 0) (Q : T → Type 0) → MatchOption o P Q → IfSome o Q
 IfSome-from_cases None P Q h = tt
@@ -57,13 +59,12 @@ decimal_is (Some x) text rest first front split value digit h =
 pub escape-append : (xs ys : List ℕ) → escape (xs ++ ys) ≡ escape xs ++ escape ys
 escape-append = flat_map-append escape_byte
 
--- a byte more that stands for itself
-pub plain_more : (text : List ℕ) (i : ℕ) → i < length text → get_or text i 0 ≢ 34 → get_or text i 0 ≢ 92
-    → 32 ≤ get_or text i 0 → escape (take i text) ≡ take i text → escape (take (i + 1) text) ≡ take (i + 1) text
-plain_more text i within quote backslash control so_far =
-    let byte = get_or text i 0 in
-    let more = take_more text i 0 within in
-    ap escape more ∙ escape-append (take i text) (byte ∷ []) ∙ (λ k. so_far k ++ (escape_byte_plain byte quote backslash control k ++ [])) ∙ sym more
+-- bytes that need no escape stand for themselves
+pub plain_front : (text : List ℕ) (n : ℕ) → n ≤ length text → PlainBetween text 0 n
+    → escape (take n text) ≡ take n text
+plain_front text n within plain = escape_on_plain true (take n text) (λ k low high.
+    let below : k < n = omega (arith, length-take n text, high) in
+    ap is_plain (get_or-take n text k 0 below) ∙ plain k low below)
 
 -- a run of plain bytes is read
 pub run_read : (text done left plain rest : List ℕ) → text ≡ escape done ++ left → left ≡ plain ++ rest

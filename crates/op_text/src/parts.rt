@@ -1,13 +1,16 @@
 //! Reads the parts of a text that is as it is written: literals, numbers and quoted texts. Each answers what it read and
 //! what follows it, and nothing where another part stands there.
 
-ghost use Rattle.std.specs.Prelude.{◌≡◌, ◌∷◌, ◌++◌, [], ◌≤◌, length, take, decimal, IfSome, IsTrue, string_bytes};
+ghost use Rattle.std.specs.Prelude.{◌≡◌, ◌+◌, ◌∷◌, ◌++◌, [], ◌≤◌, length, take, decimal, IfSome, IsTrue, string_bytes};
 ghost use Rattle.std.specs.Fmt.{signed_decimal};
 ghost use Rattle.std.specs.Char.{is_ascii_digit};
 ghost use Rattle.json.specs.Print.{escape, escape_byte, quoted};
+ghost use Rattle.std.specs.Bool.{OnTrue};
+ghost use Rattle.json.specs.Written.{PlainBetween};
 ghost use Rattle.op_text.specs.Canonical.{optional_text};
 
 use std::alloc::Global;
+use std::simd::prelude::*;
 
 /// What follows a literal.
 #[inline(always)]
@@ -105,6 +108,7 @@ pub fn unquoted(alloc: Global, text: &[u8]) -> Option<(String, &[u8])>
 }
 
 /// A number in decimal digits, of which the first is 0 in `0` alone.
+#[inline(never)]
 fn decimal(text: &[u8]) -> Option<(u64, &[u8])>
     ensures { IfSome result (λ (number, rest). text.now ≡ decimal number ++ rest.now) }
 {
@@ -142,6 +146,7 @@ fn with_digit(number: u64, digit: u8) -> Option<u64>
 }
 
 /// A small integer, which may be negative.
+#[inline(never)]
 fn signed(text: &[u8]) -> Option<(i8, &[u8])>
     ensures { IfSome result (λ (integer, rest). text.now ≡ signed_decimal integer ++ rest.now) }
 {
@@ -166,6 +171,7 @@ fn negative(magnitude: u64) -> Option<i8>
 }
 
 /// The text up to the closing quote.
+#[inline(never)]
 fn unescaped(alloc: Global, text: &[u8]) -> Option<(String, &[u8])>
     ensures { IfSome result
         (λ (read, rest). text.now ≡ escape (string_bytes read) ++ 34 ∷ rest.now) }
@@ -190,12 +196,50 @@ pub fn plain_len(text: &[u8]) -> usize
     ensures within { result ≤ length text.now }
     ensures plain { escape (take result text.now) ≡ take result text.now }
 {
-    for (i, byte) in text.iter().enumerate() {
-        if *byte == b'"' || *byte == b'\\' || *byte < b' ' {
+    plain_end(text, plain_groups(text))
+}
+
+/// The place of the first quote, backslash or control byte from a place on.
+fn plain_end(text: &[u8], from: usize) -> usize
+    requires within { from ≤ length text.now }
+    requires plain { PlainBetween text.now 0 from }
+    ensures within { result ≤ length text.now }
+    ensures plain { PlainBetween text.now 0 result }
+{
+    for i in from..text.len() {
+        let byte = text[i];
+        if byte == b'"' || byte == b'\\' || byte < b' ' {
             return i;
         }
     }
     text.len()
+}
+
+/// How many bytes come before the first sixteen that aren't all plain.
+fn plain_groups(text: &[u8]) -> usize
+    ensures within { result ≤ length text.now }
+    ensures plain { PlainBetween text.now 0 result }
+{
+    let mut at = 0;
+    while text.len() - at >= 16 {
+        if !are_plain(text, at) {
+            return at;
+        }
+        at += 16;
+    }
+    at
+}
+
+/// Whether sixteen bytes from a place on have no quote, no backslash and no control byte.
+fn are_plain(text: &[u8], at: usize) -> bool
+    requires { at + 16 ≤ length text.now }
+    ensures { OnTrue result (PlainBetween text.now at (at + 16)) }
+{
+    let group = u8x16::from_slice(&text[at..]);
+    let stops = group.simd_eq(u8x16::splat(b'"'))
+        | group.simd_eq(u8x16::splat(b'\\'))
+        | group.simd_lt(u8x16::splat(b' '));
+    stops.to_bitmask() == 0
 }
 
 /// The byte that an escape of one letter stands for. Escapes by a number are left to the JSON reader.

@@ -1,9 +1,7 @@
 //! Writes the texts of bodies and operations.
 
-ghost use Rattle.std.specs.Prelude.{◌≡◌, ◌<◌, ◌≤◌, ◌++◌, ◌∷◌, [], IfOk, OnOk, OnErr, decimal, option_map, string_bytes};
-ghost use Rattle.std.specs.Prelude.{take};
+ghost use Rattle.std.specs.Prelude.{◌≡◌, ◌<◌, ◌++◌, IfOk, OnOk, OnErr, decimal, option_map, string_bytes};
 ghost use Rattle.std.specs.Char.{digit_char};
-ghost use Rattle.std.specs.Fmt.{signed_decimal};
 ghost use Rattle.std.specs.Option.{option_copied};
 ghost use Rattle.json.specs.Print.{escape, escape_byte, escape_letter, quoted};
 ghost use Rattle.serde_json.specs.Data.{string, number};
@@ -11,7 +9,7 @@ ghost use Rattle.serde_json.specs.Find.{of_integer};
 ghost use Rattle.review_ops.specs.Draft.{deed_of};
 ghost use Rattle.op_text.specs.Canonical.{Extends, member_text, written_text};
 ghost use Rattle.op_text.specs.Field.{key_of};
-ghost use Rattle.op_text.specs.Spelling.{SpellsBody, SpellsOperation, kind_of};
+ghost use Rattle.op_text.specs.Spelling.{SpellsBody, SpellsOperation};
 ghost use Rattle.op_text.specs.Text.{data_of, body_text, operation_text, whole};
 
 use super::field::{Field, Kind};

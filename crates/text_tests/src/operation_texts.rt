@@ -1,6 +1,8 @@
 //! Texts of operations and fronts, worked out by hand.
 
-use op_text::{OpTextFault, read_body, read_front, read_op, write_body, write_front, write_op};
+use op_text::{
+    OpTextFault, append_op, read_body, read_front, read_op, write_body, write_front, write_op,
+};
 use review_ops::{Body, Draft};
 use std::alloc::{AllocError, Global};
 use std::process::Abort;
@@ -86,12 +88,26 @@ const WRITTEN: &[&str] = &[
     r#"{"change":101,"label":"v","op":"withdraw","seq":2,"set":1,"site":1,"start":1,"time":2,"voter":"zuul"}"#,
     r#"{"change":1,"message":"Add x\n\"\u0001ü","op":"patchset","parent":7,"seq":3,"set":4294967295,"site":1,"start":1,"time":2}"#,
     r#"{"change":1,"message":"","op":"patchset","seq":3,"set":1,"site":1,"start":1,"time":2}"#,
+    r#"{"change":1,"message":"\u0000\u001f\b\t\n\f\r\"\\/ü€😀","op":"patchset","seq":3,"set":1,"site":1,"start":1,"time":2}"#,
 ];
 
 // Each kind is read and written again to the byte.
 #[test]
 fn written_as_read(rt: HostRuntime) -> Result<(), Fail> {
     assert_written(&rt, rt.alloc(), WRITTEN)
+}
+
+// The texts of operations are added to a page, one behind the other.
+#[test]
+fn texts_on_one_page(rt: HostRuntime) -> Result<(), Fail> {
+    let mut page = Vec::from_slice(rt.alloc(), b"> ")?;
+    let mut wanted = Vec::from_slice(rt.alloc(), b"> ")?;
+    for text in WRITTEN {
+        append_op(&mut page, &read_op(rt.alloc(), text.as_bytes())?)?;
+        wanted.extend_from_slice(text.as_bytes())?;
+    }
+    assert!(rt; page.as_slice() == wanted.as_slice());
+    Ok(())
 }
 
 /// A vote.
