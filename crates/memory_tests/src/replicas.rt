@@ -168,14 +168,25 @@ fn joined<'a>(
     granted: u32,
 ) -> Seen {
     memory.refuse_after(granted);
-    let replica = gathering.joined();
+    let replica = gathering.joined().ok();
     let refused = memory.grant_all();
-    let failed = replica.is_err();
     Seen {
-        failed,
+        failed: replica.is_none(),
         refused,
-        stated: failed || replica.is_ok_and(|replica| has_first(memory, &replica, count)),
+        stated: has_first_if_any(memory, &replica, count),
         whole: is_joined(memory, again, count),
+    }
+}
+
+/// Whether a replica, where there is one, has just the first `count` operations, in their order, and their state.
+fn has_first_if_any<A: Allocator + Copy>(
+    alloc: A,
+    replica: &Option<Replica<A>>,
+    count: usize,
+) -> bool {
+    match replica {
+        Some(replica) => has_first(alloc, replica, count),
+        None => true,
     }
 }
 

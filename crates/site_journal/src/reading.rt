@@ -13,7 +13,7 @@ use crate::fault::{JournalFault, LineCause};
 use crate::tape::Feed;
 use memchr::memchr;
 use op_text::{OpTextFault, read_op};
-use replica_core::Replica;
+use replica_core::{Gathering, Replica};
 use std::alloc::Global;
 
 /// The first line of a journal.
@@ -147,7 +147,7 @@ fn read_lines<F: Feed>(alloc: Global, feed: &mut F) -> Result<Found, JournalFaul
     let mut seen = 13u64;
     while seen <= TEXT_LIMIT {
         match reading.read_block(feed, piece.as_mut_slice())? {
-            0 => return Ok(reading.found(seen)),
+            0 => return reading.found(seen),
             count => seen += count as u64,
         }
     }
@@ -159,7 +159,7 @@ fn read_lines<F: Feed>(alloc: Global, feed: &mut F) -> Result<Found, JournalFaul
 #[derive(Drop)]
 struct Reading {
     pub alloc: Global,
-    pub replica: Replica,
+    pub gathering: Gathering,
     pub held: Vec<u8>,
     pub next: u64,
 }
@@ -167,37 +167,42 @@ struct Reading {
 impl Reading {
     /// After the first line.
     pub fn new(alloc: Global) -> Reading
-        ensures { HasRead header_line result.replica result.held.items result.next }
+        ensures { HasRead header_line result.gathering result.held.items result.next }
     {
         Reading {
             alloc,
-            replica: Replica::new(alloc),
+            gathering: Gathering::onto(Replica::new(alloc)),
             held: Vec::new(alloc),
             next: 2,
         }
     }
 
     /// What was found, where so many bytes came in all.
-    fn found(self, seen: u64) -> Found
+    fn found(self, seen: u64) -> Result<Found, JournalFault>
         requires { length self.held.items ≤ seen }
-        ensures { (came : List ℕ) → HasRead came self.replica self.held.items self.next → length came ≡ seen
-            → IsFound came result }
+        ensures found { IfOk result (λ found. (came : List ℕ) → HasRead came self.gathering self.held.items self.next
+            → length came ≡ seen → IsFound came found) }
+        ensures refused { IfErr result (λ fault. fault ≡ JournalFault.NoMemory) }
     {
-        let Reading { replica, held, .. } = self;
+        let Reading {
+            gathering,
+            held,
+            ..
+        } = self;
         let torn = held.as_slice().len();
-        Found::Lines(replica, seen - torn as u64, torn)
+        Ok(Found::Lines(gathering.joined()?, seen - torn as u64, torn))
     }
 
     /// Reads some bytes, and what they say. 0 is the end.
     fn read_block<F: Feed>(&mut self, feed: &mut F, piece: &mut [u8]) -> Result<usize, JournalFault>
         ensures read { IfOk result (λ count. (part : List ℕ) × (length part ≡ count)
             × Consumes (F.left feed.old) (F.left feed.new) part
-            × ((came : List ℕ) → HasRead came self.old.replica self.old.held.items self.old.next
-            → HasRead (came ++ part) self.new.replica self.new.held.items self.new.next)) }
+            × ((came : List ℕ) → HasRead came self.old.gathering self.old.held.items self.old.next
+            → HasRead (came ++ part) self.new.gathering self.new.held.items self.new.next)) }
         ensures most { IfOk result (λ count. count ≤ length piece.old) }
         ensures end { IfOk result (λ count. count ≡ 0 → 0 < length piece.old → IsAtEnd (F.left feed.new)) }
         ensures refused { IfErr result
-            (λ fault. (came : List ℕ) → HasRead came self.old.replica self.old.held.items self.old.next
+            (λ fault. (came : List ℕ) → HasRead came self.old.gathering self.old.held.items self.old.next
             → IfSome (F.left feed.old) (λ more. IsRefusal (came ++ more) fault)) }
         ensures same { F.image feed.new ≡ F.image feed.old }
         ensures counted { MatchResult result
@@ -214,10 +219,10 @@ impl Reading {
 
     /// Reads what came.
     fn take_block(&mut self, block: &[u8]) -> Result<(), JournalFault>
-        ensures ok { OnOk result ((came : List ℕ) → HasRead came self.old.replica self.old.held.items self.old.next
-            → HasRead (came ++ block.now) self.new.replica self.new.held.items self.new.next) }
+        ensures ok { OnOk result ((came : List ℕ) → HasRead came self.old.gathering self.old.held.items self.old.next
+            → HasRead (came ++ block.now) self.new.gathering self.new.held.items self.new.next) }
         ensures err { IfErr result
-            (λ fault. (came : List ℕ) → HasRead came self.old.replica self.old.held.items self.old.next
+            (λ fault. (came : List ℕ) → HasRead came self.old.gathering self.old.held.items self.old.next
             → (later : List ℕ) → IsRefusal ((came ++ block.now) ++ later) fault) }
         ensures unfailing { IsErrOf result JournalFault.Failed → ⊥ }
     {
@@ -232,10 +237,10 @@ impl Reading {
     /// Reads the rest of a line, whose end comes after it.
     fn take_piece(&mut self, piece: &[u8]) -> Result<(), JournalFault>
         requires { HasNoLf piece.now }
-        ensures ok { OnOk result ((came : List ℕ) → HasRead came self.old.replica self.old.held.items self.old.next
-            → HasRead (came ++ as_line piece.now) self.new.replica self.new.held.items self.new.next) }
+        ensures ok { OnOk result ((came : List ℕ) → HasRead came self.old.gathering self.old.held.items self.old.next
+            → HasRead (came ++ as_line piece.now) self.new.gathering self.new.held.items self.new.next) }
         ensures err { IfErr result
-            (λ fault. (came : List ℕ) → HasRead came self.old.replica self.old.held.items self.old.next
+            (λ fault. (came : List ℕ) → HasRead came self.old.gathering self.old.held.items self.old.next
             → (later : List ℕ) → IsRefusal ((came ++ as_line piece.now) ++ later) fault) }
         ensures unfailing { IsErrOf result JournalFault.Failed → ⊥ }
     {
@@ -246,10 +251,10 @@ impl Reading {
     /// Holds more of the line that is read.
     fn hold(&mut self, piece: &[u8]) -> Result<(), JournalFault>
         requires { HasNoLf piece.now }
-        ensures ok { OnOk result ((came : List ℕ) → HasRead came self.old.replica self.old.held.items self.old.next
-            → HasRead (came ++ piece.now) self.new.replica self.new.held.items self.new.next) }
+        ensures ok { OnOk result ((came : List ℕ) → HasRead came self.old.gathering self.old.held.items self.old.next
+            → HasRead (came ++ piece.now) self.new.gathering self.new.held.items self.new.next) }
         ensures err { IfErr result
-            (λ fault. (came : List ℕ) → HasRead came self.old.replica self.old.held.items self.old.next
+            (λ fault. (came : List ℕ) → HasRead came self.old.gathering self.old.held.items self.old.next
             → (later : List ℕ) → IsRefusal ((came ++ piece.now) ++ later) fault) }
         ensures unfailing { IsErrOf result JournalFault.Failed → ⊥ }
     {
@@ -262,10 +267,10 @@ impl Reading {
 
     /// Takes the operation of the line that is held, whose end came.
     fn take_line(&mut self) -> Result<(), JournalFault>
-        ensures ok { OnOk result ((came : List ℕ) → HasRead came self.old.replica self.old.held.items self.old.next
-            → HasRead (came ++ 10 ∷ []) self.new.replica self.new.held.items self.new.next) }
+        ensures ok { OnOk result ((came : List ℕ) → HasRead came self.old.gathering self.old.held.items self.old.next
+            → HasRead (came ++ 10 ∷ []) self.new.gathering self.new.held.items self.new.next) }
         ensures err { IfErr result
-            (λ fault. (came : List ℕ) → HasRead came self.old.replica self.old.held.items self.old.next
+            (λ fault. (came : List ℕ) → HasRead came self.old.gathering self.old.held.items self.old.next
             → (later : List ℕ) → IsRefusal ((came ++ 10 ∷ []) ++ later) fault) }
         ensures unfailing { IsErrOf result JournalFault.Failed → ⊥ }
     {
@@ -276,7 +281,7 @@ impl Reading {
         let Some(next) = self.next.checked_add(1) else {
             return Err(JournalFault::TooLong);
         };
-        let _taken = self.replica.take(op)?;
+        let _taken = self.gathering.take(op)?;
         self.held.clear();
         self.next = next;
         Ok(())

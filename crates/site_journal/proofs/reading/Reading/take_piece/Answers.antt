@@ -14,14 +14,14 @@ returns-in_err-hold-clause-err c =
 pub returns-clause-ok : goal.returns-clause-ok
 returns-clause-ok c =
     on_ok_weaker c.take_line.result
-    (λ step came read. subst (λ l. HasRead l c.take_line.new.self.replica c.take_line.new.self.held.items c.take_line.new.self.next) (line_joined came c.args.piece.now)
+    (λ step came read. subst (λ l. HasRead l c.take_line.new.self.gathering c.take_line.new.self.held.items c.take_line.new.self.next) (line_joined came c.args.piece.now)
     (step (came ++ c.args.piece.now) (c.in_ok-hold.ensures.ok came read)))
     c.take_line.ensures.ok
 
 pub returns-clause-err : goal.returns-clause-err
 returns-clause-err c =
     IfErr-weaker c.take_line.result
-    (λ fault. (came : List ℕ) → HasRead came c.hold.new.self.replica c.hold.new.self.held.items c.hold.new.self.next → (later : List ℕ) → IsRefusal ((came ++ 10 ∷ []) ++ later) fault)
-    (λ fault. (came : List ℕ) → HasRead came c.args.self.now.replica c.args.self.now.held.items c.args.self.now.next → (later : List ℕ) → IsRefusal ((came ++ as_line c.args.piece.now) ++ later) fault)
+    (λ fault. (came : List ℕ) → HasRead came c.hold.new.self.gathering c.hold.new.self.held.items c.hold.new.self.next → (later : List ℕ) → IsRefusal ((came ++ 10 ∷ []) ++ later) fault)
+    (λ fault. (came : List ℕ) → HasRead came c.args.self.now.gathering c.args.self.now.held.items c.args.self.now.next → (later : List ℕ) → IsRefusal ((came ++ as_line c.args.piece.now) ++ later) fault)
     (λ fault fails came read later. subst (λ l. IsRefusal (l ++ later) fault) (line_joined came c.args.piece.now) (fails (came ++ c.args.piece.now) (c.in_ok-hold.ensures.ok came read) later))
     c.take_line.ensures.err
