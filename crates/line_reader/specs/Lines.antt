@@ -5,6 +5,10 @@ use Rattle.byte_ends.specs.Lines.{as_line, without_cr}
 use Rattle.byte_ends.specs.declared.faults.BytesFault.{BytesFault}
 use Rattle.byte_ends.specs.declared.faults.BytesFault.TheVariants.{TooLong, ReadFault, NoMemory}
 
+-- the most bytes of a line of a session, of a journal and of what a site answers, without its line end
+abbrev pub line_limit : ℕ
+line_limit = 524288
+
 abbrev pub HasNoLf : List ℕ → Type 0
 HasNoLf bytes = All (λ byte. byte ≢ 10) bytes
 

@@ -3,6 +3,7 @@ use Rattle.std.proofs.Common.{◌≡◌, ℕ, ◌+◌, ◌<◌, ◌≤◌, Bool,
 use Rattle.std.proofs.Common.{length, take, get_or, refl, sym, ap, ◌∙◌, subst, arith, append-nil, length-append}
 use Rattle.std.specs.Prelude.{IfSome}
 use Rattle.std.proofs.lemmas.List.{take_at, take_all, take_more}
+use Rattle.line_reader.specs.Lines.{line_limit}
 use Rattle.byte_ends.specs.Failures.{most_failures, OneFailed, NoneFailed}
 use Rattle.review_ops.specs.Operation.{Operation}
 use Rattle.review_ops.specs.Timestamp.{IsNumbered}
@@ -11,7 +12,7 @@ use Rattle.op_text.specs.Text.{operation_text}
 use Rattle.snapshot_text.specs.Snapshot.{operation_lines}
 use Rattle.snapshot_text.specs.Sound.{IsSound, AreSound}
 use Rattle.site_journal.specs.Prefixes.{IsPrefix}
-use Rattle.site_journal.specs.Text.{most_line, AreShort, Says}
+use Rattle.site_journal.specs.Text.{AreShort, Says}
 use Rattle.site_journal.specs.Tape.{Image, IsLeftBy, IsSettled, Changes, Grows, Steadies, Shrinks}
 use Rattle.site_journal.specs.Book.{TakesBack, Recovers}
 use Rattle.site_journal.proofs.Bytes.{prefix-trans, prefix-length}
@@ -88,12 +89,12 @@ sound_next ops i op within is numbered good sound =
     push (y ∷ xs) x sound is = (sound.0, push xs x sound.1 is)
 
 pub short_next : (ops : List Operation) (i : ℕ) (op : Operation) → i < length ops → op ≡ get_or ops i op
-    → length (operation_text op) ≤ most_line → AreShort (take i ops) → AreShort (take (i + 1) ops)
+    → length (operation_text op) ≤ line_limit → AreShort (take i ops) → AreShort (take (i + 1) ops)
 short_next ops i op within is short all =
     rw (take_more ops i op within)
-    (push (take i ops) (get_or ops i op) all (subst (λ o. length (operation_text o) ≤ most_line) is short))
+    (push (take i ops) (get_or ops i op) all (subst (λ o. length (operation_text o) ≤ line_limit) is short))
   where
-    push : (xs : List Operation) (x : Operation) → AreShort xs → length (operation_text x) ≤ most_line
+    push : (xs : List Operation) (x : Operation) → AreShort xs → length (operation_text x) ≤ line_limit
         → AreShort (xs ++ x ∷ [])
     push [] x sound is = (is, tt)
     push (y ∷ xs) x sound is = (sound.0, push xs x sound.1 is)

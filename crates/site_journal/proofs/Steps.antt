@@ -7,7 +7,7 @@ use Rattle.std.proofs.Common.{drop, refl, sym, ap, ◌∙◌, subst, arith, appe
 use Rattle.std.proofs.Common.{take-append-drop}
 use Rattle.std.proofs.lemmas.List.{take_at, take_all, take-append-le}
 use Rattle.byte_ends.specs.Lines.{as_line}
-use Rattle.line_reader.specs.Lines.{HasNoLf}
+use Rattle.line_reader.specs.Lines.{HasNoLf, line_limit}
 use Rattle.review_ops.specs.Operation.{Operation}
 use Rattle.replica_core.specs.Journal.{arrived}
 use Rattle.replica_core.specs.JournalLaws.{all_arrived-push}
@@ -18,7 +18,7 @@ use Rattle.op_text.specs.declared.fault.OpTextFault.TheVariants as text
 use Rattle.site_journal.specs.declared.fault.LineCause.TheVariants as cause
 use Rattle.site_journal.specs.declared.fault.JournalFault.TheVariants.{BadLine}
 use Rattle.site_journal.specs.Prefixes.{IsPrefix}
-use Rattle.site_journal.specs.Text.{header_line, most_line, whole_lines, IsFresh}
+use Rattle.site_journal.specs.Text.{header_line, whole_lines, IsFresh}
 use Rattle.site_journal.specs.Fault.{IsNoLine, IsBadHeader, IsRefusal, most_text, line_fault_of}
 use Rattle.site_journal.specs.Reading.{HasRead, IsFound}
 use Rattle.site_journal.specs.declared.reading.Found.TheVariants.{Lines}
@@ -39,7 +39,7 @@ read_none = record {
 }
 
 -- more of a line
-pub read_more : (came journal held piece : _) (next : ℕ) → HasNoLf piece → length (held ++ piece) ≤ most_line
+pub read_more : (came journal held piece : _) (next : ℕ) → HasNoLf piece → length (held ++ piece) ≤ line_limit
     → HasRead came journal held next → HasRead (came ++ piece) journal (held ++ piece) next
 read_more came journal held piece next plain short read = record {
   pieces = read.pieces;
@@ -68,7 +68,7 @@ read_line came journal held op next spells read = record {
 }
 
 -- a line that is too long
-pub too_long : (came journal held piece : _) (next : ℕ) → HasNoLf piece → most_line < length (held ++ piece)
+pub too_long : (came journal held piece : _) (next : ℕ) → HasNoLf piece → line_limit < length (held ++ piece)
     → HasRead came journal held next
     → (later : List ℕ) → IsRefusal ((came ++ piece) ++ later) (BadLine next cause.TooLong)
 too_long came journal held piece next plain long read later = record {

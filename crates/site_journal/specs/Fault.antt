@@ -2,7 +2,7 @@
 use Rattle.std.specs.Prelude.{◌≡◌, ◌+◌, ◌-◌, ◌^◌, ◌<◌, ℕ, List, ◌++◌, codes, decimal, length}
 use Rattle.byte_ends.specs.Failures.{OneFailed}
 use Rattle.byte_ends.specs.Lines.{as_line}
-use Rattle.line_reader.specs.Lines.{HasNoLf}
+use Rattle.line_reader.specs.Lines.{HasNoLf, line_limit}
 use Rattle.review_ops.specs.Operation.{Operation}
 use Rattle.op_text.specs.Spelling.{SpellsOperation}
 use Rattle.op_text.specs.Fault as operation
@@ -10,7 +10,7 @@ use Rattle.op_text.specs.declared.fault.OpTextFault.{OpTextFault}
 use Rattle.op_text.specs.declared.fault.OpTextFault.TheVariants as text
 use Rattle.snapshot_text.specs.Snapshot.{IsCause}
 use Rattle.site_journal.specs.Prefixes.{IsPrefix}
-use Rattle.site_journal.specs.Text.{header_line, most_line, SayOperations, whole_lines, IsFresh}
+use Rattle.site_journal.specs.Text.{header_line, SayOperations, whole_lines, IsFresh}
 use Rattle.site_journal.specs.declared.fault.LineCause.{LineCause}
 use Rattle.site_journal.specs.declared.fault.LineCause.TheVariants as cause
 use Rattle.site_journal.specs.declared.fault.JournalFault.{JournalFault}
@@ -19,7 +19,7 @@ use Rattle.site_journal.specs.declared.fault.JournalFault.TheVariants.{BadHeader
 -- what begins with a line that isn't read, or with more bytes than a line has and no line end among them
 abbrev pub IsNoLine : List ℕ → LineCause → Type 0
 IsNoLine text cause.TooLong =
-    (front later : List ℕ) × (text ≡ front ++ later) × HasNoLf front × (most_line < length front)
+    (front later : List ℕ) × (text ≡ front ++ later) × HasNoLf front × (line_limit < length front)
 IsNoLine text (cause.Text fault) =
     (piece later : List ℕ) × (text ≡ as_line piece ++ later) × HasNoLf piece × IsCause piece fault
     × ((op : Operation) → ¬ SpellsOperation piece op)

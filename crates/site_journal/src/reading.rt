@@ -11,6 +11,7 @@ ghost use Rattle.site_journal.specs.Text.{header_line};
 
 use crate::fault::{JournalFault, LineCause};
 use crate::tape::Feed;
+use line_reader::LINE_LIMIT;
 use memchr::memchr;
 use op_text::{OpTextFault, read_op};
 use replica_core::{Gathering, Replica};
@@ -18,9 +19,6 @@ use std::alloc::Global;
 
 /// The first line of a journal.
 pub const HEADER: &[u8] = b"reviewgate 2\n";
-
-/// The most bytes of a line, without its line end.
-pub const LINE_LIMIT: usize = 524_288;
 
 /// How many bytes are read at once.
 const BLOCK: usize = 65_536;

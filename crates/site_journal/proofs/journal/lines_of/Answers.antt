@@ -2,8 +2,9 @@ use Rattle.std.proofs.Common.{◌≤◌, length, length-append, ap, ◌∙◌, a
 use Rattle.std.proofs.lemmas.List.{take_all}
 use Rattle.snapshot_text.specs.Sound.{AreSound}
 use Rattle.std.proofs.lemmas.Grind.{common_steps}
+use Rattle.line_reader.specs.Lines.{line_limit}
 use Rattle.op_text.specs.Text.{operation_text}
-use Rattle.site_journal.specs.Text.{most_line, AreShort}
+use Rattle.site_journal.specs.Text.{AreShort}
 use Rattle.site_journal.proofs.Keeping.{sound_next, short_next}
 use Rattle.site_journal.proofs.journal.lines_of.Goals as goal
 
@@ -12,7 +13,7 @@ loop-op-preserved c =
     let text = operation_text c.op-item.result in
     let grown = ap length (c.as_slice.ensures.value ∙ c.in_ok-append_op.ensures.ok) in
     let began = ap length c.as_slice-start.ensures.value in
-    let short : length text ≤ most_line = omega (arith, c.if-as_slice-start-gt-LINE_LIMIT.false, grown, began, length-append c.loop-op.lines.items text) in record {
+    let short : length text ≤ line_limit = omega (arith, c.if-as_slice-start-gt-LINE_LIMIT.false, grown, began, length-append c.loop-op.lines.items text) in record {
       written = grind (arith, common_steps);
       sound = sound_next c.args.ops.now c.loop-op.op-index c.op-item.result c.loop-op-test.true c.op-item.is c.stamp.ensures.numbered c.body.ensures.good c.loop-op.invariant.sound;
       short = short_next c.args.ops.now c.loop-op.op-index c.op-item.result c.loop-op-test.true c.op-item.is short c.loop-op.invariant.short;
