@@ -196,7 +196,7 @@ fn sets_of(rt: &impl Abort, alloc: Global, steps: &[Step]) -> Result<Sets, Fail>
     let state = state_of(rt, alloc, steps)?;
     Ok(Sets {
         current: state.current(),
-        known: state.sets().len(),
+        known: state.sets().iter().count(),
         parents: (state.parent(2), state.parent(3), state.parent(4)),
     })
 }
@@ -306,7 +306,7 @@ const VOTED: &[Step] = &[
 fn voted_in(state: &ChangeState) -> ([Option<u32>; 3], usize) {
     let mut voted = state.voted();
     let sets = [voted.next(), voted.next(), voted.next()];
-    (sets, state.all_votes().len())
+    (sets, state.all_votes().iter().count())
 }
 
 #[test]
