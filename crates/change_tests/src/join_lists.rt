@@ -71,8 +71,8 @@ fn pairs_come_from_a_key_on(rt: HostRuntime) -> Result<(), Fail> {
     assert_eq!(rt; left.next().map(|(key, _)| *key), Some(1003));
     assert_eq!(rt; left.next().map(|(key, _)| *key), Some(1004));
     assert!(rt; left.next().is_none() && left.next().is_none());
-    assert_eq!(rt; map.from_key(&0).count(), 1000);
-    assert_eq!(rt; map.from_key(&1005).count(), 0);
+    assert_eq!(rt; map.from_key(&0).next().map(|(key, _)| *key), Some(5));
+    assert!(rt; map.from_key(&1005).next().is_none());
     Ok(())
 }
 
@@ -90,7 +90,8 @@ fn the_greater_register_wins_at_a_key(rt: HostRuntime) -> Result<(), Fail> {
     map.join_at(7, Register::new(3, 9))?;
     map.join_at(2, Register::new(1, 5))?;
     assert_eq!(rt; held(&map), (Some(5), Some(4)));
-    assert_eq!(rt; map.iter().count(), 2);
+    let mut left = map.iter();
+    assert!(rt; left.next().is_some() && left.next().is_some() && left.next().is_none());
     Ok(())
 }
 
