@@ -15,9 +15,9 @@ use Rattle.op_text.specs.declared.fault.OpTextFault.TheVariants as text
 use Rattle.replica_core.specs.Front.{Reaches}
 use Rattle.review_ops.specs.Deed.{Deed}
 use Rattle.site_port.specs.Ports.{Call, Reply}
-use Rattle.gossip_line.specs.Answers.{IsAnswer, IsMisspelled, IsCutShort, IsWritten, Sends}
+use Rattle.gossip_line.specs.Answers.{IsAnswer, IsMisspelled, AnswerIsCutShort, IsWritten, Sends}
 use Rattle.gossip_line.specs.Commands.{take_word, front_word}
-use Rattle.gossip_line.specs.Texts.{Answer, no_memory, bad_text, answer_text, next_of, unread_line}
+use Rattle.gossip_line.specs.Texts.{SessionAnswer, no_memory, bad_text, answer_text, next_of, unread_line}
 use Rattle.gossip_line.specs.declared.fault.LineFault.{LineFault}
 
 -- a fault that isn't want of memory says that nothing is spelled
@@ -28,7 +28,7 @@ not_spelled Spelled fault other only x is = other (only x is)
 module _ {P : Type 0} (gives : P → Call → Reply → P → Type 0) (old : P) where
   -- which answer it is where the text isn't read
   pub record IsUnread (line : List ℕ) (fault : OpTextFault) : Type 0 where
-    pub answer : Answer
+    pub answer : SessionAnswer
     pub is : IsAnswer gives old line answer old
     pub says : answer_text answer ≡ unread_line fault
     pub goes_on : next_of answer ≡ Ok true
@@ -61,7 +61,7 @@ module _ {P : Type 0} (gives : P → Call → Reply → P → Type 0) (old : P) 
       (inr (front, refl, not_spelled (SpellsFront front) (text.BadBody cause) (λ e. cc) only)) (text.BadBody cause) refl
 
 -- a text that is that of an answer is written as the answer is
-pub sends_as : (answer : Answer) (said : List ℕ) (taken later : Option (List ℕ)) (failed failures : ℕ)
+pub sends_as : (answer : SessionAnswer) (said : List ℕ) (taken later : Option (List ℕ)) (failed failures : ℕ)
     (result : Result Bool LineFault) → answer_text answer ≡ said → next_of answer ≡ Ok true
     → Sends said (Ok true) taken later failed failures result
     → Sends (answer_text answer) (next_of answer) taken later failed failures result
@@ -77,7 +77,7 @@ module _ (state of : State) (is : state ≡ of) (taken later : Option (List ℕ)
 
   pub shown_cut : (fault : WriteStateFault) → fault ≡ write.WriteFault
       → (IsErrOf {T = Unit {0}} (Err fault) write.WriteFault → (count : ℕ) × (count < length (state_text state)) × Appends taken later (take count (state_text state)))
-      → CountsStateFault failed failures fault → IsCutShort (state_text of) taken later failed failures
+      → CountsStateFault failed failures fault → AnswerIsCutShort (state_text of) taken later failed failures
   shown_cut write.WriteFault e cut one =
       let part = cut refl in record {
         count = part.0;

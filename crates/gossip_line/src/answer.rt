@@ -2,7 +2,7 @@
 
 ghost use Rattle.std.specs.Prelude.{◌≡◌, ◌++◌, codes, false};
 ghost use Rattle.gossip_line.specs.Answers.{IsAnswered, IsFirstAnswer, Sends};
-ghost use Rattle.gossip_line.specs.Texts.{Answer, answer_text, bad_version, farewell, next_of, refusal_line};
+ghost use Rattle.gossip_line.specs.Texts.{SessionAnswer, answer_text, bad_version, farewell, next_of, refusal_line};
 ghost use Rattle.gossip_line.specs.Texts.{unread_line};
 ghost use Rattle.gossip_line.specs.Commands.{take_word, front_word};
 
@@ -46,7 +46,7 @@ pub fn answer<D: Drain, P: Port>(
 
 /// Answers the first line, which has to name the version.
 fn greet<D: Drain>(line: &[u8], drain: &mut D) -> Result<bool, LineFault>
-    ensures { (answer : Answer) × IsFirstAnswer line.now answer × Sends (answer_text answer) (next_of answer)
+    ensures { (answer : SessionAnswer) × IsFirstAnswer line.now answer × Sends (answer_text answer) (next_of answer)
         (D.taken drain.old) (D.taken drain.new) (D.failed drain.old) (D.failed drain.new) result }
 {
     if line == HELLO {

@@ -50,10 +50,10 @@ Hands old came (Err ReadFault) new = new.held ≡ old.held ++ came
 Hands old came (Err NoMemory) new = new.held ≡ old.held ++ came
 
 -- what a call that passes over a line answers, by what was held before and after, where it reads these bytes
-abbrev pub Passes : List ℕ → List ℕ → Result Bool BytesFault → List ℕ → Type 0
-Passes old came (Ok true) new = (piece : List ℕ) × HasNoLf piece × (old ++ came ≡ as_line piece ++ new)
-Passes old came (Ok false) new = HasNoLf (old ++ came) × (new ≡ [])
-Passes old came (Err fault) new = HasNoLf (old ++ came) × (new ≡ [])
+abbrev pub PassesLine : List ℕ → List ℕ → Result Bool BytesFault → List ℕ → Type 0
+PassesLine old came (Ok true) new = (piece : List ℕ) × HasNoLf piece × (old ++ came ≡ as_line piece ++ new)
+PassesLine old came (Ok false) new = HasNoLf (old ++ came) × (new ≡ [])
+PassesLine old came (Err fault) new = HasNoLf (old ++ came) × (new ≡ [])
 
 -- the same where nothing is read
 abbrev pub PassesHeld : List ℕ → Bool → List ℕ → Type 0

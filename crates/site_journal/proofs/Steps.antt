@@ -19,8 +19,8 @@ use Rattle.site_journal.specs.declared.fault.LineCause.TheVariants as cause
 use Rattle.site_journal.specs.declared.fault.JournalFault.TheVariants.{BadLine}
 use Rattle.site_journal.specs.Prefixes.{IsPrefix}
 use Rattle.site_journal.specs.Text.{header_line, whole_lines, IsFresh}
-use Rattle.site_journal.specs.Fault.{IsNoLine, IsBadHeader, IsRefusal, most_text, line_fault_of}
-use Rattle.site_journal.specs.Reading.{HasRead, IsFound}
+use Rattle.site_journal.specs.Fault.{IsNoLine, IsBadHeader, IsJournalRefusal, most_text, line_fault_of}
+use Rattle.site_journal.specs.Reading.{HasRead, IsFoundText}
 use Rattle.site_journal.specs.declared.reading.Found.TheVariants.{Lines}
 use Rattle.site_journal.proofs.Bytes.{has_none}
 use Rattle.site_journal.proofs.Lines.{say-append, whole-push, whole-length}
@@ -70,7 +70,7 @@ read_line came journal held op next spells read = record {
 -- a line that is too long
 pub too_long : (came journal held piece : _) (next : ℕ) → HasNoLf piece → line_limit < length (held ++ piece)
     → HasRead came journal held next
-    → (later : List ℕ) → IsRefusal ((came ++ piece) ++ later) (BadLine next cause.TooLong)
+    → (later : List ℕ) → IsJournalRefusal ((came ++ piece) ++ later) (BadLine next cause.TooLong)
 too_long came journal held piece next plain long read later = record {
   pieces = read.pieces;
   ops = read.ops;
@@ -93,7 +93,7 @@ whole_bad came journal held next read later =
 
 bad_line : (came journal held : _) (next : ℕ) (why : OpTextFault) → (later : List ℕ) → HasRead came journal held next
     → IsNoLine (as_line held ++ later) (cause.Text why)
-    → IsRefusal ((came ++ 10 ∷ []) ++ later) (BadLine next (cause.Text why))
+    → IsJournalRefusal ((came ++ 10 ∷ []) ++ later) (BadLine next (cause.Text why))
 bad_line came journal held next why later read bad = record {
   pieces = read.pieces;
   ops = read.ops;
@@ -107,7 +107,7 @@ bad_line came journal held next why later read bad = record {
 pub not_read : (came journal held : _) (next : ℕ) (why : OpTextFault) → IsRefusalOf form.Operation held why
     → ((op : Operation) → SpellsOperation held op → why ≡ text.NoMemory)
     → HasRead came journal held next → (later : List ℕ)
-    → IsRefusal ((came ++ 10 ∷ []) ++ later) (line_fault_of next why)
+    → IsJournalRefusal ((came ++ 10 ∷ []) ++ later) (line_fault_of next why)
 not_read came journal held next text.NotJson refused only read later =
     bad_line came journal held next text.NotJson later read
     (held, later, refl, read.torn.plain, refused, λ op spells. cc (only op spells))
@@ -135,7 +135,7 @@ too_many came journal held next many read later =
 
 -- the whole was read
 pub read_found : (came journal held : _) (next len torn : ℕ) → HasRead came journal held next → torn ≡ length held
-    → length came ≡ len + torn → IsFound came (Lines journal len torn)
+    → length came ≡ len + torn → IsFoundText came (Lines journal len torn)
 read_found came journal held next len torn read few e = (read.ops, held, record { pieces = read.pieces; whole = read.whole; says = read.says; torn = read.torn }, read.taken, few, e)
 
 -- ---- at what calls answer
@@ -151,7 +151,7 @@ pub not_read_at : (came journal held bytes : _) (next : ℕ) (why : OpTextFault)
     → IsRefusalOf form.Operation bytes why
     → ((op : Operation) → SpellsOperation bytes op → why ≡ text.NoMemory)
     → HasRead came journal held next → (later : List ℕ)
-    → IsRefusal ((came ++ 10 ∷ []) ++ later) (line_fault_of next why)
+    → IsJournalRefusal ((came ++ 10 ∷ []) ++ later) (line_fault_of next why)
 not_read_at came journal held bytes next why same refused only =
     not_read came journal held next why (subst (λ b. IsRefusalOf form.Operation b why) same refused)
     (λ op spells. only op (subst (λ b. SpellsOperation b op) (sym same) spells))
@@ -168,12 +168,12 @@ line_joined_later came piece later =
 -- ---- what a feed gave
 
 pub refused_all : (left new : Option (List ℕ)) (part came : List ℕ) (fault : JournalFault) → Consumes left new part
-    → ((later : List ℕ) → IsRefusal ((came ++ part) ++ later) fault)
-    → IfSome left (λ more. IsRefusal (came ++ more) fault)
+    → ((later : List ℕ) → IsJournalRefusal ((came ++ part) ++ later) fault)
+    → IfSome left (λ more. IsJournalRefusal (came ++ more) fault)
 refused_all None new part came fault took fails = tt
 refused_all (Some x) None part came fault took fails = absurd took
 refused_all (Some x) (Some y) part came fault took fails =
-    subst (λ l. IsRefusal l fault) (append_assoc came part y ∙ ap (λ l. came ++ l) (sym took)) (fails y)
+    subst (λ l. IsJournalRefusal l fault) (append_assoc came part y ∙ ap (λ l. came ++ l) (sym took)) (fails y)
 
 -- what was consumed before
 pub after_front : (left new : Option (List ℕ)) (part : List ℕ) (P Q : List ℕ → Type 0) → Consumes left new part

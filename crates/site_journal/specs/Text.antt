@@ -27,7 +27,7 @@ AreShort (op ∷ ops) = (length (operation_text op) ≤ line_limit) × AreShort 
 -- ---- what is read
 
 -- these bytes, followed by a line end, are the line of the operation
-pub record SaysOperation (piece : List ℕ) (op : Operation) : Type 0 where
+pub record IsJournalLine (piece : List ℕ) (op : Operation) : Type 0 where
   pub plain : HasNoLf piece
   pub short : length piece ≤ line_limit
   pub spells : SpellsOperation piece op
@@ -37,7 +37,7 @@ abbrev pub SayOperations : List (List ℕ) → List Operation → Type 0
 SayOperations [] [] = Unit {0}
 SayOperations [] (op ∷ ops) = ⊥
 SayOperations (piece ∷ pieces) [] = ⊥
-SayOperations (piece ∷ pieces) (op ∷ ops) = SaysOperation piece op × SayOperations pieces ops
+SayOperations (piece ∷ pieces) (op ∷ ops) = IsJournalLine piece op × SayOperations pieces ops
 
 -- a line whose end wasn't written
 pub record IsTorn (rest : List ℕ) : Type 0 where
@@ -49,7 +49,7 @@ abbrev pub whole_lines : List (List ℕ) → List ℕ
 whole_lines pieces = flat_map as_line pieces
 
 -- the text is a journal of these operations, and the torn rest
-pub record Says (text : List ℕ) (ops : List Operation) (rest : List ℕ) : Type 0 where
+pub record SaysJournal (text : List ℕ) (ops : List Operation) (rest : List ℕ) : Type 0 where
   pub pieces : List (List ℕ)
   pub whole : text ≡ header_line ++ (whole_lines pieces ++ rest)
   pub says : SayOperations pieces ops

@@ -5,8 +5,8 @@ ghost use Rattle.std.specs.Prelude.{IfSome, MatchOption, MatchResult, OnOk, leng
 ghost use Rattle.std.specs.Io.KnownBytes.{Consumes, IsAtEnd};
 ghost use Rattle.byte_ends.specs.Lines.{as_line};
 ghost use Rattle.line_reader.specs.Lines.{HasFirstLf, HasNoLf};
-ghost use Rattle.site_journal.specs.Fault.{CountsFault, IsRefusal, line_fault_of};
-ghost use Rattle.site_journal.specs.Reading.{HasRead, IsFound, IsJudged};
+ghost use Rattle.site_journal.specs.Fault.{CountsJournalFault, IsJournalRefusal, line_fault_of};
+ghost use Rattle.site_journal.specs.Reading.{HasRead, IsFoundText, IsJudged};
 ghost use Rattle.site_journal.specs.Text.{header_line};
 
 use crate::fault::{JournalFault, LineCause};
@@ -38,11 +38,11 @@ pub enum Found {
 
 /// Reads a journal to its end.
 pub fn read_text<F: Feed>(alloc: Global, feed: &mut F) -> Result<Found, JournalFault>
-    ensures found { IfOk result (λ found. IfSome (F.left feed.old) (λ text. IsFound text found)) }
-    ensures refused { IfErr result (λ fault. IfSome (F.left feed.old) (λ text. IsRefusal text fault)) }
+    ensures found { IfOk result (λ found. IfSome (F.left feed.old) (λ text. IsFoundText text found)) }
+    ensures refused { IfErr result (λ fault. IfSome (F.left feed.old) (λ text. IsJournalRefusal text fault)) }
     ensures same { F.image feed.new ≡ F.image feed.old }
     ensures counted { MatchResult result
-        (λ _. F.failed feed.new ≡ F.failed feed.old) (CountsFault (F.failed feed.old) (F.failed feed.new)) }
+        (λ _. F.failed feed.new ≡ F.failed feed.old) (CountsJournalFault (F.failed feed.old) (F.failed feed.new)) }
 {
     let head = read_head(alloc, feed)?;
     match judged(head.as_slice()) {
@@ -89,10 +89,10 @@ fn read_head<F: Feed>(alloc: Global, feed: &mut F) -> Result<Vec<u8>, JournalFau
     ensures came { IfOk result (λ head. Consumes (F.left feed.old) (F.left feed.new) head.items) }
     ensures most { IfOk result (λ head. vec_len head ≤ 13) }
     ensures end { IfOk result (λ head. vec_len head < 13 → IsAtEnd (F.left feed.new)) }
-    ensures fault { IfErr result (λ fault. (text : List ℕ) → IsRefusal text fault) }
+    ensures fault { IfErr result (λ fault. (text : List ℕ) → IsJournalRefusal text fault) }
     ensures same { F.image feed.new ≡ F.image feed.old }
     ensures counted { MatchResult result
-        (λ _. F.failed feed.new ≡ F.failed feed.old) (CountsFault (F.failed feed.old) (F.failed feed.new)) }
+        (λ _. F.failed feed.new ≡ F.failed feed.old) (CountsJournalFault (F.failed feed.old) (F.failed feed.new)) }
 {
     let mut head = Vec::new(alloc);
     let mut piece = [0u8; 13];
@@ -118,10 +118,10 @@ fn read_piece<F: Feed>(
     ensures len { IfOk result (λ count. vec_len bytes.new ≡ vec_len bytes.old + count) }
     ensures end { IfOk result
         (λ count. count ≡ 0 → 0 < length piece.old → IsAtEnd (F.left feed.new)) }
-    ensures fault { IfErr result (λ fault. (text : List ℕ) → IsRefusal text fault) }
+    ensures fault { IfErr result (λ fault. (text : List ℕ) → IsJournalRefusal text fault) }
     ensures same { F.image feed.new ≡ F.image feed.old }
     ensures counted { MatchResult result
-        (λ _. F.failed feed.new ≡ F.failed feed.old) (CountsFault (F.failed feed.old) (F.failed feed.new)) }
+        (λ _. F.failed feed.new ≡ F.failed feed.old) (CountsJournalFault (F.failed feed.old) (F.failed feed.new)) }
 {
     let Ok(count) = feed.read(piece) else {
         return Err(JournalFault::Failed);
@@ -134,11 +134,11 @@ fn read_piece<F: Feed>(
 
 /// Reads the lines after the first to their end.
 fn read_lines<F: Feed>(alloc: Global, feed: &mut F) -> Result<Found, JournalFault>
-    ensures found { IfOk result (λ found. IfSome (F.left feed.old) (λ text. IsFound (header_line ++ text) found)) }
-    ensures refused { IfErr result (λ fault. IfSome (F.left feed.old) (λ text. IsRefusal (header_line ++ text) fault)) }
+    ensures found { IfOk result (λ found. IfSome (F.left feed.old) (λ text. IsFoundText (header_line ++ text) found)) }
+    ensures refused { IfErr result (λ fault. IfSome (F.left feed.old) (λ text. IsJournalRefusal (header_line ++ text) fault)) }
     ensures same { F.image feed.new ≡ F.image feed.old }
     ensures counted { MatchResult result
-        (λ _. F.failed feed.new ≡ F.failed feed.old) (CountsFault (F.failed feed.old) (F.failed feed.new)) }
+        (λ _. F.failed feed.new ≡ F.failed feed.old) (CountsJournalFault (F.failed feed.old) (F.failed feed.new)) }
 {
     let mut piece = vec![in alloc; 0u8; BLOCK]?;
     let mut reading = Reading::new(alloc);
@@ -179,7 +179,7 @@ impl Reading {
     fn found(self, seen: u64) -> Result<Found, JournalFault>
         requires { length self.held.items ≤ seen }
         ensures found { IfOk result (λ found. (came : List ℕ) → HasRead came self.gathering self.held.items self.next
-            → length came ≡ seen → IsFound came found) }
+            → length came ≡ seen → IsFoundText came found) }
         ensures refused { IfErr result (λ fault. fault ≡ JournalFault.NoMemory) }
     {
         let Reading {
@@ -201,10 +201,10 @@ impl Reading {
         ensures end { IfOk result (λ count. count ≡ 0 → 0 < length piece.old → IsAtEnd (F.left feed.new)) }
         ensures refused { IfErr result
             (λ fault. (came : List ℕ) → HasRead came self.old.gathering self.old.held.items self.old.next
-            → IfSome (F.left feed.old) (λ more. IsRefusal (came ++ more) fault)) }
+            → IfSome (F.left feed.old) (λ more. IsJournalRefusal (came ++ more) fault)) }
         ensures same { F.image feed.new ≡ F.image feed.old }
         ensures counted { MatchResult result
-            (λ _. F.failed feed.new ≡ F.failed feed.old) (CountsFault (F.failed feed.old) (F.failed feed.new)) }
+            (λ _. F.failed feed.new ≡ F.failed feed.old) (CountsJournalFault (F.failed feed.old) (F.failed feed.new)) }
     {
         let Ok(count) = feed.read(piece) else {
             return Err(JournalFault::Failed);
@@ -221,7 +221,7 @@ impl Reading {
             → HasRead (came ++ block.now) self.new.gathering self.new.held.items self.new.next) }
         ensures err { IfErr result
             (λ fault. (came : List ℕ) → HasRead came self.old.gathering self.old.held.items self.old.next
-            → (later : List ℕ) → IsRefusal ((came ++ block.now) ++ later) fault) }
+            → (later : List ℕ) → IsJournalRefusal ((came ++ block.now) ++ later) fault) }
         ensures unfailing { IsErrOf result JournalFault.Failed → ⊥ }
     {
         let mut rest = block;
@@ -239,7 +239,7 @@ impl Reading {
             → HasRead (came ++ as_line piece.now) self.new.gathering self.new.held.items self.new.next) }
         ensures err { IfErr result
             (λ fault. (came : List ℕ) → HasRead came self.old.gathering self.old.held.items self.old.next
-            → (later : List ℕ) → IsRefusal ((came ++ as_line piece.now) ++ later) fault) }
+            → (later : List ℕ) → IsJournalRefusal ((came ++ as_line piece.now) ++ later) fault) }
         ensures unfailing { IsErrOf result JournalFault.Failed → ⊥ }
     {
         self.hold(piece)?;
@@ -253,7 +253,7 @@ impl Reading {
             → HasRead (came ++ piece.now) self.new.gathering self.new.held.items self.new.next) }
         ensures err { IfErr result
             (λ fault. (came : List ℕ) → HasRead came self.old.gathering self.old.held.items self.old.next
-            → (later : List ℕ) → IsRefusal ((came ++ piece.now) ++ later) fault) }
+            → (later : List ℕ) → IsJournalRefusal ((came ++ piece.now) ++ later) fault) }
         ensures unfailing { IsErrOf result JournalFault.Failed → ⊥ }
     {
         self.held.extend_from_slice(piece)?;
@@ -269,7 +269,7 @@ impl Reading {
             → HasRead (came ++ 10 ∷ []) self.new.gathering self.new.held.items self.new.next) }
         ensures err { IfErr result
             (λ fault. (came : List ℕ) → HasRead came self.old.gathering self.old.held.items self.old.next
-            → (later : List ℕ) → IsRefusal ((came ++ 10 ∷ []) ++ later) fault) }
+            → (later : List ℕ) → IsJournalRefusal ((came ++ 10 ∷ []) ++ later) fault) }
         ensures unfailing { IsErrOf result JournalFault.Failed → ⊥ }
     {
         let op = match read_op(self.alloc, self.held.as_slice()) {

@@ -9,7 +9,7 @@ use Rattle.snapshot_text.specs.declared.fault.SnapFault.{SnapFault}
 use Rattle.snapshot_text.specs.declared.fault.SnapFault.TheVariants.{BadHeader, BadLine, NoEnd, BadCount, AfterEnd}
 use Rattle.snapshot_text.specs.declared.fault.SnapFault.TheVariants.{TooLong, ReadFault, NoMemory}
 use Rattle.snapshot_text.specs.Progress.{IsFaultIn}
-use Rattle.snapshot_text.specs.Snapshot.{SaysOperations, IsFirstFault, IsOutside, CountsSnapFault}
+use Rattle.snapshot_text.specs.Snapshot.{SaysOperations, IsFirstSnapFault, IsOutside, CountsSnapFault}
 use Rattle.snapshot_text.proofs.OneReading.{one_reading}
 
 pub on_ok_always : {T E P : Type 0} (r : Result T E) → P → OnOk r P
@@ -31,7 +31,7 @@ outside_only (Ok journal) P is = is
 outside_only (Err fault) P is = inr (inr is)
 
 -- a fault of the lines isn't the source's
-fault_counts : (lines : List (List ℕ)) (old new : ℕ) → new ≡ old → (fault : SnapFault) → IsFirstFault lines fault
+fault_counts : (lines : List (List ℕ)) (old new : ℕ) → new ≡ old → (fault : SnapFault) → IsFirstSnapFault lines fault
     → CountsSnapFault old new fault
 fault_counts lines old new same BadHeader is = same
 fault_counts lines old new same (BadLine n cause) is = same

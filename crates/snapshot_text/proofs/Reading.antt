@@ -15,7 +15,7 @@ use Rattle.snapshot_text.specs.declared.fault.SnapFault.{SnapFault}
 use Rattle.snapshot_text.specs.declared.fault.SnapFault.TheVariants.{BadHeader, BadLine, NoEnd, BadCount, AfterEnd}
 use Rattle.snapshot_text.specs.declared.fault.SnapFault.TheVariants.{TooLong, ReadFault, NoMemory}
 use Rattle.snapshot_text.specs.Snapshot.{IsEndLine, IsNoEndLine, IsOperationLine, AreOperationLines}
-use Rattle.snapshot_text.specs.Snapshot.{BeginsWith, SaysOperations, IsFirstFault, IsRefusal, IsOfText, most_bytes}
+use Rattle.snapshot_text.specs.Snapshot.{BeginsWith, SaysOperations, IsFirstSnapFault, IsRefusal, IsOfText, most_bytes}
 use Rattle.snapshot_text.specs.Reading.{IsLineFault, line_fault_of}
 
 -- ---- lines of operations
@@ -179,7 +179,7 @@ line_refused text number op_fault.NoMemory refusal only = tt
 
 -- ---- from the lines to the bytes
 
-pub refusal_of : (text : List ℕ) (fault : SnapFault) → length text ≤ most_bytes → IsFirstFault (lines_of text) fault
+pub refusal_of : (text : List ℕ) (fault : SnapFault) → length text ≤ most_bytes → IsFirstSnapFault (lines_of text) fault
     → IsRefusal text fault × IsOfText fault
 refusal_of text BadHeader within is = ((within, is), ((λ e. cc), (λ e. cc)))
 refusal_of text (BadLine n cause) within is = ((within, is), ((λ e. cc), (λ e. cc)))

@@ -11,7 +11,7 @@ use Rattle.snapshot_text.specs.declared.progress.Stage.TheVariants.{Header, Oper
 use Rattle.snapshot_text.specs.declared.progress.Progress.{Progress}
 use Rattle.snapshot_text.specs.declared.blocks.Cutter.{Cutter}
 use Rattle.snapshot_text.specs.declared.blocks.Blocks.{Blocks}
-use Rattle.snapshot_text.specs.Snapshot.{BeginsWith, SaysOperations, IsFirstFault}
+use Rattle.snapshot_text.specs.Snapshot.{BeginsWith, SaysOperations, IsFirstSnapFault}
 
 -- what was taken of these lines, where this comes next: their operations arrived in the journal, after those before
 abbrev pub Stands : List Operation → List (List ℕ) → Stage → List Operation → ℕ → Type 0
@@ -26,7 +26,7 @@ HasTaken base lines progress = Stands base lines progress.stage progress.gatheri
 
 -- the first fault in the lines, which say no operations, unless memory was refused
 pub record IsFaultIn (lines : List (List ℕ)) (fault : SnapFault) : Type 0 where
-  pub first : IsFirstFault lines fault
+  pub first : IsFirstSnapFault lines fault
   pub only : (ops : List Operation) → SaysOperations lines ops → fault ≡ NoMemory
 
 -- the bytes are those of lines that were taken, and the beginning of the next line, which is held

@@ -7,7 +7,7 @@ use Rattle.op_text.specs.declared.fault.OpTextFault.TheVariants as op_fault
 use Rattle.snapshot_text.specs.declared.fault.SnapFault.{SnapFault}
 use Rattle.snapshot_text.specs.declared.fault.SnapFault.TheVariants.{BadHeader, BadLine, NoEnd, BadCount, AfterEnd}
 use Rattle.snapshot_text.specs.declared.fault.SnapFault.TheVariants.{TooLong, ReadFault, NoMemory}
-use Rattle.snapshot_text.specs.Snapshot.{IsCause}
+use Rattle.snapshot_text.specs.Snapshot.{IsLineCause}
 
 -- how a refused line is reported
 abbrev pub line_fault_of : ℕ → OpTextFault → SnapFault
@@ -20,7 +20,7 @@ line_fault_of number op_fault.NoMemory = NoMemory
 abbrev pub IsLineFault : List ℕ → ℕ → SnapFault → Type 0
 IsLineFault text number BadHeader = ⊥
 IsLineFault text number (BadLine n cause) =
-    (n ≡ number) × IsCause text cause × ((op : Operation) → ¬ SpellsOperation text op)
+    (n ≡ number) × IsLineCause text cause × ((op : Operation) → ¬ SpellsOperation text op)
 IsLineFault text number NoEnd = ⊥
 IsLineFault text number BadCount = ⊥
 IsLineFault text number AfterEnd = ⊥

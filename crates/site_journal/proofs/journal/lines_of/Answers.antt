@@ -1,6 +1,6 @@
 use Rattle.std.proofs.Common.{◌≤◌, length, length-append, ap, ◌∙◌, arith, subst}
 use Rattle.std.proofs.lemmas.List.{take_all}
-use Rattle.snapshot_text.specs.Sound.{AreSound}
+use Rattle.snapshot_text.specs.Sound.{AreSoundOperations}
 use Rattle.std.proofs.lemmas.Grind.{common_steps}
 use Rattle.line_reader.specs.Lines.{line_limit}
 use Rattle.op_text.specs.Text.{operation_text}
@@ -21,7 +21,7 @@ loop-op-preserved c =
 
 pub returns-clause-sound : goal.returns-clause-sound
 returns-clause-sound c =
-    subst AreSound (take_all c.loop-op.op-index c.args.ops.now c.loop-op-test.false) c.loop-op.invariant.sound
+    subst AreSoundOperations (take_all c.loop-op.op-index c.args.ops.now c.loop-op-test.false) c.loop-op.invariant.sound
 
 pub returns-clause-short : goal.returns-clause-short
 returns-clause-short c =

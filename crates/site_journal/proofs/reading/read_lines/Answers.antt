@@ -7,8 +7,8 @@ use Rattle.std.proofs.lemmas.Result.{err_from_is_err_and, IfOk-weaker, IfErr-wea
 use Rattle.site_journal.specs.declared.fault.JournalFault.{JournalFault}
 use Rattle.site_journal.specs.declared.fault.JournalFault.TheVariants.{NoMemory}
 use Rattle.site_journal.specs.Text.{header_line}
-use Rattle.site_journal.specs.Fault.{CountsFault, IsRefusal, most_text}
-use Rattle.site_journal.specs.Reading.{HasRead, IsFound}
+use Rattle.site_journal.specs.Fault.{CountsJournalFault, IsJournalRefusal, most_text}
+use Rattle.site_journal.specs.Reading.{HasRead, IsFoundText}
 use Rattle.site_journal.proofs.Steps.{header_length, held_within, after_front, with_front}
 use Rattle.site_journal.proofs.reading.read_lines.Goals as goal
 
@@ -18,9 +18,9 @@ unknown (Some text) = tt
 
 -- want of memory isn't counted
 counted_so : {T : Type 0} (r : Result T JournalFault) (old new : ℕ) → new ≡ old → IfErr r (λ fault. fault ≡ NoMemory)
-    → MatchResult r (λ _. new ≡ old) (CountsFault old new)
+    → MatchResult r (λ _. new ≡ old) (CountsJournalFault old new)
 counted_so (Ok x) old new same is = same
-counted_so (Err fault) old new same is = subst (CountsFault old new) (sym is) same
+counted_so (Err fault) old new same is = subst (CountsJournalFault old new) (sym is) same
 
 pub loop-seen-init : goal.loop-seen-init
 loop-seen-init g c = record {
@@ -55,9 +55,9 @@ returns-in_err-count-clause-refused g c =
     let p = err_from_is_err_and c.from_residual-in_err-count.result c.from_residual-in_err-count.ensures.1 in
     rw (p.1, p.2) (
     after_front (g.F.Feed.left c.args.feed.now) (g.F.Feed.left c.loop-seen.feed) before.came
-    (λ text. IsRefusal (header_line ++ text) c.in_err-count.field-0.0)
-    (λ more. IsRefusal ((header_line ++ before.came) ++ more) c.in_err-count.field-0.0) before.read
-    (λ later h. subst (λ l. IsRefusal l c.in_err-count.field-0.0) (append_assoc header_line before.came later) h)
+    (λ text. IsJournalRefusal (header_line ++ text) c.in_err-count.field-0.0)
+    (λ more. IsJournalRefusal ((header_line ++ before.came) ++ more) c.in_err-count.field-0.0) before.read
+    (λ later h. subst (λ l. IsJournalRefusal l c.in_err-count.field-0.0) (append_assoc header_line before.came later) h)
     (c.in_err-count.ensures.refused (header_line ++ before.came) before.has)
     )
 
@@ -75,7 +75,7 @@ returns-in-0-clause-found g c =
     let read = c.in_ok-count.ensures.read in
     let some : 0 < length c.as_mut_slice.result.now = omega (arith, c.as_mut_slice.ensures.len, before.some, c.in_ok-piece.ensures.len) in
     IfOk-weaker c.found.result _ _ (λ found finds. Consumes-whole (g.F.Feed.left c.args.feed.now) (g.F.Feed.left c.read_block.new.feed) (before.came ++ read.0)
-    (λ text. IsFound (header_line ++ text) found)
+    (λ text. IsFoundText (header_line ++ text) found)
     (Consumes-trans _ _ _ before.came read.0 before.read read.2)
     (c.in_ok-count.ensures.end c.in-0.is some)
     (finds (header_line ++ (before.came ++ read.0))
@@ -83,7 +83,7 @@ returns-in-0-clause-found g c =
     (omega (arith, before.seen, read.1, c.in-0.is, length-append header_line (before.came ++ read.0), length-append header_line before.came, length-append before.came read.0)))) c.found.ensures.found
 
 pub returns-in-0-clause-refused : goal.returns-in-0-clause-refused
-returns-in-0-clause-refused g c = IfErr-weaker c.found.result _ _ (λ fault is. subst (λ f. IfSome (g.F.Feed.left c.args.feed.now) (λ text. IsRefusal (header_line ++ text) f)) (sym is) (unknown (g.F.Feed.left c.args.feed.now))) c.found.ensures.refused
+returns-in-0-clause-refused g c = IfErr-weaker c.found.result _ _ (λ fault is. subst (λ f. IfSome (g.F.Feed.left c.args.feed.now) (λ text. IsJournalRefusal (header_line ++ text) f)) (sym is) (unknown (g.F.Feed.left c.args.feed.now))) c.found.ensures.refused
 
 pub returns-in-0-clause-counted : goal.returns-in-0-clause-counted
 returns-in-0-clause-counted g c = counted_so c.found.result (g.F.Feed.failed c.args.feed.now) (g.F.Feed.failed c.read_block.new.feed)

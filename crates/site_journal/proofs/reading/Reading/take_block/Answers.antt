@@ -1,7 +1,7 @@
 use Rattle.std.proofs.Common.{◌++◌, ◌+◌, [], List, ℕ, sym, refl, drop, append-nil}
 use Rattle.std.proofs.lemmas.Result.{err_from_is_err_and, on_ok_weaker, IfErr-weaker}
 use Rattle.byte_ends.specs.Lines.{as_line}
-use Rattle.site_journal.specs.Fault.{IsRefusal}
+use Rattle.site_journal.specs.Fault.{IsJournalRefusal}
 use Rattle.site_journal.specs.Reading.{HasRead}
 use Rattle.snapshot_text.specs.Going.{goes_start, goes_on, goes_out, goes_wrong, line_first}
 use Rattle.site_journal.proofs.reading.Reading.take_block.Goals as goal
@@ -16,7 +16,7 @@ returns-in_err-take_piece-clause-err c =
     rw (p.1, p.2) (goes_wrong
     (λ came. HasRead came c.args.self.now.gathering c.args.self.now.held.items c.args.self.now.next)
     (λ came. HasRead came c.loop-at.self.gathering c.loop-at.self.held.items c.loop-at.self.next)
-    (λ t. IsRefusal t c.in_err-take_piece.field-0.0)
+    (λ t. IsJournalRefusal t c.in_err-take_piece.field-0.0)
     c.args.block.now c.loop-at.rest.now (as_line c.split_at.result.0.now)
     (drop (c.in-Some.at + 1) c.loop-at.rest.now) c.loop-at.invariant
     (line_first c.loop-at.rest.now c.split_at.result.0.now (drop (c.in-Some.at + 1) c.loop-at.rest.now) c.in-Some.at c.split_at.ensures.front refl c.in-Some.ensures)
@@ -45,12 +45,12 @@ returns-clause-ok c =
 pub returns-clause-err : goal.returns-clause-err
 returns-clause-err c =
     IfErr-weaker c.hold.result
-    (λ fault. (came : List ℕ) → HasRead came c.loop-at.self.gathering c.loop-at.self.held.items c.loop-at.self.next → (later : List ℕ) → IsRefusal ((came ++ c.loop-at.rest.now) ++ later) fault)
-    (λ fault. (came : List ℕ) → HasRead came c.args.self.now.gathering c.args.self.now.held.items c.args.self.now.next → (later : List ℕ) → IsRefusal ((came ++ c.args.block.now) ++ later) fault)
+    (λ fault. (came : List ℕ) → HasRead came c.loop-at.self.gathering c.loop-at.self.held.items c.loop-at.self.next → (later : List ℕ) → IsJournalRefusal ((came ++ c.loop-at.rest.now) ++ later) fault)
+    (λ fault. (came : List ℕ) → HasRead came c.args.self.now.gathering c.args.self.now.held.items c.args.self.now.next → (later : List ℕ) → IsJournalRefusal ((came ++ c.args.block.now) ++ later) fault)
     (λ fault fails. goes_wrong
     (λ came. HasRead came c.args.self.now.gathering c.args.self.now.held.items c.args.self.now.next)
     (λ came. HasRead came c.loop-at.self.gathering c.loop-at.self.held.items c.loop-at.self.next)
-    (λ t. IsRefusal t fault)
+    (λ t. IsJournalRefusal t fault)
     c.args.block.now c.loop-at.rest.now c.loop-at.rest.now [] c.loop-at.invariant
     (sym (append-nil c.loop-at.rest.now)) fails)
     c.hold.ensures.err

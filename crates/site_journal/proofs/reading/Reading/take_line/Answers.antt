@@ -1,11 +1,11 @@
 use Rattle.std.proofs.Common.{◌≤◌, ◌+◌, ◌^◌, ◌++◌, ◌∷◌, [], sym, subst, arith}
-use Rattle.site_journal.specs.Fault.{IsRefusal}
+use Rattle.site_journal.specs.Fault.{IsJournalRefusal}
 use Rattle.site_journal.proofs.Steps.{not_read_at, read_line_at, too_many}
 use Rattle.site_journal.proofs.reading.Reading.take_line.Goals as goal
 
 pub returns-in-Err-clause-err : goal.returns-in-Err-clause-err
 returns-in-Err-clause-err c = λ came read later.
-    subst (IsRefusal ((came ++ 10 ∷ []) ++ later)) (sym c.line_fault.ensures)
+    subst (IsJournalRefusal ((came ++ 10 ∷ []) ++ later)) (sym c.line_fault.ensures)
     (not_read_at came c.args.self.now.gathering c.args.self.now.held.items c.as_slice.result.now c.args.self.now.next c.in-Err.cause c.as_slice.ensures.value c.in-Err.ensures.refused c.in-Err.ensures.only read later)
 
 pub returns-in_default-clause-err : goal.returns-in_default-clause-err
