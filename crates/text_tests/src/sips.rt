@@ -1,5 +1,7 @@
 //! A source that gives few bytes at once, or bytes without end.
 
+ghost use Rattle.std.specs.Prelude.{◌≤◌, length};
+
 use byte_ends::{Failed, Source};
 
 /// The bytes of a text, of which each read gives so many at most, and where it is endless whatever is in the slice after
@@ -31,7 +33,9 @@ impl<'a> Sips<'a> {
     }
 
     /// Puts the bytes that come next into the slice, and says how many.
-    fn sip(&mut self, into: &mut [u8]) -> usize {
+    fn sip(&mut self, into: &mut [u8]) -> usize
+        ensures { result ≤ length into.new }
+    {
         let count = self.most.min(self.rest.len()).min(into.len());
         let (now, later) = self.rest.split_at(count);
         self.rest = later;
