@@ -169,7 +169,7 @@ fn lines_lie_across_blocks(rt: HostRuntime) -> Result<(), Fail> {
 #[test]
 fn a_source_is_read_in_sips(rt: HostRuntime) -> Result<(), Fail> {
     let text = unordered(rt.alloc())?;
-    let whole = snapshot_of(rt.alloc(), text.as_bytes())?;
+    let whole = read_snapshot(rt.alloc(), &mut Ends::new(text.as_bytes()))?;
     for most in 1..9usize {
         let replica = read_snapshot(rt.alloc(), &mut Sips::new(text.as_bytes(), most))?;
         assert!(rt; replica.as_slice() == whole.as_slice() && replica.same_state(&whole));
