@@ -119,7 +119,8 @@ impl<T: Drop, A: Allocator + Copy> ChunkList<T, A> {
 
 impl<T: Entry, A: Allocator + Copy> ChunkList<T, A> {
     /// Merges an entry into the one that it meets, in place, or adds it before the first that it doesn't pass. Where it
-    /// meets none and memory is refused nothing changes. It costs O(log n) for n entries, beside the merge.
+    /// meets none and memory is refused nothing changes. The search costs O(log n) for n entries; beside it come the merge,
+    /// or what an item that is added moves.
     pub fn merge(&mut self, entry: T) -> Result<(), NoMemory>
         requires { IsPartitionedBy (T.passes entry) self.old }
         ensures { IsMerged (T.passes entry) (T.meets entry) (T.merges entry) entry self.old result self.new }
