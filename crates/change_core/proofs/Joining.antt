@@ -69,3 +69,22 @@ module _ {S : Type 0} {joined : S → S → S} (laws : IsJoin joined) (old other
 
   pub untouched_between : IsBetween joined old old (joined old other)
   untouched_between = IsBetween-low laws old (joined old other) (Covers-left laws old other)
+
+-- a copy of each part is a copy of the change
+abbrev life_pair : Timestamp × Life → Timestamp × Life
+life_pair r = (r.0, r.1)
+
+pub lives_same : (new old : Option (Timestamp × Life)) → option_map life_pair new ≡ option_map life_pair old
+    → new ≡ old
+lives_same new old e = sym (same_pair new) ∙ e ∙ same_pair old
+
+pub parts_copied : (new old view : Change) → view ≡ old → new.merged ≡ view.merged → new.life ≡ view.life
+    → new.sets ≡ view.sets → new.votes ≡ view.votes → new ≡ old
+parts_copied new old view is_old merged life sets votes =
+    let parts : new ≡ view = λ i. record {
+      merged = merged i;
+      life = life i;
+      sets = sets i;
+      votes = votes i;
+    } in
+    parts ∙ is_old

@@ -1,6 +1,8 @@
 -- The last entry of a map is that of the greatest key.
 use Rattle.std.proofs.Common.{◌≡◌, ℕ, ◌≤◌, ◌<◌, true, T, List, [], ◌∷◌, ◌++◌, map, ◌∙◌, Some, is_some, refl, sym, ap}
-use Rattle.std.proofs.Common.{subst, arith}
+use Rattle.std.proofs.Common.{subst, arith, None, suc, length, get_or, ◌-◌}
+use Rattle.std.specs.Prelude.{slice_get}
+use Rattle.std.proofs.lemmas.Option.{slice_get-get_or}
 use Rattle.std.specs.declared.cmp.Ordering.{Ordering}
 use Rattle.std.specs.declared.cmp.Ordering.TheVariants.{Less, Equal, Greater}
 use Rattle.std.specs.Ordering.{nat_cmp, is_lt, MatchOrdering}
@@ -26,6 +28,25 @@ below_from_less a b Greater h t = absurd t
 at_last : {X : Type 0} (P : X → Type 0) (xs : List X) (x : X) → AllByRecursion P (xs ++ x ∷ []) → P x
 at_last P [] x all = all.0
 at_last P (y ∷ xs) x all = at_last P xs x all.1
+
+-- a list whose last element is known
+pub before_last : {X : Type 0} (xs : List X) (x : X) → slice_get xs (length xs - 1) ≡ Some x
+    → (others : List X) × (xs ≡ others ++ x ∷ [])
+before_last [] x last = cc
+before_last (y ∷ []) x last = let same : y ≡ x = cc in ([], ap (λ z. z ∷ []) same)
+before_last (y ∷ z ∷ zs) x last =
+    let e : length (y ∷ z ∷ zs) - 1 ≡ suc (length (z ∷ zs) - 1) = omega arith in
+    let at : slice_get (z ∷ zs) (length (z ∷ zs) - 1) ≡ Some x = ap (slice_get (y ∷ z ∷ zs)) (sym e) ∙ last in
+    let rest = before_last (z ∷ zs) x at in
+    (y ∷ rest.0, ap (λ l. y ∷ l) rest.1)
+
+-- and one without
+pub no_last : {X : Type 0} (xs : List X) → slice_get xs (length xs - 1) ≡ None → xs ≡ []
+no_last [] last = refl
+no_last (y ∷ ys) last =
+    let there = slice_get-get_or (y ∷ ys) (length (y ∷ ys) - 1) y (omega arith) in
+    let none : Some (get_or (y ∷ ys) (length (y ∷ ys) - 1) y) ≡ None = sym there ∙ last in
+    cc
 
 module _ {X : Type 0} where
   below_last : (key : ℕ) (es : List (ℕ × X)) (e : ℕ × X) → T (below_all nat_cmp key (es ++ e ∷ []))

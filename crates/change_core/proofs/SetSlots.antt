@@ -1,33 +1,25 @@
--- The slots of a patch set lie from its first slot on, up to the first of the next.
-use Rattle.std.proofs.Common.{◌≡◌, ◌+◌, ◌<◌, ℕ, ℤ, Bool, true, false, not, cond, List, [], ◌∷◌, refl, sym, ap, ◌∙◌}
-use Rattle.std.proofs.Common.{arith}
+-- The votes on a patch set stand together, from its first slot on.
+use Rattle.std.proofs.Common.{◌≡◌, ◌≤◌, ◌<◌, ℕ, ℤ, true, false, cond, T, List, [], ◌∷◌, refl, sym, ap, ◌∙◌, arith}
 use Rattle.std.specs.Prelude.{◌==◌, ◌&&◌, map}
+use Rattle.std.specs.declared.cmp.Ordering.{Ordering}
 use Rattle.std.specs.declared.cmp.Ordering.TheVariants.{Less, Equal, Greater}
-use Rattle.std.specs.declared.ops.Bound.{Bound}
-use Rattle.std.specs.declared.ops.Bound.TheVariants.{Included, Excluded, Unbounded}
-use Rattle.std.specs.BTreeMap.Range.{range_contains, entries_between}
+use Rattle.std.specs.declared.ops.Bound.TheVariants.{Included, Unbounded}
+use Rattle.std.specs.BTreeMap.Range.{entries_between}
 use Rattle.std.specs.Cmp.{tied_itself}
 use Rattle.std.specs.Cmp.Lexicographic.{slice_cmp}
-use Rattle.std.specs.List.{filter}
-use Rattle.std.specs.Ordering.{nat_cmp, is_le, is_gt, ordering_then, MatchOrdering}
+use Rattle.std.specs.FinMap.Entries.{below_all, is_sorted}
+use Rattle.std.specs.List.{filter, AllByRecursion}
+use Rattle.std.specs.Ordering.{nat_cmp, is_le, is_lt, ordering_then, MatchOrdering}
 use Rattle.std.proofs.lemmas.Bool.{eqb-true, false≢true}
 use Rattle.std.proofs.lemmas.Cmp.{ranked}
 use Rattle.lattice_core.specs.Keep.{numbers_exact}
+use Rattle.lattice_core.specs.Tests.{first_of_both, second_of_both}
 use Rattle.review_ops.specs.Timestamp.{Timestamp}
 use Rattle.change_core.specs.Slots.{Slot, slot_cmp}
-use Rattle.change_core.specs.Votes.{GivenVote, vote_at, votes_among, first_slot}
+use Rattle.change_core.specs.Votes.{vote_at, votes_among, first_votes, first_slot}
 
--- what passes a narrower test is the same among what passes a wider one
-filter-filter : {X : Type 0} (test wider : X → Bool) → ((x : X) → test x ≡ true → wider x ≡ true) → (xs : List X)
-    → filter test (filter wider xs) ≡ filter test xs
-filter-filter test wider within [] = refl
-filter-filter test wider within (x ∷ xs) = elim (wider x) as (λ t. wider x ≡ t → filter test (cond t (x ∷ filter wider xs) (filter wider xs)) ≡ cond (test x) (x ∷ filter test xs) (filter test xs)) [
-  | true ↦ λ e. ap (λ l. cond (test x) (x ∷ l) l) (filter-filter test wider within xs)
-  | false ↦ λ e. filter-filter test wider within xs ∙ elim (test x) as (λ t. test x ≡ t → filter test xs ≡ cond t (x ∷ filter test xs) (filter test xs)) [
-    | true ↦ λ passes. absurd (false≢true (sym e ∙ within x passes))
-    | false ↦ λ fails. refl
-  ] refl
-] refl
+abbrev Registers : Type 0
+Registers = List (Slot × (Timestamp × ℤ))
 
 -- no label and no voter is less than the empty one
 least : (label voter : List ℕ) → is_le (ordering_then (slice_cmp nat_cmp [] label) (slice_cmp nat_cmp [] voter)) ≡ true
@@ -35,63 +27,64 @@ least [] [] = refl
 least [] (v ∷ voter) = refl
 least (l ∷ label) voter = refl
 
-less_next : (n : ℕ) → nat_cmp n (n + 1) ≡ Less
-less_next n = elim (nat_cmp n (n + 1)) as (λ r. MatchOrdering r (n < n + 1) (n ≡ n + 1) (n + 1 < n) → r ≡ Less) [
-  | Less ↦ λ h. refl
-  | Equal ↦ λ h. absurd (omega arith)
-  | Greater ↦ λ h. absurd (omega arith)
-] (ranked n (n + 1) (nat_cmp n (n + 1)) refl)
+up_to : (a b : ℕ) (r then : Ordering) → MatchOrdering r (a < b) (a ≡ b) (b < a) → is_le (ordering_then r then) ≡ true
+    → a ≤ b
+up_to a b Less then h t = omega arith
+up_to a b Equal then h t = omega arith
+up_to a b Greater then h t = cc
 
-greater_next : (n : ℕ) → nat_cmp (n + 1) n ≡ Greater
-greater_next n = elim (nat_cmp (n + 1) n) as (λ r. MatchOrdering r (n + 1 < n) (n + 1 ≡ n) (n < n + 1) → r ≡ Greater) [
-  | Less ↦ λ h. absurd (omega arith)
-  | Equal ↦ λ h. absurd (omega arith)
-  | Greater ↦ λ h. refl
-] (ranked (n + 1) n (nat_cmp (n + 1) n) refl)
+below : (a b : ℕ) (r then : Ordering) → MatchOrdering r (a < b) (a ≡ b) (b < a) → T (is_lt (ordering_then r then))
+    → a ≤ b
+below a b Less then h t = omega arith
+below a b Equal then h t = omega arith
+below a b Greater then h t = absurd t
 
--- the first slot of the next patch set comes later
-pub in_order : (set next : ℕ) → next ≡ set + 1 → is_gt (slot_cmp (first_slot set) (first_slot next)) ≡ false
-in_order set next is =
-    ap (λ n. is_gt (ordering_then (nat_cmp set n) Equal)) is ∙ ap (λ r. is_gt (ordering_then r Equal)) (less_next set)
+above : (m n : ℕ) → (m == n) ≡ false → n ≤ m → n < m
+above m n e h = grind (arith)
 
-module _ (set : ℕ) (slot : Slot) (same : slot.set ≡ set) where
-  from_first : is_le (slot_cmp (first_slot set) slot) ≡ true
-  from_first =
+-- ---- what the order of slots says of their patch sets
+module _ (set : ℕ) (slot : Slot) where
+  from_first : slot.set ≡ set → is_le (slot_cmp (first_slot set) slot) ≡ true
+  from_first same =
       ap (λ r. is_le (ordering_then r (ordering_then (slice_cmp nat_cmp [] slot.label) (slice_cmp nat_cmp [] slot.voter)))) (ap (nat_cmp set) same ∙ tied_itself numbers_exact.total set)
       ∙ least slot.label slot.voter
 
-  before_next : (next : ℕ) → next ≡ set + 1 → is_le (slot_cmp (first_slot next) slot) ≡ false
-  before_next next is =
-      ap (λ r. is_le (ordering_then r (ordering_then (slice_cmp nat_cmp [] slot.label) (slice_cmp nat_cmp [] slot.voter)))) (ap (λ n. nat_cmp n slot.set) is ∙ ap (nat_cmp (set + 1)) same ∙ greater_next set)
+  not_before : is_le (slot_cmp (first_slot set) slot) ≡ true → set ≤ slot.set
+  not_before from =
+      up_to set slot.set (nat_cmp set slot.set) _ (ranked set slot.set (nat_cmp set slot.set) refl) from
 
-  up_to_next : (next : ℕ) → next ≡ set + 1
-      → range_contains slot_cmp (Included (first_slot set)) (Excluded (first_slot next)) slot ≡ true
-  up_to_next next is =
-      ap (λ t. t && not (is_le (slot_cmp (first_slot next) slot))) from_first ∙ ap not (before_next next is)
+later_sets : (set : ℕ) (slot : Slot) → set < slot.set → (es : Registers) → T (below_all slot_cmp slot es)
+    → AllByRecursion (λ e. set < e.0.set) es
+later_sets set slot after [] h = tt
+later_sets set slot after (e ∷ es) h =
+    let first = below slot.set e.0.set (nat_cmp slot.set e.0.set) _ (ranked slot.set e.0.set (nat_cmp slot.set e.0.set) refl) (first_of_both (is_lt (slot_cmp slot e.0)) (below_all slot_cmp slot es) h) in
+    (omega (arith, after, first), later_sets set slot after es (second_of_both (is_lt (slot_cmp slot e.0)) (below_all slot_cmp slot es) h))
 
-  to_the_end : range_contains slot_cmp (Included (first_slot set)) Unbounded slot ≡ true
-  to_the_end = ap (λ t. t && true) from_first
+not_same : (m n : ℕ) → n < m → (m == n) ≡ false
+not_same m n h = grind (arith)
 
--- so the votes on a patch set are those among the registers between two such slots
-module _ (set : ℕ) (registers shown : List (Slot × (Timestamp × ℤ))) (first : Slot)
-    (is_first : first ≡ first_slot set) where
-  votes_between : (start end : Bound Slot)
-      → ((slot : Slot) → slot.set ≡ set → range_contains slot_cmp start end slot ≡ true)
-      → shown ≡ entries_between slot_cmp start end registers → votes_among set shown ≡ votes_among set registers
-  votes_between start end within is =
-      let kept : List (Slot × (Timestamp × ℤ)) → List GivenVote = λ l. votes_among set l in
-      ap kept is ∙ ap (λ (l : List (Slot × (Timestamp × ℤ))). map vote_at l) (filter-filter (λ register. register.0.set == set) (λ register. range_contains slot_cmp start end register.0) (λ register passes. within register.0 (eqb-true register.0.set set passes)) registers)
+none_later : (set : ℕ) (es : Registers) → AllByRecursion (λ e. set < e.0.set) es → votes_among set es ≡ []
+none_later set [] after = refl
+none_later set (e ∷ es) after =
+    ap (λ t. map vote_at (cond t (e ∷ filter (λ register. register.0.set == set) es) (filter (λ register. register.0.set == set) es)))
+    (not_same e.0.set set after.0)
+    ∙ none_later set es after.1
 
-  pub votes_up_to_next : (next : ℕ) (last : Slot) → next ≡ set + 1 → last ≡ first_slot next
-      → shown ≡ entries_between slot_cmp (Included first) (Excluded last) registers
-      → votes_among set shown ≡ votes_among set registers
-  votes_up_to_next next last is is_last between =
-      votes_between (Included (first_slot set)) (Excluded (first_slot next))
-      (λ slot same. up_to_next set slot same next is)
-      (between ∙ ap (λ s. entries_between slot_cmp (Included s) (Excluded last) registers) is_first ∙ ap (λ s. entries_between slot_cmp (Included (first_slot set)) (Excluded s) registers) is_last)
-
-  pub votes_to_the_end : shown ≡ entries_between slot_cmp (Included first) Unbounded registers
-      → votes_among set shown ≡ votes_among set registers
-  votes_to_the_end between =
-      votes_between (Included (first_slot set)) Unbounded (λ slot same. to_the_end set slot same)
-      (between ∙ ap (λ s. entries_between slot_cmp (Included s) Unbounded registers) is_first)
+-- so the votes on a patch set are those that the registers from its first slot on begin with
+pub first_votes_are : (set : ℕ) (es : Registers) → T (is_sorted slot_cmp es)
+    → first_votes set (entries_between slot_cmp (Included (first_slot set)) Unbounded es) ≡ votes_among set es
+first_votes_are set [] h = refl
+first_votes_are set (e ∷ es) h =
+    let kept = entries_between slot_cmp (Included (first_slot set)) Unbounded es in
+    let those : Registers = filter (λ register. register.0.set == set) es in
+    let later = first_votes_are set es (second_of_both (below_all slot_cmp e.0 es) (is_sorted slot_cmp es) h) in
+    elim (is_le (slot_cmp (first_slot set) e.0)) as (λ t. is_le (slot_cmp (first_slot set) e.0) ≡ t → first_votes set (cond (t && true) (e ∷ kept) kept) ≡ map vote_at (cond (e.0.set == set) (e ∷ those) those)) [
+      | true ↦ λ from. elim (e.0.set == set) as (λ s. (e.0.set == set) ≡ s → cond s (vote_at e ∷ first_votes set kept) [] ≡ map vote_at (cond s (e ∷ those) those)) [
+        | true ↦ λ same. ap (λ l. vote_at e ∷ l) later
+        | false ↦ λ other. sym (none_later set es (later_sets set e.0 (above e.0.set set other (not_before set e.0 from)) es (first_of_both (below_all slot_cmp e.0 es) (is_sorted slot_cmp es) h)))
+      ] refl
+      | false ↦ λ early. elim (e.0.set == set) as (λ s. (e.0.set == set) ≡ s → first_votes set kept ≡ map vote_at (cond s (e ∷ those) those)) [
+        | true ↦ λ same. absurd (false≢true (sym early ∙ from_first set e.0 (eqb-true e.0.set set same)))
+        | false ↦ λ other. later
+      ] refl
+    ] refl

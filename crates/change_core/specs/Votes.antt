@@ -30,6 +30,12 @@ vote_at register =
 abbrev pub votes_among : ℕ → List (Slot × (Timestamp × ℤ)) → List GivenVote
 votes_among set registers = map vote_at (filter (λ register. register.0.set == set) registers)
 
+-- the votes on the patch set that these registers begin with
+abbrev pub first_votes : ℕ → List (Slot × (Timestamp × ℤ)) → List GivenVote
+first_votes set [] = []
+first_votes set (register ∷ registers) =
+    if register.0.set == set then vote_at register ∷ first_votes set registers else []
+
 abbrev pub approval_of : GivenVote → GivenApproval
 approval_of vote = record { label = vote.label; voter = vote.voter; value = vote.value }
 

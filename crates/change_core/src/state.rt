@@ -16,7 +16,8 @@ use super::commit::Commit;
 use super::life::{Life, Status};
 use super::vote_slot::VoteSlot;
 use super::votes::{Approvals, VotedSets, Votes};
-use lattice_core::{Flag, Greatest, Join, JoinMap, Keep, NoMemory, Register};
+use chunk_list::JoinList;
+use lattice_core::{Flag, Greatest, Join, Keep, NoMemory, Register};
 use review_ops::{Draft, Op, Stamp};
 use std::alloc::{Allocator, Global};
 use std::cmp::Ordering;
@@ -28,8 +29,8 @@ use std::marker::Model;
 pub struct ChangeState<A: Allocator + Copy = Global> {
     merged: Flag,
     life: Greatest<Stamp, Life>,
-    sets: JoinMap<u32, Register<Stamp, Commit<A>>, A>,
-    votes: JoinMap<VoteSlot<A>, Register<Stamp, i8>, A>,
+    sets: JoinList<u32, Register<Stamp, Commit<A>>, A>,
+    votes: JoinList<VoteSlot<A>, Register<Stamp, i8>, A>,
 }
 
 impl<A: Allocator + Copy> Model for ChangeState<A> {
@@ -53,8 +54,8 @@ impl<A: Allocator + Copy> ChangeState<A> {
         ChangeState {
             merged: Flag::new(false),
             life: Greatest::new(),
-            sets: JoinMap::new(alloc),
-            votes: JoinMap::new(alloc),
+            sets: JoinList::new(alloc),
+            votes: JoinList::new(alloc),
         }
     }
 
@@ -139,7 +140,7 @@ impl<A: Allocator + Copy> ChangeState<A> {
     pub fn current(&self) -> Option<u32>
         ensures { IsCurrent self.now result }
     {
-        let (set, _) = self.sets.iter().next_back()?;
+        let (set, _) = self.sets.last()?;
         Some(*set)
     }
 
@@ -160,14 +161,14 @@ impl<A: Allocator + Copy> ChangeState<A> {
     }
 
     /// The registers of the known patch sets.
-    pub fn sets(&self) -> &JoinMap<u32, Register<Stamp, Commit<A>>, A>
+    pub fn sets(&self) -> &JoinList<u32, Register<Stamp, Commit<A>>, A>
         ensures { sets_shown result.now ≡ self.now.sets }
     {
         &self.sets
     }
 
     /// The registers of the slots with a vote or a withdrawn vote, by patch set, label and voter.
-    pub fn all_votes(&self) -> &JoinMap<VoteSlot<A>, Register<Stamp, i8>, A>
+    pub fn all_votes(&self) -> &JoinList<VoteSlot<A>, Register<Stamp, i8>, A>
         ensures { votes_shown result.now ≡ self.now.votes }
     {
         &self.votes
@@ -253,7 +254,7 @@ impl<A: Allocator + Copy> Join for ChangeState<A> {
 
 /// Writes a commit to the register of its patch set. The message is copied only where the commit wins.
 fn write_set<A: Allocator + Copy>(
-    sets: &mut JoinMap<u32, Register<Stamp, Commit<A>>, A>,
+    sets: &mut JoinList<u32, Register<Stamp, Commit<A>>, A>,
     stamp: Stamp,
     set: u32,
     message: &String<A>,
@@ -272,7 +273,7 @@ fn write_set<A: Allocator + Copy>(
 
 /// Whether the register of a patch set holds as great a commit already, so that to write this one would change nothing.
 fn is_outdone<A: Allocator + Copy>(
-    sets: &JoinMap<u32, Register<Stamp, Commit<A>>, A>,
+    sets: &JoinList<u32, Register<Stamp, Commit<A>>, A>,
     stamp: Stamp,
     set: u32,
     message: &str,
@@ -332,7 +333,7 @@ fn commit_order<A: Allocator + Copy>(
 
 /// Writes a score to the register of its slot.
 fn write_vote<A: Allocator + Copy>(
-    votes: &mut JoinMap<VoteSlot<A>, Register<Stamp, i8>, A>,
+    votes: &mut JoinList<VoteSlot<A>, Register<Stamp, i8>, A>,
     stamp: Stamp,
     set: u32,
     label: &String<A>,

@@ -7,10 +7,10 @@ ghost use Rattle.change_core.specs.Votes.{first_slot as least_slot};
 ghost use Rattle.change_core.specs.Parts.{registers_shown, slot_of, votes_shown};
 
 use super::vote_slot::VoteSlot;
-use lattice_core::{JoinMap, Register};
+use chunk_list::{Entries, JoinList};
+use lattice_core::Register;
 use review_ops::Stamp;
 use std::alloc::{Allocator, Global};
-use std::collections::btree_map::{Iter, Range};
 use std::marker::Model;
 
 /// A vote on a patch set.
@@ -39,48 +39,33 @@ pub struct Approval<'a> {
 
 /// The votes on a patch set, by label, then voter. Contracts see those that are left.
 #[derive(Drop)]
-pub struct Votes<'a, A: Allocator = Global> {
+pub struct Votes<'a, A: Allocator + Copy = Global> {
     set: u32,
-    registers: Range<'a, VoteSlot<A>, Register<Stamp, i8>>,
+    registers: Entries<'a, VoteSlot<A>, Register<Stamp, i8>, A>,
 }
 
-impl<'a, A: Allocator> Model for Votes<'a, A> {
+impl<'a, A: Allocator + Copy> Model for Votes<'a, A> {
     ghost use Rattle.std.specs.Prelude.{List};
-    ghost use Rattle.change_core.specs.Votes.{GivenVote, votes_among};
+    ghost use Rattle.change_core.specs.Votes.{GivenVote, first_votes};
     ghost use Rattle.change_core.specs.Parts.{registers_shown};
 
     ghost Value = { List GivenVote };
 
-    ghost view = { λ votes. votes_among votes.set (registers_shown votes.registers) };
+    ghost view = { λ votes. first_votes votes.set (registers_shown votes.registers) };
 }
 
 impl<'a, A: Allocator + Copy> Votes<'a, A> {
     /// The votes on a patch set among the registers of a change.
     pub(crate) fn on(
         set: u32,
-        registers: &'a JoinMap<VoteSlot<A>, Register<Stamp, i8>, A>,
+        registers: &'a JoinList<VoteSlot<A>, Register<Stamp, i8>, A>,
     ) -> Votes<'a, A>
         ensures { result ≡ votes_among set (finite.entries (votes_shown registers.now)) }
     {
         Votes {
             set,
-            registers: registers_of(set, registers),
+            registers: registers.from_key(&first_slot(registers.allocator(), set)),
         }
-    }
-}
-
-/// The registers of the slots of a patch set: those from its first slot on, up to the first of the next.
-fn registers_of<A: Allocator + Copy>(
-    set: u32,
-    registers: &JoinMap<VoteSlot<A>, Register<Stamp, i8>, A>,
-) -> Range<'_, VoteSlot<A>, Register<Stamp, i8>>
-    ensures { votes_among set (registers_shown result) ≡ votes_among set (finite.entries (votes_shown registers.now)) }
-{
-    let alloc = registers.allocator();
-    let first = first_slot(alloc, set);
-    match set.checked_add(1) {
-        Some(next) => registers.range(first..first_slot(alloc, next)),
-        None => registers.range(first..),
     }
 }
 
@@ -107,27 +92,27 @@ impl<'a, A: Allocator + Copy> Iterator for Votes<'a, A> {
     ghost remaining = { item_count (λ votes. votes) };
 
     fn next(&mut self) -> Option<Vote<'a>> {
-        while let Some((slot, register)) = self.registers.next() {
-            if slot.set == self.set {
-                return Some(Vote {
-                    label: slot.label.as_str(),
-                    voter: slot.voter.as_str(),
-                    value: *register.value(),
-                    stamp: *register.key(),
-                });
-            }
+        let (slot, register) = self.registers.next()?;
+        if slot.set != self.set {
+            self.registers = Entries::none();
+            return None;
         }
-        None
+        Some(Vote {
+            label: slot.label.as_str(),
+            voter: slot.voter.as_str(),
+            value: *register.value(),
+            stamp: *register.key(),
+        })
     }
 }
 
 /// The approvals of a patch set, by label, then voter. Contracts see those that are left.
 #[derive(Drop)]
-pub struct Approvals<'a, A: Allocator = Global> {
+pub struct Approvals<'a, A: Allocator + Copy = Global> {
     votes: Votes<'a, A>,
 }
 
-impl<'a, A: Allocator> Model for Approvals<'a, A> {
+impl<'a, A: Allocator + Copy> Model for Approvals<'a, A> {
     ghost use Rattle.std.specs.Prelude.{List};
     ghost use Rattle.change_core.specs.Votes.{GivenApproval, approvals_among};
 
@@ -171,12 +156,12 @@ impl<'a, A: Allocator + Copy> Iterator for Approvals<'a, A> {
 
 /// The patch sets with a vote, in order, each once. Contracts see those that are left.
 #[derive(Drop)]
-pub struct VotedSets<'a, A: Allocator = Global> {
+pub struct VotedSets<'a, A: Allocator + Copy = Global> {
     last: Option<u32>,
-    registers: Iter<'a, VoteSlot<A>, Register<Stamp, i8>>,
+    registers: Entries<'a, VoteSlot<A>, Register<Stamp, i8>, A>,
 }
 
-impl<'a, A: Allocator> Model for VotedSets<'a, A> {
+impl<'a, A: Allocator + Copy> Model for VotedSets<'a, A> {
     ghost use Rattle.std.specs.Prelude.{ℕ, List};
     ghost use Rattle.change_core.specs.Votes.{sets_among, first_of_each};
     ghost use Rattle.change_core.specs.Parts.{registers_shown};
@@ -189,7 +174,7 @@ impl<'a, A: Allocator> Model for VotedSets<'a, A> {
 impl<'a, A: Allocator + Copy> VotedSets<'a, A> {
     /// The patch sets that have votes among the registers of a change.
     pub(crate) fn among(
-        registers: &'a JoinMap<VoteSlot<A>, Register<Stamp, i8>, A>,
+        registers: &'a JoinList<VoteSlot<A>, Register<Stamp, i8>, A>,
     ) -> VotedSets<'a, A>
         ensures { result ≡ first_of_each None (sets_among (finite.entries (votes_shown registers.now))) }
     {

@@ -1,6 +1,7 @@
 //! Changes worked out by hand, each public function once.
 
 use change_core::{ChangeState, Life, Status, operations_add_up};
+use chunk_list::Entries;
 use deeds::{Deed, op_of};
 use lattice_core::Join;
 use review_ops::{Body, Draft, Op, Stamp};
@@ -182,6 +183,15 @@ fn one_patch_set_is_known(rt: HostRuntime) -> Result<(), Fail> {
     Ok(())
 }
 
+/// How many pairs of a map are left.
+fn counted<K, V>(left: Entries<'_, K, V>) -> usize {
+    let mut count = 0usize;
+    for _pair in left {
+        count = count.wrapping_add(1);
+    }
+    count
+}
+
 /// What a state says of its patch sets: the current one, how many are known, and the parents of the second, third and
 /// fourth.
 #[derive(Clone, Copy, Debug, PartialEq)]
@@ -196,7 +206,7 @@ fn sets_of(rt: &impl Abort, alloc: Global, steps: &[Step]) -> Result<Sets, Fail>
     let state = state_of(rt, alloc, steps)?;
     Ok(Sets {
         current: state.current(),
-        known: state.sets().len(),
+        known: counted(state.sets().iter()),
         parents: (state.parent(2), state.parent(3), state.parent(4)),
     })
 }
@@ -306,7 +316,7 @@ const VOTED: &[Step] = &[
 fn voted_in(state: &ChangeState) -> ([Option<u32>; 3], usize) {
     let mut voted = state.voted();
     let sets = [voted.next(), voted.next(), voted.next()];
-    (sets, state.all_votes().len())
+    (sets, counted(state.all_votes().iter()))
 }
 
 #[test]

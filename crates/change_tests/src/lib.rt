@@ -9,6 +9,8 @@ mod changes;
 #[cfg(test)]
 mod chunks;
 #[cfg(test)]
+mod join_lists;
+#[cfg(test)]
 mod lattices;
 #[cfg(test)]
 mod operations;

@@ -1,5 +1,5 @@
 -- What an edit of one chunk makes of the whole list.
-use Rattle.std.proofs.Common.{◌≡◌, ◌≤◌, ◌<◌, ◌+◌, ◌-◌, inl, inr, ℕ, zero, suc, List, [], ◌∷◌, ◌++◌, None, Some, length}
+use Rattle.std.proofs.Common.{◌≡◌, ◌≤◌, ◌<◌, ◌+◌, ◌-◌, inl, inr, ℕ, zero, suc, List, [], ◌∷◌, ◌++◌, Some, length}
 use Rattle.std.proofs.Common.{get_or, set, take, drop, refl, sym, ap, subst, ◌∙◌, arith, add-one, get_or-append-add}
 use Rattle.std.specs.Prelude.{slice_get}
 use Rattle.std.specs.List.{All, flat_map, insert, remove}
@@ -8,7 +8,7 @@ use Rattle.std.proofs.lemmas.List.{append_assoc, append-nil}
 use Rattle.std.proofs.lemmas.List.Edits.{insert-append_left, insert-append_right, remove-append_left}
 use Rattle.std.proofs.lemmas.List.Edits.{remove-append_right}
 use Rattle.std.proofs.lemmas.List.Elements.{All-cons, All-head, All-tail}
-use Rattle.std.proofs.lemmas.Option.{slice_get_past, slice_get_cases, slice_get_read, slice_get_within}
+use Rattle.std.proofs.lemmas.Option.{slice_get_cases, slice_get_read, slice_get_within}
 use Rattle.std.proofs.lemmas.Option.{get_or_from_slice_get}
 use Rattle.std.proofs.Math.ListN.{get_or-append}
 use Rattle.std.proofs.Math.Seq.{drop-append-add}
@@ -178,3 +178,19 @@ module _ {C T : Type 0} (items : C → List T) where
       omega (arith, some, ap length (split chunks k found inside), length-append (before chunks k) (items (get_or chunks k found) ++ after chunks k), length-append (items (get_or chunks k found)) (after chunks k), ap length none, ap (λ c. length (items c)) at) in
       ap (λ c. slice_get (items c) (length (items found) - 1)) (sym at)
       ∙ get_at chunks k found inside (length (items found) - 1) low ∙ ap (slice_get (flat_map items chunks)) all
+
+  -- so there is one
+  pub some_there : (chunks : List C) (found : C) → 0 < length (items found)
+      → Some found ≡ slice_get chunks (length chunks - 1) → 0 < length (flat_map items chunks)
+  some_there chunks found some there =
+      let k = length chunks - 1 in
+      let inside : k < length chunks = slice_get_within chunks k found (sym there) in
+      let at : get_or chunks k found ≡ found = get_or_from_slice_get chunks k found found (sym there) in
+      omega (arith, some, ap length (split chunks k found inside), length-append (before chunks k) (items (get_or chunks k found) ++ after chunks k), length-append (items (get_or chunks k found)) (after chunks k), ap (λ c. length (items c)) at)
+
+  -- a spot that isn't past all items is one of a chunk
+  pub chunk_there : (chunks : List C) (k i rank : ℕ) → IsInside items chunks k i → place_of items chunks k i ≡ rank
+      → rank < length (flat_map items chunks) → k < length chunks
+  chunk_there chunks k i rank (inl low) at inside = low.0
+  chunk_there chunks k i rank (inr past) at inside =
+      absurd (omega (arith, past.1, at, inside, ap (λ l. length (flat_map items l)) (take_all k chunks (omega (arith, past.0)))))

@@ -1,6 +1,6 @@
 //! The items of a list, one after the other.
 
-ghost use Rattle.std.specs.Prelude.{◌≡◌, ◌<◌, drop, length};
+ghost use Rattle.std.specs.Prelude.{◌≡◌, ◌<◌, ◌++◌, [], drop, length};
 ghost use Rattle.std.specs.Iterator.{YieldsFirstRef, item_count};
 ghost use Rattle.std.specs.List.{All, flat_map};
 ghost use Rattle.chunk_list.specs.Chunks.{place_of, IsInside};
@@ -28,12 +28,22 @@ impl<'a, T, A: Allocator + Copy> Model for Iter<'a, T, A> {
 }
 
 impl<'a, T, A: Allocator + Copy> Iter<'a, T, A> {
-    /// All items.
-    pub(super) fn all(chunks: &'a [Vec<T, A>]) -> Iter<'a, T, A>
-        requires { All (λ chunk. 0 < length chunk.items) chunks.now }
-        ensures { result ≡ flat_map (λ chunk. chunk.items) chunks.now }
+    /// None.
+    pub(super) fn none() -> Iter<'a, T, A>
+        ensures { result ≡ [] }
     {
-        Iter { items: &[], chunks }
+        Iter {
+            items: &[],
+            chunks: &[],
+        }
+    }
+
+    /// All of these items, and those of the chunks.
+    pub(super) fn all(items: &'a [T], chunks: &'a [Vec<T, A>]) -> Iter<'a, T, A>
+        requires { All (λ chunk. 0 < length chunk.items) chunks.now }
+        ensures { result ≡ items.now ++ flat_map (λ chunk. chunk.items) chunks.now }
+    {
+        Iter { items, chunks }
     }
 
     /// The items from a spot on.
@@ -57,7 +67,7 @@ impl<'a, T, A: Allocator + Copy> Iter<'a, T, A> {
 }
 
 /// The items from an index on.
-fn items_from<X>(items: &[X], index: usize) -> &[X]
+pub(super) fn items_from<X>(items: &[X], index: usize) -> &[X]
     ensures { result.now ≡ drop index items.now }
 {
     items.get(index..).unwrap_or(&[])

@@ -14,11 +14,17 @@
 #![tactic(auto)]
 
 mod edits;
+mod entry;
+mod into_iter;
 mod iter;
+mod join_list;
 mod list;
 mod probe;
 mod spot;
 
+pub use entry::Entry;
+pub use into_iter::IntoIter;
 pub use iter::Iter;
+pub use join_list::{Entries, JoinList};
 pub use list::ChunkList;
 pub use probe::Probe;

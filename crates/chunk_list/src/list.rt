@@ -4,34 +4,38 @@ ghost use Rattle.std.specs.Prelude.{◌≡◌, ◌-◌, ◌++◌, ◌∷◌, [],
 ghost use Rattle.std.specs.List.{insert, remove};
 ghost use Rattle.std.specs.List.Sorted.{IsPartitionedBy};
 ghost use Rattle.std.specs.Option.{option_copied};
+ghost use Rattle.chunk_list.specs.Merged.{IsMerged};
 ghost use Rattle.chunk_list.specs.Ranks.{rank};
 
-use super::edits::{add_before, add_last, exchange, take_out};
+use super::edits::{add_before, append, exchange, merge, take_out};
+use super::entry::Entry;
+use super::into_iter::IntoIter;
 use super::iter::Iter;
 use super::probe::Probe;
-use super::spot::{first_failing, item_at};
+use super::spot::{failing_of, first_failing_of, last_of};
 use lattice_core::NoMemory;
 use std::alloc::{Allocator, Global};
 use std::marker::Model;
 
 /// A list in an order that its owner keeps, in chunks of at most 512 items. Contracts see the list. A search costs
 /// O(log n) for n items; an item that comes last is a push, and one that comes or goes elsewhere moves those of its
-/// chunk, and once in some hundred times the chunks.
+/// chunk, and once in some hundred times the chunks. A list of few items takes one allocation of little more than these.
 #[derive(Drop)]
 pub struct ChunkList<T, A: Allocator + Copy = Global> {
-    chunks: Vec<Vec<T, A>, A>,
+    first: Vec<T, A>,
+    rest: Vec<Vec<T, A>, A>,
     alloc: A,
 }
 
 impl<T, A: Allocator + Copy> Model for ChunkList<T, A> {
-    ghost use Rattle.std.specs.Prelude.{List, ◌<◌, length};
+    ghost use Rattle.std.specs.Prelude.{List, ◌<◌, ◌++◌, length};
     ghost use Rattle.std.specs.List.{All, flat_map};
 
     ghost Value = { List T };
 
-    ghost view = { λ l. flat_map (λ chunk. chunk.items) l.chunks.items };
+    ghost view = { λ l. l.first.items ++ flat_map (λ chunk. chunk.items) l.rest.items };
 
-    ghost invariant = { λ l. All (λ chunk. 0 < length chunk.items) l.chunks.items };
+    ghost invariant = { λ l. All (λ chunk. 0 < length chunk.items) l.rest.items };
 }
 
 impl<T: Drop, A: Allocator + Copy> ChunkList<T, A> {
@@ -40,7 +44,8 @@ impl<T: Drop, A: Allocator + Copy> ChunkList<T, A> {
         ensures { result ≡ [] }
     {
         ChunkList {
-            chunks: Vec::new(alloc),
+            first: Vec::new(alloc),
+            rest: Vec::new(alloc),
             alloc,
         }
     }
@@ -49,7 +54,7 @@ impl<T: Drop, A: Allocator + Copy> ChunkList<T, A> {
     pub fn last(&self) -> Option<&T>
         ensures { option_copied result ≡ slice_get self.now (length self.now - 1) }
     {
-        self.chunks.as_slice().last()?.as_slice().last()
+        last_of(self.first.as_slice(), self.rest.as_slice())
     }
 
     /// The first item that doesn't pass. It costs O(log n) for n items.
@@ -57,8 +62,7 @@ impl<T: Drop, A: Allocator + Copy> ChunkList<T, A> {
         requires { IsPartitionedBy (P.passes probe.now) self.now }
         ensures { option_copied result ≡ slice_get self.now (rank (P.passes probe.now) self.now) }
     {
-        let chunks = self.chunks.as_slice();
-        item_at(chunks, first_failing(chunks, probe))
+        first_failing_of(self.first.as_slice(), self.rest.as_slice(), probe)
     }
 
     /// The items from the first on that doesn't pass. It costs O(log n) for n items to find it, and O(1) for each
@@ -67,15 +71,14 @@ impl<T: Drop, A: Allocator + Copy> ChunkList<T, A> {
         requires { IsPartitionedBy (P.passes probe.now) self.now }
         ensures { result ≡ drop (rank (P.passes probe.now) self.now) self.now }
     {
-        let chunks = self.chunks.as_slice();
-        Iter::from(chunks, first_failing(chunks, probe))
+        failing_of(self.first.as_slice(), self.rest.as_slice(), probe)
     }
 
     /// The items in their order. Each costs O(1).
     pub fn iter(&self) -> Iter<'_, T, A>
         ensures { result ≡ self.now }
     {
-        Iter::all(self.chunks.as_slice())
+        Iter::all(self.first.as_slice(), self.rest.as_slice())
     }
 
     /// Adds an item after all others. Where memory is refused nothing changes.
@@ -83,7 +86,7 @@ impl<T: Drop, A: Allocator + Copy> ChunkList<T, A> {
         ensures ok { OnOk result (self.new ≡ self.old ++ item ∷ []) }
         ensures err { OnErr result (self.new ≡ self.old) }
     {
-        add_last(&mut self.chunks, self.alloc, item)
+        append(&mut self.first, &mut self.rest, self.alloc, item)
     }
 
     /// Adds an item before the first that doesn't pass. Where memory is refused nothing changes.
@@ -92,7 +95,7 @@ impl<T: Drop, A: Allocator + Copy> ChunkList<T, A> {
         ensures ok { OnOk result (self.new ≡ insert self.old (rank (P.passes probe.now) self.old) item) }
         ensures err { OnErr result (self.new ≡ self.old) }
     {
-        add_before(&mut self.chunks, self.alloc, probe, item)
+        add_before(&mut self.first, &mut self.rest, self.alloc, probe, item)
     }
 
     /// Takes out the first item that doesn't pass.
@@ -101,7 +104,7 @@ impl<T: Drop, A: Allocator + Copy> ChunkList<T, A> {
         ensures item { result ≡ slice_get self.old (rank (P.passes probe.now) self.old) }
         ensures rest { self.new ≡ remove self.old (rank (P.passes probe.now) self.old) }
     {
-        take_out(&mut self.chunks, probe)
+        take_out(&mut self.first, &mut self.rest, probe)
     }
 
     /// Puts an item in place of the first that doesn't pass, which it answers.
@@ -110,6 +113,35 @@ impl<T: Drop, A: Allocator + Copy> ChunkList<T, A> {
         ensures item { result ≡ slice_get self.old (rank (P.passes probe.now) self.old) }
         ensures rest { self.new ≡ slice_set self.old (rank (P.passes probe.now) self.old) item }
     {
-        exchange(&mut self.chunks, probe, item)
+        exchange(&mut self.first, &mut self.rest, probe, item)
+    }
+}
+
+impl<T: Entry, A: Allocator + Copy> ChunkList<T, A> {
+    /// Merges an entry into the one that it meets, in place, or adds it before the first that it doesn't pass. Where it
+    /// meets none and memory is refused nothing changes. The search costs O(log n) for n entries; beside it come the merge,
+    /// or what an item that is added moves.
+    pub fn merge(&mut self, entry: T) -> Result<(), NoMemory>
+        requires { IsPartitionedBy (T.passes entry) self.old }
+        ensures { IsMerged (T.passes entry) (T.meets entry) (T.merges entry) entry self.old result self.new }
+    {
+        merge(&mut self.first, &mut self.rest, self.alloc, entry)
+    }
+}
+
+impl<T: Drop, A: Allocator + Copy> IntoIterator for ChunkList<T, A> {
+    type Item = T;
+
+    type IntoIter = IntoIter<T, A>;
+
+    ghost into_iter_gives = { λ list items. items ≡ list };
+
+    fn into_iter(self) -> IntoIter<T, A> {
+        let ChunkList {
+            first,
+            rest,
+            alloc: _,
+        } = self;
+        IntoIter::of(first, rest)
     }
 }

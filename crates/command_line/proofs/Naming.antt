@@ -1,11 +1,11 @@
 -- Which command words name, and what they ask for by that.
 use Rattle.std.proofs.Common.{◌≡◌, ◌⊎◌, ◌∙◌, ap, sym, subst, inr, ℕ, List, Option, None, Some, if◌then◌else◌, codes, refl}
 use Rattle.std.specs.Str.{bytes_eq}
-use Rattle.command_tree.specs.Matching.{IsFaultless, Matched, Row, Text, matched_of}
+use Rattle.command_tree.specs.Matching.{AreFaultlessWords, Matched, Row, Text, matched_of}
 use Rattle.command_line.specs.declared.asked.Asked.{Asked}
 use Rattle.command_line.specs.declared.asked.Asked.TheVariants.{Events, Help, NoMemory, Recover, Run, Serve, Usage}
 use Rattle.command_line.specs.declared.asked.Asked.TheVariants.{Version}
-use Rattle.command_line.specs.Asking.{Asks, IsAsked, IsNothing, Means, Name, Says, events, footers, graph, merge, ready}
+use Rattle.command_line.specs.Asking.{WordsAsk, IsAskedByWords, IsNothing, Means, Name, ArgumentsSay, events, footers, graph, merge, ready}
 use Rattle.command_line.specs.Asking.{recover, serve, simulate, text_of, why}
 use Rattle.command_line.specs.Values.{Finds}
 
@@ -46,28 +46,28 @@ rows_or None other = other
 rows_or (Some matched) other = matched.1
 
 pub found_named : (name : Name) (text : Text) (rows : List Row) (result : Option Asked) → text ≡ text_of name
-    → Finds (Says name rows) result → Finds (IsAsked (Some (text, rows))) result
+    → Finds (ArgumentsSay name rows) result → Finds (IsAskedByWords (Some (text, rows))) result
 found_named name text rows (Some asked) is says = (name, rows, ap (λ (t : Text). Some (t, rows)) is, says)
 found_named name text rows None is none = λ asked found.
     let texts : text ≡ text_of found.0 = ap (λ (m : Matched). text_in m text) found.2 in
     let names : found.0 ≡ name = same_name found.0 name (sym texts ∙ is) in
     let tables : found.1 ≡ rows = sym (ap (λ (m : Matched). rows_or m rows) found.2) in
-    none asked (subst (λ (n : Name). Says n rows asked) names (subst (λ (r : List Row). Says found.0 r asked) tables found.3))
+    none asked (subst (λ (n : Name). ArgumentsSay n rows asked) names (subst (λ (r : List Row). ArgumentsSay found.0 r asked) tables found.3))
 
 -- ---- what words ask for
 
-pub asks_meant : (words : List Text) (matched : Matched) (asked : Asked) → IsFaultless words
-    → matched_of words ≡ matched → Means matched asked → Asks words asked
+pub asks_meant : (words : List Text) (matched : Matched) (asked : Asked) → AreFaultlessWords words
+    → matched_of words ≡ matched → Means matched asked → WordsAsk words asked
 asks_meant words matched (Run command) faultless same means =
-    (faultless, subst (λ m. IsAsked m (Run command)) (sym same) means)
+    (faultless, subst (λ m. IsAskedByWords m (Run command)) (sym same) means)
 asks_meant words matched (Serve site) faultless same means =
-    (faultless, subst (λ m. IsAsked m (Serve site)) (sym same) means)
+    (faultless, subst (λ m. IsAskedByWords m (Serve site)) (sym same) means)
 asks_meant words matched (Recover journal) faultless same means =
-    (faultless, subst (λ m. IsAsked m (Recover journal)) (sym same) means)
+    (faultless, subst (λ m. IsAskedByWords m (Recover journal)) (sym same) means)
 asks_meant words matched (Events feed) faultless same means =
-    (faultless, subst (λ m. IsAsked m (Events feed)) (sym same) means)
+    (faultless, subst (λ m. IsAskedByWords m (Events feed)) (sym same) means)
 asks_meant words matched (Help text) faultless same means = absurd means
 asks_meant words matched (Version text) faultless same means = absurd means
 asks_meant words matched (Usage text) faultless same means =
-    inr (λ asked is. means asked (subst (λ m. IsAsked m asked) same is))
+    inr (λ asked is. means asked (subst (λ m. IsAskedByWords m asked) same is))
 asks_meant words matched NoMemory faultless same means = means

@@ -11,10 +11,10 @@ use Rattle.command_line.specs.declared.asked.Asked.TheVariants.{Events, Run, Ser
 use Rattle.command_line.specs.declared.asked.Command.TheVariants.{Footers, Graph, Why}
 use Rattle.command_line.specs.declared.asked.EventWords.{EventWords}
 use Rattle.command_line.specs.declared.asked.ServeWords.{ServeWords}
-use Rattle.command_line.specs.Asking.{AreFeedOptions, AreOptions, HasStart, Says, events, footers, graph, serve, why}
-use Rattle.command_line.specs.Values.{Finds, Gives, GivesAny, GivesItem, GivesNumber, NamesItem, Writes, is_comma}
+use Rattle.command_line.specs.Asking.{AreFeedOptions, AreOptions, HasStart, ArgumentsSay, events, footers, graph, serve, why}
+use Rattle.command_line.specs.Values.{Finds, HasArgument, GivesAny, GivesItem, GivesNumber, NamesItem, Writes, is_comma}
 
-same_text : (rows : List Row) (argument text other : Text) → Gives rows argument text → Gives rows argument other
+same_text : (rows : List Row) (argument text other : Text) → HasArgument rows argument text → HasArgument rows argument other
     → text ≡ other
 same_text rows argument text other p q = cc
 
@@ -69,7 +69,7 @@ no_item_after text has none (change, None) names = let lacks = names.0 in omega 
 no_item_after text has none (change, Some set) names = none set names.2
 
 pub item_found : (rows : List Row) (text : Text) (result : Option (ℕ × Option ℕ))
-    → Gives rows (codes "CHANGE[,SET]") text → Finds (λ item. NamesItem text item.0 item.1) result
+    → HasArgument rows (codes "CHANGE[,SET]") text → Finds (λ item. NamesItem text item.0 item.1) result
     → Finds (λ item. GivesItem rows item.0 item.1) result
 item_found rows text (Some item) given names = (text, given, names)
 item_found rows text None given none = λ item gives.
@@ -78,26 +78,26 @@ item_found rows text None given none = λ item gives.
 -- ---- commands
 
 pub no_why : (rows : List Row) → ((item : ℕ × Option ℕ) → ¬ GivesItem rows item.0 item.1) → (asked : Asked)
-    → ¬ Says why rows asked
+    → ¬ ArgumentsSay why rows asked
 no_why rows none (Run (Why gate snapshot change set)) says = none (change, set) says.2
 no_why rows none asked says = says
 
 pub no_graph : (rows : List Row) → ((around : Option ℕ) → ¬ GivesAny rows (codes "around") 0 4294967295 around)
-    → (asked : Asked) → ¬ Says graph rows asked
+    → (asked : Asked) → ¬ ArgumentsSay graph rows asked
 no_graph rows none (Run (Graph gate snapshot around)) says = none around says.2
 no_graph rows none asked says = says
 
 pub no_footers : (rows : List Row) → ((change : ℕ) → ¬ GivesNumber rows (codes "change") 0 4294967295 change)
-    → (asked : Asked) → ¬ Says footers rows asked
+    → (asked : Asked) → ¬ ArgumentsSay footers rows asked
 no_footers rows none (Run (Footers gate message change)) says = none change says.2
 no_footers rows none asked says = says
 
 pub no_serve : (rows : List Row) → ((words : ServeWords) → ¬ AreOptions rows words) → (asked : Asked)
-    → ¬ Says serve rows asked
+    → ¬ ArgumentsSay serve rows asked
 no_serve rows none (Serve words) says = none words says.0
 no_serve rows none asked says = says
 
 pub no_events : (rows : List Row) → ((words : EventWords) → ¬ AreFeedOptions rows words) → (asked : Asked)
-    → ¬ Says events rows asked
+    → ¬ ArgumentsSay events rows asked
 no_events rows none (Events words) says = none words says.0
 no_events rows none asked says = says

@@ -1,7 +1,7 @@
 -- What the words of a command line ask for: each command's arguments, with the limits of their numbers, and what they
 -- say.
 use Rattle.std.specs.Prelude.{◌≡◌, ◌⊎◌, ◌↔◌, ℕ, IsTrue, List, None, Option, Some, codes, map, option_map, string_bytes}
-use Rattle.command_tree.specs.Matching.{AreFaulty, AskForHelp, AskForVersion, HasFlag, IsFaultless, Matched, Row}
+use Rattle.command_tree.specs.Matching.{AreFaulty, AskForHelp, AskForVersion, HasFlag, AreFaultlessWords, Matched, Row}
 use Rattle.command_tree.specs.Matching.{Text, first_of, matched_of}
 use Rattle.command_line.specs.declared.asked.Answer.{Answer}
 use Rattle.command_line.specs.declared.asked.Answer.TheVariants.{Complete, Query, Stream}
@@ -11,13 +11,13 @@ use Rattle.command_line.specs.declared.asked.Asked.TheVariants.{Version}
 use Rattle.command_line.specs.declared.asked.Command.TheVariants.{Footers, Graph, Merge, Ready, Simulate, Why}
 use Rattle.command_line.specs.declared.asked.EventWords.{EventWords}
 use Rattle.command_line.specs.declared.asked.ServeWords.{ServeWords}
-use Rattle.command_line.specs.Values.{Gives, GivesAny, GivesItem, GivesNumber, GivesNumbers, GivesTexts}
+use Rattle.command_line.specs.Values.{HasArgument, GivesAny, GivesItem, GivesNumber, GivesNumbers, GivesTexts}
 
 -- ---- what the arguments of each command say
 
 -- what a site is run with, but for its peers, is what the arguments give
 pub record AreOptions (rows : List Row) (words : ServeWords) : Type 0 where
-  pub gate : Gives rows (codes "GATE") words.gate.now
+  pub gate : HasArgument rows (codes "GATE") words.gate.now
   pub site : GivesNumber rows (codes "site") 1 65535 words.site
   pub start : GivesAny rows (codes "start") 1 4294967295 words.start
   pub port : GivesNumber rows (codes "port") 0 65535 words.port
@@ -85,44 +85,44 @@ text_of recover = codes "recover"
 text_of events = codes "events"
 
 -- the arguments of the command say that this is asked
-abbrev pub Says : Name → List Row → Asked → Type 0
-Says ready rows (Run (Ready gate snapshot)) =
-    Gives rows (codes "GATE") gate.now × Gives rows (codes "SNAPSHOT") snapshot.now
-Says why rows (Run (Why gate snapshot change set)) =
-    Gives rows (codes "GATE") gate.now × Gives rows (codes "SNAPSHOT") snapshot.now × GivesItem rows change set
-Says graph rows (Run (Graph gate snapshot around)) =
-    Gives rows (codes "GATE") gate.now × Gives rows (codes "SNAPSHOT") snapshot.now
+abbrev pub ArgumentsSay : Name → List Row → Asked → Type 0
+ArgumentsSay ready rows (Run (Ready gate snapshot)) =
+    HasArgument rows (codes "GATE") gate.now × HasArgument rows (codes "SNAPSHOT") snapshot.now
+ArgumentsSay why rows (Run (Why gate snapshot change set)) =
+    HasArgument rows (codes "GATE") gate.now × HasArgument rows (codes "SNAPSHOT") snapshot.now × GivesItem rows change set
+ArgumentsSay graph rows (Run (Graph gate snapshot around)) =
+    HasArgument rows (codes "GATE") gate.now × HasArgument rows (codes "SNAPSHOT") snapshot.now
     × GivesAny rows (codes "around") 0 4294967295 around
-Says merge rows (Run (Merge first second)) =
-    Gives rows (codes "FIRST") first.now × Gives rows (codes "SECOND") second.now
-Says footers rows (Run (Footers gate message change)) =
-    Gives rows (codes "GATE") gate.now × Gives rows (codes "FILE") message.now
+ArgumentsSay merge rows (Run (Merge first second)) =
+    HasArgument rows (codes "FIRST") first.now × HasArgument rows (codes "SECOND") second.now
+ArgumentsSay footers rows (Run (Footers gate message change)) =
+    HasArgument rows (codes "GATE") gate.now × HasArgument rows (codes "FILE") message.now
     × GivesNumber rows (codes "change") 0 4294967295 change
-Says simulate rows (Run (Simulate script gate)) =
-    Gives rows (codes "SCRIPT") script.now × (first_of (codes "GATE") rows ≡ option_map (λ name. name.now) gate)
-Says serve rows (Serve words) = IsSite rows words
-Says recover rows (Recover journal) = Gives rows (codes "JOURNAL") journal.now
-Says events rows (Events words) = IsFeed rows words
-Says name rows asked = ⊥
+ArgumentsSay simulate rows (Run (Simulate script gate)) =
+    HasArgument rows (codes "SCRIPT") script.now × (first_of (codes "GATE") rows ≡ option_map (λ name. name.now) gate)
+ArgumentsSay serve rows (Serve words) = IsSite rows words
+ArgumentsSay recover rows (Recover journal) = HasArgument rows (codes "JOURNAL") journal.now
+ArgumentsSay events rows (Events words) = IsFeed rows words
+ArgumentsSay name rows asked = ⊥
 
 -- ---- what words ask for
 
 -- what clap matched is a command, whose arguments say what is asked
-abbrev pub IsAsked : Matched → Asked → Type 0
-IsAsked matched asked =
-    (name : Name) × (rows : List Row) × (matched ≡ Some (text_of name, rows)) × Says name rows asked
+abbrev pub IsAskedByWords : Matched → Asked → Type 0
+IsAskedByWords matched asked =
+    (name : Name) × (rows : List Row) × (matched ≡ Some (text_of name, rows)) × ArgumentsSay name rows asked
 
 -- it is none, or they say nothing: a start or a port is missing, an item is none, or two options differ
 abbrev pub IsNothing : Matched → Type 0
-IsNothing matched = (asked : Asked) → ¬ IsAsked matched asked
+IsNothing matched = (asked : Asked) → ¬ IsAskedByWords matched asked
 
 -- the words ask for this, or it is answered in its place; memory may be refused at any words
-abbrev pub Asks : List Text → Asked → Type 0
-Asks words (Help text) = AskForHelp words
-Asks words (Version text) = AskForVersion words
-Asks words (Usage text) = AreFaulty words ⊎ IsNothing (matched_of words)
-Asks words NoMemory = Unit {0}
-Asks words asked = IsFaultless words × IsAsked (matched_of words) asked
+abbrev pub WordsAsk : List Text → Asked → Type 0
+WordsAsk words (Help text) = AskForHelp words
+WordsAsk words (Version text) = AskForVersion words
+WordsAsk words (Usage text) = AreFaulty words ⊎ IsNothing (matched_of words)
+WordsAsk words NoMemory = Unit {0}
+WordsAsk words asked = AreFaultlessWords words × IsAskedByWords (matched_of words) asked
 
 -- what clap matched means this
 abbrev pub Means : Matched → Asked → Type 0
@@ -130,7 +130,7 @@ Means matched (Help text) = ⊥
 Means matched (Version text) = ⊥
 Means matched (Usage text) = IsNothing matched
 Means matched NoMemory = Unit {0}
-Means matched asked = IsAsked matched asked
+Means matched asked = IsAskedByWords matched asked
 
 -- something is wrong with the words, or memory was refused for saying so
 abbrev pub IsUsage : Asked → Type 0

@@ -11,8 +11,8 @@ Finds {X} IsSo None = (other : X) → ¬ IsSo other
 Finds IsSo (Some answer) = IsSo answer
 
 -- the argument has this value
-abbrev pub Gives : List Row → List ℕ → List ℕ → Type 0
-Gives rows argument value = first_of argument rows ≡ Some value
+abbrev pub HasArgument : List Row → List ℕ → List ℕ → Type 0
+HasArgument rows argument value = first_of argument rows ≡ Some value
 
 -- the text writes the number in decimal, which is from the least to the greatest
 abbrev pub Writes : ℕ → ℕ → List ℕ → ℕ → Type 0
@@ -23,7 +23,7 @@ Writes least most text number =
 -- the argument's value is this number
 abbrev pub GivesNumber : List Row → List ℕ → ℕ → ℕ → ℕ → Type 0
 GivesNumber rows argument least most number =
-    (text : List ℕ) × Gives rows argument text × Writes least most text number
+    (text : List ℕ) × HasArgument rows argument text × Writes least most text number
 
 -- the same of an option that may be left out
 abbrev pub GivesAny : List Row → List ℕ → ℕ → ℕ → Option ℕ → Type 0
@@ -50,4 +50,4 @@ NamesItem text change (Some set) =
 
 -- the argument names this item
 abbrev pub GivesItem : List Row → ℕ → Option ℕ → Type 0
-GivesItem rows change set = (text : List ℕ) × Gives rows (codes "CHANGE[,SET]") text × NamesItem text change set
+GivesItem rows change set = (text : List ℕ) × HasArgument rows (codes "CHANGE[,SET]") text × NamesItem text change set

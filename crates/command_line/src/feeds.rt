@@ -1,7 +1,7 @@
 //! What the arguments of `events` say.
 
 ghost use Rattle.std.specs.Prelude.{◌≡◌, IfNone, IfOk, IfSome, MatchBool, map, string_bytes};
-ghost use Rattle.command_line.specs.Asking.{AreFeedOptions, GivesAnswer, HasPort, Says, events};
+ghost use Rattle.command_line.specs.Asking.{AreFeedOptions, GivesAnswer, HasPort, ArgumentsSay, events};
 ghost use Rattle.command_line.specs.Values.{Finds, GivesTexts};
 ghost use Rattle.command_line.specs.declared.asked.EventWords.{EventWords};
 ghost use Rattle.command_tree.specs.Rows.{rows_in};
@@ -13,7 +13,7 @@ use std::alloc::{AllocError, Global};
 
 /// `events [--to PORT] [--query | --complete] [--project NAME].. [--projects FILE] [--gate GATE]`
 pub fn events_in<'a>(alloc: Global, values: &Values<'a>) -> Result<Option<Asked<'a>>, AllocError>
-    ensures { IfOk result (Finds (Says events (rows_in values.now))) }
+    ensures { IfOk result (Finds (ArgumentsSay events (rows_in values.now))) }
 {
     if lacks_port(values) {
         return Ok(None);

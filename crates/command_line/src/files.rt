@@ -1,7 +1,7 @@
 //! What the arguments of the commands over files say.
 
 ghost use Rattle.command_tree.specs.Rows.{rows_in};
-ghost use Rattle.command_line.specs.Asking.{Says, footers, graph, merge, ready, recover, simulate, why};
+ghost use Rattle.command_line.specs.Asking.{ArgumentsSay, footers, graph, merge, ready, recover, simulate, why};
 ghost use Rattle.command_line.specs.Values.{Finds};
 
 use super::asked::{Asked, Command};
@@ -10,7 +10,7 @@ use command_tree::{AROUND, CHANGE, Values};
 
 /// `ready GATE SNAPSHOT`
 pub fn ready_in<'a>(values: &Values<'a>) -> Option<Asked<'a>>
-    ensures { Finds (Says ready (rows_in values.now)) result }
+    ensures { Finds (ArgumentsSay ready (rows_in values.now)) result }
 {
     let gate = values.text("GATE")?;
     let snapshot = values.text("SNAPSHOT")?;
@@ -19,7 +19,7 @@ pub fn ready_in<'a>(values: &Values<'a>) -> Option<Asked<'a>>
 
 /// `why GATE SNAPSHOT CHANGE[,SET]`
 pub fn why_in<'a>(values: &Values<'a>) -> Option<Asked<'a>>
-    ensures { Finds (Says why (rows_in values.now)) result }
+    ensures { Finds (ArgumentsSay why (rows_in values.now)) result }
 {
     let gate = values.text("GATE")?;
     let snapshot = values.text("SNAPSHOT")?;
@@ -34,7 +34,7 @@ pub fn why_in<'a>(values: &Values<'a>) -> Option<Asked<'a>>
 
 /// `graph GATE SNAPSHOT [--around CHANGE]`
 pub fn graph_in<'a>(values: &Values<'a>) -> Option<Asked<'a>>
-    ensures { Finds (Says graph (rows_in values.now)) result }
+    ensures { Finds (ArgumentsSay graph (rows_in values.now)) result }
 {
     let gate = values.text("GATE")?;
     let snapshot = values.text("SNAPSHOT")?;
@@ -48,7 +48,7 @@ pub fn graph_in<'a>(values: &Values<'a>) -> Option<Asked<'a>>
 
 /// `merge FIRST SECOND`
 pub fn merge_in<'a>(values: &Values<'a>) -> Option<Asked<'a>>
-    ensures { Finds (Says merge (rows_in values.now)) result }
+    ensures { Finds (ArgumentsSay merge (rows_in values.now)) result }
 {
     let first = values.text("FIRST")?;
     let second = values.text("SECOND")?;
@@ -57,7 +57,7 @@ pub fn merge_in<'a>(values: &Values<'a>) -> Option<Asked<'a>>
 
 /// `footers GATE FILE [--change N]`
 pub fn footers_in<'a>(values: &Values<'a>) -> Option<Asked<'a>>
-    ensures { Finds (Says footers (rows_in values.now)) result }
+    ensures { Finds (ArgumentsSay footers (rows_in values.now)) result }
 {
     let gate = values.text("GATE")?;
     let message = values.text("FILE")?;
@@ -71,7 +71,7 @@ pub fn footers_in<'a>(values: &Values<'a>) -> Option<Asked<'a>>
 
 /// `simulate SCRIPT [GATE]`
 pub fn simulate_in<'a>(values: &Values<'a>) -> Option<Asked<'a>>
-    ensures { Finds (Says simulate (rows_in values.now)) result }
+    ensures { Finds (ArgumentsSay simulate (rows_in values.now)) result }
 {
     let script = values.text("SCRIPT")?;
     let gate = values.text("GATE");
@@ -80,7 +80,7 @@ pub fn simulate_in<'a>(values: &Values<'a>) -> Option<Asked<'a>>
 
 /// `recover JOURNAL`
 pub fn recover_in<'a>(values: &Values<'a>) -> Option<Asked<'a>>
-    ensures { Finds (Says recover (rows_in values.now)) result }
+    ensures { Finds (ArgumentsSay recover (rows_in values.now)) result }
 {
     let journal = values.text("JOURNAL")?;
     Some(Asked::Recover(journal))

@@ -2,7 +2,7 @@
 
 ghost use Rattle.std.specs.Prelude.{◌≡◌, IfNone, IfOk, IfSome, MatchBool};
 ghost use Rattle.command_tree.specs.Rows.{rows_in};
-ghost use Rattle.command_line.specs.Asking.{AreOptions, HasStart, Says, serve};
+ghost use Rattle.command_line.specs.Asking.{AreOptions, HasStart, ArgumentsSay, serve};
 ghost use Rattle.command_line.specs.Values.{Finds};
 ghost use Rattle.command_line.specs.declared.asked.ServeWords.{ServeWords};
 
@@ -13,7 +13,7 @@ use std::alloc::{AllocError, Global};
 
 /// `serve GATE [PEER].. --site N [option]..`
 pub fn serve_in<'a>(alloc: Global, values: &Values<'a>) -> Result<Option<Asked<'a>>, AllocError>
-    ensures { IfOk result (Finds (Says serve (rows_in values.now))) }
+    ensures { IfOk result (Finds (ArgumentsSay serve (rows_in values.now))) }
 {
     let Some(peers) = shorts_in(alloc, values, PEER)? else {
         return Ok(None);

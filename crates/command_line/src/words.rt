@@ -1,7 +1,7 @@
 //! What the words of a command line ask for.
 
 ghost use Rattle.std.specs.Prelude.{IfOk, Some, map};
-ghost use Rattle.command_line.specs.Asking.{Asks, IsAsked, IsUsage, Means};
+ghost use Rattle.command_line.specs.Asking.{WordsAsk, IsAskedByWords, IsUsage, Means};
 ghost use Rattle.command_line.specs.Values.{Finds};
 ghost use Rattle.command_tree.specs.Rows.{rows_in};
 
@@ -35,7 +35,7 @@ const NO_PORT: &str =
 /// isn't named; its text, and those of `Help` and `Version`, are `clap`'s, but for the last four. It costs O(bytes of
 /// the words).
 pub fn read_words<'a, S: AsStr>(alloc: Global, words: &'a [S]) -> Asked<'a>
-    ensures { Asks (map S.text words.entry.now) result }
+    ensures { WordsAsk (map S.text words.entry.now) result }
 {
     match parse(alloc, words) {
         Parsed::Command(name, values) => asked_of(alloc, name, &values),
@@ -63,7 +63,7 @@ fn named<'a>(
     name: &str,
     values: &Values<'a>,
 ) -> Result<Option<Asked<'a>>, AllocError>
-    ensures { IfOk result (Finds (IsAsked (Some (name.now, rows_in values.now)))) }
+    ensures { IfOk result (Finds (IsAskedByWords (Some (name.now, rows_in values.now)))) }
 {
     match name {
         "ready" => Ok(ready_in(values)),

@@ -6,10 +6,10 @@ use Rattle.clap.specs.declared.error.kind.ErrorKind.TheVariants.{DisplayHelp, Di
 use Rattle.command_tree.specs.declared.parsing.Parsed.{Parsed}
 use Rattle.command_tree.specs.declared.parsing.Parsed.TheVariants.{Command, Help, NoMemory, Usage, Version}
 use Rattle.command_tree.specs.Commands.{program}
-use Rattle.command_tree.specs.Matching.{AskForHelp, AskForVersion, IsFaultless, Matched, Text, matched_of}
+use Rattle.command_tree.specs.Matching.{AskForHelp, AskForVersion, AreFaultlessWords, Matched, Text, matched_of}
 use Rattle.command_tree.specs.Parsing.{IsReadAs, IsRefused, Parses}
 
-pub parses_matched : (words : List Text) (matched : Matched) (parsed : Parsed) → IsFaultless words
+pub parses_matched : (words : List Text) (matched : Matched) (parsed : Parsed) → AreFaultlessWords words
     → matched ≡ matched_of words → IsReadAs matched parsed → Parses words parsed
 parses_matched words matched (Command name values) faultless same reads = (faultless, sym same ∙ reads)
 parses_matched words matched (Help text) faultless same reads = absurd reads

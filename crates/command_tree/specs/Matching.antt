@@ -7,8 +7,8 @@ use Rattle.command_tree.specs.Commands.{program}
 pub use Rattle.clap.specs.Words.{Row, Text, all_of, first_of}
 
 -- clap finds no fault in the words
-abbrev pub IsFaultless : List Text → Type 0
-IsFaultless words = fault_of program words ≡ []
+abbrev pub AreFaultlessWords : List Text → Type 0
+AreFaultlessWords words = fault_of program words ≡ []
 
 -- they are a wish for help
 abbrev pub AskForHelp : List Text → Type 0

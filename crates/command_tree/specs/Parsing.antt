@@ -4,12 +4,12 @@ use Rattle.clap.specs.declared.error.kind.ErrorKind.{ErrorKind}
 use Rattle.clap.specs.declared.error.kind.ErrorKind.TheVariants.{DisplayHelp, DisplayVersion, OutOfMemory}
 use Rattle.command_tree.specs.declared.parsing.Parsed.{Parsed}
 use Rattle.command_tree.specs.declared.parsing.Parsed.TheVariants.{Command, Help, NoMemory, Usage, Version}
-use Rattle.command_tree.specs.Matching.{AreFaulty, AskForHelp, AskForVersion, IsFaultless, Matched, Text, matched_of}
+use Rattle.command_tree.specs.Matching.{AreFaulty, AskForHelp, AskForVersion, AreFaultlessWords, Matched, Text, matched_of}
 use Rattle.command_tree.specs.Rows.{rows_in}
 
 -- words are read as this: a command with its values, only where clap finds no fault; memory may be refused at any
 abbrev pub Parses : List Text → Parsed → Type 0
-Parses words (Command name values) = IsFaultless words × (matched_of words ≡ Some (name.now, rows_in values))
+Parses words (Command name values) = AreFaultlessWords words × (matched_of words ≡ Some (name.now, rows_in values))
 Parses words (Help text) = AskForHelp words
 Parses words (Version text) = AskForVersion words
 Parses words (Usage text) = AreFaulty words ⊎ (matched_of words ≡ None)

@@ -6,7 +6,7 @@ use Rattle.review_ops.specs.Operation.{Operation}
 use Rattle.replica_core.specs.Journal.{same_operation, has, all_arrived}
 use Rattle.replica_core.specs.InOrder.{IsInOrderOf}
 use Rattle.snapshot_text.specs.Snapshot.{SaysOperations, snapshot_text}
-use Rattle.commands.specs.Answers.{IsMerged}
+use Rattle.commands.specs.Answers.{IsMergedText}
 
 module _ (as_set : (journal ops : List Operation) (op : Operation) → has (all_arrived journal ops) op ≡ (has journal op || has ops op)) where
   -- what a journal has to which those of the first and then those of the second came
@@ -20,7 +20,7 @@ module _ (as_set : (journal ops : List Operation) (op : Operation) → has (all_
   pub is_merged : (first second : List ℕ) (ops others empty before journal : List Operation)
       → SaysOperations (lines_of first) ops → SaysOperations (lines_of second) others
       → empty ≡ [] → before ≡ all_arrived empty ops → journal ≡ all_arrived before others → (both : List Operation)
-      → IsInOrderOf journal both → IsMerged first second (snapshot_text both)
+      → IsInOrderOf journal both → IsMergedText first second (snapshot_text both)
   is_merged first second ops others empty before journal of_first of_second none came came_too both ordered = record {
     ops = ops;
     others = others;

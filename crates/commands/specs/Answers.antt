@@ -21,7 +21,7 @@ use Rattle.script_text.specs.Script.{IsUnreadScript, SaysScript}
 use Rattle.script_text.specs.declared.fault.ScriptFault.{ScriptFault}
 use Rattle.script_text.specs.declared.fault.ScriptFault.TheVariants.{BadLine, NoMemory}
 use Rattle.script_text.specs.declared.script.Step.{Step}
-use Rattle.why_text.specs.Asked.{IsAsked}
+use Rattle.why_text.specs.Asked.{IsItemAsked}
 use Rattle.why_text.specs.Why.{IsWhy}
 use Rattle.world_core.specs.World.{new_world}
 use Rattle.console.specs.Printing.{Ended}
@@ -44,14 +44,14 @@ pub record IsOf (gate snapshot : List ℕ) (IsSo : GateRules → State → List 
   pub so : IsSo rules (state_of (all_arrived [] ops)) answer
 
 -- the state of the operations that the snapshot says hasn't got what is asked for
-pub record Lacks (snapshot : List ℕ) (HasIt : State → Type 0) : Type 0 where
+pub record LacksAsked (snapshot : List ℕ) (HasIt : State → Type 0) : Type 0 where
   pub ops : List Operation
   pub says : SaysOperations (lines_of snapshot) ops
   pub none : ¬ HasIt (state_of (all_arrived [] ops))
 
 -- this is asked for, and the state that the snapshot says hasn't got it
 abbrev pub Misses : (ℕ → Option ℕ → Type 0) → List ℕ → (State → Type 0) → ℕ → Option ℕ → Type 0
-Misses IsAskedFor snapshot HasIt change set = IsAskedFor change set × Lacks snapshot HasIt
+Misses IsAskedFor snapshot HasIt change set = IsAskedFor change set × LacksAsked snapshot HasIt
 
 -- nothing is asked for
 abbrev pub MissesNone : ℕ → Option ℕ → Type 0
@@ -65,14 +65,14 @@ IsReport rules state answer = (verdicts : Judged) × AreVerdicts rules state ver
 -- ---- `why`: why an item waits, for which the text of the gate file is looked at, too
 
 abbrev pub HasItem : ℕ → Option ℕ → State → Type 0
-HasItem change set state = (item : Item) × IsAsked state change set item
+HasItem change set state = (item : Item) × IsItemAsked state change set item
 
-abbrev pub IsItem : ℕ → Option ℕ → ℕ → Option ℕ → Type 0
-IsItem change set number other = (number ≡ change) × (other ≡ set)
+abbrev pub IsItemText : ℕ → Option ℕ → ℕ → Option ℕ → Type 0
+IsItemText change set number other = (number ≡ change) × (other ≡ set)
 
 abbrev pub IsReason : List ℕ → ℕ → Option ℕ → GateRules → State → List ℕ → Type 0
 IsReason gate change set rules state answer =
-    (item : Item) × (verdicts : Judged) × IsAsked state change set item × AreVerdicts rules state verdicts
+    (item : Item) × (verdicts : Judged) × IsItemAsked state change set item × AreVerdicts rules state verdicts
     × IsWhy gate rules state verdicts item answer
 
 -- ---- `graph`: the items and what they wait for, around a change of which a patch set is known, where one is named
@@ -95,7 +95,7 @@ IsPicture around rules state answer = HasAround around state × IsGraphText rule
 
 -- ---- `merge`: the snapshot of the operations of either, each once, as a grow-only set merges
 
-pub record IsMerged (first second answer : List ℕ) : Type 0 where
+pub record IsMergedText (first second answer : List ℕ) : Type 0 where
   pub ops : List Operation
   pub others : List Operation
   pub of_first : SaysOperations (lines_of first) ops

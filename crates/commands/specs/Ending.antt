@@ -4,8 +4,8 @@ use Rattle.std.specs.Prelude.{◌⊎◌, ℕ, List, [], ◌∷◌, IsErrAnd, IsE
 use Rattle.command_line.specs.declared.asked.Command.{Command}
 use Rattle.command_line.specs.declared.asked.Command.TheVariants.{Footers, Graph, Merge, Ready, Simulate, Why}
 use Rattle.console.specs.Printing.{Ended}
-use Rattle.commands.specs.Answers.{AreFooterLines, HasAround, HasItem, IsMerged, IsOf, IsPicture, IsReason, IsReport}
-use Rattle.commands.specs.Answers.{IsAround, IsItem, IsSimulated, IsWhole, Misses, MissesNone}
+use Rattle.commands.specs.Answers.{AreFooterLines, HasAround, HasItem, IsMergedText, IsOf, IsPicture, IsReason, IsReport}
+use Rattle.commands.specs.Answers.{IsAround, IsItemText, IsSimulated, IsWhole, Misses, MissesNone}
 use Rattle.console.specs.Console.{ConsoleState, IsCutShort, IsPrinted}
 use Rattle.console.specs.Inputs.{AreHad, Input, IsFirstRefused, input}
 use Rattle.console.specs.Inputs.{gate_file, message_file, script_file, snapshot_file}
@@ -25,11 +25,11 @@ abbrev pub IsAnswer : Command → List (List ℕ) → List ℕ → Ended → Typ
 IsAnswer (Simulate script gate) (text ∷ gates) answer ended = IsSimulated text gates answer ended
 IsAnswer (Ready gate snapshot) (one ∷ other ∷ []) answer ended =
     IsWhole (IsOf one other IsReport) MissesNone answer ended
-IsAnswer (Merge first second) (one ∷ other ∷ []) answer ended = IsWhole (IsMerged one other) MissesNone answer ended
+IsAnswer (Merge first second) (one ∷ other ∷ []) answer ended = IsWhole (IsMergedText one other) MissesNone answer ended
 IsAnswer (Footers gate message change) (one ∷ other ∷ []) answer ended =
     IsWhole (AreFooterLines one other change) MissesNone answer ended
 IsAnswer (Why gate snapshot change set) (one ∷ other ∷ []) answer ended =
-    IsWhole (IsOf one other (IsReason one change set)) (Misses (IsItem change set) other (HasItem change set))
+    IsWhole (IsOf one other (IsReason one change set)) (Misses (IsItemText change set) other (HasItem change set))
     answer ended
 IsAnswer (Graph gate snapshot around) (one ∷ other ∷ []) answer ended =
     IsWhole (IsOf one other (IsPicture around)) (Misses (IsAround around) other (HasAround around)) answer ended

@@ -3,7 +3,7 @@
 ghost use Rattle.std.specs.Prelude.{◌≡◌, ◌⊎◌, IfErr, IfOk, string_bytes};
 ghost use Rattle.gate_rules.specs.Spelling.{SpellsGate};
 ghost use Rattle.state_core.specs.declared.item.Item.{Item};
-ghost use Rattle.why_text.specs.Asked.{IsAsked};
+ghost use Rattle.why_text.specs.Asked.{IsItemAsked};
 ghost use Rattle.commands.specs.Answers.{IsReason};
 ghost use Rattle.commands.specs.Ending.{Ends};
 
@@ -54,7 +54,7 @@ fn reason_of(
     ensures reason { IfOk result
         (λ text. IsReason file.now.text.items change set file.now.rules state.now (string_bytes text)) }
     ensures refused { IfErr result (λ refusal.
-        ((refusal ≡ Refusal.NoItem change set) × ((item : Item) → ¬ IsAsked state.now change set item))
+        ((refusal ≡ Refusal.NoItem change set) × ((item : Item) → ¬ IsItemAsked state.now change set item))
         ⊎ (refusal ≡ Refusal.Memory)) }
 {
     let Some(item) = item_asked(state, change, set) else {

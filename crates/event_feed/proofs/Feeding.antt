@@ -3,15 +3,15 @@ use Rattle.std.proofs.Common.{◌≡◌, ◌+◌, ℕ, Bool, true, false, List, 
 use Rattle.std.proofs.Common.{sym, subst, arith}
 use Rattle.gerrit_events.specs.Projects.{Choice}
 use Rattle.gerrit_events.specs.Reading.{Told}
-use Rattle.event_feed.specs.Feed.{IsTurn, Standing, Stops, Turn, Turns, Waits, ended_by, with_taker}
+use Rattle.event_feed.specs.Feed.{IsTurn, Standing, Stops, FeedTurn, Turns, Waits, ended_by, with_taker}
 use Rattle.event_feed.specs.Steps.{Steps}
 use Rattle.event_feed.specs.declared.fault.FeedFault.{FeedFault}
 use Rattle.event_feed.specs.declared.progress.Input.{Input}
 
 module _ {Taker : Type 0} (rests : Taker → Result (Unit {0}) FeedFault → Taker → Type 0)
     (takes : Taker → ℕ → Told → Result (Unit {0}) FeedFault → Taker → Type 0) where
-  pub turns_push : (choice : Choice) (limit first number : ℕ) (turns : List Turn) (old mid new : Standing Taker) (waiting : Taker)
-      (turn : Turn) → number ≡ first + length turns → Turns rests takes choice limit first old turns mid
+  pub turns_push : (choice : Choice) (limit first number : ℕ) (turns : List FeedTurn) (old mid new : Standing Taker) (waiting : Taker)
+      (turn : FeedTurn) → number ≡ first + length turns → Turns rests takes choice limit first old turns mid
       → Waits rests mid.source.held mid.taker waiting
       → IsTurn takes choice limit number (with_taker mid waiting) new turn (Ok tt) → ended_by turn.told ≡ None
       → Turns rests takes choice limit first old (turns ++ turn ∷ []) new

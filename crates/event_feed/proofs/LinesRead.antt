@@ -9,7 +9,7 @@ use Rattle.byte_ends.specs.Lines.{as_line, without_cr}
 use Rattle.byte_ends.specs.ReadAll.{CountsFault}
 use Rattle.byte_ends.specs.declared.faults.BytesFault.{BytesFault}
 use Rattle.byte_ends.specs.declared.faults.BytesFault.TheVariants.{TooLong}
-use Rattle.line_reader.specs.Lines.{BeginsWithLine, Hands, HasNoLf, IsTooLong, Passes, Reading}
+use Rattle.line_reader.specs.Lines.{BeginsWithLine, Hands, HasNoLf, IsTooLong, PassesLine, Reading}
 
 pub handed : (old new : Reading) (came : List ℕ) (whole : Bool) → whole ≡ true → Hands old came (Ok whole) new
     → (piece : List ℕ) × BeginsWithLine old.limit (old.held ++ came) piece new.held × (new.line ≡ without_cr piece)
@@ -45,7 +45,7 @@ long_by true limit bytes more piece rest long is b = ltb-true limit (length piec
 long_by false limit bytes more piece rest long is b = absurd
     (lf_past limit bytes more piece rest long is (ltb-false limit (length piece) b))
 
-pub passed_all : (old came new : List ℕ) (whole : Bool) → whole ≡ false → Passes old came (Ok whole) new
+pub passed_all : (old came new : List ℕ) (whole : Bool) → whole ≡ false → PassesLine old came (Ok whole) new
     → HasNoLf (old ++ came)
 passed_all old came new true is h = cc
 passed_all old came new false is h = h.0

@@ -9,8 +9,8 @@ use Rattle.gerrit_events.specs.Projects.{Choice}
 use Rattle.gerrit_events.specs.Reading.{Reads, Told}
 use Rattle.line_reader.specs.Lines.{BeginsWithLine, HasNoLf, IsTooLong}
 use Rattle.event_feed.proofs.LinesRead.{long_by}
-use Rattle.event_feed.specs.Ends.{Begin, HasCome, IsEndless, IsRead}
-use Rattle.event_feed.specs.Feed.{BreaksOff, EndsWith, HandsLast, IsBroken, IsEnd, IsTurn, Standing, no_event}
+use Rattle.event_feed.specs.Ends.{Begin, HasCome, IsEndless, IsTextRead}
+use Rattle.event_feed.specs.Feed.{BreaksOff, EndsWith, HandsLast, BreaksFeed, IsEnd, IsTurn, Standing, no_event}
 use Rattle.event_feed.specs.Progress.{after_part, end_of}
 use Rattle.event_feed.specs.Steps.{BreaksPassing, IsHanded, IsLineTaken, IsPassedLast, IsRefused, IsUnpassed, Moves}
 use Rattle.event_feed.specs.Steps.{PassesOver, with_more}
@@ -41,7 +41,7 @@ module _ {Taker : Type 0} (takes : Taker → ℕ → Told → Result (Unit {0}) 
       → new.taker ≡ old.taker → (result : Result Bool FeedFault) → result ≡ Err NoMemory
       → Moves takes input choice limit number old new result
   refused_memory input choice limit number old new came read known progress taker result is =
-      let broken : IsBroken limit old new NoMemory = record {
+      let broken : BreaksFeed limit old new NoMemory = record {
         came = came;
         consumed = read.consumed;
         same = ((known, progress), taker);
@@ -108,7 +108,7 @@ module _ {Taker : Type 0} (takes : Taker → ℕ → Told → Result (Unit {0}) 
       plain = subst HasNoLf (whole more) plain;
     }
 
-    long_turn : (piece : List ℕ) → IsRead (as_line piece) mid new.source → HasNoLf piece
+    long_turn : (piece : List ℕ) → IsTextRead (as_line piece) mid new.source → HasNoLf piece
         → (result : Result (Unit {0}) FeedFault) → takes old.taker number no_event result new.taker
         → new.progress ≡ old.progress
         → IsTurn takes choice limit number old new (record { piece = piece; told = no_event }) result
@@ -135,7 +135,7 @@ module _ {Taker : Type 0} (takes : Taker → ℕ → Told → Result (Unit {0}) 
           taken = taken;
         }
 
-    passed : (piece : List ℕ) → IsRead (as_line piece) mid new.source → HasNoLf piece
+    passed : (piece : List ℕ) → IsTextRead (as_line piece) mid new.source → HasNoLf piece
         → (result : Result Bool FeedFault)
         → IsRefused takes number old.progress new.progress old.taker new.taker result
         → Moves takes input choice limit number old new result
@@ -193,7 +193,7 @@ module _ {Taker : Type 0} (takes : Taker → ℕ → Told → Result (Unit {0}) 
         → IsUnpassed takes mid new.source old.progress new.progress old.taker new.taker result
         → Moves takes input choice limit number old new result
     unpassed result h =
-        let broken : IsBroken limit old new h.fault = record {
+        let broken : BreaksFeed limit old new h.fault = record {
           came = came ++ h.came;
           consumed = Consumes-trans old.source.left mid.left new.source.left came h.came consumed h.consumed;
           same = ((kept, h.same.0), h.same.1);

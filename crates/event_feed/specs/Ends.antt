@@ -20,22 +20,22 @@ pub record IsWritten (text : List ℕ) (old new : End) : Type 0 where
   pub none_failed : new.failed ≡ old.failed
 
 -- a proper prefix of the text was written, and then a write failed
-pub record IsCutShort (text : List ℕ) (old new : End) : Type 0 where
+pub record FeedIsCutShort (text : List ℕ) (old new : End) : Type 0 where
   pub count : ℕ
   pub proper : count < length text
   pub prefix : Appends old.taken new.taken (take count text)
   pub one_failed : OneFailed old.failed new.failed
 
 -- a text is written, or cut short
-abbrev pub Sends : List ℕ → End → End → Result (Unit {0}) FeedFault → Type 0
-Sends text old new (Ok done) = IsWritten text old new
-Sends text old new (Err Dropped) = ⊥
-Sends text old new (Err ReadFault) = ⊥
-Sends text old new (Err WriteFault) = IsCutShort text old new
-Sends text old new (Err NoMemory) = ⊥
-Sends text old new (Err NoSite) = ⊥
-Sends text old new (Err Ended) = ⊥
-Sends text old new (Err Incomplete) = ⊥
+abbrev pub SendsText : List ℕ → End → End → Result (Unit {0}) FeedFault → Type 0
+SendsText text old new (Ok done) = IsWritten text old new
+SendsText text old new (Err Dropped) = ⊥
+SendsText text old new (Err ReadFault) = ⊥
+SendsText text old new (Err WriteFault) = FeedIsCutShort text old new
+SendsText text old new (Err NoMemory) = ⊥
+SendsText text old new (Err NoSite) = ⊥
+SendsText text old new (Err Ended) = ⊥
+SendsText text old new (Err Incomplete) = ⊥
 
 -- ---- the source
 
@@ -46,7 +46,7 @@ pub record Begin : Type 0 where
   pub held : List ℕ
 
 -- what was read of the source is this, no read failed, and what follows is held
-pub record IsRead (text : List ℕ) (old new : Begin) : Type 0 where
+pub record IsTextRead (text : List ℕ) (old new : Begin) : Type 0 where
   pub came : List ℕ
   pub consumed : Consumes old.left new.left came
   pub whole : old.held ++ came ≡ text ++ new.held

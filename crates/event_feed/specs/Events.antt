@@ -3,7 +3,7 @@ use Rattle.std.specs.Prelude.{◌≡◌, ◌⊎◌, ℕ, List, Option, Result, O
 use Rattle.gerrit_events.specs.Projects.{Choice}
 use Rattle.gerrit_events.specs.Reading.{Told}
 use Rattle.gerrit_events.specs.declared.finding.Finding.{Finding}
-use Rattle.event_feed.specs.Ends.{End, IsCutShort, IsWritten}
+use Rattle.event_feed.specs.Ends.{End, FeedIsCutShort, IsWritten}
 use Rattle.event_feed.specs.Feed.{Feeds}
 use Rattle.event_feed.specs.Texts.{refusal_lines, take_lines}
 use Rattle.event_feed.specs.declared.fault.FeedFault.{FeedFault}
@@ -23,9 +23,9 @@ pub record AreWritten (number : ℕ) (findings : List Finding) (old new : Output
 -- one of the two texts was cut short
 abbrev pub AreCutShort : ℕ → List Finding → Outputs → Outputs → Type 0
 AreCutShort number findings old new =
-    (IsCutShort (take_lines findings) old.output new.output × (new.errors ≡ old.errors))
+    (FeedIsCutShort (take_lines findings) old.output new.output × (new.errors ≡ old.errors))
     ⊎ (IsWritten (take_lines findings) old.output new.output
-    × IsCutShort (refusal_lines number findings) old.errors new.errors)
+    × FeedIsCutShort (refusal_lines number findings) old.errors new.errors)
 
 -- what was found in the line of this number is written
 abbrev pub IsLineWritten : ℕ → List Finding → Outputs → Outputs → Result (Unit {0}) FeedFault → Type 0
@@ -52,7 +52,7 @@ module _ {Writer : Type 0} (shown : Writer → Outputs) where
   pub record IsUngreeted (left : Option (List ℕ)) (unread : ℕ) (old : Writer) (left' : Option (List ℕ)) (unread' : ℕ)
       (new : Writer) (result : Result (Unit {0}) FeedFault) : Type 0 where
     pub fault : result ≡ Err WriteFault
-    pub cut : IsCutShort hello (shown old).output (shown new).output
+    pub cut : FeedIsCutShort hello (shown old).output (shown new).output
     pub same : ((shown new).errors ≡ (shown old).errors) × (left' ≡ left) × (unread' ≡ unread)
 
   -- the greeting was written, and then what the lines bring

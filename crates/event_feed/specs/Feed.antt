@@ -14,7 +14,7 @@ use Rattle.gerrit_events.specs.declared.finding.Finding.TheVariants.{Refuses}
 use Rattle.gerrit_events.specs.declared.part.Part.{Part}
 use Rattle.gerrit_events.specs.declared.part.Part.TheVariants.{Nothing, Event, Row, Stats, Error}
 use Rattle.line_reader.specs.Lines.{HasFirstLf, HasNoLf}
-use Rattle.event_feed.specs.Ends.{Begin, HasCome, IsEndless, IsRead}
+use Rattle.event_feed.specs.Ends.{Begin, HasCome, IsEndless, IsTextRead}
 use Rattle.event_feed.specs.Progress.{after_part, end_of}
 use Rattle.event_feed.specs.Texts.{drops}
 use Rattle.event_feed.specs.declared.fault.FeedFault.{FeedFault}
@@ -27,7 +27,7 @@ use Rattle.event_feed.specs.declared.progress.Progress.TheVariants.{Unbegun}
 -- ---- what a line tells
 
 -- a line as it came, without its LF, and what it tells
-pub record Turn : Type 0 where
+pub record FeedTurn : Type 0 where
   pub piece : List ℕ
   pub told : Told
 
@@ -37,8 +37,8 @@ no_event = record { part = Nothing; findings = Refuses (BadEvent Line) ∷ [] }
 
 -- a line of at most so many bytes tells what is read of it, where the changes of these projects are fed; a longer one is
 -- no event, and isn't read
-abbrev pub IsFound : Choice → ℕ → List Revision → Turn → List Revision → Type 0
-IsFound choice limit known turn after =
+abbrev pub IsFoundTurn : Choice → ℕ → List Revision → FeedTurn → List Revision → Type 0
+IsFoundTurn choice limit known turn after =
     ((length turn.piece ≤ limit) × Reads known choice (without_cr turn.piece) turn.told after)
     ⊎ ((limit < length turn.piece) × (turn.told ≡ no_event) × (after ≡ known))
 
@@ -81,7 +81,7 @@ BreaksOff limit bytes source later Ended = ⊥
 BreaksOff limit bytes source later Incomplete = ⊥
 
 -- reading a line broke off, and nothing of it was handed over
-pub record IsBroken {Taker : Type 0} (limit : ℕ) (old new : Standing Taker) (fault : FeedFault) : Type 0 where
+pub record BreaksFeed {Taker : Type 0} (limit : ℕ) (old new : Standing Taker) (fault : FeedFault) : Type 0 where
   pub came : List ℕ
   pub consumed : Consumes old.source.left new.source.left came
   pub same : IsUnlearned old new × (new.taker ≡ old.taker)
@@ -101,11 +101,11 @@ module _ {Taker : Type 0} (rests : Taker → Result (Unit {0}) FeedFault → Tak
 
 module _ {Taker : Type 0} (takes : Taker → ℕ → Told → Result (Unit {0}) FeedFault → Taker → Type 0) where
   -- the line of this number is read, and what it tells is handed over
-  pub record IsTurn (choice : Choice) (limit number : ℕ) (old new : Standing Taker) (turn : Turn)
+  pub record IsTurn (choice : Choice) (limit number : ℕ) (old new : Standing Taker) (turn : FeedTurn)
       (result : Result (Unit {0}) FeedFault) : Type 0 where
-    pub read : IsRead (as_line turn.piece) old.source new.source
+    pub read : IsTextRead (as_line turn.piece) old.source new.source
     pub plain : HasNoLf turn.piece
-    pub found : IsFound choice limit old.known turn new.known
+    pub found : IsFoundTurn choice limit old.known turn new.known
     pub progress : new.progress ≡ after_part old.progress turn.told.part
     pub taken : takes old.taker number turn.told result new.taker
 
@@ -134,10 +134,10 @@ module _ {Taker : Type 0} (takes : Taker → ℕ → Told → Result (Unit {0}) 
   -- source, or as reading breaks off
   abbrev pub Fails : Input → Choice → ℕ → ℕ → Standing Taker → Standing Taker → FeedFault → Type 0
   Fails input choice limit number old new fault =
-      ((turn : Turn) × IsTurn choice limit number old new turn (Ok tt) × (ended_by turn.told ≡ Some fault))
-      ⊎ ((turn : Turn) × IsTurn choice limit number old new turn (Err fault))
+      ((turn : FeedTurn) × IsTurn choice limit number old new turn (Ok tt) × (ended_by turn.told ≡ Some fault))
+      ⊎ ((turn : FeedTurn) × IsTurn choice limit number old new turn (Err fault))
       ⊎ IsEnd input number old new (Err fault)
-      ⊎ IsBroken limit old new fault
+      ⊎ BreaksFeed limit old new fault
 
 -- nothing is held of a source, known or begun
 abbrev pub begun : {Taker : Type 0} → Option (List ℕ) → ℕ → Taker → Standing Taker
@@ -149,7 +149,7 @@ begun left failed taker =
 module _ {Taker : Type 0} (rests : Taker → Result (Unit {0}) FeedFault → Taker → Type 0)
     (takes : Taker → ℕ → Told → Result (Unit {0}) FeedFault → Taker → Type 0) where
   -- lines from this number on, one after the other, of which none ends the feed
-  abbrev pub Turns : Choice → ℕ → ℕ → Standing Taker → List Turn → Standing Taker → Type 0
+  abbrev pub Turns : Choice → ℕ → ℕ → Standing Taker → List FeedTurn → Standing Taker → Type 0
   Turns choice limit number old [] new = new ≡ old
   Turns choice limit number old (turn ∷ turns) new =
       (waiting : Taker) × (mid : Standing Taker) × Waits rests old.source.held old.taker waiting
@@ -167,7 +167,7 @@ module _ {Taker : Type 0} (rests : Taker → Result (Unit {0}) FeedFault → Tak
   -- so many lines, and then an end; nothing is read where memory is refused at the beginning
   pub record IsFed (input : Input) (choice : Choice) (limit most : ℕ) (old new : Standing Taker) (result : Result (Unit {0}) FeedFault)
       : Type 0 where
-    pub turns : List Turn
+    pub turns : List FeedTurn
     pub few : length turns ≤ most
     pub mid : Standing Taker
     pub lines : Turns choice limit 1 old turns mid

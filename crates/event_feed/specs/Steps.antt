@@ -7,8 +7,8 @@ use Rattle.gerrit_events.specs.Projects.{Choice}
 use Rattle.gerrit_events.specs.Reading.{Reads, Told}
 use Rattle.gerrit_events.specs.Revisions.{Revision}
 use Rattle.line_reader.specs.Lines.{HasNoLf}
-use Rattle.event_feed.specs.Ends.{Begin, HasCome, IsRead}
-use Rattle.event_feed.specs.Feed.{EndsWith, Fails, HandsLast, IsEnd, IsTurn, IsUnrested, Standing, Turn, no_event}
+use Rattle.event_feed.specs.Ends.{Begin, HasCome, IsTextRead}
+use Rattle.event_feed.specs.Feed.{EndsWith, Fails, HandsLast, IsEnd, IsTurn, IsUnrested, Standing, FeedTurn, no_event}
 use Rattle.event_feed.specs.Feed.{Waits, ended_by, with_taker}
 use Rattle.event_feed.specs.Progress.{after_part}
 use Rattle.event_feed.specs.declared.fault.FeedFault.{FeedFault}
@@ -83,7 +83,7 @@ module _ {Taker : Type 0} (takes : Taker → ℕ → Told → Result (Unit {0}) 
   pub record IsPassed (number : ℕ) (source later : Begin) (before after : Progress) (old new : Taker)
       (result : Result Bool FeedFault) : Type 0 where
     pub piece : List ℕ
-    pub read : IsRead (as_line piece) source later
+    pub read : IsTextRead (as_line piece) source later
     pub plain : HasNoLf piece
     pub refused : IsRefused number before after old new result
 
@@ -120,7 +120,7 @@ module _ {Taker : Type 0} (takes : Taker → ℕ → Told → Result (Unit {0}) 
   -- what a call answers that takes the next line once the taker has rested: whether there was one
   abbrev pub Moves : Input → Choice → ℕ → ℕ → Standing Taker → Standing Taker → Result Bool FeedFault → Type 0
   Moves input choice limit number old new (Ok true) =
-      (turn : Turn) × IsTurn takes choice limit number old new turn (Ok tt) × (ended_by turn.told ≡ None)
+      (turn : FeedTurn) × IsTurn takes choice limit number old new turn (Ok tt) × (ended_by turn.told ≡ None)
   Moves input choice limit number old new (Ok false) = IsEnd takes input number old new (Ok tt)
   Moves input choice limit number old new (Err fault) = Fails takes input choice limit number old new fault
 

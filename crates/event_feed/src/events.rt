@@ -1,6 +1,6 @@
 //! Writes what the lines of a source bring, as a client of a session says it.
 
-ghost use Rattle.event_feed.specs.Ends.{Sends};
+ghost use Rattle.event_feed.specs.Ends.{SendsText};
 ghost use Rattle.event_feed.specs.Events.{RunsEvents};
 
 use super::fault::FeedFault;
@@ -85,7 +85,7 @@ pub fn events_run<S: Source, D: Drain, E: Drain>(
 
 /// Writes a text.
 pub fn send<D: Drain>(drain: &mut D, text: &str) -> Result<(), FeedFault>
-    ensures { Sends text.now
+    ensures { SendsText text.now
         (record { taken = D.taken drain.old; failed = D.failed drain.old })
         (record { taken = D.taken drain.new; failed = D.failed drain.new }) result }
 {

@@ -35,7 +35,7 @@ use Rattle.gerrit_events.specs.Listings.{Ballot, ballot_by, ballot_of, ballots_i
 use Rattle.gerrit_events.specs.Marks.{mark_label, marks_in, reserved_voter}
 use Rattle.gerrit_events.specs.Patches.{Patch, brought_by, message_in, parents_in, patch_in, revision_in, set_in}
 use Rattle.gerrit_events.specs.Projects.{Choice}
-use Rattle.gerrit_events.specs.Reading.{AreSettled, claims_of}
+use Rattle.gerrit_events.specs.Reading.{ClaimsAreSettled, claims_of}
 use Rattle.gerrit_events.specs.Revisions.{Revision}
 use Rattle.gerrit_events.specs.Values.{listed, number_in, text_in, under, unsigned_of, user_in, value_in, whole_in}
 use Rattle.gerrit_events.specs.Values.{within}
@@ -281,12 +281,12 @@ commit_claims known choice line change set message row has =
     (row_patch choice line change set message row has)
 
 commit_said : (known : List Revision) (choice : Choice) (line : Data) (change set : ℕ) (findings : List Finding)
-    (new : State) → IsRow choice line change set → AreSettled (claims_of known choice (kind_of line) line) findings
+    (new : State) → IsRow choice line change set → ClaimsAreSettled (claims_of known choice (kind_of line) line) findings
     → AgreesWithAll findings new → (message : List ℕ) → message_in QueryLine line ≡ Some message
     → IsFaultless (patch_set change set message (commit_parent known line))
     → HasPatch (change_at new change) set (record { message = message; parent = commit_parent known line })
 commit_said known choice line change set findings new row settled all message has good =
-    let claimed = subst (λ claims. AreSettled claims findings) (commit_claims known choice line change set message row has) settled in
+    let claimed = subst (λ claims. ClaimsAreSettled claims findings) (commit_claims known choice line change set message row has) settled in
     elim (draft_said (Closing line change) (patch_set change set message (commit_parent known line)) (after_commit known line ++ query_claims line change set) findings new NoCommit claimed all good
     (only_append NoCommit (after_commit known line) (query_claims line change set)
     (only_append NoCommit (replicate (lost_parents known QueryLine line) (bad DependsOn)) []
@@ -308,7 +308,7 @@ in_order a b c d e f = sym (simp append_assoc)
 
 -- an open status is claimed last
 opening_said : (known : List Revision) (choice : Choice) (line : Data) (change set : ℕ) (findings : List Finding)
-    (new : State) → IsRow choice line change set → AreSettled (claims_of known choice (kind_of line) line) findings
+    (new : State) → IsRow choice line change set → ClaimsAreSettled (claims_of known choice (kind_of line) line) findings
     → AgreesWithAll findings new → (name : List ℕ) → HasStatus line name → (deed : Deed)
     → opening_named change name ≡ drafts deed ∷ [] → IsFaultless deed → IsSettled new (kept_deed deed)
 opening_said known choice line change set findings new row settled all name is deed named good =
@@ -318,7 +318,7 @@ opening_said known choice line change set findings new row settled all name is d
     ∙ ap (λ status. Before known line change set ++ opening_claims change status) is
     ∙ ap (λ claims. Before known line change set ++ claims) named in
     draft_said (Before known line change set) deed [] findings new (λ place. ⊥)
-    (subst (λ claims. AreSettled claims findings) order settled) all good tt (λ none. none)
+    (subst (λ claims. ClaimsAreSettled claims findings) order settled) all good tt (λ none. none)
 
 -- what follows a closed status doesn't speak of it
 abbrev NoStatus : Place → Type 0
@@ -358,7 +358,7 @@ query_no_status line change set silent = (
 
 -- a closed status is claimed first, and nothing later speaks of it
 closing_said : (known : List Revision) (choice : Choice) (line : Data) (change set : ℕ) (findings : List Finding)
-    (new : State) → IsRow choice line change set → AreSettled (claims_of known choice (kind_of line) line) findings
+    (new : State) → IsRow choice line change set → ClaimsAreSettled (claims_of known choice (kind_of line) line) findings
     → AgreesWithAll findings new → (name : List ℕ) → HasStatus line name → (deed : Deed)
     → closing_named change name ≡ drafts deed ∷ [] → opening_named change name ≡ []
     → place_of (kept_deed deed) ≡ status_place change → IsFaultless deed → IsSettled new (kept_deed deed)
@@ -369,7 +369,7 @@ closing_said known choice line change set findings new row settled all name is d
     ∙ ap (λ status. closing_claims change status ++ (first_claims known QueryLine line ++ query_claims line change set)) is
     ∙ ap (λ claims. claims ++ (first_claims known QueryLine line ++ query_claims line change set)) named in
     draft_said [] deed (first_claims known QueryLine line ++ query_claims line change set) findings new NoStatus
-    (subst (λ claims. AreSettled claims findings) order settled) all good
+    (subst (λ claims. ClaimsAreSettled claims findings) order settled) all good
     (only_append NoStatus (first_claims known QueryLine line) (query_claims line change set)
     (brought_no_status known line (brought_by known QueryLine line))
     (query_no_status line change set (ap (opening_claims change) is ∙ silent)))
@@ -423,7 +423,7 @@ after_listing line change set approvals =
     (only_weaker (Aside line change set) (Spoken line change set approvals) (λ place is. inr is) _ (rest_only line change set))
 
 others_said : (known : List Revision) (choice : Choice) (line : Data) (change set : ℕ) (findings : List Finding)
-    (new : State) → IsRow choice line change set → AreSettled (claims_of known choice (kind_of line) line) findings
+    (new : State) → IsRow choice line change set → ClaimsAreSettled (claims_of known choice (kind_of line) line) findings
     → AgreesWithAll findings new → (label voter : List ℕ) → IsGood (withdraw change set label voter)
     → is_listed (ballots_in (approvals_part QueryLine line) ++ mark_ballots line) label voter ≡ false
     → IsRecorded new (withdraw change set label voter)
@@ -433,7 +433,7 @@ others_said known choice line change set findings new row settled all label vote
     (record { change = change; set = set; ballots = ballots_in (approvals_part QueryLine line) ++ mark_ballots line })
     (vote_claims QueryLine line change set (approvals_part QueryLine line) ++ Rest line change set) findings new
     (Spoken line change set (listed (approvals_part QueryLine line)))
-    (subst (λ claims. AreSettled claims findings)
+    (subst (λ claims. ClaimsAreSettled claims findings)
     (row_claims known choice line change set row
     ∙ sym (append_assoc (Closing line change) (first_claims known QueryLine line) (query_claims line change set)))
     settled) all label voter good
@@ -502,7 +502,7 @@ approval_in_order first before after rest head claim =
     ∙ sym (append_assoc first (head ∷ before) (claim ∷ (after ++ rest)))
 
 approval_said : (known : List Revision) (choice : Choice) (line : Data) (change set : ℕ) (findings : List Finding)
-    (new : State) → IsRow choice line change set → AreSettled (claims_of known choice (kind_of line) line) findings
+    (new : State) → IsRow choice line change set → ClaimsAreSettled (claims_of known choice (kind_of line) line) findings
     → AgreesWithAll findings new → (before after : List Data) (approval : Data) (label voter : List ℕ) (value : ℤ)
     → listed (approvals_part QueryLine line) ≡ before ++ approval ∷ after → IsApproval approval label voter value
     → IsFaultless (vote change set label voter value)
@@ -521,7 +521,7 @@ approval_said known choice line change set findings new row settled all before a
     ∙ approval_in_order first (map vc before) (map vc after) (Rest line change set) head (drafts (ballot_deed change set label voter value)) in
     ballot_scored new change set label voter value
     (draft_said (first ++ head ∷ map vc before) (ballot_deed change set label voter value) (map vc after ++ Rest line change set) findings new (Spoken line change set after)
-    (subst (λ claims. AreSettled claims findings) ordered settled) all
+    (subst (λ claims. ClaimsAreSettled claims findings) ordered settled) all
     (ballot_faultless change set label voter value (is_zero value) good) (after_listing line change set after)
     (subst (λ place. ¬ Spoken line change set after place) (sym (ballot_place change set label voter value (is_zero value)))
     (unspoken_score line change set after (map to_ascii_lowercase label) voter last
@@ -547,7 +547,7 @@ from_one_by (Some (pos m)) n e =
     subst (λ k. 1 ≤ k) parts.1 (low_one m parts.0)
 
 pub says : (known : List Revision) (choice : Choice) (line : Data) (change set : ℕ) (findings : List Finding)
-    (new : State) → IsRow choice line change set → AreSettled (claims_of known choice (kind_of line) line) findings
+    (new : State) → IsRow choice line change set → ClaimsAreSettled (claims_of known choice (kind_of line) line) findings
     → AgreesWithAll findings new → SaysRow known line change set new
 says known choice line change set findings new row settled all =
     let one : 1 ≤ change = from_one_by (option_and_then whole_in (under (codes "number") (change_part QueryLine line))) change row.of_change in

@@ -4,7 +4,7 @@ use Rattle.std.proofs.Common.{subst, inl, inr}
 use Rattle.serde_json.specs.Data.{Members, object}
 use Rattle.gerrit_events.specs.Kinds.{kind_of}
 use Rattle.gerrit_events.specs.Projects.{Choice}
-use Rattle.gerrit_events.specs.Reading.{AreSettled, IsObject, Reads, Told, claims_of}
+use Rattle.gerrit_events.specs.Reading.{ClaimsAreSettled, IsLineObject, Reads, Told, claims_of}
 use Rattle.gerrit_events.specs.Revisions.{Revision}
 use Rattle.state_core.specs.State.{State}
 use Rattle.event_filter.specs.Rows.{IsRow, SaysRow}
@@ -13,17 +13,17 @@ use Rattle.event_filter.proofs.Rows.{says}
 use Rattle.event_filter.proofs.Truth.{agrees}
 
 -- a text has one value
-same_members : (text : List ℕ) (a b : Members) → IsObject text a → IsObject text b → object a ≡ object b
+same_members : (text : List ℕ) (a b : Members) → IsLineObject text a → IsLineObject text b → object a ≡ object b
 same_members text a b one other = let e = one.value in let f = other.value in cc
 
 pub read_says : (known after : List Revision) (choice : Choice) (text : List ℕ) (told : Told)
-    → Reads known choice text told after → (members : Members) → IsObject text members → (change set : ℕ)
+    → Reads known choice text told after → (members : Members) → IsLineObject text members → (change set : ℕ)
     → IsRow choice (object members) change set → (state new : State) → AreMet state told.findings new
     → SaysRow known (object members) change set new
 read_says known after choice text told reads members is change set row state new met = elim reads [
   | inl read ↦
       says known choice (object members) change set told.findings new row
-      (subst (λ line. AreSettled (claims_of known choice (kind_of line) line) told.findings)
+      (subst (λ line. ClaimsAreSettled (claims_of known choice (kind_of line) line) told.findings)
       (same_members text read.members members read.is_object is) read.settled)
       (agrees state new told.findings met)
   | inr none ↦ absurd (none.none members is)

@@ -8,7 +8,7 @@ use Rattle.change_core.specs.Slots.{Slot}
 use Rattle.state_core.specs.State.{State}
 use Rattle.gerrit_events.specs.Claims.{Claim, drafts, shows, lists, refuses}
 use Rattle.gerrit_events.specs.Listings.{Listing}
-use Rattle.gerrit_events.specs.Reading.{AreSettled, IsSettled as Settles}
+use Rattle.gerrit_events.specs.Reading.{ClaimsAreSettled, IsSettled as Settles}
 use Rattle.gerrit_events.specs.declared.fault.EventFault.TheVariants.{BadEvent, Dropped}
 use Rattle.gerrit_events.specs.declared.finding.Finding.{Finding}
 use Rattle.gerrit_events.specs.declared.finding.Finding.TheVariants.{Brings, Shows, Lists, Refuses}
@@ -65,7 +65,7 @@ spoken (refuses fault) (Refuses found) place settled speaks = absurd speaks
 
 -- where no claim speaks of a place, no finding does
 pub unspoken : (P : Place → Type 0) (claims : List Claim) (findings : List Finding) (place : Place)
-    → AreSettled claims findings → AllOnly P claims → ¬ P place → ¬ OneSpeaksOf findings place
+    → ClaimsAreSettled claims findings → AllOnly P claims → ¬ P place → ¬ OneSpeaksOf findings place
 unspoken P [] [] place settled only apart speaks = absurd speaks
 unspoken P [] (finding ∷ findings) place settled only apart speaks = absurd settled
 unspoken P (claim ∷ claims) [] place settled only apart speaks = absurd settled
@@ -80,11 +80,11 @@ record At (claim : Claim) (after : List Claim) (state : State) : Type 0 where
   finding : Finding
   later : List Finding
   here : Settles claim finding
-  rest : AreSettled after later
+  rest : ClaimsAreSettled after later
   agrees : AgreesWith finding later state
 
 at_claim : (before : List Claim) (claim : Claim) (after : List Claim) (findings : List Finding) (state : State)
-    → AreSettled (before ++ claim ∷ after) findings → AgreesWithAll findings state → At claim after state
+    → ClaimsAreSettled (before ++ claim ∷ after) findings → AgreesWithAll findings state → At claim after state
 at_claim [] claim after [] state settled all = absurd settled
 at_claim [] claim after (finding ∷ later) state settled all =
     record { finding = finding; later = later; here = settled.0; rest = settled.1; agrees = all.0 }
@@ -103,7 +103,7 @@ draft_found deed (Refuses Dropped) good settled = absurd settled
 
 -- what is said of a deed without faults, where nothing later speaks of the same
 pub draft_said : (before : List Claim) (deed : Deed) (after : List Claim) (findings : List Finding) (state : State)
-    (P : Place → Type 0) → AreSettled (before ++ drafts deed ∷ after) findings → AgreesWithAll findings state
+    (P : Place → Type 0) → ClaimsAreSettled (before ++ drafts deed ∷ after) findings → AgreesWithAll findings state
     → IsFaultless deed → AllOnly P after → ¬ P (place_of (kept_deed deed)) → IsSettled state (kept_deed deed)
 draft_said before deed after findings state P settled all good only apart =
     let at = at_claim before (drafts deed) after findings state settled all in
@@ -128,7 +128,7 @@ listing_says listing (Lists found) later state label voter settled agrees good u
 
 -- who isn't listed has no score, where nothing later speaks of it
 pub unlisted_said : (before : List Claim) (listing : Listing) (after : List Claim) (findings : List Finding)
-    (state : State) (P : Place → Type 0) → AreSettled (before ++ lists listing ∷ after) findings
+    (state : State) (P : Place → Type 0) → ClaimsAreSettled (before ++ lists listing ∷ after) findings
     → AgreesWithAll findings state → (label voter : List ℕ)
     → IsGood (withdraw listing.change listing.set label voter) → is_listed listing.ballots label voter ≡ false
     → AllOnly P after → ¬ P (place_of (withdraw listing.change listing.set label voter))

@@ -23,15 +23,15 @@ abbrev pub IsUnknown : State → ℕ → Type 0
 IsUnknown state number = (¬ IsKnown state number) × (¬ IsMerged state number)
 
 -- a message names the change, by one of these bases
-abbrev pub IsNeeded : Option (List (List ℕ)) → ℕ → List ℕ → ℕ → Type 0
-IsNeeded None change message number = ⊥
-IsNeeded (Some bases) change message number = MessageNeeds bases change message number
+abbrev pub IsNamedByMessage : Option (List (List ℕ)) → ℕ → List ℕ → ℕ → Type 0
+IsNamedByMessage None change message number = ⊥
+IsNamedByMessage (Some bases) change message number = MessageNeeds bases change message number
 
 -- a commit's parent, or what its message needs, is unknown
-abbrev pub Lacks : State → Option (List (List ℕ)) → Deed → ℕ → Type 0
-Lacks state bases (patch_set change set message parent) number =
-    ((parent ≡ Some number) ⊎ IsNeeded bases change message number) × (number ≢ change) × IsUnknown state number
-Lacks state bases deed number = ⊥
+abbrev pub LacksNeeded : State → Option (List (List ℕ)) → Deed → ℕ → Type 0
+LacksNeeded state bases (patch_set change set message parent) number =
+    ((parent ≡ Some number) ⊎ IsNamedByMessage bases change message number) × (number ≢ change) × IsUnknown state number
+LacksNeeded state bases deed number = ⊥
 
 -- the record hasn't the patch set, or has the change as abandoned that is restored
 abbrev pub IsNew : State → Deed → Type 0
@@ -55,7 +55,7 @@ IsOutdated state deed number = ⊥
 -- what is new is asked for itself, for what it lacks and for what it may outdate
 abbrev pub IsAskedByNews : State → Option (List (List ℕ)) → Deed → ℕ → Type 0
 IsAskedByNews state bases deed number =
-    IsNew state deed × ((number ≡ change_of deed) ⊎ (Lacks state bases deed number ⊎ IsOutdated state deed number))
+    IsNew state deed × ((number ≡ change_of deed) ⊎ (LacksNeeded state bases deed number ⊎ IsOutdated state deed number))
 
 -- an event asks by what is new in it, and for a change of which something is lost
 abbrev pub IsAskedByEvent : State → Option (List (List ℕ)) → Option ℕ → Finding → ℕ → Type 0
@@ -66,7 +66,7 @@ IsAskedByEvent state bases change (Refuses fault) number = change ≡ Some numbe
 
 -- a row's patch set is asked for what it lacks
 abbrev pub IsAskedByRow : State → Option (List (List ℕ)) → Finding → ℕ → Type 0
-IsAskedByRow state bases (Brings deed) number = Lacks state bases deed number
+IsAskedByRow state bases (Brings deed) number = LacksNeeded state bases deed number
 IsAskedByRow state bases finding number = ⊥
 
 -- the row says that its change is open

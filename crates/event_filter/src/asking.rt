@@ -7,7 +7,7 @@ ghost use Rattle.std.specs.Ordering.{nat_cmp};
 ghost use Rattle.footer_text.specs.Footers.{MessageNeeds};
 ghost use Rattle.review_ops.specs.Deed.{change_of};
 ghost use Rattle.event_filter.specs.Asking.{Gains, IsAsked, IsAskedBy, IsAskedByEvent, IsAskedByNews, IsAskedByRow};
-ghost use Rattle.event_filter.specs.Asking.{HasParent, IsChild, IsNeeded, IsNew, IsOutdated, IsUnknown, Lacks, says_open};
+ghost use Rattle.event_filter.specs.Asking.{HasParent, IsChild, IsNamedByMessage, IsNew, IsOutdated, IsUnknown, LacksNeeded, says_open};
 ghost use Rattle.event_filter.specs.Recorded.{change_at, patch_at};
 ghost use Rattle.change_core.specs.Views.{status_of};
 ghost use Rattle.change_core.specs.declared.life.Status.TheVariants.{Abandoned, New};
@@ -256,7 +256,7 @@ fn add_lacks(
     body: &Body,
     asks: &mut BTreeSet<u32>,
 ) -> Result<(), NoMemory>
-    ensures { OnOk result (Gains (Lacks state.now (option_map (λ bases. bases.now) bases.entry) body.now) asks.old asks.new) }
+    ensures { OnOk result (Gains (LacksNeeded state.now (option_map (λ bases. bases.now) bases.entry) body.now) asks.old asks.new) }
 {
     let Draft::PatchSet {
         change,

@@ -6,7 +6,7 @@ ghost use Rattle.event_filter.specs.Newest.{IsNewest, IsOpenTo};
 ghost use Rattle.event_filter.specs.Truth.{AgreesWithAll, AreMet, AreNothingNew};
 ghost use Rattle.gerrit_events.specs.declared.finding.Finding.{Finding};
 ghost use Rattle.gerrit_events.specs.Projects.{Choice};
-ghost use Rattle.gerrit_events.specs.Reading.{IsObject, Reads, Told};
+ghost use Rattle.gerrit_events.specs.Reading.{IsLineObject, Reads, Told};
 ghost use Rattle.gerrit_events.specs.Revisions.{Revision};
 ghost use Rattle.serde_json.specs.Data.{Members, object};
 ghost use Rattle.event_filter.specs.Rows.{IsRow, SaysRow};
@@ -48,7 +48,7 @@ pub fn what_is_nothing_new_brings_nothing()
 /// current patch set, and that nobody else has a score on it.
 pub fn what_a_row_says_is_what_the_record_says()
     ensures { (known after : List Revision) → (choice : Choice) → (text : List ℕ) → (told : Told)
-        → Reads known choice text told after → (members : Members) → IsObject text members
+        → Reads known choice text told after → (members : Members) → IsLineObject text members
         → (change set : ℕ) → IsRow choice (object members) change set
         → (state new : State) → AreMet state told.findings new → SaysRow known (object members) change set new }
 {}

@@ -13,8 +13,8 @@ use Rattle.replica_core.specs.FrontLaws.{reach_of-raised}
 use Rattle.review_ops.specs.Operation.{Operation}
 use Rattle.review_ops.specs.Timestamp.{Timestamp}
 use Rattle.state_core.specs.State.{State, with_effect}
-use Rattle.feed_client.specs.Pulling.{AreReached, Comes, HasStamp, IsRound, all_ops, gone_on}
-use Rattle.feed_client.specs.Rounds.{Round}
+use Rattle.feed_client.specs.Pulling.{AreReachedBy, Comes, HasRowStamp, IsRound, all_ops, gone_on}
+use Rattle.feed_client.specs.Rounds.{SiteRound}
 use Rattle.feed_client.specs.declared.intake.IntakeFault.{IntakeFault}
 
 -- ---- rounds
@@ -29,7 +29,7 @@ pub learned_push : (state mid after : State) (before ops : List Operation) → m
 learned_push state mid after before ops is also =
     also ∙ ap (λ s. fold with_effect s ops) is ∙ sym (fold-append with_effect state before ops)
 
-module _ {Site : Type 0} (answers : Site → Result Round IntakeFault → Site → Type 0) where
+module _ {Site : Type 0} (answers : Site → Result SiteRound IntakeFault → Site → Type 0) where
   pub comes_push : (rounds : List (List Operation)) (ops : List Operation) (old mid new : Site)
       → Comes answers old rounds mid → answers mid (Ok (record { ops = ops; more = true })) new
       → Comes answers old (rounds ++ ops ∷ []) new
@@ -51,8 +51,8 @@ module _ {Site : Type 0} (answers : Site → Result Round IntakeFault → Site �
 
 -- ---- fronts
 
-weaker : (stamps more : List Timestamp) (site start seq : ℕ) → HasStamp stamps site start seq
-    → HasStamp (stamps ++ more) site start seq
+weaker : (stamps more : List Timestamp) (site start seq : ℕ) → HasRowStamp stamps site start seq
+    → HasRowStamp (stamps ++ more) site start seq
 weaker stamps more site start seq h = record {
   stamp = h.stamp;
   listed = Contains-append_left stamps more h.stamp h.listed;
@@ -65,9 +65,9 @@ reaches_none site start = ap (λ found. unwrap_or found 0) (get-empty row_order 
 
 -- a number that a raised row reaches is one that it reached before, or that of the stamp
 in_row : (stamps : List Timestamp) (front : Reaches) (stamp : Timestamp) (site start seq : ℕ)
-    → AreReached stamps front → stamp.site ≡ site → stamp.start ≡ start
+    → AreReachedBy stamps front → stamp.site ≡ site → stamp.start ≡ start
     → stamp.seq ≡ reach_of front site start + 1 → 1 ≤ seq → seq ≤ max (reach_of front site start) stamp.seq
-    → (past : Bool) → ltb (reach_of front site start) seq ≡ past → HasStamp (stamps ++ stamp ∷ []) site start seq
+    → (past : Bool) → ltb (reach_of front site start) seq ≡ past → HasRowStamp (stamps ++ stamp ∷ []) site start seq
 in_row stamps front stamp site start seq h is_site is_start next low high true past =
     let beyond = ltb-true (reach_of front site start) seq past in record {
       stamp = stamp;
@@ -80,10 +80,10 @@ in_row stamps front stamp site start seq h is_site is_start next low high false 
     (h site start seq low (ltb-false (reach_of front site start) seq past))
 
 at_place : (stamps : List Timestamp) (front : Reaches) (stamp : Timestamp) (site start seq : ℕ)
-    → AreReached stamps front → stamp.seq ≡ reach_of front stamp.site stamp.start + 1 → 1 ≤ seq → (same : Bool)
+    → AreReachedBy stamps front → stamp.seq ≡ reach_of front stamp.site stamp.start + 1 → 1 ≤ seq → (same : Bool)
     → (stamp.site == site && stamp.start == start) ≡ same
     → seq ≤ cond same (max (reach_of front site start) stamp.seq) (reach_of front site start)
-    → HasStamp (stamps ++ stamp ∷ []) site start seq
+    → HasRowStamp (stamps ++ stamp ∷ []) site start seq
 at_place stamps front stamp site start seq h next low true same high =
     let parts = and_parts (stamp.site == site) (stamp.start == start) same in
     let is_site : stamp.site ≡ site = eqb-true stamp.site site parts.0 in
@@ -94,10 +94,10 @@ at_place stamps front stamp site start seq h next low true same high =
 at_place stamps front stamp site start seq h next low false same high =
     weaker stamps (stamp ∷ []) site start seq (h site start seq low high)
 
-goes_on : (stamps : List Timestamp) (front : Reaches) (stamp : Timestamp) → AreReached stamps front
-    → AreReached (stamps ++ stamp ∷ []) (gone_on front stamp)
+goes_on : (stamps : List Timestamp) (front : Reaches) (stamp : Timestamp) → AreReachedBy stamps front
+    → AreReachedBy (stamps ++ stamp ∷ []) (gone_on front stamp)
 goes_on stamps front stamp h =
-    elim (stamp.seq == reach_of front stamp.site stamp.start + 1) as (λ b. (stamp.seq == reach_of front stamp.site stamp.start + 1) ≡ b → AreReached (stamps ++ stamp ∷ []) (cond b (raised front stamp.site stamp.start stamp.seq) front)) [
+    elim (stamp.seq == reach_of front stamp.site stamp.start + 1) as (λ b. (stamp.seq == reach_of front stamp.site stamp.start + 1) ≡ b → AreReachedBy (stamps ++ stamp ∷ []) (cond b (raised front stamp.site stamp.start stamp.seq) front)) [
       | true ↦ λ e site start seq low high.
           at_place stamps front stamp site start seq h
           (eqb-true stamp.seq (reach_of front stamp.site stamp.start + 1) e) low
@@ -106,13 +106,13 @@ goes_on stamps front stamp h =
       | false ↦ λ e site start seq low high. weaker stamps (stamp ∷ []) site start seq (h site start seq low high)
     ] refl
 
-pub all_gone_on : (before stamps : List Timestamp) (front : Reaches) → AreReached before front
-    → AreReached (before ++ stamps) (fold gone_on front stamps)
-all_gone_on before [] front h = subst (λ l. AreReached l front) (sym (append-nil before)) h
+pub all_gone_on : (before stamps : List Timestamp) (front : Reaches) → AreReachedBy before front
+    → AreReachedBy (before ++ stamps) (fold gone_on front stamps)
+all_gone_on before [] front h = subst (λ l. AreReachedBy l front) (sym (append-nil before)) h
 all_gone_on before (stamp ∷ stamps) front h =
-    subst (λ l. AreReached l (fold gone_on (gone_on front stamp) stamps)) (append_assoc before (stamp ∷ []) stamps)
+    subst (λ l. AreReachedBy l (fold gone_on (gone_on front stamp) stamps)) (append_assoc before (stamp ∷ []) stamps)
     (all_gone_on (before ++ stamp ∷ []) stamps (gone_on front stamp) (goes_on before front stamp h))
 
-pub none_gone_on : AreReached [] empty
+pub none_gone_on : AreReachedBy [] empty
 none_gone_on site start seq low high =
     absurd (omega (arith, low, subst (λ n. seq ≤ n) (reaches_none site start) high))

@@ -3,7 +3,7 @@
 use Rattle.std.specs.Prelude.{◌≡◌, ◌⊎◌, ℕ, true, false, List, Option, None, Some, Result, Ok, Err, map}
 use Rattle.std.specs.Ordering.{nat_cmp}
 use Rattle.std.specs.BTreeSet.{Updates, contains}
-use Rattle.event_feed.specs.Ends.{IsCutShort, IsWritten}
+use Rattle.event_feed.specs.Ends.{FeedIsCutShort, IsWritten}
 use Rattle.event_feed.specs.Feed.{Feeds}
 use Rattle.event_feed.specs.declared.fault.FeedFault.{FeedFault}
 use Rattle.event_feed.specs.declared.fault.FeedFault.TheVariants.{Incomplete, NoMemory, WriteFault}
@@ -18,7 +18,7 @@ use Rattle.review_ops.specs.Deed.{Deed, change_of}
 use Rattle.review_ops.specs.Timestamp.{Timestamp}
 use Rattle.feed_client.specs.InTurn.{InTurn}
 use Rattle.feed_client.specs.Meeting.{Offers}
-use Rattle.feed_client.specs.Rounds.{Round}
+use Rattle.feed_client.specs.Rounds.{SiteRound}
 use Rattle.feed_client.specs.Taking.{LearnsNews, Seen, TakesLine, ask_lines}
 use Rattle.feed_client.specs.declared.intake.IntakeFault.{IntakeFault}
 use Rattle.feed_client.specs.declared.noted.Noted.{Noted}
@@ -50,7 +50,7 @@ module _ {Site : Type 0} (replies : Site → Deed → Result Timestamp IntakeFau
   AsksAndAbandons number bodies old new result =
       (IsWritten (ask_lines (map change_of bodies)) old.output new.output
       × InTurn (Offers replies number) bodies old.place new.place result)
-      ⊎ (IsCutShort (ask_lines (map change_of bodies)) old.output new.output × (result ≡ Err WriteFault)
+      ⊎ (FeedIsCutShort (ask_lines (map change_of bodies)) old.output new.output × (result ≡ Err WriteFault)
       × (new.place ≡ old.place))
 
   -- each change that is NEW and isn't listed is asked for and abandoned, where all was read
@@ -63,7 +63,7 @@ module _ {Site : Type 0} (replies : Site → Deed → Result Timestamp IntakeFau
 
 module _ {Whole Feed Site : Type 0} (feed : Whole → Feed) (noted : Whole → Noted) (shown : Feed → Seen Site)
     (replies : Site → Deed → Result Timestamp IntakeFault → Site → Type 0)
-    (answers : Site → Result Round IntakeFault → Site → Type 0) where
+    (answers : Site → Result SiteRound IntakeFault → Site → Type 0) where
   abbrev pub ListingRests : Whole → Result (Unit {0}) FeedFault → Whole → Type 0
   ListingRests old result new =
       LearnsNews answers (shown (feed old)) (shown (feed new)) result × (noted new ≡ noted old)

@@ -8,7 +8,7 @@ use Rattle.replica_core.specs.Front.{Reaches, raised, reach_of}
 use Rattle.review_ops.specs.Operation.{Operation}
 use Rattle.review_ops.specs.Timestamp.{Timestamp}
 use Rattle.state_core.specs.State.{State, with_effect}
-use Rattle.feed_client.specs.Rounds.{Round}
+use Rattle.feed_client.specs.Rounds.{SiteRound}
 use Rattle.feed_client.specs.declared.intake.IntakeFault.{IntakeFault}
 use Rattle.feed_client.specs.declared.intake.IntakeFault.TheVariants.{Refused}
 use Rattle.feed_client.specs.declared.intake.IntakeFault.TheVariants as intake
@@ -22,16 +22,16 @@ gone_on front stamp =
     then raised front stamp.site stamp.start stamp.seq else front
 
 -- one of the stamps is that of this sequence number in the row
-pub record HasStamp (stamps : List Timestamp) (site start seq : ℕ) : Type 0 where
+pub record HasRowStamp (stamps : List Timestamp) (site start seq : ℕ) : Type 0 where
   pub stamp : Timestamp
   pub listed : Contains stamps stamp
   pub row : (stamp.site ≡ site) × (stamp.start ≡ start)
   pub number : stamp.seq ≡ seq
 
 -- the front reaches over stamps of these alone
-abbrev pub AreReached : List Timestamp → Reaches → Type 0
-AreReached stamps front =
-    (site start seq : ℕ) → 1 ≤ seq → seq ≤ reach_of front site start → HasStamp stamps site start seq
+abbrev pub AreReachedBy : List Timestamp → Reaches → Type 0
+AreReachedBy stamps front =
+    (site start seq : ℕ) → 1 ≤ seq → seq ≤ reach_of front site start → HasRowStamp stamps site start seq
 
 -- ---- the rounds
 
@@ -45,7 +45,7 @@ ending_of (Refused refusal) = Ended
 ending_of intake.Ended = Ended
 ending_of intake.NoMemory = NoMemory
 
-module _ {Site : Type 0} (answers : Site → Result Round IntakeFault → Site → Type 0) where
+module _ {Site : Type 0} (answers : Site → Result SiteRound IntakeFault → Site → Type 0) where
   -- rounds of these operations, one after the other, after each of which there is more
   abbrev pub Comes : Site → List (List Operation) → Site → Type 0
   Comes old [] new = new ≡ old

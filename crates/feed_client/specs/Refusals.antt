@@ -31,14 +31,14 @@ IsRefusalText text fault.Ended = (refusal : Refusal) → ¬ (text ≡ text_of re
 IsRefusalText text fault.NoMemory = ⊥
 
 -- no session answers this line
-abbrev pub IsNoAnswer : List ℕ → Type 0
-IsNoAnswer line = ((refusal : Refusal) → ¬ (line ≡ no_word ++ text_of refusal))
+abbrev pub AnswersNothing : List ℕ → Type 0
+AnswersNothing line = ((refusal : Refusal) → ¬ (line ≡ no_word ++ text_of refusal))
     × ((stamp : Timestamp) → IsNumbered stamp → ¬ (line ≡ ok_word ++ timestamp_text stamp))
 
 -- what is read of a line: a stamp or a refusal where the line is that of just it, and the end where it is no answer;
 -- where memory is refused nothing is known of the line
-abbrev pub IsAnswer : List ℕ → Result Timestamp IntakeFault → Type 0
-IsAnswer line (Ok stamp) = line ≡ ok_word ++ timestamp_text stamp
-IsAnswer line (Err (Refused refusal)) = line ≡ no_word ++ text_of refusal
-IsAnswer line (Err fault.Ended) = IsNoAnswer line
-IsAnswer line (Err fault.NoMemory) = Unit {0}
+abbrev pub IsTakeAnswer : List ℕ → Result Timestamp IntakeFault → Type 0
+IsTakeAnswer line (Ok stamp) = line ≡ ok_word ++ timestamp_text stamp
+IsTakeAnswer line (Err (Refused refusal)) = line ≡ no_word ++ text_of refusal
+IsTakeAnswer line (Err fault.Ended) = AnswersNothing line
+IsTakeAnswer line (Err fault.NoMemory) = Unit {0}

@@ -3,7 +3,7 @@ use Rattle.std.specs.Prelude.{◌≡◌, ◌⊎◌, ◌↔◌, ℕ, true, List, 
 use Rattle.std.specs.Prelude.{flat_map}
 use Rattle.std.specs.BTreeSet.{BTreeSet, contains}
 use Rattle.std.specs.Ordering.{nat_cmp}
-use Rattle.event_feed.specs.Ends.{End, IsCutShort, IsWritten}
+use Rattle.event_feed.specs.Ends.{End, FeedIsCutShort, IsWritten}
 use Rattle.event_feed.specs.Feed.{Feeds}
 use Rattle.event_feed.specs.declared.fault.FeedFault.{FeedFault}
 use Rattle.event_feed.specs.declared.fault.FeedFault.TheVariants.{WriteFault, NoMemory}
@@ -15,19 +15,19 @@ use Rattle.review_ops.specs.Deed.{Deed}
 use Rattle.review_ops.specs.Timestamp.{Timestamp}
 use Rattle.state_core.specs.State.{State}
 use Rattle.feed_client.specs.InTurn.{InTurn}
-use Rattle.feed_client.specs.Meeting.{Meets, Place}
+use Rattle.feed_client.specs.Meeting.{Meets, FeedPlace}
 use Rattle.feed_client.specs.Pulling.{IsCutOff, IsPulled}
-use Rattle.feed_client.specs.Rounds.{Round}
+use Rattle.feed_client.specs.Rounds.{SiteRound}
 use Rattle.feed_client.specs.declared.intake.IntakeFault.{IntakeFault}
 
 -- a feed, as far as contracts see it: the bases of what it asks, where it meets what is found, and the output that it
 -- asks on
 pub record Seen (Site : Type 0) : Type 0 where
   pub bases : Option (List (List ℕ))
-  pub place : Place Site
+  pub place : FeedPlace Site
   pub output : End
 
-abbrev pub seen_at : {Site : Type 0} → Option (List (List ℕ)) → Place Site → Option (List ℕ) → ℕ → Seen Site
+abbrev pub seen_at : {Site : Type 0} → Option (List (List ℕ)) → FeedPlace Site → Option (List ℕ) → ℕ → Seen Site
 seen_at bases place taken failed =
     record { bases = bases; place = place; output = record { taken = taken; failed = failed } }
 
@@ -43,7 +43,7 @@ abbrev pub AreAsked : Option (List (List ℕ)) → State → Told → BTreeSet �
 AreAsked bases state told asks = (change : ℕ) → (contains nat_cmp asks change ≡ true) ↔ IsAsked state bases told change
 
 -- what came to the site is taken into the state
-abbrev pub LearnsNews : {Site : Type 0} → (Site → Result Round IntakeFault → Site → Type 0) → Seen Site → Seen Site
+abbrev pub LearnsNews : {Site : Type 0} → (Site → Result SiteRound IntakeFault → Site → Type 0) → Seen Site → Seen Site
     → Result (Unit {0}) FeedFault → Type 0
 LearnsNews answers old new (Ok done) =
     (count : ℕ) × IsPulled answers old.place.site old.place.state new.place.site new.place.state count
@@ -58,7 +58,7 @@ module _ {Site : Type 0} (replies : Site → Deed → Result Timestamp IntakeFau
   AsksAndMeets number asks told old new result =
       (IsWritten (ask_lines asks.keys) old.output new.output
       × InTurn (Meets replies number) told.findings old.place new.place result)
-      ⊎ (IsCutShort (ask_lines asks.keys) old.output new.output × (result ≡ Err WriteFault) × (new.place ≡ old.place))
+      ⊎ (FeedIsCutShort (ask_lines asks.keys) old.output new.output × (result ≡ Err WriteFault) × (new.place ≡ old.place))
 
   -- what the line of this number tells is taken up; nothing is done where memory is refused for what to ask
   abbrev pub TakesLine : ℕ → Told → Seen Site → Seen Site → Result (Unit {0}) FeedFault → Type 0
@@ -71,7 +71,7 @@ module _ {Site : Type 0} (replies : Site → Deed → Result Timestamp IntakeFau
 
 module _ {Feed Site : Type 0} (shown : Feed → Seen Site)
     (replies : Site → Deed → Result Timestamp IntakeFault → Site → Type 0)
-    (answers : Site → Result Round IntakeFault → Site → Type 0) where
+    (answers : Site → Result SiteRound IntakeFault → Site → Type 0) where
   abbrev pub FeedRests : Feed → Result (Unit {0}) FeedFault → Feed → Type 0
   FeedRests old result new = LearnsNews answers (shown old) (shown new) result
 

@@ -3,7 +3,7 @@
 ghost use Rattle.std.specs.Prelude.{◌≡◌, ◌++◌, ◌∷◌, ◌<◌, ◌^◌, ℕ, List, IfOk, IfSome, IsNone, IsSomeAnd, MatchOption};
 ghost use Rattle.std.specs.Prelude.{Some};
 ghost use Rattle.std.specs.Fmt.{decimal};
-ghost use Rattle.feed_client.specs.Refusals.{IsAnswer, IsRefusalText};
+ghost use Rattle.feed_client.specs.Refusals.{IsTakeAnswer, IsRefusalText};
 ghost use Rattle.review_ops.specs.Timestamp.{IsNumbered, Timestamp, timestamp_text};
 
 use super::intake::{IntakeFault, Refusal};
@@ -23,7 +23,7 @@ const REFUSALS: [Refusal; 5] = [
 /// What a line answers: `ok STAMP`, or the refusal of `no NUMBER NAME`. Refusals: `Refused`, with what the site refused
 /// it for; `Ended`, the line is no answer; `NoMemory`, memory was refused for reading the stamp.
 pub fn read_answer(alloc: Global, line: &[u8]) -> Result<Stamp, IntakeFault>
-    ensures { IsAnswer line.now result }
+    ensures { IsTakeAnswer line.now result }
 {
     if let Some(text) = after(line, b"ok ") {
         return match read_stamp(alloc, text) {

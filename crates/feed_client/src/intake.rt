@@ -2,7 +2,7 @@
 
 ghost use Rattle.std.specs.Prelude.{◌≡◌, Result};
 ghost use Rattle.feed_client.specs.Refusals.{text_of};
-ghost use Rattle.feed_client.specs.Rounds.{Round, round_by};
+ghost use Rattle.feed_client.specs.Rounds.{SiteRound, round_by};
 ghost use Rattle.feed_client.specs.declared.intake.IntakeFault.{IntakeFault as Fault};
 ghost use Rattle.review_ops.specs.Deed.{Deed};
 ghost use Rattle.review_ops.specs.Timestamp.{Timestamp};
@@ -53,7 +53,7 @@ pub trait Intake {
     ghost replies: { Self → Deed → Result Timestamp Fault → Self → Type 0 };
 
     /// From the old state this round may be answered, and leave the new state.
-    ghost answers: { Self → Result Round Fault → Self → Type 0 };
+    ghost answers: { Self → Result SiteRound Fault → Self → Type 0 };
 
     /// Offers a body, and awaits the answer: the stamp under which it was taken in.
     fn take_in(&mut self, body: &Body) -> Result<Stamp, IntakeFault>

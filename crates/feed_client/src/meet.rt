@@ -4,7 +4,7 @@ ghost use Rattle.std.specs.Prelude.{◌≡◌, IfOk, MatchOption, string_bytes};
 ghost use Rattle.event_feed.specs.Texts.{fault_line};
 ghost use Rattle.event_filter.specs.Newest.{IsOpenTo};
 ghost use Rattle.feed_client.specs.InTurn.{InTurn};
-ghost use Rattle.feed_client.specs.Meeting.{IsLost, Keeps, Meets, Offers, Reports, TakesUp, place_at};
+ghost use Rattle.feed_client.specs.Meeting.{IsLostFinding, KeepsTaken, Meets, Offers, ReportsLoss, TakesUp, place_at};
 ghost use Rattle.feed_client.specs.Meeting.{refused_line, refused_words};
 ghost use Rattle.gerrit_events.specs.declared.fault.EventFault.{EventFault as Lost};
 
@@ -68,8 +68,8 @@ fn meet<T: Intake, E: Drain>(
 /// What is lost of a finding, if it is: what the line itself loses, and an abandon or a restore of a change that is
 /// merged.
 fn lost_of(state: &State, finding: &Finding) -> Option<EventFault>
-    ensures { MatchOption result ((fault : Lost) → ¬ IsLost state.now finding.now fault)
-        (IsLost state.now finding.now) }
+    ensures { MatchOption result ((fault : Lost) → ¬ IsLostFinding state.now finding.now fault)
+        (IsLostFinding state.now finding.now) }
 {
     match finding {
         Finding::Refuses(fault) => Some(*fault),
@@ -150,7 +150,7 @@ fn take_up<E: Drain>(
 
 /// Takes an operation that the site has taken in.
 fn keep(state: &mut State, op: Op) -> Result<(), FeedFault>
-    ensures { Keeps op state.old state.new result }
+    ensures { KeepsTaken op state.old state.new result }
 {
     match state.take(&op) {
         Ok(()) => Ok(()),
@@ -158,14 +158,14 @@ fn keep(state: &mut State, op: Op) -> Result<(), FeedFault>
     }
 }
 
-/// Reports that the site refused a body of the line of this number.
+/// ReportsLoss that the site refused a body of the line of this number.
 fn report_refusal<E: Drain>(
     alloc: Global,
     number: u64,
     refusal: Refusal,
     errors: &mut E,
 ) -> Result<(), FeedFault>
-    ensures { Reports (refused_line number refusal)
+    ensures { ReportsLoss (refused_line number refusal)
         (record { taken = E.taken errors.old; failed = E.failed errors.old })
         (record { taken = E.taken errors.new; failed = E.failed errors.new }) result }
 {
@@ -193,14 +193,14 @@ fn refused_words(alloc: Global, number: u64, text: &str) -> Result<String, Alloc
     Ok(words)
 }
 
-/// Reports what is lost of the line of this number.
+/// ReportsLoss what is lost of the line of this number.
 fn report_loss<E: Drain>(
     alloc: Global,
     number: u64,
     fault: EventFault,
     errors: &mut E,
 ) -> Result<(), FeedFault>
-    ensures { Reports (fault_line number fault)
+    ensures { ReportsLoss (fault_line number fault)
         (record { taken = E.taken errors.old; failed = E.failed errors.old })
         (record { taken = E.taken errors.new; failed = E.failed errors.new }) result }
 {
@@ -212,7 +212,7 @@ fn report_loss<E: Drain>(
 
 /// Writes a text to the errors.
 fn report<E: Drain>(errors: &mut E, text: &str) -> Result<(), FeedFault>
-    ensures { Reports text.now (record { taken = E.taken errors.old; failed = E.failed errors.old })
+    ensures { ReportsLoss text.now (record { taken = E.taken errors.old; failed = E.failed errors.old })
         (record { taken = E.taken errors.new; failed = E.failed errors.new }) result }
 {
     match send(errors, text) {

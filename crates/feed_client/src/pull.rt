@@ -2,7 +2,7 @@
 
 ghost use Rattle.std.specs.Prelude.{◌≡◌, ◌<◌, ℕ, List, MatchResult, OnErr, OnOk, fold, length, take};
 ghost use Rattle.std.specs.FinMap.{empty};
-ghost use Rattle.feed_client.specs.Pulling.{AreReached, FailsRound, IsRound, Pulls, ending_of, gone_on};
+ghost use Rattle.feed_client.specs.Pulling.{AreReachedBy, FailsRound, IsRound, Pulls, ending_of, gone_on};
 ghost use Rattle.review_ops.specs.Timestamp.{Timestamp};
 ghost use Rattle.state_core.specs.State.{with_effect};
 
@@ -95,5 +95,5 @@ pub fn go_on(front: &mut Front, stamp: Stamp) -> Result<(), NoMemory>
 
 /// A law: a front that goes on from stamp to stamp reaches over no number that isn't that of one of them.
 pub fn fronts_have_no_gap()
-    ensures { (stamps : List Timestamp) → AreReached stamps (fold gone_on empty stamps) }
+    ensures { (stamps : List Timestamp) → AreReachedBy stamps (fold gone_on empty stamps) }
 {}

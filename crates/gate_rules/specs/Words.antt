@@ -24,10 +24,10 @@ clause_place CurrentSet = None
 clause_place StatusIn = None
 clause_place (Approval number) = Some number
 
-abbrev pub place_text : Option ℕ → List ℕ
-place_text None = []
-place_text (Some number) = codes " " ++ decimal number
+abbrev pub clause_place_text : Option ℕ → List ℕ
+clause_place_text None = []
+clause_place_text (Some number) = codes " " ++ decimal number
 
 -- the key, and for an approval which one it is
 abbrev pub clause_text : Clause → List ℕ
-clause_text clause = clause_key clause ++ place_text (clause_place clause)
+clause_text clause = clause_key clause ++ clause_place_text (clause_place clause)

@@ -5,7 +5,7 @@ use Rattle.std.proofs.lemmas.Bool.{false≢true, false_from_ne_true}
 use Rattle.std.proofs.lemmas.Slice.Eq.{bytes_eq-Decides}
 use Rattle.std.specs.Str.{bytes_eq}
 use Rattle.gerrit_events.specs.Revisions.{Revision, place_of}
-use Rattle.gerrit_events.specs.RevisionsKept.{AreApart}
+use Rattle.gerrit_events.specs.RevisionsKept.{NoneTwice}
 
 eq-sym : (xs ys : List ℕ) → bytes_eq xs ys ≡ false → bytes_eq ys xs ≡ false
 eq-sym xs ys h =
@@ -41,8 +41,8 @@ place_of-others [] new revision other = ap (λ b. cond b (Some new.1) None) othe
 place_of-others (seen ∷ known) new revision other = ap (λ rest. cond (bytes_eq revision seen.0) (Some seen.1) rest)
     (place_of-others known new revision other)
 
-pub AreApart-new : (known : List Revision) (new : Revision) → AreApart known → place_of known new.0 ≡ None
-    → AreApart (known ++ new ∷ [])
+pub AreApart-new : (known : List Revision) (new : Revision) → NoneTwice known → place_of known new.0 ≡ None
+    → NoneTwice (known ++ new ∷ [])
 AreApart-new [] new apart none = (refl, tt)
 AreApart-new (seen ∷ known) new apart none =
     let differs = not_first (bytes_eq new.0 seen.0) seen.1 (place_of known new.0) none in (

@@ -2,10 +2,10 @@
 use Rattle.std.proofs.Common.{List, [], ◌∷◌, ◌++◌}
 use Rattle.gerrit_events.specs.declared.finding.Finding.{Finding}
 use Rattle.gerrit_events.specs.Claims.{Claim}
-use Rattle.gerrit_events.specs.Reading.{IsSettled, AreSettled}
+use Rattle.gerrit_events.specs.Reading.{IsSettled, ClaimsAreSettled}
 
 pub settled_more : (claims : List Claim) (findings : List Finding) (claim : Claim) (finding : Finding)
-    → AreSettled claims findings → IsSettled claim finding → AreSettled (claims ++ claim ∷ [])
+    → ClaimsAreSettled claims findings → IsSettled claim finding → ClaimsAreSettled (claims ++ claim ∷ [])
     (findings ++ finding ∷ [])
 settled_more [] [] claim finding so_far one = (one, tt)
 settled_more [] (f ∷ findings) claim finding so_far one = absurd so_far

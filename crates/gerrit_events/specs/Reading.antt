@@ -6,7 +6,7 @@ use Rattle.serde_json.specs.Read.{read}
 use Rattle.review_ops.specs.declared.fault.BodyFault.{BodyFault}
 use Rattle.review_ops.specs.Deed.{Deed, kept_deed}
 use Rattle.review_ops.specs.Good.{IsFaultless}
-use Rattle.review_ops.specs.Fault.{IsFirstFault}
+use Rattle.review_ops.specs.Fault.{IsFirstBodyFault}
 use Rattle.gerrit_events.specs.declared.fault.EventFault.{EventFault}
 use Rattle.gerrit_events.specs.declared.fault.EventFault.TheVariants.{BadEvent, Dropped}
 use Rattle.gerrit_events.specs.declared.fault.EventKey.TheVariants.{Line, TypeName}
@@ -25,31 +25,31 @@ use Rattle.gerrit_events.specs.Projects.{Choice, feeds}
 use Rattle.gerrit_events.specs.Revisions.{Revision}
 
 -- a body without faults is kept
-abbrev pub IsKept : Deed → Deed → Type 0
-IsKept deed body = IsFaultless deed × (body ≡ kept_deed deed)
+abbrev pub IsKeptBody : Deed → Deed → Type 0
+IsKeptBody deed body = IsFaultless deed × (body ≡ kept_deed deed)
 
 -- of another the key of its first fault is named
 abbrev pub IsLost : Deed → EventFault → Type 0
-IsLost deed (BadEvent key) = (fault : BodyFault) × IsFirstFault fault deed × (key ≡ key_of fault)
+IsLost deed (BadEvent key) = (fault : BodyFault) × IsFirstBodyFault fault deed × (key ≡ key_of fault)
 IsLost deed Dropped = ⊥
 
 abbrev pub IsSettled : Claim → Finding → Type 0
-IsSettled (drafts deed) (Brings body) = IsKept deed body
+IsSettled (drafts deed) (Brings body) = IsKeptBody deed body
 IsSettled (drafts deed) (Refuses fault) = IsLost deed fault
-IsSettled (shows deed) (Shows body) = IsKept deed body
+IsSettled (shows deed) (Shows body) = IsKeptBody deed body
 IsSettled (shows deed) (Refuses fault) = IsLost deed fault
 IsSettled (lists listing) (Lists found) = listing_shown found ≡ listing
 IsSettled (refuses fault) (Refuses found) = found ≡ fault
 IsSettled claim finding = ⊥
 
-abbrev pub AreSettled : List Claim → List Finding → Type 0
-AreSettled [] [] = Unit {0}
-AreSettled [] (finding ∷ findings) = ⊥
-AreSettled (claim ∷ claims) [] = ⊥
-AreSettled (claim ∷ claims) (finding ∷ findings) = IsSettled claim finding × AreSettled claims findings
+abbrev pub ClaimsAreSettled : List Claim → List Finding → Type 0
+ClaimsAreSettled [] [] = Unit {0}
+ClaimsAreSettled [] (finding ∷ findings) = ⊥
+ClaimsAreSettled (claim ∷ claims) [] = ⊥
+ClaimsAreSettled (claim ∷ claims) (finding ∷ findings) = IsSettled claim finding × ClaimsAreSettled claims findings
 
 -- the bytes are the JSON text of an object
-pub record IsObject (text : List ℕ) (members : Members) : Type 0 where
+pub record IsLineObject (text : List ℕ) (members : Members) : Type 0 where
   pub utf8 : IsUtf8 text
   pub value : read text ≡ Some (object members)
 
@@ -69,19 +69,19 @@ pub record Told : Type 0 where
   pub findings : List Finding
 
 -- the line is an object, its claims are settled so, and this is known then
-pub record IsRead (known : List Revision) (choice : Choice) (text : List ℕ) (told : Told) (after : List Revision) :
+pub record IsLineRead (known : List Revision) (choice : Choice) (text : List ℕ) (told : Told) (after : List Revision) :
     Type 0 where
   pub members : Members
-  pub is_object : IsObject text members
-  pub settled : AreSettled (claims_of known choice (kind_of (object members)) (object members)) told.findings
+  pub is_object : IsLineObject text members
+  pub settled : ClaimsAreSettled (claims_of known choice (kind_of (object members)) (object members)) told.findings
   pub learned : after ≡ known_after known choice (kind_of (object members)) (object members)
   pub part : told.part ≡ part_of (kind_of (object members)) (object members)
 
 -- the line is no object
 pub record IsNoEvent (known : List Revision) (text : List ℕ) (told : Told) (after : List Revision) : Type 0 where
-  pub none : (members : Members) → ¬ IsObject text members
+  pub none : (members : Members) → ¬ IsLineObject text members
   pub refused : told ≡ record { part = Nothing; findings = Refuses (BadEvent Line) ∷ [] }
   pub same : after ≡ known
 
 abbrev pub Reads : List Revision → Choice → List ℕ → Told → List Revision → Type 0
-Reads known choice text told after = IsRead known choice text told after ⊎ IsNoEvent known text told after
+Reads known choice text told after = IsLineRead known choice text told after ⊎ IsNoEvent known text told after

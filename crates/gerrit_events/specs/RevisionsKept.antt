@@ -9,15 +9,15 @@ abbrev pub seen_shown : Seen → Revision
 seen_shown seen = (string_bytes seen.revision, (seen.change, seen.set))
 
 -- no revision comes twice
-abbrev pub AreApart : List Revision → Type 0
-AreApart [] = Unit {0}
-AreApart (seen ∷ known) = (place_of known seen.0 ≡ None) × AreApart known
+abbrev pub NoneTwice : List Revision → Type 0
+NoneTwice [] = Unit {0}
+NoneTwice (seen ∷ known) = (place_of known seen.0 ≡ None) × NoneTwice known
 
 -- the map has just what is known
-pub record Agree {S : Type 0} (places : HashMap (String Global) (ℕ × ℕ) S) (known : List Revision) : Type 0 where
+pub record PlacesAgree {S : Type 0} (places : HashMap (String Global) (ℕ × ℕ) S) (known : List Revision) : Type 0 where
   pub same : (revision : List ℕ) → get_by_text places revision ≡ place_of known revision
-  pub apart : AreApart known
+  pub apart : NoneTwice known
 
-pub record AreKept {S : Type 0} (places : HashMap (String Global) (ℕ × ℕ) S) (known : List Revision) : Type 0 where
-  pub agree : Agree places known
+pub record AreKeptRevisions {S : Type 0} (places : HashMap (String Global) (ℕ × ℕ) S) (known : List Revision) : Type 0 where
+  pub agree : PlacesAgree places known
   pub few : length known ≤ most_revisions

@@ -2,7 +2,7 @@
 
 ghost use Rattle.std.specs.Prelude.{◌≡◌, [], ◌∷◌, ◌++◌, None, OnOk, OnErr, map, drop};
 ghost use Rattle.gerrit_events.specs.Revisions.{place_of, with_revision};
-ghost use Rattle.gerrit_events.specs.RevisionsKept.{seen_shown, Agree};
+ghost use Rattle.gerrit_events.specs.RevisionsKept.{seen_shown, PlacesAgree};
 
 use json::Scratch;
 use lattice_core::NoMemory;
@@ -78,13 +78,13 @@ pub struct Revisions {
 impl Model for Revisions {
     ghost use Rattle.std.specs.Prelude.{List, map};
     ghost use Rattle.gerrit_events.specs.Revisions.{Revision};
-    ghost use Rattle.gerrit_events.specs.RevisionsKept.{seen_shown, AreKept};
+    ghost use Rattle.gerrit_events.specs.RevisionsKept.{seen_shown, AreKeptRevisions};
 
     ghost Value = { List Revision };
 
     ghost view = { λ known. map seen_shown known.ages.items };
 
-    ghost invariant = { λ known. AreKept known.places (map seen_shown known.ages.items) };
+    ghost invariant = { λ known. AreKeptRevisions known.places (map seen_shown known.ages.items) };
 }
 
 impl Revisions {
@@ -136,9 +136,9 @@ fn add_seen(
     revision: &str,
     place: (u32, u32),
 ) -> Result<(), NoMemory>
-    requires agree { Agree places.old (map seen_shown ages.old.items) }
+    requires agree { PlacesAgree places.old (map seen_shown ages.old.items) }
     requires unknown { place_of (map seen_shown ages.old.items) revision.now ≡ None }
-    ensures agree { Agree places.new (map seen_shown ages.new.items) }
+    ensures agree { PlacesAgree places.new (map seen_shown ages.new.items) }
     ensures ok { OnOk result (map seen_shown ages.new.items
         ≡ map seen_shown ages.old.items ++ (revision.now, place) ∷ []) }
     ensures err { OnErr result (ages.new.items ≡ ages.old.items) }
@@ -158,8 +158,8 @@ fn add_seen(
 
 /// Forgets the oldest revision.
 fn forget_oldest(ages: &mut VecDeque<Seen>, places: &mut HashMap<String, (u32, u32)>)
-    requires { Agree places.old (map seen_shown ages.old.items) }
-    ensures agree { Agree places.new (map seen_shown ages.new.items) }
+    requires { PlacesAgree places.old (map seen_shown ages.old.items) }
+    ensures agree { PlacesAgree places.new (map seen_shown ages.new.items) }
     ensures rest { map seen_shown ages.new.items ≡ drop 1 (map seen_shown ages.old.items) }
 {
     if let Some(oldest) = ages.pop_front() {

@@ -8,7 +8,7 @@ ghost use Rattle.gerrit_events.specs.Claims.{claims_by};
 ghost use Rattle.gerrit_events.specs.Patches.{after_line, brought_by, learned};
 ghost use Rattle.gerrit_events.specs.PatchShown.{patch_shown};
 ghost use Rattle.gerrit_events.specs.Parts.{part_by};
-ghost use Rattle.gerrit_events.specs.Reading.{AreSettled, IsObject, Reads, claims_of, known_after};
+ghost use Rattle.gerrit_events.specs.Reading.{ClaimsAreSettled, IsLineObject, Reads, claims_of, known_after};
 ghost use Rattle.gerrit_events.specs.declared.part.Part.TheVariants.{Nothing};
 ghost use Rattle.gerrit_events.specs.Trees.{data_in};
 
@@ -84,8 +84,8 @@ fn object_of<'a>(
 ) -> Result<Option<Value<'a>>, NoMemory>
     requires { IsUtf8 text.now }
     ensures { IfOk result (λ found. MatchOption found
-        ((members : Members) → ¬ IsObject text.now members)
-        (λ value. (members : Members) × (data_in value ≡ object members) × IsObject text.now members)) }
+        ((members : Members) → ¬ IsLineObject text.now members)
+        (λ value. (members : Members) × (data_in value ≡ object members) × IsLineObject text.now members)) }
 {
     let Some(value) = value_of(alloc, room, text)? else {
         return Ok(None);
@@ -117,7 +117,7 @@ fn read_kind(
     line: Line<'_, '_>,
 ) -> Result<Told, NoMemory>
     ensures part { IfOk result (λ told. told.part ≡ part_by line.entry.kind (data_in line.entry.value.now)) }
-    ensures settled { IfOk result (λ told. AreSettled
+    ensures settled { IfOk result (λ told. ClaimsAreSettled
         (claims_of known.old projects.now (Some line.entry.kind) (data_in line.entry.value.now)) told.findings) }
     ensures learned { OnOk result (known.new
         ≡ known_after known.old projects.now (Some line.entry.kind) (data_in line.entry.value.now)) }
@@ -142,7 +142,7 @@ fn read_fed(
     known: &mut Revisions,
     line: Line<'_, '_>,
 ) -> Result<Vec<Finding>, NoMemory>
-    ensures settled { IfOk result (λ findings. AreSettled
+    ensures settled { IfOk result (λ findings. ClaimsAreSettled
         (claims_by known.old line.entry.kind (data_in line.entry.value.now)) findings.items) }
     ensures learned { OnOk result (known.new
         ≡ after_line known.old (brought_by known.old line.entry.kind (data_in line.entry.value.now))) }
@@ -170,7 +170,7 @@ fn learn(known: &mut Revisions, patch: &Patch<'_>) -> Result<(), NoMemory>
 
 /// Each claim, settled.
 fn settled(alloc: Global, claims: Vec<Claim>) -> Result<Vec<Finding>, NoMemory>
-    ensures { IfOk result (λ findings. AreSettled claims.items findings.items) }
+    ensures { IfOk result (λ findings. ClaimsAreSettled claims.items findings.items) }
 {
     let mut findings = Vec::with_capacity(alloc, claims.len())?;
     for claim in claims {

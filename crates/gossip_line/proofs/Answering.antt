@@ -15,10 +15,10 @@ use Rattle.op_text.specs.declared.fault.OpTextFault.TheVariants as text
 use Rattle.replica_core.specs.Front.{Reaches}
 use Rattle.review_ops.specs.Deed.{Deed}
 use Rattle.site_port.specs.Ports.{Call, Reply}
-use Rattle.gossip_line.specs.Answers.{Answers, Asks, IsAnswered, IsCutShort, IsWritten, Sends}
+use Rattle.gossip_line.specs.Answers.{Answers, Asks, IsAnswered, AnswerIsCutShort, IsWritten, Sends}
 use Rattle.gossip_line.specs.Commands.{take_word, front_word}
 use Rattle.gossip_line.specs.Steps.{IsSaid, IsShown, unread_answer}
-use Rattle.gossip_line.specs.Texts.{Answer, greeting, bad_version, replied, no_memory, bad_command, bad_text, farewell}
+use Rattle.gossip_line.specs.Texts.{SessionAnswer, greeting, bad_version, replied, no_memory, bad_command, bad_text, farewell}
 use Rattle.gossip_line.specs.declared.fault.LineFault.{LineFault}
 
 -- a fault that isn't want of memory says that nothing is spelled
@@ -50,7 +50,7 @@ unread_front front (text.BadBody cause) only =
 
 -- what is said of a line is said by any port
 module _ {P : Type 0} (gives : P → Call → Reply → P → Type 0) (old : P) (line : List ℕ) where
-  pub said_by_any : (first : Bool) (answer : Answer) → IsSaid first line answer → Answers gives first old line answer old
+  pub said_by_any : (first : Bool) (answer : SessionAnswer) → IsSaid first line answer → Answers gives first old line answer old
   said_by_any true answer is = (is.0, refl)
   said_by_any false greeting is = (is.0, refl)
   said_by_any false bad_version (begins, other, same) = (begins, other, refl)
@@ -86,7 +86,7 @@ module _ (state of : State) (is : state ≡ of) (taken later : Option (List ℕ)
 
   pub shown_cut : (fault : WriteStateFault) → fault ≡ write.WriteFault
       → (IsErrOf {T = Unit {0}} (Err fault) write.WriteFault → (count : ℕ) × (count < length (state_text state)) × Appends taken later (take count (state_text state)))
-      → CountsStateFault failed failures fault → IsCutShort (state_text of) taken later failed failures
+      → CountsStateFault failed failures fault → AnswerIsCutShort (state_text of) taken later failed failures
   shown_cut write.WriteFault e cut one =
       let part = cut refl in record {
         count = part.0;

@@ -9,10 +9,10 @@ use Rattle.byte_ends.specs.declared.faults.BytesFault.{BytesFault}
 use Rattle.byte_ends.specs.declared.faults.BytesFault.TheVariants as bytes
 use Rattle.line_reader.specs.Lines.{BeginsWithLine, Hands, IsTooLong, IsUnfinished, Reading}
 use Rattle.site_port.specs.Ports.{Call, Reply}
-use Rattle.gossip_line.specs.Answers.{IsCutShort, IsWritten, Sends}
+use Rattle.gossip_line.specs.Answers.{AnswerIsCutShort, IsWritten, Sends}
 use Rattle.gossip_line.specs.Session.{CountsReads, Ends, EndsUnread, IsCut, IsLast, IsSent, IsTalk, Moment}
 use Rattle.gossip_line.specs.Session.{Session, Turn, is_none_yet}
-use Rattle.gossip_line.specs.Texts.{Answer, bad_version, farewell}
+use Rattle.gossip_line.specs.Texts.{SessionAnswer, bad_version, farewell}
 use Rattle.gossip_line.specs.Texts.{answer_text, long_line, next_of}
 use Rattle.gossip_line.specs.declared.fault.LineFault.{LineFault}
 use Rattle.gossip_line.specs.declared.fault.LineFault.TheVariants as line
@@ -36,7 +36,7 @@ a_line limit old new came false is e h = cc
 pub sends_cases : {T : Type 0} (text : List ℕ) (wanted : Result T LineFault) (taken later : Option (List ℕ))
     (failed failures : ℕ) (result : Result T LineFault) → Sends text wanted taken later failed failures result
     → ((result ≡ wanted) × IsWritten text taken later failed failures)
-    ⊎ ((result ≡ Err line.WriteFault) × IsCutShort text taken later failed failures)
+    ⊎ ((result ≡ Err line.WriteFault) × AnswerIsCutShort text taken later failed failures)
 sends_cases text wanted taken later failed failures (Err line.WriteFault) h = inr (refl, h)
 sends_cases text wanted taken later failed failures result h = inl h
 
@@ -44,12 +44,12 @@ abbrev failed_by : LineFault → Result Bool LineFault
 failed_by fault = Err fault
 
 -- which answers end a session, and which don't
-ends_badly : (answer : Answer) (fault : LineFault) → Err fault ≡ next_of answer
+ends_badly : (answer : SessionAnswer) (fault : LineFault) → Err fault ≡ next_of answer
     → (answer ≡ bad_version) × (fault ≡ line.BadVersion)
 ends_badly bad_version fault e = (refl, cc)
 ends_badly answer fault e = cc
 
-ends_well : (answer : Answer) (more : Bool) → more ≡ false → Ok more ≡ next_of answer → answer ≡ farewell
+ends_well : (answer : SessionAnswer) (more : Bool) → more ≡ false → Ok more ≡ next_of answer → answer ≡ farewell
 ends_well farewell more is e = refl
 ends_well answer more is e = cc
 
@@ -60,7 +60,7 @@ module _ {P : Type 0} (gives : P → Call → Reply → P → Type 0) (limit mos
     pub ended : Ends gives limit most turns mid rest after result
     pub counted : CountsReads gives mid after result
 
-  after_fault : (answer : Answer) (fault : LineFault)
+  after_fault : (answer : SessionAnswer) (fault : LineFault)
       → IsLast gives limit (is_none_yet turns) mid.port rest answer after.port → after.unread ≡ mid.unread
       → ((failed_by fault ≡ next_of answer) × IsSent gives (answer_text answer) mid after)
       ⊎ ((failed_by fault ≡ Err line.WriteFault) × IsCut gives (answer_text answer) mid after) → IsEnd (Err fault)
@@ -73,7 +73,7 @@ module _ {P : Type 0} (gives : P → Call → Reply → P → Type 0) (limit mos
       let is : fault ≡ line.WriteFault = cc in
       subst (λ f. IsEnd (Err f)) (sym is) (record { ended = inl (answer, last, cut); counted = none })
 
-  pub answered_fault : (answer : Answer) (fault : LineFault)
+  pub answered_fault : (answer : SessionAnswer) (fault : LineFault)
       → IsLast gives limit (is_none_yet turns) mid.port rest answer after.port → after.unread ≡ mid.unread
       → Sends (answer_text answer) (next_of answer) mid.taken after.taken mid.unwritten after.unwritten (Err fault)
       → IsEnd (Err fault)
@@ -82,7 +82,7 @@ module _ {P : Type 0} (gives : P → Call → Reply → P → Type 0) (limit mos
       (Err fault) h in
       after_fault answer fault last none cases
 
-  pub answered_last : (answer : Answer) (more : Bool) → more ≡ false
+  pub answered_last : (answer : SessionAnswer) (more : Bool) → more ≡ false
       → IsLast gives limit (is_none_yet turns) mid.port rest answer after.port → after.unread ≡ mid.unread
       → (Ok more ≡ next_of answer) × IsSent gives (answer_text answer) mid after → IsEnd (Ok tt)
   answered_last answer more is last none h =

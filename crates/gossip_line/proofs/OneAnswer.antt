@@ -9,9 +9,9 @@ use Rattle.op_text.specs.Spelling.{SpellsOperation}
 use Rattle.op_text.specs.declared.fault.OpTextFault.{OpTextFault}
 use Rattle.op_text.specs.declared.fault.OpTextFault.TheVariants as text
 use Rattle.gossip_line.proofs.Talking.{All-push, flat_map-push}
-use Rattle.gossip_line.specs.Answers.{IsCutShort}
+use Rattle.gossip_line.specs.Answers.{AnswerIsCutShort}
 use Rattle.gossip_line.specs.Pull.{AreOperations, Awaits, Breaks, CountsEnds, CountsReading, Hails}
-use Rattle.gossip_line.specs.Pull.{IsBroken, IsUngreeted, IsNoAnswer, IsUnspelled, IsWhole}
+use Rattle.gossip_line.specs.Pull.{BreaksPull, IsUngreeted, IsNoAnswer, IsUnspelled, IsWhole}
 use Rattle.gossip_line.specs.Pull.{OperationLine, SaysOperation}
 use Rattle.gossip_line.specs.Pull.{bytes_in, ops_in, rest_word, unread_fault}
 use Rattle.gossip_line.specs.Session.{IsPiece}
@@ -93,7 +93,7 @@ module _ (limit : ℕ) (old new : Reading) (came : List ℕ) (left : Option (Lis
 
 pub unsent_ungreeted : (limit : ℕ) (bytes : List ℕ) (left taken later : Option (List ℕ)) (unread unwritten writes : ℕ)
     (fault : LineFault) → fault ≡ line.WriteFault
-    → IsCutShort (as_line hello) taken later unwritten writes
+    → AnswerIsCutShort (as_line hello) taken later unwritten writes
     → CountsEnds unread unread unwritten writes fault × IsUngreeted limit bytes left fault × Hails taken later fault
 unsent_ungreeted limit bytes left taken later unread unwritten writes fault is cut =
     subst (λ f. CountsEnds unread unread unwritten writes f × IsUngreeted limit bytes left f × Hails taken later f)
@@ -135,7 +135,7 @@ module _ {limit : ℕ} {first held : List ℕ} {before mid : Option (List ℕ)} 
   pub begun_breaks : (now : Option (List ℕ)) (next : List ℕ) (fault : LineFault)
       → (so_far : IsBegun limit first held before mid ops) → Consumes mid now next
       → Breaks limit (length so_far.lines) (held ++ next) now fault
-      → (came : List ℕ) × Consumes before now came × IsBroken limit (first ++ came) now fault
+      → (came : List ℕ) × Consumes before now came × BreaksPull limit (first ++ came) now fault
   begun_breaks now next fault so_far read breaks = (
     so_far.came ++ next,
     Consumes-trans before mid now so_far.came next so_far.read read,

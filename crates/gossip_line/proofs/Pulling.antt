@@ -9,9 +9,9 @@ use Rattle.byte_ends.specs.Lines.{as_line}
 use Rattle.site_port.specs.Sinks.{Offer, Uptake, declined, fronts, hands, reached, took}
 use Rattle.gossip_line.proofs.OneAnswer.{counts_broken}
 use Rattle.gossip_line.proofs.Talking.{All-push, flat_map-push}
-use Rattle.gossip_line.specs.Answers.{IsCutShort, IsWritten, Sends}
+use Rattle.gossip_line.specs.Answers.{AnswerIsCutShort, IsWritten, Sends}
 use Rattle.gossip_line.specs.Pull.{CountsEnds, CountsReading, EndWith, Fails, Greets}
-use Rattle.gossip_line.specs.Pull.{IsBroken, IsDeclined, IsPull, IsWholeRound, Leaves, OperationLine, PullsRound}
+use Rattle.gossip_line.specs.Pull.{BreaksPull, IsDeclined, IsPull, IsWholeRound, Leaves, OperationLine, PullsRound}
 use Rattle.gossip_line.specs.Pull.{PullsWell, ReadsAnswer, Round, SendsFront, Takes, TakesAll, answer_in, fault_of}
 use Rattle.gossip_line.specs.Pull.{front_line}
 use Rattle.gossip_line.specs.Session.{Moment}
@@ -58,7 +58,7 @@ sum_with rounds round = sum_by-append (λ (r : Round). length r.lines) rounds (r
 -- where a fixed text isn't written
 pub not_sent : (text : List ℕ) (taken later : Option (List ℕ)) (failed failures : ℕ) (fault : LineFault)
     → Sends {T = Unit {0}} text (Ok tt) taken later failed failures (Err fault)
-    → (fault ≡ line.WriteFault) × IsCutShort text taken later failed failures
+    → (fault ≡ line.WriteFault) × AnswerIsCutShort text taken later failed failures
 not_sent text taken later failed failures line.WriteFault h = (refl, h)
 not_sent text taken later failed failures fault h = let e = h.0 in cc
 
@@ -110,7 +110,7 @@ module _ {K : Type 0} (sinks : K → Offer → Uptake → K → Type 0) where
   -- where an answer isn't whole the sink takes no more
   pub broken_left : (limit : ℕ) (mid after : Moment K) (held came : List ℕ) (front : Reaches) (fault : LineFault)
       → sinks mid.port fronts (reached front) after.port → Consumes mid.left after.left came
-      → IsBroken limit (held ++ came) after.left fault → Appends mid.taken after.taken (front_line front)
+      → BreaksPull limit (held ++ came) after.left fault → Appends mid.taken after.taken (front_line front)
       → Leaves sinks limit mid held fault after
   broken_left limit mid after held came front line.LongLine says read h asked = (front, came, says, read, h, asked)
   broken_left limit mid after held came front line.BadAnswer says read h asked = (front, came, says, read, h, asked)
@@ -147,7 +147,7 @@ module _ {K : Type 0} (sinks : K → Offer → Uptake → K → Type 0) where
   pub not_read : (mid after : Moment K) (front : Reaches) (old : Reading) (came : List ℕ) (fault : LineFault)
       → sinks mid.port fronts (reached front) after.port
       → IsWritten (front_line front) mid.taken after.taken mid.unwritten after.unwritten
-      → Consumes mid.left after.left came → IsBroken old.limit (old.held ++ came) after.left fault
+      → Consumes mid.left after.left came → BreaksPull old.limit (old.held ++ came) after.left fault
       → CountsReading {T = Unit {0}} mid.unread after.unread (Err fault)
       → IsRoundFailed old.limit mid old.held fault after
   not_read mid after front old came fault says asked read broken counted = record {

@@ -12,7 +12,7 @@ use Rattle.site_port.specs.Ports.{Call, Reply}
 use Rattle.gossip_line.specs.Answers.{Answers, IsWritten}
 use Rattle.gossip_line.specs.Session.{Answered, IsLast, IsPiece, IsTalk, Moment, Turn, is_none_yet, line_of, lines_of}
 use Rattle.gossip_line.specs.Session.{texts_of}
-use Rattle.gossip_line.specs.Texts.{Answer, answer_text, next_of}
+use Rattle.gossip_line.specs.Texts.{SessionAnswer, answer_text, next_of}
 
 -- what a list's last element adds
 pub flat_map-push : {T : Type 0} (f : T → List ℕ) (xs : List T) (x : T)
@@ -84,7 +84,7 @@ module _ {P : Type 0} (gives : P → Call → Reply → P → Type 0) where
   }
 
   -- what was answered to the line of this number
-  pub answered_as : (turns : List Turn) (number : ℕ) (old : P) (line piece : List ℕ) (answer : Answer) (new : P)
+  pub answered_as : (turns : List Turn) (number : ℕ) (old : P) (line piece : List ℕ) (answer : SessionAnswer) (new : P)
       → length turns ≡ number → line ≡ without_cr piece
       → Answers gives (eqb number 0) old line answer new
       → Answers gives (is_none_yet turns) old (without_cr piece) answer new
@@ -93,7 +93,7 @@ module _ {P : Type 0} (gives : P → Call → Reply → P → Type 0) where
       (subst (λ first. Answers gives first old line answer new) (first_by_number turns number counted) h)
 
   -- it is the last line of the session
-  pub last_line : (limit : ℕ) (turns : List Turn) (number : ℕ) (old : P) (rest later line : List ℕ) (answer : Answer)
+  pub last_line : (limit : ℕ) (turns : List Turn) (number : ℕ) (old : P) (rest later line : List ℕ) (answer : SessionAnswer)
       (new : P) → length turns ≡ number
       → (piece : List ℕ) → BeginsWithLine limit rest piece later → line ≡ without_cr piece
       → Answers gives (eqb number 0) old line answer new → IsLast gives limit (is_none_yet turns) old rest answer new

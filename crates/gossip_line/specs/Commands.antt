@@ -9,8 +9,8 @@ use Rattle.gossip_line.specs.declared.command.Command.TheVariants.{Other}
 abbrev pub Follows : List ℕ → List ℕ → List ℕ → Type 0
 Follows word line text = line ≡ word ++ text
 
-abbrev pub Begins : List ℕ → List ℕ → Type 0
-Begins word line = (text : List ℕ) × Follows word line text
+abbrev pub BeginsLine : List ℕ → List ℕ → Type 0
+BeginsLine word line = (text : List ℕ) × Follows word line text
 
 abbrev pub version_word : List ℕ
 version_word = codes "hello "
@@ -23,9 +23,9 @@ front_word = codes "front "
 
 -- a line that is none of the commands
 pub record IsOther (line : List ℕ) : Type 0 where
-  pub version : ¬ Begins version_word line
-  pub take : ¬ Begins take_word line
-  pub front : ¬ Begins front_word line
+  pub version : ¬ BeginsLine version_word line
+  pub take : ¬ BeginsLine take_word line
+  pub front : ¬ BeginsLine front_word line
   pub ready : line ≢ codes "ready"
   pub state : line ≢ codes "state"
   pub quit : line ≢ codes "quit"
@@ -33,7 +33,7 @@ pub record IsOther (line : List ℕ) : Type 0 where
 -- the line is this command
 abbrev pub Says : List ℕ → Command → Type 0
 Says line Hello = line ≡ hello
-Says line OtherVersion = Begins version_word line × (line ≢ hello)
+Says line OtherVersion = BeginsLine version_word line × (line ≢ hello)
 Says line (Take text) = Follows take_word line text.now
 Says line (Front text) = Follows front_word line text.now
 Says line Ready = line ≡ codes "ready"

@@ -5,8 +5,8 @@ use Rattle.std.specs.List.{AllByRecursion}
 use Rattle.std.specs.Io.KnownBytes.{Appends, Consumes, IsAtEnd}
 use Rattle.byte_ends.specs.Failures.{OneFailed}
 use Rattle.byte_ends.specs.Lines.{as_line, without_cr}
-use Rattle.gossip_line.specs.Answers.{IsCutShort, IsWritten}
-use Rattle.gossip_line.specs.Commands.{Begins, Follows, front_word, version_word}
+use Rattle.gossip_line.specs.Answers.{AnswerIsCutShort, IsWritten}
+use Rattle.gossip_line.specs.Commands.{BeginsLine, Follows, front_word, version_word}
 use Rattle.gossip_line.specs.Session.{IsPiece, Moment}
 use Rattle.gossip_line.specs.Texts.{hello}
 use Rattle.gossip_line.specs.declared.fault.LineFault.{LineFault}
@@ -114,7 +114,7 @@ Awaits old came (Err BadAnswer) new = IsUnfinished old.limit (old.held ++ came)
 Awaits old came (Err fault) new = IsReadingFault fault
 
 -- a line that can't be part of an answer, after so many operations
-pub record IsNoLine (count : ℕ) (line : List ℕ) : Type 0 where
+pub record IsNoAnswerLine (count : ℕ) (line : List ℕ) : Type 0 where
   pub rest : (more : Bool) → line ≢ rest_word more
   pub operation : (count ≡ 256) ⊎ ((op : Operation) → ¬ SaysOperation line op)
 
@@ -122,12 +122,12 @@ pub record IsNoLine (count : ℕ) (line : List ℕ) : Type 0 where
 abbrev pub Breaks : ℕ → ℕ → List ℕ → Option (List ℕ) → LineFault → Type 0
 Breaks limit count rest left LongLine = IsTooLong limit rest
 Breaks limit count rest left BadAnswer =
-    (IsUnfinished limit rest × IsAtEnd left) ⊎ ((piece : List ℕ) × (later : List ℕ) × BeginsWithLine limit rest piece later × IsNoLine count (without_cr piece))
+    (IsUnfinished limit rest × IsAtEnd left) ⊎ ((piece : List ℕ) × (later : List ℕ) × BeginsWithLine limit rest piece later × IsNoAnswerLine count (without_cr piece))
 Breaks limit count rest left ReadFault = Unit {0}
 Breaks limit count rest left NoMemory = Unit {0}
 Breaks limit count rest left fault = ⊥
 
-pub record IsBroken (limit : ℕ) (bytes : List ℕ) (left : Option (List ℕ)) (fault : LineFault) : Type 0 where
+pub record BreaksPull (limit : ℕ) (bytes : List ℕ) (left : Option (List ℕ)) (fault : LineFault) : Type 0 where
   pub lines : List OperationLine
   pub rest : List ℕ
   pub operations : AreOperations limit lines
@@ -157,13 +157,13 @@ ReadsAnswer old came left (Ok missing) new =
     (lines : List OperationLine) × (last : List ℕ) × IsWhole old.limit lines last missing.more
     × (missing.ops.items ≡ ops_in lines)
     × (old.held ++ came ≡ (bytes_in lines ++ as_line last) ++ new.held)
-ReadsAnswer old came left (Err fault) new = IsBroken old.limit (old.held ++ came) left fault
+ReadsAnswer old came left (Err fault) new = BreaksPull old.limit (old.held ++ came) left fault
 
 -- the front's line is written, or memory is refused for it before its first byte
 abbrev pub SendsFront : Reaches → Option (List ℕ) → Option (List ℕ) → ℕ → ℕ → Result (Unit {0}) LineFault → Type 0
 SendsFront front taken later failed failures (Ok done) = IsWritten (front_line front) taken later failed failures
 SendsFront front taken later failed failures (Err WriteFault) =
-    IsCutShort (front_line front) taken later failed failures
+    AnswerIsCutShort (front_line front) taken later failed failures
 SendsFront front taken later failed failures (Err NoMemory) = (later ≡ taken) × (failures ≡ failed)
 SendsFront front taken later failed failures (Err fault) = ⊥
 
@@ -172,9 +172,9 @@ abbrev pub IsUngreeted : ℕ → List ℕ → Option (List ℕ) → LineFault �
 IsUngreeted limit bytes left LongLine = IsTooLong limit bytes
 IsUngreeted limit bytes left BadVersion =
     (piece : List ℕ) × (later : List ℕ) × BeginsWithLine limit bytes piece later
-    × Begins version_word (without_cr piece) × (without_cr piece ≢ hello)
+    × BeginsLine version_word (without_cr piece) × (without_cr piece ≢ hello)
 IsUngreeted limit bytes left BadAnswer =
-    (IsUnfinished limit bytes × IsAtEnd left) ⊎ ((piece : List ℕ) × (later : List ℕ) × BeginsWithLine limit bytes piece later × (¬ Begins version_word (without_cr piece)))
+    (IsUnfinished limit bytes × IsAtEnd left) ⊎ ((piece : List ℕ) × (later : List ℕ) × BeginsWithLine limit bytes piece later × (¬ BeginsLine version_word (without_cr piece)))
 IsUngreeted limit bytes left Closed = ⊥
 IsUngreeted limit bytes left fault = Unit {0}
 
@@ -230,7 +230,7 @@ module _ {K : Type 0} (sinks : K → Offer → Uptake → K → Type 0) where
   abbrev pub IsCutOff : ℕ → Moment K → List ℕ → LineFault → Moment K → Type 0
   IsCutOff limit mid held fault after =
       (front : Reaches) × (came : List ℕ) × sinks mid.port fronts (reached front) after.port
-      × Consumes mid.left after.left came × IsBroken limit (held ++ came) after.left fault
+      × Consumes mid.left after.left came × BreaksPull limit (held ++ came) after.left fault
       × Appends mid.taken after.taken (front_line front)
 
   -- the sink answered its front, of which nothing was written, or of which it isn't known how much was

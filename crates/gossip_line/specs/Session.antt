@@ -8,8 +8,8 @@ use Rattle.byte_ends.specs.Lines.{as_line, without_cr}
 use Rattle.byte_ends.specs.declared.faults.BytesFault.{BytesFault}
 use Rattle.byte_ends.specs.declared.faults.BytesFault.TheVariants as bytes
 use Rattle.line_reader.specs.Lines.{HasNoLf, IsTooLong, IsUnfinished}
-use Rattle.gossip_line.specs.Answers.{Answers, IsCutShort, IsWritten, Sends}
-use Rattle.gossip_line.specs.Texts.{Answer, bad_version, farewell, answer_text, long_line, next_of}
+use Rattle.gossip_line.specs.Answers.{Answers, AnswerIsCutShort, IsWritten, Sends}
+use Rattle.gossip_line.specs.Texts.{SessionAnswer, bad_version, farewell, answer_text, long_line, next_of}
 use Rattle.gossip_line.specs.declared.fault.LineFault.{LineFault}
 use Rattle.gossip_line.specs.declared.fault.LineFault.TheVariants.{LongLine, BadVersion, ReadFault, WriteFault}
 use Rattle.gossip_line.specs.declared.fault.LineFault.TheVariants.{NoMemory, BadAnswer, Closed}
@@ -18,7 +18,7 @@ use Rattle.site_port.specs.Ports.{Call, Reply}
 -- a line as it came, without its LF, and its answer
 pub record Turn : Type 0 where
   pub piece : List ℕ
-  pub answer : Answer
+  pub answer : SessionAnswer
 
 abbrev pub line_of : Turn → List ℕ
 line_of turn = without_cr turn.piece
@@ -70,7 +70,7 @@ module _ {P : Type 0} (gives : P → Call → Reply → P → Type 0) where
     pub none_unread : now.unread ≡ before.unread
 
   -- the rest of what was read begins with one more line, which is answered so
-  pub record IsLast (limit : ℕ) (first : Bool) (old : P) (rest : List ℕ) (answer : Answer) (new : P) : Type 0 where
+  pub record IsLast (limit : ℕ) (first : Bool) (old : P) (rest : List ℕ) (answer : SessionAnswer) (new : P) : Type 0 where
     pub piece : List ℕ
     pub later : List ℕ
     pub whole : rest ≡ as_line piece ++ later
@@ -84,7 +84,7 @@ module _ {P : Type 0} (gives : P → Call → Reply → P → Type 0) where
   IsSent text mid after = IsWritten text mid.taken after.taken mid.unwritten after.unwritten
 
   abbrev pub IsCut : List ℕ → Moment P → Moment P → Type 0
-  IsCut text mid after = IsCutShort text mid.taken after.taken mid.unwritten after.unwritten
+  IsCut text mid after = AnswerIsCutShort text mid.taken after.taken mid.unwritten after.unwritten
 
   -- how a session ends, after these turns and with this rest of what was read
   abbrev pub Ends : ℕ → ℕ → List Turn → Moment P → List ℕ → Moment P → Result (Unit {0}) LineFault → Type 0
@@ -98,7 +98,7 @@ module _ {P : Type 0} (gives : P → Call → Reply → P → Type 0) where
   Ends limit most turns mid rest after (Err ReadFault) =
       IsQuiet mid after × (OneFailed mid.unread after.unread ⊎ ((length turns ≡ most) × (after.unread ≡ mid.unread)))
   Ends limit most turns mid rest after (Err WriteFault) =
-      ((answer : Answer) × IsLast limit (is_none_yet turns) mid.port rest answer after.port × IsCut (answer_text answer) mid after)
+      ((answer : SessionAnswer) × IsLast limit (is_none_yet turns) mid.port rest answer after.port × IsCut (answer_text answer) mid after)
       ⊎ (IsTooLong limit rest × (after.port ≡ mid.port) × IsCut long_line mid after)
   Ends limit most turns mid rest after (Err NoMemory) = IsQuiet mid after
   Ends limit most turns mid rest after (Err BadAnswer) = ⊥

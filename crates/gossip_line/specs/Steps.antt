@@ -1,7 +1,7 @@
 -- The steps of a session: what a line asks for once it is read, and how that is answered.
 use Rattle.std.specs.Prelude.{◌≡◌, ◌⊎◌, ℕ, Bool, false, true, List, Option, Result, Ok}
 use Rattle.gossip_line.specs.Answers.{Answers, Asks, IsMadeText, Sends}
-use Rattle.gossip_line.specs.Texts.{Answer, greeting, bad_version, no_memory, bad_command, bad_text, farewell}
+use Rattle.gossip_line.specs.Texts.{SessionAnswer, greeting, bad_version, no_memory, bad_command, bad_text, farewell}
 use Rattle.gossip_line.specs.Texts.{no_memory_line, reply_text}
 use Rattle.gossip_line.specs.declared.fault.LineFault.{LineFault}
 use Rattle.gossip_line.specs.declared.step.Look.{Look}
@@ -15,7 +15,7 @@ use Rattle.op_text.specs.declared.fault.OpTextFault.TheVariants as text
 use Rattle.review_ops.specs.Draft.{deed_of}
 use Rattle.site_port.specs.Ports.{Call, Reply, takes_in, lacks, reports, looks}
 
-abbrev pub answer_of : Saying → Answer
+abbrev pub answer_of : Saying → SessionAnswer
 answer_of saying.Greeting = greeting
 answer_of saying.BadVersion = bad_version
 answer_of saying.NoMemory = no_memory
@@ -24,7 +24,7 @@ answer_of saying.BadText = bad_text
 answer_of saying.Farewell = farewell
 
 -- where the text after a command isn't read
-abbrev pub unread_answer : OpTextFault → Answer
+abbrev pub unread_answer : OpTextFault → SessionAnswer
 unread_answer text.NoMemory = no_memory
 unread_answer fault = bad_text
 
@@ -34,7 +34,7 @@ call_of look.Ready = reports
 call_of look.State = looks
 
 -- the line is answered so by whatever port there is, which isn't asked: even by one that replies nothing
-abbrev pub IsSaid : Bool → List ℕ → Answer → Type 0
+abbrev pub IsSaid : Bool → List ℕ → SessionAnswer → Type 0
 IsSaid first line answer =
     Answers (λ (old : Unit {0}) (call : Call) (reply : Reply) (new : Unit {0}). ⊥) first tt line answer tt
 

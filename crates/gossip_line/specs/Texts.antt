@@ -13,19 +13,19 @@ use Rattle.site_port.specs.declared.fault.PortFault.{PortFault}
 use Rattle.site_port.specs.declared.fault.PortFault.TheVariants as port
 use Rattle.state_core.specs.State.{state_of}
 
-pub data Answer : Type 0 where
+pub data SessionAnswer : Type 0 where
   -- the version is the one that is spoken here
-  greeting : Answer
+  greeting : SessionAnswer
   -- it is another, or none was named first
-  bad_version : Answer
+  bad_version : SessionAnswer
   -- what the port replied
-  replied : (reply : Reply) → Answer
+  replied : (reply : Reply) → SessionAnswer
   -- memory was refused for the command or for its answer
-  no_memory : Answer
-  bad_command : Answer
+  no_memory : SessionAnswer
+  bad_command : SessionAnswer
   -- what follows the command isn't a text of its kind
-  bad_text : Answer
-  farewell : Answer
+  bad_text : SessionAnswer
+  farewell : SessionAnswer
 
 -- ---- the texts
 
@@ -61,7 +61,7 @@ reply_text (judged verdicts) = report_of verdicts
 reply_text (looked journal) = state_text (state_of journal)
 reply_text (refused fault) = refusal_line fault
 
-abbrev pub answer_text : Answer → List ℕ
+abbrev pub answer_text : SessionAnswer → List ℕ
 answer_text greeting = codes "hello 2\n"
 answer_text bad_version = codes "no 2 BadVersion\n"
 answer_text (replied reply) = reply_text reply
@@ -75,7 +75,7 @@ abbrev pub long_line : List ℕ
 long_line = codes "no 1 LongLine\n"
 
 -- whether the session goes on after an answer, and how it ends where not
-abbrev pub next_of : Answer → Result Bool LineFault
+abbrev pub next_of : SessionAnswer → Result Bool LineFault
 next_of bad_version = Err BadVersion
 next_of farewell = Ok false
 next_of answer = Ok true

@@ -1,7 +1,7 @@
 //! What a line of a session asks for.
 
 ghost use Rattle.std.specs.Prelude.{IfNone, IfSome};
-ghost use Rattle.gossip_line.specs.Commands.{Begins, Follows, Says, version_word, take_word, front_word};
+ghost use Rattle.gossip_line.specs.Commands.{BeginsLine, Follows, Says, version_word, take_word, front_word};
 
 /// The greeting of the version that is spoken here.
 pub const HELLO: &[u8] = b"hello 2";
@@ -49,7 +49,7 @@ pub fn command_of<'a>(line: &'a [u8]) -> Command<'a>
 /// What follows a word in a line.
 pub fn after<'a>(line: &'a [u8], word: &[u8]) -> Option<&'a [u8]>
     ensures found { IfSome result (λ text. Follows word.now line.entry.now text.now) }
-    ensures none { IfNone result (¬ Begins word.now line.entry.now) }
+    ensures none { IfNone result (¬ BeginsLine word.now line.entry.now) }
 {
     if line.len() < word.len() {
         return None;
@@ -60,9 +60,9 @@ pub fn after<'a>(line: &'a [u8], word: &[u8]) -> Option<&'a [u8]>
 
 /// What a line of one word asks for.
 fn word_of<'a>(line: &'a [u8]) -> Command<'a>
-    requires version { ¬ Begins version_word line.now }
-    requires take { ¬ Begins take_word line.now }
-    requires front { ¬ Begins front_word line.now }
+    requires version { ¬ BeginsLine version_word line.now }
+    requires take { ¬ BeginsLine take_word line.now }
+    requires front { ¬ BeginsLine front_word line.now }
     ensures { Says line.entry.now result }
 {
     if line == b"ready".as_slice() {

@@ -6,6 +6,7 @@ ghost use Rattle.op_text.specs.Spelling.{SpellsOperation};
 ghost use Rattle.review_ops.specs.Operation.{Operation};
 ghost use Rattle.std.specs.Io.KnownBytes.{Consumes, IsAtEnd};
 ghost use Rattle.std.specs.Prelude.{string_bytes};
+ghost use Rattle.line_reader.specs.Lines.{line_limit};
 ghost use Rattle.gossip_line.specs.Pull.{Awaits, CountsEnds, CountsReading, Greets, IsNoAnswer, IsUnspelled, Pull};
 ghost use Rattle.gossip_line.specs.Pull.{PullsRound, ReadsAnswer, SaysOperation, SendsFront, fault_of, front_line};
 ghost use Rattle.gossip_line.specs.Pull.{rest_word, unread_fault};
@@ -61,7 +62,7 @@ pub fn pull_run<S: Source, D: Drain, K: Sink>(
     drain: &mut D,
     sink: &mut K,
 ) -> Result<Pulled, LineFault>
-    ensures { Pull K.sinks 524288 4096
+    ensures { Pull K.sinks line_limit 4096
         (record { port = sink.old; left = S.left source.old; taken = D.taken drain.old; unread = S.failed source.old; unwritten = D.failed drain.old })
         (record { port = sink.new; left = S.left source.new; taken = D.taken drain.new; unread = S.failed source.new; unwritten = D.failed drain.new })
         result }

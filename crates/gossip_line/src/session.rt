@@ -1,6 +1,7 @@
 //! Runs a session.
 
 ghost use Rattle.std.specs.Prelude.{◌≡◌, IfErr};
+ghost use Rattle.line_reader.specs.Lines.{line_limit};
 ghost use Rattle.gossip_line.specs.Answers.{Sends};
 ghost use Rattle.gossip_line.specs.Session.{EndsUnread, Moment, Session};
 
@@ -28,7 +29,7 @@ pub fn session_run<S: Source, D: Drain, P: Port>(
     drain: &mut D,
     port: &mut P,
 ) -> Result<(), LineFault>
-    ensures { Session P.gives 524288 1000000
+    ensures { Session P.gives line_limit 1000000
         (record { port = port.old; left = S.left source.old; taken = D.taken drain.old; unread = S.failed source.old; unwritten = D.failed drain.old })
         (record { port = port.new; left = S.left source.new; taken = D.taken drain.new; unread = S.failed source.new; unwritten = D.failed drain.new })
         result }

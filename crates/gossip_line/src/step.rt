@@ -3,7 +3,7 @@
 
 ghost use Rattle.std.specs.Prelude.{◌≡◌, ◌++◌, Err, MatchBool, Ok, false, true};
 ghost use Rattle.gossip_line.specs.Answers.{Sends};
-ghost use Rattle.gossip_line.specs.Commands.{Begins, take_word, front_word};
+ghost use Rattle.gossip_line.specs.Commands.{BeginsLine, take_word, front_word};
 ghost use Rattle.gossip_line.specs.Steps.{IsSaid, IsShown, IsStep, answer_of, call_of, unread_answer};
 ghost use Rattle.gossip_line.specs.Texts.{answer_text, long_line, next_of, refusal_line, reply_text};
 ghost use Rattle.site_port.specs.Ports.{lacks, looks, reply_by, reports, stamped};
@@ -122,7 +122,7 @@ fn unread(fault: &OpTextFault) -> Saying
 
 /// Whether a line asks to take in a body, well spelled or not. It takes no memory.
 pub fn is_take(line: &[u8]) -> bool
-    ensures { MatchBool result (Begins take_word line.now) (¬ Begins take_word line.now) }
+    ensures { MatchBool result (BeginsLine take_word line.now) (¬ BeginsLine take_word line.now) }
 {
     after(line, b"take ").is_some()
 }

@@ -23,7 +23,7 @@ use Rattle.state_core.specs.State.{State}
 use Rattle.state_core.specs.Items.{IsCurrentItem, IsItem, item_cmp}
 use Rattle.graph_core.specs.Dependencies.{IsDependency}
 use Rattle.graph_core.specs.ItemGraph.{ArePart, AreTargets}
-use Rattle.graph_core.specs.Closure.{AddsCurrent, AddsEnds, Finds, IsClosing, IsFound, IsSeen, pair_cmp}
+use Rattle.graph_core.specs.Closure.{AddsCurrent, AddsEnds, FindsItem, IsClosing, IsFoundItem, IsSeen, pair_cmp}
 
 -- ---- items as pairs
 abbrev pub item_at : ℕ × ℕ → Item
@@ -47,7 +47,7 @@ unfolding IsStrictlySortedBy
 items_sorted [] sorted = tt
 items_sorted (pair ∷ pairs) sorted = (above_items pair pairs sorted.0, items_sorted pairs sorted.1)
 
-pub found_items : (found : BTreeSet (ℕ × ℕ)) (item : Item) → Contains (map item_at found.keys) item ↔ IsFound found item
+pub found_items : (found : BTreeSet (ℕ × ℕ)) (item : Item) → Contains (map item_at found.keys) item ↔ IsFoundItem found item
 found_items found item = (
   λ listed.
       let from = Contains-of_map item_at found.keys item listed in
@@ -83,7 +83,7 @@ same_pair a b e = ap item_at
 
 pub found_more : (item : Item) (old new : BTreeSet (ℕ × ℕ)) → ((q : ℕ × ℕ) → contains pair_cmp new q ≡ cond (is_eq (pair_cmp (item.change, item.set) q)) true (contains pair_cmp old q))
     → contains pair_cmp new (item.change, item.set) ≡ true → (other : Item)
-    → IsFound new other ↔ (IsFound old other ⊎ (other ≡ item))
+    → IsFoundItem new other ↔ (IsFoundItem old other ⊎ (other ≡ item))
 found_more item old new updates there other = (
   λ has. elim (hit_or_old (is_eq (pair_cmp (item.change, item.set) (other.change, other.set))) (contains pair_cmp old (other.change, other.set)) (contains pair_cmp new (other.change, other.set))
       (updates (other.change, other.set)) has) [ inl hit ↦ inr (sym (same_pair item other hit)) | inr was ↦ inl was ],
@@ -91,7 +91,7 @@ found_more item old new updates there other = (
     | inl was ↦ grown (is_eq (pair_cmp (item.change, item.set) (other.change, other.set)))
         (contains pair_cmp old (other.change, other.set)) (contains pair_cmp new (other.change, other.set))
         (updates (other.change, other.set)) was
-    | inr same ↦ subst (IsFound new) (sym same) there
+    | inr same ↦ subst (IsFoundItem new) (sym same) there
   ],
 )
 
@@ -172,7 +172,7 @@ module _ (gate : GateRules) (state : State) (first : List Item) where
     has = λ item has. inr has;
     held = λ item other is edge. absurd (none_found item is);
   } where
-    none_found : (item : Item) → IsFound found item → ⊥
+    none_found : (item : Item) → IsFoundItem found item → ⊥
     none_found item is = Contains-none item
         (subst (λ (keys : List (ℕ × ℕ)). Contains (map item_at keys) item) none ((found_items found item).1 is))
 
@@ -182,7 +182,7 @@ module _ (gate : GateRules) (state : State) (first : List Item) where
       is.items item (inr (subst (λ l. Contains l item) (sym popped) (Contains-push before item)))
 
   module _ (old new : BTreeSet (ℕ × ℕ)) (before now : List Item) (item : Item)
-      (finds : Finds gate state item old before new now) where
+      (finds : FindsItem gate state item old before new now) where
     stays_ahead : (other : Item) → Contains before other → Contains now other
     stays_ahead other has = elim finds.ahead [ inl was ↦ subst (λ l. Contains l other) (sym was.1) has | inr adds ↦ adds.keeps other has ]
 
@@ -222,7 +222,7 @@ module _ (gate : GateRules) (state : State) (first : List Item) where
 
   -- at the end
   module _ (found : BTreeSet (ℕ × ℕ)) (is : IsClosing gate state first found []) (part : List Item)
-      (each : (item : Item) → Contains part item ↔ IsFound found item) where
+      (each : (item : Item) → Contains part item ↔ IsFoundItem found item) where
     seen_is_found : (item : Item) → IsSeen found [] item → Contains part item
     seen_is_found item (inl has) = (each item).1 has
     seen_is_found item (inr none) = absurd (Contains-none item none)
@@ -245,13 +245,13 @@ module _ (gate : GateRules) (state : State) (first : List Item) where
 
     pub handed_is_part : {X E : Type 0} (items_in : X → List Item) (result : Result X E)
         → IfOk result (λ x. IsStrictlySortedBy item_cmp (items_in x))
-        → IfOk result (λ x. (item : Item) → Contains (items_in x) item ↔ IsFound found item)
+        → IfOk result (λ x. (item : Item) → Contains (items_in x) item ↔ IsFoundItem found item)
         → IfOk result (λ x. ArePart gate state (items_in x))
     handed_is_part items_in (Ok x) sorted each = closed_is_part found closed (items_in x) each sorted
     handed_is_part items_in (Err e) sorted each = tt
 
     pub handed_has : {X E : Type 0} (items_in : X → List Item) (result : Result X E)
-        → IfOk result (λ x. (item : Item) → Contains (items_in x) item ↔ IsFound found item)
+        → IfOk result (λ x. (item : Item) → Contains (items_in x) item ↔ IsFoundItem found item)
         → IfOk result (λ x. (item : Item) → Contains first item → Contains (items_in x) item)
     handed_has items_in (Ok x) each = closed_has found closed (items_in x) each
     handed_has items_in (Err e) each = tt

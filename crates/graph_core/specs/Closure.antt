@@ -14,19 +14,19 @@ abbrev pub pair_cmp : ℕ × ℕ → ℕ × ℕ → Ordering
 pair_cmp a b = ordering_then (nat_cmp a.0 b.0) (nat_cmp a.1 b.1)
 
 -- the set has the item, as its change and its patch set
-abbrev pub IsFound : BTreeSet (ℕ × ℕ) → Item → Type 0
-IsFound found item = IsTrue (contains pair_cmp found (item.change, item.set))
+abbrev pub IsFoundItem : BTreeSet (ℕ × ℕ) → Item → Type 0
+IsFoundItem found item = IsTrue (contains pair_cmp found (item.change, item.set))
 
 -- the item is found or ahead
 abbrev pub IsSeen : BTreeSet (ℕ × ℕ) → List Item → Item → Type 0
-IsSeen found ahead item = IsFound found item ⊎ Contains ahead item
+IsSeen found ahead item = IsFoundItem found item ⊎ Contains ahead item
 
 -- only items of the state are found or ahead; the first ones are, and so is the end of each edge of an item that is
 -- found
 pub record IsClosing (gate : GateRules) (state : State) (first : List Item) (found : BTreeSet (ℕ × ℕ)) (ahead : List Item) : Type 0 where
   pub items : (item : Item) → IsSeen found ahead item → IsItem state item
   pub has : (item : Item) → Contains first item → IsSeen found ahead item
-  pub held : (item other : Item) → IsFound found item → IsDependency gate state item other → IsSeen found ahead other
+  pub held : (item other : Item) → IsFoundItem found item → IsDependency gate state item other → IsSeen found ahead other
 
 -- what was ahead is ahead, and so is the current item of each of the changes; what else is ahead is an item of the
 -- state
@@ -42,6 +42,6 @@ pub record AddsEnds (gate : GateRules) (state : State) (item : Item) (old new : 
   pub items : (other : Item) → Contains new other → Contains old other ⊎ IsItem state other
 
 -- the item is found besides, and the ends of its edges are put ahead, where it wasn't found before
-pub record Finds (gate : GateRules) (state : State) (item : Item) (old : BTreeSet (ℕ × ℕ)) (before : List Item) (new : BTreeSet (ℕ × ℕ)) (now : List Item) : Type 0 where
-  pub found : (other : Item) → IsFound new other ↔ (IsFound old other ⊎ (other ≡ item))
-  pub ahead : (IsFound old item × (now ≡ before)) ⊎ AddsEnds gate state item before now
+pub record FindsItem (gate : GateRules) (state : State) (item : Item) (old : BTreeSet (ℕ × ℕ)) (before : List Item) (new : BTreeSet (ℕ × ℕ)) (now : List Item) : Type 0 where
+  pub found : (other : Item) → IsFoundItem new other ↔ (IsFoundItem old other ⊎ (other ≡ item))
+  pub ahead : (IsFoundItem old item × (now ≡ before)) ⊎ AddsEnds gate state item before now

@@ -14,7 +14,7 @@ abbrev pub AreNamers : {Z : Type 0} → BTreeMap ℕ (Vec Item Z) → List Item 
 AreNamers namers items rows = (number : ℕ) → items_at (get nat_cmp namers number) ≡ namers_of items rows number
 
 -- what a graph keeps: as many rows and flags as items, the items in order, and who waits for each change
-pub record IsKept {Z : Type 0} (items : List Item) (targets ends : List (List ℕ)) (on_cycle : List Bool) (namers : BTreeMap ℕ (Vec Item Z)) : Type 0 where
+pub record KeepsGraph {Z : Type 0} (items : List Item) (targets ends : List (List ℕ)) (on_cycle : List Bool) (namers : BTreeMap ℕ (Vec Item Z)) : Type 0 where
   pub in_order : IsStrictlySortedBy item_cmp items
   pub rows : length targets ≡ length items
   pub nodes : length ends ≡ length items

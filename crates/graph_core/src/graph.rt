@@ -29,7 +29,7 @@ pub struct Graph {
 impl Model for Graph {
     ghost use Rattle.std.specs.Prelude.{map};
     ghost use Rattle.graph_core.specs.ItemGraph.{ItemGraph};
-    ghost use Rattle.graph_core.specs.Kept.{IsKept};
+    ghost use Rattle.graph_core.specs.Kept.{KeepsGraph};
 
     ghost Value = { ItemGraph };
 
@@ -40,7 +40,7 @@ impl Model for Graph {
       on_cycle = graph.on_cycle.items;
     } };
 
-    ghost invariant = { λ graph. IsKept graph.items.items (map (λ row. row.items) graph.targets.items) graph.digraph
+    ghost invariant = { λ graph. KeepsGraph graph.items.items (map (λ row. row.items) graph.targets.items) graph.digraph
         graph.on_cycle.items graph.namers };
 }
 

@@ -4,7 +4,7 @@ ghost use Rattle.std.specs.Prelude.{◌≡◌, ◌↔◌, ℕ, IfOk, IfSome, OnO
 ghost use Rattle.std.specs.List.Sorted.{IsStrictlySortedBy};
 ghost use Rattle.state_core.specs.Items.{IsCurrentItem, IsItem, item_cmp};
 ghost use Rattle.state_core.specs.declared.item.Item.{Item};
-ghost use Rattle.graph_core.specs.Closure.{AddsCurrent, AddsEnds, Finds, IsFound};
+ghost use Rattle.graph_core.specs.Closure.{AddsCurrent, AddsEnds, FindsItem, IsFoundItem};
 ghost use Rattle.graph_core.specs.ItemGraph.{ArePart};
 
 use super::items::items_of;
@@ -42,7 +42,7 @@ pub fn part_with(
     items_of(alloc, state)
 }
 
-/// Finds an item, and puts what it waits for ahead where it wasn't found before.
+/// FindsItem an item, and puts what it waits for ahead where it wasn't found before.
 fn find_item(
     alloc: Global,
     gate: &Gate,
@@ -52,7 +52,7 @@ fn find_item(
     ahead: &mut Vec<Item>,
 ) -> Result<(), NoMemory>
     requires { IsItem state.now item }
-    ensures { OnOk result (Finds gate.now state.now item found.old ahead.old.items found.new ahead.new.items) }
+    ensures { OnOk result (FindsItem gate.now state.now item found.old ahead.old.items found.new ahead.new.items) }
 {
     if !found.insert((item.change, item.set))? {
         return Ok(());
@@ -104,7 +104,7 @@ fn current_item(state: &State, number: u32) -> Option<Item>
 /// The items of a set, in order.
 fn listed(alloc: Global, found: &BTreeSet<(u32, u32)>) -> Result<Vec<Item>, NoMemory>
     ensures in_order { IfOk result (λ items. IsStrictlySortedBy item_cmp items.items) }
-    ensures each { IfOk result (λ items. (item : Item) → Contains items.items item ↔ IsFound found.now item) }
+    ensures each { IfOk result (λ items. (item : Item) → Contains items.items item ↔ IsFoundItem found.now item) }
 {
     let mut items = Vec::with_capacity(alloc, found.len())?;
     for (change, set) in found {

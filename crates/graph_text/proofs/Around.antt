@@ -16,7 +16,7 @@ use Rattle.graph_core.specs.ItemGraph.{AreItems, ItemGraph, IsAt, IsGraphOf}
 use Rattle.graph_core.specs.WalkLaws.{Leads-items, Leads-places}
 use Rattle.lattice_core.specs.PlaceLaws.{Contains-at, at_Contains, at_below, one_item, one_place}
 use Rattle.walk_core.specs.Reach.{AreLeading, AreReached}
-use Rattle.graph_text.specs.Drawing.{IsAhead, IsBehind}
+use Rattle.graph_text.specs.Drawing.{IsAhead, IsDrawnBehind}
 use Rattle.graph_text.specs.Near.{AreAhead, AreBehind, is_of}
 
 one_flag : (b : Bool) → Some b ≡ Some true → b ≡ true
@@ -84,7 +84,7 @@ module _ (gate : GateRules) (state : State) (graph : ItemGraph) (is : IsGraphOf 
     )
 
     behind_of : (flags : List Bool) → AreLeading graph.ends own flags → (place : ℕ) (item : Item)
-        → IsAt graph.items place item → IsMarked flags place ↔ IsBehind gate state (Some number) item
+        → IsAt graph.items place item → IsMarked flags place ↔ IsDrawnBehind gate state (Some number) item
     behind_of flags lead place item here = (
       λ marked.
           let leads = (lead.each place).0 marked in (
@@ -107,6 +107,6 @@ module _ (gate : GateRules) (state : State) (graph : ItemGraph) (is : IsGraphOf 
   ahead_at (Some number) flags reach place item here = ahead_of number flags reach place item here
 
   pub behind_at : (around : Option ℕ) (flags : List Bool) → AreBehind graph around flags → (place : ℕ) (item : Item)
-      → IsAt graph.items place item → IsMarked flags place ↔ IsBehind gate state around item
+      → IsAt graph.items place item → IsMarked flags place ↔ IsDrawnBehind gate state around item
   behind_at None flags all place item here = (λ marked. tt, λ behind. all_marked flags (length graph.items) place all (slice_get_within graph.items place item here))
   behind_at (Some number) flags lead place item here = behind_of number flags lead place item here

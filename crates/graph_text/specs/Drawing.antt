@@ -25,16 +25,16 @@ IsAhead gate state (Some number) item =
     (from : Item) × IsItem state from × (from.change ≡ number) × LeadsTo (IsDependency gate state) from item
 
 -- the item leads to one of the change, over some edges or none; around no change all items are so
-abbrev pub IsBehind : GateRules → State → Option ℕ → Item → Type 0
-IsBehind gate state None item = Unit {0}
-IsBehind gate state (Some number) item =
+abbrev pub IsDrawnBehind : GateRules → State → Option ℕ → Item → Type 0
+IsDrawnBehind gate state None item = Unit {0}
+IsDrawnBehind gate state (Some number) item =
     (n : ℕ) × Leads (IsDependency gate state) (λ other. other.change ≡ number) n item
 
 -- an item of the state is drawn where its change isn't merged, and it is ahead of the change or behind it
 pub record IsDrawn (gate : GateRules) (state : State) (around : Option ℕ) (item : Item) : Type 0 where
   pub there : IsItem state item
   pub open_still : ¬ IsMerged state item.change
-  pub near : IsAhead gate state around item ⊎ IsBehind gate state around item
+  pub near : IsAhead gate state around item ⊎ IsDrawnBehind gate state around item
 
 -- ---- what is drawn of an item
 

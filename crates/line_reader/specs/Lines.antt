@@ -5,6 +5,10 @@ use Rattle.byte_ends.specs.Lines.{as_line, without_cr}
 use Rattle.byte_ends.specs.declared.faults.BytesFault.{BytesFault}
 use Rattle.byte_ends.specs.declared.faults.BytesFault.TheVariants.{TooLong, ReadFault, NoMemory}
 
+-- the most bytes of a line of a session, of a journal and of what a site answers, without its line end
+abbrev pub line_limit : ℕ
+line_limit = 524288
+
 abbrev pub HasNoLf : List ℕ → Type 0
 HasNoLf bytes = All (λ byte. byte ≢ 10) bytes
 
@@ -46,10 +50,10 @@ Hands old came (Err ReadFault) new = new.held ≡ old.held ++ came
 Hands old came (Err NoMemory) new = new.held ≡ old.held ++ came
 
 -- what a call that passes over a line answers, by what was held before and after, where it reads these bytes
-abbrev pub Passes : List ℕ → List ℕ → Result Bool BytesFault → List ℕ → Type 0
-Passes old came (Ok true) new = (piece : List ℕ) × HasNoLf piece × (old ++ came ≡ as_line piece ++ new)
-Passes old came (Ok false) new = HasNoLf (old ++ came) × (new ≡ [])
-Passes old came (Err fault) new = HasNoLf (old ++ came) × (new ≡ [])
+abbrev pub PassesLine : List ℕ → List ℕ → Result Bool BytesFault → List ℕ → Type 0
+PassesLine old came (Ok true) new = (piece : List ℕ) × HasNoLf piece × (old ++ came ≡ as_line piece ++ new)
+PassesLine old came (Ok false) new = HasNoLf (old ++ came) × (new ≡ [])
+PassesLine old came (Err fault) new = HasNoLf (old ++ came) × (new ≡ [])
 
 -- the same where nothing is read
 abbrev pub PassesHeld : List ℕ → Bool → List ℕ → Type 0

@@ -5,7 +5,7 @@ ghost use Rattle.std.specs.Prelude.{MatchOption};
 ghost use Rattle.std.specs.Io.KnownBytes.{Consumes, IsAtEnd, Keeps};
 ghost use Rattle.byte_ends.specs.ReadAll.{CountsRead};
 ghost use Rattle.byte_ends.specs.Lines.{without_cr};
-ghost use Rattle.line_reader.specs.Lines.{HasNoLf, HasFirstLf, Hands, Passes, PassesHeld};
+ghost use Rattle.line_reader.specs.Lines.{HasNoLf, HasFirstLf, Hands, PassesLine, PassesHeld};
 
 use byte_ends::{BytesFault, Source};
 use lattice_core::NoMemory;
@@ -75,13 +75,13 @@ impl<A: Allocator + Copy> LineReader<A> {
         self.read_line(source)
     }
 
-    /// Passes over what comes up to the next LF, as the rest of a line that is too long, and says whether there was an
+    /// PassesLine over what comes up to the next LF, as the rest of a line that is too long, and says whether there was an
     /// LF: where not, the source is at its end. What was passed over isn't held: beside what was held before a block of
     /// the source is held at most. Refusals: 6 `TooLong`, no LF was among 2^64 - 1 blocks; 7 `ReadFault`, the source
     /// failed; 8 `NoMemory`. What was read until then is passed over. It costs O(n) for n bytes.
     pub fn pass_over<S: Source>(&mut self, source: &mut S) -> Result<bool, BytesFault>
         ensures passes { (came : List ℕ) × Consumes (S.left source.old) (S.left source.new) came
-            × Passes self.old.held came result self.new.held }
+            × PassesLine self.old.held came result self.new.held }
         ensures end { result ≡ Ok false → IsAtEnd (S.left source.new) }
         ensures limit { self.new.limit ≡ self.old.limit }
         ensures counted { CountsRead (S.failed source.old) (S.failed source.new) result }

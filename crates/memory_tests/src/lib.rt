@@ -9,6 +9,8 @@ mod chunks;
 #[cfg(test)]
 mod footers;
 #[cfg(test)]
+mod join_lists;
+#[cfg(test)]
 mod lattices;
 #[cfg(test)]
 mod lines;

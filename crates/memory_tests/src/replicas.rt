@@ -1,8 +1,8 @@
 //! Replicas: what they take, absorb, copy and show.
 
 use super::operations::{Deed, op_of};
-use super::turns::{Call, Memory, Seen, assert_each};
-use replica_core::{Front, Missing, Partly, Replica, Row};
+use super::turns::{Call, Memory, Seen, assert_each, assert_none};
+use replica_core::{Front, Gathering, Missing, Partly, Replica, Row};
 use review_ops::Op;
 use std::alloc::Allocator;
 
@@ -86,6 +86,107 @@ fn taken<'a>(
         refused,
         stated,
         whole: is_taken && has_first(memory, &replica, after),
+    }
+}
+
+/// An operation that a gathering takes after those before it, the first of which its replica had.
+#[derive(Clone, Copy)]
+struct Gathers(usize);
+
+impl Call for Gathers {
+    fn seen(self, memory: &Memory, granted: u32) -> Option<Seen> {
+        let op = next_op(memory, self.0)?;
+        let gathering = gathering_of(memory, self.0)?;
+        Some(gathered(memory, gathering, op, self.0, granted))
+    }
+}
+
+/// Whether memory sufficed for the gathering to take the operation after the first `count` ones.
+fn gather<A: Allocator + Copy>(alloc: A, gathering: &mut Gathering<A>, count: usize) -> bool {
+    next_op(alloc, count).is_some_and(|op| gathering.take(op).is_ok())
+}
+
+/// The gathering that took the first `count` operations.
+fn gathering_of<A: Allocator + Copy>(alloc: A, count: usize) -> Option<Gathering<A>> {
+    let had = count.min(1);
+    let mut gathering = Gathering::onto(replica_of(alloc, had)?);
+    let mut is_taken = true;
+    for place in had..count {
+        is_taken = is_taken && gather(alloc, &mut gathering, place);
+    }
+    if is_taken { Some(gathering) } else { None }
+}
+
+/// Whether what was gathered is joined to the replica of the first `count` operations.
+fn is_joined<A: Allocator + Copy>(alloc: A, gathering: Gathering<A>, count: usize) -> bool {
+    match gathering.joined() {
+        Ok(replica) => has_first(alloc, &replica, count),
+        Err(_) => false,
+    }
+}
+
+/// What is seen where the gathering of the first `count` operations takes the next one.
+fn gathered<'a>(
+    memory: &'a Memory,
+    mut gathering: Gathering<&'a Memory>,
+    op: Op<&'a Memory>,
+    count: usize,
+    granted: u32,
+) -> Seen {
+    let after = count.saturating_add(1);
+    memory.refuse_after(granted);
+    let failed = gathering.take(op).is_err();
+    let refused = memory.grant_all();
+    let stated = gathering.len() == if failed { count } else { after };
+    let is_taken = gather(memory, &mut gathering, count);
+    Seen {
+        failed,
+        refused,
+        stated,
+        whole: is_taken && is_joined(memory, gathering, after),
+    }
+}
+
+/// The first operations, gathered, whose effects are joined.
+#[derive(Clone, Copy)]
+struct Joins(usize);
+
+impl Call for Joins {
+    fn seen(self, memory: &Memory, granted: u32) -> Option<Seen> {
+        let gathering = gathering_of(memory, self.0)?;
+        let again = gathering_of(memory, self.0)?;
+        Some(joined(memory, gathering, again, self.0, granted))
+    }
+}
+
+/// What is seen where what was gathered of the first `count` operations is joined, and what was gathered again.
+fn joined<'a>(
+    memory: &'a Memory,
+    gathering: Gathering<&'a Memory>,
+    again: Gathering<&'a Memory>,
+    count: usize,
+    granted: u32,
+) -> Seen {
+    memory.refuse_after(granted);
+    let replica = gathering.joined().ok();
+    let refused = memory.grant_all();
+    Seen {
+        failed: replica.is_none(),
+        refused,
+        stated: has_first_if_any(memory, &replica, count),
+        whole: is_joined(memory, again, count),
+    }
+}
+
+/// Whether a replica, where there is one, has just the first `count` operations, in their order, and their state.
+fn has_first_if_any<A: Allocator + Copy>(
+    alloc: A,
+    replica: &Option<Replica<A>>,
+    count: usize,
+) -> bool {
+    match replica {
+        Some(replica) => has_first(alloc, replica, count),
+        None => true,
     }
 }
 
@@ -249,6 +350,20 @@ fn a_refused_take_changes_nothing(rt: HostRuntime) {
     assert_each(&rt, rt.alloc(), Takes(0), 4);
     assert_each(&rt, rt.alloc(), Takes(1), 3);
     assert_each(&rt, rt.alloc(), Takes(3), 0);
+}
+
+#[test]
+fn a_refused_gathering_is_what_it_was(rt: HostRuntime) {
+    assert_each(&rt, rt.alloc(), Gathers(0), 3);
+    assert_each(&rt, rt.alloc(), Gathers(1), 0);
+    assert_each(&rt, rt.alloc(), Gathers(3), 0);
+}
+
+#[test]
+fn what_was_gathered_is_joined_whole_or_not_at_all(rt: HostRuntime) {
+    assert_none(&rt, rt.alloc(), Joins(0));
+    assert_none(&rt, rt.alloc(), Joins(1));
+    assert_each(&rt, rt.alloc(), Joins(4), 3);
 }
 
 #[test]

@@ -20,7 +20,7 @@ use Rattle.serde_json.specs.View.{view, items_view}
 use Rattle.serde_json.specs.declared.value.Value.{Value}
 use Rattle.replica_core.specs.declared.front.Row.{Row}
 use Rattle.replica_core.specs.Clock.{greatest}
-use Rattle.replica_core.specs.Front.{Reaches, row_order, rows_exact, reach_of, raised, AreReached}
+use Rattle.replica_core.specs.Front.{Reaches, row_order, rows_exact, reach_of, raised, AreFromOneOn}
 use Rattle.replica_core.specs.FrontLaws.{AreReached-empty, AreReached-raised, reach_of-raised, rows_alike}
 use Rattle.lattice_core.specs.Exact.{same_by_test}
 use Rattle.op_text.specs.declared.fault.OpTextFault.{OpTextFault}
@@ -45,7 +45,7 @@ pub SayFront-empty : (front : Reaches) → front ≡ empty → SayFront [] front
 SayFront-empty front is = record {
   reaches = λ site start. ap (λ found. unwrap_or found 0)
       (ap (λ f. get f (site, start)) is ∙ get-empty row_order (site, start));
-  reached = subst AreReached (sym is) AreReached-empty;
+  reached = subst AreFromOneOn (sym is) AreReached-empty;
 }
 
 one_count : (entry : Entry) (same : Bool) (reach : ℕ)
@@ -76,7 +76,7 @@ SayFront-push entries entry front grown say grown_is = record {
       ∙ reach_of-raised front entry.0 entry.1 entry.2 site start
       ∙ ap (λ reach. cond (of_row site start entry) (max reach entry.2) reach) (say.reaches site start)
       ∙ sym (greatest-push entries entry site start);
-  reached = subst AreReached (sym grown_is) (AreReached-raised front entry.0 entry.1 entry.2 say.reached);
+  reached = subst AreFromOneOn (sym grown_is) (AreReached-raised front entry.0 entry.1 entry.2 say.reached);
 }
 
 -- ---- reading
@@ -118,7 +118,7 @@ found_counts site start (row ∷ rows) sorted =
     ] refl
     ∙ ap (λ t. greatest (map (λ (e : Entry). e.2) (cond t (entry_of row ∷ filter (of_row site start) (map entry_of rows)) (filter (of_row site start) (map entry_of rows))))) (rows_alike row.0.0 row.0.1 site start)
 
-pub rows_say : (front : Reaches) → AreReached front → SayFront (entries_of front) front
+pub rows_say : (front : Reaches) → AreFromOneOn front → SayFront (entries_of front) front
 rows_say front reached = record {
   reaches = λ site start. ap (λ found. unwrap_or found 0) (get-entries front (site, start))
       ∙ found_counts site start (entries front) (entries_sorted front);
@@ -192,7 +192,7 @@ module _ (front : Reaches) (values : List Value) (rest : List (Row × ℕ)) (tex
       let shown : whole ≡ array (entries_data (entries_of front)) = whole_is ∙ ap array (is.shown ∙ ap entries_data (all_written front values rest none is)) in
       writes (ap has_float shown ∙ no_floats (entries_of front)) ∙ ap compact_text shown
 
-  pub written_spells : AreReached front → IsUtf8 text → (depth whole ≤ max_depth → read text ≡ Some whole)
+  pub written_spells : AreFromOneOn front → IsUtf8 text → (depth whole ≤ max_depth → read text ≡ Some whole)
       → SpellsFront text front
   written_spells reached utf8 reads =
       let shallow : items_depth (entries_data is.done) ≤ 1 = flat is.done in

@@ -6,7 +6,10 @@ pub mod Taken
 pub mod Once
 pub mod Written
 pub mod Found
+pub mod Fitting
 pub mod Spelled
+pub mod Pieces
+pub mod KindTexts
 pub mod Fronts
 pub mod Lines
 pub mod FrontTexts

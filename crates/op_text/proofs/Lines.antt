@@ -1,17 +1,16 @@
 -- Written texts are of one line, and spell what they were written for.
 use Rattle.std.proofs.Common.{◌≡◌, ℕ, ℤ, ◌+◌, ◌/◌, ◌%◌, ◌^◌, ◌<◌, ◌≤◌, zero, suc, pos, negsuc, List, [], ◌∷◌, ◌++◌}
-use Rattle.std.proofs.Common.{Bool, true, false, cond, ltb, Option, Some, None, IfSome, option_map, decimal, length}
-use Rattle.std.proofs.Common.{⊎_elim, refl, sym, ap, ◌∙◌, arith, rules}
-use Rattle.std.proofs.lemmas.Bool.{cases_lt, ltb-true, ltb-false}
+use Rattle.std.proofs.Common.{Bool, true, false, cond, ltb, Option, Some, None, IfSome, option_map, decimal}
+use Rattle.std.proofs.Common.{refl, sym, ap, ◌∙◌, subst, arith, rules}
+use Rattle.std.proofs.lemmas.Bool.{ltb-true, ltb-false}
 use Rattle.std.proofs.lemmas.Bool.Decides.{nat_tests}
 use Rattle.std.proofs.lemmas.Fmt.{decimal_by_steps}
 use Rattle.std.proofs.lemmas.List.Elements.{All-from_recursion}
-use Rattle.std.proofs.lemmas.List.{get_or_past}
 use Rattle.std.proofs.lemmas.Str.{IsUtf8-append, IsUtf8-from_ascii, IsUtf8-nil}
-use Rattle.std.specs.Char.{digit_char, is_ascii_graphic}
+use Rattle.std.specs.Char.{digit_char}
 use Rattle.std.specs.Int.{w8}
 use Rattle.std.specs.List.{AllByRecursion}
-use Rattle.std.specs.Prelude.{FitsSigned, IsUtf8, All, IsTrue, slice_index}
+use Rattle.std.specs.Prelude.{FitsSigned, IsUtf8, slice_index}
 use Rattle.json.specs.Print.{escape_byte, escape_letter, escape, quoted}
 use Rattle.json.specs.Lex.{tokens}
 use Rattle.json.specs.Tree as tree
@@ -24,8 +23,8 @@ use Rattle.serde_json.specs.Find.{of_integer}
 use Rattle.serde_json.specs.Written.{outline, members_outline, compact_text, members_text, comma_if}
 use Rattle.serde_json.proofs.Texts.{print-outline}
 use Rattle.review_ops.specs.Timestamp.{Timestamp, IsNumbered}
-use Rattle.review_ops.specs.Deed.{Deed, change_of, set_of, message_of, parent_of, label_of, voter_of, value_of}
-use Rattle.review_ops.specs.Good.{IsGood, IsNumber, IsKeptLabel, IsVoter, IsMessage, is_label_byte}
+use Rattle.review_ops.specs.Deed.{Deed, kept_deed, change_of, set_of, message_of, parent_of, label_of, voter_of, value_of}
+use Rattle.review_ops.specs.Good.{IsGood, IsFaultless, IsFaultless-IsGood, kept_deed-IsGood}
 use Rattle.review_ops.specs.Operation.{Operation}
 use Rattle.op_text.specs.declared.field.Field.{Field}
 use Rattle.op_text.specs.declared.field.Field.TheVariants.{Change, Label, Message, Op, Parent, Seq, Set, Site, Start}
@@ -33,10 +32,12 @@ use Rattle.op_text.specs.declared.field.Field.TheVariants.{Time, Value, Voter}
 use Rattle.op_text.specs.declared.field.Kind.{Kind}
 use Rattle.op_text.specs.declared.field.Kind.TheVariants.{PatchSet, Vote, Withdraw, Abandon, Restore, Merged}
 use Rattle.op_text.specs.Field.{key_of, name_of}
-use Rattle.op_text.specs.Spelling.{kind_of, SpellsBody, SpellsOperation}
-use Rattle.op_text.specs.Text.{whole, data_of, all_fields, with_member, members_over, members_of, body_text}
+use Rattle.op_text.specs.Spelling.{kind_of, SpellsDeed, SpellsBody, SpellsParts, SpellsOperation}
+use Rattle.op_text.specs.Text.{form_of, whole, data_of, all_fields, with_member, members_over, members_of, body_text}
 use Rattle.op_text.specs.Text.{operation_text, IsOneLine}
-use Rattle.op_text.proofs.Spelled.{body_spelled, operation_spelled}
+use Rattle.op_text.proofs.Spelled.{spells_written, holds_written}
+use Rattle.op_text.proofs.Fitting.{FitsText-IsGood}
+use Rattle.op_text.specs.Canonical.{written_text, FitsText}
 
 abbrev pub ArePlain : List ℕ → Type 0
 ArePlain = AllByRecursion (λ byte. 32 ≤ byte)
@@ -176,18 +177,6 @@ name_utf8 Abandon = IsUtf8-are_ascii (name_of Abandon) refl
 name_utf8 Restore = IsUtf8-are_ascii (name_of Restore) refl
 name_utf8 Merged = IsUtf8-are_ascii (name_of Merged) refl
 
-ascii_text : (test : ℕ → Bool) → ((byte : ℕ) → IsTrue (test byte) → byte < 128) → (text : List ℕ)
-    → All (λ byte. IsTrue (test byte)) text → IsUtf8 text
-ascii_text test low text all = IsUtf8-from_ascii text (λ i.
-    ⊎_elim (λ within. low (slice_index text i) (all i 0 within)) (λ past. rw (get_or_past text i 0 past) (omega arith))
-    (cases_lt i (length text)))
-
-label_utf8 : (text : List ℕ) → IsKeptLabel text → IsUtf8 text
-label_utf8 text h = ascii_text is_label_byte (λ byte is. grind (arith, nat_tests)) text h.label.letters
-
-voter_utf8 : (text : List ℕ) → IsVoter text → IsUtf8 text
-voter_utf8 text h = ascii_text is_ascii_graphic (λ byte is. grind (arith, nat_tests)) text h.visible
-
 printable_with : (key : List ℕ) (o : Option Data) (rest : Members) → IsUtf8 key → IfSome o Printable
     → HavePrintable rest → HavePrintable (with_member key o rest)
 printable_with key None rest named h later = later
@@ -204,20 +193,18 @@ IfSome-map : {A B : Type 0} (f : A → B) (P : A → Type 0) (Q : B → Type 0) 
 IfSome-map f P Q g None h = tt
 IfSome-map f P Q g (Some x) h = g x h
 
-printable_number : (n : ℕ) → IsNumber n → Printable (whole n)
-printable_number n h = printable_whole n (omega (arith, h.fits))
+printable_number : (n : ℕ) → n < 2 ^ 32 → Printable (whole n)
+printable_number n h = printable_whole n (omega (arith, h))
 
-module _ (stamp : Option Timestamp) (deed : Deed) (numbered : IfSome stamp IsNumbered) (good : IsGood deed) where
+module _ (stamp : Option Timestamp) (deed : Deed) (numbered : IfSome stamp IsNumbered) (fits : FitsText deed) where
   printable : (f : Field) → IfSome (data_of stamp deed f) Printable
-  printable Change = printable_number (change_of deed) good.change
-  printable Label = IfSome-map string IsKeptLabel Printable (λ text h. printable_text text (label_utf8 text h))
-      (label_of deed) good.label
-  printable Message =
-      IfSome-map string IsMessage Printable (λ text h. printable_text text h.utf8) (message_of deed) good.message
+  printable Change = printable_number (change_of deed) fits.change
+  printable Label = IfSome-map string IsUtf8 Printable printable_text (label_of deed) fits.label
+  printable Message = IfSome-map string IsUtf8 Printable printable_text (message_of deed) fits.message
   printable Op = printable_text (name_of (kind_of deed)) (name_utf8 (kind_of deed))
-  printable Parent = IfSome-map whole IsNumber Printable printable_number (parent_of deed) good.parent
+  printable Parent = IfSome-map whole (λ n. n < 2 ^ 32) Printable printable_number (parent_of deed) fits.parent
   printable Seq = IfSome-map (λ t. whole t.seq) IsNumbered Printable (λ t h. printable_whole t.seq h.seq) stamp numbered
-  printable Set = IfSome-map whole IsNumber Printable printable_number (set_of deed) good.set
+  printable Set = IfSome-map whole (λ n. n < 2 ^ 32) Printable printable_number (set_of deed) fits.set
   printable Site = IfSome-map (λ t. whole t.site) IsNumbered Printable
       (λ t h. printable_whole t.site (omega (arith, h.site))) stamp numbered
   printable Start = IfSome-map (λ t. whole t.start) IsNumbered Printable
@@ -225,9 +212,8 @@ module _ (stamp : Option Timestamp) (deed : Deed) (numbered : IfSome stamp IsNum
   printable Time =
       IfSome-map (λ t. whole t.time) IsNumbered Printable (λ t h. printable_whole t.time h.time) stamp numbered
   printable Value =
-      IfSome-map (λ z. number (of_integer z)) (FitsSigned w8) Printable printable_integer (value_of deed) good.value
-  printable Voter =
-      IfSome-map string IsVoter Printable (λ text h. printable_text text (voter_utf8 text h)) (voter_of deed) good.voter
+      IfSome-map (λ z. number (of_integer z)) (FitsSigned w8) Printable printable_integer (value_of deed) fits.value
+  printable Voter = IfSome-map string IsUtf8 Printable printable_text (voter_of deed) fits.voter
 
   held_printable : HavePrintable (members_of stamp deed)
   held_printable = printable_over (data_of stamp deed) printable all_fields
@@ -240,24 +226,65 @@ module _ (stamp : Option Timestamp) (deed : Deed) (numbered : IfSome stamp IsNum
         (object_plain (members_of stamp deed) held_printable);
   }
 
+-- what is written for a deed spells it, also one that isn't good
+pub written_text_spells : (stamp : Option Timestamp) (deed : Deed) → IfSome stamp IsNumbered → FitsText deed
+    → SpellsDeed (form_of stamp) (written_text stamp deed) (members_of stamp deed) deed
+unfolding written_text
+written_text_spells stamp deed numbered fits =
+    let held = held_printable stamp deed numbered fits in
+    spells_written stamp deed numbered fits _ (object_lexed (members_of stamp deed) held)
+    (object_utf8 (members_of stamp deed) held)
+
 pub operation_one_line : (op : Operation) → IsNumbered op.stamp → IsGood op.deed → IsOneLine (operation_text op)
 unfolding operation_text
-operation_one_line op numbered good = one_line (Some op.stamp) op.deed numbered good
+operation_one_line op numbered good = one_line (Some op.stamp) op.deed numbered (FitsText-IsGood op.deed good)
 
 pub operation_text_spells : (op : Operation) → IsNumbered op.stamp → IsGood op.deed
     → SpellsOperation (operation_text op) op
-unfolding operation_text
-operation_text_spells op numbered good =
-    let held = held_printable (Some op.stamp) op.deed numbered good in
-    operation_spelled op numbered good _ (object_lexed (members_of (Some op.stamp) op.deed) held)
-    (object_utf8 (members_of (Some op.stamp) op.deed) held)
+unfolding operation_text written_text
+operation_text_spells op numbered good = record {
+  members = members_of (Some op.stamp) op.deed;
+  deed = op.deed;
+  spells = written_text_spells (Some op.stamp) op.deed numbered (FitsText-IsGood op.deed good);
+  stamp = holds_written op.stamp op.deed;
+  faultless = IsFaultless-IsGood op.deed good;
+  kept = sym (kept_deed-IsGood op.deed good);
+}
 
 pub body_one_line : (deed : Deed) → IsGood deed → IsOneLine (body_text deed)
 unfolding body_text
-body_one_line deed good = one_line None deed tt good
+body_one_line deed good = one_line None deed tt (FitsText-IsGood deed good)
 
 pub body_text_spells : (deed : Deed) → IsGood deed → SpellsBody (body_text deed) deed
-unfolding body_text
-body_text_spells deed good =
-    let held = held_printable None deed tt good in
-    body_spelled deed good _ (object_lexed (members_of None deed) held) (object_utf8 (members_of None deed) held)
+unfolding body_text written_text
+body_text_spells deed good = (members_of None deed, written_text_spells None deed tt (FitsText-IsGood deed good))
+
+-- ---- texts that are as they are written
+
+pub canonical_body : (text : List ℕ) (deed : Deed) → text ≡ written_text None deed → FitsText deed
+    → SpellsBody text deed
+canonical_body text deed is fits = (
+  members_of None deed,
+  subst (λ bytes. SpellsDeed (form_of None) bytes (members_of None deed) deed) (sym is) (written_text_spells None deed tt fits),
+)
+
+pub canonical_parts : (text : List ℕ) (stamp : Timestamp) (deed : Deed) → text ≡ written_text (Some stamp) deed
+    → IsNumbered stamp → FitsText deed → SpellsParts text stamp deed
+canonical_parts text stamp deed is numbered fits = (
+  members_of (Some stamp) deed,
+  subst (λ bytes. SpellsDeed (form_of (Some stamp)) bytes (members_of (Some stamp) deed) deed) (sym is) (written_text_spells (Some stamp) deed numbered fits),
+  holds_written stamp deed,
+)
+
+-- ---- an operation of parts that are spelled
+
+pub parts_spell : (text : List ℕ) (stamp : Timestamp) (deed : Deed) (op : Operation) → SpellsParts text stamp deed
+    → IsFaultless deed → op ≡ record { stamp = stamp; deed = kept_deed deed } → SpellsOperation text op
+parts_spell text stamp deed op parts faultless is = subst (SpellsOperation text) (sym is) (record {
+  members = parts.0;
+  deed = deed;
+  spells = parts.1;
+  stamp = parts.2;
+  faultless = faultless;
+  kept = refl;
+})

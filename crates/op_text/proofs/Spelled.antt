@@ -1,6 +1,6 @@
 -- The written text of a good body, or of an operation, spells it.
 use Rattle.std.proofs.Common.{◌≡◌, ℕ, ℤ, ◌^◌, ◌<◌, ◌≤◌, pos, negsuc, List, [], ◌∷◌, true, ◌&&◌, cond, Option, Some}
-use Rattle.std.proofs.Common.{None, IfSome, Result, Ok, Err, IfOk, option_map, refl, sym, ap, ◌∙◌, append-nil, arith}
+use Rattle.std.proofs.Common.{None, IfSome, option_map, refl, sym, ap, ◌∙◌, append-nil, arith}
 use Rattle.std.proofs.Common.{rules, le-leb}
 use Rattle.std.proofs.lemmas.Bool.{lt-ltb}
 use Rattle.std.proofs.lemmas.Bool.Decides.{nat_tests}
@@ -9,28 +9,24 @@ use Rattle.std.specs.Int.{w8}
 use Rattle.json.specs.Json as json
 use Rattle.json.specs.Lex.{tokens}
 use Rattle.json.specs.Token.{Token}
-use Rattle.json.specs.Print.{print}
 use Rattle.json.specs.Tree as tree
 use Rattle.serde_json.specs.Data.{Data, number, string, object, Members, no_members, member, put}
 use Rattle.serde_json.specs.Find.{of_integer, as_str}
 use Rattle.serde_json.specs.Read.{read, max_depth, of_json, of_members}
 use Rattle.serde_json.specs.Written.{outline, members_outline}
-use Rattle.serde_json.proofs.Texts.{print-outline}
 use Rattle.serde_json.proofs.Numbers.{number_of-decimal, number_of-negative}
 use Rattle.json.proofs.Printed.Trees.{value-json_tokens}
 use Rattle.review_ops.specs.Timestamp.{Timestamp, IsNumbered}
 use Rattle.review_ops.specs.Deed.{Deed, patch_set, vote, withdraw, abandon, restore, merged, change_of, set_of}
 use Rattle.review_ops.specs.Deed.{message_of, parent_of, label_of, voter_of, value_of}
-use Rattle.review_ops.specs.Good.{IsGood, IsNumber, IsFaultless-IsGood, kept_deed-IsGood}
-use Rattle.review_ops.specs.Operation.{Operation}
 use Rattle.op_text.specs.declared.field.Field.{Field}
 use Rattle.op_text.specs.declared.field.Field.TheVariants.{Change, Label, Message, Op, Parent, Seq, Set, Site, Start}
 use Rattle.op_text.specs.declared.field.Field.TheVariants.{Time, Value, Voter}
 use Rattle.op_text.specs.Field.{key_of, name_of, rule_of, stamp_rule, set_rule, message_rule, parent_rule, vote_rule}
 use Rattle.op_text.specs.Field.{value_rule, obeys, accepts, is_within, is_vote_value, number_in, integer_in}
-use Rattle.op_text.specs.Text.{form_of, whole, data_of, all_fields, with_member, members_over, members_of, body_text}
-use Rattle.op_text.specs.Text.{operation_text}
-use Rattle.op_text.specs.Spelling.{kind_of, SpellsDeed, SpellsBody, SpellsOperation, HoldsStamp}
+use Rattle.op_text.specs.Canonical.{FitsText}
+use Rattle.op_text.specs.Text.{form_of, whole, data_of, all_fields, with_member, members_over, members_of}
+use Rattle.op_text.specs.Spelling.{kind_of, SpellsDeed, HoldsStamp}
 use Rattle.op_text.proofs.Found.{found_at-members_over, only_fields}
 
 -- ---- a value that is read as it was written
@@ -103,18 +99,18 @@ readable_texts : (o : Option (List ℕ)) → IfSome (option_map string o) Readab
 readable_texts None = tt
 readable_texts (Some text) = readable_text text
 
-readable_number : (n : ℕ) → IsNumber n → Readable (whole n)
-readable_number n h = readable_whole n (omega (arith, h.fits))
+readable_number : (n : ℕ) → n < 2 ^ 32 → Readable (whole n)
+readable_number n h = readable_whole n (omega (arith, h))
 
-module _ (stamp : Option Timestamp) (deed : Deed) (numbered : IfSome stamp IsNumbered) (good : IsGood deed) where
+module _ (stamp : Option Timestamp) (deed : Deed) (numbered : IfSome stamp IsNumbered) (fits : FitsText deed) where
   readable : (f : Field) → IfSome (data_of stamp deed f) Readable
-  readable Change = readable_number (change_of deed) good.change
+  readable Change = readable_number (change_of deed) fits.change
   readable Label = readable_texts (label_of deed)
   readable Message = readable_texts (message_of deed)
   readable Op = readable_text (name_of (kind_of deed))
-  readable Parent = IfSome-map whole IsNumber Readable readable_number (parent_of deed) good.parent
+  readable Parent = IfSome-map whole (λ n. n < 2 ^ 32) Readable readable_number (parent_of deed) fits.parent
   readable Seq = IfSome-map (λ t. whole t.seq) IsNumbered Readable (λ t h. readable_whole t.seq h.seq) stamp numbered
-  readable Set = IfSome-map whole IsNumber Readable readable_number (set_of deed) good.set
+  readable Set = IfSome-map whole (λ n. n < 2 ^ 32) Readable readable_number (set_of deed) fits.set
   readable Site = IfSome-map (λ t. whole t.site) IsNumbered Readable
       (λ t h. readable_whole t.site (omega (arith, h.site))) stamp numbered
   readable Start = IfSome-map (λ t. whole t.start) IsNumbered Readable
@@ -122,7 +118,7 @@ module _ (stamp : Option Timestamp) (deed : Deed) (numbered : IfSome stamp IsNum
   readable Time =
       IfSome-map (λ t. whole t.time) IsNumbered Readable (λ t h. readable_whole t.time h.time) stamp numbered
   readable Value =
-      IfSome-map (λ z. number (of_integer z)) (FitsSigned w8) Readable readable_integer (value_of deed) good.value
+      IfSome-map (λ z. number (of_integer z)) (FitsSigned w8) Readable readable_integer (value_of deed) fits.value
   readable Voter = readable_texts (voter_of deed)
 
 -- each key goes last
@@ -147,8 +143,8 @@ in_order (Some stamp) (merged change) = refl
 within_bounds : (low high n : ℕ) → low ≤ n → n ≤ high → is_within low high (Some n) ≡ true
 within_bounds low high n above below = grind (arith, nat_tests)
 
-within32 : (n : ℕ) → IsNumber n → is_within 0 4294967295 (Some n) ≡ true
-within32 n h = within_bounds 0 4294967295 n (omega arith) (omega (arith, h.fits))
+within32 : (n : ℕ) → n < 2 ^ 32 → is_within 0 4294967295 (Some n) ≡ true
+within32 n h = within_bounds 0 4294967295 n (omega arith) (omega (arith, h))
 
 value_within : (z : ℤ) → FitsSigned w8 z → is_vote_value (integer_in (number (of_integer z))) ≡ true
 value_within (pos n) h =
@@ -183,7 +179,7 @@ message_obeys (abandon change) = refl
 message_obeys (restore change) = refl
 message_obeys (merged change) = refl
 
-set_obeys : (deed : Deed) → IfSome (set_of deed) IsNumber
+set_obeys : (deed : Deed) → IfSome (set_of deed) (λ n. n < 2 ^ 32)
     → obeys (set_rule (kind_of deed)) Set (option_map whole (set_of deed)) ≡ true
 set_obeys (patch_set change set message parent) h = within32 set h
 set_obeys (vote change set label voter value) h = within32 set h
@@ -192,7 +188,7 @@ set_obeys (abandon change) h = refl
 set_obeys (restore change) h = refl
 set_obeys (merged change) h = refl
 
-parent_obeys : (deed : Deed) → IfSome (parent_of deed) IsNumber
+parent_obeys : (deed : Deed) → IfSome (parent_of deed) (λ n. n < 2 ^ 32)
     → obeys (parent_rule (kind_of deed)) Parent (option_map whole (parent_of deed)) ≡ true
 parent_obeys (patch_set change set message None) h = refl
 parent_obeys (patch_set change set message (Some parent)) h = within32 parent h
@@ -237,30 +233,30 @@ integers_back (Some (pos n)) h = let small : n < 2 ^ 63 = search (rules, h) in a
     (lt-ltb n (2 ^ 63) small)
 integers_back (Some (negsuc n)) h = refl
 
-module _ (stamp : Option Timestamp) (deed : Deed) (numbered : IfSome stamp IsNumbered) (good : IsGood deed) where
+module _ (stamp : Option Timestamp) (deed : Deed) (numbered : IfSome stamp IsNumbered) (fits : FitsText deed) where
   field_obeys : (f : Field) → obeys (rule_of (form_of stamp) (kind_of deed) f) f (data_of stamp deed f) ≡ true
-  field_obeys Change = within32 (change_of deed) good.change
+  field_obeys Change = within32 (change_of deed) fits.change
   field_obeys Label = label_obeys deed
   field_obeys Message = message_obeys deed
   field_obeys Op = refl
-  field_obeys Parent = parent_obeys deed good.parent
+  field_obeys Parent = parent_obeys deed fits.parent
   field_obeys Seq = stamp_obeys Seq 1 18446744073709551615 (λ t. t.seq) (λ d. refl) stamp
       (IfSome-weaker IsNumbered _ (λ t h. (h.first, omega (arith, h.seq))) stamp numbered)
-  field_obeys Set = set_obeys deed good.set
+  field_obeys Set = set_obeys deed fits.set
   field_obeys Site = stamp_obeys Site 0 65535 (λ t. t.site) (λ d. refl) stamp
       (IfSome-weaker IsNumbered _ (λ t h. (omega arith, omega (arith, h.site))) stamp numbered)
   field_obeys Start = stamp_obeys Start 0 4294967295 (λ t. t.start) (λ d. refl) stamp
       (IfSome-weaker IsNumbered _ (λ t h. (omega arith, omega (arith, h.start))) stamp numbered)
   field_obeys Time = stamp_obeys Time 0 18446744073709551615 (λ t. t.time) (λ d. refl) stamp
       (IfSome-weaker IsNumbered _ (λ t h. (omega arith, omega (arith, h.time))) stamp numbered)
-  field_obeys Value = value_obeys deed good.value
+  field_obeys Value = value_obeys deed fits.value
   field_obeys Voter = voter_obeys deed
 
   pub spells_written : (text : List ℕ) → tokens text ≡ tree.json_tokens (outline (object (members_of stamp deed)))
       → IsUtf8 text → SpellsDeed (form_of stamp) text (members_of stamp deed) deed
   spells_written text lexed utf8 =
       let found = found_at-members_over (data_of stamp deed) in
-      let held = readable_over (data_of stamp deed) (readable stamp deed numbered good) all_fields in
+      let held = readable_over (data_of stamp deed) (readable stamp deed numbered fits) all_fields in
       record {
         object =
             record { utf8 = utf8; value = object_read (members_of stamp deed) text held (in_order stamp deed) lexed };
@@ -276,7 +272,7 @@ module _ (stamp : Option Timestamp) (deed : Deed) (numbered : IfSome stamp IsNum
           parent = ap (option_and_then number_in) (found Parent) ∙ numbers_back (parent_of deed);
           label = ap (option_and_then as_str) (found Label) ∙ texts_back (label_of deed);
           voter = ap (option_and_then as_str) (found Voter) ∙ texts_back (voter_of deed);
-          value = ap (option_and_then integer_in) (found Value) ∙ integers_back (value_of deed) good.value;
+          value = ap (option_and_then integer_in) (found Value) ∙ integers_back (value_of deed) fits.value;
         };
       }
 
@@ -289,34 +285,3 @@ holds_written stamp deed =
       start = ap (option_and_then number_in) (found Start);
       seq = ap (option_and_then number_in) (found Seq);
     }
-
-pub body_spelled : (deed : Deed) → IsGood deed → (text : List ℕ)
-    → tokens text ≡ tree.json_tokens (outline (object (members_of None deed))) → IsUtf8 text → SpellsBody text deed
-body_spelled deed good text lexed utf8 = (members_of None deed, spells_written None deed tt good text lexed utf8)
-
-pub operation_spelled : (op : Operation) → IsNumbered op.stamp → IsGood op.deed → (text : List ℕ)
-    → tokens text ≡ tree.json_tokens (outline (object (members_of (Some op.stamp) op.deed))) → IsUtf8 text
-    → SpellsOperation text op
-operation_spelled op numbered good text lexed utf8 = record {
-  members = members_of (Some op.stamp) op.deed;
-  deed = op.deed;
-  spells = spells_written (Some op.stamp) op.deed numbered good text lexed utf8;
-  stamp = holds_written op.stamp op.deed;
-  faultless = IsFaultless-IsGood op.deed good;
-  kept = sym (kept_deed-IsGood op.deed good);
-}
-
--- two facts of what a call returned
-pub both_facts : {T E : Type 0} (r : Result T E) (P Q R : T → Type 0) → ((x : T) → P x → Q x → R x) → IfOk r P
-    → IfOk r Q → IfOk r R
-both_facts (Ok x) P Q R f p q = f x p q
-both_facts (Err e) P Q R f p q = tt
-
-pub printed_body : (deed : Deed) → print (tree.json_tokens (outline (object (members_of None deed)))) ≡ body_text deed
-unfolding body_text
-printed_body deed = print-outline (object (members_of None deed))
-
-pub printed_operation : (op : Operation)
-    → print (tree.json_tokens (outline (object (members_of (Some op.stamp) op.deed)))) ≡ operation_text op
-unfolding operation_text
-printed_operation op = print-outline (object (members_of (Some op.stamp) op.deed))

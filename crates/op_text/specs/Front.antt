@@ -6,7 +6,7 @@ use Rattle.serde_json.specs.Data.{Data, array, Items, no_items, item}
 use Rattle.serde_json.specs.Read.{read}
 use Rattle.serde_json.specs.Written.{compact_text}
 use Rattle.replica_core.specs.Clock.{greatest}
-use Rattle.replica_core.specs.Front.{Reaches, reach_of, AreReached}
+use Rattle.replica_core.specs.Front.{Reaches, reach_of, AreFromOneOn}
 use Rattle.op_text.specs.declared.fault.OpTextFault.{OpTextFault}
 use Rattle.op_text.specs.declared.fault.OpTextFault.TheVariants.{NotJson, BadShape, BadBody, NoMemory}
 use Rattle.replica_core.specs.declared.front.Row.{Row}
@@ -51,7 +51,7 @@ counts_of entries site start = map (λ entry. entry.2) (filter (λ entry. entry.
 -- the front reaches in each row as far as the greatest count that an entry gives for it; a count of 0 is as none
 pub record SayFront (entries : List Entry) (front : Reaches) : Type 0 where
   pub reaches : (site start : ℕ) → reach_of front site start ≡ greatest (counts_of entries site start)
-  pub reached : AreReached front
+  pub reached : AreFromOneOn front
 
 -- the text is a list of entries that say the front
 abbrev pub SpellsFront : List ℕ → Reaches → Type 0

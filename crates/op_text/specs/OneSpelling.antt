@@ -12,7 +12,7 @@ use Rattle.review_ops.specs.Operation.{Operation}
 use Rattle.op_text.specs.declared.field.Kind.{Kind}
 use Rattle.op_text.specs.declared.field.Kind.TheVariants.{PatchSet, Vote, Withdraw, Abandon, Restore, Merged}
 use Rattle.op_text.specs.Field.{name_of}
-use Rattle.op_text.specs.Shape.{IsObject, NamesKind}
+use Rattle.op_text.specs.Shape.{IsOperationObject, NamesKind}
 use Rattle.op_text.specs.Front.{Entry, HoldsEntry, IsEntry, IsList, AreEntries, SpellsEntries, SayFront, SpellsFront}
 use Rattle.op_text.specs.Spelling.{kind_of, HoldsDeed, HoldsStamp, SpellsBody, SpellsOperation}
 
@@ -88,7 +88,7 @@ same_stamp held s t p q =
 
 -- ---- a text spells one of each at most
 
-pub same_members : (text : List ℕ) (m n : Members) → IsObject text m → IsObject text n → m ≡ n
+pub same_members : (text : List ℕ) (m n : Members) → IsOperationObject text m → IsOperationObject text n → m ≡ n
 same_members text m n p q = let e : Some (object m) ≡ Some (object n) = sym p.value ∙ q.value in cc
 
 pub one_body : (text : List ℕ) (d e : Deed) → SpellsBody text d → SpellsBody text e → d ≡ e

@@ -16,7 +16,7 @@ use Rattle.op_text.specs.declared.field.Field.TheVariants.{Op}
 use Rattle.op_text.specs.Field.{key_of, name_of, rule_of, obeys, number_in, integer_in}
 
 -- the bytes are the JSON text of an object with these members, each key once, its last value
-pub record IsObject (text : List ℕ) (members : Members) : Type 0 where
+pub record IsOperationObject (text : List ℕ) (members : Members) : Type 0 where
   pub utf8 : IsUtf8 text
   pub value : read text ≡ Some (object members)
 

@@ -5,7 +5,7 @@ use Rattle.review_ops.specs.Timestamp.{Timestamp}
 use Rattle.review_ops.specs.Deed.{Deed, patch_set, vote, withdraw, abandon, restore, merged, change_of, set_of}
 use Rattle.review_ops.specs.Deed.{message_of, parent_of, label_of, voter_of, value_of, kept_deed}
 use Rattle.review_ops.specs.Good.{IsFaultless}
-use Rattle.review_ops.specs.Fault.{IsFirstFault}
+use Rattle.review_ops.specs.Fault.{IsFirstBodyFault}
 use Rattle.review_ops.specs.Operation.{Operation}
 use Rattle.op_text.specs.declared.field.Form.{Form}
 use Rattle.op_text.specs.declared.field.Form.TheVariants as form
@@ -15,7 +15,7 @@ use Rattle.op_text.specs.declared.field.Field.TheVariants.{Change, Label, Messag
 use Rattle.op_text.specs.declared.field.Field.TheVariants.{Value, Voter}
 use Rattle.op_text.specs.declared.fault.OpTextFault.{OpTextFault}
 use Rattle.op_text.specs.declared.fault.OpTextFault.TheVariants.{NotJson, BadShape, BadBody, NoMemory}
-use Rattle.op_text.specs.Shape.{IsObject, HasShape, IsNamedKey, NamesKind, number_at, integer_at, text_at}
+use Rattle.op_text.specs.Shape.{IsOperationObject, HasShape, IsNamedKey, NamesKind, number_at, integer_at, text_at}
 
 abbrev pub kind_of : Deed → Kind
 kind_of (patch_set change set message parent) = PatchSet
@@ -44,13 +44,18 @@ pub record HoldsStamp (members : Members) (stamp : Timestamp) : Type 0 where
 
 -- the text is an object with exactly the keys of its kind and form, each accepted, which has the deed's fields
 pub record SpellsDeed (form : Form) (text : List ℕ) (members : Members) (deed : Deed) : Type 0 where
-  pub object : IsObject text members
+  pub object : IsOperationObject text members
   pub shape : HasShape form (kind_of deed) members
   pub holds : HoldsDeed members deed
 
 -- the text spells a body, good or not
 abbrev pub SpellsBody : List ℕ → Deed → Type 0
 SpellsBody text deed = (members : Members) × SpellsDeed form.Body text members deed
+
+-- the text spells this stamp and this deed, good or not
+abbrev pub SpellsParts : List ℕ → Timestamp → Deed → Type 0
+SpellsParts text stamp deed =
+    (members : Members) × SpellsDeed form.Operation text members deed × HoldsStamp members stamp
 
 -- the text spells an operation: its stamp, and a body without faults, which is kept
 pub record SpellsOperation (text : List ℕ) (op : Operation) : Type 0 where
@@ -63,11 +68,11 @@ pub record SpellsOperation (text : List ℕ) (op : Operation) : Type 0 where
 
 -- What each refusal of a text says. Want of memory says nothing of it.
 abbrev pub IsRefusalOf : Form → List ℕ → OpTextFault → Type 0
-IsRefusalOf kind text NotJson = (members : Members) → ¬ IsObject text members
+IsRefusalOf kind text NotJson = (members : Members) → ¬ IsOperationObject text members
 IsRefusalOf kind text (BadShape key) =
-    (members : Members) × IsObject text members × IsNamedKey kind members (string_bytes key)
+    (members : Members) × IsOperationObject text members × IsNamedKey kind members (string_bytes key)
 -- a body's reading doesn't ask whether it is good
 IsRefusalOf form.Body text (BadBody fault) = ⊥
 IsRefusalOf form.Operation text (BadBody fault) =
-    (members : Members) × (deed : Deed) × SpellsDeed form.Operation text members deed × IsFirstFault fault deed
+    (members : Members) × (deed : Deed) × SpellsDeed form.Operation text members deed × IsFirstBodyFault fault deed
 IsRefusalOf kind text NoMemory = Unit {0}

@@ -1,6 +1,7 @@
 //! The kinds of bodies, and the fields of their texts.
 
-ghost use Rattle.std.specs.Prelude.{◌≡◌, ◌≢◌, MatchOption, option_map};
+ghost use Rattle.std.specs.Prelude.{◌≡◌, ◌≢◌, ◌++◌, ◌∷◌, [], MatchOption, option_map};
+ghost use Rattle.json.specs.Print.{quoted};
 ghost use Rattle.serde_json.specs.View.{view};
 ghost use Rattle.review_ops.specs.Draft.{deed_of};
 ghost use Rattle.op_text.specs.Spelling.{kind_of};
@@ -132,6 +133,26 @@ impl Field {
             Field::Time => "time",
             Field::Value => "value",
             Field::Voter => "voter",
+        }
+    }
+
+    /// What stands before the value of a field that isn't the first.
+    pub fn literal(self) -> &'static [u8]
+        ensures { result.now ≡ 44 ∷ (quoted (key_of self) ++ 58 ∷ []) }
+    {
+        match self {
+            Field::Change => b",\"change\":",
+            Field::Label => b",\"label\":",
+            Field::Message => b",\"message\":",
+            Field::Op => b",\"op\":",
+            Field::Parent => b",\"parent\":",
+            Field::Seq => b",\"seq\":",
+            Field::Set => b",\"set\":",
+            Field::Site => b",\"site\":",
+            Field::Start => b",\"start\":",
+            Field::Time => b",\"time\":",
+            Field::Value => b",\"value\":",
+            Field::Voter => b",\"voter\":",
         }
     }
 

@@ -26,11 +26,12 @@
 //! ```
 #![tactic(auto)]
 
+mod canonical;
 mod fault;
 mod field;
 mod front;
 mod laws;
-mod quick;
+mod parts;
 mod read;
 mod shape;
 mod write;
@@ -39,4 +40,4 @@ pub use fault::OpTextFault;
 pub use front::{read_front, write_front};
 pub use laws::{bodies_are_spelled, operations_are_spelled, texts_spell_once};
 pub use read::{read_body, read_op};
-pub use write::{write_body, write_op};
+pub use write::{append_op, write_body, write_op};

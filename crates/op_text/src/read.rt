@@ -10,13 +10,13 @@ ghost use Rattle.review_ops.specs.Draft.{deed_of};
 ghost use Rattle.review_ops.specs.Operation.{Operation};
 ghost use Rattle.op_text.specs.Field.{key_of};
 ghost use Rattle.op_text.specs.Shape.{HasShape, NamesKind, number_at, integer_at, text_at};
-ghost use Rattle.op_text.specs.Spelling.{HoldsDeed, HoldsStamp, SpellsBody, SpellsOperation, IsRefusalOf, kind_of};
+ghost use Rattle.op_text.specs.Spelling.{HoldsDeed, HoldsStamp, SpellsBody, SpellsOperation, SpellsParts};
+ghost use Rattle.op_text.specs.Spelling.{IsRefusalOf, kind_of};
 
+use super::canonical::{canonical, drafts_fit};
 use super::fault::OpTextFault;
 use super::field::{Field, Form, Kind};
-use super::quick::guessed_op;
 use super::shape::{found, object_of, shaped};
-use super::write::write_op;
 use review_ops::{Body, Draft, Op, Stamp};
 use serde_json::{Map, Value};
 use std::alloc::Global;
@@ -24,7 +24,7 @@ use std::alloc::Global;
 /// Reads the text of a body, which needn't be good: `Body::checked` is asked later. What the text spells is read,
 /// unless memory runs out. Refusals: 1 `NotJson`, the bytes aren't UTF-8 or aren't the text of one JSON object; 2
 /// `BadShape`, the key `op` names no kind, or else the first key in byte order that is missing, not expected or not
-/// accepted; 4 `NoMemory`. It costs O(n log n) for n bytes.
+/// accepted; 4 `NoMemory`. It costs O(n log n) for n bytes, and O(n) where the text is as `write_body` writes it.
 pub fn read_body(alloc: Global, bytes: &[u8]) -> Result<Draft, OpTextFault>
     ensures spelled { IfOk result (λ draft. SpellsBody bytes.now (deed_of draft)) }
     ensures refused { IfErr result (IsRefusalOf Form.Body bytes.now) }
@@ -56,6 +56,10 @@ fn spelled_body(alloc: Global, bytes: &[u8]) -> Result<Draft, OpTextFault>
     ensures spelled { IfOk result (λ draft. SpellsBody bytes.now (deed_of draft)) }
     ensures refused { IfErr result (IsRefusalOf Form.Body bytes.now) }
 {
+    if let Some((None, draft)) = canonical(alloc, bytes) {
+        drafts_fit(&draft);
+        return Ok(draft);
+    }
     let members = object_of(alloc, bytes)?;
     let kind = shaped(alloc, &members, Form::Body)?;
     Ok(draft_of(members, kind))
@@ -66,28 +70,25 @@ fn spelled_operation(alloc: Global, bytes: &[u8]) -> Result<Op, OpTextFault>
     ensures spelled { IfOk result (SpellsOperation bytes.now) }
     ensures refused { IfErr result (IsRefusalOf Form.Operation bytes.now) }
 {
-    if let Some(op) = as_written(alloc, bytes) {
-        return Ok(op);
+    let (stamp, draft) = spelled_parts(alloc, bytes)?;
+    let body = Body::checked(draft).map_err(OpTextFault::BadBody)?;
+    Ok(Op::new(stamp, body))
+}
+
+/// The stamp and the draft that the text of an operation spells.
+fn spelled_parts(alloc: Global, bytes: &[u8]) -> Result<(Stamp, Draft), OpTextFault>
+    ensures spelled { IfOk result (λ (stamp, draft). SpellsParts bytes.now stamp (deed_of draft)) }
+    ensures refused { IfErr result (IsRefusalOf Form.Operation bytes.now) }
+{
+    if let Some((Some(stamp), draft)) = canonical(alloc, bytes) {
+        prove!(stamp.seq() >= 1);
+        drafts_fit(&draft);
+        return Ok((stamp, draft));
     }
     let members = object_of(alloc, bytes)?;
     let kind = shaped(alloc, &members, Form::Operation)?;
     let stamp = stamp_of(&members);
-    let body = Body::checked(draft_of(members, kind)).map_err(OpTextFault::BadBody)?;
-    Ok(Op::new(stamp, body))
-}
-
-/// The operation of a text as `write_op` writes it, which costs much less than reading any JSON. Other texts that spell
-/// an operation get no answer, and so does a text for which memory runs out.
-fn as_written(alloc: Global, bytes: &[u8]) -> Option<Op>
-    ensures { IfSome result (SpellsOperation bytes.now) }
-{
-    let op = guessed_op(alloc, bytes)?;
-    let written = write_op(alloc, &op).ok()?;
-    if written.as_bytes() == bytes {
-        Some(op)
-    } else {
-        None
-    }
+    Ok((stamp, draft_of(members, kind)))
 }
 
 /// The stamp in the members of an operation.

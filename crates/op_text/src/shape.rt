@@ -7,7 +7,7 @@ ghost use Rattle.serde_json.specs.Errors.{IsMemory};
 ghost use Rattle.serde_json.specs.Find.{get_member};
 ghost use Rattle.serde_json.specs.View.{view, members_view};
 ghost use Rattle.op_text.specs.Field.{key_of};
-ghost use Rattle.op_text.specs.Shape.{IsObject, IsFieldKey, IsNamedKey, IsFirstBadKey, HasShape, NamesKind, NamesKey};
+ghost use Rattle.op_text.specs.Shape.{IsOperationObject, IsFieldKey, IsNamedKey, IsFirstBadKey, HasShape, NamesKind, NamesKey};
 ghost use Rattle.op_text.specs.Shape.{IsShapeFault, fits, text_at};
 ghost use Rattle.op_text.specs.Spelling.{IsRefusalOf};
 
@@ -19,7 +19,7 @@ use std::cmp::Ordering;
 
 /// The members of the JSON object that the bytes are.
 pub fn object_of(alloc: Global, bytes: &[u8]) -> Result<Map<String, Value>, OpTextFault>
-    ensures ok { IfOk result (λ members. IsObject bytes.now (members_view members.entries)) }
+    ensures ok { IfOk result (λ members. IsOperationObject bytes.now (members_view members.entries)) }
     ensures err { IfErr result (IsRefusalOf Form.Body bytes.now) }
     ensures json { IfErr result (IsRefusalOf Form.Operation bytes.now) }
 {

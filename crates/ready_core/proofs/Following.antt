@@ -15,7 +15,7 @@ use Rattle.ready_core.specs.declared.verdicts.Refusal.{Refusal}
 use Rattle.ready_core.specs.declared.verdicts.Refusal.TheVariants.{Own, Cycle, Unknown, Dependency}
 use Rattle.ready_core.specs.declared.verdicts.Left.{Left}
 use Rattle.ready_core.specs.Closed.{IsClosed-safe}
-use Rattle.ready_core.specs.Refusals.{IsEligible, IsIneligible, IsReady, IsRefused, IsRank}
+use Rattle.ready_core.specs.Refusals.{IsEligible, IsIneligible, IsReady, IsRefused, IsRefusalRank}
 use Rattle.ready_core.specs.Verdicts.{AreVerdicts, Judged, LeadsFrom, IsLeftAt}
 use Rattle.ready_core.proofs.Refusing.{refused_rank}
 
@@ -33,11 +33,11 @@ module _ {X : Type 0} (rank : X → ℕ) where
 
 module _ (gate : GateRules) (state : State) (verdicts : Judged) (are : AreVerdicts gate state verdicts) where
   -- an item at some distance from one that isn't eligible isn't ready
-  not_ready : (item : Item) (rank : ℕ) → IsRank gate state item rank → ¬ IsReady gate state item
+  not_ready : (item : Item) (rank : ℕ) → IsRefusalRank gate state item rank → ¬ IsReady gate state item
   not_ready item rank far ready = IsClosed-safe {E = IsDependency gate state}
       {IsEligible = IsEligible gate state} ready.closed rank item ready.has far.leads
 
-  left_at : (item : Item) (rank : ℕ) → IsCurrentItem state item → IsRank gate state item rank
+  left_at : (item : Item) (rank : ℕ) → IsCurrentItem state item → IsRefusalRank gate state item rank
       → IsLeftAt state verdicts item.change rank
   left_at item rank current far =
       let is_item : IsItem state item = (current.change, current.stands, current.greatest.known) in
@@ -50,7 +50,7 @@ module _ (gate : GateRules) (state : State) (verdicts : Judged) (are : AreVerdic
         current = subst (IsCurrentItem state) (sym found.2) current;
         of = ap (λ (i : Item). i.change) found.2;
         rank = IsDistance-once {E = IsDependency gate state} {P = IsIneligible gate state} next.rank rank next.item its
-            (subst (λ i. IsRank gate state i rank) (sym found.2) far);
+            (subst (λ i. IsRefusalRank gate state i rank) (sym found.2) far);
       }
 
   pub leads_from : (item : Item) (refusal : Refusal) (rank : ℕ) → IsRefused gate state item refusal rank

@@ -21,7 +21,7 @@ use Rattle.ready_core.specs.declared.verdicts.Left.{Left}
 use Rattle.ready_core.specs.Closed.{IsClosed-safe, IsInClosedSet-AreSafe, AreSafe}
 use Rattle.ready_core.specs.Refusals.{IsEligible, IsReady, IsRefused}
 use Rattle.ready_core.specs.Verdicts.{Judged, items_out}
-use Rattle.ready_core.specs.Causes.{AreCauses, IsCauseOf, AreJudged, StandsBefore, IsSafeItem}
+use Rattle.ready_core.specs.Causes.{AreCauses, IsCauseOf, AreJudged, StandsAmongFirst, IsSafeItem}
 use Rattle.ready_core.proofs.Refusing.{refused_ineligible}
 
 sorted_none : {X : Type 0} (cmp : X → X → Ordering) → IsStrictlySortedBy cmp []
@@ -44,22 +44,22 @@ judged_nothing gate state items = record {
 module _ (gate : GateRules) (state : State) (items : List Item) (sorted : IsStrictlySortedBy item_cmp items) (count : ℕ)
     (ready : List Item) (out : List Left)
     (are : AreJudged gate state items count ready out) (next : Item) (here : IsAt items count next) where
-  one_more : (item : Item) → StandsBefore items count item → StandsBefore items (count + 1) item
+  one_more : (item : Item) → StandsAmongFirst items count item → StandsAmongFirst items (count + 1) item
   one_more item stands = record { place = stands.place; before = omega (arith, stands.before); here = stands.here }
 
-  itself : StandsBefore items (count + 1) next
+  itself : StandsAmongFirst items (count + 1) next
   itself = record { place = count; before = omega arith; here = here }
 
   at_last : (place : ℕ) → place < count + 1 → place ≤ count
   at_last place h = omega (arith, h)
 
-  before_or_last : (item : Item) → StandsBefore items (count + 1) item → StandsBefore items count item ⊎ (next ≡ item)
+  before_or_last : (item : Item) → StandsAmongFirst items (count + 1) item → StandsAmongFirst items count item ⊎ (next ≡ item)
   before_or_last item stands = elim (earlier_or_same stands.place count (at_last stands.place stands.before)) [
     | inl earlier ↦ inl (record { place = stands.place; before = earlier; here = stands.here })
     | inr same ↦ inr (one_item items count next item here (subst (λ p. IsAt items p item) same stands.here))
   ]
 
-  before_next : (item : Item) → StandsBefore items count item → item_cmp item next ≡ Less
+  before_next : (item : Item) → StandsAmongFirst items count item → item_cmp item next ≡ Less
   before_next item stands = sorted_at item_cmp items sorted stands.place count item next stands.before stands.here here
 
   pub judged_ready : IsSafeItem gate state next → AreJudged gate state items (count + 1) (ready ++ next ∷ []) out
@@ -67,7 +67,7 @@ module _ (gate : GateRules) (state : State) (items : List Item) (sorted : IsStri
     ready = λ item. (
       λ c. elim (Contains-push_cases ready next item c) [
         | inl before ↦ let found = (are.ready item).0 before in (one_more item found.0, found.1)
-        | inr same ↦ (subst (StandsBefore items (count + 1)) same itself, subst (IsSafeItem gate state) same safe)
+        | inr same ↦ (subst (StandsAmongFirst items (count + 1)) same itself, subst (IsSafeItem gate state) same safe)
       ],
       λ is. elim (before_or_last item is.0) [
         | inl before ↦ Contains-append_left ready (next ∷ []) item ((are.ready item).1 (before, is.1))
@@ -103,7 +103,7 @@ module _ (gate : GateRules) (state : State) (items : List Item) (sorted : IsStri
         out = λ item. (
           λ c. elim (Contains-push_cases (items_out out) next item (subst (λ l. Contains l item) shown c)) [
             | inl before ↦ let found = (are.out item).0 before in (one_more item found.0, found.1)
-            | inr same ↦ (subst (StandsBefore items (count + 1)) same itself, λ safe. unsafe (subst (IsSafeItem gate state) (sym same) safe))
+            | inr same ↦ (subst (StandsAmongFirst items (count + 1)) same itself, λ safe. unsafe (subst (IsSafeItem gate state) (sym same) safe))
           ],
           λ is. subst (λ l. Contains l item) (sym shown) (elim (before_or_last item is.0) [
             | inl before ↦ Contains-append_left (items_out out) (next ∷ []) item ((are.out item).1 (before, is.1))
@@ -131,14 +131,14 @@ pub record AreSplit (gate : GateRules) (state : State) (items : List Item) (verd
 
 module _ (gate : GateRules) (state : State) (graph : ItemGraph) (verdicts : Judged) (is : IsGraphOf gate state graph)
     (are : AreJudged gate state graph.items (length graph.items) verdicts.ready verdicts.out) where
-  stands : (item : Item) → Contains graph.items item → StandsBefore graph.items (length graph.items) item
+  stands : (item : Item) → Contains graph.items item → StandsAmongFirst graph.items (length graph.items) item
   stands item c = let at = at_Contains graph.items item c in record {
     place = at.0;
     before = slice_get_within graph.items at.0 item at.1;
     here = at.1;
   }
 
-  listed : (item : Item) → StandsBefore graph.items (length graph.items) item → Contains graph.items item
+  listed : (item : Item) → StandsAmongFirst graph.items (length graph.items) item → Contains graph.items item
   listed item at = Contains-at graph.items at.place item at.here
 
   safe_items : AreSafe (IsDependency gate state) (IsEligible gate state) graph.items verdicts.ready

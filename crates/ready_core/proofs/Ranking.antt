@@ -21,7 +21,7 @@ use Rattle.graph_core.specs.WalkLaws.{edge_between, edge_at, Leads-items, Leads-
 use Rattle.lattice_core.specs.ZipLaws.{AllZip-at}
 use Rattle.ready_core.specs.declared.verdicts.Refusal.{Refusal}
 use Rattle.ready_core.specs.declared.verdicts.Refusal.TheVariants.{Dependency}
-use Rattle.ready_core.specs.Refusals.{IsEligible, IsIneligible, IsRefused, IsRank}
+use Rattle.ready_core.specs.Refusals.{IsEligible, IsIneligible, IsRefused, IsRefusalRank}
 use Rattle.walk_core.specs.Levels.{HasDistance}
 use Rattle.ready_core.specs.Causes.{IsCauseOf, AreCauses, AreSearched, IsNearest, IsSafeItem, flags_of}
 use Rattle.ready_core.proofs.Refusing.{refused_ineligible}
@@ -112,7 +112,7 @@ module _ (gate : GateRules) (state : State) (graph : ItemGraph) (causes : List (
       λ n leads. searched.distances.each place None none n (by_places n place item here leads)
 
   pub rank_at : (place : ℕ) (item : Item) (rank : ℕ) → IsAt graph.items place item → HasDistance ranks place rank
-      → IsRank gate state item rank
+      → IsRefusalRank gate state item rank
   rank_at place item rank here at =
       let far = searched.distances.each place (Some rank) at in
       record {
@@ -126,13 +126,13 @@ module _ (gate : GateRules) (state : State) (graph : ItemGraph) (causes : List (
 
   -- an item at some distance has that rank at its place
   has_rank_at : (place : ℕ) (item : Item) (rank : ℕ) (found : Option ℕ) → IsAt graph.items place item
-      → slice_get ranks place ≡ Some found → IsRank gate state item rank → HasDistance ranks place rank
+      → slice_get ranks place ≡ Some found → IsRefusalRank gate state item rank → HasDistance ranks place rank
   has_rank_at place item rank None here at far = absurd (safe_at place item here at rank far.leads)
   has_rank_at place item rank (Some other) here at far =
       let same : other ≡ rank = IsDistance-once {E = IsDependency gate state} {P = IsIneligible gate state} other rank item (rank_at place item other here at) far in
       at ∙ ap (λ r. Some (Some r)) same
 
-  ranked_here : (place : ℕ) (item : Item) (rank : ℕ) → IsAt graph.items place item → IsRank gate state item rank
+  ranked_here : (place : ℕ) (item : Item) (rank : ℕ) → IsAt graph.items place item → IsRefusalRank gate state item rank
       → HasDistance ranks place rank
   ranked_here place item rank here far =
       let within : place < length ranks = omega (arith, slice_get_within graph.items place item here, searched.nodes, searched.distances.nodes) in

@@ -11,7 +11,7 @@ use Rattle.graph_core.specs.Dependencies.{IsDependency}
 use Rattle.state_core.specs.GreatestKnown.{greatest_known}
 use Rattle.ready_core.specs.declared.verdicts.Refusal.{Refusal}
 use Rattle.ready_core.specs.declared.verdicts.Refusal.TheVariants.{Own, Cycle, Unknown, Dependency}
-use Rattle.ready_core.specs.Refusals.{IsFree, IsIneligible, IsRefused, IsRank}
+use Rattle.ready_core.specs.Refusals.{IsFree, IsIneligible, IsRefused, IsRefusalRank}
 
 -- an item that breaks a condition isn't free
 pub own_excludes : (gate : GateRules) (state : State) (item : Item) (condition : Condition) → IsItem state item
@@ -34,14 +34,14 @@ refused_ineligible gate state item (Unknown number) is eligible = eligible.known
 refused_ineligible gate state item (Dependency number) is eligible = no_rest is.1.rest is.1.one_more
 
 at_zero : (gate : GateRules) (state : State) (item : Item) (refusal : Refusal) (rank : ℕ) → rank ≡ 0
-    → IsRefused gate state item refusal rank → IsRank gate state item rank
+    → IsRefused gate state item refusal rank → IsRefusalRank gate state item rank
 at_zero gate state item refusal rank zero_rank is =
-    subst (IsRank gate state item) (sym zero_rank)
+    subst (IsRefusalRank gate state item) (sym zero_rank)
     (IsDistance-zero {E = IsDependency gate state} {P = IsIneligible gate state} item (refused_ineligible gate state item refusal (subst (IsRefused gate state item refusal) zero_rank is)))
 
 -- the rank of a refused item is its distance to one that isn't eligible
 pub refused_rank : (gate : GateRules) (state : State) (item : Item) (refusal : Refusal) (rank : ℕ)
-    → IsRefused gate state item refusal rank → IsRank gate state item rank
+    → IsRefused gate state item refusal rank → IsRefusalRank gate state item rank
 refused_rank gate state item (Own condition) rank is = at_zero gate state item (Own condition) rank is.1 is
 refused_rank gate state item Cycle rank is = at_zero gate state item Cycle rank is.2 is
 refused_rank gate state item (Unknown number) rank is = at_zero gate state item (Unknown number) rank is.3 is

@@ -85,7 +85,7 @@ pub record IsNearest (ranks : List (Option ℕ)) (places : List ℕ) (wanted pla
       → ¬ HasDistance ranks other wanted
 
 -- the item is at one of the first places
-pub record StandsBefore (items : List Item) (count : ℕ) (item : Item) : Type 0 where
+pub record StandsAmongFirst (items : List Item) (count : ℕ) (item : Item) : Type 0 where
   pub place : ℕ
   pub before : place < count
   pub here : IsAt items place item
@@ -95,9 +95,9 @@ IsSafeItem gate state = IsSafe (IsDependency gate state) (IsEligible gate state)
 
 -- the verdicts on the items at the first places
 pub record AreJudged (gate : GateRules) (state : State) (items : List Item) (count : ℕ) (safe : List Item) (left_out : List Left) : Type 0 where
-  pub ready : (item : Item) → Contains safe item ↔ (StandsBefore items count item × IsSafeItem gate state item)
+  pub ready : (item : Item) → Contains safe item ↔ (StandsAmongFirst items count item × IsSafeItem gate state item)
   pub out : (item : Item)
-      → Contains (items_out left_out) item ↔ (StandsBefore items count item × ¬ IsSafeItem gate state item)
+      → Contains (items_out left_out) item ↔ (StandsAmongFirst items count item × ¬ IsSafeItem gate state item)
   pub refused : (left : Left) → Contains left_out left → IsRefused gate state left.item left.refusal left.rank
   pub ready_in_order : IsStrictlySortedBy item_cmp safe
   pub out_in_order : IsStrictlySortedBy item_cmp (items_out left_out)

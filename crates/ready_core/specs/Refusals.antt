@@ -47,8 +47,8 @@ abbrev pub IsReady : GateRules → State → Item → Type 0
 IsReady gate state item = IsInClosedSet (IsDependency gate state) (IsEligible gate state) item
 
 -- so many edges are the fewest from the item to one that isn't eligible
-abbrev pub IsRank : GateRules → State → Item → ℕ → Type 0
-IsRank gate state item rank = IsDistance (IsDependency gate state) (IsIneligible gate state) rank item
+abbrev pub IsRefusalRank : GateRules → State → Item → ℕ → Type 0
+IsRefusalRank gate state item rank = IsDistance (IsDependency gate state) (IsIneligible gate state) rank item
 
 -- the change begins a shortest walk from the item to one that isn't eligible, with so many edges left behind its
 -- current item
@@ -64,7 +64,7 @@ pub record IsLeastUnknown (gate : GateRules) (state : State) (item : Item) (numb
 
 -- it is the least target that begins a shortest walk to an item that isn't eligible, and the rank is that walk's length
 pub record IsLeastNearest (gate : GateRules) (state : State) (item : Item) (number rank : ℕ) : Type 0 where
-  pub shortest : IsRank gate state item rank
+  pub shortest : IsRefusalRank gate state item rank
   pub rest : ℕ
   pub one_more : rank ≡ suc rest
   pub begins : BeginsShortest gate state item rest number

@@ -7,6 +7,8 @@
 #[cfg(test)]
 mod bringing;
 #[cfg(test)]
+mod gatherings;
+#[cfg(test)]
 mod plain_replica;
 #[cfg(test)]
 mod recorded;

@@ -17,14 +17,14 @@ use Rattle.snapshot_text.specs.declared.fault.WriteSnapFault.TheVariants.{NoMemo
 use Rattle.recover_command.specs.Lines.{journal_line}
 
 -- how a recovery ends: how many bytes of a torn line it left out, or why it isn't whole
-abbrev pub Ended : Type 0
-Ended = Result ℕ RecoverFault
+abbrev pub RecoveryEnd : Type 0
+RecoveryEnd = Result ℕ RecoverFault
 
 -- the snapshot of the whole lines is printed; or nothing, or a proper prefix of it, by the fault
-abbrev pub Prints : Option (List ℕ) → Option (List ℕ) → Option (List ℕ) → Ended → Type 0
-Prints left old new (Ok torn) = IfSome left (λ text. (ops : List Operation) × IsRecovered text ops torn
+abbrev pub PrintsWholeLines : Option (List ℕ) → Option (List ℕ) → Option (List ℕ) → RecoveryEnd → Type 0
+PrintsWholeLines left old new (Ok torn) = IfSome left (λ text. (ops : List Operation) × IsRecovered text ops torn
     × (sorted : List Operation) × IsInOrderOf (all_arrived [] ops) sorted × Appends old new (snapshot_text sorted))
-Prints left old new (Err fault) = IsRefusedRecovery left old fault new
+PrintsWholeLines left old new (Err fault) = IsRefusedRecovery left old fault new
 
 -- how it is refused that the snapshot isn't written
 abbrev pub refusal_of : WriteSnapFault → Refusal
@@ -32,23 +32,23 @@ refusal_of WriteFault = Output
 refusal_of NoMemory = Memory
 
 -- the line of a fault
-abbrev pub fault_line : RecoverFault → List ℕ
-fault_line (Journal fault) = journal_line fault
-fault_line (Snapshot fault) = refusal_line (refusal_of fault)
+abbrev pub recovery_fault_line : RecoverFault → List ℕ
+recovery_fault_line (Journal fault) = journal_line fault
+recovery_fault_line (Snapshot fault) = refusal_line (refusal_of fault)
 
 -- what the error output is written, and the status: nothing of a whole journal, the line of a torn one, and that of a
 -- fault
-abbrev pub Reports : Ended → ErrorOutput → ErrorOutput → ℕ → Type 0
-Reports (Ok torn) old new status =
+abbrev pub ReportsRecovery : RecoveryEnd → ErrorOutput → ErrorOutput → ℕ → Type 0
+ReportsRecovery (Ok torn) old new status =
     (torn ≡ 0 → new ≡ old) × (0 < torn → ShowsLine (torn_line torn) old new) × (status ≡ 0)
-Reports (Err fault) old new status = ShowsLine (fault_line fault) old new × (status ≡ 1)
+ReportsRecovery (Err fault) old new status = ShowsLine (recovery_fault_line fault) old new × (status ≡ 1)
 
 -- how a journal of which this is left to read is recovered: what the output has taken before and after, how many of its
 -- calls failed, and the same of the error output
-pub record Recovers (left old new : Option (List ℕ)) (failed now_failed : ℕ) (errors now_errors : ErrorOutput)
+pub record RecoversAs (left old new : Option (List ℕ)) (failed now_failed : ℕ) (errors now_errors : ErrorOutput)
     (status : ℕ)
     : Type 0 where
-  pub ended : Ended
-  pub printed : Prints left old new ended
+  pub ended : RecoveryEnd
+  pub printed : PrintsWholeLines left old new ended
   pub counted : MatchResult ended (λ _. now_failed ≡ failed) (CountsRecovery failed now_failed)
-  pub reported : Reports ended errors now_errors status
+  pub reported : ReportsRecovery ended errors now_errors status

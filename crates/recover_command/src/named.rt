@@ -3,7 +3,7 @@
 ghost use Rattle.std.specs.Prelude.{◌≡◌, List, ℕ, Option, true};
 ghost use Rattle.console.specs.Console.{is_input};
 ghost use Rattle.console.specs.Showing.{error_output};
-ghost use Rattle.recover_command.specs.Recovering.{Recovers};
+ghost use Rattle.recover_command.specs.Recovering.{RecoversAs};
 
 use super::recovering::{recover_to, report};
 use byte_ends::{Drain, Ends, Source};
@@ -15,7 +15,7 @@ use std::rt::Files;
 /// The name of the input.
 const INPUT: &str = "-";
 
-/// Recovers the journal of a name, or for `-` what the input has, as `recover_to` does. A file that can't be opened is
+/// RecoversAs the journal of a name, or for `-` what the input has, as `recover_to` does. A file that can't be opened is
 /// a journal that can't be read: 4 `Failed`. It is neither locked nor changed.
 pub fn recover_named<R: Files, I: Source + Drop, O: Drain, E: Drain>(
     rt: &R,
@@ -26,7 +26,7 @@ pub fn recover_named<R: Files, I: Source + Drop, O: Drain, E: Drain>(
     errors: &mut E,
 ) -> u8
     ensures { (left : Option (List ℕ)) × (is_input name.now ≡ true → left ≡ I.left input)
-        × Recovers left (O.taken output.old) (O.taken output.new) (O.failed output.old) (O.failed output.new)
+        × RecoversAs left (O.taken output.old) (O.taken output.new) (O.failed output.old) (O.failed output.new)
         (error_output (E.taken errors.old) (E.failed errors.old))
         (error_output (E.taken errors.new) (E.failed errors.new)) result }
 {

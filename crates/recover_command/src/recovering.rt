@@ -1,8 +1,8 @@
-//! Recovers a journal, and reports how that ended.
+//! RecoversAs a journal, and reports how that ended.
 
 ghost use Rattle.std.specs.Prelude.{◌≡◌};
 ghost use Rattle.console.specs.Showing.{ShowsLine, error_output};
-ghost use Rattle.recover_command.specs.Recovering.{Recovers, Reports, fault_line, refusal_of};
+ghost use Rattle.recover_command.specs.Recovering.{RecoversAs, ReportsRecovery, recovery_fault_line, refusal_of};
 
 use super::lines::show_journal_fault;
 use byte_ends::{Drain, Source};
@@ -27,7 +27,7 @@ pub fn recover_to<S: Source + Drop, O: Drain, E: Drain>(
     output: &mut O,
     errors: &mut E,
 ) -> u8
-    ensures { Recovers (S.left source) (O.taken output.old) (O.taken output.new) (O.failed output.old)
+    ensures { RecoversAs (S.left source) (O.taken output.old) (O.taken output.new) (O.failed output.old)
         (O.failed output.new)
         (error_output (E.taken errors.old) (E.failed errors.old))
         (error_output (E.taken errors.new) (E.failed errors.new)) result }
@@ -38,7 +38,7 @@ pub fn recover_to<S: Source + Drop, O: Drain, E: Drain>(
 
 /// Writes to the error output how a recovery ended, and answers the status. What the error output can't take is lost.
 pub fn report<E: Drain>(alloc: Global, ended: &Result<usize, RecoverFault>, errors: &mut E) -> u8
-    ensures { Reports ended.now
+    ensures { ReportsRecovery ended.now
         (error_output (E.taken errors.old) (E.failed errors.old))
         (error_output (E.taken errors.new) (E.failed errors.new)) result }
 {
@@ -56,7 +56,7 @@ pub fn report<E: Drain>(alloc: Global, ended: &Result<usize, RecoverFault>, erro
 
 /// Writes to the error output why a journal isn't recovered.
 fn show_fault<E: Drain>(alloc: Global, fault: &RecoverFault, errors: &mut E)
-    ensures { ShowsLine (fault_line fault.now)
+    ensures { ShowsLine (recovery_fault_line fault.now)
         (error_output (E.taken errors.old) (E.failed errors.old))
         (error_output (E.taken errors.new) (E.failed errors.new)) }
 {

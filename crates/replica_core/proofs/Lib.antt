@@ -12,3 +12,4 @@ pub mod Effects
 pub mod Absorbing
 pub mod Fronts
 pub mod Lacking
+pub mod Gathered

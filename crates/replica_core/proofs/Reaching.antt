@@ -11,7 +11,7 @@ use Rattle.std.proofs.lemmas.List.Elements.{All-head, All-tail}
 use Rattle.std.proofs.lemmas.List.Folds.{list_any_at}
 use Rattle.std.proofs.lemmas.List.{length-map}
 use Rattle.review_ops.specs.Operation.{Operation}
-use Rattle.replica_core.specs.Front.{Reaches, row_order, reach_of, holds, ReachesInto, IsFront, AreReached, IsGapless}
+use Rattle.replica_core.specs.Front.{Reaches, row_order, reach_of, holds, ReachesInto, IsFront, AreFromOneOn, IsGapless}
 use Rattle.replica_core.specs.FrontLaws.{reach_of-raised, AreReached-empty, AreReached-raised}
 use Rattle.replica_core.specs.RowLine.{RowLine}
 use Rattle.replica_core.specs.Lines.{raised_by, front_of, row_of, rows_of, AreLines}
@@ -19,7 +19,7 @@ use Rattle.replica_core.proofs.Sought.{both}
 use Rattle.replica_core.proofs.LineLists.{none_held, row_at, empty_line}
 
 -- ---- what is reached is numbered from 1 on
-reached_from : (lines : List RowLine) (front : Reaches) → AreReached front → AreReached (fold raised_by front lines)
+reached_from : (lines : List RowLine) (front : Reaches) → AreFromOneOn front → AreFromOneOn (fold raised_by front lines)
 reached_from [] front reached = reached
 reached_from (line ∷ lines) front reached =
     reached_from lines (raised_by front line) (AreReached-raised front line.site line.start line.reach reached)

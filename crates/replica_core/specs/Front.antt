@@ -50,5 +50,5 @@ abbrev pub raised : Reaches → ℕ → ℕ → ℕ → Reaches
 raised front site start seq = if seq == 0 then front else put_joined (ord_max nat_cmp) front (site, start) seq
 
 -- what a front reaches is numbered from 1 on
-abbrev pub AreReached : Reaches → Type 0
-AreReached front = (site start : ℕ) → IfSome (get front (site, start)) (λ reach. 1 ≤ reach)
+abbrev pub AreFromOneOn : Reaches → Type 0
+AreFromOneOn front = (site start : ℕ) → IfSome (get front (site, start)) (λ reach. 1 ≤ reach)

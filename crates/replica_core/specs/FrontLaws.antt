@@ -17,7 +17,7 @@ use Rattle.replica_core.specs.Sets.{IsSameSet, any_alike, filtered_alike}
 use Rattle.replica_core.specs.InOrder.{IsInOrder-same, IsInOrder-unique}
 use Rattle.replica_core.specs.Clock.{is_of}
 use Rattle.replica_core.specs.Front.{Reaches, row_order, rows_exact, reach_of, raised, holds, IsGapless, ReachesInto}
-use Rattle.replica_core.specs.Front.{IsFront, AreReached}
+use Rattle.replica_core.specs.Front.{IsFront, AreFromOneOn}
 use Rattle.replica_core.specs.Missing.{is_past, IsMissing, row_by_row_exact}
 
 -- ---- one front
@@ -100,7 +100,7 @@ reach_of-raised front site start seq s t = elim (seq == 0) as (λ b. (seq == 0) 
 ] refl
 
 -- ---- what a front reaches stays numbered from 1 on
-pub AreReached-empty : AreReached empty
+pub AreReached-empty : AreFromOneOn empty
 AreReached-empty site start =
     subst (λ found. IfSome found (λ reach. 1 ≤ reach)) (sym (get-empty row_order (site, start))) tt
 
@@ -110,8 +110,8 @@ reached_both None seq old new = new
 reached_both (Some reach) seq old new = elim (is_lt (nat_cmp seq reach)) as
     (λ t. 1 ≤ cond t reach seq) [ true ↦ old | false ↦ new ]
 
-pub AreReached-put : (front : Reaches) (site start seq : ℕ) → 1 ≤ seq → AreReached front
-    → AreReached (put_joined (ord_max nat_cmp) front (site, start) seq)
+pub AreReached-put : (front : Reaches) (site start seq : ℕ) → 1 ≤ seq → AreFromOneOn front
+    → AreFromOneOn (put_joined (ord_max nat_cmp) front (site, start) seq)
 AreReached-put front site start seq from_one reached other_site other_start =
     subst (λ found. IfSome found (λ reach. 1 ≤ reach))
     (sym (get-put_joined rows_exact (ord_max nat_cmp) front (site, start) seq (other_site, other_start)))
@@ -120,9 +120,9 @@ AreReached-put front site start seq from_one reached other_site other_start =
       | false ↦ reached other_site other_start
     ])
 
-pub AreReached-raised : (front : Reaches) (site start seq : ℕ) → AreReached front
-    → AreReached (raised front site start seq)
-AreReached-raised front site start seq reached = elim (seq == 0) as (λ b. (seq == 0) ≡ b → AreReached (cond b front (put_joined (ord_max nat_cmp) front (site, start) seq))) [
+pub AreReached-raised : (front : Reaches) (site start seq : ℕ) → AreFromOneOn front
+    → AreFromOneOn (raised front site start seq)
+AreReached-raised front site start seq reached = elim (seq == 0) as (λ b. (seq == 0) ≡ b → AreFromOneOn (cond b front (put_joined (ord_max nat_cmp) front (site, start) seq))) [
   | true ↦ λ e. reached
   | false ↦ λ e. AreReached-put front site start seq (omega (arith, eqb-false seq 0 e)) reached
 ] refl
@@ -135,7 +135,7 @@ same_reach (Some a) None some_a some_b same = absurd (omega (arith, some_a, same
 same_reach (Some a) (Some b) some_a some_b same = ap Some same
 
 -- fronts that reach as far in each row are one
-pub same_reaches : (f g : Reaches) → AreReached f → AreReached g
+pub same_reaches : (f g : Reaches) → AreFromOneOn f → AreFromOneOn g
     → ((site start : ℕ) → reach_of f site start ≡ reach_of g site start) → f ≡ g
 same_reaches f g reached_f reached_g same = same_at_each_key rows_exact f g
     (λ row. same_reach (get f row) (get g row) (reached_f row.0 row.1) (reached_g row.0 row.1) (same row.0 row.1))

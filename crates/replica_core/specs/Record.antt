@@ -1,5 +1,5 @@
 -- What a replica keeps, whatever happens to it.
-use Rattle.std.specs.Prelude.{◌≡◌, ℕ, List}
+use Rattle.std.specs.Prelude.{◌≡◌, ◌≤◌, ℕ, List, length, take}
 use Rattle.review_ops.specs.Operation.{Operation}
 use Rattle.replica_core.specs.Clock.{greatest, times}
 use Rattle.replica_core.specs.Journal.{AreApart}
@@ -7,10 +7,20 @@ use Rattle.replica_core.specs.Lines.{AreLines}
 use Rattle.replica_core.specs.RowLine.{RowLine}
 use Rattle.state_core.specs.State.{State, state_of}
 
--- the state that is kept is that of the journal, in which no operation is twice; the lines are those of the journal,
--- and the latest time is its greatest
-pub record IsRecord (journal : List Operation) (kept : List RowLine) (time : ℕ) (state : State) : Type 0 where
-  pub joined : state ≡ state_of journal
+-- in the journal no operation is twice; the lines are those of the journal, and the latest time is its greatest
+pub record IsKept (journal : List Operation) (kept : List RowLine) (time : ℕ) : Type 0 where
   pub apart : AreApart journal
   pub lines : AreLines journal kept
   pub latest : time ≡ greatest (times journal)
+
+-- so is the journal of a replica, and the state that is kept is that of the journal
+pub record IsRecord (journal : List Operation) (kept : List RowLine) (time : ℕ) (state : State) : Type 0 where
+  pub joined : state ≡ state_of journal
+  pub is_kept : IsKept journal kept time
+
+-- and of a gathering, whose state is that of the first arrivals alone
+pub record IsGathered (journal : List Operation) (kept : List RowLine) (time : ℕ) (state : State) (first : ℕ)
+    : Type 0 where
+  pub joined : state ≡ state_of (take first journal)
+  pub within : first ≤ length journal
+  pub is_kept : IsKept journal kept time

@@ -5,7 +5,7 @@ ghost use Rattle.std.specs.FinMap.{empty};
 ghost use Rattle.std.specs.Ordering.{nat_cmp, ord_max};
 ghost use Rattle.lattice_core.specs.Greatest.{greater_join};
 ghost use Rattle.lattice_core.specs.Keep.{numbers_exact};
-ghost use Rattle.replica_core.specs.Front.{AreReached, raised, reach_of};
+ghost use Rattle.replica_core.specs.Front.{AreFromOneOn, raised, reach_of};
 ghost use Rattle.replica_core.specs.FrontShown.{reaches_shown};
 
 use lattice_core::{Join, JoinMap, Keep, NoMemory};
@@ -109,7 +109,7 @@ pub struct Front<A: Allocator + Copy = Global> {
 }
 
 impl<A: Allocator + Copy> Model for Front<A> {
-    ghost use Rattle.replica_core.specs.Front.{Reaches, AreReached};
+    ghost use Rattle.replica_core.specs.Front.{Reaches, AreFromOneOn};
     ghost use Rattle.replica_core.specs.FrontShown.{reaches_shown, reaches_code};
 
     ghost Value = { Reaches };
@@ -118,7 +118,7 @@ impl<A: Allocator + Copy> Model for Front<A> {
 
     ghost view = { λ f. reaches_shown f.rows };
 
-    ghost invariant = { λ f. AreReached (reaches_shown f.rows) };
+    ghost invariant = { λ f. AreFromOneOn (reaches_shown f.rows) };
 }
 
 impl<A: Allocator + Copy> Front<A> {
@@ -156,7 +156,7 @@ impl<A: Allocator + Copy> Front<A> {
     /// The rows that the front reaches into, in their order, with how far it does.
     pub fn rows(&self) -> &JoinMap<Row, Reach, A>
         ensures rows { reaches_shown result.now ≡ self.now }
-        ensures reached { AreReached self.now }
+        ensures reached { AreFromOneOn self.now }
     {
         &self.rows
     }

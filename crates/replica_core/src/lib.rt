@@ -15,9 +15,11 @@
 //! ```
 #![tactic(auto)]
 
+mod arriving;
 mod clock;
 mod front;
 mod gapless;
+mod gathering;
 mod laws;
 mod line;
 mod lines;
@@ -28,6 +30,7 @@ mod starts;
 mod taken;
 
 pub use front::{Front, Reach, Row};
+pub use gathering::Gathering;
 pub use laws::{equal_journals_agree, operations_arrive_as_a_set};
 pub use missing::Missing;
 pub use replica::Replica;

@@ -12,10 +12,10 @@ ghost use Rattle.replica_core.specs.Lines.{rows_of, row_of, IsFiled, IsLine, Are
 ghost use Rattle.replica_core.specs.Searches.{with_place};
 ghost use Rattle.state_core.specs.State.{state_of, state_shown, with_effect};
 
+use super::arriving::arrive;
 use super::front::Row;
-use super::line::{Line, climbed};
-use super::lines::{exchange, find_line, open_line, row_of};
-use super::probes::Below;
+use super::line::Line;
+use super::lines::{find_line, row_of};
 use super::taken::{Partly, Taken};
 use change_core::ChangeState;
 use chunk_list::ChunkList;
@@ -33,8 +33,8 @@ pub struct Replica<A: Allocator + Copy = Global> {
     pub(super) arrivals: Vec<Op<A>, A>,
     pub(super) lines: ChunkList<Line<A>, A>,
     pub(super) latest: u64,
-    state: State<A>,
-    alloc: A,
+    pub(super) state: State<A>,
+    pub(super) alloc: A,
 }
 
 impl<A: Allocator + Copy> Model for Replica<A> {
@@ -71,21 +71,14 @@ impl<A: Allocator + Copy> Replica<A> {
         ensures ok { IfOk result (λ taken. (self.new ≡ arrived self.old op) × (taken ≡ taken_of (has self.old op))) }
         ensures err { OnErr result (self.new ≡ self.old) }
     {
-        let time = op.stamp().time();
-        open_line(&mut self.lines, self.alloc, row_of(&op))?;
-        match file_in(
+        arrive(
             &mut self.lines,
             &mut self.arrivals,
+            &mut self.latest,
             &mut self.state,
             self.alloc,
             op,
-        )? {
-            Taken::Known => Ok(Taken::Known),
-            Taken::New => {
-                self.latest = self.latest.max(time);
-                Ok(Taken::New)
-            }
-        }
+        )
     }
 
     /// Takes in every operation of another replica, in the order of operations. Where memory is refused the first
@@ -218,82 +211,6 @@ impl<A: Allocator + Copy> Replica<A> {
     {
         self.state.changes()
     }
-}
-
-/// Adds an operation to the line of its row, to the arrivals and to the state, unless it is there. Where memory is
-/// refused nothing changes.
-fn file_in<A: Allocator + Copy>(
-    lines: &mut ChunkList<Line<A>, A>,
-    arrivals: &mut Vec<Op<A>, A>,
-    state: &mut State<A>,
-    alloc: A,
-    op: Op<A>,
-) -> Result<Taken, NoMemory>
-    requires lines { AreLines arrivals.old.items lines.old }
-    requires row { Contains (rows_of lines.old) (op.stamp.site, op.stamp.start) }
-    ensures ok { IfOk result (λ taken. (taken ≡ taken_of (has arrivals.old.items op))
-        × (arrivals.new.items ≡ arrived arrivals.old.items op)
-        × AreLines arrivals.new.items lines.new
-        × (state.new ≡ (if has arrivals.old.items op then state.old else with_effect state.old op))) }
-    ensures err { OnErr result ((arrivals.new.items ≡ arrivals.old.items) × (lines.new ≡ lines.old)
-        × (state.new ≡ state.old)) }
-{
-    let Some(mut line) = exchange(lines, Line::new(alloc, row_of(&op))) else {
-        unreachable!()
-    };
-    let taken = file(&mut line, arrivals, state, op);
-    let _empty = exchange(lines, line);
-    taken
-}
-
-/// Adds an operation to its line, to the arrivals and to the state, unless it is there. Where memory is refused nothing
-/// changes.
-fn file<A: Allocator + Copy>(
-    line: &mut Line<A>,
-    arrivals: &mut Vec<Op<A>, A>,
-    state: &mut State<A>,
-    op: Op<A>,
-) -> Result<Taken, NoMemory>
-    requires line { IsLine arrivals.old.items line.old }
-    requires row { row_of line.old ≡ (op.stamp.site, op.stamp.start) }
-    ensures ok { IfOk result (λ taken. (taken ≡ taken_of (has arrivals.old.items op))
-        × (arrivals.new.items ≡ arrived arrivals.old.items op)
-        × IsLine arrivals.new.items line.new
-        × (row_of line.new ≡ row_of line.old)
-        × (state.new ≡ (if has arrivals.old.items op then state.old else with_effect state.old op))) }
-    ensures err { OnErr result ((arrivals.new.items ≡ arrivals.old.items) × (line.new ≡ line.old)
-        × (state.new ≡ state.old)) }
-{
-    if line.has(arrivals.as_slice(), &op) {
-        return Ok(Taken::Known);
-    }
-    arrivals.try_reserve(1)?;
-    enter(line, arrivals.as_slice(), state, &op)?;
-    arrivals.push(op)?;
-    line.reach = climbed(arrivals.as_slice(), line);
-    Ok(Taken::New)
-}
-
-/// Adds the place after all arrivals to the line of an operation, and its effect to the state. Where memory is refused
-/// nothing changes.
-fn enter<A: Allocator + Copy>(
-    line: &mut Line<A>,
-    arrivals: &[Op<A>],
-    state: &mut State<A>,
-    op: &Op<A>,
-) -> Result<(), NoMemory>
-    requires { IsFiled arrivals.now line.old }
-    ensures ok { OnOk result ((line.new ≡ with_place arrivals.now line.old op.now)
-        × (state.new ≡ with_effect state.old op.now)) }
-    ensures err { OnErr result ((line.new ≡ line.old) × (state.new ≡ state.old)) }
-{
-    let below = Below { arrivals, op };
-    line.places.insert(&below, arrivals.len())?;
-    if state.take(op).is_err() {
-        let _place = line.places.remove(&below);
-        return Err(NoMemory);
-    }
-    Ok(())
 }
 
 /// Copies of lines, in their order.

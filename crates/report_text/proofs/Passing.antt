@@ -6,7 +6,7 @@ use Rattle.std.proofs.lemmas.Grind.{flat_map-append}
 use Rattle.std.proofs.Math.Seq.{take-append-add}
 use Rattle.std.specs.Io.KnownBytes.{Appends}
 use Rattle.std.proofs.KnownBytes.{Appends-trans}
-use Rattle.report_text.specs.Pages.{IsCut, Passes}
+use Rattle.report_text.specs.Pages.{IsCut, PassesPage}
 
 -- a text that is cut is cut whatever comes after it
 pub IsCut-more : (a c : Option (List ℕ)) (s t : List ℕ) → IsCut a c s → IsCut a c (s ++ t)
@@ -17,17 +17,17 @@ IsCut-more a c s t cut =
       subst (Appends a c) (sym (take-append-le cut.0 s t (omega arith))) cut.2,
     )
 
-module _ (a b c : Option (List ℕ)) (w v s t : List ℕ) (passes : Passes a w b v s) where
+module _ (a b c : Option (List ℕ)) (w v s t : List ℕ) (passes : PassesPage a w b v s) where
   whole : w ++ (s ++ t) ≡ passes.written ++ (v ++ t)
   whole = sym (append_assoc w s t) ∙ ap (λ l. l ++ t) passes.same ∙ append_assoc passes.written v t
 
   -- a text is added to what waits
-  pub Passes-added : (u : List ℕ) → u ≡ v ++ t → Passes a w b u (s ++ t)
+  pub Passes-added : (u : List ℕ) → u ≡ v ++ t → PassesPage a w b u (s ++ t)
   Passes-added u is =
       record { written = passes.written; took = passes.took; same = whole ∙ ap (λ l. passes.written ++ l) (sym is) }
 
   -- another text passes
-  pub Passes-then : (u : List ℕ) → Passes b v c u t → Passes a w c u (s ++ t)
+  pub Passes-then : (u : List ℕ) → PassesPage b v c u t → PassesPage a w c u (s ++ t)
   Passes-then u next = record {
     written = passes.written ++ next.written;
     took = Appends-trans a b c passes.written next.written passes.took next.took;
@@ -46,8 +46,8 @@ module _ (a b c : Option (List ℕ)) (w v s t : List ℕ) (passes : Passes a w b
       )
 
 -- room is made on the page
-pub Passes-room : (a b c : Option (List ℕ)) (w v u s : List ℕ) → Passes a w b v s → Passes b v c u [] → Passes a w c u s
-Passes-room a b c w v u s passes room = subst (Passes a w c u) (append-nil s) (Passes-then a b c w v s [] passes u room)
+pub Passes-room : (a b c : Option (List ℕ)) (w v u s : List ℕ) → PassesPage a w b v s → PassesPage b v c u [] → PassesPage a w c u s
+Passes-room a b c w v u s passes room = subst (PassesPage a w c u) (append-nil s) (Passes-then a b c w v s [] passes u room)
 
 -- ---- lines, of which some have passed
 
@@ -62,12 +62,12 @@ module _ {X : Type 0} (line : X → List ℕ) (xs : List X) (i : ℕ) where
   lines_rest : flat_map line (take i xs) ++ flat_map line (drop i xs) ≡ flat_map line xs
   lines_rest = sym (flat_map-append line (take i xs) (drop i xs)) ∙ ap (flat_map line) (take-append-drop i xs)
 
-  module _ (a b c : Option (List ℕ)) (w v : List ℕ) (passes : Passes a w b v (flat_map line (take i xs))) where
+  module _ (a b c : Option (List ℕ)) (w v : List ℕ) (passes : PassesPage a w b v (flat_map line (take i xs))) where
     -- room is made for one more line, and it is added
-    pub line_added : (u added : List ℕ) (x d : X) → i < length xs → x ≡ get_or xs i d → Passes b v c u []
-        → added ≡ u ++ line x → Passes a w c added (flat_map line (take (i + 1) xs))
+    pub line_added : (u added : List ℕ) (x d : X) → i < length xs → x ≡ get_or xs i d → PassesPage b v c u []
+        → added ≡ u ++ line x → PassesPage a w c added (flat_map line (take (i + 1) xs))
     line_added u added x d within is room more =
-        subst (Passes a w c added) (lines_more x d within is)
+        subst (PassesPage a w c added) (lines_more x d within is)
         (Passes-added a c c w u (flat_map line (take i xs)) (line x) (Passes-room a b c w v u (flat_map line (take i xs)) passes room) added more)
 
     -- what waits is cut, and with it all lines
@@ -78,7 +78,7 @@ module _ {X : Type 0} (line : X → List ℕ) (xs : List X) (i : ℕ) where
 
 -- ---- a whole text, of some parts that have passed and a last one
 
-module _ (a b c : Option (List ℕ)) (w v s t : List ℕ) (empty : w ≡ []) (passes : Passes a w b v s) where
+module _ (a b c : Option (List ℕ)) (w v s t : List ℕ) (empty : w ≡ []) (passes : PassesPage a w b v s) where
   -- the cut is in what waits
   pub cut_before : IsCut b c v → IsCut a c (s ++ t)
   cut_before cut =

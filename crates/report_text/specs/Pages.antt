@@ -12,7 +12,7 @@ abbrev pub IsCut : Option (List ℕ) → Option (List ℕ) → List ℕ → Type
 IsCut old new text = (count : ℕ) × (count < length text) × Appends old new (take count text)
 
 -- what waited, and the text after it, is what the drain took, and what waits now
-pub record Passes (old : Option (List ℕ)) (waited : List ℕ) (new : Option (List ℕ)) (waits text : List ℕ) : Type 0 where
+pub record PassesPage (old : Option (List ℕ)) (waited : List ℕ) (new : Option (List ℕ)) (waits text : List ℕ) : Type 0 where
   pub written : List ℕ
   pub took : Appends old new written
   pub same : waited ++ text ≡ written ++ waits

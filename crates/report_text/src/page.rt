@@ -4,7 +4,7 @@ ghost use Rattle.std.specs.Prelude.{◌≡◌, ◌++◌, ◌+◌, ◌≤◌, [],
 ghost use Rattle.std.specs.Io.KnownBytes.{Appends};
 ghost use Rattle.arrayvec.specs.ArrayString.{array_string_len};
 ghost use Rattle.byte_ends.specs.Failures.{CountsFailure};
-ghost use Rattle.report_text.specs.Pages.{HasRoom, IsCut, Passes};
+ghost use Rattle.report_text.specs.Pages.{HasRoom, IsCut, PassesPage};
 
 use arrayvec::ArrayString;
 use byte_ends::{Drain, Failed, write_all};
@@ -31,7 +31,7 @@ pub fn add_number(page: &mut Page, number: u64)
 
 /// Sends the page to the drain where it may not hold one more line.
 pub fn make_room<D: Drain>(page: &mut Page, drain: &mut D) -> Result<(), Failed>
-    ensures ok { OnOk result (Passes (D.taken drain.old) page.old.bytes (D.taken drain.new) page.new.bytes []) }
+    ensures ok { OnOk result (PassesPage (D.taken drain.old) page.old.bytes (D.taken drain.new) page.new.bytes []) }
     ensures room { OnOk result (HasRoom page.new 96) }
     ensures err { OnErr result (IsCut (D.taken drain.old) (D.taken drain.new) page.old.bytes) }
     ensures counted { CountsFailure (D.failed drain.old) (D.failed drain.new) result }

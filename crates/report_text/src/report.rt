@@ -6,7 +6,7 @@ ghost use Rattle.ready_core.specs.Words.{refusal_text};
 ghost use Rattle.std.specs.Io.KnownBytes.{Appends};
 ghost use Rattle.arrayvec.specs.ArrayString.{array_string_len};
 ghost use Rattle.byte_ends.specs.Failures.{CountsFailure};
-ghost use Rattle.report_text.specs.Pages.{HasRoom, IsCut, Passes};
+ghost use Rattle.report_text.specs.Pages.{HasRoom, IsCut, PassesPage};
 ghost use Rattle.report_text.specs.Report.{item_text, ready_line, out_line, end_line, report_of};
 
 use super::fault::WriteReportFault;
@@ -39,7 +39,7 @@ pub fn write_report<D: Drain>(verdicts: &Verdicts, drain: &mut D) -> Result<(), 
 
 /// Writes the lines of the items that are ready.
 pub fn write_ready<D: Drain>(items: &[Item], page: &mut Page, drain: &mut D) -> Result<(), Failed>
-    ensures ok { OnOk result (Passes (D.taken drain.old) page.old.bytes (D.taken drain.new) page.new.bytes
+    ensures ok { OnOk result (PassesPage (D.taken drain.old) page.old.bytes (D.taken drain.new) page.new.bytes
         (flat_map ready_line items.now)) }
     ensures err { OnErr result (IsCut (D.taken drain.old) (D.taken drain.new)
         (page.old.bytes ++ flat_map ready_line items.now)) }
@@ -54,7 +54,7 @@ pub fn write_ready<D: Drain>(items: &[Item], page: &mut Page, drain: &mut D) -> 
 
 /// Writes the lines of the items that are left out.
 fn write_out<D: Drain>(out: &[Left], page: &mut Page, drain: &mut D) -> Result<(), Failed>
-    ensures ok { OnOk result (Passes (D.taken drain.old) page.old.bytes (D.taken drain.new) page.new.bytes
+    ensures ok { OnOk result (PassesPage (D.taken drain.old) page.old.bytes (D.taken drain.new) page.new.bytes
         (flat_map out_line out.now)) }
     ensures err { OnErr result (IsCut (D.taken drain.old) (D.taken drain.new)
         (page.old.bytes ++ flat_map out_line out.now)) }

@@ -13,6 +13,7 @@ ghost use Rattle.report_text.specs.StateText.{state_text, change_text, life_line
 use super::fault::WriteStateFault;
 use byte_ends::{Drain, write_all};
 use change_core::{ChangeState, Commit, Life, VoteSlot};
+use chunk_list::JoinList;
 use json::Writer;
 use lattice_core::{JoinMap, Register};
 use review_ops::Stamp;
@@ -96,7 +97,7 @@ fn write_sets<A: Allocator + Copy>(
     text: &mut String<A>,
     alloc: A,
     number: u32,
-    sets: &JoinMap<u32, Register<Stamp, Commit<A>>, A>,
+    sets: &JoinList<u32, Register<Stamp, Commit<A>>, A>,
 ) -> Result<(), AllocError>
     ensures { OnOk result (string_bytes text.new
         ≡ string_bytes text.old ++ flat_map (set_line number) (finite.entries (sets_shown sets.now))) }
@@ -152,7 +153,7 @@ fn json_text<A: Allocator + Copy>(alloc: A, plain: &str) -> Result<String<A>, Al
 fn write_votes<A: Allocator + Copy>(
     text: &mut String<A>,
     number: u32,
-    votes: &JoinMap<VoteSlot<A>, Register<Stamp, i8>, A>,
+    votes: &JoinList<VoteSlot<A>, Register<Stamp, i8>, A>,
 ) -> Result<(), AllocError>
     ensures { OnOk result (string_bytes text.new
         ≡ string_bytes text.old ++ flat_map (vote_line number) (finite.entries (votes_shown votes.now))) }

@@ -35,7 +35,7 @@ HasFault LongMessage deed = IsSomeAnd (message_of deed) (λ message. 65536 < len
 HasFault BadParent deed = parent_of deed ≡ Some 0
 
 -- the deed has the fault, and none of a lower number
-pub record IsFirstFault (fault : BodyFault) (deed : Deed) : Type 0 where
+pub record IsFirstBodyFault (fault : BodyFault) (deed : Deed) : Type 0 where
   pub has : HasFault fault deed
   pub first : (other : BodyFault) → number_of other < number_of fault → ¬ HasFault other deed
 

@@ -8,7 +8,7 @@ ghost use Rattle.std.proofs.lemmas.Cmp.{eq_by_cmp_equiv};
 ghost use Rattle.review_ops.specs.Deed.{deed_cmp, change_of, kept_deed};
 ghost use Rattle.review_ops.specs.Order.{deeds_exact};
 ghost use Rattle.review_ops.specs.Good.{IsGood, IsFaultless, FitsFields};
-ghost use Rattle.review_ops.specs.Fault.{HasFault, IsFirstFault};
+ghost use Rattle.review_ops.specs.Fault.{HasFault, IsFirstBodyFault};
 ghost use Rattle.review_ops.specs.Draft.{deed_of};
 
 use super::draft::Draft;
@@ -51,7 +51,7 @@ impl<A: Allocator + Copy> Body<A> {
         ensures good { IfOk result IsGood }
         ensures accepted { OnOk result (IsFaultless (deed_of draft)) }
         ensures none { OnOk result ((fault : _) → ¬ HasFault fault (deed_of draft)) }
-        ensures first { IfErr result (λ fault. IsFirstFault fault (deed_of draft)) }
+        ensures first { IfErr result (λ fault. IsFirstBodyFault fault (deed_of draft)) }
     {
         if let Some(fault) = first_fault(&draft) {
             return Err(fault);
@@ -96,7 +96,7 @@ impl<A: Allocator + Copy> Body<A> {
 
 /// The first of a draft's faults, if it has any.
 fn first_fault<A: Allocator + Copy>(draft: &Draft<A>) -> Option<BodyFault>
-    ensures first { IfSome result (λ fault. IsFirstFault fault (deed_of draft.now)) }
+    ensures first { IfSome result (λ fault. IsFirstBodyFault fault (deed_of draft.now)) }
     ensures none { IfNone result (IsFaultless (deed_of draft.now)) }
 {
     if draft.change() == 0 {

@@ -31,23 +31,23 @@ bytes_of (Fixed text) = text.now
 
 -- ---- one line for one answer
 
-abbrev pub rest_word : Bool → List ℕ
-rest_word more = if more then codes "more" else codes "done"
+abbrev pub step_rest_word : Bool → List ℕ
+step_rest_word more = if more then codes "more" else codes "done"
 
-abbrev pub reply_text : Reply → List ℕ
-reply_text (Took stamp) = codes "ok " ++ timestamp_text stamp
-reply_text (Packet number count more) =
-    codes "packet " ++ decimal number ++ codes " " ++ decimal count ++ codes " " ++ rest_word more
-reply_text (Delivered count) = codes "took " ++ decimal count
-reply_text Saved = codes "saved"
-reply_text Restarted = codes "restarted"
+abbrev pub step_reply_text : Reply → List ℕ
+step_reply_text (Took stamp) = codes "ok " ++ timestamp_text stamp
+step_reply_text (Packet number count more) =
+    codes "packet " ++ decimal number ++ codes " " ++ decimal count ++ codes " " ++ step_rest_word more
+step_reply_text (Delivered count) = codes "took " ++ decimal count
+step_reply_text Saved = codes "saved"
+step_reply_text Restarted = codes "restarted"
 
-abbrev pub answer_text : Answer → List ℕ
-answer_text (Ok reply) = reply_text reply
-answer_text (Err fault) = codes "no " ++ decimal (number_of fault) ++ codes " " ++ name_of fault
+abbrev pub step_answer_text : Answer → List ℕ
+step_answer_text (Ok reply) = step_reply_text reply
+step_answer_text (Err fault) = codes "no " ++ decimal (number_of fault) ++ codes " " ++ name_of fault
 
 abbrev pub answer_line : Answer → List ℕ
-answer_line answer = answer_text answer ++ codes "\n"
+answer_line answer = step_answer_text answer ++ codes "\n"
 
 -- what is printed of a site that isn't there, and where memory doesn't suffice for what is to be shown
 abbrev pub no_site : List ℕ

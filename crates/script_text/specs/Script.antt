@@ -107,9 +107,9 @@ line_fault_of (text.BadShape key) = line.Bad
 line_fault_of (text.BadBody fault) = line.Bad
 
 -- how a line that says the step is read: as that step, unless memory runs out
-abbrev pub IsRead : Step → Result Step LineFault → Type 0
-IsRead step (Ok read) = IsSameStep read step
-IsRead step (Err fault) = fault ≡ line.NoMemory
+abbrev pub IsStepRead : Step → Result Step LineFault → Type 0
+IsStepRead step (Ok read) = IsSameStep read step
+IsStepRead step (Err fault) = fault ≡ line.NoMemory
 
 -- ---- a script
 

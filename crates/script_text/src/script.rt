@@ -4,7 +4,7 @@ ghost use Rattle.std.specs.Prelude.{◌≡◌, ℕ, false, List, ◌∷◌, IfOk
 ghost use Rattle.std.specs.Option.{option_copied};
 ghost use Rattle.gate_rules.specs.Rules.{GateRules};
 ghost use Rattle.script_text.specs.Fields.{IsNumberField};
-ghost use Rattle.script_text.specs.Script.{IsNumberBefore, IsRead, IsReadAfter, IsUnreadScript, SaysScript, SaysSites};
+ghost use Rattle.script_text.specs.Script.{IsNumberBefore, IsStepRead, IsReadAfter, IsUnreadScript, SaysScript, SaysSites};
 ghost use Rattle.script_text.specs.Script.{SaysStep, line_fault_of, most_site, names_site};
 
 use super::fault::ScriptFault;
@@ -115,7 +115,7 @@ fn read_sites(line: &[u8]) -> Option<u16>
 fn read_step<'a>(alloc: Global, line: &[u8], gate: Option<&'a Gate>) -> Result<Step<'a>, LineFault>
     ensures says { IfOk result (SaysStep (option_copied gate.entry) line.now) }
     // What a line says is read.
-    ensures only { (step : Step) → SaysStep (option_copied gate.entry) line.now step → IsRead step result }
+    ensures only { (step : Step) → SaysStep (option_copied gate.entry) line.now step → IsStepRead step result }
 {
     if let Some(fields) = after_word(line, b"intake") {
         return read_intake(alloc, fields);
@@ -151,7 +151,7 @@ fn read_step<'a>(alloc: Global, line: &[u8], gate: Option<&'a Gate>) -> Result<S
 fn read_ready<'a>(field: &[u8], gate: Option<&'a Gate>) -> Result<Step<'a>, LineFault>
     ensures says { IfOk result (IsReadAfter (option_copied gate.entry) (codes "ready") field.now) }
     ensures only { (step : Step) → IsReadAfter (option_copied gate.entry) (codes "ready") field.now step
-        → IsRead step result }
+        → IsStepRead step result }
 {
     let Some(gate) = gate else {
         return Err(LineFault::Bad);
@@ -164,7 +164,7 @@ fn read_ready<'a>(field: &[u8], gate: Option<&'a Gate>) -> Result<Step<'a>, Line
 fn read_intake<'a>(alloc: Global, fields: &[u8]) -> Result<Step<'a>, LineFault>
     ensures says { (gate : Option GateRules) → IfOk result (IsReadAfter gate (codes "intake") fields.now) }
     ensures only { (gate : Option GateRules) → (step : Step) → IsReadAfter gate (codes "intake") fields.now step
-        → IsRead step result }
+        → IsStepRead step result }
 {
     let Some((site, body)) = site_before(fields) else {
         return Err(LineFault::Bad);
@@ -179,7 +179,7 @@ fn read_intake<'a>(alloc: Global, fields: &[u8]) -> Result<Step<'a>, LineFault>
 fn read_send<'a>(alloc: Global, fields: &[u8]) -> Result<Step<'a>, LineFault>
     ensures says { (gate : Option GateRules) → IfOk result (IsReadAfter gate (codes "send") fields.now) }
     ensures only { (gate : Option GateRules) → (step : Step) → IsReadAfter gate (codes "send") fields.now step
-        → IsRead step result }
+        → IsStepRead step result }
 {
     let Some((site, front)) = site_before(fields) else {
         return Err(LineFault::Bad);
@@ -219,7 +219,7 @@ fn line_fault(fault: &OpTextFault) -> LineFault
 fn read_restart<'a>(fields: &[u8]) -> Result<Step<'a>, LineFault>
     ensures says { (gate : Option GateRules) → IfOk result (IsReadAfter gate (codes "restart") fields.now) }
     ensures only { (gate : Option GateRules) → (step : Step) → IsReadAfter gate (codes "restart") fields.now step
-        → IsRead step result }
+        → IsStepRead step result }
 {
     let Some((site, start)) = site_before(fields) else {
         return Err(LineFault::Bad);
@@ -235,7 +235,7 @@ fn read_restart<'a>(fields: &[u8]) -> Result<Step<'a>, LineFault>
 fn read_deliver<'a>(fields: &[u8]) -> Result<Step<'a>, LineFault>
     ensures says { (gate : Option GateRules) → IfOk result (IsReadAfter gate (codes "deliver") fields.now) }
     ensures only { (gate : Option GateRules) → (step : Step) → IsReadAfter gate (codes "deliver") fields.now step
-        → IsRead step result }
+        → IsStepRead step result }
 {
     let Some((packet, site)) = number_before(fields, u64::MAX) else {
         return Err(LineFault::Bad);

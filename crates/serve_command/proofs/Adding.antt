@@ -9,7 +9,7 @@ use Rattle.replica_core.specs.Sets.{IsSameSet}
 use Rattle.review_ops.specs.Operation.{Operation}
 use Rattle.site_journal.specs.Book.{Book, IsHolding, IsOpened}
 use Rattle.site_journal.specs.Tape.{Changes, Image, IsSettled}
-use Rattle.site_journal.specs.Text.{Says}
+use Rattle.site_journal.specs.Text.{SaysJournal}
 use Rattle.serve_command.specs.Beginning.{IsAdded, lacking_of}
 
 pub none_added : (book : Book) (gathered : List Operation) → IsAdded book gathered book gathered
@@ -93,7 +93,7 @@ filled_up own loaded op =
 -- a journal that was opened says the operations of its record
 pub opened_says : (old new : Option Image) (own : List Operation) (torn : ℕ)
     → Changes old new (λ i j. IsSettled j × IsOpened i.contents own torn j.contents)
-    → (ops : List Operation) × IfSome new (λ i. IsSettled i × Says i.contents ops []) × IsSameSet own ops
+    → (ops : List Operation) × IfSome new (λ i. IsSettled i × SaysJournal i.contents ops []) × IsSameSet own ops
 opened_says None None own torn changes = (own, tt, λ op. refl)
 opened_says None (Some j) own torn changes = absurd changes
 opened_says (Some i) None own torn changes = absurd changes

@@ -185,3 +185,18 @@ fn a_journal_is_one_process_s(rt: HostRuntime) -> Result<(), Fail> {
     fs::remove_file(&rt, "held.tmp")?;
     Ok(())
 }
+
+/// A journal that the system doesn't sync is refused: it answers so for a device that keeps nothing.
+#[test]
+fn a_journal_that_is_not_synced_is_refused(rt: HostRuntime) {
+    let ended = serve_input(rt, journal_words(rt.alloc(), "/dev/null"));
+    assert!(rt; matches!(&ended, Ended::Journal(JournalFault::Failed)));
+}
+
+/// A journal whose folder the system doesn't sync is refused, before it is read: it answers so for the folder of a
+/// process.
+#[test]
+fn a_journal_whose_folder_is_not_synced_is_refused(rt: HostRuntime) {
+    let ended = serve_input(rt, journal_words(rt.alloc(), "/proc/self/comm"));
+    assert!(rt; matches!(&ended, Ended::Journal(JournalFault::Failed)));
+}

@@ -8,9 +8,9 @@ use Rattle.review_ops.specs.Good.{IsGood}
 use Rattle.op_text.specs.Spelling.{SpellsOperation}
 use Rattle.op_text.specs.Text.{operation_text, IsOneLine}
 use Rattle.snapshot_text.specs.Snapshot.{operation_lines}
-use Rattle.snapshot_text.specs.Sound.{AreSound}
+use Rattle.snapshot_text.specs.Sound.{AreSoundOperations}
 use Rattle.site_journal.specs.Prefixes.{IsPrefix}
-use Rattle.site_journal.specs.Text.{header_line, whole_lines, AreShort, SayOperations, IsTorn, Says, IsFresh}
+use Rattle.site_journal.specs.Text.{header_line, whole_lines, AreShort, SayOperations, IsTorn, SaysJournal, IsFresh}
 use Rattle.site_journal.proofs.Bytes.{Plain, plain_of, has_none, plain_front, within_line, same_back}
 use Rattle.site_journal.proofs.Lines.{say-append, whole-append, lines_are_whole, written_say}
 
@@ -50,8 +50,8 @@ front_of_lines (q ∷ qs) (op ∷ ops) a b says e =
     ]
 
 -- lines before it
-pub says_front : (text left more : List ℕ) (ops later : List Operation) → Says text ops [] → left ≡ text ++ more
-    → (front : Front later more) → Says left (ops ++ take front.count later) front.rest
+pub says_front : (text left more : List ℕ) (ops later : List Operation) → SaysJournal text ops [] → left ≡ text ++ more
+    → (front : Front later more) → SaysJournal left (ops ++ take front.count later) front.rest
 says_front text left more ops later says e front = record {
   pieces = says.pieces ++ front.pieces;
   whole = e ∙ ap (λ l. l ++ more) (says.whole ∙ ap (λ l. header_line ++ l) (append-nil (whole_lines says.pieces)))
@@ -65,20 +65,20 @@ says_front text left more ops later says e front = record {
 
 module _ (line : (op : Operation) → IsNumbered op.stamp → IsGood op.deed → IsOneLine (operation_text op))
     (spells : (op : Operation) → IsNumbered op.stamp → IsGood op.deed → SpellsOperation (operation_text op) op) where
-  pub crash_of_lines : (text left : List ℕ) (ops more : List Operation) → Says text ops [] → AreSound more
+  pub crash_of_lines : (text left : List ℕ) (ops more : List Operation) → SaysJournal text ops [] → AreSoundOperations more
       → AreShort more
       → IsPrefix text left → IsPrefix left (text ++ operation_lines more)
-      → (count : ℕ) × (rest : List ℕ) × Says left (ops ++ take count more) rest
+      → (count : ℕ) × (rest : List ℕ) × SaysJournal left (ops ++ take count more) rest
   crash_of_lines text left ops more says sound short least most =
       let whole : text ++ operation_lines more ≡ text ++ (least.0 ++ most.0) = most.1 ∙ ap (λ l. l ++ most.0) least.1 ∙ append_assoc text least.0 most.0 in
       let back : whole_lines (map operation_text more) ≡ least.0 ++ most.0 = sym (lines_are_whole more) ∙ same_back text (operation_lines more) (least.0 ++ most.0) whole in
       let front = front_of_lines (map operation_text more) more least.0 most.0 (written_say line spells more sound short) back in
       (front.count, front.rest, says_front text left least.0 ops more says least.1 front)
 
-pub crash_of_header : (left : List ℕ) → IsPrefix left header_line → IsFresh left ⊎ Says left [] []
+pub crash_of_header : (left : List ℕ) → IsPrefix left header_line → IsFresh left ⊎ SaysJournal left [] []
 crash_of_header left most = by_rest most.0 most.1
   where
-    by_rest : (rest : List ℕ) → header_line ≡ left ++ rest → IsFresh left ⊎ Says left [] []
+    by_rest : (rest : List ℕ) → header_line ≡ left ++ rest → IsFresh left ⊎ SaysJournal left [] []
     by_rest [] e = inr (record {
       pieces = [];
       whole = sym (append-nil left) ∙ sym e ∙ sym (append-nil header_line);

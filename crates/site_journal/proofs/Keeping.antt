@@ -3,15 +3,16 @@ use Rattle.std.proofs.Common.{◌≡◌, ℕ, ◌+◌, ◌<◌, ◌≤◌, Bool,
 use Rattle.std.proofs.Common.{length, take, get_or, refl, sym, ap, ◌∙◌, subst, arith, append-nil, length-append}
 use Rattle.std.specs.Prelude.{IfSome}
 use Rattle.std.proofs.lemmas.List.{take_at, take_all, take_more}
+use Rattle.line_reader.specs.Lines.{line_limit}
 use Rattle.byte_ends.specs.Failures.{most_failures, OneFailed, NoneFailed}
 use Rattle.review_ops.specs.Operation.{Operation}
 use Rattle.review_ops.specs.Timestamp.{IsNumbered}
 use Rattle.review_ops.specs.Good.{IsGood}
 use Rattle.op_text.specs.Text.{operation_text}
 use Rattle.snapshot_text.specs.Snapshot.{operation_lines}
-use Rattle.snapshot_text.specs.Sound.{IsSound, AreSound}
+use Rattle.snapshot_text.specs.Sound.{IsSound, AreSoundOperations}
 use Rattle.site_journal.specs.Prefixes.{IsPrefix}
-use Rattle.site_journal.specs.Text.{most_line, AreShort, Says}
+use Rattle.site_journal.specs.Text.{AreShort, SaysJournal}
 use Rattle.site_journal.specs.Tape.{Image, IsLeftBy, IsSettled, Changes, Grows, Steadies, Shrinks}
 use Rattle.site_journal.specs.Book.{TakesBack, Recovers}
 use Rattle.site_journal.proofs.Bytes.{prefix-trans, prefix-length}
@@ -78,22 +79,22 @@ module _ (len : ℕ) (lines : List ℕ) where
 -- ---- lines of operations
 
 pub sound_next : (ops : List Operation) (i : ℕ) (op : Operation) → i < length ops → op ≡ get_or ops i op
-    → IsNumbered op.stamp → IsGood op.deed → AreSound (take i ops) → AreSound (take (i + 1) ops)
+    → IsNumbered op.stamp → IsGood op.deed → AreSoundOperations (take i ops) → AreSoundOperations (take (i + 1) ops)
 sound_next ops i op within is numbered good sound =
     let here : IsSound op = record { numbered = numbered; good = good } in
     rw (take_more ops i op within) (push (take i ops) (get_or ops i op) sound (subst IsSound is here))
   where
-    push : (xs : List Operation) (x : Operation) → AreSound xs → IsSound x → AreSound (xs ++ x ∷ [])
+    push : (xs : List Operation) (x : Operation) → AreSoundOperations xs → IsSound x → AreSoundOperations (xs ++ x ∷ [])
     push [] x sound is = (is, tt)
     push (y ∷ xs) x sound is = (sound.0, push xs x sound.1 is)
 
 pub short_next : (ops : List Operation) (i : ℕ) (op : Operation) → i < length ops → op ≡ get_or ops i op
-    → length (operation_text op) ≤ most_line → AreShort (take i ops) → AreShort (take (i + 1) ops)
+    → length (operation_text op) ≤ line_limit → AreShort (take i ops) → AreShort (take (i + 1) ops)
 short_next ops i op within is short all =
     rw (take_more ops i op within)
-    (push (take i ops) (get_or ops i op) all (subst (λ o. length (operation_text o) ≤ most_line) is short))
+    (push (take i ops) (get_or ops i op) all (subst (λ o. length (operation_text o) ≤ line_limit) is short))
   where
-    push : (xs : List Operation) (x : Operation) → AreShort xs → length (operation_text x) ≤ most_line
+    push : (xs : List Operation) (x : Operation) → AreShort xs → length (operation_text x) ≤ line_limit
         → AreShort (xs ++ x ∷ [])
     push [] x sound is = (is, tt)
     push (y ∷ xs) x sound is = (sound.0, push xs x sound.1 is)
@@ -105,7 +106,7 @@ not_true e = cc
 
 module _ (before ops : List Operation) where
   abbrev pub Held : Image → Type 0
-  Held i = IsSettled i × Says i.contents before []
+  Held i = IsSettled i × SaysJournal i.contents before []
 
   abbrev pub Survives : Type 0 → Image → Type 0
   Survives are_all i = (left : List ℕ) → IsLeftBy i left → Recovers before ops are_all left
@@ -116,7 +117,7 @@ module _ (before ops : List Operation) where
       same_ends i.contents left (subst (λ l. IsPrefix l left) held.0.synced is.least) (subst (λ l. IsPrefix left l) held.0.written is.most) in record {
         count = 0;
         rest = [];
-        says = subst (λ l. Says left l []) (sym (append-nil before)) (subst (λ l. Says l before []) (sym same) held.1);
+        says = subst (λ l. SaysJournal left l []) (sym (append-nil before)) (subst (λ l. SaysJournal l before []) (sym same) held.1);
         all = λ all. absurd (never all);
       }
 
@@ -129,9 +130,9 @@ module _ (before ops : List Operation) where
   undone_survives are_all never old mid new same held changes =
       some_after mid new Held (λ i j. IsSettled j × (j.contents ≡ i.contents)) (Survives are_all)
       (subst (λ o. IfSome o Held) (sym same) held) changes
-      (λ i j h w. left_same are_all never j (w.0, subst (λ l. Says l before []) (sym w.1) h.1))
+      (λ i j h w. left_same are_all never j (w.0, subst (λ l. SaysJournal l before []) (sym w.1) h.1))
 
-  module _ (more : (text : List ℕ) → Says text before [] → Says (text ++ operation_lines ops) (before ++ ops) []) where
+  module _ (more : (text : List ℕ) → SaysJournal text before [] → SaysJournal (text ++ operation_lines ops) (before ++ ops) []) where
     left_kept : (are_all : Type 0) (i j : Image) → Held i → IsSettled j → j.contents ≡ i.contents ++ operation_lines ops
         → Survives are_all j
     left_kept are_all i j held settled whole left is =
@@ -139,8 +140,8 @@ module _ (before ops : List Operation) where
         same_ends j.contents left (subst (λ l. IsPrefix l left) settled.synced is.least) (subst (λ l. IsPrefix left l) settled.written is.most) in record {
           count = length ops;
           rest = [];
-          says = subst (λ l. Says left (before ++ l) []) (sym (take_all (length ops) ops (omega arith)))
-              (subst (λ l. Says l (before ++ ops) []) (sym (same ∙ whole)) (more i.contents held.1));
+          says = subst (λ l. SaysJournal left (before ++ l) []) (sym (take_all (length ops) ops (omega arith)))
+              (subst (λ l. SaysJournal l (before ++ ops) []) (sym (same ∙ whole)) (more i.contents held.1));
           all = λ all. refl;
         }
 
@@ -152,7 +153,7 @@ module _ (before ops : List Operation) where
         (subst (λ o. IfSome o Held) (sym same) held) changes
         (λ i j h w. left_kept are_all i j h w.0 (w.1 ∙ ap (λ l. i.contents ++ l) is))
 
-  module _ (lines : (text left : List ℕ) → Says text before [] → IsPrefix text left → IsPrefix left (text ++ operation_lines ops) → (count : ℕ) × (rest : List ℕ) × Says left (before ++ take count ops) rest) where
+  module _ (lines : (text left : List ℕ) → SaysJournal text before [] → IsPrefix text left → IsPrefix left (text ++ operation_lines ops) → (count : ℕ) × (rest : List ℕ) × SaysJournal left (before ++ take count ops) rest) where
     left_doubtful : (are_all : Type 0) → (are_all → ⊥) → (i j : Image) → Held i → IsPrefix i.contents j.synced
         → IsPrefix j.written (i.contents ++ operation_lines ops) → Survives are_all j
     left_doubtful are_all never i j held least most left is =

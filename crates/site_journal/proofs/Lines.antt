@@ -10,8 +10,8 @@ use Rattle.review_ops.specs.Good.{IsGood}
 use Rattle.op_text.specs.Spelling.{SpellsOperation}
 use Rattle.op_text.specs.Text.{operation_text, IsOneLine}
 use Rattle.snapshot_text.specs.Snapshot.{operation_lines}
-use Rattle.snapshot_text.specs.Sound.{AreSound}
-use Rattle.site_journal.specs.Text.{header_line, journal_text, whole_lines, AreShort, SayOperations, IsTorn, Says}
+use Rattle.snapshot_text.specs.Sound.{AreSoundOperations}
+use Rattle.site_journal.specs.Text.{header_line, journal_text, whole_lines, AreShort, SayOperations, IsTorn, SaysJournal}
 use Rattle.site_journal.specs.Text.{IsFresh}
 use Rattle.site_journal.proofs.Bytes.{Plain, plain_of, has_none, no_line_end, first_line, same_back}
 
@@ -44,7 +44,7 @@ lines_are_whole (op ∷ ops) = ap (λ l. as_line (operation_text op) ++ l) (line
 
 module _ (line : (op : Operation) → IsNumbered op.stamp → IsGood op.deed → IsOneLine (operation_text op))
     (spells : (op : Operation) → IsNumbered op.stamp → IsGood op.deed → SpellsOperation (operation_text op) op) where
-  pub written_say : (ops : List Operation) → AreSound ops → AreShort ops → SayOperations (map operation_text ops) ops
+  pub written_say : (ops : List Operation) → AreSoundOperations ops → AreShort ops → SayOperations (map operation_text ops) ops
   written_say [] sound short = tt
   written_say (op ∷ ops) sound short = (
     record {
@@ -56,8 +56,8 @@ module _ (line : (op : Operation) → IsNumbered op.stamp → IsGood op.deed →
     written_say ops sound.1 short.1,
   )
 
-  pub says_more : (text : List ℕ) (ops more : List Operation) → Says text ops [] → AreSound more → AreShort more
-      → Says (text ++ operation_lines more) (ops ++ more) []
+  pub says_more : (text : List ℕ) (ops more : List Operation) → SaysJournal text ops [] → AreSoundOperations more → AreShort more
+      → SaysJournal (text ++ operation_lines more) (ops ++ more) []
   says_more text ops more says sound short =
       let texts = map operation_text more in record {
         pieces = says.pieces ++ texts;
@@ -71,7 +71,7 @@ module _ (line : (op : Operation) → IsNumbered op.stamp → IsGood op.deed →
         torn = says.torn;
       }
 
-  pub says_first : (ops : List Operation) → AreSound ops → AreShort ops → Says (journal_text ops) ops []
+  pub says_first : (ops : List Operation) → AreSoundOperations ops → AreShort ops → SaysJournal (journal_text ops) ops []
   says_first ops sound short = record {
     pieces = map operation_text ops;
     whole = ap (λ l. header_line ++ l) (lines_are_whole ops ∙ sym (append-nil (whole_lines (map operation_text ops))));
@@ -105,14 +105,14 @@ module _ (once : (text : List ℕ) (op other : Operation) → SpellsOperation te
       let head : o ≡ x = once p o x a.0.spells (subst (λ t. SpellsOperation t x) (sym both.0) b.0.spells) in
       let tail : ops ≡ others = rest.0 in (cc, rest.1)
 
-  pub one_reading : (text : List ℕ) (ops others : List Operation) (rest other : List ℕ) → Says text ops rest
-      → Says text others other → (ops ≡ others) × (rest ≡ other)
+  pub one_reading : (text : List ℕ) (ops others : List Operation) (rest other : List ℕ) → SaysJournal text ops rest
+      → SaysJournal text others other → (ops ≡ others) × (rest ≡ other)
   one_reading text ops others rest other a b =
       let whole : header_line ++ (whole_lines a.pieces ++ rest) ≡ header_line ++ (whole_lines b.pieces ++ other) = sym a.whole ∙ b.whole in
       let bodies : whole_lines a.pieces ++ rest ≡ whole_lines b.pieces ++ other = same_back header_line (whole_lines a.pieces ++ rest) (whole_lines b.pieces ++ other) whole in
       same_lines a.pieces b.pieces ops others rest other a.says b.says (plain_of rest a.torn.plain)
       (plain_of other b.torn.plain) bodies
 
-pub not_fresh : (text : List ℕ) (ops : List Operation) (rest : List ℕ) → Says text ops rest → ¬ IsFresh text
+pub not_fresh : (text : List ℕ) (ops : List Operation) (rest : List ℕ) → SaysJournal text ops rest → ¬ IsFresh text
 not_fresh text ops rest says fresh = let few = fresh.1 in omega
     (arith, ap length says.whole, length-append header_line (whole_lines says.pieces ++ rest), few)

@@ -8,11 +8,11 @@ use Rattle.std.proofs.lemmas.List.{take_at, take_all, length-take}
 use Rattle.review_ops.specs.Operation.{Operation}
 use Rattle.replica_core.specs.Journal.{all_arrived}
 use Rattle.site_journal.specs.Prefixes.{IsPrefix}
-use Rattle.site_journal.specs.Text.{header_line, whole_lines, Says, IsTorn, IsFresh}
+use Rattle.site_journal.specs.Text.{header_line, whole_lines, SaysJournal, IsTorn, IsFresh}
 use Rattle.site_journal.specs.Tape.{Image, IsSettled, Changes, Grows, Steadies, IsSynced, Shrinks, IsAtStart}
 use Rattle.site_journal.specs.Book.{IsOpened, IsUnharmed}
-use Rattle.site_journal.specs.Fault.{IsRefusal}
-use Rattle.site_journal.specs.Reading.{IsFound}
+use Rattle.site_journal.specs.Fault.{IsJournalRefusal}
+use Rattle.site_journal.specs.Reading.{IsFoundText}
 use Rattle.site_journal.specs.declared.fault.JournalFault.{JournalFault}
 use Rattle.site_journal.specs.declared.reading.Found.TheVariants.{Lines}
 use Rattle.site_journal.proofs.Bytes.{prefix-trans, has_none}
@@ -139,7 +139,7 @@ opened_fresh text journal after fresh none is = record {
   same = inr is;
 }
 
-pub opened_lines : (text journal after : _) (ops : List Operation) (rest : List ℕ) (len torn : ℕ) → Says text ops rest
+pub opened_lines : (text journal after : _) (ops : List Operation) (rest : List ℕ) (len torn : ℕ) → SaysJournal text ops rest
     → journal ≡ all_arrived [] ops → torn ≡ length rest → length text ≡ len + torn → after ≡ take len text
     → IsOpened text journal torn after
 opened_lines text journal after ops rest len torn says taken few n cut =
@@ -185,15 +185,15 @@ module _ (image found after : Option Image) (left : Option (List ℕ)) (start : 
       (λ i j h c. (c.0, ap length c.1 ∙ header_length ∙ sym count, opened_fresh i.contents journal j.contents h.1.0 none c.1))
 
   pub lines_open : (journal : List Operation) (len torn : ℕ)
-      → IfSome left (λ text. IsFound text (Lines journal len torn))
+      → IfSome left (λ text. IsFoundText text (Lines journal len torn))
       → Changes found after (λ i j. IsSettled j × (j.contents ≡ take len i.contents))
       → Changes image after
       (λ i j. IsSettled j × (length j.contents ≡ len) × IsOpened i.contents journal torn j.contents)
   lines_open journal len torn h c =
-      changes_from image after (λ i. (i.doubted ≡ false) × IsFound i.contents (Lines journal len torn))
+      changes_from image after (λ i. (i.doubted ≡ false) × IsFoundText i.contents (Lines journal len torn))
       (λ i j. IsSettled j × (j.contents ≡ take len i.contents))
       (λ i j. IsSettled j × (length j.contents ≡ len) × IsOpened i.contents journal torn j.contents)
-      (at_start image left (λ text. IsFound text (Lines journal len torn)) start h)
+      (at_start image left (λ text. IsFoundText text (Lines journal len torn)) start h)
       (moved (λ i j. IsSettled j × (j.contents ≡ take len i.contents)) c)
       (λ i j h c. (
         c.0,
@@ -202,13 +202,13 @@ module _ (image found after : Option Image) (left : Option (List ℕ)) (start : 
       ))
 
   pub lines_fail : (journal : List Operation) (len torn : ℕ)
-      → IfSome left (λ text. IsFound text (Lines journal len torn))
+      → IfSome left (λ text. IsFoundText text (Lines journal len torn))
       → Changes found after (λ i j. IsPrefix (take len i.synced) j.synced × IsPrefix j.written i.written)
       → Changes image after IsUnharmed
   lines_fail journal len torn h c =
-      changes_from image after (λ i. (i.doubted ≡ false) × IsFound i.contents (Lines journal len torn))
+      changes_from image after (λ i. (i.doubted ≡ false) × IsFoundText i.contents (Lines journal len torn))
       (λ i j. IsPrefix (take len i.synced) j.synced × IsPrefix j.written i.written) IsUnharmed
-      (at_start image left (λ text. IsFound text (Lines journal len torn)) start h)
+      (at_start image left (λ text. IsFoundText text (Lines journal len torn)) start h)
       (moved (λ i j. IsPrefix (take len i.synced) j.synced × IsPrefix j.written i.written) c)
       (λ i j h c.
       let e : length i.contents - length h.1.1 ≡ len = omega (arith, h.1.4, h.1.5) in

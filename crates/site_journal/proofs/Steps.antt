@@ -7,7 +7,7 @@ use Rattle.std.proofs.Common.{drop, refl, sym, ap, ◌∙◌, subst, arith, appe
 use Rattle.std.proofs.Common.{take-append-drop}
 use Rattle.std.proofs.lemmas.List.{take_at, take_all, take-append-le}
 use Rattle.byte_ends.specs.Lines.{as_line}
-use Rattle.line_reader.specs.Lines.{HasNoLf, HasFirstLf}
+use Rattle.line_reader.specs.Lines.{HasNoLf, line_limit}
 use Rattle.review_ops.specs.Operation.{Operation}
 use Rattle.replica_core.specs.Journal.{arrived}
 use Rattle.replica_core.specs.JournalLaws.{all_arrived-push}
@@ -18,9 +18,9 @@ use Rattle.op_text.specs.declared.fault.OpTextFault.TheVariants as text
 use Rattle.site_journal.specs.declared.fault.LineCause.TheVariants as cause
 use Rattle.site_journal.specs.declared.fault.JournalFault.TheVariants.{BadLine}
 use Rattle.site_journal.specs.Prefixes.{IsPrefix}
-use Rattle.site_journal.specs.Text.{header_line, most_line, whole_lines, IsFresh}
-use Rattle.site_journal.specs.Fault.{IsNoLine, IsBadHeader, IsRefusal, most_text, line_fault_of}
-use Rattle.site_journal.specs.Reading.{HasRead, IsFound}
+use Rattle.site_journal.specs.Text.{header_line, whole_lines, IsFresh}
+use Rattle.site_journal.specs.Fault.{IsNoLine, IsBadHeader, IsJournalRefusal, most_text, line_fault_of}
+use Rattle.site_journal.specs.Reading.{HasRead, IsFoundText}
 use Rattle.site_journal.specs.declared.reading.Found.TheVariants.{Lines}
 use Rattle.site_journal.proofs.Bytes.{has_none}
 use Rattle.site_journal.proofs.Lines.{say-append, whole-push, whole-length}
@@ -39,7 +39,7 @@ read_none = record {
 }
 
 -- more of a line
-pub read_more : (came journal held piece : _) (next : ℕ) → HasNoLf piece → length (held ++ piece) ≤ most_line
+pub read_more : (came journal held piece : _) (next : ℕ) → HasNoLf piece → length (held ++ piece) ≤ line_limit
     → HasRead came journal held next → HasRead (came ++ piece) journal (held ++ piece) next
 read_more came journal held piece next plain short read = record {
   pieces = read.pieces;
@@ -68,9 +68,9 @@ read_line came journal held op next spells read = record {
 }
 
 -- a line that is too long
-pub too_long : (came journal held piece : _) (next : ℕ) → HasNoLf piece → most_line < length (held ++ piece)
+pub too_long : (came journal held piece : _) (next : ℕ) → HasNoLf piece → line_limit < length (held ++ piece)
     → HasRead came journal held next
-    → (later : List ℕ) → IsRefusal ((came ++ piece) ++ later) (BadLine next cause.TooLong)
+    → (later : List ℕ) → IsJournalRefusal ((came ++ piece) ++ later) (BadLine next cause.TooLong)
 too_long came journal held piece next plain long read later = record {
   pieces = read.pieces;
   ops = read.ops;
@@ -93,7 +93,7 @@ whole_bad came journal held next read later =
 
 bad_line : (came journal held : _) (next : ℕ) (why : OpTextFault) → (later : List ℕ) → HasRead came journal held next
     → IsNoLine (as_line held ++ later) (cause.Text why)
-    → IsRefusal ((came ++ 10 ∷ []) ++ later) (BadLine next (cause.Text why))
+    → IsJournalRefusal ((came ++ 10 ∷ []) ++ later) (BadLine next (cause.Text why))
 bad_line came journal held next why later read bad = record {
   pieces = read.pieces;
   ops = read.ops;
@@ -107,7 +107,7 @@ bad_line came journal held next why later read bad = record {
 pub not_read : (came journal held : _) (next : ℕ) (why : OpTextFault) → IsRefusalOf form.Operation held why
     → ((op : Operation) → SpellsOperation held op → why ≡ text.NoMemory)
     → HasRead came journal held next → (later : List ℕ)
-    → IsRefusal ((came ++ 10 ∷ []) ++ later) (line_fault_of next why)
+    → IsJournalRefusal ((came ++ 10 ∷ []) ++ later) (line_fault_of next why)
 not_read came journal held next text.NotJson refused only read later =
     bad_line came journal held next text.NotJson later read
     (held, later, refl, read.torn.plain, refused, λ op spells. cc (only op spells))
@@ -135,7 +135,7 @@ too_many came journal held next many read later =
 
 -- the whole was read
 pub read_found : (came journal held : _) (next len torn : ℕ) → HasRead came journal held next → torn ≡ length held
-    → length came ≡ len + torn → IsFound came (Lines journal len torn)
+    → length came ≡ len + torn → IsFoundText came (Lines journal len torn)
 read_found came journal held next len torn read few e = (read.ops, held, record { pieces = read.pieces; whole = read.whole; says = read.says; torn = read.torn }, read.taken, few, e)
 
 -- ---- at what calls answer
@@ -151,7 +151,7 @@ pub not_read_at : (came journal held bytes : _) (next : ℕ) (why : OpTextFault)
     → IsRefusalOf form.Operation bytes why
     → ((op : Operation) → SpellsOperation bytes op → why ≡ text.NoMemory)
     → HasRead came journal held next → (later : List ℕ)
-    → IsRefusal ((came ++ 10 ∷ []) ++ later) (line_fault_of next why)
+    → IsJournalRefusal ((came ++ 10 ∷ []) ++ later) (line_fault_of next why)
 not_read_at came journal held bytes next why same refused only =
     not_read came journal held next why (subst (λ b. IsRefusalOf form.Operation b why) same refused)
     (λ op spells. only op (subst (λ b. SpellsOperation b op) (sym same) spells))
@@ -165,58 +165,15 @@ line_joined_later came piece later =
 
 -- ---- a block, line by line
 
--- how much of a block was read
-pub record Goes (R S : List ℕ → Type 0) (block rest : List ℕ) : Type 0 where
-  pub done : List ℕ
-  pub whole : block ≡ done ++ rest
-  pub reads : (came : List ℕ) → R came → S (came ++ done)
-
-pub goes_start : (R : List ℕ → Type 0) (block : List ℕ) → Goes R R block block
-goes_start R block = record { done = []; whole = refl; reads = λ came r. subst R (sym (append-nil came)) r }
-
-pub goes_on : (R S T : List ℕ → Type 0) (block rest piece rest' : List ℕ) → Goes R S block rest
-    → rest ≡ as_line piece ++ rest' → ((came : List ℕ) → S came → T (came ++ as_line piece)) → Goes R T block rest'
-goes_on R S T block rest piece rest' goes is step = record {
-  done = goes.done ++ as_line piece;
-  whole = goes.whole ∙ ap (λ l. goes.done ++ l) is ∙ sym (append_assoc goes.done (as_line piece) rest');
-  reads =
-      λ came r. subst T (append_assoc came goes.done (as_line piece)) (step (came ++ goes.done) (goes.reads came r));
-}
-
-pub goes_out : (R S T : List ℕ → Type 0) (block rest : List ℕ) → Goes R S block rest
-    → ((came : List ℕ) → S came → T (came ++ rest)) → (came : List ℕ) → R came → T (came ++ block)
-goes_out R S T block rest goes step came r = subst T
-    (append_assoc came goes.done rest ∙ ap (λ l. came ++ l) (sym goes.whole))
-    (step (came ++ goes.done) (goes.reads came r))
-
-pub goes_wrong : (R S F : List ℕ → Type 0) (block rest piece rest' : List ℕ) → Goes R S block rest
-    → rest ≡ piece ++ rest' → ((came : List ℕ) → S came → (later : List ℕ) → F ((came ++ piece) ++ later))
-    → (came : List ℕ) → R came → (later : List ℕ) → F ((came ++ block) ++ later)
-goes_wrong R S F block rest piece rest' goes is fails came r later =
-    subst F (
-    sym (append_assoc ((came ++ goes.done) ++ piece) rest' later)
-    ∙ ap (λ l. l ++ later) (
-    append_assoc (came ++ goes.done) piece rest'
-    ∙ ap (λ l. (came ++ goes.done) ++ l) (sym is)
-    ∙ append_assoc came goes.done rest
-    ∙ ap (λ l. came ++ l) (sym goes.whole)
-    )
-    ) (fails (came ++ goes.done) (goes.reads came r) (rest' ++ later))
-
-pub line_first : (rest piece later : List ℕ) (at : ℕ) → piece ≡ take at rest → later ≡ drop (at + 1) rest
-    → HasFirstLf rest at → rest ≡ as_line piece ++ later
-line_first rest piece later at front back first =
-    first.whole ∙ ap (λ l. as_line l ++ drop (at + 1) rest) (sym front) ∙ ap (λ l. as_line piece ++ l) (sym back)
-
 -- ---- what a feed gave
 
 pub refused_all : (left new : Option (List ℕ)) (part came : List ℕ) (fault : JournalFault) → Consumes left new part
-    → ((later : List ℕ) → IsRefusal ((came ++ part) ++ later) fault)
-    → IfSome left (λ more. IsRefusal (came ++ more) fault)
+    → ((later : List ℕ) → IsJournalRefusal ((came ++ part) ++ later) fault)
+    → IfSome left (λ more. IsJournalRefusal (came ++ more) fault)
 refused_all None new part came fault took fails = tt
 refused_all (Some x) None part came fault took fails = absurd took
 refused_all (Some x) (Some y) part came fault took fails =
-    subst (λ l. IsRefusal l fault) (append_assoc came part y ∙ ap (λ l. came ++ l) (sym took)) (fails y)
+    subst (λ l. IsJournalRefusal l fault) (append_assoc came part y ∙ ap (λ l. came ++ l) (sym took)) (fails y)
 
 -- what was consumed before
 pub after_front : (left new : Option (List ℕ)) (part : List ℕ) (P Q : List ℕ → Type 0) → Consumes left new part

@@ -5,7 +5,7 @@ use Rattle.replica_core.specs.Journal.{all_arrived}
 use Rattle.snapshot_text.specs.Snapshot.{operation_lines}
 use Rattle.byte_ends.specs.Failures.{NoneFailed}
 use Rattle.site_journal.specs.Prefixes.{IsPrefix}
-use Rattle.site_journal.specs.Text.{header_line, IsFresh, Says}
+use Rattle.site_journal.specs.Text.{header_line, IsFresh, SaysJournal}
 use Rattle.site_journal.specs.Tape.{Image, IsLeftBy, IsSettled, Changes}
 use Rattle.site_journal.specs.declared.journal.Written.{Written}
 use Rattle.site_journal.specs.declared.journal.Written.TheVariants.{Kept, Undone, Doubtful}
@@ -18,10 +18,10 @@ use Rattle.site_journal.specs.declared.fault.KeepFault.TheVariants.{NoMemory, To
 pub record IsOpened (text : List ℕ) (journal : List Operation) (lost : ℕ) (after : List ℕ) : Type 0 where
   pub ops : List Operation
   pub rest : List ℕ
-  pub said : Says text ops rest ⊎ (IsFresh text × (ops ≡ []) × (rest ≡ []))
+  pub said : SaysJournal text ops rest ⊎ (IsFresh text × (ops ≡ []) × (rest ≡ []))
   pub taken : journal ≡ all_arrived [] ops
   pub torn : lost ≡ length rest
-  pub left : Says after ops []
+  pub left : SaysJournal after ops []
   pub same : (text ≡ after ++ rest) ⊎ (after ≡ header_line)
 
 -- after an opening that failed at its tape: nothing of the whole lines is lost, and nothing came but the first line
@@ -29,7 +29,7 @@ abbrev pub IsUnharmed : Image → Image → Type 0
 IsUnharmed old new =
     (new ≡ old)
     ⊎ (IsFresh old.contents × (IsPrefix new.written old.written ⊎ IsPrefix new.written header_line))
-    ⊎ ((ops : List Operation) × (rest : List ℕ) × Says old.contents ops rest
+    ⊎ ((ops : List Operation) × (rest : List ℕ) × SaysJournal old.contents ops rest
     × IsPrefix (take (length old.contents - length rest) old.synced) new.synced × IsPrefix new.written old.written)
 
 -- ---- keeping
@@ -45,7 +45,7 @@ pub record Book : Type 0 where
 -- the journal has these operations, all of them synced
 pub record IsHolding (book : Book) (ops : List Operation) : Type 0 where
   pub sound : book.is_spoiled ≡ false
-  pub holds : IfSome book.image (λ i. IsSettled i × Says i.contents ops [])
+  pub holds : IfSome book.image (λ i. IsSettled i × SaysJournal i.contents ops [])
 
 -- the lines of the operations were added, and all is synced
 pub record IsKept (old : Book) (ops : List Operation) (new : Book) : Type 0 where
@@ -68,7 +68,7 @@ IsNotKept old Failed new =
 pub record Recovers (acknowledged ops : List Operation) (are_all : Type 0) (left : List ℕ) : Type 0 where
   pub count : ℕ
   pub rest : List ℕ
-  pub says : Says left (acknowledged ++ take count ops) rest
+  pub says : SaysJournal left (acknowledged ++ take count ops) rest
   pub all : are_all → count ≡ length ops
 
 -- whatever a crash leaves, that is so

@@ -2,15 +2,15 @@
 use Rattle.std.specs.Prelude.{◌≡◌, ◌+◌, ◌-◌, ◌^◌, ◌<◌, ℕ, List, ◌++◌, codes, decimal, length}
 use Rattle.byte_ends.specs.Failures.{OneFailed}
 use Rattle.byte_ends.specs.Lines.{as_line}
-use Rattle.line_reader.specs.Lines.{HasNoLf}
+use Rattle.line_reader.specs.Lines.{HasNoLf, line_limit}
 use Rattle.review_ops.specs.Operation.{Operation}
 use Rattle.op_text.specs.Spelling.{SpellsOperation}
 use Rattle.op_text.specs.Fault as operation
 use Rattle.op_text.specs.declared.fault.OpTextFault.{OpTextFault}
 use Rattle.op_text.specs.declared.fault.OpTextFault.TheVariants as text
-use Rattle.snapshot_text.specs.Snapshot.{IsCause}
+use Rattle.snapshot_text.specs.Snapshot.{IsLineCause}
 use Rattle.site_journal.specs.Prefixes.{IsPrefix}
-use Rattle.site_journal.specs.Text.{header_line, most_line, SayOperations, whole_lines, IsFresh}
+use Rattle.site_journal.specs.Text.{header_line, SayOperations, whole_lines, IsFresh}
 use Rattle.site_journal.specs.declared.fault.LineCause.{LineCause}
 use Rattle.site_journal.specs.declared.fault.LineCause.TheVariants as cause
 use Rattle.site_journal.specs.declared.fault.JournalFault.{JournalFault}
@@ -19,9 +19,9 @@ use Rattle.site_journal.specs.declared.fault.JournalFault.TheVariants.{BadHeader
 -- what begins with a line that isn't read, or with more bytes than a line has and no line end among them
 abbrev pub IsNoLine : List ℕ → LineCause → Type 0
 IsNoLine text cause.TooLong =
-    (front later : List ℕ) × (text ≡ front ++ later) × HasNoLf front × (most_line < length front)
+    (front later : List ℕ) × (text ≡ front ++ later) × HasNoLf front × (line_limit < length front)
 IsNoLine text (cause.Text fault) =
-    (piece later : List ℕ) × (text ≡ as_line piece ++ later) × HasNoLf piece × IsCause piece fault
+    (piece later : List ℕ) × (text ≡ as_line piece ++ later) × HasNoLf piece × IsLineCause piece fault
     × ((op : Operation) → ¬ SpellsOperation piece op)
 
 -- after the first line come lines of operations, and then what is no line, as that of this number, from 1
@@ -44,20 +44,20 @@ abbrev pub most_text : ℕ
 most_text = 2 ^ 64 - 131072
 
 -- why a text isn't read. A failing end and want of memory say nothing of it
-abbrev pub IsRefusal : List ℕ → JournalFault → Type 0
-IsRefusal text BadHeader = IsBadHeader text
-IsRefusal text (BadLine number why) = IsBadLine text number why
-IsRefusal text TooLong = most_text < length text
-IsRefusal text Failed = Unit {0}
-IsRefusal text NoMemory = Unit {0}
+abbrev pub IsJournalRefusal : List ℕ → JournalFault → Type 0
+IsJournalRefusal text BadHeader = IsBadHeader text
+IsJournalRefusal text (BadLine number why) = IsBadLine text number why
+IsJournalRefusal text TooLong = most_text < length text
+IsJournalRefusal text Failed = Unit {0}
+IsJournalRefusal text NoMemory = Unit {0}
 
 -- after a call that failed the count is one more, and any other fault leaves it
-abbrev pub CountsFault : ℕ → ℕ → JournalFault → Type 0
-CountsFault old new BadHeader = new ≡ old
-CountsFault old new (BadLine number why) = new ≡ old
-CountsFault old new TooLong = new ≡ old
-CountsFault old new Failed = OneFailed old new
-CountsFault old new NoMemory = new ≡ old
+abbrev pub CountsJournalFault : ℕ → ℕ → JournalFault → Type 0
+CountsJournalFault old new BadHeader = new ≡ old
+CountsJournalFault old new (BadLine number why) = new ≡ old
+CountsJournalFault old new TooLong = new ≡ old
+CountsJournalFault old new Failed = OneFailed old new
+CountsJournalFault old new NoMemory = new ≡ old
 
 -- ---- numbers and names
 

@@ -2,7 +2,7 @@
 use Rattle.std.specs.Prelude.{◌≡◌, ◌+◌, ℕ, List, [], ◌++◌, length}
 use Rattle.review_ops.specs.Operation.{Operation}
 use Rattle.replica_core.specs.Journal.{all_arrived}
-use Rattle.site_journal.specs.Text.{header_line, whole_lines, SayOperations, IsTorn, Says, IsFresh}
+use Rattle.site_journal.specs.Text.{header_line, whole_lines, SayOperations, IsTorn, SaysJournal, IsFresh}
 use Rattle.site_journal.specs.Prefixes.{IsPrefix}
 use Rattle.site_journal.specs.declared.reading.Head.{Head}
 use Rattle.site_journal.specs.declared.reading.Head.TheVariants.{Whole, Front, Other}
@@ -20,9 +20,9 @@ pub record HasRead (came : List ℕ) (journal : List Operation) (held : List ℕ
   pub count : next ≡ length pieces + 2
 
 -- what was found in a text
-abbrev pub IsFound : List ℕ → Found → Type 0
-IsFound text (Fresh bytes) = IsFresh text × (bytes ≡ length text)
-IsFound text (Lines journal len torn) = (ops : List Operation) × (rest : List ℕ) × Says text ops rest
+abbrev pub IsFoundText : List ℕ → Found → Type 0
+IsFoundText text (Fresh bytes) = IsFresh text × (bytes ≡ length text)
+IsFoundText text (Lines journal len torn) = (ops : List Operation) × (rest : List ℕ) × SaysJournal text ops rest
     × (journal ≡ all_arrived [] ops) × (torn ≡ length rest) × (length text ≡ len + torn)
 
 -- what is where the first line should be, up to its length

@@ -6,20 +6,20 @@ use Rattle.replica_core.specs.Journal.{all_arrived}
 use Rattle.review_ops.specs.Operation.{Operation}
 use Rattle.snapshot_text.specs.Snapshot.{CountsWriteFault, snapshot_text}
 use Rattle.snapshot_text.specs.declared.fault.WriteSnapFault.TheVariants.{NoMemory, WriteFault}
-use Rattle.site_journal.specs.Text.{Says, IsFresh}
-use Rattle.site_journal.specs.Fault.{IsRefusal}
+use Rattle.site_journal.specs.Text.{SaysJournal, IsFresh}
+use Rattle.site_journal.specs.Fault.{IsJournalRefusal}
 use Rattle.site_journal.specs.declared.recovery.RecoverFault.{RecoverFault}
 use Rattle.site_journal.specs.declared.recovery.RecoverFault.TheVariants.{Journal, Snapshot}
 
 -- the operations of its whole lines; all that is left out is a torn line, or a prefix of the first one
 abbrev pub IsRecovered : List ℕ → List Operation → ℕ → Type 0
 IsRecovered text ops torn =
-    ((rest : List ℕ) × Says text ops rest × (torn ≡ length rest)) ⊎ (IsFresh text × (ops ≡ []) × (torn ≡ length text))
+    ((rest : List ℕ) × SaysJournal text ops rest × (torn ≡ length rest)) ⊎ (IsFresh text × (ops ≡ []) × (torn ≡ length text))
 
 -- a journal that isn't read has nothing written of it. Where the drain failed, a proper prefix of the snapshot is
 -- written
 abbrev pub IsRefusedRecovery : Option (List ℕ) → Option (List ℕ) → RecoverFault → Option (List ℕ) → Type 0
-IsRefusedRecovery left old (Journal fault) new = IfSome left (λ text. IsRefusal text fault) × (new ≡ old)
+IsRefusedRecovery left old (Journal fault) new = IfSome left (λ text. IsJournalRefusal text fault) × (new ≡ old)
 IsRefusedRecovery left old (Snapshot WriteFault) new =
     IfSome left (λ text. (ops : List Operation) × (torn : ℕ) × IsRecovered text ops torn
     × (sorted : List Operation) × IsInOrderOf (all_arrived [] ops) sorted

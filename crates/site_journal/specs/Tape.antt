@@ -67,8 +67,8 @@ pub record Shrinks (len : ℕ) (old new : Image) : Type 0 where
   pub doubted : new.doubted ≡ old.doubted
 
 -- a cut takes away all that is past the length, or fails
-abbrev pub IsCut : {E : Type 0} → ℕ → Result Unit E → Image → Image → Type 0
-IsCut len result old new = Shrinks len old new × OnOk result (new.contents ≡ take len old.contents)
+abbrev pub CutsTape : {E : Type 0} → ℕ → Result Unit E → Image → Image → Type 0
+CutsTape len result old new = Shrinks len old new × OnOk result (new.contents ≡ take len old.contents)
 
 -- nothing is cut away that may come back
 abbrev pub IsWhole : Image → Type 0

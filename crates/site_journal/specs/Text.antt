@@ -3,7 +3,7 @@
 -- was written, and says nothing.
 use Rattle.std.specs.Prelude.{◌≡◌, ◌<◌, ◌≤◌, ℕ, List, [], ◌∷◌, ◌++◌, codes, length, flat_map}
 use Rattle.byte_ends.specs.Lines.{as_line}
-use Rattle.line_reader.specs.Lines.{HasNoLf}
+use Rattle.line_reader.specs.Lines.{HasNoLf, line_limit}
 use Rattle.review_ops.specs.Operation.{Operation}
 use Rattle.op_text.specs.Spelling.{SpellsOperation}
 use Rattle.op_text.specs.Text.{operation_text}
@@ -14,10 +14,6 @@ use Rattle.site_journal.specs.Prefixes.{IsPrefix}
 unfoldable pub header_line : List ℕ
 header_line = as_line (codes "reviewgate 2")
 
--- the most bytes of a line, without its line end
-abbrev pub most_line : ℕ
-most_line = 524288
-
 -- ---- what is written
 
 abbrev pub journal_text : List Operation → List ℕ
@@ -26,14 +22,14 @@ journal_text ops = header_line ++ operation_lines ops
 -- the operations whose texts are lines of a journal: none is too long
 abbrev pub AreShort : List Operation → Type 0
 AreShort [] = Unit {0}
-AreShort (op ∷ ops) = (length (operation_text op) ≤ most_line) × AreShort ops
+AreShort (op ∷ ops) = (length (operation_text op) ≤ line_limit) × AreShort ops
 
 -- ---- what is read
 
 -- these bytes, followed by a line end, are the line of the operation
-pub record SaysOperation (piece : List ℕ) (op : Operation) : Type 0 where
+pub record IsJournalLine (piece : List ℕ) (op : Operation) : Type 0 where
   pub plain : HasNoLf piece
-  pub short : length piece ≤ most_line
+  pub short : length piece ≤ line_limit
   pub spells : SpellsOperation piece op
 
 -- the lines are those of the operations, in this order, in which an operation may be repeated
@@ -41,19 +37,19 @@ abbrev pub SayOperations : List (List ℕ) → List Operation → Type 0
 SayOperations [] [] = Unit {0}
 SayOperations [] (op ∷ ops) = ⊥
 SayOperations (piece ∷ pieces) [] = ⊥
-SayOperations (piece ∷ pieces) (op ∷ ops) = SaysOperation piece op × SayOperations pieces ops
+SayOperations (piece ∷ pieces) (op ∷ ops) = IsJournalLine piece op × SayOperations pieces ops
 
 -- a line whose end wasn't written
 pub record IsTorn (rest : List ℕ) : Type 0 where
   pub plain : HasNoLf rest
-  pub short : length rest ≤ most_line
+  pub short : length rest ≤ line_limit
 
 -- whole lines
 abbrev pub whole_lines : List (List ℕ) → List ℕ
 whole_lines pieces = flat_map as_line pieces
 
 -- the text is a journal of these operations, and the torn rest
-pub record Says (text : List ℕ) (ops : List Operation) (rest : List ℕ) : Type 0 where
+pub record SaysJournal (text : List ℕ) (ops : List Operation) (rest : List ℕ) : Type 0 where
   pub pieces : List (List ℕ)
   pub whole : text ≡ header_line ++ (whole_lines pieces ++ rest)
   pub says : SayOperations pieces ops

@@ -4,20 +4,20 @@ ghost use Rattle.std.specs.Prelude.{◌≡◌, ◌≤◌, ◌+◌, ◌++◌, ◌
 ghost use Rattle.std.specs.Prelude.{MatchResult, OnOk, length, map, vec_len};
 ghost use Rattle.review_ops.specs.Operation.{Operation};
 ghost use Rattle.snapshot_text.specs.Snapshot.{operation_lines};
-ghost use Rattle.snapshot_text.specs.Sound.{AreSound};
+ghost use Rattle.snapshot_text.specs.Sound.{AreSoundOperations};
 ghost use Rattle.byte_ends.specs.Failures.{most_failures};
 ghost use Rattle.site_journal.specs.Book.{CountsWritten, IsHolding, IsKept, IsNotKept, IsOpened, IsUnwritten};
 ghost use Rattle.site_journal.specs.Book.{IsWritten, SurvivesCrashes, TakesBack};
-ghost use Rattle.site_journal.specs.Fault.{CountsFault, IsRefusal};
+ghost use Rattle.site_journal.specs.Fault.{CountsJournalFault, IsJournalRefusal};
 ghost use Rattle.site_journal.specs.Tape.{Changes, IsAtStart, IsSettled};
 ghost use Rattle.site_journal.specs.Text.{AreShort};
 
 use crate::fault::{JournalFault, KeepFault};
 use crate::laws::{crashes_lose_nothing_acknowledged, journals_say_their_operations};
 use crate::opening::{Opened, open_tape};
-use crate::reading::LINE_LIMIT;
 use crate::tape::Tape;
-use op_text::write_op;
+use line_reader::LINE_LIMIT;
+use op_text::append_op;
 use replica_core::Replica;
 use review_ops::Op;
 use std::alloc::Global;
@@ -61,9 +61,9 @@ impl<T: Tape + Drop> Journal<T> {
             (λ started. (started.journal.is_spoiled ≡ false) × Changes (T.image tape) started.journal.image
             (λ i j. IsSettled j × IsOpened i.contents started.replica started.torn j.contents)) }
         ensures holds { IfOk result (λ started. (ops : List Operation) × IsHolding started.journal ops) }
-        ensures refused { IfErr result (λ fault. IfSome (T.image tape) (λ i. IsRefusal i.contents fault)) }
+        ensures refused { IfErr result (λ fault. IfSome (T.image tape) (λ i. IsJournalRefusal i.contents fault)) }
         ensures counted { MatchResult result (λ started. started.journal.failed ≡ T.failed tape)
-            (λ fault. (failed : ℕ) × CountsFault (T.failed tape) failed fault) }
+            (λ fault. (failed : ℕ) × CountsJournalFault (T.failed tape) failed fault) }
     {
         let mut tape = tape;
         let Opened { replica, len, torn } = open_tape(alloc, &mut tape)?;
@@ -129,7 +129,7 @@ impl<T: Tape> Journal<T> {
 /// The lines of operations, each of which is short enough to be read.
 fn lines_of(alloc: Global, ops: &[Op]) -> Result<Vec<u8>, KeepFault>
     ensures lines { IfOk result (λ lines. lines.items ≡ operation_lines ops.now) }
-    ensures sound { OnOk result (AreSound ops.now) }
+    ensures sound { OnOk result (AreSoundOperations ops.now) }
     ensures short { OnOk result (AreShort ops.now) }
     ensures err { IfErr result (λ fault. IsUnwritten fault) }
 {
@@ -137,11 +137,11 @@ fn lines_of(alloc: Global, ops: &[Op]) -> Result<Vec<u8>, KeepFault>
     for op in ops {
         prove!(op.stamp().seq() >= 1);
         prove!(op.body().change() >= 1);
-        let line = write_op(alloc, op)?;
-        if line.as_bytes().len() > LINE_LIMIT {
+        let start = lines.as_slice().len();
+        append_op(&mut lines, op)?;
+        if lines.as_slice().len() - start > LINE_LIMIT {
             return Err(KeepFault::TooLong);
         }
-        lines.extend_from_slice(line.as_bytes())?;
         lines.push(b'\n')?;
     }
     Ok(lines)

@@ -5,7 +5,7 @@ ghost use Rattle.std.specs.Prelude.{◌≡◌, ◌⊎◌, ◌+◌, false, IfOk, 
 ghost use Rattle.std.specs.Prelude.{length, take};
 ghost use Rattle.byte_ends.specs.Failures.{CountsFailure};
 ghost use Rattle.site_journal.specs.Book.{IsOpened, IsUnharmed};
-ghost use Rattle.site_journal.specs.Fault.{CountsFault, IsRefusal};
+ghost use Rattle.site_journal.specs.Fault.{CountsJournalFault, IsJournalRefusal};
 ghost use Rattle.site_journal.specs.Prefixes.{IsPrefix};
 ghost use Rattle.site_journal.specs.Tape.{Changes, IsAtStart, IsSettled};
 ghost use Rattle.site_journal.specs.Text.{IsFresh, header_line};
@@ -37,11 +37,11 @@ pub fn open_tape<T: Tape>(alloc: Global, tape: &mut T) -> Result<Opened, Journal
     requires { IsAtStart (T.image tape.old) (T.left tape.old) }
     ensures ok { IfOk result (λ opened. Changes (T.image tape.old) (T.image tape.new) (λ i j. IsSettled j
         × (length j.contents ≡ opened.len) × IsOpened i.contents opened.replica opened.torn j.contents)) }
-    ensures refused { IfErr result (λ fault. IfSome (T.image tape.old) (λ i. IsRefusal i.contents fault)) }
+    ensures refused { IfErr result (λ fault. IfSome (T.image tape.old) (λ i. IsJournalRefusal i.contents fault)) }
     ensures untouched { IfErr result (λ fault. ¬ (fault ≡ JournalFault.Failed) → T.image tape.new ≡ T.image tape.old) }
     ensures failed { IsErrOf result JournalFault.Failed → Changes (T.image tape.old) (T.image tape.new) IsUnharmed }
     ensures counted { MatchResult result
-        (λ _. T.failed tape.new ≡ T.failed tape.old) (CountsFault (T.failed tape.old) (T.failed tape.new)) }
+        (λ _. T.failed tape.new ≡ T.failed tape.old) (CountsJournalFault (T.failed tape.old) (T.failed tape.new)) }
 {
     match read_text(alloc, tape)? {
         Found::Fresh(bytes) => {

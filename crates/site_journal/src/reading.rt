@@ -5,22 +5,20 @@ ghost use Rattle.std.specs.Prelude.{IfSome, MatchOption, MatchResult, OnOk, leng
 ghost use Rattle.std.specs.Io.KnownBytes.{Consumes, IsAtEnd};
 ghost use Rattle.byte_ends.specs.Lines.{as_line};
 ghost use Rattle.line_reader.specs.Lines.{HasFirstLf, HasNoLf};
-ghost use Rattle.site_journal.specs.Fault.{CountsFault, IsRefusal, line_fault_of};
-ghost use Rattle.site_journal.specs.Reading.{HasRead, IsFound, IsJudged};
+ghost use Rattle.site_journal.specs.Fault.{CountsJournalFault, IsJournalRefusal, line_fault_of};
+ghost use Rattle.site_journal.specs.Reading.{HasRead, IsFoundText, IsJudged};
 ghost use Rattle.site_journal.specs.Text.{header_line};
 
 use crate::fault::{JournalFault, LineCause};
 use crate::tape::Feed;
+use line_reader::LINE_LIMIT;
 use memchr::memchr;
 use op_text::{OpTextFault, read_op};
-use replica_core::Replica;
+use replica_core::{Gathering, Replica};
 use std::alloc::Global;
 
 /// The first line of a journal.
 pub const HEADER: &[u8] = b"reviewgate 2\n";
-
-/// The most bytes of a line, without its line end.
-pub const LINE_LIMIT: usize = 524_288;
 
 /// How many bytes are read at once.
 const BLOCK: usize = 65_536;
@@ -40,11 +38,11 @@ pub enum Found {
 
 /// Reads a journal to its end.
 pub fn read_text<F: Feed>(alloc: Global, feed: &mut F) -> Result<Found, JournalFault>
-    ensures found { IfOk result (λ found. IfSome (F.left feed.old) (λ text. IsFound text found)) }
-    ensures refused { IfErr result (λ fault. IfSome (F.left feed.old) (λ text. IsRefusal text fault)) }
+    ensures found { IfOk result (λ found. IfSome (F.left feed.old) (λ text. IsFoundText text found)) }
+    ensures refused { IfErr result (λ fault. IfSome (F.left feed.old) (λ text. IsJournalRefusal text fault)) }
     ensures same { F.image feed.new ≡ F.image feed.old }
     ensures counted { MatchResult result
-        (λ _. F.failed feed.new ≡ F.failed feed.old) (CountsFault (F.failed feed.old) (F.failed feed.new)) }
+        (λ _. F.failed feed.new ≡ F.failed feed.old) (CountsJournalFault (F.failed feed.old) (F.failed feed.new)) }
 {
     let head = read_head(alloc, feed)?;
     match judged(head.as_slice()) {
@@ -91,10 +89,10 @@ fn read_head<F: Feed>(alloc: Global, feed: &mut F) -> Result<Vec<u8>, JournalFau
     ensures came { IfOk result (λ head. Consumes (F.left feed.old) (F.left feed.new) head.items) }
     ensures most { IfOk result (λ head. vec_len head ≤ 13) }
     ensures end { IfOk result (λ head. vec_len head < 13 → IsAtEnd (F.left feed.new)) }
-    ensures fault { IfErr result (λ fault. (text : List ℕ) → IsRefusal text fault) }
+    ensures fault { IfErr result (λ fault. (text : List ℕ) → IsJournalRefusal text fault) }
     ensures same { F.image feed.new ≡ F.image feed.old }
     ensures counted { MatchResult result
-        (λ _. F.failed feed.new ≡ F.failed feed.old) (CountsFault (F.failed feed.old) (F.failed feed.new)) }
+        (λ _. F.failed feed.new ≡ F.failed feed.old) (CountsJournalFault (F.failed feed.old) (F.failed feed.new)) }
 {
     let mut head = Vec::new(alloc);
     let mut piece = [0u8; 13];
@@ -120,10 +118,10 @@ fn read_piece<F: Feed>(
     ensures len { IfOk result (λ count. vec_len bytes.new ≡ vec_len bytes.old + count) }
     ensures end { IfOk result
         (λ count. count ≡ 0 → 0 < length piece.old → IsAtEnd (F.left feed.new)) }
-    ensures fault { IfErr result (λ fault. (text : List ℕ) → IsRefusal text fault) }
+    ensures fault { IfErr result (λ fault. (text : List ℕ) → IsJournalRefusal text fault) }
     ensures same { F.image feed.new ≡ F.image feed.old }
     ensures counted { MatchResult result
-        (λ _. F.failed feed.new ≡ F.failed feed.old) (CountsFault (F.failed feed.old) (F.failed feed.new)) }
+        (λ _. F.failed feed.new ≡ F.failed feed.old) (CountsJournalFault (F.failed feed.old) (F.failed feed.new)) }
 {
     let Ok(count) = feed.read(piece) else {
         return Err(JournalFault::Failed);
@@ -136,18 +134,18 @@ fn read_piece<F: Feed>(
 
 /// Reads the lines after the first to their end.
 fn read_lines<F: Feed>(alloc: Global, feed: &mut F) -> Result<Found, JournalFault>
-    ensures found { IfOk result (λ found. IfSome (F.left feed.old) (λ text. IsFound (header_line ++ text) found)) }
-    ensures refused { IfErr result (λ fault. IfSome (F.left feed.old) (λ text. IsRefusal (header_line ++ text) fault)) }
+    ensures found { IfOk result (λ found. IfSome (F.left feed.old) (λ text. IsFoundText (header_line ++ text) found)) }
+    ensures refused { IfErr result (λ fault. IfSome (F.left feed.old) (λ text. IsJournalRefusal (header_line ++ text) fault)) }
     ensures same { F.image feed.new ≡ F.image feed.old }
     ensures counted { MatchResult result
-        (λ _. F.failed feed.new ≡ F.failed feed.old) (CountsFault (F.failed feed.old) (F.failed feed.new)) }
+        (λ _. F.failed feed.new ≡ F.failed feed.old) (CountsJournalFault (F.failed feed.old) (F.failed feed.new)) }
 {
     let mut piece = vec![in alloc; 0u8; BLOCK]?;
     let mut reading = Reading::new(alloc);
     let mut seen = 13u64;
     while seen <= TEXT_LIMIT {
         match reading.read_block(feed, piece.as_mut_slice())? {
-            0 => return Ok(reading.found(seen)),
+            0 => return reading.found(seen),
             count => seen += count as u64,
         }
     }
@@ -159,7 +157,7 @@ fn read_lines<F: Feed>(alloc: Global, feed: &mut F) -> Result<Found, JournalFaul
 #[derive(Drop)]
 struct Reading {
     pub alloc: Global,
-    pub replica: Replica,
+    pub gathering: Gathering,
     pub held: Vec<u8>,
     pub next: u64,
 }
@@ -167,41 +165,46 @@ struct Reading {
 impl Reading {
     /// After the first line.
     pub fn new(alloc: Global) -> Reading
-        ensures { HasRead header_line result.replica result.held.items result.next }
+        ensures { HasRead header_line result.gathering result.held.items result.next }
     {
         Reading {
             alloc,
-            replica: Replica::new(alloc),
+            gathering: Gathering::onto(Replica::new(alloc)),
             held: Vec::new(alloc),
             next: 2,
         }
     }
 
     /// What was found, where so many bytes came in all.
-    fn found(self, seen: u64) -> Found
+    fn found(self, seen: u64) -> Result<Found, JournalFault>
         requires { length self.held.items ≤ seen }
-        ensures { (came : List ℕ) → HasRead came self.replica self.held.items self.next → length came ≡ seen
-            → IsFound came result }
+        ensures found { IfOk result (λ found. (came : List ℕ) → HasRead came self.gathering self.held.items self.next
+            → length came ≡ seen → IsFoundText came found) }
+        ensures refused { IfErr result (λ fault. fault ≡ JournalFault.NoMemory) }
     {
-        let Reading { replica, held, .. } = self;
+        let Reading {
+            gathering,
+            held,
+            ..
+        } = self;
         let torn = held.as_slice().len();
-        Found::Lines(replica, seen - torn as u64, torn)
+        Ok(Found::Lines(gathering.joined()?, seen - torn as u64, torn))
     }
 
     /// Reads some bytes, and what they say. 0 is the end.
     fn read_block<F: Feed>(&mut self, feed: &mut F, piece: &mut [u8]) -> Result<usize, JournalFault>
         ensures read { IfOk result (λ count. (part : List ℕ) × (length part ≡ count)
             × Consumes (F.left feed.old) (F.left feed.new) part
-            × ((came : List ℕ) → HasRead came self.old.replica self.old.held.items self.old.next
-            → HasRead (came ++ part) self.new.replica self.new.held.items self.new.next)) }
+            × ((came : List ℕ) → HasRead came self.old.gathering self.old.held.items self.old.next
+            → HasRead (came ++ part) self.new.gathering self.new.held.items self.new.next)) }
         ensures most { IfOk result (λ count. count ≤ length piece.old) }
         ensures end { IfOk result (λ count. count ≡ 0 → 0 < length piece.old → IsAtEnd (F.left feed.new)) }
         ensures refused { IfErr result
-            (λ fault. (came : List ℕ) → HasRead came self.old.replica self.old.held.items self.old.next
-            → IfSome (F.left feed.old) (λ more. IsRefusal (came ++ more) fault)) }
+            (λ fault. (came : List ℕ) → HasRead came self.old.gathering self.old.held.items self.old.next
+            → IfSome (F.left feed.old) (λ more. IsJournalRefusal (came ++ more) fault)) }
         ensures same { F.image feed.new ≡ F.image feed.old }
         ensures counted { MatchResult result
-            (λ _. F.failed feed.new ≡ F.failed feed.old) (CountsFault (F.failed feed.old) (F.failed feed.new)) }
+            (λ _. F.failed feed.new ≡ F.failed feed.old) (CountsJournalFault (F.failed feed.old) (F.failed feed.new)) }
     {
         let Ok(count) = feed.read(piece) else {
             return Err(JournalFault::Failed);
@@ -214,11 +217,11 @@ impl Reading {
 
     /// Reads what came.
     fn take_block(&mut self, block: &[u8]) -> Result<(), JournalFault>
-        ensures ok { OnOk result ((came : List ℕ) → HasRead came self.old.replica self.old.held.items self.old.next
-            → HasRead (came ++ block.now) self.new.replica self.new.held.items self.new.next) }
+        ensures ok { OnOk result ((came : List ℕ) → HasRead came self.old.gathering self.old.held.items self.old.next
+            → HasRead (came ++ block.now) self.new.gathering self.new.held.items self.new.next) }
         ensures err { IfErr result
-            (λ fault. (came : List ℕ) → HasRead came self.old.replica self.old.held.items self.old.next
-            → (later : List ℕ) → IsRefusal ((came ++ block.now) ++ later) fault) }
+            (λ fault. (came : List ℕ) → HasRead came self.old.gathering self.old.held.items self.old.next
+            → (later : List ℕ) → IsJournalRefusal ((came ++ block.now) ++ later) fault) }
         ensures unfailing { IsErrOf result JournalFault.Failed → ⊥ }
     {
         let mut rest = block;
@@ -232,11 +235,11 @@ impl Reading {
     /// Reads the rest of a line, whose end comes after it.
     fn take_piece(&mut self, piece: &[u8]) -> Result<(), JournalFault>
         requires { HasNoLf piece.now }
-        ensures ok { OnOk result ((came : List ℕ) → HasRead came self.old.replica self.old.held.items self.old.next
-            → HasRead (came ++ as_line piece.now) self.new.replica self.new.held.items self.new.next) }
+        ensures ok { OnOk result ((came : List ℕ) → HasRead came self.old.gathering self.old.held.items self.old.next
+            → HasRead (came ++ as_line piece.now) self.new.gathering self.new.held.items self.new.next) }
         ensures err { IfErr result
-            (λ fault. (came : List ℕ) → HasRead came self.old.replica self.old.held.items self.old.next
-            → (later : List ℕ) → IsRefusal ((came ++ as_line piece.now) ++ later) fault) }
+            (λ fault. (came : List ℕ) → HasRead came self.old.gathering self.old.held.items self.old.next
+            → (later : List ℕ) → IsJournalRefusal ((came ++ as_line piece.now) ++ later) fault) }
         ensures unfailing { IsErrOf result JournalFault.Failed → ⊥ }
     {
         self.hold(piece)?;
@@ -246,11 +249,11 @@ impl Reading {
     /// Holds more of the line that is read.
     fn hold(&mut self, piece: &[u8]) -> Result<(), JournalFault>
         requires { HasNoLf piece.now }
-        ensures ok { OnOk result ((came : List ℕ) → HasRead came self.old.replica self.old.held.items self.old.next
-            → HasRead (came ++ piece.now) self.new.replica self.new.held.items self.new.next) }
+        ensures ok { OnOk result ((came : List ℕ) → HasRead came self.old.gathering self.old.held.items self.old.next
+            → HasRead (came ++ piece.now) self.new.gathering self.new.held.items self.new.next) }
         ensures err { IfErr result
-            (λ fault. (came : List ℕ) → HasRead came self.old.replica self.old.held.items self.old.next
-            → (later : List ℕ) → IsRefusal ((came ++ piece.now) ++ later) fault) }
+            (λ fault. (came : List ℕ) → HasRead came self.old.gathering self.old.held.items self.old.next
+            → (later : List ℕ) → IsJournalRefusal ((came ++ piece.now) ++ later) fault) }
         ensures unfailing { IsErrOf result JournalFault.Failed → ⊥ }
     {
         self.held.extend_from_slice(piece)?;
@@ -262,11 +265,11 @@ impl Reading {
 
     /// Takes the operation of the line that is held, whose end came.
     fn take_line(&mut self) -> Result<(), JournalFault>
-        ensures ok { OnOk result ((came : List ℕ) → HasRead came self.old.replica self.old.held.items self.old.next
-            → HasRead (came ++ 10 ∷ []) self.new.replica self.new.held.items self.new.next) }
+        ensures ok { OnOk result ((came : List ℕ) → HasRead came self.old.gathering self.old.held.items self.old.next
+            → HasRead (came ++ 10 ∷ []) self.new.gathering self.new.held.items self.new.next) }
         ensures err { IfErr result
-            (λ fault. (came : List ℕ) → HasRead came self.old.replica self.old.held.items self.old.next
-            → (later : List ℕ) → IsRefusal ((came ++ 10 ∷ []) ++ later) fault) }
+            (λ fault. (came : List ℕ) → HasRead came self.old.gathering self.old.held.items self.old.next
+            → (later : List ℕ) → IsJournalRefusal ((came ++ 10 ∷ []) ++ later) fault) }
         ensures unfailing { IsErrOf result JournalFault.Failed → ⊥ }
     {
         let op = match read_op(self.alloc, self.held.as_slice()) {
@@ -276,7 +279,7 @@ impl Reading {
         let Some(next) = self.next.checked_add(1) else {
             return Err(JournalFault::TooLong);
         };
-        let _taken = self.replica.take(op)?;
+        let _taken = self.gathering.take(op)?;
         self.held.clear();
         self.next = next;
         Ok(())

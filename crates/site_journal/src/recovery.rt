@@ -6,8 +6,8 @@ ghost use Rattle.replica_core.specs.InOrder.{IsInOrderOf};
 ghost use Rattle.replica_core.specs.Journal.{all_arrived};
 ghost use Rattle.review_ops.specs.Operation.{Operation};
 ghost use Rattle.snapshot_text.specs.Snapshot.{snapshot_text};
-ghost use Rattle.site_journal.specs.Text.{IsFresh, Says};
-ghost use Rattle.site_journal.specs.Fault.{IsRefusal};
+ghost use Rattle.site_journal.specs.Text.{IsFresh, SaysJournal};
+ghost use Rattle.site_journal.specs.Fault.{IsJournalRefusal};
 ghost use Rattle.site_journal.specs.Recovery.{CountsRecovery, IsRecovered, IsRefusedRecovery};
 ghost use Rattle.site_journal.specs.declared.recovery.RecoverFault.TheVariants.{Journal as NotRead};
 ghost use Rattle.site_journal.specs.declared.recovery.RecoverFault.TheVariants.{Snapshot as NotWritten};
@@ -60,7 +60,7 @@ fn read_journal<S: Source + Drop>(
     ensures ok { IfOk result
         (λ read. IfSome (S.left source) (λ text. (ops : List Operation) × IsRecovered text ops read.1
         × (read.0 ≡ all_arrived [] ops))) }
-    ensures err { IfErr result (λ fault. IfSome (S.left source) (λ text. IsRefusal text fault)) }
+    ensures err { IfErr result (λ fault. IfSome (S.left source) (λ text. IsJournalRefusal text fault)) }
 {
     let mut feed = SourceFeed::new(source);
     match read_text(alloc, &mut feed)? {

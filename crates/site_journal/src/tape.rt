@@ -5,7 +5,7 @@ ghost use Rattle.std.specs.Io.{ReadsAtMost};
 ghost use Rattle.std.specs.Io.KnownBytes.{ReadConsumes};
 ghost use Rattle.byte_ends.specs.Failures.{CountsFailure};
 ghost use Rattle.site_journal.specs.Feeds.{feed_source};
-ghost use Rattle.site_journal.specs.Tape.{Changes, Image, IsAppended, IsCut, IsSynced, IsWhole};
+ghost use Rattle.site_journal.specs.Tape.{Changes, Image, IsAppended, CutsTape, IsSynced, IsWhole};
 
 use byte_ends::{Failed, Source};
 
@@ -45,7 +45,7 @@ pub trait Tape: Feed {
     /// Takes away what is past so many bytes.
     fn cut(&mut self, len: u64) -> Result<(), Failed>
         requires { IfSome (Self.image self.old) (λ image. len ≤ length image.contents) }
-        ensures cut { Changes (Self.image self.old) (Self.image self.new) (IsCut len result) }
+        ensures cut { Changes (Self.image self.old) (Self.image self.new) (CutsTape len result) }
         ensures counted { CountsFailure (Self.failed self.old) (Self.failed self.new) result };
 }
 

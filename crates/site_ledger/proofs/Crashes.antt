@@ -6,7 +6,7 @@ use Rattle.review_ops.specs.Operation.{Operation}
 use Rattle.site_journal.specs.Book.{Book, IsHolding, Recovers}
 use Rattle.site_journal.specs.Prefixes.{IsPrefix}
 use Rattle.site_journal.specs.Tape.{Image, IsLeftBy, IsSettled}
-use Rattle.site_journal.specs.Text.{Says}
+use Rattle.site_journal.specs.Text.{SaysJournal}
 use Rattle.site_ledger.specs.Keeping.{Survive}
 
 same_ends : (xs ys : List ℕ) → IsPrefix xs ys → IsPrefix ys xs → ys ≡ xs
@@ -19,19 +19,19 @@ same_ends xs ys a b = by_rest a.0 a.1
 
 abbrev Left : List Operation → Image → Type 0
 Left ops i =
-    (left : List ℕ) → IsLeftBy i left → (more : List Operation) × (rest : List ℕ) × Says left (ops ++ more) rest
+    (left : List ℕ) → IsLeftBy i left → (more : List Operation) × (rest : List ℕ) × SaysJournal left (ops ++ more) rest
 
 -- what a settled journal says is what a crash leaves
 pub held_survives : (book : Book) (ops : List Operation) → IsHolding book ops → Survive book ops
 held_survives book ops holding = by_image book.image holding.holds
   where
-    by_image : (image : Option Image) → IfSome image (λ i. IsSettled i × Says i.contents ops [])
+    by_image : (image : Option Image) → IfSome image (λ i. IsSettled i × SaysJournal i.contents ops [])
         → IfSome image (Left ops)
     by_image None h = tt
     by_image (Some i) h = λ left is.
         let same : left ≡ i.contents =
         same_ends i.contents left (subst (λ l. IsPrefix l left) h.0.synced is.least) (subst (λ l. IsPrefix left l) h.0.written is.most) in
-        ([], [], subst (λ l. Says left l []) (sym (append-nil ops)) (subst (λ l. Says l ops []) (sym same) h.1))
+        ([], [], subst (λ l. SaysJournal left l []) (sym (append-nil ops)) (subst (λ l. SaysJournal l ops []) (sym same) h.1))
 
 -- what is recovered begins with what was acknowledged
 pub recovered_survives : (image : Option Image) (before ops : List Operation) (all : Type 0)

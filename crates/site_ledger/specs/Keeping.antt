@@ -5,14 +5,14 @@ use Rattle.review_ops.specs.Operation.{Operation}
 use Rattle.site_shared.specs.Accounts.{Account}
 use Rattle.site_journal.specs.Book.{Book}
 use Rattle.site_journal.specs.Tape.{IsLeftBy}
-use Rattle.site_journal.specs.Text.{Says}
+use Rattle.site_journal.specs.Text.{SaysJournal}
 use Rattle.site_ledger.specs.declared.ledger.LedgerFault.{LedgerFault}
 use Rattle.site_ledger.specs.declared.ledger.LedgerFault.TheVariants.{NoMemory, NotKept}
 
 -- whatever a crash leaves of the journal says these operations, in this order, and perhaps more after them
 abbrev pub Survive : Book → List Operation → Type 0
 Survive book ops = IfSome book.image
-    (λ i. (left : List ℕ) → IsLeftBy i left → (more : List Operation) × (rest : List ℕ) × Says left (ops ++ more) rest)
+    (λ i. (left : List ℕ) → IsLeftBy i left → (more : List Operation) × (rest : List ℕ) × SaysJournal left (ops ++ more) rest)
 
 -- what a ledger has: the account of its desk, what keeps its operations, how many of those that are held are kept, and
 -- whether no more can be kept

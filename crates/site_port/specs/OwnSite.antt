@@ -7,7 +7,7 @@ use Rattle.replica_core.specs.Front.{IsFront}
 use Rattle.replica_core.specs.Journal.{arrived, all_arrived}
 use Rattle.replica_core.specs.Missing.{IsMissing}
 use Rattle.review_ops.specs.Deed.{Deed, kept_deed}
-use Rattle.review_ops.specs.Fault.{IsFirstFault}
+use Rattle.review_ops.specs.Fault.{IsFirstBodyFault}
 use Rattle.review_ops.specs.Good.{IsFaultless}
 use Rattle.review_ops.specs.Operation.{Operation}
 use Rattle.state_core.specs.State.{state_of}
@@ -25,8 +25,8 @@ pub record OwnState : Type 0 where
   pub start : ℕ
 
 -- a stamp is left for the site
-abbrev pub HasStamp : OwnState → Type 0
-HasStamp own = ¬ IsSpent own.journal own.site own.start
+abbrev pub HasNextStamp : OwnState → Type 0
+HasNextStamp own = ¬ IsSpent own.journal own.site own.start
 
 -- the operation of a deed, as it is kept, under the next stamp
 abbrev pub next_operation : OwnState → Deed → Operation
@@ -37,11 +37,11 @@ next_operation own deed = record { stamp = next_of own.journal own.site own.star
 -- missing operations
 abbrev pub OwnGives : OwnState → Call → Reply → OwnState → Type 0
 OwnGives old (takes_in deed) (stamped stamp) new =
-    HasStamp old × IsFaultless deed × (stamp ≡ next_of old.journal old.site old.start)
+    HasNextStamp old × IsFaultless deed × (stamp ≡ next_of old.journal old.site old.start)
     × (new ≡ record old { journal = arrived old.journal (next_operation old deed) })
 OwnGives old (takes_in deed) (refused port.ClockSpent) new = IsSpent old.journal old.site old.start × (new ≡ old)
-OwnGives old (takes_in deed) (refused (port.BadBody cause)) new = HasStamp old × IsFirstFault cause deed × (new ≡ old)
-OwnGives old (takes_in deed) (refused port.NoMemory) new = HasStamp old × IsFaultless deed × (new ≡ old)
+OwnGives old (takes_in deed) (refused (port.BadBody cause)) new = HasNextStamp old × IsFirstBodyFault cause deed × (new ≡ old)
+OwnGives old (takes_in deed) (refused port.NoMemory) new = HasNextStamp old × IsFaultless deed × (new ≡ old)
 OwnGives old (lacks front) (lacked ops more) new =
     ((all : List Operation) × IsMissing old.journal front all × (ops ≡ take 256 all) × (more ≡ nat_lt 256 (length all)))
     × (new ≡ old)

@@ -15,19 +15,19 @@ use Rattle.site_shared.specs.Publishes.{arrive}
 use Rattle.state_core.specs.State.{state_of}
 
 -- what is answered at a moment at which the window has seen so much
-abbrev pub Says : GateRules → List (List Operation) → Call → Reply → Type 0
-Says gate seen (lacks front) (lacked ops more) =
+abbrev pub SaysAtMoment : GateRules → List (List Operation) → Call → Reply → Type 0
+SaysAtMoment gate seen (lacks front) (lacked ops more) =
     (all : List Operation) × IsMissing (arrive seen) front all × (ops ≡ take 256 all) × (more ≡ nat_lt 256 (length all))
-Says gate seen reports (judged verdicts) = AreVerdicts gate (state_of (arrive seen)) verdicts
-Says gate seen looks (looked journal) = journal ≡ arrive seen
-Says gate seen (takes_in deed) (stamped stamp) = has_stamp (arrive seen) stamp ≡ true
-Says gate seen (takes_in deed) (refused fault) = Unit {0}
-Says gate seen call (refused fault) = IsLookingFault fault
-Says gate seen call reply = ⊥
+SaysAtMoment gate seen reports (judged verdicts) = AreVerdicts gate (state_of (arrive seen)) verdicts
+SaysAtMoment gate seen looks (looked journal) = journal ≡ arrive seen
+SaysAtMoment gate seen (takes_in deed) (stamped stamp) = has_stamp (arrive seen) stamp ≡ true
+SaysAtMoment gate seen (takes_in deed) (refused fault) = Unit {0}
+SaysAtMoment gate seen call (refused fault) = IsLookingFault fault
+SaysAtMoment gate seen call reply = ⊥
 
 -- a reply, and what the window has seen once it is made
 abbrev pub SiteGives : GateRules → Outlook → Call → Reply → Outlook → Type 0
-SiteGives gate old call reply new = GoesOn old new × Says gate new.seen call reply
+SiteGives gate old call reply new = GoesOn old new × SaysAtMoment gate new.seen call reply
 
 -- how a pull's offers are taken up: the front is that of a moment; what is handed over is published, or only held, by
 -- the desk

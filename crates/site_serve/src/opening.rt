@@ -14,7 +14,7 @@ ghost use Rattle.review_ops.specs.Draft.{deed_of};
 ghost use Rattle.review_ops.specs.Good.{IsFaultless};
 ghost use Rattle.review_ops.specs.Operation.{Operation};
 ghost use Rattle.site_ledger.specs.Keeping.{IsSameKeeping, is_over_after};
-ghost use Rattle.site_shared.specs.Accounts.{GoesOn, HasStamp, IsOwn, RefusesIntake, flushing, holding, is_foreign};
+ghost use Rattle.site_shared.specs.Accounts.{GoesOn, HasStamp, BearsOwn, RefusesIntake, flushing, holding, is_foreign};
 ghost use Rattle.site_shared.specs.Accounts.{next_operation, receipt_of, record_of};
 ghost use Rattle.site_shared.specs.Publishes.{arrive};
 ghost use Rattle.site_shared.specs.Watches.{IsSameWatch, IsWatchOf, Refreshes, RefusesRefresh};
@@ -56,7 +56,7 @@ impl<J: Naming> OwnWindow<J> {
     /// Sees no less than the publish that the receipt was answered for, from now on, as `Window::learn` does. One of
     /// another site or start isn't of this opening, and changes nothing.
     pub fn learn(&mut self, receipt: &BrandedReceipt<J>) -> Result<(), Stranger>
-        ensures own { IsOk result ↔ IsOwn self.old.window receipt.now }
+        ensures own { IsOk result ↔ BearsOwn self.old.window receipt.now }
         ensures later { GoesOn self.old.window self.new.window }
         ensures ok { OnOk result (IsPartOf (arrive receipt.now.published) (arrive self.new.window.seen)) }
         ensures seen { OnOk result ((self.new.window.seen ≡ self.old.window.seen)

@@ -7,7 +7,7 @@ use mathlib.Core.List.{IsPrefix}
 use prog.Atomic.{either}
 use Rattle.logbook.specs.Pages.{Cell, cell, keeps, no_nib, step, Moves, Goes}
 use Rattle.review_ops.specs.Operation.{Operation}
-use Rattle.site_shared.specs.Law.{IsCounted, Adds}
+use Rattle.site_shared.specs.Law.{IsCounted, AddsEntry}
 use Rattle.site_shared.proofs.Prefixes.{prefix_whole}
 
 abbrev Log : Type 0
@@ -22,7 +22,7 @@ moved xs ys n = Unit {0}
 adds_goes : (log v : Log) (e : List Operation) (old : ℕ) → length v ≡ old → IsPrefix v log
     → (b : Bool) → (length log == old) ≡ b
     → Goes IsCounted shown moved 0 (v, (no_nib, None)) (λ n. either (n == old) (old + 1) n)
-    (Adds (step 0 old (old + 1) e) (v, (no_nib, None))) ((length log, true) ∷ (0, true) ∷ []) log
+    (AddsEntry (step 0 old (old + 1) e) (v, (no_nib, None))) ((length log, true) ∷ (0, true) ∷ []) log
 adds_goes log v e old len pre true is =
     let here : length log ≡ old = grind (arith, nat_tests) in
     let same : v ≡ log = prefix_whole v log pre (omega arith) in
@@ -50,7 +50,7 @@ adds_goes log v e old len pre false is =
 -- whatever the book is, the exchange adds the publish to all that was seen, or finds that the list is longer
 pub adds_moves : (v : Log) (e : List Operation) (old : ℕ) → length v ≡ old
     → Moves IsCounted shown moved 0 (v, (no_nib, None)) (λ n. either (n == old) (old + 1) n)
-    (Adds (step 0 old (old + 1) e) (v, (no_nib, None)))
+    (AddsEntry (step 0 old (old + 1) e) (v, (no_nib, None)))
 adds_moves v e old len cs log kept pre away =
-    let P : List Cell → Type 0 = λ c. (0 < length c) × ((cell c 0).1 ≡ true) × Goes IsCounted shown moved 0 (v, (no_nib, None)) (λ n. either (n == old) (old + 1) n) (Adds (step 0 old (old + 1) e) (v, (no_nib, None))) c log in
+    let P : List Cell → Type 0 = λ c. (0 < length c) × ((cell c 0).1 ≡ true) × Goes IsCounted shown moved 0 (v, (no_nib, None)) (λ n. either (n == old) (old + 1) n) (AddsEntry (step 0 old (old + 1) e) (v, (no_nib, None))) c log in
     subst P (sym kept) (omega arith, refl, adds_goes log v e old len pre (length log == old) refl)

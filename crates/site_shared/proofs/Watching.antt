@@ -3,7 +3,7 @@ use Rattle.std.proofs.Common.{◌≡◌, List, Option, None, Some, IfSome, refl,
 use mathlib.Core.List.{IsPrefix}
 use Rattle.review_ops.specs.Operation.{Operation}
 use Rattle.ready_core.specs.Verdicts.{Judged}
-use Rattle.watch_core.specs.Watching.{AreOfSeen, Extends, Follows, Follows-Precedes, Precedes, Precedes-extends}
+use Rattle.watch_core.specs.Watching.{AreOfSeen, Extends, FollowsJournal, Follows-Precedes, Precedes, Precedes-extends}
 use Rattle.watch_core.specs.Watching.{Watching}
 use Rattle.site_shared.specs.Publishes.{arrive}
 use Rattle.site_shared.specs.Watches.{KeepsUp}
@@ -14,7 +14,7 @@ pub goes_on : (before after : List (List Operation)) → IsPrefix before after �
 goes_on before after p = let more = begins before after p in (more.0, sym more.1)
 
 keeps : (watching : Watching) (journal : List Operation) (found : Option Judged) → watching.verdicts ≡ found
-    → IfSome found (λ _. Follows watching journal)
+    → IfSome found (λ _. FollowsJournal watching journal)
     → IfSome found (AreOfSeen watching journal)
 keeps watching journal None is kept = tt
 keeps watching journal (Some judged) is kept =
@@ -30,5 +30,5 @@ precedes_later watching before after journal p is kept =
     (keeps watching (arrive before) watching.verdicts refl kept))
 
 -- who follows a journal keeps up with it
-pub keeps_up : (watching : Watching) (journal : List Operation) → Follows watching journal → KeepsUp watching journal
-keeps_up watching journal is = subst (λ (v : Option Judged). IfSome v (λ _. Follows watching journal)) (sym is.there) is
+pub keeps_up : (watching : Watching) (journal : List Operation) → FollowsJournal watching journal → KeepsUp watching journal
+keeps_up watching journal is = subst (λ (v : Option Judged). IfSome v (λ _. FollowsJournal watching journal)) (sym is.there) is

@@ -4,7 +4,7 @@ use Rattle.std.specs.Prelude.{take}
 use mathlib.Core.List.{IsPrefix}
 use Rattle.logbook.specs.Pages.{Book}
 use Rattle.review_ops.specs.Deed.{Deed, kept_deed}
-use Rattle.review_ops.specs.Fault.{IsFirstFault}
+use Rattle.review_ops.specs.Fault.{IsFirstBodyFault}
 use Rattle.review_ops.specs.Good.{IsFaultless}
 use Rattle.review_ops.specs.Operation.{Operation}
 use Rattle.review_ops.specs.Timestamp.{Timestamp}
@@ -90,8 +90,8 @@ pub record GoesOn (old new : Outlook) : Type 0 where
   pub seen : IsPrefix old.seen new.seen
 
 -- the receipt bears the window's own site and start
-abbrev pub IsOwn : Outlook → Extent → Type 0
-IsOwn window extent = (extent.site ≡ window.site) × (extent.start ≡ window.start)
+abbrev pub BearsOwn : Outlook → Extent → Type 0
+BearsOwn window extent = (extent.site ≡ window.site) × (extent.start ≡ window.start)
 
 -- the first so many of these are held, and no more
 pub record IsPartly (old : Account) (ops : List Operation) (count : ℕ) (new : Account) : Type 0 where
@@ -102,7 +102,7 @@ pub record IsPartly (old : Account) (ops : List Operation) (count : ℕ) (new : 
 -- where the operation is held it is one that may be taken in
 abbrev pub RefusesIntake : Account → Deed → DeskFault → Account → Type 0
 RefusesIntake old deed ClockSpent new = IsSpent (record_of old) old.site old.start × (new ≡ old)
-RefusesIntake old deed (BadBody cause) new = HasStamp old × IsFirstFault cause deed × (new ≡ old)
+RefusesIntake old deed (BadBody cause) new = HasStamp old × IsFirstBodyFault cause deed × (new ≡ old)
 RefusesIntake old deed (NoMemory held) new =
     (0 < held → HasStamp old × IsFaultless deed) × IsPartly old (next_operation old deed ∷ []) held new
 

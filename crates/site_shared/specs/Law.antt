@@ -11,5 +11,5 @@ abbrev pub head_of : Book → Named
 head_of book = record { tracked = true; key = 0; book = book }
 
 -- where the length was as expected, the list is the one that had been seen, with one more
-abbrev pub Adds : Step (List Operation) → View (List Operation) ℕ → ℕ → View (List Operation) ℕ → Type 0
-Adds step before found after = MatchBool (found == step.old) (after.0 ≡ before.0 ++ step.ask ∷ []) (Unit {0})
+abbrev pub AddsEntry : Step (List Operation) → View (List Operation) ℕ → ℕ → View (List Operation) ℕ → Type 0
+AddsEntry step before found after = MatchBool (found == step.old) (after.0 ≡ before.0 ++ step.ask ∷ []) (Unit {0})

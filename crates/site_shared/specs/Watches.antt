@@ -6,7 +6,7 @@ use Rattle.review_ops.specs.Operation.{Operation}
 use Rattle.state_core.specs.State.{state_of}
 use Rattle.gate_rules.specs.Rules.{GateRules}
 use Rattle.ready_core.specs.Verdicts.{AreVerdicts, Judged}
-use Rattle.watch_core.specs.Watching.{Follows, Watching}
+use Rattle.watch_core.specs.Watching.{FollowsJournal, Watching}
 use Rattle.site_shared.specs.Accounts.{Outlook}
 use Rattle.site_shared.specs.Publishes.{arrive}
 use Rattle.site_shared.specs.declared.fault.RefreshFault.{RefreshFault}
@@ -24,7 +24,7 @@ pub record Watched : Type 0 where
 
 -- where an evaluator has verdicts, it follows the journal
 abbrev pub KeepsUp : Watching → List Operation → Type 0
-KeepsUp watching journal = IfSome watching.verdicts (λ _. Follows watching journal)
+KeepsUp watching journal = IfSome watching.verdicts (λ _. FollowsJournal watching journal)
 
 -- the watch bears the window's own site and start
 abbrev pub IsOwnWatch : Outlook → Watched → Type 0

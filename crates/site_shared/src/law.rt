@@ -41,9 +41,9 @@ impl Gain<Member, u64> for Nothing {
 pub struct Add;
 
 impl Play<Member, u64> for Add {
-    ghost use Rattle.site_shared.specs.Law.{Adds};
+    ghost use Rattle.site_shared.specs.Law.{AddsEntry};
 
-    ghost then = { Adds };
+    ghost then = { AddsEntry };
 }
 
 /// A publish of what is held.

@@ -6,7 +6,7 @@ ghost use mathlib.Core.List.{IsPrefix};
 ghost use Rattle.ready_core.specs.Verdicts.{AreVerdicts};
 ghost use Rattle.state_core.specs.State.{state_of};
 ghost use Rattle.site_shared.specs.Publishes.{arrive};
-ghost use Rattle.watch_core.specs.Watching.{Follows};
+ghost use Rattle.watch_core.specs.Watching.{FollowsJournal};
 
 use crate::sight::Sight;
 use lattice_core::NoMemory;
@@ -49,7 +49,7 @@ impl Watch {
 
     /// The watch of an evaluator that follows what was seen.
     pub(crate) fn new(evaluator: Evaluator, sight: Sight, site: u16, start: u32) -> Watch
-        requires { Follows evaluator (arrive sight.seen.log) }
+        requires { FollowsJournal evaluator (arrive sight.seen.log) }
         ensures { result ≡ record {
           book = sight.seen.book;
           seen = sight.seen.log;

@@ -55,7 +55,7 @@ impl Model for Window {
 }
 
 impl Window {
-    ghost use Rattle.site_shared.specs.Accounts.{GoesOn, IsOwn, Outlook};
+    ghost use Rattle.site_shared.specs.Accounts.{GoesOn, BearsOwn, Outlook};
     ghost use Rattle.site_shared.specs.Showing.{Knows};
     ghost use Rattle.site_shared.specs.Watches.{IsOwnWatch, IsSameWatch, IsWatchOf, Refreshes, RefusesRefresh};
     ghost use Rattle.site_shared.specs.declared.fault.WindowFault.TheVariants.{Closed};
@@ -89,8 +89,8 @@ impl Window {
     /// that bears the window's own site and start comes from the window's opening; of any other one nothing is taken
     /// in. Takes no memory.
     pub fn learn(&mut self, receipt: &Receipt) -> Result<(), Stranger>
-        requires { IsOwn self.old receipt.now → receipt.now.book ≡ self.old.book }
-        ensures own { IsOk result ↔ IsOwn self.old receipt.now }
+        requires { BearsOwn self.old receipt.now → receipt.now.book ≡ self.old.book }
+        ensures own { IsOk result ↔ BearsOwn self.old receipt.now }
         ensures ok { OnOk result (GoesOn self.old self.new × IsPrefix receipt.now.published self.new.seen
             × ((self.new.seen ≡ self.old.seen) ⊎ (self.new.seen ≡ receipt.now.published))) }
         ensures err { OnErr result (self.new ≡ self.old) }

@@ -1,7 +1,7 @@
 //! Running sites, by one thread.
 
 ghost use Rattle.std.specs.Prelude.{◌≡◌, IfOk};
-ghost use Rattle.site_shared.specs.Accounts.{GoesOn, IsOwn, watching};
+ghost use Rattle.site_shared.specs.Accounts.{GoesOn, BearsOwn, watching};
 
 use gate_rules::Gate;
 use ready_core::Refusal;
@@ -361,7 +361,7 @@ pub fn open_one<R: Wait>(
 
 /// Whether a window refuses a receipt that isn't its own: it then sees what it saw.
 fn is_refused(window: &mut Window, receipt: &Receipt) -> bool
-    requires { ¬ IsOwn window.old receipt.now }
+    requires { ¬ BearsOwn window.old receipt.now }
     ensures { window.new ≡ window.old }
 {
     window.learn(receipt).is_err()

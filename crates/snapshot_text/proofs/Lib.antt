@@ -1,4 +1,7 @@
 mod Reading
+mod Standing
+mod Cutting
+mod Endings
 mod Numerals
 mod Sorted
 mod ReadBack

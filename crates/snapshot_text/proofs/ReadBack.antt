@@ -16,7 +16,7 @@ use Rattle.op_text.specs.Text.{operation_text, IsOneLine}
 use Rattle.byte_ends.specs.Lines.{as_line}
 use Rattle.snapshot_text.specs.Snapshot.{IsEndLine, IsNoEndLine, IsOperationLine, AreOperationLines, SaysOperations}
 use Rattle.snapshot_text.specs.Snapshot.{operation_lines, snapshot_text}
-use Rattle.snapshot_text.specs.Sound.{IsSound, AreSound}
+use Rattle.snapshot_text.specs.Sound.{IsSound, AreSoundOperations}
 
 -- ---- a text with no control character is one line
 
@@ -100,11 +100,11 @@ module _ (on_line : (op : Operation) → IsNumbered op.stamp → IsGood op.deed 
     spells = spelled op sound.numbered sound.good;
   }
 
-  are_operation_lines : (ops : List Operation) → AreSound ops → AreOperationLines (map operation_text ops) ops
+  are_operation_lines : (ops : List Operation) → AreSoundOperations ops → AreOperationLines (map operation_text ops) ops
   are_operation_lines [] sound = tt
   are_operation_lines (op ∷ ops) sound = (is_operation_line op sound.0, are_operation_lines ops sound.1)
 
-  lines_of-operations : (ops : List Operation) (rest : List ℕ) → AreSound ops
+  lines_of-operations : (ops : List Operation) (rest : List ℕ) → AreSoundOperations ops
       → lines_of (operation_lines ops ++ rest) ≡ map operation_text ops ++ lines_of rest
   lines_of-operations [] rest sound = refl
   lines_of-operations (op ∷ ops) rest sound =
@@ -118,7 +118,7 @@ module _ (on_line : (op : Operation) → IsNumbered op.stamp → IsGood op.deed 
       ap (map without_cr) (first_piece (codes "end " ++ decimal n) [] (end_plain n small))
       ∙ ap (λ l. l ∷ []) (no_cr (codes "end " ++ decimal n) (end_plain n small))
 
-  lines_of-snapshot : (ops : List Operation) → AreSound ops → length ops < 10 ^ 20
+  lines_of-snapshot : (ops : List Operation) → AreSoundOperations ops → length ops < 10 ^ 20
       → lines_of (snapshot_text ops)
       ≡ codes "reviewgate 2" ∷ (map operation_text ops ++ (codes "end " ++ decimal (length ops)) ∷ [])
   lines_of-snapshot ops sound few =
@@ -129,7 +129,7 @@ module _ (on_line : (op : Operation) → IsNumbered op.stamp → IsGood op.deed 
       (lines_of-operations ops (as_line (codes "end " ++ decimal (length ops))) sound)
       ∙ ap (λ l. codes "reviewgate 2" ∷ (map operation_text ops ++ l)) (end_alone (length ops) few)
 
-  pub read_back : (ops : List Operation) → AreSound ops → length ops < 10 ^ 20
+  pub read_back : (ops : List Operation) → AreSoundOperations ops → length ops < 10 ^ 20
       → SaysOperations (lines_of (snapshot_text ops)) ops
   read_back ops sound few = (
     codes "end " ++ decimal (length ops),

@@ -6,18 +6,17 @@ use Rattle.std.specs.Prelude.{codes, Option, None, Some, IfSome}
 use Rattle.byte_ends.specs.Lines.{lines_of}
 use Rattle.std.specs.Str.Parse.{digits_value}
 use Rattle.review_ops.specs.Operation.{Operation}
+use Rattle.op_text.specs.OneSpelling.{one_operation}
 use Rattle.op_text.specs.Spelling.{SpellsOperation, IsRefusalOf}
 use Rattle.op_text.specs.declared.field.Form.TheVariants as form
 use Rattle.op_text.specs.declared.fault.OpTextFault.{OpTextFault}
 use Rattle.op_text.specs.declared.fault.OpTextFault.TheVariants as op_fault
-use Rattle.replica_core.specs.JournalLaws.{all_arrived-push}
-use Rattle.replica_core.specs.Journal.{arrived, all_arrived}
 use Rattle.snapshot_text.specs.declared.fault.SnapFault.{SnapFault}
 use Rattle.snapshot_text.specs.declared.fault.SnapFault.TheVariants.{BadHeader, BadLine, NoEnd, BadCount, AfterEnd}
 use Rattle.snapshot_text.specs.declared.fault.SnapFault.TheVariants.{TooLong, ReadFault, NoMemory}
-use Rattle.snapshot_text.specs.Snapshot.{IsHeader, IsEndLine, IsNoEndLine, IsOperationLine, AreOperationLines}
-use Rattle.snapshot_text.specs.Snapshot.{BeginsWith, SaysOperations, IsFirstFault, IsRefusal, IsOfText, most_bytes}
-use Rattle.snapshot_text.specs.Reading.{IsEndFault, IsLineFault, line_fault_of}
+use Rattle.snapshot_text.specs.Snapshot.{IsEndLine, IsNoEndLine, IsOperationLine, AreOperationLines}
+use Rattle.snapshot_text.specs.Snapshot.{BeginsWith, SaysOperations, IsFirstSnapFault, IsRefusal, IsOfText, most_bytes}
+use Rattle.snapshot_text.specs.Reading.{IsLineFault, line_fault_of}
 
 -- ---- lines of operations
 
@@ -35,7 +34,7 @@ AreOperationLines-length [] (o ∷ ops) are = absurd are
 AreOperationLines-length (l ∷ lines) [] are = absurd are
 AreOperationLines-length (l ∷ lines) (o ∷ ops) are = omega (arith, AreOperationLines-length lines ops are.1)
 
-BeginsWith-push : {lines : List (List ℕ)} {ops : List Operation} {rest : List (List ℕ)} (text : List ℕ) (op : Operation)
+pub BeginsWith-push : {lines : List (List ℕ)} {ops : List Operation} {rest : List (List ℕ)} (text : List ℕ) (op : Operation)
     → BeginsWith lines ops (text ∷ rest) → IsOperationLine text op → BeginsWith lines (ops ++ op ∷ []) rest
 BeginsWith-push {lines} {ops} {rest} text op begins is = record {
   first = begins.first;
@@ -49,8 +48,6 @@ pub BeginsWith-length : {lines : List (List ℕ)} {ops : List Operation} {rest :
     → BeginsWith lines ops rest → length lines ≡ length ops + length rest + 1
 BeginsWith-length {lines} {ops} {rest} begins =
     omega (arith, ap length begins.form, length-append begins.front rest, AreOperationLines-length begins.front ops begins.operations)
-
--- ---- arrivals
 
 -- ---- end lines
 
@@ -86,19 +83,19 @@ from_start {lines} {rest} {whole} first e says = record {
 }
 
 -- lines that run out say nothing
-none_left : {done whole : List Operation} → SaysFrom [] done whole → ⊥
+pub none_left : {done whole : List Operation} → SaysFrom [] done whole → ⊥
 none_left {done} {whole} says = empty says.front says.form
   where
     empty : (front : List (List ℕ)) → [] ≡ front ++ says.last ∷ [] → ⊥
     empty [] e = cc
     empty (l ∷ front) e = cc
 
-record AtEnd (rest : List (List ℕ)) (done whole : List Operation) (n : ℕ) : Type 0 where
-  none : rest ≡ []
-  all : whole ≡ done
-  number : n ≡ length whole
+pub record AtEnd (rest : List (List ℕ)) (done whole : List Operation) (n : ℕ) : Type 0 where
+  pub none : rest ≡ []
+  pub all : whole ≡ done
+  pub number : n ≡ length whole
 
-at_end : (last : List ℕ) (rest : List (List ℕ)) (done whole : List Operation) (n : ℕ) → IsEndLine last n
+pub at_end : (last : List ℕ) (rest : List (List ℕ)) (done whole : List Operation) (n : ℕ) → IsEndLine last n
     → SaysFrom (last ∷ rest) done whole → AtEnd rest done whole n
 at_end last rest done whole n is says = by_front says.front says.later says.form says.operations says.split
   where
@@ -116,12 +113,12 @@ at_end last rest done whole n is says = by_front says.front says.later says.form
         (are.0.other n (subst (λ t. IsEndLine t n) same is))
 
 -- a line that is no end line spells the next operation
-record AtLine (text : List ℕ) (rest : List (List ℕ)) (done whole : List Operation) : Type 0 where
-  op : Operation
-  spells : SpellsOperation text op
-  says : SaysFrom rest (done ++ op ∷ []) whole
+pub record AtLine (text : List ℕ) (rest : List (List ℕ)) (done whole : List Operation) : Type 0 where
+  pub op : Operation
+  pub spells : SpellsOperation text op
+  pub says : SaysFrom rest (done ++ op ∷ []) whole
 
-at_line : (text : List ℕ) (rest : List (List ℕ)) (done whole : List Operation) → IsNoEndLine text
+pub at_line : (text : List ℕ) (rest : List (List ℕ)) (done whole : List Operation) → IsNoEndLine text
     → SaysFrom (text ∷ rest) done whole → AtLine text rest done whole
 at_line text rest done whole other says = by_front says.front says.later says.form says.operations says.split
   where
@@ -144,82 +141,32 @@ at_line text rest done whole other says = by_front says.front says.later says.fo
       };
     }
 
--- ---- the state of a reading
+-- what the rest of the lines says, where the lines before it are known
+says_after : (front : List (List ℕ)) (ops done whole : List Operation) (rest : List (List ℕ))
+    → AreOperationLines front ops → SaysFrom (front ++ rest) done whole → SaysFrom rest (done ++ ops) whole
+says_after [] [] done whole rest are says = subst (λ d. SaysFrom rest d whole) (sym (append-nil done)) says
+says_after [] (o ∷ ops) done whole rest are says = absurd are
+says_after (l ∷ front) [] done whole rest are says = absurd are
+says_after (l ∷ front) (o ∷ ops) done whole rest are says =
+    let at = at_line l (front ++ rest) done whole are.0.other says in
+    let next = subst (λ x. SaysFrom (front ++ rest) (done ++ x ∷ []) whole) (one_operation l at.op o at.spells are.0.spells) at.says in
+    subst (λ d. SaysFrom rest d whole) (append_assoc done (o ∷ []) ops) (says_after front ops (done ++ o ∷ []) whole rest are.1 next)
 
--- some operations of the lines have been read, and arrived in the journal
-pub record Reading (base : List Operation) (lines rest : List (List ℕ)) (journal : List Operation) (count : ℕ) : Type 0 where
-  pub ops : List Operation
-  pub begins : BeginsWith lines ops rest
-  pub taken : journal ≡ all_arrived base ops
-  pub counted : length ops ≡ count
-  pub only : (whole : List Operation) → SaysOperations lines whole → SaysFrom rest ops whole
+pub says_rest : (lines rest : List (List ℕ)) (ops whole : List Operation) → BeginsWith lines ops rest
+    → SaysOperations lines whole → SaysFrom rest ops whole
+says_rest lines rest ops whole begins says =
+    says_after begins.front ops [] whole rest begins.operations (from_start begins.first begins.form says)
 
-pub Reading-start : {lines rest : List (List ℕ)} (base : List Operation) (first : List ℕ) → lines ≡ first ∷ rest
-    → IsHeader first → Reading base lines rest base 0
-Reading-start base first e header = record {
-  ops = [];
-  begins = record { first = first; front = []; form = e; header = header; operations = tt };
-  taken = refl;
-  counted = refl;
-  only = λ whole says. from_start first e says;
+-- what lines begin with is still so where more come
+pub BeginsWith-more : (lines rest more : List (List ℕ)) (ops : List Operation) → BeginsWith lines ops rest
+    → BeginsWith (lines ++ more) ops (rest ++ more)
+BeginsWith-more lines rest more ops begins = record {
+  first = begins.first;
+  front = begins.front;
+  form = ap (λ l. l ++ more) begins.form ∙ ap (λ l. begins.first ∷ l) (append_assoc begins.front rest more);
+  header = begins.header;
+  operations = begins.operations;
 }
-
--- the operation of one more line arrives
-pub Reading-more : {base : List Operation} {lines : List (List ℕ)} {journal : List Operation} {count : ℕ}
-    (text : List ℕ) (rest : List (List ℕ)) (op : Operation)
-    → Reading base lines (text ∷ rest) journal count → IsNoEndLine text → SpellsOperation text op
-    → ((o : Operation) → SpellsOperation text o → o ≡ op) → Reading base lines rest (arrived journal op) (count + 1)
-Reading-more {base} text rest op reading other spells one = record {
-  ops = reading.ops ++ op ∷ [];
-  begins = BeginsWith-push text op reading.begins (record { other = other; spells = spells });
-  taken = ap (λ j. arrived j op) reading.taken ∙ sym (all_arrived-push base reading.ops op);
-  counted = omega (arith, length-append reading.ops (op ∷ []), reading.counted);
-  only = λ whole says.
-      let at = at_line text rest reading.ops whole other (reading.only whole says) in
-      subst (λ o. SaysFrom rest (reading.ops ++ o ∷ []) whole) (one at.op at.spells) at.says;
-}
-
-pub Reading-whole : {base : List Operation} {lines : List (List ℕ)} {journal : List Operation} {count : ℕ}
-    (last : List ℕ) (rest : List (List ℕ)) (n : ℕ)
-    → Reading base lines (last ∷ rest) journal count → IsEndLine last n → (whole : List Operation)
-    → SaysOperations lines whole → journal ≡ all_arrived base whole
-Reading-whole {base} last rest n reading is whole says =
-    reading.taken ∙ ap (all_arrived base) (sym (at_end last rest reading.ops whole n is (reading.only whole says)).all)
-
-pub Reading-no_bad_end : {base : List Operation} {lines : List (List ℕ)} {journal : List Operation} {count : ℕ}
-    (last : List ℕ) (rest : List (List ℕ)) (n : ℕ) (fault : SnapFault)
-    → Reading base lines (last ∷ rest) journal count → IsEndLine last n → IsEndFault n count rest fault
-    → (whole : List Operation) → ¬ SaysOperations lines whole
-Reading-no_bad_end last rest n BadHeader reading is bad whole says = bad
-Reading-no_bad_end last rest n (BadLine k cause) reading is bad whole says = bad
-Reading-no_bad_end last rest n NoEnd reading is bad whole says = bad
-Reading-no_bad_end last rest n BadCount reading is bad whole says =
-    let at = at_end last rest reading.ops whole n is (reading.only whole says) in
-    bad (at.number ∙ ap length at.all ∙ reading.counted)
-Reading-no_bad_end last rest n AfterEnd reading is bad whole says =
-    let at = at_end last rest reading.ops whole n is (reading.only whole says) in
-    let e : [] ≡ bad.1 ∷ bad.2 = sym at.none ∙ bad.3 in cc
-Reading-no_bad_end last rest n TooLong reading is bad whole says = bad
-Reading-no_bad_end last rest n ReadFault reading is bad whole says = bad
-Reading-no_bad_end last rest n NoMemory reading is bad whole says = bad
-
-pub Reading-nothing : {base : List Operation} {lines : List (List ℕ)} {journal : List Operation} {count : ℕ}
-    → Reading base lines [] journal count → (whole : List Operation) → ¬ SaysOperations lines whole
-Reading-nothing reading whole says = none_left (reading.only whole says)
-
-pub Reading-no_bad_line : {base : List Operation} {lines : List (List ℕ)} {journal : List Operation} {count : ℕ}
-    (text : List ℕ) (rest : List (List ℕ)) (n : ℕ) (fault : SnapFault)
-    → Reading base lines (text ∷ rest) journal count → IsNoEndLine text → IsLineFault text n fault
-    → (whole : List Operation) → SaysOperations lines whole → fault ≡ NoMemory
-Reading-no_bad_line text rest n BadHeader reading other bad whole says = absurd bad
-Reading-no_bad_line text rest n (BadLine m cause) reading other bad whole says =
-    let at = at_line text rest reading.ops whole other (reading.only whole says) in absurd (bad.2 at.op at.spells)
-Reading-no_bad_line text rest n NoEnd reading other bad whole says = absurd bad
-Reading-no_bad_line text rest n BadCount reading other bad whole says = absurd bad
-Reading-no_bad_line text rest n AfterEnd reading other bad whole says = absurd bad
-Reading-no_bad_line text rest n TooLong reading other bad whole says = absurd bad
-Reading-no_bad_line text rest n ReadFault reading other bad whole says = absurd bad
-Reading-no_bad_line text rest n NoMemory reading other bad whole says = refl
 
 -- a refused line
 pub line_refused : (text : List ℕ) (number : ℕ) (cause : OpTextFault) → IsRefusalOf form.Operation text cause
@@ -232,7 +179,7 @@ line_refused text number op_fault.NoMemory refusal only = tt
 
 -- ---- from the lines to the bytes
 
-pub refusal_of : (text : List ℕ) (fault : SnapFault) → length text ≤ most_bytes → IsFirstFault (lines_of text) fault
+pub refusal_of : (text : List ℕ) (fault : SnapFault) → length text ≤ most_bytes → IsFirstSnapFault (lines_of text) fault
     → IsRefusal text fault × IsOfText fault
 refusal_of text BadHeader within is = ((within, is), ((λ e. cc), (λ e. cc)))
 refusal_of text (BadLine n cause) within is = ((within, is), ((λ e. cc), (λ e. cc)))

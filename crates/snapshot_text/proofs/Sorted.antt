@@ -10,7 +10,7 @@ use Rattle.review_ops.specs.Operation.{Operation, operation_cmp}
 use Rattle.review_ops.specs.Order.{operations_exact}
 use Rattle.review_ops.specs.Timestamp.{IsNumbered}
 use Rattle.review_ops.specs.Good.{IsGood}
-use Rattle.snapshot_text.specs.Sound.{IsSound, AreSound}
+use Rattle.snapshot_text.specs.Sound.{IsSound, AreSoundOperations}
 use Rattle.replica_core.specs.Journal.{AreApart}
 use Rattle.replica_core.specs.InOrder.{IsInOrderOf, sorted_in_order}
 use Rattle.byte_ends.specs.Lines.{as_line}
@@ -44,17 +44,17 @@ module _ {R : Type 0} (now : R → Operation) where
       ∙ ap (λ t. as_line (codes "reviewgate 2") ++ operation_lines (map now ops) ++ t)
       (is_end ∙ ap (λ n. as_line (codes "end " ++ decimal n)) (sym (length-map ops now)))
 
-  sound-push : (xs : List R) (x : R) → AreSound (map now xs) → IsSound (now x) → AreSound (map now (xs ++ x ∷ []))
+  sound-push : (xs : List R) (x : R) → AreSoundOperations (map now xs) → IsSound (now x) → AreSoundOperations (map now (xs ++ x ∷ []))
   sound-push [] x sound is = (is, tt)
   sound-push (y ∷ xs) x sound is = (sound.0, sound-push xs x sound.1 is)
 
   -- one more sound operation
   pub sound_more : (ops : List R) (i : ℕ) (op : R) → i < length ops → op ≡ get_or ops i op → IsNumbered (now op).stamp
-      → IsGood (now op).deed → AreSound (map now (take i ops)) → AreSound (map now (take (i + 1) ops))
+      → IsGood (now op).deed → AreSoundOperations (map now (take i ops)) → AreSoundOperations (map now (take (i + 1) ops))
   sound_more ops i op within is numbered good sound =
       let here : IsSound (now op) = record { numbered = numbered; good = good } in
       rw (take_more ops i op within)
       (sound-push (take i ops) (get_or ops i op) sound (subst (λ o. IsSound (now o)) is here))
 
-  pub all_sound : (ops : List R) (i : ℕ) → length ops ≤ i → AreSound (map now (take i ops)) → AreSound (map now ops)
-  all_sound ops i past sound = subst (λ l. AreSound (map now l)) (take_all i ops past) sound
+  pub all_sound : (ops : List R) (i : ℕ) → length ops ≤ i → AreSoundOperations (map now (take i ops)) → AreSoundOperations (map now ops)
+  all_sound ops i past sound = subst (λ l. AreSoundOperations (map now l)) (take_all i ops past) sound

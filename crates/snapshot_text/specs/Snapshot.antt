@@ -69,28 +69,28 @@ abbrev pub SaysOperations : List (List ℕ) → List Operation → Type 0
 SaysOperations lines ops = (last : List ℕ) × BeginsWith lines ops (last ∷ []) × IsEndLine last (length ops)
 
 -- why a line that is no end line isn't an operation's
-abbrev pub IsCause : List ℕ → OpTextFault → Type 0
-IsCause text op_fault.NotJson = IsRefusalOf form.Operation text op_fault.NotJson
-IsCause text (op_fault.BadShape key) = IsRefusalOf form.Operation text (op_fault.BadShape key)
-IsCause text (op_fault.BadBody fault) = IsRefusalOf form.Operation text (op_fault.BadBody fault)
-IsCause text op_fault.NoMemory = ⊥
+abbrev pub IsLineCause : List ℕ → OpTextFault → Type 0
+IsLineCause text op_fault.NotJson = IsRefusalOf form.Operation text op_fault.NotJson
+IsLineCause text (op_fault.BadShape key) = IsRefusalOf form.Operation text (op_fault.BadShape key)
+IsLineCause text (op_fault.BadBody fault) = IsRefusalOf form.Operation text (op_fault.BadBody fault)
+IsLineCause text op_fault.NoMemory = ⊥
 
 -- Which fault is first in the lines: all lines before it are as they should be. Want of memory says nothing of them.
-abbrev pub IsFirstFault : List (List ℕ) → SnapFault → Type 0
-IsFirstFault lines BadHeader = (first : List ℕ) (rest : List (List ℕ)) → lines ≡ first ∷ rest → ¬ IsHeader first
-IsFirstFault lines (BadLine n cause) =
+abbrev pub IsFirstSnapFault : List (List ℕ) → SnapFault → Type 0
+IsFirstSnapFault lines BadHeader = (first : List ℕ) (rest : List (List ℕ)) → lines ≡ first ∷ rest → ¬ IsHeader first
+IsFirstSnapFault lines (BadLine n cause) =
     (ops : List Operation) × (text : List ℕ) × (rest : List (List ℕ)) × BeginsWith lines ops (text ∷ rest)
-    × (n ≡ length ops + 2) × IsNoEndLine text × IsCause text cause
-IsFirstFault lines NoEnd = (ops : List Operation) × BeginsWith lines ops []
-IsFirstFault lines BadCount =
+    × (n ≡ length ops + 2) × IsNoEndLine text × IsLineCause text cause
+IsFirstSnapFault lines NoEnd = (ops : List Operation) × BeginsWith lines ops []
+IsFirstSnapFault lines BadCount =
     (ops : List Operation) × (last : List ℕ) × (rest : List (List ℕ)) × BeginsWith lines ops (last ∷ rest) × (count : ℕ)
     × IsEndLine last count × (count ≢ length ops)
-IsFirstFault lines AfterEnd =
+IsFirstSnapFault lines AfterEnd =
     (ops : List Operation) × (last after : List ℕ) × (rest : List (List ℕ)) × BeginsWith lines ops (last ∷ after ∷ rest)
     × IsEndLine last (length ops)
-IsFirstFault lines TooLong = ⊥
-IsFirstFault lines ReadFault = ⊥
-IsFirstFault lines NoMemory = Unit {0}
+IsFirstSnapFault lines TooLong = ⊥
+IsFirstSnapFault lines ReadFault = ⊥
+IsFirstSnapFault lines NoMemory = Unit {0}
 
 -- ---- what a source's bytes say
 
@@ -101,11 +101,11 @@ most_bytes = 1073741824
 -- why a text isn't read: there is too much of it, or else its first fault. A failing source and want of memory say
 -- nothing of it.
 abbrev pub IsRefusal : List ℕ → SnapFault → Type 0
-IsRefusal text BadHeader = (length text ≤ most_bytes) × IsFirstFault (lines_of text) BadHeader
-IsRefusal text (BadLine n cause) = (length text ≤ most_bytes) × IsFirstFault (lines_of text) (BadLine n cause)
-IsRefusal text NoEnd = (length text ≤ most_bytes) × IsFirstFault (lines_of text) NoEnd
-IsRefusal text BadCount = (length text ≤ most_bytes) × IsFirstFault (lines_of text) BadCount
-IsRefusal text AfterEnd = (length text ≤ most_bytes) × IsFirstFault (lines_of text) AfterEnd
+IsRefusal text BadHeader = (length text ≤ most_bytes) × IsFirstSnapFault (lines_of text) BadHeader
+IsRefusal text (BadLine n cause) = (length text ≤ most_bytes) × IsFirstSnapFault (lines_of text) (BadLine n cause)
+IsRefusal text NoEnd = (length text ≤ most_bytes) × IsFirstSnapFault (lines_of text) NoEnd
+IsRefusal text BadCount = (length text ≤ most_bytes) × IsFirstSnapFault (lines_of text) BadCount
+IsRefusal text AfterEnd = (length text ≤ most_bytes) × IsFirstSnapFault (lines_of text) AfterEnd
 IsRefusal text TooLong = most_bytes < length text
 IsRefusal text ReadFault = Unit {0}
 IsRefusal text NoMemory = Unit {0}

@@ -9,6 +9,6 @@ pub record IsSound (op : Operation) : Type 0 where
   pub numbered : IsNumbered op.stamp
   pub good : IsGood op.deed
 
-abbrev pub AreSound : List Operation → Type 0
-AreSound [] = Unit {0}
-AreSound (op ∷ ops) = IsSound op × AreSound ops
+abbrev pub AreSoundOperations : List Operation → Type 0
+AreSoundOperations [] = Unit {0}
+AreSoundOperations (op ∷ ops) = IsSound op × AreSoundOperations ops

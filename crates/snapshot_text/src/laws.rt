@@ -5,13 +5,13 @@ ghost use Rattle.byte_ends.specs.Lines.{lines_of};
 ghost use Rattle.review_ops.specs.Operation.{Operation};
 ghost use Rattle.replica_core.specs.InOrder.{IsInOrderOf};
 ghost use Rattle.snapshot_text.specs.Snapshot.{SaysOperations, snapshot_text};
-ghost use Rattle.snapshot_text.specs.Sound.{AreSound};
+ghost use Rattle.snapshot_text.specs.Sound.{AreSoundOperations};
 
 use op_text::operations_are_spelled;
 
 /// A law: the text of a snapshot says its operations.
 pub fn snapshots_say_their_operations()
-    ensures { (ops : List Operation) → AreSound ops → length ops < 10 ^ 20
+    ensures { (ops : List Operation) → AreSoundOperations ops → length ops < 10 ^ 20
         → SaysOperations (lines_of (snapshot_text ops)) ops }
 {
     operations_are_spelled();

@@ -14,9 +14,11 @@
 //! ```
 #![tactic(auto)]
 
+mod blocks;
 mod end_line;
 mod fault;
 mod laws;
+mod progress;
 mod read;
 mod write;
 

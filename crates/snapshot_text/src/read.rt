@@ -1,31 +1,35 @@
 //! Reads snapshots.
 
-ghost use Rattle.std.specs.Prelude.{◌≡◌, ◌↔◌, ◌≤◌, length, OnOk, List, [], Some, IsTrue, IfOk, IfErr, IfSome};
-ghost use Rattle.std.specs.Prelude.{MatchResult, ℕ};
+ghost use Rattle.std.specs.Prelude.{◌≡◌, ◌≤◌, ◌<◌, ◌+◌, ◌-◌, ◌^◌, ◌++◌, length, OnOk, List, [], Some, IfOk, IfErr};
+ghost use Rattle.std.specs.Prelude.{IfSome, MatchResult, ℕ};
+ghost use Rattle.std.specs.Io.KnownBytes.{Consumes, IsAtEnd};
 ghost use Rattle.byte_ends.specs.Lines.{lines_of};
 ghost use Rattle.review_ops.specs.Operation.{Operation};
-ghost use Rattle.op_text.specs.Spelling.{SpellsOperation};
-ghost use Rattle.replica_core.specs.Journal.{arrived, all_arrived};
-ghost use Rattle.snapshot_text.specs.Snapshot.{IsHeader, SaysOperations, most_bytes, IsFirstFault, IsRefusal, IsOfText};
+ghost use Rattle.replica_core.specs.Journal.{all_arrived};
+ghost use Rattle.snapshot_text.specs.Progress.{HasRead};
+ghost use Rattle.snapshot_text.specs.Snapshot.{SaysOperations, most_bytes, IsRefusal, IsOfText};
 ghost use Rattle.snapshot_text.specs.Snapshot.{IsOutside, CountsSnapFault};
-ghost use Rattle.snapshot_text.specs.Reading.{IsEndFault, IsLineFault, line_fault_of};
 
-use super::end_line::claimed;
+use super::blocks::Blocks;
 use super::fault::SnapFault;
-use byte_ends::{Lines, Source, read_all};
-use op_text::{OpTextFault, read_op};
+use byte_ends::Source;
 use replica_core::Replica;
 use std::alloc::Global;
 
 /// The most bytes that a snapshot has: 1 GiB.
 pub const SNAPSHOT_LIMIT: usize = 1_073_741_824;
 
+/// How many bytes are read at once.
+const BLOCK: usize = 65_536;
+
 /// Reads a snapshot to the end of its source: the replica in which its operations have arrived in the order of their
 /// lines. Lines may come in any order and be repeated. The first line says version 1 or 2; the end line has 1 to 20
 /// digits. Refusals, of which the first in line order counts: 1 `BadHeader`, 2 `BadLine` with the line's number from 1
 /// and the cause, 3 `NoEnd`, 4 `BadCount`, 5 `AfterEnd`; and before any of them 6 `TooLong`, more than 1,073,741,824
-/// bytes, and 7 `ReadFault`, the source failed; 8 `NoMemory`. Nothing of a refused snapshot is handed out. It costs
-/// O(n) for n bytes, beside what the replica's `take` costs for each operation.
+/// bytes, and 7 `ReadFault`, the source failed; 8 `NoMemory`. So what comes after a line that is refused is read to its
+/// end. Nothing of a refused snapshot is handed out. It reads up to 64 KiB at once, and holds no more of the text than
+/// that and the beginning of a line. It costs O(n) for n bytes, beside what a gathering's `take` costs for each operation
+/// and its `joined` for all.
 pub fn read_snapshot<S: Source>(alloc: Global, source: &mut S) -> Result<Replica, SnapFault>
     ensures ok { IfOk result (λ replica. IfSome (S.left source.old) (λ text. (ops : List Operation)
         × SaysOperations (lines_of text) ops × (replica ≡ all_arrived [] ops))) }
@@ -41,13 +45,48 @@ pub fn read_snapshot<S: Source>(alloc: Global, source: &mut S) -> Result<Replica
         (λ _. S.failed source.new ≡ S.failed source.old)
         (CountsSnapFault (S.failed source.old) (S.failed source.new)) }
 {
-    let text = read_all(alloc, source, SNAPSHOT_LIMIT)?;
-    snapshot_of(alloc, &text)
+    let Ok(mut block) = vec![in alloc; 0u8; BLOCK] else {
+        return Err(SnapFault::NoMemory);
+    };
+    let mut blocks = Blocks::onto(Replica::new(alloc));
+    let mut seen = 0usize;
+    while seen <= SNAPSHOT_LIMIT {
+        match read_block(source, block.as_mut_slice(), &mut blocks)? {
+            0 => return blocks.end(),
+            count => seen += count,
+        }
+    }
+    Err(SnapFault::TooLong)
+}
+
+/// Reads once, and what came. 0 is the end.
+fn read_block<S: Source>(
+    source: &mut S,
+    block: &mut [u8],
+    blocks: &mut Blocks,
+) -> Result<usize, SnapFault>
+    requires { blocks.old.cutter.progress.count + length block.old < 2 ^ 64 - 2 }
+    ensures read { IfOk result (λ count. (part : List ℕ) × (length part ≡ count)
+        × Consumes (S.left source.old) (S.left source.new) part
+        × ((base : List Operation) → (came : List ℕ) → HasRead base came blocks.old
+        → HasRead base (came ++ part) blocks.new)) }
+    ensures most { IfOk result (λ count. count ≤ length block.old) }
+    ensures end { IfOk result (λ count. count ≡ 0 → 0 < length block.old → IsAtEnd (S.left source.new)) }
+    ensures few { IfOk result (λ count. blocks.new.cutter.progress.count ≤ blocks.old.cutter.progress.count + count) }
+    ensures fault { IfErr result (λ fault. fault ≡ SnapFault.ReadFault) }
+    ensures counted { MatchResult result
+        (λ _. S.failed source.new ≡ S.failed source.old)
+        (CountsSnapFault (S.failed source.old) (S.failed source.new)) }
+{
+    let Ok(count) = source.read(block) else {
+        return Err(SnapFault::ReadFault);
+    };
+    blocks.take_block(block.split_at(count).0);
+    Ok(count)
 }
 
 /// Reads the text of a snapshot as `read_snapshot` reads what a source has, for a caller that has the bytes and has
-/// seen to their limit. Of the refusals 6 and 7 never come. It costs O(n) for n bytes, beside what the replica's `take`
-/// costs for each operation.
+/// seen to their limit. Of the refusals 6 and 7 never come. It costs what `read_snapshot` does.
 pub fn snapshot_of(alloc: Global, text: &[u8]) -> Result<Replica, SnapFault>
     requires { length text.now ≤ most_bytes }
     ensures ok { IfOk result (λ replica. (ops : List Operation)
@@ -64,7 +103,7 @@ pub fn snapshot_of(alloc: Global, text: &[u8]) -> Result<Replica, SnapFault>
 
 /// Reads the text of a snapshot, as `snapshot_of` does, into a replica that is given up for it: its operations arrive,
 /// in the order of their lines, after what the replica has. Neither the replica nor anything of the text is handed out
-/// of a refusal. It costs O(n) for n bytes, beside what the replica's `take` costs for each operation.
+/// of a refusal. It costs what `read_snapshot` does.
 pub fn snapshot_onto(replica: Replica, text: &[u8]) -> Result<Replica, SnapFault>
     requires { length text.now ≤ most_bytes }
     ensures ok { IfOk result (λ both. (ops : List Operation)
@@ -76,87 +115,7 @@ pub fn snapshot_onto(replica: Replica, text: &[u8]) -> Result<Replica, SnapFault
         → MatchResult result
         (λ both. both ≡ all_arrived replica ops) (λ fault. fault ≡ SnapFault.NoMemory) }
 {
-    read_onto(replica, text)
-}
-
-/// The replica to which the operations of a text, of any length, came.
-fn read_onto(mut replica: Replica, text: &[u8]) -> Result<Replica, SnapFault>
-    ensures ok { IfOk result (λ both. (ops : List Operation)
-        × SaysOperations (lines_of text.now) ops × (both ≡ all_arrived replica ops)) }
-    ensures err { IfErr result (IsFirstFault (lines_of text.now)) }
-    ensures only { (ops : List Operation) → SaysOperations (lines_of text.now) ops
-        → MatchResult result
-        (λ both. both ≡ all_arrived replica ops) (λ fault. fault ≡ SnapFault.NoMemory) }
-{
-    let mut lines = Lines::new(text);
-    let Some(first) = lines.next_line() else {
-        return Err(SnapFault::BadHeader);
-    };
-    if !is_header(first) {
-        return Err(SnapFault::BadHeader);
-    }
-    let alloc = replica.allocator();
-    let mut count = 0u64;
-    while let Some(line) = lines.next_line() {
-        if let Some(said) = claimed(line) {
-            judge_end(said, count, lines)?;
-            return Ok(replica);
-        }
-        take_line(alloc, &mut replica, line, count + 2)?;
-        count += 1;
-    }
-    Err(SnapFault::NoEnd)
-}
-
-/// Whether a line is the header of a version that is read.
-fn is_header(line: &[u8]) -> bool
-    ensures { IsTrue result ↔ IsHeader line.now }
-{
-    line == b"reviewgate 1".as_slice() || line == b"reviewgate 2".as_slice()
-}
-
-/// Judges what an end line says, and that no line is left.
-fn judge_end(said: u128, count: u64, mut rest: Lines) -> Result<(), SnapFault>
-    ensures { MatchResult result
-        (λ _. (said ≡ count) × (rest.entry ≡ [])) (IsEndFault said count rest.entry) }
-{
-    if said != u128::from(count) {
-        return Err(SnapFault::BadCount);
-    }
-    match rest.next_line() {
-        None => Ok(()),
-        Some(_) => Err(SnapFault::AfterEnd),
-    }
-}
-
-/// Takes the operation of the line with this number.
-fn take_line(
-    alloc: Global,
-    replica: &mut Replica,
-    line: &[u8],
-    number: u64,
-) -> Result<(), SnapFault>
-    ensures ok { IfOk result (λ _. (op : Operation) × SpellsOperation line.now op
-        × (replica.new ≡ arrived replica.old op)
-        × ((other : Operation) → SpellsOperation line.now other → other ≡ op)) }
-    ensures err { IfErr result (IsLineFault line.now number) }
-{
-    let op = match read_op(alloc, line) {
-        Ok(op) => op,
-        Err(cause) => return Err(line_fault(number, cause)),
-    };
-    match replica.take(op) {
-        Ok(_) => Ok(()),
-        Err(_) => Err(SnapFault::NoMemory),
-    }
-}
-
-/// How it is reported that the line with this number isn't read.
-fn line_fault(number: u64, cause: OpTextFault) -> SnapFault
-    ensures { result ≡ line_fault_of number cause }
-{
-    match cause {
-        OpTextFault::NoMemory => SnapFault::NoMemory,
-        cause => SnapFault::BadLine(number, cause),
-    }
+    let mut blocks = Blocks::onto(replica);
+    blocks.take_block(text);
+    blocks.end()
 }

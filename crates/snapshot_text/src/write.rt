@@ -11,7 +11,7 @@ use super::fault::WriteSnapFault;
 use super::laws::snapshots_say_their_operations;
 use byte_ends::{Drain, write_all};
 use lattice_core::NoMemory;
-use op_text::write_op;
+use op_text::append_op;
 use replica_core::Replica;
 use review_ops::Op;
 use std::alloc::Global;
@@ -73,8 +73,7 @@ fn text_of(alloc: Global, ops: &[&Op]) -> Result<Vec<u8>, NoMemory>
     for op in ops {
         prove!(op.stamp().seq() >= 1);
         prove!(op.body().change() >= 1);
-        let line = write_op(alloc, op)?;
-        text.extend_from_slice(line.as_bytes())?;
+        append_op(&mut text, op)?;
         text.push(b'\n')?;
     }
     let end = format!(in alloc; "end {}\n", ops.len())?;

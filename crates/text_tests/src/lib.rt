@@ -20,6 +20,8 @@ mod reports;
 #[cfg(test)]
 mod scripts;
 #[cfg(test)]
+mod sips;
+#[cfg(test)]
 mod snapshots;
 #[cfg(test)]
 mod states;

@@ -1,6 +1,8 @@
 //! Texts of operations and fronts, worked out by hand.
 
-use op_text::{OpTextFault, read_body, read_front, read_op, write_body, write_front, write_op};
+use op_text::{
+    OpTextFault, append_op, read_body, read_front, read_op, write_body, write_front, write_op,
+};
 use review_ops::{Body, Draft};
 use std::alloc::{AllocError, Global};
 use std::process::Abort;
@@ -86,12 +88,26 @@ const WRITTEN: &[&str] = &[
     r#"{"change":101,"label":"v","op":"withdraw","seq":2,"set":1,"site":1,"start":1,"time":2,"voter":"zuul"}"#,
     r#"{"change":1,"message":"Add x\n\"\u0001ü","op":"patchset","parent":7,"seq":3,"set":4294967295,"site":1,"start":1,"time":2}"#,
     r#"{"change":1,"message":"","op":"patchset","seq":3,"set":1,"site":1,"start":1,"time":2}"#,
+    r#"{"change":1,"message":"\u0000\u001f\b\t\n\f\r\"\\/ü€😀","op":"patchset","seq":3,"set":1,"site":1,"start":1,"time":2}"#,
 ];
 
 // Each kind is read and written again to the byte.
 #[test]
 fn written_as_read(rt: HostRuntime) -> Result<(), Fail> {
     assert_written(&rt, rt.alloc(), WRITTEN)
+}
+
+// The texts of operations are added to a page, one behind the other.
+#[test]
+fn texts_on_one_page(rt: HostRuntime) -> Result<(), Fail> {
+    let mut page = Vec::from_slice(rt.alloc(), b"> ")?;
+    let mut wanted = Vec::from_slice(rt.alloc(), b"> ")?;
+    for text in WRITTEN {
+        append_op(&mut page, &read_op(rt.alloc(), text.as_bytes())?)?;
+        wanted.extend_from_slice(text.as_bytes())?;
+    }
+    assert!(rt; page.as_slice() == wanted.as_slice());
+    Ok(())
 }
 
 /// A vote.
@@ -221,6 +237,201 @@ fn first_faults(rt: HostRuntime) -> Result<(), Fail> {
     assert_echoes(&rt, rt.alloc(), FIRST_FAULTS)
 }
 
+/// Texts that are nearly as they are written, each with what it spells or its first refusal.
+const NEAR_TEXTS: &[(&str, &str)] = &[
+    (
+        r#"{"change":05,"op":"merged","seq":1,"site":1,"start":1,"time":1}"#,
+        "1 NotJson",
+    ),
+    (
+        r#"{"change":5,"op":"merged","seq":1,"site":00,"start":1,"time":1}"#,
+        "1 NotJson",
+    ),
+    (
+        r#"{"change":5,"op":"merged","seq":1,"site":1,"start":1,"time":}"#,
+        "1 NotJson",
+    ),
+    (
+        r#"{"change":5,"op":"merged","seq":1,"site":1,"start":1,"time":1"#,
+        "1 NotJson",
+    ),
+    (
+        r#"{"change":5,"op":"merged","seq":1,"site":1,"start":1,"time":1}}"#,
+        "1 NotJson",
+    ),
+    (
+        r#"{"change":5,"op":"merged","seq":1,"site":1,"start":1,"time":1} "#,
+        r#"{"change":5,"op":"merged","seq":1,"site":1,"start":1,"time":1}"#,
+    ),
+    (
+        r#"{"change":5,"op":"merged","seq":1,"site":1,"start":1,"time":1,"value":1}"#,
+        "2 BadShape value",
+    ),
+    (
+        r#"{"change":5,"op":"merged","seq":18446744073709551616,"site":1,"start":1,"time":1}"#,
+        "2 BadShape seq",
+    ),
+    (r#"{"change":5,"op":"merged"}"#, "2 BadShape seq"),
+    (
+        r#"{"change":1,"label":"V","op":"vote","seq":1,"set":1,"site":1,"start":1,"time":1,"value":-128,"voter":"a"}"#,
+        r#"{"change":1,"label":"v","op":"vote","seq":1,"set":1,"site":1,"start":1,"time":1,"value":-128,"voter":"a"}"#,
+    ),
+    (
+        r#"{"change":1,"label":"v","op":"vote","seq":1,"set":1,"site":1,"start":1,"time":1,"value":127,"voter":"\u0061"}"#,
+        r#"{"change":1,"label":"v","op":"vote","seq":1,"set":1,"site":1,"start":1,"time":1,"value":127,"voter":"a"}"#,
+    ),
+    (
+        r#"{"change":1,"label":"v","op":"vote","seq":1,"set":1,"site":1,"start":1,"time":1,"value":-129,"voter":"a"}"#,
+        "2 BadShape value",
+    ),
+    (
+        r#"{"change":1,"label":"v","op":"vote","seq":1,"set":1,"site":1,"start":1,"time":1,"value":-0,"voter":"a"}"#,
+        "2 BadShape value",
+    ),
+    (
+        r#"{"change":1,"label":"v","op":"vote","seq":1,"set":1,"site":1,"start":1,"time":1,"value":--1,"voter":"a"}"#,
+        "1 NotJson",
+    ),
+    (
+        r#"{"change":1,"label":"v\"","op":"withdraw","seq":1,"set":1,"site":1,"start":1,"time":1,"voter":"a"}"#,
+        "3 BadBody BadLabel",
+    ),
+    (
+        r#"{"change":1,"message":"a\u000ab\/c\u001b","op":"patchset","seq":3,"set":1,"site":1,"start":1,"time":2}"#,
+        r#"{"change":1,"message":"a\nb/c\u001b","op":"patchset","seq":3,"set":1,"site":1,"start":1,"time":2}"#,
+    ),
+    (
+        "{\"change\":1,\"message\":\"a\nb\",\"op\":\"patchset\",\"seq\":3,\"set\":1,\"site\":1,\"start\":1,\"time\":2}",
+        "1 NotJson",
+    ),
+    (
+        r#"{"change":1,"message":"\x","op":"patchset","seq":3,"set":1,"site":1,"start":1,"time":2}"#,
+        "1 NotJson",
+    ),
+    (
+        r#"{"change":1,"message":"\b\f\r\t\\","op":"patchset","parent":2,"seq":3,"set":1,"site":1,"start":1,"time":2}"#,
+        r#"{"change":1,"message":"\b\f\r\t\\","op":"patchset","parent":2,"seq":3,"set":1,"site":1,"start":1,"time":2}"#,
+    ),
+    (
+        r#"{"change":1,"message":"m","op":"patchset","parent":2,"parent":3,"seq":3,"set":1,"site":1,"start":1,"time":2}"#,
+        r#"{"change":1,"message":"m","op":"patchset","parent":3,"seq":3,"set":1,"site":1,"start":1,"time":2}"#,
+    ),
+    (
+        r#"{"change":1,"message":"m","op":"patchset","parent":-1,"seq":3,"set":1,"site":1,"start":1,"time":2}"#,
+        "2 BadShape parent",
+    ),
+];
+
+// Texts that are nearly as they are written are read as JSON has it.
+#[test]
+fn near_texts(rt: HostRuntime) -> Result<(), Fail> {
+    assert_echoes(&rt, rt.alloc(), NEAR_TEXTS)
+}
+
+/// The bytes with another byte at a place.
+fn with_byte(alloc: Global, bytes: &[u8], at: usize, byte: u8) -> Result<Vec<u8>, AllocError> {
+    let mut changed = Vec::new(alloc);
+    for (i, kept) in bytes.iter().enumerate() {
+        changed.push(if i == at { byte } else { *kept })?;
+    }
+    Ok(changed)
+}
+
+/// The bytes behind a blank.
+fn behind_blank(alloc: Global, bytes: &[u8]) -> Result<Vec<u8>, AllocError> {
+    let mut spaced = Vec::from_slice(alloc, b" ")?;
+    spaced.extend_from_slice(bytes)?;
+    Ok(spaced)
+}
+
+/// Whether two texts give the same operation, or the same refusal.
+fn same_operations(alloc: Global, one: &[u8], other: &[u8]) -> Result<bool, Fail> {
+    match (read_op(alloc, one), read_op(alloc, other)) {
+        (Ok(one), Ok(other)) => Ok(one == other),
+        (Err(one), Err(other)) => Ok(said(alloc, &one)? == said(alloc, &other)?),
+        _ => Ok(false),
+    }
+}
+
+/// Whether two texts give the same draft, or the same refusal.
+fn same_drafts(alloc: Global, one: &[u8], other: &[u8]) -> Result<bool, Fail> {
+    match (read_body(alloc, one), read_body(alloc, other)) {
+        (Ok(one), Ok(other)) => Ok(one == other),
+        (Err(one), Err(other)) => Ok(said(alloc, &one)? == said(alloc, &other)?),
+        _ => Ok(false),
+    }
+}
+
+/// Bytes that stand for something in a text, or for nothing.
+const OTHER_BYTES: &[u8] = b"0-\"\\} \n\xc3";
+
+/// Other bytes at a place of an operation's text give the same with a blank before the text.
+fn assert_operations_blind(
+    rt: &impl Abort,
+    alloc: Global,
+    text: &str,
+    at: usize,
+) -> Result<(), Fail> {
+    for byte in OTHER_BYTES {
+        let changed = with_byte(alloc, text.as_bytes(), at, *byte)?;
+        let spaced = behind_blank(alloc, changed.as_slice())?;
+        assert!(rt;
+            same_operations(alloc, changed.as_slice(), spaced.as_slice())?,
+            "{text} {at} {byte}"
+        );
+    }
+    Ok(())
+}
+
+/// Other bytes at a place of a body's text give the same with a blank before the text.
+fn assert_drafts_blind(rt: &impl Abort, alloc: Global, text: &str, at: usize) -> Result<(), Fail> {
+    for byte in OTHER_BYTES {
+        let changed = with_byte(alloc, text.as_bytes(), at, *byte)?;
+        let spaced = behind_blank(alloc, changed.as_slice())?;
+        assert!(rt;
+            same_drafts(alloc, changed.as_slice(), spaced.as_slice())?,
+            "{text} {at} {byte}"
+        );
+    }
+    Ok(())
+}
+
+/// Operations as they are written, one of each form.
+const SAMPLES: &[&str] = &[
+    r#"{"change":10,"op":"merged","seq":1,"site":1,"start":1,"time":10}"#,
+    r#"{"change":10,"label":"v","op":"vote","seq":2,"set":1,"site":1,"start":1,"time":2,"value":-12,"voter":"zu"}"#,
+    r#"{"change":1,"message":"a\n\"ü","op":"patchset","parent":7,"seq":3,"set":42,"site":1,"start":1,"time":2}"#,
+];
+
+/// Bodies as they are written.
+const WRITTEN_BODIES: &[&str] = &[
+    r#"{"change":10,"op":"merged"}"#,
+    r#"{"change":10,"label":"v","op":"vote","set":1,"value":-12,"voter":"zu"}"#,
+    r#"{"change":10,"label":"v","op":"withdraw","set":1,"voter":"zu"}"#,
+    r#"{"change":1,"message":"a\n\"ü","op":"patchset","parent":7,"set":4294967295}"#,
+];
+
+// A blank before a text, which only the JSON reader reads, changes nothing of what is read.
+#[test]
+fn a_blank_changes_nothing(rt: HostRuntime) -> Result<(), Fail> {
+    for text in SAMPLES {
+        for at in 0..text.len() {
+            assert_operations_blind(&rt, rt.alloc(), text, at)?;
+        }
+    }
+    Ok(())
+}
+
+#[test]
+fn a_blank_before_a_body_changes_nothing(rt: HostRuntime) -> Result<(), Fail> {
+    for text in WRITTEN_BODIES {
+        for at in 0..text.len() {
+            assert_drafts_blind(&rt, rt.alloc(), text, at)?;
+        }
+    }
+    Ok(())
+}
+
 /// Reading a body from this text gives this answer.
 fn assert_body(rt: &impl Abort, alloc: Global, text: &str, wanted: &str) -> Result<(), Fail> {
     let got = echoed_body(alloc, text.as_bytes())?;
@@ -246,6 +457,28 @@ const BODIES: &[(&str, &str)] = &[
         r#"{"change":5,"message":"m","op":"merged"}"#,
         "2 BadShape message",
     ),
+    (
+        r#"{"change":1,"label":"Code-Review","op":"vote","set":1,"value":-1,"voter":"a"}"#,
+        r#"{"change":1,"label":"code-review","op":"vote","set":1,"value":-1,"voter":"a"}"#,
+    ),
+    (
+        r#"{"change":1,"label":"v","op":"withdraw","set":1,"voter":"a"}"#,
+        r#"{"change":1,"label":"v","op":"withdraw","set":1,"voter":"a"}"#,
+    ),
+    (
+        r#"{"change":1,"message":"m","op":"patchset","parent":7,"set":1}"#,
+        r#"{"change":1,"message":"m","op":"patchset","parent":7,"set":1}"#,
+    ),
+    (
+        r#"{"change":5,"op":"abandon"}"#,
+        r#"{"change":5,"op":"abandon"}"#,
+    ),
+    (
+        r#"{"change":5,"op":"restore"}"#,
+        r#"{"change":5,"op":"restore"}"#,
+    ),
+    (r#"{"change":5,"op":"restored"}"#, "2 BadShape op"),
+    (r#"{"change":-0,"op":"restore"}"#, "2 BadShape change"),
     ("7", "1 NotJson"),
 ];
 

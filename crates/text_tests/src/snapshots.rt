@@ -1,6 +1,7 @@
 //! Snapshots worked out by hand, and what is answered where an end fails or memory is refused.
 
-use byte_ends::{Broken, Ends};
+use super::sips::Sips;
+use byte_ends::{Broken, Ends, Source};
 use op_text::OpTextFault;
 use review_ops::Op;
 use snapshot_text::{
@@ -16,13 +17,18 @@ const FIRST: &str =
 
 const SECOND: &str = r#"{"change":101,"op":"abandon","seq":1,"site":2,"start":1,"time":3}"#;
 
-/// The first fault of a text: its number, line and cause.
-fn fault_of(alloc: Global, text: &[u8]) -> (u8, u64, u8) {
-    match read_snapshot(alloc, &mut Ends::new(text)) {
+/// The first fault of what a source has: its number, line and cause.
+fn fault_in<S: Source>(alloc: Global, source: &mut S) -> (u8, u64, u8) {
+    match read_snapshot(alloc, source) {
         Ok(_) => (0, 0, 0),
         Err(SnapFault::BadLine(line, cause)) => (2, line, cause.number()),
         Err(fault) => (fault.number(), 0, 0),
     }
+}
+
+/// The first fault of a text.
+fn fault_of(alloc: Global, text: &[u8]) -> (u8, u64, u8) {
+    fault_in(alloc, &mut Ends::new(text))
 }
 
 /// Texts, each with its first fault.
@@ -51,6 +57,16 @@ const FAULTS: &[(&[u8], (u8, u64, u8))] = &[
 fn the_first_fault_stands(rt: HostRuntime) {
     for (text, fault) in FAULTS {
         assert_eq!(rt; fault_of(rt.alloc(), text), *fault);
+    }
+}
+
+// However few bytes a read gives, so that each line lies across reads, and a line end is cut off its line.
+#[test]
+fn the_first_fault_stands_in_sips(rt: HostRuntime) {
+    for (text, fault) in FAULTS {
+        for most in 1..4usize {
+            assert_eq!(rt; fault_in(rt.alloc(), &mut Sips::new(text, most)), *fault);
+        }
     }
 }
 
@@ -136,6 +152,31 @@ fn a_text_is_read_as_its_source_is(rt: HostRuntime) -> Result<(), Fail> {
     Ok(())
 }
 
+// Lines that lie across blocks of a source: so many of them that there are several blocks.
+#[test]
+fn lines_lie_across_blocks(rt: HostRuntime) -> Result<(), Fail> {
+    let mut text = format!(in rt.alloc(); "reviewgate 2\n")?;
+    for _ in 0..2000u32 {
+        text.push_str(FIRST)?;
+        text.push_str("\r\n")?;
+    }
+    text.push_str(SECOND)?;
+    text.push_str("\nend 2001\n")?;
+    assert_read(&rt, rt.alloc(), text.as_bytes(), &[2, 3])
+}
+
+// Whatever a read gives: the same operations come.
+#[test]
+fn a_source_is_read_in_sips(rt: HostRuntime) -> Result<(), Fail> {
+    let text = unordered(rt.alloc())?;
+    let whole = read_snapshot(rt.alloc(), &mut Ends::new(text.as_bytes()))?;
+    for most in 1..9usize {
+        let replica = read_snapshot(rt.alloc(), &mut Sips::new(text.as_bytes(), most))?;
+        assert!(rt; replica.as_slice() == whole.as_slice() && replica.same_state(&whole));
+    }
+    Ok(())
+}
+
 #[test]
 fn an_empty_text_has_no_header(rt: HostRuntime) {
     assert_eq!(rt; number_of(snapshot_of(rt.alloc(), b"")), 1);
@@ -166,6 +207,24 @@ fn a_failing_reader_is_refused(rt: HostRuntime) -> Result<(), Fail> {
         assert_eq!(rt; fault_before(rt.alloc(), text.as_bytes(), byte), 7);
     }
     Ok(())
+}
+
+// A line that is refused doesn't hide that the reader fails after it.
+#[test]
+fn a_failing_reader_is_refused_after_a_bad_line(rt: HostRuntime) {
+    for byte in 15..=23u64 {
+        assert_eq!(rt;
+            fault_before(rt.alloc(), b"reviewgate 2\n{\nend 1\n\n", byte),
+            7
+        );
+    }
+}
+
+// Nor that there are more bytes than the limit.
+#[test]
+fn too_much_is_refused_after_a_bad_line(rt: HostRuntime) {
+    let mut endless = Sips::endless(b"reviewgate 2\n{\nend 1\n");
+    assert_eq!(rt; number_of(read_snapshot(rt.alloc(), &mut endless)), 6);
 }
 
 /// What writing no operations to a writer that fails before this byte answers, and how many bytes the writer took.

@@ -10,7 +10,7 @@ use Rattle.std.proofs.lemmas.Cmp.{ranked}
 use Rattle.std.proofs.lemmas.List.{length-set, get_or-set_same, get_or-set_other}
 use Rattle.std.proofs.lemmas.List.Elements.{Contains-append_left, Contains-append_right, Contains-append_cases}
 use Rattle.std.proofs.lemmas.List.Elements.{Contains-push, Contains-push_cases}
-use Rattle.walk_core.specs.Walks.{Reaches, Reaches-trans}
+use Rattle.walk_core.specs.Walks.{IsReachedOver, Reaches-trans}
 use Rattle.walk_core.specs.Ranks.{LeadsTo, AreTogether}
 use Rattle.walk_core.specs.RankLaws.{AreTogether-sym, AreTogether-trans}
 use Rattle.lattice_core.specs.MemberLaws.{Contains-none}
@@ -84,7 +84,7 @@ pub nat_cmp-not_below : (x first : ℕ) → first ≤ x → ¬ (nat_cmp x first 
 nat_cmp-not_below x first h = not_below x first (nat_cmp x first) refl (ranked x first (nat_cmp x first) refl) h
 
 module _ (graph : List (List ℕ)) where
-  leads_cases : (x y : ℕ) → LeadsTo (HasEdge graph) x y → (x ≡ y) ⊎ Reaches (HasEdge graph) x y
+  leads_cases : (x y : ℕ) → LeadsTo (HasEdge graph) x y → (x ≡ y) ⊎ IsReachedOver (HasEdge graph) x y
   leads_cases x y (zero, same) = inl same
   leads_cases x y (suc n, walk) = inr (n, walk)
 
@@ -104,7 +104,7 @@ module _ (graph : List (List ℕ)) where
   together_self x = record { forth = (0, refl); back = (0, refl) }
 
   -- a node that is on no cycle is together with itself alone
-  pub first_alone : (x : ℕ) → ¬ Reaches (HasEdge graph) x x → IsFirst graph x x
+  pub first_alone : (x : ℕ) → ¬ IsReachedOver (HasEdge graph) x x → IsFirst graph x x
   first_alone x off = record {
     here = together_self x;
     least = λ y together. elim (together_cases x y together) [

@@ -1,7 +1,7 @@
 -- A search back and a search forth find a component.
 use Rattle.std.proofs.Common.{◌≡◌, ◌⊎◌, inl, inr, ℕ, List, refl, sym, ◌∙◌}
 use Rattle.std.specs.List.{Contains}
-use Rattle.walk_core.specs.Walks.{Reaches, Reaches-trans}
+use Rattle.walk_core.specs.Walks.{IsReachedOver, Reaches-trans}
 use Rattle.walk_core.specs.Digraphs.{HasEdge}
 use Rattle.walk_core.specs.Components.{place_of, AreConnected, IsStep, HasSpread, AreReleased, IsMember, HasComponent}
 use Rattle.walk_core.specs.Components.{AreSettled}
@@ -47,7 +47,7 @@ module _ (graph : List (List ℕ)) (node : ℕ) (start : List Place) (settled : 
             back = Walk-reaches (HasEdge graph) m y x node walk c.back;
           }))).is)
 
-      behind_reaches : (x : ℕ) → place_of back_places x ≡ Behind → Reaches (HasEdge graph) x node
+      behind_reaches : (x : ℕ) → place_of back_places x ≡ Behind → IsReachedOver (HasEdge graph) x node
       behind_reaches x is = elim (back.each x) [
         | inl same ↦ absurd (settled.sure x (sym same ∙ is))
         | inr here ↦ Reaches-turned (HasEdge graph) node x (back.moved x here).reached

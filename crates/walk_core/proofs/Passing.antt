@@ -4,7 +4,7 @@ use Rattle.std.proofs.Common.{refl, sym, ◌∙◌, ap, subst, length, take, get
 use Rattle.std.specs.List.{sum_by}
 use Rattle.std.proofs.lemmas.List.Sums.{sum_by-le}
 use Rattle.lattice_core.specs.MemberLaws.{Contains-none, Contains-first, Contains-cons_cases}
-use Rattle.walk_core.specs.Marks.{AreKept, AreKeptElsewhere, AreSound, IsGathered, AreGathered, total_of, Passes}
+use Rattle.walk_core.specs.Marks.{MarksAreKept, AreKeptElsewhere, AreSound, IsGathered, AreGathered, total_of, Passes}
 use Rattle.walk_core.specs.Marks.{PassesAll}
 use Rattle.walk_core.specs.declared.block.Marks.{Marks}
 use Rattle.walk_core.specs.EdgeLaws.{Contains-more}
@@ -66,7 +66,7 @@ module _ (graph : List (List ℕ)) (firsts : List ℕ) where
 
   pub record HasPassed (nodes : List ℕ) (before after : List Marks) : Type 0 where
     pub size : length after ≡ length before
-    pub kept : AreKept before after
+    pub kept : MarksAreKept before after
     pub sound : (block : List ℕ) → AreSound graph block before → AreSound graph block after
     pub elsewhere : AreKeptElsewhere firsts nodes before after
 

@@ -6,7 +6,7 @@ use Rattle.std.specs.Prelude.{◌↔◌}
 use Rattle.std.proofs.lemmas.List.{length-set}
 use Rattle.std.proofs.lemmas.List.Elements.{All-pop, Contains-push, Contains-push_cases, Contains-append_left}
 use Rattle.std.proofs.lemmas.List.Elements.{Contains-append_right, Contains-append_cases}
-use Rattle.walk_core.specs.Walks.{Reaches, Reaches-trans}
+use Rattle.walk_core.specs.Walks.{IsReachedOver, Reaches-trans}
 use Rattle.walk_core.specs.Components.{place_of, IsFound}
 use Rattle.walk_core.specs.declared.component.Place.{Place}
 use Rattle.walk_core.proofs.Places.{place_set}
@@ -16,7 +16,7 @@ pub record IsSpreading (E : ℕ → ℕ → Type 0) (sought found : Place) (star
   pub each : (x : ℕ) → (place_of now x ≡ place_of before x) ⊎ Contains nodes x
   pub moved : (x : ℕ) → Contains nodes x → IsFound E sought found start before now x
   pub closed : (x y : ℕ) → (x ≡ start) ⊎ Contains nodes x → E x y → place_of now y ≡ sought → Contains ahead y
-  pub reached : (x : ℕ) → Contains ahead x → Reaches E start x
+  pub reached : (x : ℕ) → Contains ahead x → IsReachedOver E start x
 
 -- the node that is taken from the end of nodes of a graph is one, and so is each of the rest
 pub taken_within : (size : ℕ) (ahead rest : List ℕ) (node : ℕ) → ahead ≡ rest ++ node ∷ [] → All (λ x. x < size) ahead
@@ -64,7 +64,7 @@ module _ (E : ℕ → ℕ → Type 0) (sought found : Place) (start : ℕ) (befo
         | inr here ↦ (spreading.moved node here).was
       ]
 
-      reached_node : Reaches E start node
+      reached_node : IsReachedOver E start node
       reached_node = spreading.reached node (Contains-push rest node)
 
       moved_other : (x : ℕ) → Contains nodes x → IsFound E sought found start before (set now node found) x
@@ -126,7 +126,7 @@ module _ (E : ℕ → ℕ → Type 0) (sought found : Place) (start : ℕ) (befo
         ]
       ]
 
-      taken_reached : (x : ℕ) → Contains (rest ++ steps) x → Reaches E start x
+      taken_reached : (x : ℕ) → Contains (rest ++ steps) x → IsReachedOver E start x
       taken_reached x listed = elim (Contains-append_cases rest steps x listed) [
         | inl later ↦ spreading.reached x (Contains-append_left rest (node ∷ []) x later)
         | inr step ↦ Reaches-trans E start node x reached_node (0, (x, (are x).0 step, refl))

@@ -4,7 +4,7 @@
 use Rattle.std.specs.Prelude.{◌≡◌, ◌≢◌, ◌↔◌, ◌⊎◌, ◌<◌, ◌≤◌, ℕ, Bool, true, false, List, Contains, length, slice_index}
 use Rattle.std.specs.Prelude.{slice_index_or}
 use Rattle.std.specs.Ordering.{nat_cmp}
-use Rattle.walk_core.specs.Walks.{Reaches, IsOnCycle}
+use Rattle.walk_core.specs.Walks.{IsReachedOver, IsOnCycle}
 use Rattle.walk_core.specs.Ranks.{AreTogether, IsLeast}
 use Rattle.walk_core.specs.Digraphs.{HasEdge}
 use Rattle.walk_core.specs.declared.component.Place.{Place}
@@ -23,8 +23,8 @@ is_on_cycle _ = false
 
 -- each of two nodes leads to the other
 pub record AreConnected (graph : List (List ℕ)) (x y : ℕ) : Type 0 where
-  pub forth : Reaches (HasEdge graph) x y
-  pub back : Reaches (HasEdge graph) y x
+  pub forth : IsReachedOver (HasEdge graph) x y
+  pub back : IsReachedOver (HasEdge graph) y x
 
 -- ---- a search
 
@@ -45,7 +45,7 @@ IsStep graph Forth = λ x y. HasEdge graph x y
 
 -- a sought node was reached, and its place changed
 pub record IsFound (E : ℕ → ℕ → Type 0) (sought found : Place) (start : ℕ) (before after : List Place) (x : ℕ) : Type 0 where
-  pub reached : Reaches E start x
+  pub reached : IsReachedOver E start x
   pub was : place_of before x ≡ sought
   pub is : place_of after x ≡ found
 

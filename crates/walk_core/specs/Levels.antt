@@ -17,7 +17,7 @@ abbrev pub unreached : List (Option ℕ) → ℕ
 unreached distances = count_by is_unreached distances
 
 -- the node had no distance, and is in the last level now
-pub record IsNew (before : List (Option ℕ)) (level : List ℕ) (x : ℕ) : Type 0 where
+pub record IsNewlyReached (before : List (Option ℕ)) (level : List ℕ) (x : ℕ) : Type 0 where
   pub unknown : (m : ℕ) → ¬ HasDistance before x m
   pub listed : Contains level x
 
@@ -27,7 +27,7 @@ pub record Discovers (P : ℕ → Type 0) (n : ℕ) (before : List (Option ℕ))
   pub nodes : length after ≡ length before
   pub all : (x : ℕ) → P x → (m : ℕ) × HasDistance after x m
   pub kept : (x m : ℕ) → HasDistance before x m → HasDistance after x m
-  pub new : (x m : ℕ) → HasDistance after x m → HasDistance before x m ⊎ ((m ≡ n) × P x × IsNew before grown x)
+  pub new : (x m : ℕ) → HasDistance after x m → HasDistance before x m ⊎ ((m ≡ n) × P x × IsNewlyReached before grown x)
   pub level_kept : (x : ℕ) → Contains level x → Contains grown x
   pub level_new : (x : ℕ) → Contains grown x → Contains level x ⊎ HasDistance after x n
   pub balance : length grown + unreached after ≡ length level + unreached before

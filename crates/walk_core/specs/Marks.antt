@@ -45,8 +45,8 @@ pub record LeadsToTarget (graph : List (List ℕ)) (block : List ℕ) (row targe
 abbrev pub AreSound : List (List ℕ) → List ℕ → List Marks → Type 0
 AreSound graph block rows = (row target : ℕ) → IsMarkedAt rows row target → LeadsToTarget graph block row target
 
-abbrev pub AreKept : List Marks → List Marks → Type 0
-AreKept before after = (row target : ℕ) → IsMarkedAt before row target → IsMarkedAt after row target
+abbrev pub MarksAreKept : List Marks → List Marks → Type 0
+MarksAreKept before after = (row target : ℕ) → IsMarkedAt before row target → IsMarkedAt after row target
 
 -- a node is marked with what the ends of its edges are marked with; each node's marks are at its first node
 abbrev pub IsGathered : List (List ℕ) → List ℕ → List Marks → ℕ → Type 0
@@ -73,7 +73,7 @@ AreKeptElsewhere firsts nodes before after =
 -- marks were passed on against edges of the nodes: some are new, or there was none to pass on
 pub record Passes (graph : List (List ℕ)) (firsts nodes : List ℕ) (before after : List Marks) (changes : Bool) : Type 0 where
   pub size : length after ≡ length before
-  pub kept : AreKept before after
+  pub kept : MarksAreKept before after
   pub sound : (block : List ℕ) → AreSound graph block before → AreSound graph block after
   pub elsewhere : AreKeptElsewhere firsts nodes before after
   pub step : MatchBool changes (total_of before < total_of after)
@@ -82,7 +82,7 @@ pub record Passes (graph : List (List ℕ)) (firsts nodes : List ℕ) (before af
 -- marks were passed on until nothing changed
 pub record PassesAll (graph : List (List ℕ)) (firsts nodes : List ℕ) (before after : List Marks) : Type 0 where
   pub size : length after ≡ length before
-  pub kept : AreKept before after
+  pub kept : MarksAreKept before after
   pub sound : (block : List ℕ) → AreSound graph block before → AreSound graph block after
   pub elsewhere : AreKeptElsewhere firsts nodes before after
   pub gathered : AreGathered graph firsts nodes after

@@ -13,12 +13,12 @@ abbrev pub Walk : {N : Type 0} → (N → N → Type 0) → ℕ → N → N → 
 Walk E n x y = Leads E (λ z. z ≡ y) n x
 
 -- one node reaches another by one edge or more
-abbrev pub Reaches : {N : Type 0} → (N → N → Type 0) → N → N → Type 0
-Reaches E x y = (n : ℕ) × Walk E (suc n) x y
+abbrev pub IsReachedOver : {N : Type 0} → (N → N → Type 0) → N → N → Type 0
+IsReachedOver E x y = (n : ℕ) × Walk E (suc n) x y
 
 -- the node reaches itself
 abbrev pub IsOnCycle : {N : Type 0} → (N → N → Type 0) → N → Type 0
-IsOnCycle E x = Reaches E x x
+IsOnCycle E x = IsReachedOver E x x
 
 -- n edges are the fewest that lead from the node to one that has P
 pub record IsDistance {N : Type 0} (E : N → N → Type 0) (P : N → Type 0) (n : ℕ) (x : N) : Type 0 where
@@ -49,13 +49,13 @@ Leads-after E P (suc m) n x y walk leads =
     (walk.0, walk.1, Leads-after E P m n walk.0 y walk.2 leads)
 
 -- what is reached from a node that is reached is reached
-pub Reaches-trans : {N : Type 0} (E : N → N → Type 0) (x y z : N) → Reaches E x y → Reaches E y z → Reaches E x z
+pub Reaches-trans : {N : Type 0} (E : N → N → Type 0) (x y z : N) → IsReachedOver E x y → IsReachedOver E y z → IsReachedOver E x z
 Reaches-trans E x y z p q =
     let e : suc p.0 + suc q.0 ≡ suc (p.0 + suc q.0) = omega arith in
     (p.0 + suc q.0, subst (λ k. Walk E k x z) e (Leads-after E (λ w. w ≡ z) (suc p.0) (suc q.0) x y p.1 q.1))
 
 -- nodes that reach each other are on a cycle
-pub IsOnCycle-both : {N : Type 0} (E : N → N → Type 0) (x y : N) → Reaches E x y → Reaches E y x → IsOnCycle E x
+pub IsOnCycle-both : {N : Type 0} (E : N → N → Type 0) (x y : N) → IsReachedOver E x y → IsReachedOver E y x → IsOnCycle E x
 IsOnCycle-both E x y p q = Reaches-trans E x y x p q
 
 -- ---- distances

@@ -6,14 +6,14 @@ ghost use Rattle.std.specs.declared.cmp.Ordering.{Ordering};
 ghost use Rattle.lattice_core.specs.Keep.{IsExactOrder};
 ghost use Rattle.walk_core.specs.Ranks.{EndsStandBefore, IsInRankOrder, TogetherStandTogether};
 ghost use Rattle.walk_core.specs.Digraphs.{AreDistances, HasEdge, IsMarked, IsWithin};
-ghost use Rattle.walk_core.specs.Walks.{BeginsFewest, IsDistance, IsEdge, IsOfKind, IsOnCycle, Leads, Reaches};
+ghost use Rattle.walk_core.specs.Walks.{BeginsFewest, IsDistance, IsEdge, IsOfKind, IsOnCycle, Leads, IsReachedOver};
 
 /// A law: what is reached from a node that is reached is reached, so nodes that reach each other are on a cycle.
 pub fn reaching_goes_on<N>()
     ensures further { (ends : N → List N) → (x y z : N)
-        → Reaches (IsEdge ends) x y → Reaches (IsEdge ends) y z → Reaches (IsEdge ends) x z }
+        → IsReachedOver (IsEdge ends) x y → IsReachedOver (IsEdge ends) y z → IsReachedOver (IsEdge ends) x z }
     ensures cycle { (ends : N → List N) → (x y : N)
-        → Reaches (IsEdge ends) x y → Reaches (IsEdge ends) y x → IsOnCycle (IsEdge ends) x }
+        → IsReachedOver (IsEdge ends) x y → IsReachedOver (IsEdge ends) y x → IsOnCycle (IsEdge ends) x }
 {}
 
 /// A law: a node has one distance to those of some kind, if it has one. From a node at a distance above 0 an edge leads

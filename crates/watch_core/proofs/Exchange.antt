@@ -23,7 +23,7 @@ use Rattle.lattice_core.specs.PlaceLaws.{Contains-at, at_Contains, not_below_its
 use Rattle.state_core.specs.declared.item.Item.{Item}
 use Rattle.state_core.specs.Items.{item_cmp}
 use Rattle.state_core.specs.ItemLaws.{items_exact, items_order, items_total}
-use Rattle.watch_core.specs.Placed.{HasNew, IsFoundAgain, IsOneEach, AreApart, item_of}
+use Rattle.watch_core.specs.Placed.{HasNew, IsFoundAgain, IsOneEach, ShareNoItem, left_item}
 use Rattle.ready_core.specs.ItemRanks.{to_rank}
 use Rattle.watch_core.proofs.Placing.{above_first, by_key, left_below, parts_at, sorted_right}
 
@@ -50,8 +50,8 @@ same_or_not a b = one_or_two a b (item_cmp a b) refl
 pub by_rank_total : IsTotalOrder (by_key to_rank (rank_cmp item_cmp))
 by_rank_total = on_total to_rank ranks_order.total
 
-pub by_item_total : IsTotalOrder (by_key item_of item_cmp)
-by_item_total = on_total item_of items_total
+pub by_item_total : IsTotalOrder (by_key left_item item_cmp)
+by_item_total = on_total left_item items_total
 
 pub has_or_not : (items : List Item) (item : Item) → Contains items item ⊎ ¬ Contains items item
 has_or_not [] item = inr (Contains-none item)
@@ -302,8 +302,8 @@ module _ {X : Type 0} (of : X → Item) where
 -- ---- two lists
 pub apart_on : {X Y : Type 0} (of : X → Item) (by : Y → Item) (P : Item → Type 0) (found kept new : List X)
     (found_too kept_too new_too : List Y) → HasNew of P found kept new
-    → HasNew by P found_too kept_too new_too → AreApart of by found found_too → AreApart of by kept kept_too
-    → AreApart of by new new_too
+    → HasNew by P found_too kept_too new_too → ShareNoItem of by found found_too → ShareNoItem of by kept kept_too
+    → ShareNoItem of by new new_too
 apart_on of by P found kept new found_too kept_too new_too xs ys apart_found apart_kept = record {
   none = λ x y has also same. elim ((xs.each x).0 has) [
     | inl x_found ↦ elim ((ys.each y).0 also) [

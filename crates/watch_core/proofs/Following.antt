@@ -39,11 +39,11 @@ use Rattle.ready_core.specs.Verdicts.{AreVerdicts, Judged, items_out}
 use Rattle.ready_core.specs.WholeLaws.{on_all_items}
 use Rattle.watch_core.specs.BroughtUp.{AreRankedVerdicts, HoldsItems, IsBroughtUp}
 use Rattle.watch_core.specs.Namers.{HaveNamers, HaveRows, HoldNamers, IsNamer, KeepsNamers, Namers, Rows, has_item}
-use Rattle.watch_core.specs.Namers.{is_again, is_reached, row_of, rows_of}
-use Rattle.watch_core.specs.Placed.{AreLists, FindsAgain, IsIn, IsOneEach, StandOnce, item_of, node_of}
+use Rattle.watch_core.specs.Namers.{is_again, is_reached, namer_row, namer_rows}
+use Rattle.watch_core.specs.Placed.{AreLists, FindsAgain, IsIn, IsOneEach, StandOnce, left_item, node_of}
 use Rattle.watch_core.specs.Touched.{HoldsWhatWaits, touches}
 use Rattle.watch_core.specs.Untouched.{IsUntouched, others}
-use Rattle.watch_core.specs.Watching.{AreKept}
+use Rattle.watch_core.specs.Watching.{AreKeptVerdicts}
 use Rattle.watch_core.specs.Again.{HasWaiting, IsAgain}
 use Rattle.watch_core.specs.declared.again.Again.{Again}
 use Rattle.watch_core.specs.Asked.{AreTouchedItems}
@@ -57,23 +57,23 @@ use Rattle.watch_core.proofs.Spread.{all_held, holds_what_waits}
 use Rattle.watch_core.proofs.Stays.{after_is, rest_untouched}
 
 -- ---- what waits for a change, as lists
-row_kept : (number : ℕ) (entries : List (ℕ × Vec Item)) → row_of
+row_kept : (number : ℕ) (entries : List (ℕ × Vec Item)) → namer_row
     (lookup (λ key. is_eq (nat_cmp number key)) (map (λ (entry : ℕ × Vec Item). (entry.0, entry.1.items)) entries))
     ≡ items_at (lookup (λ key. is_eq (nat_cmp number key)) entries)
 row_kept number [] = refl
 row_kept number (entry ∷ entries) = by_key (is_eq (nat_cmp number entry.0)) (row_kept number entries) where
-  by_key : (is : Bool) → row_of (lookup (λ key. is_eq (nat_cmp number key)) (map (λ (entry : ℕ × Vec Item). (entry.0, entry.1.items)) entries)) ≡ items_at (lookup (λ key. is_eq (nat_cmp number key)) entries)
-      → row_of (cond is (Some entry.1.items) (lookup (λ key. is_eq (nat_cmp number key)) (map (λ (entry : ℕ × Vec Item). (entry.0, entry.1.items)) entries)))
+  by_key : (is : Bool) → namer_row (lookup (λ key. is_eq (nat_cmp number key)) (map (λ (entry : ℕ × Vec Item). (entry.0, entry.1.items)) entries)) ≡ items_at (lookup (λ key. is_eq (nat_cmp number key)) entries)
+      → namer_row (cond is (Some entry.1.items) (lookup (λ key. is_eq (nat_cmp number key)) (map (λ (entry : ℕ × Vec Item). (entry.0, entry.1.items)) entries)))
       ≡ items_at (cond is (Some entry.1) (lookup (λ key. is_eq (nat_cmp number key)) entries))
   by_key true rest = refl
   by_key false rest = rest
 
 pub rows_have : (gate : GateRules) (state : State) (namers : Namers) → HaveNamers gate state namers
-    → HaveRows gate state (rows_of namers)
+    → HaveRows gate state (namer_rows namers)
 rows_have gate state namers have =
     λ item number target. subst (λ l. Contains l item) (sym (row_kept number namers.entries)) (have item number target)
 
-namers_have : (gate : GateRules) (state : State) (namers : Namers) → HaveRows gate state (rows_of namers)
+namers_have : (gate : GateRules) (state : State) (namers : Namers) → HaveRows gate state (namer_rows namers)
     → HaveNamers gate state namers
 namers_have gate state namers have =
     λ item number target. subst (λ l. Contains l item) (row_kept number namers.entries) (have item number target)
@@ -160,7 +160,7 @@ one_rank gate state ranks are = record { one = λ a b has also same. rank_same i
 module _ (gate : GateRules) (state : State) (kept : Judged) (verdicts : AreVerdicts gate state kept)
     (namers : Rows) where
   -- as the lists into which what is found is put
-  pub lists_kept : (ranks : List ItemRank) → AreKept gate state (map to_rank ranks) namers kept
+  pub lists_kept : (ranks : List ItemRank) → AreKeptVerdicts gate state (map to_rank ranks) namers kept
       → AreLists kept.ready ranks kept.out
   lists_kept ranks keeps = record {
     ranked = record {
@@ -174,12 +174,12 @@ module _ (gate : GateRules) (state : State) (kept : Judged) (verdicts : AreVerdi
     apart = record {
       none = λ rank left has also same.
           let ready = (verdicts.ready rank.node).0 (subst (λ l. Contains l rank.node) (sym (keeps.ready ∙ nodes_of ranks)) (Contains-to_map node_of ranks rank has)) in
-          let out = (verdicts.out left.item).0 (Contains-to_map item_of kept.out left also) in
+          let out = (verdicts.out left.item).0 (Contains-to_map left_item kept.out left also) in
           out.1 (subst (IsReady gate state) same ready);
     };
   }
 
-  pub were : (ranks : List (Rank Item)) → AreKept gate state ranks namers kept
+  pub were : (ranks : List (Rank Item)) → AreKeptVerdicts gate state ranks namers kept
       → AreRankedVerdicts gate state (record { ranks = ranks; out = kept.out })
   were ranks keeps =
       let same : kept ≡ record { ready = map (λ (rank : Rank Item). rank.node) ranks; out = kept.out } =
@@ -187,7 +187,7 @@ module _ (gate : GateRules) (state : State) (kept : Judged) (verdicts : AreVerdi
       record { verdicts = subst (AreVerdicts gate state) same verdicts; ranks = keeps.ranks }
 
   -- what is in kept verdicts is an item
-  pub kept_items : (ranks : List (Rank Item)) → AreKept gate state ranks namers kept → (item : Item)
+  pub kept_items : (ranks : List (Rank Item)) → AreKeptVerdicts gate state ranks namers kept → (item : Item)
       → IsIn (record { ranks = ranks; out = kept.out }) item → IsItem state item
   kept_items ranks keeps item is = elim is [
     | inl here ↦
@@ -202,11 +202,11 @@ module _ (gate : GateRules) (state : State) (items : List Item) (found : RankedV
   pub found_once : StandOnce found
   found_once = record {
     ranks = one_rank gate state found.ranks are.ranks;
-    out = one_each_sorted item_of found.out are.verdicts.out_in_order;
+    out = one_each_sorted left_item found.out are.verdicts.out_in_order;
     apart = record {
       none = λ rank left has also same.
           let ready = (are.verdicts.ready rank.node).0 (Contains-to_map (λ (r : Rank Item). r.node) found.ranks rank has) in
-          let out = (are.verdicts.out left.item).0 (Contains-to_map item_of found.out left also) in
+          let out = (are.verdicts.out left.item).0 (Contains-to_map left_item found.out left also) in
           out.1 (subst (IsReady gate state) same ready.1);
     };
   }
@@ -226,7 +226,7 @@ module _ (gate : GateRules) (state : State) (items : List Item) (found : RankedV
 module _ (gate : GateRules) (journal : List Operation) (seen : ℕ) (kept : Judged) (ranks : List (Rank Item))
     (namers : Namers)
     (verdicts : AreVerdicts gate (state_of (take seen journal)) kept)
-    (keeps : AreKept gate (state_of (take seen journal)) ranks (rows_of namers) kept) (all : Bool)
+    (keeps : AreKeptVerdicts gate (state_of (take seen journal)) ranks (namer_rows namers) kept) (all : Bool)
     (more : BTreeSet (ℕ × ℕ))
     (holds : HoldNamers (state_of journal) namers (drop seen journal) (is_reached (drop seen journal) all more)) where
   abbrev reached : Item → Bool
@@ -261,14 +261,14 @@ module _ (gate : GateRules) (journal : List Operation) (seen : ℕ) (kept : Judg
       pub finds : FindsAgain reached old found
       finds = record {
         finds = λ item again stands. found_in gate (state_of journal) graph.items found are item
-            (has item (stays item (kept_items gate (state_of (take seen journal)) kept verdicts (rows_of namers) ranks keeps item stands)) again);
+            (has item (stays item (kept_items gate (state_of (take seen journal)) kept verdicts (namer_rows namers) ranks keeps item stands)) again);
       }
 
       pub ranked_follow : (new : RankedVerdicts) → IsBroughtUp reached old found new
           → AreRankedVerdicts gate (state_of journal) new
       ranked_follow new up = brought_up gate (state_of (take seen journal))
           (state_of journal) reached untouched old found new
-          (were gate (state_of (take seen journal)) kept verdicts (rows_of namers) ranks keeps)
+          (were gate (state_of (take seen journal)) kept verdicts (namer_rows namers) ranks keeps)
           graph.items are has up
 
 -- ---- what holds what waits does so where more is judged again
@@ -297,7 +297,7 @@ pub kept_on : (gate : GateRules) (state : State) (verdicts : Judged) (ranks : Li
     → AreRankedVerdicts gate state (record { ranks = map to_rank ranks; out = verdicts.out })
     → verdicts.ready ≡ map node_of ranks → IsStrictlySortedBy (rank_cmp item_cmp) (map to_rank ranks)
     → HaveNamers gate state namers
-    → AreVerdicts gate state verdicts × AreKept gate state (map to_rank ranks) (rows_of namers) verdicts
+    → AreVerdicts gate state verdicts × AreKeptVerdicts gate state (map to_rank ranks) (namer_rows namers) verdicts
 kept_on gate state verdicts ranks namers are nodes rising have =
     let ready : verdicts.ready ≡ map (λ (rank : Rank Item). rank.node) (map to_rank ranks) = nodes ∙ sym (nodes_of ranks) in
     let same : record { ready = map (λ (rank : Rank Item). rank.node) (map to_rank ranks); out = verdicts.out } ≡ verdicts = λ i. record { ready = sym ready i; out = verdicts.out } in
@@ -319,7 +319,7 @@ ranked_all gate state items found whole are ranks out same_ranks same_out =
 -- ---- what is found of the items that are judged again, in the place of what was kept of them
 module _ (gate : GateRules) (journal : List Operation) (seen : ℕ) (kept : Judged) (ranks : List ItemRank)
     (namers : Namers) (verdicts : AreVerdicts gate (state_of (take seen journal)) kept)
-    (keeps : AreKept gate (state_of (take seen journal)) (map to_rank ranks) (rows_of namers) kept) (again : Again)
+    (keeps : AreKeptVerdicts gate (state_of (take seen journal)) (map to_rank ranks) (namer_rows namers) kept) (again : Again)
     (is : IsAgain gate journal seen again) (waiting : HasWaiting journal seen namers again) (found : RankedVerdicts)
     (are : AreRankedVerdictsOn gate (state_of journal) again.graph.items found) where
   abbrev is_judged : Item → Bool
@@ -342,7 +342,7 @@ module _ (gate : GateRules) (journal : List Operation) (seen : ℕ) (kept : Judg
     followed : (listed : Judged) → AreLists listed.ready new_ranks listed.out
         → IsBroughtUp is_judged was found (record { ranks = map to_rank new_ranks; out = listed.out })
         → AreVerdicts gate (state_of journal) listed
-        × AreKept gate (state_of journal) (map to_rank new_ranks) (rows_of new) listed
+        × AreKeptVerdicts gate (state_of journal) (map to_rank new_ranks) (namer_rows new) listed
     followed listed lists up =
         let brought : RankedVerdicts = record { ranks = map to_rank new_ranks; out = listed.out } in
         kept_on gate (state_of journal) listed new_ranks new
@@ -358,6 +358,6 @@ module _ (gate : GateRules) (journal : List Operation) (seen : ℕ) (kept : Judg
         → IfOk put (λ listed. IsBroughtUp is_judged was found
         (record { ranks = map to_rank new_ranks; out = listed.out }))
         → IfOk put (AreVerdicts gate (state_of journal))
-        × IfOk put (AreKept gate (state_of journal) (map to_rank new_ranks) (rows_of new))
+        × IfOk put (AreKeptVerdicts gate (state_of journal) (map to_rank new_ranks) (namer_rows new))
     all_follow (Ok listed) lists up = followed listed lists up
     all_follow (Err fault) lists up = (lists, lists)

@@ -16,7 +16,7 @@ use Rattle.ready_core.specs.declared.verdicts.Left.{Left}
 use Rattle.ready_core.specs.ItemRanks.{to_rank}
 use Rattle.ready_core.specs.Verdicts.{items_out}
 use Rattle.ready_core.specs.Verdicts.{IsOutAt}
-use Rattle.watch_core.specs.Placed.{AreApart, AreLists, AreReady, HasNew, item_of, node_of}
+use Rattle.watch_core.specs.Placed.{ShareNoItem, AreLists, AreReady, HasNew, left_item, node_of}
 use Rattle.watch_core.proofs.Exchange.{HasNew-none, apart_on, by_item_total, by_rank_total, exchanged_remove}
 use Rattle.watch_core.proofs.Exchange.{exchanged_set, one_each_none, one_each_on, one_each_sorted}
 use Rattle.watch_core.proofs.Placing.{map-remove, sorted_of_map, sorted_taken}
@@ -37,10 +37,10 @@ of_map_at f xs place y at =
 set_same : {X : Type 0} (xs : List X) (place : ℕ) (x : X) → slice_get xs place ≡ Some x → set xs place x ≡ xs
 set_same xs place x at = ap (set xs place) (sym (get_or_from_slice_get xs place x x at)) ∙ set-get_or xs place x
 
-pub apart_first : {X Y : Type 0} (of : X → Item) (by : Y → Item) (ys : List Y) → AreApart of by [] ys
+pub apart_first : {X Y : Type 0} (of : X → Item) (by : Y → Item) (ys : List Y) → ShareNoItem of by [] ys
 apart_first of by ys = record { none = λ x y has also same. Contains-none x has }
 
-pub apart_second : {X Y : Type 0} (of : X → Item) (by : Y → Item) (xs : List X) → AreApart of by xs []
+pub apart_second : {X Y : Type 0} (of : X → Item) (by : Y → Item) (xs : List X) → ShareNoItem of by xs []
 apart_second of by xs = record { none = λ x y has also same. Contains-none y also }
 
 nothing : {X : Type 0} (P : X → Type 0) (x : X) → Contains [] x → ¬ P x
@@ -88,33 +88,33 @@ module _ (ready : List Item) (ranks : List ItemRank) (out : List Left) (are : Ar
   pub left_within : place < length out
   left_within = slice_get_within out place is.left is.here
 
-  pub left_taken : HasNew item_of (λ other. other ≡ item) [] out (remove out place)
-  left_taken = exchanged_remove item_of by_item_total out (sorted_of_map item_of item_cmp out are.out_in_order)
-      (one_each_sorted item_of out are.out_in_order) place is.left is.here item is.of
+  pub left_taken : HasNew left_item (λ other. other ≡ item) [] out (remove out place)
+  left_taken = exchanged_remove left_item by_item_total out (sorted_of_map left_item item_cmp out are.out_in_order)
+      (one_each_sorted left_item out are.out_in_order) place is.left is.here item is.of
 
   pub lists_taken : AreLists ready ranks (remove out place)
   lists_taken = record {
     ranked = are.ranked;
-    out_in_order = sorted_taken item_of item_cmp out is.left place are.out_in_order is.here;
-    apart = apart_on node_of item_of (λ other. other ≡ item) [] ranks ranks [] out
-        (remove out place) rank_absent left_taken (apart_second node_of item_of []) are.apart;
+    out_in_order = sorted_taken left_item item_cmp out is.left place are.out_in_order is.here;
+    apart = apart_on node_of left_item (λ other. other ≡ item) [] ranks ranks [] out
+        (remove out place) rank_absent left_taken (apart_second node_of left_item []) are.apart;
   }
 
   module _ (left : Left) (of : left.item ≡ item) where
-    pub left_set : HasNew item_of (λ other. other ≡ item) (left ∷ []) out (set out place left)
-    left_set = exchanged_set item_of by_item_total out (sorted_of_map item_of item_cmp out are.out_in_order)
-        (one_each_sorted item_of out are.out_in_order) place is.left is.here item is.of left of
+    pub left_set : HasNew left_item (λ other. other ≡ item) (left ∷ []) out (set out place left)
+    left_set = exchanged_set left_item by_item_total out (sorted_of_map left_item item_cmp out are.out_in_order)
+        (one_each_sorted left_item out are.out_in_order) place is.left is.here item is.of left of
 
     same_items : items_out (set out place left) ≡ items_out out
-    same_items = map-set item_of out place left ∙ set_same (items_out out) place left.item
-        (slice_get-map item_of out place ∙ ap (option_map item_of) is.here ∙ ap Some (is.of ∙ sym of))
+    same_items = map-set left_item out place left ∙ set_same (items_out out) place left.item
+        (slice_get-map left_item out place ∙ ap (option_map left_item) is.here ∙ ap Some (is.of ∙ sym of))
 
     pub lists_set : AreLists ready ranks (set out place left)
     lists_set = record {
       ranked = are.ranked;
       out_in_order = subst (IsStrictlySortedBy item_cmp) (sym same_items) are.out_in_order;
-      apart = apart_on node_of item_of (λ other. other ≡ item) [] ranks ranks (left ∷ []) out
-          (set out place left) rank_absent left_set (apart_first node_of item_of (left ∷ [])) are.apart;
+      apart = apart_on node_of left_item (λ other. other ≡ item) [] ranks ranks (left ∷ []) out
+          (set out place left) rank_absent left_set (apart_first node_of left_item (left ∷ [])) are.apart;
     }
 
 -- ---- lists of which one is changed at an item that isn't in the other
@@ -122,12 +122,12 @@ pub lists_ranked : (ready ready_new : List Item) (ranks ranks_new : List ItemRan
     (item : Item) (found : List ItemRank) (left : List Left) → AreLists ready ranks out
     → AreReady ready_new ranks_new → IsStrictlySortedBy item_cmp (items_out out_new)
     → HasNew node_of (λ other. other ≡ item) found ranks ranks_new
-    → HasNew item_of (λ other. other ≡ item) left out out_new
-    → AreApart node_of item_of found left → AreLists ready_new ranks_new out_new
+    → HasNew left_item (λ other. other ≡ item) left out out_new
+    → ShareNoItem node_of left_item found left → AreLists ready_new ranks_new out_new
 lists_ranked ready ready_new ranks ranks_new out out_new item found left are ranked in_order of_ranks of_out apart =
     record {
       ranked = ranked;
       out_in_order = in_order;
-      apart = apart_on node_of item_of
+      apart = apart_on node_of left_item
           (λ other. other ≡ item) found ranks ranks_new left out out_new of_ranks of_out apart are.apart;
     }

@@ -16,7 +16,7 @@ use Rattle.ready_core.specs.declared.verdicts.Left.{Left}
 use Rattle.ready_core.specs.ItemRanks.{to_rank}
 use Rattle.ready_core.specs.RankedVerdicts.{RankedVerdicts}
 use Rattle.watch_core.specs.BroughtUp.{IsBroughtUp, IsBy}
-use Rattle.watch_core.specs.Placed.{AreLists, FindsAgain, HasNew, IsFoundAgain, IsIn, IsOneEach, StandOnce, item_of}
+use Rattle.watch_core.specs.Placed.{AreLists, FindsAgain, HasNew, IsFoundAgain, IsIn, IsOneEach, StandOnce, left_item}
 use Rattle.watch_core.specs.Placed.{node_of}
 use Rattle.watch_core.proofs.Bringing.{by_false, by_flag, by_true, either}
 use Rattle.watch_core.proofs.Exchange.{HasNew-after_none, HasNew-then_none}
@@ -71,7 +71,7 @@ module _ (judged : Item → Bool) (kept_ranks found_ranks mid_ranks new_ranks : 
   IsReadyAgain = IsFoundAgain node_of judged found_ranks
 
   abbrev IsOutAgain : Item → Type 0
-  IsOutAgain = IsFoundAgain item_of judged found_out
+  IsOutAgain = IsFoundAgain left_item judged found_out
 
   abbrev IsFound : Item → Type 0
   IsFound item = IsReadyAgain item ⊎ IsOutAgain item
@@ -100,21 +100,21 @@ module _ (judged : Item → Bool) (kept_ranks found_ranks mid_ranks new_ranks : 
         let there = (rank_there found_ranks rank.0).1 (subst (λ l. Contains l rank.0) (sym ranks_are) rank.1) in
         inl (record { again = again; one = kept_rank rank.0; there = there; is = rank.2 })
     | inr out ↦
-        let left = Contains-of_map item_of found.out item out in
+        let left = Contains-of_map left_item found.out item out in
         inr (record { again = again; one = left.0; there = subst (λ l. Contains l left.0) (sym out_is) left.1; is = left.2 })
   ]
 
   pub renewed : (ready : List Item) → HasNew node_of IsReadyAgain found_ranks kept_ranks mid_ranks
-      → HasNew node_of IsOutAgain [] mid_ranks new_ranks → HasNew item_of IsReadyAgain [] kept_out mid_out
-      → HasNew item_of IsOutAgain found_out mid_out new_out → AreLists ready new_ranks new_out
+      → HasNew node_of IsOutAgain [] mid_ranks new_ranks → HasNew left_item IsReadyAgain [] kept_out mid_out
+      → HasNew left_item IsOutAgain found_out mid_out new_out → AreLists ready new_ranks new_out
       → IsBroughtUp judged (record { ranks = map to_rank kept_ranks; out = kept_out }) found
       (record { ranks = map to_rank new_ranks; out = new_out })
   renewed ready ranks_first ranks_then out_first out_then are =
       let ranks = by_judged judged node_of IsFound found_ranks kept_ranks new_ranks (HasNew-then_none node_of IsReadyAgain IsOutAgain found_ranks kept_ranks mid_ranks new_ranks ready_apart ranks_first ranks_then)
       is_judged (λ rank has again. inl (record { again = again; one = rank; there = has; is = refl }))
       (λ rank has again. covers rank.node again (inl (Contains-to_map (λ (r : Rank Item). r.node) (map to_rank kept_ranks) (to_rank rank) (Contains-to_map to_rank kept_ranks rank has)))) in
-      let out = by_judged judged item_of IsFound found_out kept_out new_out (HasNew-after_none item_of IsReadyAgain IsOutAgain found_out kept_out mid_out new_out out_apart out_first out_then)
-      is_judged (λ left has again. inr (record { again = again; one = left; there = has; is = refl })) (λ left has again. covers left.item again (inr (Contains-to_map item_of kept_out left has))) in
+      let out = by_judged judged left_item IsFound found_out kept_out new_out (HasNew-after_none left_item IsReadyAgain IsOutAgain found_out kept_out mid_out new_out out_apart out_first out_then)
+      is_judged (λ left has again. inr (record { again = again; one = left; there = has; is = refl })) (λ left has again. covers left.item again (inr (Contains-to_map left_item kept_out left has))) in
       record {
         ranks = λ rank.
             let same = by_same (judged rank.node) (Contains found_ranks (kept_rank rank))

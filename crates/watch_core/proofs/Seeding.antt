@@ -8,7 +8,7 @@ use Rattle.state_core.specs.Items.{IsItem}
 use Rattle.std.specs.Prelude.{IsTrue}
 use Rattle.std.specs.Cmp.{IsTotalOrder, nat_cmp_total}
 use Rattle.std.proofs.lemmas.Cmp.{on_total, then_total}
-use Rattle.watch_core.specs.Namers.{pair_cmp}
+use Rattle.watch_core.specs.Namers.{namer_pair_cmp}
 use Rattle.std.specs.FinMap as finite
 use Rattle.lattice_core.specs.EntryLaws.{entry-get, get-entry, is_some_of, some_of}
 use Rattle.lattice_core.specs.Keep.{numbers_exact}
@@ -22,7 +22,7 @@ use Rattle.watch_core.specs.Seeds.{AddsBut, AddsItems}
 abbrev pub item_at : ℕ × ℕ → Item
 item_at pair = record { change = pair.0; set = pair.1 }
 
-pub pairs_total : IsTotalOrder pair_cmp
+pub pairs_total : IsTotalOrder namer_pair_cmp
 pairs_total =
     then_total (on_total (λ (pair : ℕ × ℕ). pair.0) nat_cmp_total) (on_total (λ (pair : ℕ × ℕ). pair.1) nat_cmp_total)
 

@@ -21,8 +21,8 @@ use Rattle.state_core.specs.State.{State, state_of}
 use Rattle.state_core.specs.Items.{IsCurrentItem}
 use Rattle.gate_rules.specs.Rules.{GateRules}
 use Rattle.graph_core.specs.Dependencies.{IsDependency}
-use Rattle.watch_core.specs.Namers.{Adds, AreAdded, HaveNamers, HoldNamers, IsNamer, IsSpreading, KeepsNamers, Namers}
-use Rattle.watch_core.specs.Namers.{has_item, is_reached, pair_cmp}
+use Rattle.watch_core.specs.Namers.{AddsWaiting, AreAdded, HaveNamers, HoldNamers, IsNamer, IsSpreading, KeepsNamers, Namers}
+use Rattle.watch_core.specs.Namers.{has_item, is_reached, namer_pair_cmp}
 use Rattle.watch_core.specs.Touched.{HoldsWhatWaits, touches}
 use Rattle.watch_core.proofs.KeptLemmas.{touched_of, touches_of}
 use Rattle.watch_core.proofs.Local.{same_current}
@@ -42,10 +42,10 @@ equal_of Equal e = refl
 equal_of Less e = absurd (false≢true e)
 equal_of Greater e = absurd (false≢true e)
 
-pub same_pair : (a b : Item) → is_eq (pair_cmp (a.change, a.set) (b.change, b.set)) ≡ true → a ≡ b
+pub same_pair : (a b : Item) → is_eq (namer_pair_cmp (a.change, a.set) (b.change, b.set)) ≡ true → a ≡ b
 same_pair a b e =
     ap (λ (p : ℕ × ℕ). record { change = p.0; set = p.1 })
-    (exact_pairs nat_cmp nat_cmp exact_unsigned exact_unsigned (a.change, a.set) (b.change, b.set) (equal_of (pair_cmp (a.change, a.set) (b.change, b.set)) e))
+    (exact_pairs nat_cmp nat_cmp exact_unsigned exact_unsigned (a.change, a.set) (b.change, b.set) (equal_of (namer_pair_cmp (a.change, a.set) (b.change, b.set)) e))
 
 or_first : (a b : Bool) → a ≡ true → (a || b) ≡ true
 or_first true b is = refl
@@ -87,17 +87,17 @@ module _ (old taken new : Namers) (target : ℕ) (row : Vec Item)
 
 -- one item more
 pub one_more : (state : State) (item : Item) (old new : BTreeSet (ℕ × ℕ)) (before now : List ℕ)
-    → ((q : ℕ × ℕ) → contains pair_cmp new q ≡ cond (is_eq (pair_cmp (item.change, item.set) q)) true (contains pair_cmp old q))
-    → contains pair_cmp new (item.change, item.set) ≡ true
+    → ((q : ℕ × ℕ) → contains namer_pair_cmp new q ≡ cond (is_eq (namer_pair_cmp (item.change, item.set) q)) true (contains namer_pair_cmp old q))
+    → contains namer_pair_cmp new (item.change, item.set) ≡ true
     → ((number : ℕ) → Contains before number → Contains now number)
     → (IsCurrentItem state item → (has_item old item ≡ true) ⊎ Contains now item.change)
-    → Adds state (λ other. other ≡ item) old before new now
+    → AddsWaiting state (λ other. other ≡ item) old before new now
 one_more state item old new before now updates there stays ahead = record {
-  keeps = λ other has. grown (is_eq (pair_cmp (item.change, item.set) (other.change, other.set))) (has_item old other)
+  keeps = λ other has. grown (is_eq (namer_pair_cmp (item.change, item.set) (other.change, other.set))) (has_item old other)
       (has_item new other) (updates (other.change, other.set)) has;
   adds = λ other same. subst (λ i. has_item new i ≡ true) (sym same) there;
   stays = stays;
-  ahead = λ other has current. elim (hit_or_old (is_eq (pair_cmp (item.change, item.set) (other.change, other.set))) (has_item old other) (has_item new other) (updates (other.change, other.set)) has) [
+  ahead = λ other has current. elim (hit_or_old (is_eq (namer_pair_cmp (item.change, item.set) (other.change, other.set))) (has_item old other) (has_item new other) (updates (other.change, other.set)) has) [
     | inl hit ↦
         let same = same_pair item other hit in
         subst (λ i. (has_item old i ≡ true) ⊎ Contains now i.change) same
@@ -109,8 +109,8 @@ one_more state item old new before now updates there stays ahead = record {
 -- and then one item of a list more
 pub more : (state : State) (row : List Item) (item : Item) (old between new : BTreeSet (ℕ × ℕ))
     (before middle now : List ℕ)
-    → Adds state (Contains row) old before between middle → Adds state (λ other. other ≡ item) between middle new now
-    → Adds state (Contains (row ++ item ∷ [])) old before new now
+    → AddsWaiting state (Contains row) old before between middle → AddsWaiting state (λ other. other ≡ item) between middle new now
+    → AddsWaiting state (Contains (row ++ item ∷ [])) old before new now
 more state row item old between new before middle now first next = record {
   keeps = λ other has. next.keeps other (first.keeps other has);
   adds = λ other here. elim (Contains-push_cases row item other here) [
@@ -128,7 +128,7 @@ more state row item old between new before middle now first next = record {
 }
 
 pub none_more : (state : State) (old : BTreeSet (ℕ × ℕ)) (before : List ℕ)
-    → Adds state (Contains []) old before old before
+    → AddsWaiting state (Contains []) old before old before
 none_more state old before = record {
   keeps = λ item has. has;
   adds = λ item none. absurd (Contains-none item none);
@@ -151,7 +151,7 @@ module _ (state : State) (namers : Namers) (later : List Operation) where
     empty_has items none other = ap (λ (keys : List (ℕ × ℕ)). has_item (record { keys = keys }) other) none
 
   module _ (old new : BTreeSet (ℕ × ℕ)) (before now : List ℕ) (number : ℕ)
-      (adds : Adds state (IsNamer namers number) old before new now) where
+      (adds : AddsWaiting state (IsNamer namers number) old before new now) where
     told : (other : ℕ) → Contains (before ++ number ∷ []) other ⊎ AreAdded namers old other
         → Contains now other ⊎ AreAdded namers new other
     told other (inl ahead) = elim (Contains-push_cases before number other ahead) [

@@ -35,16 +35,16 @@ HaveNamers gate state namers = (item : Item) (number : ℕ) → IsTarget gate st
 abbrev pub Rows : Type 0
 Rows = List (ℕ × List Item)
 
-abbrev pub rows_of : Namers → Rows
-rows_of namers = map (λ entry. (entry.0, entry.1.items)) namers.entries
+abbrev pub namer_rows : Namers → Rows
+namer_rows namers = map (λ entry. (entry.0, entry.1.items)) namers.entries
 
-abbrev pub row_of : Option (List Item) → List Item
-row_of None = []
-row_of (Some row) = row
+abbrev pub namer_row : Option (List Item) → List Item
+namer_row None = []
+namer_row (Some row) = row
 
 -- the row of a change has the item
 abbrev pub IsInRow : Rows → ℕ → Item → Type 0
-IsInRow rows number item = Contains (row_of (lookup (λ key. is_eq (nat_cmp number key)) rows)) item
+IsInRow rows number item = Contains (namer_row (lookup (λ key. is_eq (nat_cmp number key)) rows)) item
 
 -- all items that wait for a change in the state are in its row
 abbrev pub HaveRows : GateRules → State → Rows → Type 0
@@ -59,12 +59,12 @@ pub record HoldNamers (state : State) (namers : Namers) (later : List Operation)
       → IsOfKind reached other → IsOfKind reached item
 
 -- ---- the items that are judged again
-abbrev pub pair_cmp : ℕ × ℕ → ℕ × ℕ → Ordering
-pair_cmp a b = ordering_then (nat_cmp a.0 b.0) (nat_cmp a.1 b.1)
+abbrev pub namer_pair_cmp : ℕ × ℕ → ℕ × ℕ → Ordering
+namer_pair_cmp a b = ordering_then (nat_cmp a.0 b.0) (nat_cmp a.1 b.1)
 
 -- the set has the item
 abbrev pub has_item : BTreeSet (ℕ × ℕ) → Item → Bool
-has_item items item = contains pair_cmp items (item.change, item.set)
+has_item items item = contains namer_pair_cmp items (item.change, item.set)
 
 -- whether the item is judged again: it is of a change of the first set or in the second, or all are
 abbrev pub is_again : BTreeSet ℕ → Bool → BTreeSet (ℕ × ℕ) → Item → Bool
@@ -87,7 +87,7 @@ pub record IsSpreading (state : State) (namers : Namers) (later : List Operation
 
 -- the set has the items that it had, and these; what was ahead is ahead, and so is the change of each item that is new
 -- and current
-pub record Adds (state : State) (added : Item → Type 0) (old : BTreeSet (ℕ × ℕ)) (before : List ℕ) (new : BTreeSet (ℕ × ℕ)) (now : List ℕ) : Type 0 where
+pub record AddsWaiting (state : State) (added : Item → Type 0) (old : BTreeSet (ℕ × ℕ)) (before : List ℕ) (new : BTreeSet (ℕ × ℕ)) (now : List ℕ) : Type 0 where
   pub keeps : (item : Item) → has_item old item ≡ true → has_item new item ≡ true
   pub adds : (item : Item) → added item → has_item new item ≡ true
   pub stays : (number : ℕ) → Contains before number → Contains now number

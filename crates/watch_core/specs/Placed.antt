@@ -23,15 +23,15 @@ pub record IsOneEach {X : Type 0} (of : X → Item) (xs : List X) : Type 0 where
   pub one : (x y : X) → Contains xs x → Contains xs y → of x ≡ of y → x ≡ y
 
 -- no item is in both lists
-pub record AreApart {X Y : Type 0} (of : X → Item) (by : Y → Item) (xs : List X) (ys : List Y) : Type 0 where
+pub record ShareNoItem {X Y : Type 0} (of : X → Item) (by : Y → Item) (xs : List X) (ys : List Y) : Type 0 where
   pub none : (x : X) (y : Y) → Contains xs x → Contains ys y → ¬ (of x ≡ by y)
 
 -- ---- the lists of verdicts
 abbrev pub node_of : ItemRank → Item
 node_of rank = rank.node
 
-abbrev pub item_of : Left → Item
-item_of left = left.item
+abbrev pub left_item : Left → Item
+left_item left = left.item
 
 -- what is before the place is below the key, and what is from the place on is above
 pub record IsPlaceFor {X Y : Type 0} (key_of : X → Y) (cmp : Y → Y → Ordering) (xs : List X) (key : Y) (place : ℕ) : Type 0 where
@@ -49,7 +49,7 @@ pub record AreReady (ready : List Item) (ranks : List ItemRank) : Type 0 where
 pub record AreLists (ready : List Item) (ranks : List ItemRank) (out : List Left) : Type 0 where
   pub ranked : AreReady ready ranks
   pub out_in_order : IsStrictlySortedBy item_cmp (items_out out)
-  pub apart : AreApart node_of item_of ranks out
+  pub apart : ShareNoItem node_of left_item ranks out
 
 -- the item is in the verdicts
 abbrev pub IsIn : RankedVerdicts → Item → Type 0
@@ -58,8 +58,8 @@ IsIn verdicts item = Contains (map (λ rank. rank.node) verdicts.ranks) item ⊎
 -- each item is once in the verdicts
 pub record StandOnce (verdicts : RankedVerdicts) : Type 0 where
   pub ranks : IsOneEach (λ (rank : Rank Item). rank.node) verdicts.ranks
-  pub out : IsOneEach item_of verdicts.out
-  pub apart : AreApart (λ (rank : Rank Item). rank.node) item_of verdicts.ranks verdicts.out
+  pub out : IsOneEach left_item verdicts.out
+  pub apart : ShareNoItem (λ (rank : Rank Item). rank.node) left_item verdicts.ranks verdicts.out
 
 -- each item that is judged again, and is in the kept verdicts, is in those that were found
 pub record FindsAgain (judged : Item → Bool) (kept found : RankedVerdicts) : Type 0 where

@@ -23,7 +23,7 @@ pub record Watching : Type 0 where
   pub namers : Rows
 
 -- beside the verdicts of the state, what each ready item is ordered by, in order, and all items that wait for a change
-pub record AreKept (gate : GateRules) (state : State) (ordered : List (Rank Item)) (waiting : Rows) (judged : Judged) : Type 0 where
+pub record AreKeptVerdicts (gate : GateRules) (state : State) (ordered : List (Rank Item)) (waiting : Rows) (judged : Judged) : Type 0 where
   pub ready : judged.ready ≡ map (λ rank. rank.node) ordered
   pub ranks : AreReadyRanks gate state ordered
   pub rising : IsStrictlySortedBy (rank_cmp item_cmp) ordered
@@ -33,7 +33,7 @@ pub record AreKept (gate : GateRules) (state : State) (ordered : List (Rank Item
 pub record AreOfSeen (watching : Watching) (journal : List Operation) (judged : Judged) : Type 0 where
   pub seen : watching.seen ≤ length journal
   pub verdicts : AreVerdicts watching.gate (state_of (take watching.seen journal)) judged
-  pub kept : AreKept watching.gate (state_of (take watching.seen journal)) watching.ranks watching.namers judged
+  pub kept : AreKeptVerdicts watching.gate (state_of (take watching.seen journal)) watching.ranks watching.namers judged
 
 -- the journal begins the other
 abbrev pub Extends : List Operation → List Operation → Type 0
@@ -44,12 +44,12 @@ abbrev pub Precedes : Watching → List Operation → Type 0
 Precedes watching journal = IfSome watching.verdicts (AreOfSeen watching journal)
 
 -- the whole journal was seen, and the verdicts are those of its state
-pub record Follows (watching : Watching) (journal : List Operation) : Type 0 where
+pub record FollowsJournal (watching : Watching) (journal : List Operation) : Type 0 where
   pub seen : watching.seen ≡ length journal
   pub judged : Judged
   pub there : watching.verdicts ≡ Some judged
   pub verdicts : AreVerdicts watching.gate (state_of journal) judged
-  pub kept : AreKept watching.gate (state_of journal) watching.ranks watching.namers judged
+  pub kept : AreKeptVerdicts watching.gate (state_of journal) watching.ranks watching.namers judged
 
 goes_on : (watching : Watching) (journal later : List Operation) (found : Option Judged)
     → IfSome found (AreOfSeen watching journal) → IfSome found (AreOfSeen watching (journal ++ later))
@@ -58,7 +58,7 @@ goes_on watching journal later (Some judged) are = record {
   seen = omega (arith, are.seen, length-append journal later);
   verdicts = subst (λ l. AreVerdicts watching.gate (state_of l) judged)
       (sym (take-append-le watching.seen journal later are.seen)) are.verdicts;
-  kept = subst (λ l. AreKept watching.gate (state_of l) watching.ranks watching.namers judged)
+  kept = subst (λ l. AreKeptVerdicts watching.gate (state_of l) watching.ranks watching.namers judged)
       (sym (take-append-le watching.seen journal later are.seen)) are.kept;
 }
 
@@ -73,13 +73,13 @@ Precedes-extends watching journal other more are =
     subst (Precedes watching) (sym more.1) (Precedes-append watching journal more.0 are)
 
 -- and so does the whole journal
-pub Follows-Precedes : (watching : Watching) (journal : List Operation) → Follows watching journal
+pub Follows-Precedes : (watching : Watching) (journal : List Operation) → FollowsJournal watching journal
     → Precedes watching journal
 Follows-Precedes watching journal is = subst (λ found. IfSome found (AreOfSeen watching journal)) (sym is.there)
     (record {
       seen = omega (arith, is.seen);
       verdicts = subst (λ l. AreVerdicts watching.gate (state_of l) is.judged)
           (sym (take_all watching.seen journal (omega (arith, is.seen)))) is.verdicts;
-      kept = subst (λ l. AreKept watching.gate (state_of l) watching.ranks watching.namers is.judged)
+      kept = subst (λ l. AreKeptVerdicts watching.gate (state_of l) watching.ranks watching.namers is.judged)
           (sym (take_all watching.seen journal (omega (arith, is.seen)))) is.kept;
     })

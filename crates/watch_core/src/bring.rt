@@ -8,7 +8,7 @@ ghost use Rattle.ready_core.specs.Verdicts.{items_out};
 ghost use Rattle.ready_core.specs.ItemRanks.{to_rank};
 ghost use Rattle.watch_core.specs.BroughtUp.{IsBroughtUp};
 ghost use Rattle.watch_core.specs.Namers.{is_again};
-ghost use Rattle.watch_core.specs.Placed.{AreLists, FindsAgain, HasNew, IsFoundAgain, IsOneEach, StandOnce, item_of};
+ghost use Rattle.watch_core.specs.Placed.{AreLists, FindsAgain, HasNew, IsFoundAgain, IsOneEach, StandOnce, left_item};
 ghost use Rattle.watch_core.specs.Placed.{node_of};
 
 use super::puts::{put_left, put_ready};
@@ -100,7 +100,7 @@ fn put_all_ready(
         (HasNew node_of (IsFoundAgain node_of (is_again touched.now reach.now.all reach.now.items) found.now)
         found.now ranks.old.items ranks.new.items) }
     ensures out { OnOk result
-        (HasNew item_of (IsFoundAgain node_of (is_again touched.now reach.now.all reach.now.items) found.now)
+        (HasNew left_item (IsFoundAgain node_of (is_again touched.now reach.now.all reach.now.items) found.now)
         [] out.old.items out.new.items) }
 {
     for rank in found {
@@ -122,13 +122,13 @@ fn put_all_left(
     found: &[Left],
 ) -> Result<(), NoMemory>
     requires lists { AreLists ready.old.items ranks.old.items out.old.items }
-    requires one_each { IsOneEach item_of found.now }
+    requires one_each { IsOneEach left_item found.now }
     ensures lists { OnOk result (AreLists ready.new.items ranks.new.items out.new.items) }
     ensures ranks { OnOk result
-        (HasNew node_of (IsFoundAgain item_of (is_again touched.now reach.now.all reach.now.items) found.now)
+        (HasNew node_of (IsFoundAgain left_item (is_again touched.now reach.now.all reach.now.items) found.now)
         [] ranks.old.items ranks.new.items) }
     ensures out { OnOk result
-        (HasNew item_of (IsFoundAgain item_of (is_again touched.now reach.now.all reach.now.items) found.now)
+        (HasNew left_item (IsFoundAgain left_item (is_again touched.now reach.now.all reach.now.items) found.now)
         found.now out.old.items out.new.items) }
 {
     for left in found {

@@ -5,7 +5,7 @@ ghost use Rattle.std.specs.Option.{option_copied};
 ghost use Rattle.state_core.specs.State.{state_of};
 ghost use Rattle.ready_core.specs.Verdicts.{AreVerdicts};
 ghost use Rattle.watch_core.specs.Asked.{AreTouchedItems, counted};
-ghost use Rattle.watch_core.specs.Watching.{AreKept, AreOfSeen, Follows, Precedes};
+ghost use Rattle.watch_core.specs.Watching.{AreKeptVerdicts, AreOfSeen, FollowsJournal, Precedes};
 
 use super::again::Again;
 use super::bring::put_in_place;
@@ -34,7 +34,7 @@ pub struct Evaluator {
 impl Model for Evaluator {
     ghost use Rattle.std.specs.Prelude.{map};
     ghost use Rattle.ready_core.specs.ItemRanks.{to_rank};
-    ghost use Rattle.watch_core.specs.Namers.{rows_of};
+    ghost use Rattle.watch_core.specs.Namers.{namer_rows};
     ghost use Rattle.watch_core.specs.Watching.{Watching};
 
     ghost Value = { Watching };
@@ -44,7 +44,7 @@ impl Model for Evaluator {
       seen = evaluator.seen;
       verdicts = evaluator.verdicts;
       ranks = map to_rank evaluator.ranks.items;
-      namers = rows_of evaluator.namers;
+      namers = namer_rows evaluator.namers;
     } };
 }
 
@@ -52,7 +52,7 @@ impl Evaluator {
     /// An evaluator with the verdicts on a replica. It costs what `evaluate` does.
     pub fn fresh(gate: Gate, replica: &Replica) -> Result<Evaluator, NoMemory>
         ensures gate { IfOk result (λ evaluator. evaluator.gate ≡ gate) }
-        ensures follows { IfOk result (λ evaluator. Follows evaluator replica.now) }
+        ensures follows { IfOk result (λ evaluator. FollowsJournal evaluator replica.now) }
     {
         let alloc = replica.allocator();
         let mut evaluator = Evaluator {
@@ -82,7 +82,7 @@ impl Evaluator {
     pub fn update(&mut self, replica: &Replica) -> Result<(), NoMemory>
         requires { Precedes self.old replica.now }
         ensures gate { self.new.gate ≡ self.old.gate }
-        ensures follows { OnOk result (Follows self.new replica.now) }
+        ensures follows { OnOk result (FollowsJournal self.new replica.now) }
         ensures refused { OnErr result (self.new.verdicts ≡ None) }
         ensures idle { IsSome self.old.verdicts → self.old.seen ≡ length replica.now
             → IsOk result × (self.new ≡ self.old) }
@@ -99,7 +99,7 @@ impl Evaluator {
     ) -> Result<(), NoMemory>
         requires { Precedes self.old replica.now }
         ensures gate { self.new.gate ≡ self.old.gate }
-        ensures follows { OnOk result (Follows self.new replica.now) }
+        ensures follows { OnOk result (FollowsJournal self.new replica.now) }
         ensures refused { OnErr result (self.new.verdicts ≡ None) }
         ensures idle { IsSome self.old.verdicts → self.old.seen ≡ length replica.now
             → IsOk result × (self.new ≡ self.old) }
@@ -127,7 +127,7 @@ impl Evaluator {
     fn start(&mut self, replica: &Replica) -> Result<(), NoMemory>
         requires { self.old.verdicts ≡ None }
         ensures gate { self.new.gate ≡ self.old.gate }
-        ensures follows { OnOk result (Follows self.new replica.now) }
+        ensures follows { OnOk result (FollowsJournal self.new replica.now) }
         ensures refused { OnErr result (self.new.verdicts ≡ None) }
     {
         let alloc = replica.allocator();
@@ -158,7 +158,7 @@ impl Evaluator {
         ensures gate { self.new.gate ≡ self.old.gate }
         ensures none { self.new.verdicts ≡ None }
         ensures verdicts { IfOk result (AreVerdicts self.new.gate (state_of replica.now)) }
-        ensures kept { IfOk result (AreKept self.new.gate (state_of replica.now) self.new.ranks self.new.namers) }
+        ensures kept { IfOk result (AreKeptVerdicts self.new.gate (state_of replica.now) self.new.ranks self.new.namers) }
         ensures asked { OnOk result
             ((count : ℕ) → AreTouchedItems (state_of replica.now) (drop self.old.seen replica.now) count
             → J.asked judge.new ≡ counted (J.asked judge.old) count) }

@@ -9,7 +9,7 @@ ghost use Rattle.ready_core.specs.declared.ranked.ItemRank.{ItemRank};
 ghost use Rattle.ready_core.specs.declared.verdicts.Left.{Left};
 ghost use Rattle.ready_core.specs.ItemRanks.{to_rank};
 ghost use Rattle.ready_core.specs.Verdicts.{items_out};
-ghost use Rattle.watch_core.specs.Placed.{IsPlaceFor, item_of};
+ghost use Rattle.watch_core.specs.Placed.{IsPlaceFor, left_item};
 
 use ready_core::{ItemRank, Left};
 use state_core::Item;
@@ -31,7 +31,7 @@ pub fn is_lower(rank: ItemRank, other: ItemRank) -> bool
 pub fn place_for_left(out: &[Left], item: Item) -> usize
     requires in_order { IsStrictlySortedBy item_cmp (items_out out.now) }
     requires none { (left : Left) → Contains out.now left → ¬ (left.item ≡ item) }
-    ensures { IsPlaceFor item_of item_cmp out.now item result }
+    ensures { IsPlaceFor left_item item_cmp out.now item result }
 {
     out.partition_point(|left| left.item < item)
 }

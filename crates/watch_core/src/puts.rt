@@ -6,7 +6,7 @@ ghost use Rattle.state_core.specs.Items.{item_cmp};
 ghost use Rattle.ready_core.specs.declared.ranked.ItemRank.{ItemRank};
 ghost use Rattle.ready_core.specs.declared.verdicts.Left.{Left};
 ghost use Rattle.ready_core.specs.Verdicts.{items_out};
-ghost use Rattle.watch_core.specs.Placed.{AreLists, AreReady, HasNew, item_of, node_of};
+ghost use Rattle.watch_core.specs.Placed.{AreLists, AreReady, HasNew, left_item, node_of};
 
 use super::places::{has_rank, place_for_left, place_for_rank, place_in};
 use lattice_core::NoMemory;
@@ -24,7 +24,7 @@ pub fn put_ready(
     ensures lists { OnOk result (AreLists ready.new.items ranks.new.items out.new.items) }
     ensures ranks { OnOk result
         (HasNew node_of (λ item. item ≡ rank.node) (rank ∷ []) ranks.old.items ranks.new.items) }
-    ensures out { OnOk result (HasNew item_of (λ item. item ≡ rank.node) [] out.old.items out.new.items) }
+    ensures out { OnOk result (HasNew left_item (λ item. item ≡ rank.node) [] out.old.items out.new.items) }
 {
     if has_rank(ranks.as_slice(), rank) {
         return Ok(());
@@ -43,7 +43,7 @@ pub fn put_left(
     requires { AreLists ready.old.items ranks.old.items out.old.items }
     ensures lists { OnOk result (AreLists ready.new.items ranks.new.items out.new.items) }
     ensures ranks { OnOk result (HasNew node_of (λ item. item ≡ left.item) [] ranks.old.items ranks.new.items) }
-    ensures out { OnOk result (HasNew item_of (λ item. item ≡ left.item) (left ∷ []) out.old.items out.new.items) }
+    ensures out { OnOk result (HasNew left_item (λ item. item ≡ left.item) (left ∷ []) out.old.items out.new.items) }
 {
     let Some(place) = place_out(out.as_slice(), left.item) else {
         take_ready(ready, ranks, left.item);
@@ -58,7 +58,7 @@ fn take_item(ready: &mut Vec<Item>, ranks: &mut Vec<ItemRank>, out: &mut Vec<Lef
     requires { AreLists ready.old.items ranks.old.items out.old.items }
     ensures lists { AreLists ready.new.items ranks.new.items out.new.items }
     ensures ranks { HasNew node_of (λ other. other ≡ item) [] ranks.old.items ranks.new.items }
-    ensures out { HasNew item_of (λ other. other ≡ item) [] out.old.items out.new.items }
+    ensures out { HasNew left_item (λ other. other ≡ item) [] out.old.items out.new.items }
 {
     let Some(place) = place_out(out.as_slice(), item) else {
         return take_ready(ready, ranks, item);
@@ -102,7 +102,7 @@ fn insert_left(out: &mut Vec<Left>, left: Left) -> Result<(), NoMemory>
     requires in_order { IsStrictlySortedBy item_cmp (items_out out.old.items) }
     requires none { (other : Left) → Contains out.old.items other → ¬ (other.item ≡ left.item) }
     ensures in_order { OnOk result (IsStrictlySortedBy item_cmp (items_out out.new.items)) }
-    ensures out { OnOk result (HasNew item_of (λ item. item ≡ left.item) (left ∷ []) out.old.items out.new.items) }
+    ensures out { OnOk result (HasNew left_item (λ item. item ≡ left.item) (left ∷ []) out.old.items out.new.items) }
 {
     let place = place_for_left(out.as_slice(), left.item);
     out.insert(place, left)?;

@@ -6,7 +6,7 @@ ghost use Rattle.std.specs.BTreeMap.{get};
 ghost use Rattle.review_ops.specs.Deed.{change_of};
 ghost use Rattle.state_core.specs.Items.{IsCurrentItem};
 ghost use Rattle.graph_core.specs.Listed.{items_at};
-ghost use Rattle.watch_core.specs.Namers.{Adds, HoldNamers, is_again, is_reached};
+ghost use Rattle.watch_core.specs.Namers.{AddsWaiting, HoldNamers, is_again, is_reached};
 
 use super::namers::Namers;
 use lattice_core::NoMemory;
@@ -76,14 +76,14 @@ fn namers_at(namers: &Namers, number: u32) -> &[Item]
     }
 }
 
-/// Adds some items, and puts ahead the changes of those that are new and current.
+/// AddsWaiting some items, and puts ahead the changes of those that are new and current.
 fn add_all(
     state: &State,
     row: &[Item],
     items: &mut BTreeSet<(u32, u32)>,
     ahead: &mut Vec<u32>,
 ) -> Result<(), NoMemory>
-    ensures { OnOk result (Adds state.now (Contains row.now) items.old ahead.old.items items.new ahead.new.items) }
+    ensures { OnOk result (AddsWaiting state.now (Contains row.now) items.old ahead.old.items items.new ahead.new.items) }
 {
     for item in row {
         add_item(state, *item, items, ahead)?;
@@ -91,14 +91,14 @@ fn add_all(
     Ok(())
 }
 
-/// Adds an item, and puts its change ahead where it is new and current.
+/// AddsWaiting an item, and puts its change ahead where it is new and current.
 fn add_item(
     state: &State,
     item: Item,
     items: &mut BTreeSet<(u32, u32)>,
     ahead: &mut Vec<u32>,
 ) -> Result<(), NoMemory>
-    ensures { OnOk result (Adds state.now (λ other. other ≡ item) items.old ahead.old.items items.new ahead.new.items) }
+    ensures { OnOk result (AddsWaiting state.now (λ other. other ≡ item) items.old ahead.old.items items.new ahead.new.items) }
 {
     if !items.insert((item.change, item.set))? {
         return Ok(());

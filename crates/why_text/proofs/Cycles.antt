@@ -7,7 +7,7 @@ use Rattle.std.proofs.lemmas.Bool.{eqb-true}
 use Rattle.std.proofs.lemmas.List.{length-map}
 use Rattle.std.proofs.lemmas.List.Elements.{Contains-push, Contains-push_cases, Contains-append_left}
 use Rattle.std.proofs.lemmas.Option.{slice_get-map, slice_get_within}
-use Rattle.walk_core.specs.Walks.{Walk, Reaches}
+use Rattle.walk_core.specs.Walks.{Walk, IsReachedOver}
 use Rattle.walk_core.specs.Digraphs.{IsMarked}
 use Rattle.gate_rules.specs.Rules.{GateRules}
 use Rattle.state_core.specs.State.{State}
@@ -20,7 +20,7 @@ use Rattle.graph_core.specs.WalkLaws.{Leads-items, Leads-places}
 use Rattle.lattice_core.specs.MemberLaws.{Contains-none, sorted_push}
 use Rattle.lattice_core.specs.PlaceLaws.{at_Contains, at_below, one_item, one_place, sorted_at, earlier_or_same}
 use Rattle.walk_core.specs.Reach.{AreLeading, AreReached}
-use Rattle.why_text.specs.Cycle.{AreOnItsCycle, AreTaken, IsOther, IsTaken, is_item}
+use Rattle.why_text.specs.Cycle.{AreOnItsCycle, AreTaken, IsOtherPlace, IsTaken, is_item}
 
 -- ---- the items of marked places, place after place
 sorted_none : IsStrictlySortedBy item_cmp []
@@ -53,19 +53,19 @@ module _ (items : List Item) (itself behind ahead : List Bool) where
     earlier other taken less =
         record { place = taken.place; before = less; here = taken.here; is_other = taken.is_other }
 
-    pub taken_less : ¬ IsOther itself behind ahead count → AreTaken items itself behind ahead (count + 1) others
+    pub taken_less : ¬ IsOtherPlace itself behind ahead count → AreTaken items itself behind ahead (count + 1) others
     taken_less not = record {
       in_order = are.in_order;
       each = λ other. (
         λ has. later other ((are.each other).0 has),
         λ taken. elim (earlier_or_same taken.place count (at_last taken.place count taken.before)) [
           | inl less ↦ (are.each other).1 (earlier other taken less)
-          | inr same ↦ absurd (not (subst (IsOther itself behind ahead) same taken.is_other))
+          | inr same ↦ absurd (not (subst (IsOtherPlace itself behind ahead) same taken.is_other))
         ],
       );
     }
 
-    pub taken_more : (next : Item) → IsAt items count next → IsOther itself behind ahead count → (pushed : List Item)
+    pub taken_more : (next : Item) → IsAt items count next → IsOtherPlace itself behind ahead count → (pushed : List Item)
         → pushed ≡ others ++ next ∷ [] → AreTaken items itself behind ahead (count + 1) pushed
     taken_more next here is pushed pushed_is =
         subst (AreTaken items itself behind ahead (count + 1)) (sym pushed_is) (record {
@@ -120,7 +120,7 @@ module _ (items : List Item) (item : Item) where
       let at = at_below items place within in
       subst (IsAt items place) (marked_is place at.0 at.1 marked) at.1
 
-walk_on : {N : Type 0} (E : N → N → Type 0) (n : ℕ) (x y : N) → Walk E n x y → x ≢ y → Reaches E x y
+walk_on : {N : Type 0} (E : N → N → Type 0) (n : ℕ) (x y : N) → Walk E n x y → x ≢ y → IsReachedOver E x y
 walk_on E zero x y walk differs = absurd (differs walk)
 walk_on E (suc n) x y walk differs = (n, walk)
 
@@ -136,14 +136,14 @@ module _ (gate : GateRules) (state : State) (graph : ItemGraph) (is : IsGraphOf 
   held x y edge = (whole.each y).1 (edge.1.change, edge.1.stands, edge.1.greatest.known)
 
   behind_is : (place : ℕ) (other : Item) → IsAt graph.items place other → other ≢ item → IsMarked behind place
-      → Reaches (IsDependency gate state) other item
+      → IsReachedOver (IsDependency gate state) other item
   behind_is place other here differs marked =
       let leads = (lead.each place).0 marked in
       walk_on (IsDependency gate state) leads.0 other item
       (Leads-items (IsDependency gate state) graph.items graph.ends is.ends (IsMarked (map (is_item item) graph.items)) (λ x. x ≡ item) (marked_is graph.items item) leads.0 place other here leads.1) differs
 
   ahead_is : (place : ℕ) (other : Item) → IsAt graph.items place other → other ≢ item → IsMarked ahead place
-      → Reaches (IsDependency gate state) item other
+      → IsReachedOver (IsDependency gate state) item other
   ahead_is place other here differs marked =
       let reached = (reach.each place).0 marked in
       walk_on (IsDependency gate state) reached.2.0 item other

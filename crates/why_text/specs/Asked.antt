@@ -4,6 +4,6 @@ use Rattle.state_core.specs.declared.item.Item.{Item}
 use Rattle.state_core.specs.State.{State}
 use Rattle.state_core.specs.Items.{IsCurrentItem, IsItem}
 
-abbrev pub IsAsked : State → ℕ → Option ℕ → Item → Type 0
-IsAsked state number None item = IsCurrentItem state item × (item.change ≡ number)
-IsAsked state number (Some set) item = IsItem state item × (item.change ≡ number) × (item.set ≡ set)
+abbrev pub IsItemAsked : State → ℕ → Option ℕ → Item → Type 0
+IsItemAsked state number None item = IsCurrentItem state item × (item.change ≡ number)
+IsItemAsked state number (Some set) item = IsItem state item × (item.change ≡ number) × (item.set ≡ set)

@@ -28,8 +28,8 @@ use Rattle.gate_rules.specs.Wanted.{wanted_value}
 
 -- ---- the lines of items
 
-abbrev pub ready_line : Item → List ℕ
-ready_line item = as_line (item_text item ++ codes " ready")
+abbrev pub why_ready_line : Item → List ℕ
+why_ready_line item = as_line (item_text item ++ codes " ready")
 
 -- the item, and why it is left out
 abbrev pub step_line : Left → List ℕ
@@ -45,8 +45,8 @@ abbrev pub want_lines : Option Data → List ℕ
 want_lines None = []
 want_lines (Some value) = as_line (codes "want " ++ compact_text value)
 
-abbrev pub status_line : Change → List ℕ
-status_line change = as_line (codes "have " ++ status_name (status_of change))
+abbrev pub why_status_line : Change → List ℕ
+why_status_line change = as_line (codes "have " ++ status_name (status_of change))
 
 abbrev pub current_line : ℕ → List ℕ
 current_line set = as_line (codes "have " ++ decimal set)
@@ -60,9 +60,9 @@ approval_line approval =
 -- what a change with this current patch set has of what the clause asks: its status, that patch set, or the approvals
 -- on that, by label and voter
 abbrev pub have_lines : Clause → Change → ℕ → List ℕ
-have_lines OpenState change current = status_line change
+have_lines OpenState change current = why_status_line change
 have_lines CurrentSet change current = current_line current
-have_lines StatusIn change current = status_line change
+have_lines StatusIn change current = why_status_line change
 have_lines (Approval number) change current = flat_map approval_line (approvals_of change current)
 
 -- what the gate file asks, and what the item's change has
@@ -108,4 +108,4 @@ pub record IsLeftFor
 -- the item is ready; or it is left out, and why
 abbrev pub IsWhy : List ℕ → GateRules → State → Judged → Item → List ℕ → Type 0
 IsWhy file gate state verdicts item text =
-    (Contains verdicts.ready item × (text ≡ ready_line item)) ⊎ IsLeftFor file gate state verdicts item text
+    (Contains verdicts.ready item × (text ≡ why_ready_line item)) ⊎ IsLeftFor file gate state verdicts item text

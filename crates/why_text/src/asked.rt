@@ -3,7 +3,7 @@
 ghost use Rattle.std.specs.Prelude.{IfSome, MatchOption};
 ghost use Rattle.state_core.specs.Items.{IsItem};
 ghost use Rattle.state_core.specs.declared.item.Item.{Item};
-ghost use Rattle.why_text.specs.Asked.{IsAsked};
+ghost use Rattle.why_text.specs.Asked.{IsItemAsked};
 
 use state_core::{Item, State};
 
@@ -11,7 +11,7 @@ use state_core::{Item, State};
 /// is none where that isn't known. In O(log n) for n changes and patch sets.
 pub fn item_asked(state: &State, change: u32, set: Option<u32>) -> Option<Item>
     ensures asked { MatchOption result
-        ((item : Item) → ¬ IsAsked state.now change set item) (IsAsked state.now change set) }
+        ((item : Item) → ¬ IsItemAsked state.now change set item) (IsItemAsked state.now change set) }
     ensures there { IfSome result (IsItem state.now) }
 {
     let about = state.change(change)?;

@@ -3,7 +3,7 @@
 ghost use Rattle.std.specs.Prelude.{◌≡◌, ◌<◌, IfOk, MatchBool, length, map};
 ghost use Rattle.std.specs.List.Sorted.{IsStrictlySortedBy};
 ghost use Rattle.state_core.specs.Items.{IsItem, item_cmp};
-ghost use Rattle.why_text.specs.Cycle.{AreOnItsCycle, AreTaken, IsOther, is_item};
+ghost use Rattle.why_text.specs.Cycle.{AreOnItsCycle, AreTaken, IsOtherPlace, is_item};
 
 use gate_rules::Gate;
 use graph_core::Graph;
@@ -72,8 +72,8 @@ fn is_other(itself: &[bool], behind: &[bool], ahead: &[bool], place: usize) -> b
     requires behind { place < length behind.now }
     requires ahead { place < length ahead.now }
     ensures { MatchBool result
-        (IsOther itself.now behind.now ahead.now place)
-        (¬ IsOther itself.now behind.now ahead.now place) }
+        (IsOtherPlace itself.now behind.now ahead.now place)
+        (¬ IsOtherPlace itself.now behind.now ahead.now place) }
 {
     behind[place] && ahead[place] && !itself[place]
 }

@@ -7,7 +7,7 @@ ghost use Rattle.change_core.specs.VoteShown.{approval_shown};
 ghost use Rattle.state_core.specs.Items.{IsItem};
 ghost use Rattle.gate_rules.specs.Spelling.{IsObject, SpellsGate};
 ghost use Rattle.gate_rules.specs.Wanted.{wanted_value};
-ghost use Rattle.why_text.specs.Why.{TellsCause, TellsCondition, approval_line, current_line, have_lines, status_line};
+ghost use Rattle.why_text.specs.Why.{TellsCause, TellsCondition, approval_line, current_line, have_lines, why_status_line};
 ghost use Rattle.why_text.specs.Why.{want_lines, with_line};
 
 use super::cycle::others_on_cycle;
@@ -119,7 +119,7 @@ fn add_have(
 
 /// Adds the line of a change's status.
 fn add_status(text: &mut String, change: &ChangeState) -> Result<(), NoMemory>
-    ensures { OnOk result (string_bytes text.new ≡ string_bytes text.old ++ status_line change.now) }
+    ensures { OnOk result (string_bytes text.new ≡ string_bytes text.old ++ why_status_line change.now) }
 {
     let status = change.status().name();
     write!(text, "have {status}\n")?;

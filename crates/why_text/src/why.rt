@@ -4,7 +4,7 @@ ghost use Rattle.std.specs.Prelude.{◌≡◌, ◌++◌, Contains, IfOk, OnOk, f
 ghost use Rattle.state_core.specs.Items.{IsItem};
 ghost use Rattle.gate_rules.specs.Spelling.{SpellsGate};
 ghost use Rattle.ready_core.specs.Verdicts.{AreVerdicts, items_out};
-ghost use Rattle.why_text.specs.Why.{IsLeftFor, IsWhy, ready_line, step_line};
+ghost use Rattle.why_text.specs.Why.{IsLeftFor, IsWhy, why_ready_line, step_line};
 
 use super::chain::{chain_from, left_at};
 use super::details::details_of;
@@ -40,7 +40,7 @@ pub fn why_text(
 
 /// The line of an item that is ready.
 fn ready_text(alloc: Global, item: Item) -> Result<String, NoMemory>
-    ensures { IfOk result (λ text. string_bytes text ≡ ready_line item) }
+    ensures { IfOk result (λ text. string_bytes text ≡ why_ready_line item) }
 {
     let mut text = String::new(alloc);
     add_item(&mut text, item)?;

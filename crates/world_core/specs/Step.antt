@@ -5,7 +5,7 @@ use Rattle.std.specs.Prelude.{◌≡◌, ◌≤◌, ◌<◌, ◌+◌, ℕ, List,
 use Rattle.std.specs.Prelude.{take, nat_lt}
 use Rattle.review_ops.specs.Deed.{Deed, kept_deed}
 use Rattle.review_ops.specs.Draft.{deed_of}
-use Rattle.review_ops.specs.Fault.{IsFirstFault}
+use Rattle.review_ops.specs.Fault.{IsFirstBodyFault}
 use Rattle.review_ops.specs.Good.{IsFaultless}
 use Rattle.review_ops.specs.Operation.{Operation}
 use Rattle.review_ops.specs.Timestamp.{Timestamp}
@@ -38,7 +38,7 @@ IsIntake site deed old (Ok (Took stamp)) new = (¬ IsSpent old.journal site old.
     × (new ≡ record old { journal = arrived old.journal (taken_in stamp deed) })
 IsIntake site deed old (Err ClockSpent) new = IsSpent old.journal site old.start × (new ≡ old)
 IsIntake site deed old (Err (BadBody cause)) new =
-    (¬ IsSpent old.journal site old.start) × IsFirstFault cause deed × (new ≡ old)
+    (¬ IsSpent old.journal site old.start) × IsFirstBodyFault cause deed × (new ≡ old)
 IsIntake site deed old (Err (NoMemory taken)) new =
     (¬ IsSpent old.journal site old.start) × IsFaultless deed × (taken ≡ 0) × (new ≡ old)
 IsIntake site deed old answer new = ⊥

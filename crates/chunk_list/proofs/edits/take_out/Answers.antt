@@ -1,65 +1,50 @@
-use Rattle.std.proofs.Common.{◌≡◌, ◌∙◌, ◌<◌, length, ap, subst, sym, arith}
-use Rattle.std.specs.List.{flat_map, remove}
-use Rattle.std.specs.Prelude.{slice_get}
-use Rattle.std.proofs.lemmas.Bool.{eqb-true}
-use Rattle.std.proofs.lemmas.List.{nil_from_length}
+use Rattle.std.proofs.Common.{◌∙◌, ◌<◌, ◌≤◌, ◌++◌, length, ap, sym, refl, arith}
+use Rattle.std.specs.List.{flat_map}
+use Rattle.std.proofs.lemmas.Option.{slice_get_read}
 use Rattle.chunk_list.specs.Ranks.{rank}
-use Rattle.chunk_list.specs.Chunks.{place_of, IsInside}
-use Rattle.chunk_list.proofs.Pieces.{removed, emptied, found_at, index_inside}
+use Rattle.chunk_list.specs.RankLaws.{parted_right}
+use Rattle.chunk_list.proofs.Wholes.{get_here, get_past, remove_here, remove_past}
 use Rattle.chunk_list.proofs.edits.take_out.Goals as goal
 
-pub returns-then-not-is_empty-clause-item : goal.returns-then-not-is_empty-clause-item
-returns-then-not-is_empty-clause-item g c =
+pub returns-then-index-len-clause-item : goal.returns-then-index-len-clause-item
+returns-then-index-len-clause-item g c =
     let test = g.P.Probe.passes c.args.probe.now in
-    let chunks = c.args.chunks.now.items in
-    let spot = c.first_failing-spot.result in
-    let found = c.index_mut-chunk.result.now in
-    let inside : spot.chunk < length chunks = omega (arith, c.if-spot-len.false, c.len.ensures, c.args.chunks.now.ok.0) in
-    let spot_inside = subst (λ l. IsInside (λ c. c.items) l spot.chunk spot.index) c.as_slice.ensures.value c.first_failing-spot.ensures.inside in
-    let spot_rank = subst (λ l. place_of (λ c. c.items) l spot.chunk spot.index ≡ rank test (flat_map (λ c. c.items) l)) c.as_slice.ensures.value c.first_failing-spot.ensures.rank in
-    found_at (λ c. c.items) chunks spot.chunk spot.index found inside c.index_mut-chunk.ensures.value spot_inside c.remove-item.result c.remove-item.ensures.value
-    ∙ ap (slice_get (flat_map (λ c. c.items) chunks)) spot_rank
+    let first = c.args.first.now.items in
+    let index = c.passing-index.result in
+    let low : index < length first = omega (arith, c.if-index-len.true, c.len.ensures, c.args.first.now.ok.0) in
+    sym (slice_get_read first (length first) index c.remove.result refl low c.remove.ensures.value)
+    ∙ get_here test first (flat_map (λ chunk. chunk.items) c.args.rest.now.items) index
+    (c.passing-index.ensures ∙ ap (rank test) c.as_slice.ensures.value) low
 
-pub returns-then-not-is_empty-clause-rest : goal.returns-then-not-is_empty-clause-rest
-returns-then-not-is_empty-clause-rest g c =
+pub returns-then-index-len-clause-rest : goal.returns-then-index-len-clause-rest
+returns-then-index-len-clause-rest g c =
     let test = g.P.Probe.passes c.args.probe.now in
-    let chunks = c.args.chunks.now.items in
-    let spot = c.first_failing-spot.result in
-    let found = c.index_mut-chunk.result.now in
-    let inside : spot.chunk < length chunks = omega (arith, c.if-spot-len.false, c.len.ensures, c.args.chunks.now.ok.0) in
-    let spot_inside = subst (λ l. IsInside (λ c. c.items) l spot.chunk spot.index) c.as_slice.ensures.value c.first_failing-spot.ensures.inside in
-    let spot_rank = subst (λ l. place_of (λ c. c.items) l spot.chunk spot.index ≡ rank test (flat_map (λ c. c.items) l)) c.as_slice.ensures.value c.first_failing-spot.ensures.rank in
-    removed (λ c. c.items) chunks spot.chunk found inside spot.index c.remove-item.new.self
-    (index_inside (λ c. c.items) chunks spot.chunk spot.index found inside spot_inside)
-    (c.remove-item.ensures.items ∙ ap (λ v. remove v.items spot.index) c.index_mut-chunk.ensures.value)
-    ∙ ap (remove (flat_map (λ c. c.items) chunks)) spot_rank
+    let first = c.args.first.now.items in
+    let rest = flat_map (λ chunk. chunk.items) c.args.rest.now.items in
+    let index = c.passing-index.result in
+    let low : index < length first = omega (arith, c.if-index-len.true, c.len.ensures, c.args.first.now.ok.0) in
+    ap (λ l. l ++ rest) c.remove.ensures.items
+    ∙ remove_here test first rest index (c.passing-index.ensures ∙ ap (rank test) c.as_slice.ensures.value) low
+
+pub take_from-requires-clause-parted : goal.take_from-requires-clause-parted
+take_from-requires-clause-parted g c = parted_right (g.P.Probe.passes c.args.probe.now) c.args.first.now.items
+    (flat_map (λ chunk. chunk.items) c.args.rest.now.items) c.requires.parted
 
 pub returns-clause-item : goal.returns-clause-item
 returns-clause-item g c =
     let test = g.P.Probe.passes c.args.probe.now in
-    let chunks = c.args.chunks.now.items in
-    let spot = c.first_failing-spot.result in
-    let found = c.index_mut-chunk.result.now in
-    let inside : spot.chunk < length chunks = omega (arith, c.if-spot-len.false, c.len.ensures, c.args.chunks.now.ok.0) in
-    let spot_inside = subst (λ l. IsInside (λ c. c.items) l spot.chunk spot.index) c.as_slice.ensures.value c.first_failing-spot.ensures.inside in
-    let spot_rank = subst (λ l. place_of (λ c. c.items) l spot.chunk spot.index ≡ rank test (flat_map (λ c. c.items) l)) c.as_slice.ensures.value c.first_failing-spot.ensures.rank in
-    found_at (λ c. c.items) chunks spot.chunk spot.index found inside c.index_mut-chunk.ensures.value spot_inside c.remove-item.result c.remove-item.ensures.value
-    ∙ ap (slice_get (flat_map (λ c. c.items) chunks)) spot_rank
+    let first = c.args.first.now.items in
+    let index = c.passing-index.result in
+    let high : length first ≤ index = omega (arith, c.if-index-len.false, c.len.ensures, c.args.first.now.ok.0) in
+    c.take_from.ensures.item ∙ get_past test first (flat_map (λ chunk. chunk.items) c.args.rest.now.items) index
+    (c.passing-index.ensures ∙ ap (rank test) c.as_slice.ensures.value) high
 
 pub returns-clause-rest : goal.returns-clause-rest
 returns-clause-rest g c =
     let test = g.P.Probe.passes c.args.probe.now in
-    let chunks = c.args.chunks.now.items in
-    let spot = c.first_failing-spot.result in
-    let found = c.index_mut-chunk.result.now in
-    let new = c.remove-item.new.self in
-    let inside : spot.chunk < length chunks = omega (arith, c.if-spot-len.false, c.len.ensures, c.args.chunks.now.ok.0) in
-    let spot_inside = subst (λ l. IsInside (λ c. c.items) l spot.chunk spot.index) c.as_slice.ensures.value c.first_failing-spot.ensures.inside in
-    let spot_rank = subst (λ l. place_of (λ c. c.items) l spot.chunk spot.index ≡ rank test (flat_map (λ c. c.items) l)) c.as_slice.ensures.value c.first_failing-spot.ensures.rank in
-    let none : length new.items ≡ 0 = omega (arith, eqb-true _ _ (sym c.is_empty.ensures ∙ c.if-not-is_empty.false), new.ok.0) in
-    ap (flat_map (λ c. c.items)) c.remove-none.ensures.items
-    ∙ emptied (λ c. c.items) chunks spot.chunk new inside (nil_from_length new.items none)
-    ∙ removed (λ c. c.items) chunks spot.chunk found inside spot.index new
-    (index_inside (λ c. c.items) chunks spot.chunk spot.index found inside spot_inside)
-    (c.remove-item.ensures.items ∙ ap (λ v. remove v.items spot.index) c.index_mut-chunk.ensures.value)
-    ∙ ap (remove (flat_map (λ c. c.items) chunks)) spot_rank
+    let first = c.args.first.now.items in
+    let index = c.passing-index.result in
+    let high : length first ≤ index = omega (arith, c.if-index-len.false, c.len.ensures, c.args.first.now.ok.0) in
+    ap (λ l. first ++ l) c.take_from.ensures.rest
+    ∙ remove_past test first (flat_map (λ chunk. chunk.items) c.args.rest.now.items) index
+    (c.passing-index.ensures ∙ ap (rank test) c.as_slice.ensures.value) high

@@ -2,7 +2,7 @@ use Rattle.std.proofs.Common.{inl, inr, [], ◌∷◌}
 use Rattle.std.proofs.lemmas.Result.{err_from_is_err_and}
 use Rattle.byte_ends.specs.Lines.{lines_of}
 use Rattle.snapshot_text.specs.Snapshot.{SaysOperations}
-use Rattle.commands.specs.Answers.{IsMerged}
+use Rattle.commands.specs.Answers.{IsMergedText}
 use Rattle.console.specs.Inputs.{input, snapshot_file}
 use Rattle.commands.proofs.HowItEnds.{both_had, finishes_snapshot, second_refused}
 use Rattle.commands.proofs.Merged.{is_merged}
@@ -26,7 +26,7 @@ returns g c =
       both_had (input snapshot_file c.args.first.now) (input snapshot_file c.args.second.now)
           (λ text. SaysOperations (lines_of text) first.0) (λ text says. (first.0, says))
           (λ text. SaysOperations (lines_of text) second.0) (λ text says. (second.0, says)) _ _ _ first.2 second.2,
-      finishes_snapshot (IsMerged first.2.0 second.2.0) c.in_ok-both.both _ _ c.print_snapshot-printed.result
+      finishes_snapshot (IsMergedText first.2.0 second.2.0) c.in_ok-both.both _ _ c.print_snapshot-printed.result
           (is_merged c.operations_arrive_as_a_set.ensures first.2.0 second.2.0 first.0 second.0 c.new.result c.in_ok-replica.replica c.in_ok-both.both first.2.2 second.2.2 c.new.ensures first.1 second.1)
           c.print_snapshot-printed.ensures,
     )

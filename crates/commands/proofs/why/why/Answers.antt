@@ -5,10 +5,10 @@ use Rattle.gate_rules.specs.Spelling.{SpellsGate}
 use Rattle.replica_core.specs.Journal.{all_arrived}
 use Rattle.state_core.specs.State.{State, state_of}
 use Rattle.state_core.specs.declared.item.Item.{Item}
-use Rattle.why_text.specs.Asked.{IsAsked}
+use Rattle.why_text.specs.Asked.{IsItemAsked}
 use Rattle.console.specs.declared.refusals.Refusal.{Refusal}
 use Rattle.console.specs.declared.refusals.Refusal.TheVariants.{Memory, NoItem}
-use Rattle.commands.specs.Answers.{HasItem, IsItem, IsOf, IsReason, IsWhole, Misses}
+use Rattle.commands.specs.Answers.{HasItem, IsItemText, IsOf, IsReason, IsWhole, Misses}
 use Rattle.commands.proofs.HowItEnds.{finishes, nothing_printed}
 use Rattle.commands.proofs.OfRecord.{not_there, record_had, snapshot_refused}
 use Rattle.commands.proofs.why.why.Goals as goal
@@ -32,7 +32,7 @@ returns-in-Ok g c =
       record_had c.args.gate.now c.args.snapshot.now file.rules
           (λ text. SpellsGate text file.rules × (text ≡ file.text.items))
           (λ text is. is.0) second.0 _ _ _ first second.2,
-      finishes (IsWhole (IsOf first.0 second.2.0 (IsReason first.0 c.args.change c.args.set)) (Misses (IsItem c.args.change c.args.set) second.2.0 (HasItem c.args.change c.args.set))) c.as_bytes.result.now _ _ c.print.result
+      finishes (IsWhole (IsOf first.0 second.2.0 (IsReason first.0 c.args.change c.args.set)) (Misses (IsItemText c.args.change c.args.set) second.2.0 (HasItem c.args.change c.args.set))) c.as_bytes.result.now _ _ c.print.result
           (record {
             rules = file.rules;
             spelled = first.2.0;
@@ -49,8 +49,8 @@ returns-in-Ok g c =
 
 -- there is no such item, or memory was refused
 no_item : (change : ℕ) (set : Option ℕ) (state : State) (refusal : Refusal)
-    → ((refusal ≡ NoItem change set) × ((item : Item) → ¬ IsAsked state change set item)) ⊎ (refusal ≡ Memory)
-    → ((number : ℕ) × (other : Option ℕ) × IsItem change set number other × (refusal ≡ NoItem number other)
+    → ((refusal ≡ NoItem change set) × ((item : Item) → ¬ IsItemAsked state change set item)) ⊎ (refusal ≡ Memory)
+    → ((number : ℕ) × (other : Option ℕ) × IsItemText change set number other × (refusal ≡ NoItem number other)
     × ¬ HasItem change set state) ⊎ (refusal ≡ Memory)
 no_item change set state refusal (inl none) =
     inl (change, set, (refl, refl), none.0, λ has. none.1 has.0 has.1)
@@ -71,7 +71,7 @@ returns g c =
       inl (
         [],
         not_there (IsOf first.0 second.2.0 (IsReason first.0 c.args.change c.args.set))
-            (IsItem c.args.change c.args.set) second.2.0
+            (IsItemText c.args.change c.args.set) second.2.0
             (HasItem c.args.change c.args.set) c.in-Err.refusal second.0 c.state.result.now second.2.2 state
             (no_item c.args.change c.args.set c.state.result.now c.in-Err.refusal c.in-Err.ensures.refused),
         nothing_printed (g.C.Console.state c.read_snapshot.new.console),

@@ -1,5 +1,5 @@
 use Rattle.std.proofs.Common.{◌≡◌, List, [], length}
-use Rattle.event_feed.specs.Feed.{Standing, Turn, Turns}
+use Rattle.event_feed.specs.Feed.{Standing, FeedTurn, Turns}
 use Rattle.event_feed.specs.declared.progress.Progress.TheVariants.{Unbegun}
 use Rattle.event_feed.proofs.feed.feed_most.Given as goal
 
@@ -18,5 +18,5 @@ invariant-loop-number g l =
       progress = l.learned.progress;
       taker = l.taker;
     } in
-    (turns : List Turn) × (length turns ≡ l.number) × Turns g.T.Taker.rests g.T.Taker.takes l.projects l.limit 1 old turns now
+    (turns : List FeedTurn) × (length turns ≡ l.number) × Turns g.T.Taker.rests g.T.Taker.takes l.projects l.limit 1 old turns now
     × (l.reader.limit ≡ l.limit)

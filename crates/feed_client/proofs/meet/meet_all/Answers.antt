@@ -1,12 +1,12 @@
 use Rattle.std.proofs.Common.{Err, sym, subst, inl, inr, refl}
 use Rattle.std.proofs.lemmas.Result.{err_from_is_err_and}
 use Rattle.feed_client.specs.InTurn.{InTurn}
-use Rattle.feed_client.specs.Meeting.{Meets, Place}
+use Rattle.feed_client.specs.Meeting.{Meets, FeedPlace}
 use Rattle.feed_client.proofs.meet.meet_all.Goals as goal
 
 pub loop-finding-preserved : goal.loop-finding-preserved
 loop-finding-preserved g c =
-    let here : Place _ = record {
+    let here : FeedPlace _ = record {
       site = c.loop-finding.site;
       state = c.loop-finding.state;
       errors = record {
@@ -14,7 +14,7 @@ loop-finding-preserved g c =
         failed = g.E.Drain.failed c.loop-finding.errors;
       };
     } in
-    let next : Place _ = record {
+    let next : FeedPlace _ = record {
       site = c.meet.new.site;
       state = c.meet.new.state;
       errors = record { taken = g.E.Drain.taken c.meet.new.errors; failed = g.E.Drain.failed c.meet.new.errors };
@@ -26,7 +26,7 @@ loop-finding-preserved g c =
 pub returns-in_err-meet : goal.returns-in_err-meet
 returns-in_err-meet g c =
     let p = err_from_is_err_and c.from_residual.result c.from_residual.ensures.1 in
-    let here : Place _ = record {
+    let here : FeedPlace _ = record {
       site = c.loop-finding.site;
       state = c.loop-finding.state;
       errors = record {
@@ -34,7 +34,7 @@ returns-in_err-meet g c =
         failed = g.E.Drain.failed c.loop-finding.errors;
       };
     } in
-    let last : Place _ = record {
+    let last : FeedPlace _ = record {
       site = c.meet.new.site;
       state = c.meet.new.state;
       errors = record { taken = g.E.Drain.taken c.meet.new.errors; failed = g.E.Drain.failed c.meet.new.errors };

@@ -1,12 +1,12 @@
 use Rattle.std.proofs.Common.{Err, sym, subst, inl, inr, refl}
 use Rattle.std.proofs.lemmas.Result.{err_from_is_err_and}
 use Rattle.feed_client.specs.InTurn.{InTurn}
-use Rattle.feed_client.specs.Meeting.{Offers, Place}
+use Rattle.feed_client.specs.Meeting.{Offers, FeedPlace}
 use Rattle.feed_client.proofs.meet.offer_all.Goals as goal
 
 pub loop-body-preserved : goal.loop-body-preserved
 loop-body-preserved g c =
-    let here : Place _ = record {
+    let here : FeedPlace _ = record {
       site = c.loop-body.site;
       state = c.loop-body.state;
       errors = record {
@@ -14,7 +14,7 @@ loop-body-preserved g c =
         failed = g.E.Drain.failed c.loop-body.errors;
       };
     } in
-    let next : Place _ = record {
+    let next : FeedPlace _ = record {
       site = c.offer.new.site;
       state = c.offer.new.state;
       errors = record { taken = g.E.Drain.taken c.offer.new.errors; failed = g.E.Drain.failed c.offer.new.errors };
@@ -26,7 +26,7 @@ loop-body-preserved g c =
 pub returns-in_err-offer : goal.returns-in_err-offer
 returns-in_err-offer g c =
     let p = err_from_is_err_and c.from_residual.result c.from_residual.ensures.1 in
-    let here : Place _ = record {
+    let here : FeedPlace _ = record {
       site = c.loop-body.site;
       state = c.loop-body.state;
       errors = record {
@@ -34,7 +34,7 @@ returns-in_err-offer g c =
         failed = g.E.Drain.failed c.loop-body.errors;
       };
     } in
-    let last : Place _ = record {
+    let last : FeedPlace _ = record {
       site = c.offer.new.site;
       state = c.offer.new.state;
       errors = record { taken = g.E.Drain.taken c.offer.new.errors; failed = g.E.Drain.failed c.offer.new.errors };

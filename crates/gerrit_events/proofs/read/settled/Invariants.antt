@@ -1,6 +1,6 @@
-use Rattle.gerrit_events.specs.Reading.{AreSettled}
+use Rattle.gerrit_events.specs.Reading.{ClaimsAreSettled}
 use Rattle.gerrit_events.proofs.read.settled.Given as goal
 
 -- the claims so far are settled
 abbrev pub invariant-loop-claim : goal.invariant-loop-claim
-invariant-loop-claim l = AreSettled l.yielded l.findings.items
+invariant-loop-claim l = ClaimsAreSettled l.yielded l.findings.items

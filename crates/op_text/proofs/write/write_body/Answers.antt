@@ -1,12 +1,15 @@
-use Rattle.std.proofs.Common.{◌∙◌, string_bytes}
-use Rattle.std.proofs.lemmas.Result.{IfOk-weaker}
-use Rattle.op_text.proofs.Spelled.{body_spelled, both_facts, printed_body}
+use Rattle.std.proofs.Common.{◌≡◌, ◌++◌, string_bytes, sym, ap, ◌∙◌, subst, rules}
+use Rattle.std.specs.Prelude.{IsUtf8}
+use Rattle.op_text.specs.Spelling.{SpellsBody}
+use Rattle.op_text.specs.Text.{body_text}
 use Rattle.op_text.proofs.write.write_body.Goals as goal
 
-pub returns-clause-text : goal.returns-clause-text
-returns-clause-text c = IfOk-weaker c.object_text.result _ _
-    (λ text printed. printed ∙ printed_body c.args.body.now) c.object_text.ensures.printed
+pub unwrap-requires : goal.unwrap-requires
+unwrap-requires c =
+    let is = c.in_ok-append_body.ensures.ok ∙ ap (λ l. l ++ body_text c.args.body.now) c.in_ok-page.ensures.items in
+    c.from_utf8.ensures.succeeds (subst IsUtf8 (sym is) c.append_body.ensures.spells.1.object.utf8)
 
 pub returns-clause-spells : goal.returns-clause-spells
 returns-clause-spells c =
-    both_facts c.object_text.result _ _ _ (λ text lexed utf8. body_spelled c.args.body.now c.object_text.ensures.good (string_bytes text) lexed utf8) c.object_text.ensures.tokens c.object_text.ensures.utf8
+    let is : string_bytes c.unwrap.result ≡ body_text c.args.body.now = search rules in
+    subst (λ text. SpellsBody text c.args.body.now) (sym is) c.append_body.ensures.spells

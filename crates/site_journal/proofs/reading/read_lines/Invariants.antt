@@ -11,7 +11,7 @@ invariant-loop-seen g l = record {
   came : List ℕ;
   read : Consumes (g.F.Feed.left l.initial.feed) (g.F.Feed.left l.feed) came;
   seen : l.seen ≡ length (header_line ++ came);
-  has : HasRead (header_line ++ came) l.reading.replica l.reading.held.items l.reading.next;
+  has : HasRead (header_line ++ came) l.reading.gathering l.reading.held.items l.reading.next;
   some : vec_len l.piece ≡ vec_len l.initial.piece;
   same : g.F.Feed.image l.feed ≡ g.F.Feed.image l.initial.feed;
   counted : g.F.Feed.failed l.feed ≡ g.F.Feed.failed l.initial.feed;

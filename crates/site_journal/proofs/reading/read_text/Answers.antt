@@ -3,8 +3,8 @@ use Rattle.std.specs.Prelude.{IfSome}
 use Rattle.std.proofs.KnownBytes.{Consumes-whole}
 use Rattle.std.proofs.lemmas.Result.{IfOk-weaker, IfErr-weaker, err_from_is_err_and}
 use Rattle.site_journal.specs.Text.{header_line, IsFresh}
-use Rattle.site_journal.specs.Fault.{IsRefusal}
-use Rattle.site_journal.specs.Reading.{IsFound}
+use Rattle.site_journal.specs.Fault.{IsJournalRefusal}
+use Rattle.site_journal.specs.Reading.{IsFoundText}
 use Rattle.site_journal.proofs.Steps.{header_length, after_front, bad_header}
 use Rattle.site_journal.proofs.reading.read_text.Goals as goal
 
@@ -15,20 +15,20 @@ pub returns-in-Whole-clause-found : goal.returns-in-Whole-clause-found
 returns-in-Whole-clause-found g c =
     let is = sym c.as_slice.ensures.value ∙ c.in-Whole.ensures in
     IfOk-weaker c.read_lines.result
-    (λ found. IfSome (g.F.Feed.left c.read_head.new.feed) (λ text. IsFound (header_line ++ text) found))
-    (λ found. IfSome (g.F.Feed.left c.args.feed.now) (λ text. IsFound text found))
-    (λ found. after_front (g.F.Feed.left c.args.feed.now) (g.F.Feed.left c.read_head.new.feed) c.in_ok-head.head.items (λ text. IsFound text found) (λ text. IsFound (header_line ++ text) found)
-    c.in_ok-head.ensures.came (λ later k. subst (λ l. IsFound (l ++ later) found) (sym is) k))
+    (λ found. IfSome (g.F.Feed.left c.read_head.new.feed) (λ text. IsFoundText (header_line ++ text) found))
+    (λ found. IfSome (g.F.Feed.left c.args.feed.now) (λ text. IsFoundText text found))
+    (λ found. after_front (g.F.Feed.left c.args.feed.now) (g.F.Feed.left c.read_head.new.feed) c.in_ok-head.head.items (λ text. IsFoundText text found) (λ text. IsFoundText (header_line ++ text) found)
+    c.in_ok-head.ensures.came (λ later k. subst (λ l. IsFoundText (l ++ later) found) (sym is) k))
     c.read_lines.ensures.found
 
 pub returns-in-Whole-clause-refused : goal.returns-in-Whole-clause-refused
 returns-in-Whole-clause-refused g c =
     let is = sym c.as_slice.ensures.value ∙ c.in-Whole.ensures in
     IfErr-weaker c.read_lines.result
-    (λ fault. IfSome (g.F.Feed.left c.read_head.new.feed) (λ text. IsRefusal (header_line ++ text) fault))
-    (λ fault. IfSome (g.F.Feed.left c.args.feed.now) (λ text. IsRefusal text fault))
-    (λ fault. after_front (g.F.Feed.left c.args.feed.now) (g.F.Feed.left c.read_head.new.feed) c.in_ok-head.head.items (λ text. IsRefusal text fault) (λ text. IsRefusal (header_line ++ text) fault)
-    c.in_ok-head.ensures.came (λ later k. subst (λ l. IsRefusal (l ++ later) fault) (sym is) k))
+    (λ fault. IfSome (g.F.Feed.left c.read_head.new.feed) (λ text. IsJournalRefusal (header_line ++ text) fault))
+    (λ fault. IfSome (g.F.Feed.left c.args.feed.now) (λ text. IsJournalRefusal text fault))
+    (λ fault. after_front (g.F.Feed.left c.args.feed.now) (g.F.Feed.left c.read_head.new.feed) c.in_ok-head.head.items (λ text. IsJournalRefusal text fault) (λ text. IsJournalRefusal (header_line ++ text) fault)
+    c.in_ok-head.ensures.came (λ later k. subst (λ l. IsJournalRefusal (l ++ later) fault) (sym is) k))
     c.read_lines.ensures.refused
 
 pub returns-in-Front-clause-found : goal.returns-in-Front-clause-found
@@ -54,4 +54,4 @@ always (Some text) P f = f text
 pub returns-in_err-head-clause-refused : goal.returns-in_err-head-clause-refused
 returns-in_err-head-clause-refused g c =
     let p = err_from_is_err_and c.from_residual.result c.from_residual.ensures.1 in
-    rw (p.1, p.2) (always (g.F.Feed.left c.args.feed.now) (λ text. IsRefusal text c.in_err-head.field-0.0) c.in_err-head.ensures.fault)
+    rw (p.1, p.2) (always (g.F.Feed.left c.args.feed.now) (λ text. IsJournalRefusal text c.in_err-head.field-0.0) c.in_err-head.ensures.fault)

@@ -1,14 +1,116 @@
-use Rattle.std.proofs.Common.{◌≡◌, subst, sym}
-use Rattle.std.specs.Prelude.{IfSome}
-use Rattle.std.proofs.lemmas.Result.{IfErr-weaker}
-use Rattle.snapshot_text.specs.Snapshot.{IsRefusal, IsOfText}
-use Rattle.snapshot_text.proofs.Reading.{known_refusal}
+use Rattle.std.proofs.Common.{◌≡◌, ◌≤◌, ◌<◌, ◌∙◌, ◌++◌, [], List, refl, inl, sym, subst, arith, length, length-append}
+use Rattle.std.proofs.KnownBytes.{Consumes-nil, Consumes-trans, Consumes-whole}
+use Rattle.std.proofs.lemmas.Result.{IfOk-weaker, IfErr-weaker, err_from_is_err_and}
+use Rattle.byte_ends.specs.Lines.{lines_of}
+use Rattle.review_ops.specs.Operation.{Operation}
+use Rattle.replica_core.specs.Journal.{all_arrived}
+use Rattle.snapshot_text.specs.Progress.{HasRead}
+use Rattle.snapshot_text.specs.Snapshot.{SaysOperations, IsRefusal, most_bytes}
+use Rattle.snapshot_text.proofs.Reading.{refusal_of}
+use Rattle.snapshot_text.proofs.Endings.{on_ok_always, only_reading, outside_only, reading_counts, known_text, too_much, whatever}
 use Rattle.snapshot_text.proofs.read.read_snapshot.Goals as goal
+
+pub loop-seen-init : goal.loop-seen-init
+loop-seen-init g c = record {
+  came = [];
+  read = Consumes-nil (g.S.Source.left c.args.source.now);
+  seen = refl;
+  has = subst (λ base. HasRead base [] c.onto-blocks.result) c.new.ensures c.onto-blocks.ensures.read;
+  few = omega (arith, c.onto-blocks.ensures.count);
+  most = omega arith;
+  some = c.in-Ok.ensures.len;
+  counted = refl;
+}
+
+pub loop-seen-preserved : goal.loop-seen-preserved
+loop-seen-preserved g c =
+    let before = c.loop-seen.invariant in
+    let part = c.in_ok-count.ensures.read in
+    record {
+      came = before.came ++ part.0;
+      read = Consumes-trans _ _ _ before.came part.0 before.read part.2;
+      seen = omega (arith, before.seen, part.1, length-append before.came part.0);
+      has = part.3 [] before.came before.has;
+      few = omega (arith, before.few, c.in_ok-count.ensures.few);
+      most = omega (arith, c.loop-seen-test.true, c.in_ok-count.ensures.most, c.as_mut_slice.ensures.len, before.some);
+      some = before.some;
+      counted = c.in_ok-count.ensures.counted ∙ before.counted;
+    }
+
+pub returns-in-0-clause-ok : goal.returns-in-0-clause-ok
+returns-in-0-clause-ok g c =
+    let before = c.loop-seen.invariant in
+    let part = c.in_ok-count.ensures.read in
+    let came = before.came ++ part.0 in
+    let read = Consumes-trans _ _ _ before.came part.0 before.read part.2 in
+    let some : 0 < length c.as_mut_slice.result.now = omega (arith, c.as_mut_slice.ensures.len, before.some) in
+    let at_end = c.in_ok-count.ensures.end c.in-0.is some in
+    let has = part.3 [] before.came before.has in
+    IfOk-weaker c.end.result _ _ (λ replica ends. Consumes-whole (g.S.Source.left c.args.source.now) (g.S.Source.left c.read_block.new.source) came
+    (λ text. (ops : List Operation) × SaysOperations (lines_of text) ops × (replica ≡ all_arrived [] ops)) read at_end (ends [] came has)) c.end.ensures.ok
+
+pub returns-in-0-clause-within : goal.returns-in-0-clause-within
+returns-in-0-clause-within g c =
+    let before = c.loop-seen.invariant in
+    let part = c.in_ok-count.ensures.read in
+    let came = before.came ++ part.0 in
+    let read = Consumes-trans _ _ _ before.came part.0 before.read part.2 in
+    let some : 0 < length c.as_mut_slice.result.now = omega (arith, c.as_mut_slice.ensures.len, before.some) in
+    let at_end = c.in_ok-count.ensures.end c.in-0.is some in
+    let has = part.3 [] before.came before.has in
+    let few : length came ≤ most_bytes = omega (arith, before.seen, c.loop-seen-test.true, part.1, c.in-0.is, length-append before.came part.0) in
+    on_ok_always c.end.result (Consumes-whole (g.S.Source.left c.args.source.now) (g.S.Source.left c.read_block.new.source) came (λ text. length text ≤ most_bytes) read at_end few)
+
+pub returns-in-0-clause-err : goal.returns-in-0-clause-err
+returns-in-0-clause-err g c =
+    let before = c.loop-seen.invariant in
+    let part = c.in_ok-count.ensures.read in
+    let came = before.came ++ part.0 in
+    let read = Consumes-trans _ _ _ before.came part.0 before.read part.2 in
+    let some : 0 < length c.as_mut_slice.result.now = omega (arith, c.as_mut_slice.ensures.len, before.some) in
+    let at_end = c.in_ok-count.ensures.end c.in-0.is some in
+    let has = part.3 [] before.came before.has in
+    let few : length came ≤ most_bytes = omega (arith, before.seen, c.loop-seen-test.true, part.1, c.in-0.is, length-append before.came part.0) in
+    IfErr-weaker c.end.result _ _ (λ fault fails. Consumes-whole (g.S.Source.left c.args.source.now) (g.S.Source.left c.read_block.new.source) came
+    (λ text. IsRefusal text fault) read at_end ((refusal_of came fault few (fails [] came has).first).0)) c.end.ensures.err
+
+pub returns-in-0-clause-only : goal.returns-in-0-clause-only
+returns-in-0-clause-only g c = λ text ops known says.
+    let before = c.loop-seen.invariant in
+    let part = c.in_ok-count.ensures.read in
+    let came = before.came ++ part.0 in
+    let read = Consumes-trans _ _ _ before.came part.0 before.read part.2 in
+    let some : 0 < length c.as_mut_slice.result.now = omega (arith, c.as_mut_slice.ensures.len, before.some) in
+    let at_end = c.in_ok-count.ensures.end c.in-0.is some in
+    let has = part.3 [] before.came before.has in
+    let same = known_text (g.S.Source.left c.args.source.now) came text known (Consumes-whole (g.S.Source.left c.args.source.now) (g.S.Source.left c.read_block.new.source) came (λ t. came ≡ t) read at_end refl) in
+    outside_only c.end.result (λ replica. replica ≡ all_arrived [] ops) (only_reading c.end.result [] (lines_of came)
+    (IfOk-weaker c.end.result _ _ (λ replica ends. ends [] came has) c.end.ensures.ok)
+    (IfErr-weaker c.end.result _ _ (λ fault fails. fails [] came has) c.end.ensures.err)
+    ops (subst (λ t. SaysOperations (lines_of t) ops) (sym same) says))
+
+pub returns-in-0-clause-counted : goal.returns-in-0-clause-counted
+returns-in-0-clause-counted g c =
+    let before = c.loop-seen.invariant in
+    let part = c.in_ok-count.ensures.read in
+    let came = before.came ++ part.0 in
+    let read = Consumes-trans _ _ _ before.came part.0 before.read part.2 in
+    let some : 0 < length c.as_mut_slice.result.now = omega (arith, c.as_mut_slice.ensures.len, before.some) in
+    let at_end = c.in_ok-count.ensures.end c.in-0.is some in
+    let has = part.3 [] before.came before.has in
+    reading_counts c.end.result (lines_of came) (g.S.Source.failed c.args.source.now) (g.S.Source.failed c.read_block.new.source)
+    (c.in_ok-count.ensures.counted ∙ before.counted) (IfErr-weaker c.end.result _ _ (λ fault fails. fails [] came has) c.end.ensures.err)
+
+pub returns-in_err-count-clause-err : goal.returns-in_err-count-clause-err
+returns-in_err-count-clause-err g c =
+    let p = err_from_is_err_and c.from_residual.result c.from_residual.ensures.1 in
+    rw (p.1, p.2, c.in_err-count.ensures.fault) (whatever (g.S.Source.left c.args.source.now) (λ text. Unit {0}) (λ text. tt))
 
 pub returns-clause-err : goal.returns-clause-err
 returns-clause-err g c =
-    IfErr-weaker c.snapshot_of.result (λ fault. IsRefusal c.deref.result.now fault × IsOfText fault)
-    (λ fault. IfSome (g.S.Source.left c.args.source.now) (λ text. IsRefusal text fault))
-    (known_refusal (g.S.Source.left c.args.source.now) c.deref.result.now
-    (subst (λ bytes. IfSome (g.S.Source.left c.args.source.now) (λ text. bytes ≡ text)) (sym c.deref.ensures.value) c.in_ok-text.ensures.ok))
-    c.snapshot_of.ensures.err
+    let before = c.loop-seen.invariant in
+    let more : most_bytes < length before.came = omega (arith, before.seen, c.loop-seen-test.false) in
+    too_much (g.S.Source.left c.args.source.now) (g.S.Source.left c.loop-seen.source) before.came most_bytes before.read more
+
+pub returns-clause-only : goal.returns-clause-only
+returns-clause-only g c = λ text ops known says. inl refl

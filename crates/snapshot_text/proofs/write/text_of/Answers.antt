@@ -6,9 +6,9 @@ use Rattle.snapshot_text.proofs.write.text_of.Goals as goal
 
 pub returns-clause-text : goal.returns-clause-text
 returns-clause-text c =
-    whole_text (λ op. op.now) c.args.ops.now c.loop-op.op-index c.loop-op.text.items c.as_bytes-2.result.now c.extend_from_slice-2.new.self.items
+    whole_text (λ op. op.now) c.args.ops.now c.loop-op.op-index c.loop-op.text.items c.as_bytes.result.now c.extend_from_slice-2.new.self.items
     c.loop-op-test.false c.loop-op.invariant.written
-    (c.as_bytes-2.ensures.value ∙ c.in_ok-end.ensures.ok) c.in_ok-extend_from_slice-3.ensures.items
+    (c.as_bytes.ensures.value ∙ c.in_ok-end.ensures.ok) c.in_ok-extend_from_slice-2.ensures.items
 
 pub returns-clause-says : goal.returns-clause-says
 returns-clause-says c =

@@ -3,7 +3,7 @@ use Rattle.std.specs.List.Sorted.{IsStrictlySortedBy}
 use Rattle.state_core.specs.Items.{item_cmp}
 use Rattle.ready_core.specs.declared.verdicts.Left.{Left}
 use Rattle.ready_core.specs.Verdicts.{IsOutAt, items_out}
-use Rattle.watch_core.specs.Placed.{AreLists, HasNew, item_of, node_of}
+use Rattle.watch_core.specs.Placed.{AreLists, HasNew, left_item, node_of}
 use Rattle.watch_core.proofs.Putting.{apart_first, both_ok, left_set, left_within, lists_ranked, lists_set, rank_absent}
 use Rattle.watch_core.proofs.puts.put_left.Goals as goal
 
@@ -17,11 +17,11 @@ returns-in_default-clause-lists c =
     let out = c.args.out.now.items in
     let new = c.insert_left.new.out.items in
     both_ok c.insert_left.result (IsStrictlySortedBy item_cmp (items_out new))
-    (HasNew item_of (λ other. other ≡ item) (c.args.left ∷ []) out new)
+    (HasNew left_item (λ other. other ≡ item) (c.args.left ∷ []) out new)
     (AreLists c.take_ready.new.ready.items c.take_ready.new.ranks.items new)
     (λ in_order put.
     lists_ranked c.args.ready.now.items c.take_ready.new.ready.items c.args.ranks.now.items c.take_ready.new.ranks.items out new item [] (c.args.left ∷ []) c.requires c.take_ready.ensures.ready in_order
-    c.take_ready.ensures.ranks put (apart_first node_of item_of (c.args.left ∷ [])))
+    c.take_ready.ensures.ranks put (apart_first node_of left_item (c.args.left ∷ [])))
     c.insert_left.ensures.in_order c.insert_left.ensures.out
 
 pub index_mut-requires : goal.index_mut-requires

@@ -1,13 +1,13 @@
 use Rattle.std.proofs.Common.{◌≡◌, [], ◌∷◌, Contains, subst, sym}
 use Rattle.std.proofs.lemmas.Result.{on_ok_weaker}
-use Rattle.watch_core.specs.Placed.{AreLists, AreReady, HasNew, item_of, node_of}
+use Rattle.watch_core.specs.Placed.{AreLists, AreReady, HasNew, left_item, node_of}
 use Rattle.watch_core.proofs.Exchange.{HasNew-again}
 use Rattle.watch_core.proofs.Putting.{HasNew-absent, apart_second, both_ok, lists_ranked, none_left}
 use Rattle.watch_core.proofs.puts.put_ready.Goals as goal
 
 pub returns-then-has_rank-clause-out : goal.returns-then-has_rank-clause-out
 returns-then-has_rank-clause-out c =
-    HasNew-absent item_of c.args.rank.node c.args.out.now.items
+    HasNew-absent left_item c.args.rank.node c.args.out.now.items
     (λ left has same. c.requires.apart.none c.args.rank left (subst (λ l. Contains l c.args.rank) c.as_slice.ensures.value (c.has_rank.ensures c.if-has_rank.true)) has (sym same))
 
 pub insert_rank-requires-clause-none : goal.insert_rank-requires-clause-none
@@ -26,8 +26,8 @@ returns-clause-lists c =
     (λ ranked put.
     lists_ranked c.take_item.new.ready.items ready_new ranks ranks_new out out item
     (c.args.rank ∷ []) [] c.take_item.ensures.lists ranked c.take_item.ensures.lists.out_in_order put
-    (HasNew-absent item_of item out (none_left item_of item c.args.out.now.items out c.take_item.ensures.out))
-    (apart_second node_of item_of (c.args.rank ∷ [])))
+    (HasNew-absent left_item item out (none_left left_item item c.args.out.now.items out c.take_item.ensures.out))
+    (apart_second node_of left_item (c.args.rank ∷ [])))
     c.insert_rank.ensures.ready c.insert_rank.ensures.ranks
 
 pub returns-clause-ranks : goal.returns-clause-ranks

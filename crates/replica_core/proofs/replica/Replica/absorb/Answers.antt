@@ -7,7 +7,7 @@ pub returns-then-is_err : goal.returns-then-is_err
 returns-then-is_err g c =
     let turned = c.reverse.new.self.items in (
       reverse turned,
-      in_order c.args.other c.other.inside.arrivals.items c.sort_unstable.new.self.items turned c.other.view_is c.other.invariant.apart c.sort_unstable.ensures.permutation c.sort_unstable.ensures.sorted (ap reverse c.reverse.ensures.items ∙ reverse-reverse c.sort_unstable.new.self.items),
+      in_order c.args.other c.other.inside.arrivals.items c.sort_unstable.new.self.items turned c.other.view_is c.other.invariant.is_kept.apart c.sort_unstable.ensures.permutation c.sort_unstable.ensures.sorted (ap reverse c.reverse.ensures.items ∙ reverse-reverse c.sort_unstable.new.self.items),
       (
         at_err c.take.result c.is_err.result c.is_err.ensures.value c.if-is_err.true c.take.ensures.err
             ∙ c.loop-op.invariant.done,
@@ -25,6 +25,6 @@ pub returns : goal.returns
 returns g c =
     let turned = c.reverse.new.self.items in (
       reverse turned,
-      in_order c.args.other c.other.inside.arrivals.items c.sort_unstable.new.self.items turned c.other.view_is c.other.invariant.apart c.sort_unstable.ensures.permutation c.sort_unstable.ensures.sorted (ap reverse c.reverse.ensures.items ∙ reverse-reverse c.sort_unstable.new.self.items),
+      in_order c.args.other c.other.inside.arrivals.items c.sort_unstable.new.self.items turned c.other.view_is c.other.invariant.is_kept.apart c.sort_unstable.ensures.permutation c.sort_unstable.ensures.sorted (ap reverse c.reverse.ensures.items ∙ reverse-reverse c.sort_unstable.new.self.items),
       all_in c.args.self.now (reverse turned) c.loop-op.taken c.loop-op.arrivals.items c.loop-op.self (nil_from_length c.loop-op.arrivals.items (omega (arith, c.loop-op.arrivals.ok.0, c.in_default.ensures.cases.0))) c.loop-op.invariant.left c.loop-op.invariant.done,
     )

@@ -1,11 +1,15 @@
-use Rattle.std.proofs.Common.{◌∙◌, ◌≡◌, sym, subst}
+use Rattle.std.proofs.Common.{◌∙◌, ◌≡◌, ap, sym, subst}
 use Rattle.replica_core.specs.Lines.{AreLines}
-use Rattle.replica_core.proofs.Effects.{record_same}
+use Rattle.state_core.specs.State.{state_of}
+use Rattle.replica_core.proofs.Effects.{kept_same}
 use Rattle.replica_core.proofs.replica.Replica.copy.Goals as goal
 
 pub invariant_of-result : goal.invariant_of-result
 invariant_of-result g c =
     let inside = c.self.inside in
     let arrivals : c.in_ok-arrivals.arrivals.items ≡ inside.arrivals.items = c.in_ok-arrivals.ensures ∙ c.as_slice.ensures.arrivals ∙ sym c.self.view_is in
-    record_same inside.arrivals.items c.in_ok-arrivals.arrivals.items inside.lines c.in_ok-lines.lines inside.latest inside.state c.in_ok-state.state arrivals
-    (subst (λ j. AreLines j c.in_ok-lines.lines) (sym arrivals) (subst (AreLines inside.arrivals.items) (sym c.in_ok-lines.ensures) c.self.invariant.lines)) c.in_ok-state.ensures c.self.invariant
+    record {
+      joined = c.in_ok-state.ensures ∙ c.self.invariant.joined ∙ ap state_of (sym arrivals);
+      is_kept = kept_same inside.arrivals.items c.in_ok-arrivals.arrivals.items inside.lines c.in_ok-lines.lines inside.latest arrivals
+          (subst (λ j. AreLines j c.in_ok-lines.lines) (sym arrivals) (subst (AreLines inside.arrivals.items) (sym c.in_ok-lines.ensures) c.self.invariant.is_kept.lines)) c.self.invariant.is_kept;
+    }

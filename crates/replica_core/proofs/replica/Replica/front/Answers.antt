@@ -9,4 +9,4 @@ pub returns : goal.returns
 returns g c =
     let journal = c.self.inside.arrivals.items in
     let lines = c.self.inside.lines in
-    if_ok c.front_of.result (λ front is. subst (IsFront c.args.self.now) (sym is) (subst (λ j. IsFront j (front_of lines)) c.self.view_is (IsFront-lines journal lines c.self.invariant.lines))) c.front_of.ensures
+    if_ok c.front_of.result (λ front is. subst (IsFront c.args.self.now) (sym is) (subst (λ j. IsFront j (front_of lines)) c.self.view_is (IsFront-lines journal lines c.self.invariant.is_kept.lines))) c.front_of.ensures

@@ -6,13 +6,13 @@ use Rattle.replica_core.proofs.Lookups.{line_in}
 use Rattle.replica_core.proofs.replica.Replica.last_seq.Goals as goal
 
 pub find_line-requires : goal.find_line-requires
-find_line-requires g c = c.self.invariant.lines.sorted
+find_line-requires g c = c.self.invariant.is_kept.lines.sorted
 
 pub last_seq-requires : goal.last_seq-requires
 last_seq-requires g c =
     let line = c.in-Some.line.now in
     subst (λ j. IsFiled j line) (sym c.as_slice.ensures.value)
-    (line_in c.self.inside.arrivals.items c.self.inside.lines c.self.invariant.lines line c.in-Some.ensures.0).filed
+    (line_in c.self.inside.arrivals.items c.self.inside.lines c.self.invariant.is_kept.lines line c.in-Some.ensures.0).filed
 
 pub returns-in-Some : goal.returns-in-Some
 returns-in-Some g c =
@@ -22,5 +22,5 @@ returns-in-Some g c =
 
 pub returns-in-None : goal.returns-in-None
 returns-in-None g c =
-    no_seqs c.self.inside.arrivals.items c.self.inside.lines c.self.invariant.lines c.args.row.site c.args.row.start c.in-None.ensures
+    no_seqs c.self.inside.arrivals.items c.self.inside.lines c.self.invariant.is_kept.lines c.args.row.site c.args.row.start c.in-None.ensures
     ∙ ap (λ j. greatest (seqs c.args.row.site c.args.row.start j)) c.self.view_is

@@ -18,7 +18,7 @@ loop-line-init g c =
     record {
       whole = ap (λ l. l ++ lacked journal c.args.front.now c.into_iter-line-iterator.result) c.new-ops.ensures.items
           ∙ ap (lacked journal c.args.front.now) are;
-      each = All-same (IsLine journal) c.into_iter-line-iterator.result lines are c.self.invariant.lines.each;
+      each = All-same (IsLine journal) c.into_iter-line-iterator.result lines are c.self.invariant.is_kept.lines.each;
       room = omega (arith, ap length c.new-ops.ensures.items);
     }
 
@@ -45,7 +45,7 @@ returns-then-branch g c =
     c.in_ok-copy_past.ensures.0 c.in_ok-copy_past.ensures.1 c.if-branch.true in (
       lacked journal front lines,
       subst (λ j. IsMissing j front (lacked journal front lines)) c.self.view_is
-          (IsMissing-lines journal front lines c.self.invariant.lines),
+          (IsMissing-lines journal front lines c.self.invariant.is_kept.lines),
       parts.0,
       parts.1,
     )
@@ -82,7 +82,7 @@ returns g c =
     let parts = nothing_left (lacked journal front lines) c.args.limit (subst (λ (l : List Operation). length l ≤ c.args.limit) all c.loop-line.invariant.room) in (
       lacked journal front lines,
       subst (λ j. IsMissing j front (lacked journal front lines)) c.self.view_is
-          (IsMissing-lines journal front lines c.self.invariant.lines),
+          (IsMissing-lines journal front lines c.self.invariant.is_kept.lines),
       all ∙ parts.0,
       parts.1,
     )

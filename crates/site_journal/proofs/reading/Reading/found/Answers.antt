@@ -1,9 +1,11 @@
-use Rattle.std.proofs.Common.{◌-◌, ap, arith, length}
+use Rattle.std.proofs.Common.{◌-◌, ap, arith, length, subst, sym}
+use Rattle.site_journal.specs.Reading.{HasRead}
 use Rattle.site_journal.proofs.Steps.{read_found}
 use Rattle.site_journal.proofs.reading.Reading.found.Goals as goal
 
-pub returns : goal.returns
-returns c = λ came read all.
-    read_found came c.args.self.replica c.args.self.held.items c.args.self.next
-    (c.args.seen - length c.as_slice-torn.result.now) (length c.as_slice-torn.result.now) read
+pub returns-clause-found : goal.returns-clause-found
+returns-clause-found c = λ came read all.
+    read_found came c.in_ok-joined.field-0 c.args.self.held.items c.args.self.next
+    (c.args.seen - length c.as_slice-torn.result.now) (length c.as_slice-torn.result.now)
+    (subst (λ journal. HasRead came journal c.args.self.held.items c.args.self.next) (sym c.in_ok-joined.ensures) read)
     (ap length c.as_slice-torn.ensures.value) (omega (arith, all, c.requires, ap length c.as_slice-torn.ensures.value))

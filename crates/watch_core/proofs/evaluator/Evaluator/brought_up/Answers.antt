@@ -1,7 +1,7 @@
 use Rattle.std.proofs.Common.{subst, sym, take}
 use Rattle.state_core.specs.State.{state_of}
 use Rattle.ready_core.specs.RankedVerdicts.{AreRankedVerdictsOn}
-use Rattle.watch_core.specs.Namers.{rows_of}
+use Rattle.watch_core.specs.Namers.{namer_rows}
 use Rattle.watch_core.specs.Watching.{AreOfSeen, Watching}
 use Rattle.watch_core.proofs.Following.{all_follow, finds_again, found_once, lists_kept}
 use Rattle.watch_core.proofs.evaluator.Evaluator.brought_up.Goals as goal
@@ -11,7 +11,7 @@ put_in_place-requires-clause-lists g c =
     let journal = c.args.replica.now in
     let own = c.self.inside in
     let were = subst (λ (w : Watching). AreOfSeen w journal c.args.kept) (sym c.self.view_is) c.requires.kept in
-    lists_kept own.gate (state_of (take own.seen journal)) c.args.kept were.verdicts (rows_of own.namers)
+    lists_kept own.gate (state_of (take own.seen journal)) c.args.kept were.verdicts (namer_rows own.namers)
     own.ranks.items were.kept
 
 pub put_in_place-requires-clause-once : goal.put_in_place-requires-clause-once

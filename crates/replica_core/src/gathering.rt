@@ -1,0 +1,149 @@
+//! A journal that is gathered before its state is joined.
+
+ghost use Rattle.std.specs.Prelude.{◌≡◌, ◌++◌, List, IfOk, OnOk, OnErr, length, map};
+ghost use Rattle.std.specs.List.Sorted.{IsPermutation};
+ghost use Rattle.review_ops.specs.Operation.{Operation};
+ghost use Rattle.replica_core.specs.Journal.{arrived, has, taken_of};
+ghost use Rattle.state_core.specs.State.{state_of};
+
+use super::arriving::{Later, arrive};
+use super::line::Line;
+use super::replica::Replica;
+use super::taken::Taken;
+use chunk_list::ChunkList;
+use lattice_core::NoMemory;
+use review_ops::Op;
+use state_core::State;
+use std::alloc::{Allocator, Global};
+use std::marker::Model;
+
+/// A replica to which many operations come before its state is asked for: each is filed as it comes, and `joined` joins
+/// the effects of all of them at the end, change by change. Contracts see the arrivals, as those of a replica.
+#[derive(Drop)]
+pub struct Gathering<A: Allocator + Copy = Global> {
+    arrivals: Vec<Op<A>, A>,
+    lines: ChunkList<Line<A>, A>,
+    latest: u64,
+    state: State<A>,
+    joined: usize,
+    alloc: A,
+}
+
+impl<A: Allocator + Copy> Model for Gathering<A> {
+    ghost use Rattle.std.specs.Prelude.{List};
+    ghost use Rattle.review_ops.specs.Operation.{Operation};
+    ghost use Rattle.replica_core.specs.Record.{IsGathered};
+
+    ghost Value = { List Operation };
+
+    ghost view = { λ g. g.arrivals.items };
+
+    ghost invariant = { λ g. IsGathered g.arrivals.items g.lines g.latest g.state g.joined };
+}
+
+impl<A: Allocator + Copy> Gathering<A> {
+    /// Of a replica, with all that it has. It takes no memory.
+    pub fn onto(replica: Replica<A>) -> Gathering<A>
+        ensures { result ≡ replica }
+    {
+        let Replica {
+            arrivals,
+            lines,
+            latest,
+            state,
+            alloc,
+        } = replica;
+        let joined = arrivals.len();
+        Gathering {
+            arrivals,
+            lines,
+            latest,
+            state,
+            joined,
+            alloc,
+        }
+    }
+
+    /// Adds an operation to the journal, as a replica's `take` does, and leaves its effect for `joined`. Where memory is
+    /// refused nothing changes. In O(log n) for n operations, whatever the order of arrival.
+    pub fn take(&mut self, op: Op<A>) -> Result<Taken, NoMemory>
+        ensures ok { IfOk result (λ taken. (self.new ≡ arrived self.old op) × (taken ≡ taken_of (has self.old op))) }
+        ensures err { OnErr result (self.new ≡ self.old) }
+    {
+        arrive(
+            &mut self.lines,
+            &mut self.arrivals,
+            &mut self.latest,
+            &mut Later,
+            self.alloc,
+            op,
+        )
+    }
+
+    /// How many operations the journal has.
+    pub fn len(&self) -> usize
+        ensures { result ≡ length self.now }
+    {
+        self.arrivals.len()
+    }
+
+    /// The allocator that the journal and the state take memory from.
+    pub fn allocator(&self) -> A {
+        self.alloc
+    }
+
+    /// The replica of all that came. Where memory is refused all of it is dropped. It sorts references to what came
+    /// since `onto`, which takes O(n) memory and costs O(n log n) for n operations, beside what the state's `take` costs
+    /// for each.
+    pub fn joined(self) -> Result<Replica<A>, NoMemory>
+        ensures { IfOk result (λ replica. replica ≡ self) }
+    {
+        let Gathering {
+            arrivals,
+            lines,
+            latest,
+            mut state,
+            joined,
+            alloc,
+        } = self;
+        join_later(&mut state, alloc, arrivals.as_slice().split_at(joined).1)?;
+        Ok(Replica {
+            arrivals,
+            lines,
+            latest,
+            state,
+            alloc,
+        })
+    }
+}
+
+/// Joins the effects of operations into the state of those before, change by change. Where memory is refused some of
+/// them are joined, not all.
+fn join_later<A: Allocator + Copy>(
+    state: &mut State<A>,
+    alloc: A,
+    ops: &[Op<A>],
+) -> Result<(), NoMemory>
+    ensures { OnOk result ((before : List Operation) → state.old ≡ state_of before
+        → state.new ≡ state_of (before ++ ops.now)) }
+{
+    for (_, op) in &by_change(alloc, ops)? {
+        state.take(op)?;
+    }
+    Ok(())
+}
+
+/// References to the operations in the order of their changes, with these.
+fn by_change<A: Allocator + Copy>(
+    alloc: A,
+    ops: &[Op<A>],
+) -> Result<Vec<(u32, &Op<A>), A>, NoMemory>
+    ensures { IfOk result (λ sorted. IsPermutation ops.now (map (λ one. one.1.now) sorted.items)) }
+{
+    let mut sorted = Vec::with_capacity(alloc, ops.len())?;
+    for op in ops {
+        sorted.push((op.body().change(), op))?;
+    }
+    sorted.sort_unstable_by_key(|one| one.0);
+    Ok(sorted)
+}

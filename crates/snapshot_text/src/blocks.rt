@@ -1,0 +1,191 @@
+//! Reads the text of a snapshot, block by block.
+
+ghost use Rattle.std.specs.Prelude.{◌≡◌, ◌≤◌, ◌<◌, ◌+◌, ◌-◌, ◌^◌, ◌∷◌, ◌++◌, [], ℕ, List, length, IfOk, IfErr, OnOk};
+ghost use Rattle.std.specs.Prelude.{MatchOption};
+ghost use Rattle.byte_ends.specs.Lines.{as_line, lines_of, without_cr};
+ghost use Rattle.line_reader.specs.Lines.{HasFirstLf, HasNoLf};
+ghost use Rattle.review_ops.specs.Operation.{Operation};
+ghost use Rattle.replica_core.specs.Journal.{all_arrived};
+ghost use Rattle.snapshot_text.specs.Progress.{HasCut, HasRead, HasTaken, IsFaultIn};
+ghost use Rattle.snapshot_text.specs.Snapshot.{SaysOperations};
+
+use super::fault::SnapFault;
+use super::progress::Progress;
+use byte_ends::Lines;
+use memchr::memchr;
+use replica_core::Replica;
+use std::alloc::Global;
+
+/// How far the text of a snapshot was read, or its first fault, after which nothing more of it is kept.
+#[derive(Drop)]
+pub(super) struct Blocks {
+    pub(super) cutter: Cutter,
+    pub(super) fault: Option<SnapFault>,
+}
+
+impl Blocks {
+    /// Before the text: operations will arrive after what the replica has.
+    pub(super) fn onto(replica: Replica) -> Blocks
+        ensures read { HasRead replica [] result }
+        ensures count { result.cutter.progress.count ≡ 0 }
+    {
+        Blocks {
+            cutter: Cutter::onto(replica),
+            fault: None,
+        }
+    }
+
+    /// Reads the bytes that come next.
+    pub(super) fn take_block(&mut self, block: &[u8])
+        requires { self.old.cutter.progress.count + length block.now < 2 ^ 64 - 2 }
+        ensures read { (base : List Operation) → (came : List ℕ) → HasRead base came self.old
+            → HasRead base (came ++ block.now) self.new }
+        ensures few { self.new.cutter.progress.count ≤ self.old.cutter.progress.count + length block.now }
+    {
+        if self.fault.is_some() {
+            return;
+        }
+        self.fault = self.cutter.take_block(block).err();
+    }
+
+    /// The replica to which all operations came, where no byte is left.
+    pub(super) fn end(self) -> Result<Replica, SnapFault>
+        requires { self.cutter.progress.count < 2 ^ 64 - 2 }
+        ensures ok { IfOk result (λ replica. (base : List Operation) → (came : List ℕ) → HasRead base came self
+            → (ops : List Operation) × SaysOperations (lines_of came) ops × (replica ≡ all_arrived base ops)) }
+        ensures err { IfErr result (λ fault. (base : List Operation) → (came : List ℕ) → HasRead base came self
+            → IsFaultIn (lines_of came) fault) }
+    {
+        let Blocks { cutter, fault } = self;
+        match fault {
+            Some(fault) => Err(fault),
+            None => cutter.end(),
+        }
+    }
+}
+
+/// Cuts what comes into lines, and holds the beginning of the next one.
+#[derive(Drop)]
+pub(super) struct Cutter {
+    pub(super) progress: Progress,
+    pub(super) held: Vec<u8>,
+}
+
+impl Cutter {
+    /// Before the text.
+    fn onto(replica: Replica) -> Cutter
+        ensures cut { HasCut replica [] result }
+        ensures count { result.progress.count ≡ 0 }
+    {
+        let alloc = replica.allocator();
+        Cutter {
+            progress: Progress::onto(replica),
+            held: Vec::new(alloc),
+        }
+    }
+
+    /// Takes the lines that end in the bytes that come next.
+    fn take_block(&mut self, block: &[u8]) -> Result<(), SnapFault>
+        requires { self.old.progress.count + length block.now < 2 ^ 64 - 2 }
+        ensures ok { OnOk result ((base : List Operation) → (came : List ℕ) → HasCut base came self.old
+            → HasCut base (came ++ block.now) self.new) }
+        ensures err { IfErr result (λ fault. (base : List Operation) → (came : List ℕ) → HasCut base came self.old
+            → (later : List ℕ) → IsFaultIn (lines_of ((came ++ block.now) ++ later)) fault) }
+        ensures few { self.new.progress.count ≤ self.old.progress.count + length block.now }
+    {
+        let mut rest = block;
+        while let Some(at) = first_lf(rest) {
+            self.take_piece(rest.split_at(at).0)?;
+            rest = rest.split_at(at + 1).1;
+        }
+        self.hold(rest)
+    }
+
+    /// Takes a line, of which what isn't held yet comes with its LF.
+    fn take_piece(&mut self, piece: &[u8]) -> Result<(), SnapFault>
+        requires plain { HasNoLf piece.now }
+        requires few { self.old.progress.count < 2 ^ 64 - 2 }
+        ensures ok { OnOk result ((base : List Operation) → (came : List ℕ) → HasCut base came self.old
+            → HasCut base (came ++ as_line piece.now) self.new) }
+        ensures err { IfErr result (λ fault. (base : List Operation) → (came : List ℕ) → HasCut base came self.old
+            → (later : List ℕ) → IsFaultIn (lines_of ((came ++ as_line piece.now) ++ later)) fault) }
+        ensures few { self.new.progress.count ≤ self.old.progress.count + 1 }
+    {
+        if self.held.is_empty() {
+            return self.progress.take_line(line_of(piece));
+        }
+        self.hold(piece)?;
+        self.take_held()
+    }
+
+    /// Takes the line that is held, whose LF came.
+    fn take_held(&mut self) -> Result<(), SnapFault>
+        requires { self.old.progress.count < 2 ^ 64 - 2 }
+        ensures ok { OnOk result ((base : List Operation) → (came : List ℕ) → HasCut base came self.old
+            → HasCut base (came ++ 10 ∷ []) self.new) }
+        ensures err { IfErr result (λ fault. (base : List Operation) → (came : List ℕ) → HasCut base came self.old
+            → (later : List ℕ) → IsFaultIn (lines_of ((came ++ 10 ∷ []) ++ later)) fault) }
+        ensures few { self.new.progress.count ≤ self.old.progress.count + 1 }
+    {
+        self.progress.take_line(line_of(self.held.as_slice()))?;
+        self.held.clear();
+        Ok(())
+    }
+
+    /// Holds more of the next line.
+    fn hold(&mut self, piece: &[u8]) -> Result<(), SnapFault>
+        requires { HasNoLf piece.now }
+        ensures ok { OnOk result ((base : List Operation) → (came : List ℕ) → HasCut base came self.old
+            → HasCut base (came ++ piece.now) self.new) }
+        ensures err { IfErr result (λ fault. fault ≡ SnapFault.NoMemory) }
+        ensures same { self.new.progress ≡ self.old.progress }
+    {
+        match self.held.extend_from_slice(piece) {
+            Ok(()) => Ok(()),
+            Err(_) => Err(SnapFault::NoMemory),
+        }
+    }
+
+    /// The replica to which all operations came: what is held is the last line, which has no LF.
+    fn end(mut self) -> Result<Replica, SnapFault>
+        requires { self.progress.count < 2 ^ 64 - 2 }
+        ensures ok { IfOk result (λ replica. (base : List Operation) → (came : List ℕ) → HasCut base came self
+            → (ops : List Operation) × SaysOperations (lines_of came) ops × (replica ≡ all_arrived base ops)) }
+        ensures err { IfErr result (λ fault. (base : List Operation) → (came : List ℕ) → HasCut base came self
+            → IsFaultIn (lines_of came) fault) }
+    {
+        self.take_last()?;
+        self.progress.end()
+    }
+
+    /// Takes what is held as the last line, unless nothing is.
+    fn take_last(&mut self) -> Result<(), SnapFault>
+        requires { self.old.progress.count < 2 ^ 64 - 2 }
+        ensures ok { OnOk result ((base : List Operation) → (came : List ℕ) → HasCut base came self.old
+            → HasTaken base (lines_of came) self.new.progress) }
+        ensures err { IfErr result (λ fault. (base : List Operation) → (came : List ℕ) → HasCut base came self.old
+            → IsFaultIn (lines_of came) fault) }
+    {
+        if self.held.is_empty() {
+            return Ok(());
+        }
+        self.progress.take_line(line_of(self.held.as_slice()))
+    }
+}
+
+/// The place of the first LF.
+fn first_lf(bytes: &[u8]) -> Option<usize>
+    ensures { MatchOption result (HasNoLf bytes.now) (HasFirstLf bytes.now) }
+{
+    memchr(b'\n', bytes)
+}
+
+/// The line of a piece without an LF: one carriage return at its end is dropped.
+fn line_of(piece: &[u8]) -> &[u8]
+    ensures { HasNoLf piece.now → result.now ≡ without_cr piece.now }
+{
+    match Lines::new(piece).next_line() {
+        Some(line) => line,
+        None => piece,
+    }
+}

@@ -1,0 +1,169 @@
+//! Takes the lines of a snapshot, one after the other.
+
+ghost use Rattle.std.specs.Prelude.{◌≡◌, ◌≢◌, ◌↔◌, ◌≤◌, ◌<◌, ◌+◌, ◌-◌, ◌^◌, ◌∷◌, ◌++◌, [], ℕ, List, IsTrue, IfOk};
+ghost use Rattle.std.specs.Prelude.{IfErr, MatchResult, OnOk};
+ghost use Rattle.review_ops.specs.Operation.{Operation};
+ghost use Rattle.op_text.specs.Spelling.{SpellsOperation};
+ghost use Rattle.replica_core.specs.Journal.{arrived, all_arrived};
+ghost use Rattle.snapshot_text.specs.Progress.{HasTaken, IsFaultIn};
+ghost use Rattle.snapshot_text.specs.Reading.{IsLineFault, line_fault_of};
+ghost use Rattle.snapshot_text.specs.Snapshot.{IsHeader, SaysOperations};
+
+use super::end_line::claimed;
+use super::fault::SnapFault;
+use op_text::{OpTextFault, read_op};
+use replica_core::{Gathering, Replica};
+use std::alloc::Global;
+
+/// Which line comes next.
+#[derive(Clone, Copy)]
+pub(super) enum Stage {
+    /// The first line, which says the version.
+    Header,
+    /// An operation's line or the end line.
+    Operations,
+    /// None: the end line came.
+    Ended,
+}
+
+/// What was taken of a snapshot's lines so far: their operations, and how many lines of operations there were.
+#[derive(Drop)]
+pub(super) struct Progress {
+    pub(super) gathering: Gathering,
+    pub(super) stage: Stage,
+    pub(super) count: u64,
+}
+
+impl Progress {
+    /// Before the first line: operations will arrive after what the replica has.
+    pub(super) fn onto(replica: Replica) -> Progress
+        ensures taken { HasTaken replica [] result }
+        ensures count { result.count ≡ 0 }
+    {
+        Progress {
+            gathering: Gathering::onto(replica),
+            stage: Stage::Header,
+            count: 0,
+        }
+    }
+
+    /// Takes the next line.
+    pub(super) fn take_line(&mut self, line: &[u8]) -> Result<(), SnapFault>
+        requires { self.old.count < 2 ^ 64 - 2 }
+        ensures ok { OnOk result ((base : List Operation) → (lines : List (List ℕ)) → HasTaken base lines self.old
+            → HasTaken base (lines ++ line.now ∷ []) self.new) }
+        ensures err { IfErr result (λ fault. (base : List Operation) → (lines : List (List ℕ))
+            → HasTaken base lines self.old
+            → (later : List (List ℕ)) → IsFaultIn (lines ++ line.now ∷ later) fault) }
+        ensures few { self.new.count ≤ self.old.count + 1 }
+    {
+        match self.stage {
+            Stage::Header => self.take_header(line),
+            Stage::Operations => match claimed(line) {
+                Some(said) => self.take_end(said),
+                None => self.take_operation(line),
+            },
+            Stage::Ended => Err(SnapFault::AfterEnd),
+        }
+    }
+
+    /// The replica to which all operations came, where no line is left.
+    pub(super) fn end(self) -> Result<Replica, SnapFault>
+        ensures ok { IfOk result (λ replica. (base : List Operation) → (lines : List (List ℕ))
+            → HasTaken base lines self
+            → (ops : List Operation) × SaysOperations lines ops × (replica ≡ all_arrived base ops)) }
+        ensures err { IfErr result (λ fault. (base : List Operation) → (lines : List (List ℕ))
+            → HasTaken base lines self → IsFaultIn lines fault) }
+    {
+        match self.stage {
+            Stage::Header => Err(SnapFault::BadHeader),
+            Stage::Operations => Err(SnapFault::NoEnd),
+            Stage::Ended => joined(self.gathering),
+        }
+    }
+
+    /// Takes the first line.
+    fn take_header(&mut self, line: &[u8]) -> Result<(), SnapFault>
+        ensures header { MatchResult result
+            (λ _. IsHeader line.now × (self.new ≡ record self.old { stage = Stage.Operations }))
+            (λ fault. (¬ IsHeader line.now) × (fault ≡ SnapFault.BadHeader)) }
+        ensures count { self.new.count ≡ self.old.count }
+    {
+        if !is_header(line) {
+            return Err(SnapFault::BadHeader);
+        }
+        self.stage = Stage::Operations;
+        Ok(())
+    }
+
+    /// Takes an end line that says this number.
+    fn take_end(&mut self, said: u128) -> Result<(), SnapFault>
+        ensures end { MatchResult result
+            (λ _. (said ≡ self.old.count) × (self.new ≡ record self.old { stage = Stage.Ended }))
+            (λ fault. (said ≢ self.old.count) × (fault ≡ SnapFault.BadCount)) }
+        ensures count { self.new.count ≡ self.old.count }
+    {
+        if said != u128::from(self.count) {
+            return Err(SnapFault::BadCount);
+        }
+        self.stage = Stage::Ended;
+        Ok(())
+    }
+
+    /// Takes the line of an operation, whose number is that of those before it and two more.
+    fn take_operation(&mut self, line: &[u8]) -> Result<(), SnapFault>
+        requires { self.old.count < 2 ^ 64 - 2 }
+        ensures ok { OnOk result ((op : Operation) × SpellsOperation line.now op
+            × (self.new ≡ record self.old { gathering = arrived self.old.gathering op; count = self.old.count + 1 })) }
+        ensures err { IfErr result (IsLineFault line.now (self.old.count + 2)) }
+        ensures count { self.new.count ≤ self.old.count + 1 }
+    {
+        take_op(&mut self.gathering, line, self.count + 2)?;
+        self.count += 1;
+        Ok(())
+    }
+}
+
+/// Takes the operation of the line with this number.
+fn take_op(gathering: &mut Gathering, line: &[u8], number: u64) -> Result<(), SnapFault>
+    ensures ok { OnOk result ((op : Operation) × SpellsOperation line.now op
+        × (gathering.new ≡ arrived gathering.old op)) }
+    ensures err { IfErr result (IsLineFault line.now number) }
+{
+    let op = match read_op(gathering.allocator(), line) {
+        Ok(op) => op,
+        Err(cause) => return Err(line_fault(number, cause)),
+    };
+    match gathering.take(op) {
+        Ok(_) => Ok(()),
+        Err(_) => Err(SnapFault::NoMemory),
+    }
+}
+
+/// How it is reported that the line with this number isn't read.
+fn line_fault(number: u64, cause: OpTextFault) -> SnapFault
+    ensures { result ≡ line_fault_of number cause }
+{
+    match cause {
+        OpTextFault::NoMemory => SnapFault::NoMemory,
+        cause => SnapFault::BadLine(number, cause),
+    }
+}
+
+/// Whether a line is the header of a version that is read.
+fn is_header(line: &[u8]) -> bool
+    ensures { IsTrue result ↔ IsHeader line.now }
+{
+    line == b"reviewgate 1".as_slice() || line == b"reviewgate 2".as_slice()
+}
+
+/// The replica to which all came that was taken.
+fn joined(gathering: Gathering) -> Result<Replica, SnapFault>
+    ensures { MatchResult result
+        (λ replica. replica ≡ gathering) (λ fault. fault ≡ SnapFault.NoMemory) }
+{
+    match gathering.joined() {
+        Ok(replica) => Ok(replica),
+        Err(_) => Err(SnapFault::NoMemory),
+    }
+}
