@@ -49,7 +49,7 @@ impl Session {
     }
 }
 
-/// Takes a second over so many connections, for so many seconds, of changes from `first` on.
+/// Takes a second over so many connections, for so many seconds, of changes from `first` on, each of a part of its own.
 fn takes(port: u16, connections: u32, seconds: u64, first: u32) -> f64 {
     let workers: Vec<_> = (0..connections)
         .map(|connection| {
@@ -57,7 +57,7 @@ fn takes(port: u16, connections: u32, seconds: u64, first: u32) -> f64 {
                 let mut session = Session::open(port);
                 let (began, mut count) = (Instant::now(), 0u32);
                 while began.elapsed() < Duration::from_secs(seconds) {
-                    session.take(first + connection * 10_000_000 + count);
+                    session.take(first + connection * (4_000_000_000 / connections) + count);
                     count += 1;
                 }
                 f64::from(count) / began.elapsed().as_secs_f64()
@@ -65,6 +65,12 @@ fn takes(port: u16, connections: u32, seconds: u64, first: u32) -> f64 {
         })
         .collect();
     workers.into_iter().map(|worker| worker.join().expect("a worker")).sum()
+}
+
+/// Takes a second over so many connections, beside so many sessions that are open and silent.
+fn takes_in_crowd(port: u16, silent: u32, connections: u32, seconds: u64, first: u32) -> f64 {
+    let _crowd: Vec<Session> = (0..silent).map(|_| Session::open(port)).collect();
+    takes(port, connections, seconds, first)
 }
 
 /// Reports a second.
@@ -104,6 +110,10 @@ fn main() {
         "takes" => println!(
             "{:.0}",
             takes(number(1) as u16, number(2), u64::from(number(3)), number(4))
+        ),
+        "crowd" => println!(
+            "{:.0}",
+            takes_in_crowd(number(1) as u16, number(2), number(3), u64::from(number(4)), number(5))
         ),
         "fill" => {
             let mut session = Session::open(number(1) as u16);

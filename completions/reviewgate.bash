@@ -9,7 +9,7 @@ _reviewgate() {
             footers) words="--change --help" ;;
             graph) words="--around --help" ;;
             serve)
-                words="--site --start --port --workers --pause --sessions --idle --until-input-ends --load --save --journal --help"
+                words="--site --start --port --workers --pause --sessions --idle --connections --until-input-ends --load --save --journal --help"
                 ;;
             *) words="--help" ;;
         esac

@@ -25,6 +25,7 @@ pub record AreOptions (rows : List Row) (words : ServeWords) : Type 0 where
   pub pause : GivesNumber rows (codes "pause") 1 600000 words.pause_ms
   pub sessions : GivesNumber rows (codes "sessions") 0 18446744073709551615 words.sessions
   pub idle : GivesNumber rows (codes "idle") 0 18446744073709551615 words.idle_ms
+  pub connections : GivesNumber rows (codes "connections") 1 65535 words.connections
   pub ending : IsTrue words.until_input_ends ↔ HasFlag rows (codes "until-input-ends")
   pub load : first_of (codes "load") rows ≡ option_map (λ name. name.now) words.load
   pub save : first_of (codes "save") rows ≡ option_map (λ name. name.now) words.save

@@ -75,7 +75,7 @@ pub struct ServeWords<'a> {
     pub start: Option<u32>,
     /// The port that it listens at; 0 for one that is free.
     pub port: u16,
-    /// How many sessions it answers side by side, from 1 to 6.
+    /// How many threads look at its record for sessions, from 1 to 6.
     pub workers: usize,
     /// How many milliseconds pass between two rounds of pulls, from 1 to 600,000.
     pub pause_ms: u64,
@@ -83,6 +83,8 @@ pub struct ServeWords<'a> {
     pub sessions: u64,
     /// How many milliseconds a session may be silent; 0 is without end.
     pub idle_ms: u64,
+    /// How many connections may be open at once, from 1 to 65,535.
+    pub connections: usize,
     /// Whether it ends with the standard input.
     pub until_input_ends: bool,
     /// The name of the snapshot to begin with.

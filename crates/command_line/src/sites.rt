@@ -8,7 +8,7 @@ ghost use Rattle.command_line.specs.declared.asked.ServeWords.{ServeWords};
 
 use super::asked::{Asked, ServeWords};
 use super::numbers::{any_long_in, number_in, short_in, shorts_in};
-use command_tree::{IDLE, PAUSE, PEER, PORT, SESSIONS, SITE, START, Values, WORKERS};
+use command_tree::{CONNECTIONS, IDLE, PAUSE, PEER, PORT, SESSIONS, SITE, START, Values, WORKERS};
 use std::alloc::{AllocError, Global};
 
 /// `serve GATE [PEER].. --site N [option]..`
@@ -42,6 +42,7 @@ fn serving_in<'a>(values: &Values<'a>, peers: Vec<u16>) -> Option<ServeWords<'a>
         pause_ms: number_in(values, PAUSE)?,
         sessions: number_in(values, SESSIONS)?,
         idle_ms: number_in(values, IDLE)?,
+        connections: number_in(values, CONNECTIONS)? as usize,
         until_input_ends: values.flag("until-input-ends"),
         load: values.text("load"),
         save: values.text("save"),

@@ -60,7 +60,9 @@ paced_app =
 -- with what ends its sessions and itself
 abbrev pub ending_app : App
 ending_app =
-    with_rule (with_rule paced_app (number_with (codes "idle") (codes "0") 0 18446744073709551615))
+    with_rule
+    (with_rule (with_rule paced_app (number_with (codes "idle") (codes "0") 0 18446744073709551615))
+    (number_with (codes "connections") (codes "1024") 1 65535))
     (flag_rule (codes "until-input-ends"))
 
 -- with the files that keep its record

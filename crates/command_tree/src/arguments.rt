@@ -44,7 +44,7 @@ pub const PEER: Number = Number {
     most: 65_535,
 };
 
-/// How many sessions a site answers side by side.
+/// How many threads look at a site's record for its sessions.
 pub const WORKERS: Number = Number {
     name: "workers",
     least: 1,
@@ -63,6 +63,13 @@ pub const SESSIONS: Number = Number {
     name: "sessions",
     least: 0,
     most: u64::MAX,
+};
+
+/// How many connections may be open at once.
+pub const CONNECTIONS: Number = Number {
+    name: "connections",
+    least: 1,
+    most: 65_535,
 };
 
 /// How many milliseconds a session may be silent.

@@ -5,7 +5,7 @@ ghost use Rattle.command_tree.specs.Commands.{IsApp, ending_app, paced_app, peer
 ghost use Rattle.command_tree.specs.Rules.{IsRule, needed_number};
 
 use super::arguments::{
-    IDLE, PAUSE, PEER, PORT, SESSIONS, SITE, START, WORKERS, default_option, file, flag,
+    CONNECTIONS, IDLE, PAUSE, PEER, PORT, SESSIONS, SITE, START, WORKERS, default_option, file, flag,
     number_option, numbers, option,
 };
 use super::program::GATE_HELP;
@@ -44,13 +44,20 @@ fn ending_command<'a>(alloc: Global) -> Result<Command<'a>, AllocError>
         "MS",
         "How long a session may be silent; 0 is without end",
     );
+    let connections = default_option(
+        alloc,
+        CONNECTIONS,
+        "1024",
+        "N",
+        "How many connections may be open at once, 1 to 65535",
+    );
     let ending = flag(
         alloc,
         "until-input-ends",
         "Ends in order with standard input, or at its line stop",
     );
     let paced = paced_command(alloc)?;
-    paced.arg(idle)?.arg(ending)
+    paced.arg(idle)?.arg(connections)?.arg(ending)
 }
 
 /// The command with what the site is, where it is reached and how it works.
@@ -62,7 +69,7 @@ fn paced_command<'a>(alloc: Global) -> Result<Command<'a>, AllocError>
         WORKERS,
         "2",
         "N",
-        "How many sessions side by side, 1 to 6",
+        "How many threads answer ready, state and front, 1 to 6",
     );
     let pause = default_option(
         alloc,

@@ -2,7 +2,7 @@
 use Rattle.std.specs.Prelude.{ℕ, List, ◌++◌, codes, decimal}
 use Rattle.refusal_line.specs.declared.part.Part.{Part}
 use Rattle.refusal_line.specs.declared.part.Part.TheVariants.{Events, File, Gate, Item, Journal, Memory, Output, Peer}
-use Rattle.refusal_line.specs.declared.part.Part.TheVariants.{Script, Serve, Session, Snapshot, Workers}
+use Rattle.refusal_line.specs.declared.part.Part.TheVariants.{Script, Serve, Session, Snapshot}
 
 -- the part's name
 abbrev pub name_of : Part → List ℕ
@@ -15,7 +15,6 @@ name_of Item = codes "item"
 name_of Output = codes "output"
 name_of Memory = codes "memory"
 name_of Serve = codes "serve"
-name_of Workers = codes "workers"
 name_of Session = codes "session"
 name_of Peer = codes "peer"
 name_of Events = codes "events"

@@ -23,8 +23,6 @@ pub enum Part {
     Memory,
     /// A site as a whole.
     Serve,
-    /// The workers of a site.
-    Workers,
     /// A session of a site.
     Session,
     /// A pull from a peer of a site.
@@ -50,7 +48,6 @@ impl Part {
             Part::Output => "output",
             Part::Memory => "memory",
             Part::Serve => "serve",
-            Part::Workers => "workers",
             Part::Session => "session",
             Part::Peer => "peer",
             Part::Events => "events",

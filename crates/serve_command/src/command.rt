@@ -194,7 +194,7 @@ fn setup_of(serving: ServeWords<'_>, start: u32, gate: Gate, replica: Replica) -
     ensures stamps { (result.site ≡ serving.entry.site) × (result.start ≡ start) }
     ensures peers { (result.peers ≡ serving.entry.peers) × (result.pause_ms ≡ serving.entry.pause_ms) }
     ensures sessions { (result.workers ≡ serving.entry.workers) × (result.sessions ≡ serving.entry.sessions)
-        × (result.idle_ms ≡ serving.entry.idle_ms) }
+        × (result.idle_ms ≡ serving.entry.idle_ms) × (result.connections ≡ serving.entry.connections) }
 {
     let ServeWords {
         peers,
@@ -203,6 +203,7 @@ fn setup_of(serving: ServeWords<'_>, start: u32, gate: Gate, replica: Replica) -
         pause_ms,
         sessions,
         idle_ms,
+        connections,
         ..
     } = serving;
     Setup {
@@ -215,6 +216,7 @@ fn setup_of(serving: ServeWords<'_>, start: u32, gate: Gate, replica: Replica) -
         pause_ms,
         sessions,
         idle_ms,
+        connections,
     }
 }
 

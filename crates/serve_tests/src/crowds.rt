@@ -3,8 +3,9 @@
 use super::sites::{
     NoTurn, PASS_ON, ending, listening, one_session, pulling, run_one, stall, talk, text_of,
 };
+use byte_ends::Ends;
 use site_net::Stop;
-use site_serve::Setup;
+use site_serve::{Setup, serve_run};
 use std::alloc::Global;
 use std::io::Write;
 use std::net::{Net, Shutdown, TcpListener, TcpStream};
@@ -16,7 +17,7 @@ use std::time::{Clock, Duration, Instant};
 use std::{io, thread};
 
 /// How many clients are silent.
-const SILENT: usize = 200;
+const SILENT: usize = 400;
 
 /// Connects so many clients that say nothing, or only that they are there.
 fn silent_crowd<R: Net<Stream = TcpStream>>(
@@ -115,9 +116,9 @@ fn lines_may_come_in_pieces(rt: HostRuntime) -> Result<(), Fail> {
 }
 
 /// How many bodies are taken in at once.
-const AT_ONCE: u32 = 300;
+const AT_ONCE: u32 = 10_000;
 
-/// The lines of a session that takes in so many bodies, with a look after each hundredth, and what they are answered.
+/// The lines of a session that takes in so many bodies, with a look after each thousandth, and what they are answered.
 fn taking_many(alloc: Global) -> Result<(String, String), Fail> {
     let mut lines = String::new(alloc);
     let mut wanted = String::new(alloc);
@@ -128,7 +129,7 @@ fn taking_many(alloc: Global) -> Result<(String, String), Fail> {
         lines.push_str(line.as_str())?;
         let answer = format!(in alloc; "ok {number},1,1,{number}\n")?;
         wanted.push_str(answer.as_str())?;
-        if number % 100 == 0 {
+        if number % 1000 == 0 {
             let line = format!(in alloc; "front [[1,1,{number}]]\nno command\n")?;
             lines.push_str(line.as_str())?;
             wanted.push_str("done\nno 6 BadCommand\n")?;
@@ -188,5 +189,58 @@ fn who_reads_late_is_answered_all(rt: HostRuntime) -> Result<(), Fail> {
     );
     assert_eq!(rt; ended, Some((1, true, false)));
     assert!(rt; matches!(count, Ok(count) if count > ASKED * 60_000));
+    Ok(())
+}
+
+/// What the clients of a site with one place are answered: one that has it, and one too many.
+fn one_too_many<R: Net<Listener = TcpListener, Stream = TcpStream> + Clock + Wait>(
+    rt: &R,
+    alloc: Global,
+    port: u16,
+    stop: &Stop,
+) -> io::Result<(String, String)> {
+    let mut first = TcpStream::connect(rt, ("127.0.0.1", port))?;
+    first.write_all(b"hello 2\n")?;
+    let _ = thread::sleep(rt, Duration::from_millis(300));
+    let second = TcpStream::connect(rt, ("127.0.0.1", port))?;
+    let refused = io::read_to_string(alloc, second)?;
+    first.write_all(b"quit\n")?;
+    let answers = io::read_to_string(alloc, first)?;
+    stop.ask(rt);
+    Ok((answers, refused))
+}
+
+/// A connection beyond as many as may be open is closed with nothing said, and the session before it goes on.
+#[test]
+fn a_connection_too_many_is_closed(rt: HostRuntime) -> Result<(), Fail> {
+    let alloc = rt.alloc();
+    let (listener, port) = listening(&rt)?;
+    let mut setup = pulling(alloc, 1, &[])?;
+    setup.connections = 1;
+    let stop = Stop::new();
+    let mut errors = Ends::new(Vec::new(alloc));
+    let output = Ends::new(Vec::new(alloc));
+    let (ended, answered) = thread::join(
+        &rt,
+        || ending(serve_run(
+            &rt,
+            alloc,
+            listener,
+            setup,
+            &stop,
+            output,
+            &mut errors,
+            &NoTurn,
+        )),
+        || one_too_many(&rt, alloc, port, &stop),
+    );
+    let (answers, refused) = answered?;
+    assert_eq!(rt; ended, Some((0, true, false)));
+    assert_eq!(rt; answers.as_str(), "hello 2\nbye\n");
+    assert_eq!(rt; refused.as_str(), "");
+    assert_eq!(rt;
+        errors.get_ref().as_slice(),
+        b"reviewgate: session 9 TooMany 1\n".as_slice()
+    );
     Ok(())
 }

@@ -43,6 +43,7 @@ where
         pause_ms: 50,
         sessions,
         idle_ms: 0,
+        connections: 1024,
     };
     let (output, errors) = (Ends::new(Vec::new(alloc)), Ends::new(Vec::new(alloc)));
     let stop = Stop::new();

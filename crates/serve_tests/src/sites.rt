@@ -55,6 +55,7 @@ pub fn one_session(alloc: Global, site: u16) -> Result<Setup, Fail> {
         pause_ms: 50,
         sessions: 1,
         idle_ms: 0,
+        connections: 1024,
     })
 }
 

@@ -9,10 +9,20 @@ use Rattle.replica_core.specs.Missing.{IsMissing}
 use Rattle.review_ops.specs.Operation.{Operation}
 use Rattle.site_port.specs.Ports.{Call, Reply, IsLookingFault, takes_in, lacks, reports, looks, stamped, lacked, judged}
 use Rattle.site_port.specs.Ports.{looked, refused}
+use Rattle.site_port.specs.declared.fault.PortFault.{PortFault}
+use Rattle.site_port.specs.declared.fault.PortFault.TheVariants as port
 use Rattle.site_port.specs.Sinks.{Offer, Uptake, fronts, reached}
 use Rattle.site_shared.specs.Accounts.{GoesOn, Outlook}
 use Rattle.site_shared.specs.Publishes.{arrive}
+use Rattle.site_shared.specs.declared.fault.DeskFault.{DeskFault}
+use Rattle.site_shared.specs.declared.fault.DeskFault.TheVariants as desk
 use Rattle.state_core.specs.State.{state_of}
+
+-- how a session is answered what the desk refuses
+abbrev pub fault_of : DeskFault → PortFault
+fault_of desk.ClockSpent = port.ClockSpent
+fault_of (desk.BadBody cause) = port.BadBody cause
+fault_of (desk.NoMemory count) = port.NoMemory
 
 -- what is answered at a moment at which the window has seen so much
 abbrev pub SaysAtMoment : GateRules → List (List Operation) → Call → Reply → Type 0

@@ -4,7 +4,7 @@ ghost use Rattle.std.specs.Prelude.{◌≡◌, ◌+◌, ◌<◌, ◌≤◌, [], 
 ghost use Rattle.std.specs.Prelude.{vec_capacity, vec_len};
 ghost use Rattle.std.specs.Arc.{arc_value};
 ghost use Rattle.replica_core.specs.JournalLaws.{IsPartOf};
-ghost use Rattle.site_serve.specs.Acknowledged.{IsHeldBy, IsTakenInto, asker_of, has_stamped};
+ghost use Rattle.site_serve.specs.Acknowledged.{AddsOne, IsHeldBy, IsTakenInto, asker_of, has_stamped};
 ghost use Rattle.site_shared.specs.Accounts.{receipt_of, record_of};
 ghost use Rattle.site_shared.specs.Publishes.{arrive};
 
@@ -58,7 +58,7 @@ impl<'a, J: Naming> Replies<'a, J> {
 /// The receipt of a publish that threads share, or why there was none.
 pub type Published<J> = Result<Arc<BrandedReceipt<J>, Global>, DeskFault>;
 
-/// Holds what is asked: who asked waits from now on.
+/// Holds what is asked: who asked waits from now on, after those who wait already.
 pub fn hold_more<J: Naming, K: Keeps>(
     ledger: &mut OwnLedger<J, K>,
     ask: Ask,
@@ -67,6 +67,7 @@ pub fn hold_more<J: Naming, K: Keeps>(
     requires held { All (λ waiter. IsHeldBy ledger.old.ledger.account waiter.held) waiters.old.items }
     requires room { vec_len waiters.old < vec_capacity waiters.old }
     ensures held { All (λ waiter. IsHeldBy ledger.new.ledger.account waiter.held) waiters.new.items }
+    ensures last { AddsOne (asker_of ask) waiters.old.items waiters.new.items }
     ensures one { vec_len waiters.new ≡ vec_len waiters.old + 1 }
     ensures room { vec_capacity waiters.new ≡ vec_capacity waiters.old }
 {

@@ -31,9 +31,9 @@ impl<E: Drain> Errors<E> {
         }
     }
 
-    /// Writes that every worker answers a session, so that the next one waits.
-    pub fn all_busy(&self, rt: &impl Wait, alloc: Global) {
-        if let Ok(line) = refusal_line(alloc, Part::Workers, 1, "AllBusy") {
+    /// Writes that a connection was closed, since as many as may be are open.
+    pub fn too_many(&self, rt: &impl Wait, alloc: Global, open: usize) {
+        if let Ok(line) = line_about(alloc, Part::Session, 9, "TooMany", open as u64) {
             self.write(rt, line.as_str());
         }
     }

@@ -19,9 +19,15 @@ use std::io;
 use std::sync::Wait;
 use std::time::{Clock, Duration, Instant};
 
-/// How many times as long as a report took to make its thread rests before the next one: the desk may have to wait for
-/// a window that is looked through, so that reports hold it up for a fifth of the time.
-const REST: u32 = 4;
+/// How many times as long as a report took to make its thread rests before the next one. A publish may have to wait for
+/// a window that is looked through, so that reports hold up takes for a twentieth of the time.
+const REST: u32 = 19;
+
+/// The longest such rest in seconds, and how many times as long as a report took it rests at least: where a report takes
+/// long, so that it is fresher, it may hold up takes for a fifth of the time.
+const LONG_REST_S: u64 = 5;
+
+const LEAST_REST: u32 = 4;
 
 /// The longest rest in seconds.
 const LONGEST_REST_S: u64 = 60;
@@ -87,6 +93,8 @@ fn rest_since<R: Clock>(rt: &R, begun: io::Result<Instant>) -> Duration {
     match begun.and_then(|begun| begun.elapsed(rt)) {
         Ok(took) => took
             .saturating_mul(REST)
+            .min(Duration::from_secs(LONG_REST_S))
+            .max(took.saturating_mul(LEAST_REST))
             .min(Duration::from_secs(LONGEST_REST_S)),
         Err(_) => Duration::ZERO,
     }

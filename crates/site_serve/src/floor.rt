@@ -38,6 +38,9 @@ const TICK_MS: u64 = 100;
 /// How many milliseconds are left to write what waits once the site stops.
 const LAST_MS: u64 = 400;
 
+/// How many bytes of answers may wait to be read before no more looks are begun: 256 MiB.
+const WAITING_ANSWERS: usize = 268_435_456;
+
 /// How many bytes are read at once.
 const BLOCK: usize = 65_536;
 
@@ -58,9 +61,13 @@ pub struct Floor {
     patience: Patience,
     /// How many sessions there are to be; without end where that is 0.
     most: u64,
+    /// How many connections may be open at once.
+    connections: usize,
     accepted: u64,
     ended: u64,
     may_accept: bool,
+    /// Whether there was room for the answers of more looks when the clock was looked at.
+    has_room: bool,
     is_rung: bool,
     /// How long the loop has run, when it last looked at the clock for its sessions, when it last said that all places
     /// are taken, and when it was stopped.
@@ -79,6 +86,8 @@ pub struct House {
     pub patience: Patience,
     /// How many sessions there are to be; without end where that is 0.
     pub most: u64,
+    /// How many connections may be open at once.
+    pub connections: usize,
 }
 
 impl Floor {
@@ -90,6 +99,7 @@ impl Floor {
             listener,
             patience,
             most,
+            connections,
         } = house;
         Ok(Floor {
             alloc,
@@ -99,9 +109,11 @@ impl Floor {
             buffer: vec![in alloc; 0u8; BLOCK]?,
             patience,
             most,
+            connections,
             accepted: 0,
             ended: 0,
             may_accept: true,
+            has_room: true,
             is_rung: false,
             now: Duration::ZERO,
             looked: Duration::ZERO,
@@ -183,7 +195,7 @@ impl Floor {
             }
         }
         self.refused = Some(self.now);
-        errors.all_busy(rt, self.alloc);
+        errors.too_many(rt, self.alloc, self.connections);
     }
 
     /// Begins a session at a place.
@@ -245,7 +257,9 @@ impl Floor {
                 let means = Means {
                     alloc: self.alloc,
                     place,
-                    now: self.now,
+                    number: session.number,
+                    moment: self.now,
+                    has_room: self.has_room,
                     jobs: &lines.jobs,
                 };
                 let buffer = self.buffer.as_mut_slice();
@@ -278,12 +292,16 @@ impl Floor {
         }
         self.looked = self.now;
         self.may_accept = true;
+        self.has_room = places.waiting_bytes() <= WAITING_ANSWERS;
         self.end_sessions(places);
     }
 
     /// Ends the sessions with whom there is no patience left, and all where the site stops.
     fn end_sessions<J: Naming>(&mut self, places: &mut Places<J>) {
         for place in 0..places.count() {
+            if self.has_room {
+                places.let_go(place);
+            }
             places.end_if_over(place, self.patience, self.now, self.stopped.is_some());
         }
     }
@@ -428,8 +446,10 @@ pub fn serve_floor<R: Wait + Clock, J: Naming, K: Keeps, E: Drain>(
     let mut floor = floor;
     let alloc = floor.alloc;
     let begun = Instant::now(rt).ok();
-    let (Ok(mut places), Ok(mut waiters)) = (Places::new(alloc), Vec::with_capacity(alloc, BATCH))
-    else {
+    let (Ok(mut places), Ok(mut waiters)) = (
+        Places::new(alloc, floor.connections),
+        Vec::with_capacity(alloc, BATCH),
+    ) else {
         return Ok(Err(DeskFault::NoMemory(0)));
     };
     for _ in rt.forever() {

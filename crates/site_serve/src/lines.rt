@@ -1,7 +1,14 @@
 //! Does the lines of a session.
 
-ghost use Rattle.std.specs.Prelude.{◌≡◌, ◌<◌, ◌≤◌, All, vec_capacity, vec_len};
-ghost use Rattle.site_serve.specs.Acknowledged.{IsHeldBy};
+ghost use Rattle.std.specs.Prelude.{◌≡◌, ◌⊎◌, ◌<◌, ◌≤◌, ◌+◌, All, Bool, MatchBool, Ok, Result, drop, nat_eq, take, true};
+ghost use Rattle.std.specs.Prelude.{vec_capacity, vec_len};
+ghost use Rattle.byte_ends.specs.Lines.{without_cr};
+ghost use Rattle.gossip_line.specs.Texts.{no_memory_line};
+ghost use Rattle.gossip_line.specs.declared.fault.LineFault.{LineFault};
+ghost use Rattle.line_reader.specs.Lines.{HasFirstLf};
+ghost use Rattle.site_serve.specs.Acknowledged.{AddsOwn, IsHeldBy, session_at};
+ghost use Rattle.site_serve.specs.Outboxes.{Adds};
+ghost use Rattle.site_serve.specs.Doing.{DoesLine};
 
 use super::ask::{Ask, Asker};
 use super::desk::{BATCH, Waiter, hold_more};
@@ -24,8 +31,12 @@ const LINES_A_TURN: usize = 64;
 #[derive(Clone, Copy)]
 pub struct Means<'a, J: Naming> {
     pub alloc: Global,
+    /// The session, by its place and its number.
     pub place: usize,
-    pub now: Duration,
+    pub number: u64,
+    pub moment: Duration,
+    /// Whether there is room for the answers of more looks.
+    pub has_room: bool,
     pub jobs: &'a Sender<Job<J>, Global>,
 }
 
@@ -43,13 +54,19 @@ pub fn do_lines<R: Wait, J: Naming, K: Keeps>(
     requires room { BATCH ≤ vec_capacity waiters.old }
     ensures held { All (λ waiter. IsHeldBy ledger.new.ledger.account waiter.held) waiters.new.items }
     ensures room { BATCH ≤ vec_capacity waiters.new }
+
+    // Nobody else waits for an answer to a line of the session.
+    ensures own { AddsOwn (session_at means.now.place means.now.number) waiters.old.items waiters.new.items }
+
+    // Nothing is answered before what was asked earlier is.
+    ensures order { 0 < session.old.waiting → session.new.outbox ≡ session.old.outbox }
 {
     for _line in 0..LINES_A_TURN {
         if !session.is_open() || waiters.len() >= BATCH {
             return;
         }
-        let goes_on = match session.next_line() {
-            Some(length) => do_line(rt, means, session, ledger, waiters, length),
+        let goes_on = match session.inbox.next_line() {
+            Some(size) => do_line(rt, means, session, ledger, waiters, size),
             None => read_on(means, buffer, session),
         };
         if !goes_on {
@@ -59,70 +76,90 @@ pub fn do_lines<R: Wait, J: Naming, K: Keeps>(
 }
 
 /// Reads on, where no line is there. Whether something came.
-fn read_on<J: Naming>(means: &Means<'_, J>, buffer: &mut [u8], session: &mut Session<J>) -> bool {
+fn read_on<J: Naming>(means: &Means<'_, J>, buffer: &mut [u8], session: &mut Session<J>) -> bool
+    ensures order { 0 < session.old.waiting → session.new.outbox ≡ session.old.outbox }
+    ensures waits { session.new.waiting ≡ session.old.waiting }
+{
     if session.is_spent() {
         session.end_spent();
         return false;
     }
-    if session.is_too_long() {
+    if session.inbox.is_too_long() {
         if !session.is_waiting() {
             session.say_too_long(means.alloc);
         }
         return false;
     }
-    session.read(buffer, means.now)
+    session.read(buffer, means.moment)
 }
 
-/// Does a line of a session: false where it has to wait.
+/// Does a line of a session: false where it has to wait, or the session ends at it.
 fn do_line<R: Wait, J: Naming, K: Keeps>(
     rt: &R,
     means: &Means<'_, J>,
     session: &mut Session<J>,
     ledger: &mut OwnLedger<J, K>,
     waiters: &mut Vec<Waiter>,
-    length: usize,
+    size: usize,
 ) -> bool
+    requires line { HasFirstLf session.old.inbox size }
     requires held { All (λ waiter. IsHeldBy ledger.old.ledger.account waiter.held) waiters.old.items }
     requires room { vec_len waiters.old < vec_capacity waiters.old }
     ensures held { All (λ waiter. IsHeldBy ledger.new.ledger.account waiter.held) waiters.new.items }
     ensures room { vec_capacity waiters.new ≡ vec_capacity waiters.old }
+
+    // The next line is done, or none is.
+    ensures does { MatchBool result
+        ((session.new.inbox ≡ drop (size + 1) session.old.inbox)
+        × DoesLine (nat_eq session.old.lines 0) (without_cr (take size session.old.inbox))
+        (session_at means.now.place means.now.number) session.old.outbox session.new.outbox waiters.old.items
+        waiters.new.items)
+        ((session.new.inbox ≡ session.old.inbox) × (waiters.new.items ≡ waiters.old.items)) }
+    ensures order { 0 < session.old.waiting → session.new.outbox ≡ session.old.outbox }
+    ensures waits { 0 < session.old.waiting → 0 < session.new.waiting }
 {
     if session.is_spent() {
         session.end_spent();
         return false;
     }
-    let line = session.line(length);
-    if session.is_waiting() && (!is_take(line) || length > LINE_LIMIT) {
+    if size > LINE_LIMIT {
+        if !session.is_waiting() {
+            session.say_too_long(means.alloc);
+        }
         return false;
     }
-    if length > LINE_LIMIT {
-        session.say_too_long(means.alloc);
+    let line = session.inbox.line(size);
+    if session.is_waiting() && !is_take(line) {
         return false;
     }
     match step_of(means.alloc, session.is_first(), line) {
-        Step::Says(_) if session.is_waiting() => return false,
-        Step::Says(saying) => session.say(means.alloc, saying),
         Step::Takes(draft) => {
             let asker = Asker::Session {
                 place: means.place,
-                session: session.number,
+                session: means.number,
             };
             hold_more(ledger, Ask::Intake { asker, draft }, waiters);
             session.await_publish();
         }
+        _ if session.is_waiting() => return false,
+        Step::Says(saying) => session.say(means.alloc, saying),
+        Step::Looks(_) if !means.has_room => {
+            session.hold_back();
+            return false;
+        }
         Step::Looks(look) => look_for(rt, means, session, look),
     }
-    session.pass(length);
+    session.pass(size);
     true
 }
 
 /// Has a worker look for a session.
-fn look_for<R: Wait, J: Naming>(
-    rt: &R,
-    means: &Means<'_, J>,
-    session: &mut Session<J>,
-    look: Look,
-) {
+fn look_for<R: Wait, J: Naming>(rt: &R, means: &Means<'_, J>, session: &mut Session<J>, look: Look)
+    ensures says { (session.new.outbox ≡ session.old.outbox)
+        ⊎ ((result : Result Bool LineFault) × Adds no_memory_line (Ok true) session.old.outbox session.new.outbox result) }
+    ensures inbox { session.new.inbox ≡ session.old.inbox }
+    ensures waits { session.new.waiting ≡ session.old.waiting }
+{
     let Ok(receipt) = session.receipt_again() else {
         session.say(means.alloc, Saying::NoMemory);
         return;
@@ -130,7 +167,7 @@ fn look_for<R: Wait, J: Naming>(
     session.go_away();
     let job = Job {
         place: means.place,
-        session: session.number,
+        session: means.number,
         receipt,
         task: Task::Look(look),
     };

@@ -1,7 +1,20 @@
 //! The workers of a site: they look at what it has for its sessions.
 
+ghost use Rattle.std.specs.Prelude.{◌≡◌, [], Ok, true};
+ghost use Rattle.std.specs.Arc.{arc_value};
+ghost use Rattle.std.specs.Option.{ForSome};
+ghost use Rattle.gossip_line.specs.Steps.{call_of};
+ghost use Rattle.gossip_line.specs.Texts.{reply_text};
+ghost use Rattle.replica_core.specs.JournalLaws.{IsPartOf};
+ghost use Rattle.site_port.specs.Ports.{reply_by, stamped};
+ghost use Rattle.site_serve.specs.Looks.{IsLooked, LooksAfter, ShowsReply};
+ghost use Rattle.site_serve.specs.Outboxes.{Adds};
+ghost use Rattle.site_shared.specs.Accounts.{GoesOn};
+ghost use Rattle.site_shared.specs.Publishes.{arrive};
+
 use super::errors::Errors;
 use super::jobs::{Job, Reply, Task, Work, Worker};
+use super::outbox::refusing_memory;
 use super::port::SitePort;
 use super::setup::Turn;
 use byte_ends::{Drain, Ends};
@@ -79,12 +92,37 @@ fn looked<R: Wait, J: Naming>(
     look: &Look,
     receipt: &Option<Arc<BrandedReceipt<J>, Global>>,
     port: &mut SitePort<'_, '_, R, J>,
-) -> Work {
-    if let Some(receipt) = receipt {
-        if !port.learn(receipt) {
-            return said(alloc, Err(PortFault::Closed));
-        }
+) -> Work
+    ensures { IsLooked (LooksAfter port.old.gate.now port.old.window.window (call_of look.now)
+        (λ seen. ForSome receipt.now (λ receipt. IsPartOf (arrive (arc_value receipt).published) (arrive seen)))
+        port.new.window.window) result }
+{
+    if !has_learnt(receipt, port) {
+        return said(alloc, Err(PortFault::Closed));
     }
+    shown(alloc, look, port)
+}
+
+/// Sees no less than what the receipt has seen published from now on. False where that is none of this opening.
+fn has_learnt<R: Wait, J: Naming>(
+    receipt: &Option<Arc<BrandedReceipt<J>, Global>>,
+    port: &mut SitePort<'_, '_, R, J>,
+) -> bool
+    ensures later { GoesOn port.old.window.window port.new.window.window }
+    ensures gate { port.new.gate ≡ port.old.gate }
+    ensures learnt { result ≡ true → ForSome receipt.now
+        (λ receipt. IsPartOf (arrive (arc_value receipt).published) (arrive port.new.window.window.seen)) }
+{
+    match receipt {
+        Some(receipt) => port.learn(receipt),
+        None => true,
+    }
+}
+
+/// What is answered to a look.
+fn shown<R: Wait, J: Naming>(alloc: Global, look: &Look, port: &mut SitePort<'_, '_, R, J>) -> Work
+    ensures { IsLooked (ShowsReply port.old.gate.now port.old.window.window (call_of look.now) port.new.window.window) result }
+{
     let mut drain = Ends::new(Vec::new(alloc));
     match show(alloc, look, &mut drain, port) {
         Err(LineFault::WriteFault) => said(alloc, Err(PortFault::NoMemory)),
@@ -93,8 +131,10 @@ fn looked<R: Wait, J: Naming>(
 }
 
 /// What is answered where nothing could be looked at.
-fn said(alloc: Global, refused: Result<Stamp, PortFault>) -> Work {
+fn said(alloc: Global, refused: Result<Stamp, PortFault>) -> Work
+    ensures { IsLooked (Adds (reply_text (reply_by stamped refused)) (Ok true) []) result }
+{
     let mut drain = Ends::new(Vec::new(alloc));
-    let answered = say_taken(refused, &mut drain);
+    let answered = refusing_memory(say_taken(refused, &mut drain));
     Work::Looked(drain.into_inner(), answered)
 }

@@ -19,6 +19,8 @@ pub struct News<J: Naming> {
 struct Slot<J: Naming> {
     newest: Option<Arc<BrandedReceipt<J>, Global>>,
     is_closed: bool,
+    /// Whether somebody waits for what is new, and wasn't woken yet.
+    is_awaited: bool,
 }
 
 impl<J: Naming> News<J> {
@@ -28,6 +30,7 @@ impl<J: Naming> News<J> {
             slot: Mutex::new(Slot {
                 newest: None,
                 is_closed: false,
+                is_awaited: false,
             }),
             changed: Condvar::new(),
             closed: Condvar::new(),
@@ -41,7 +44,10 @@ impl<J: Naming> News<J> {
         };
         let mut slot = self.slot.lock(rt);
         slot.newest = Some(newest);
-        self.changed.notify_all();
+        if slot.is_awaited {
+            slot.is_awaited = false;
+            self.changed.notify_all();
+        }
     }
 
     /// Nothing new comes any more.
@@ -62,7 +68,8 @@ impl<J: Naming> News<J> {
 
     /// Waits for the newest receipt that nobody has looked at; none once nothing new comes any more.
     pub fn newest(&self, rt: &impl Wait) -> Option<Arc<BrandedReceipt<J>, Global>> {
-        let slot = self.slot.lock(rt);
+        let mut slot = self.slot.lock(rt);
+        slot.is_awaited = slot.newest.is_none();
         let mut slot = self
             .changed
             .wait_while(rt, slot, |slot| slot.newest.is_none() && !slot.is_closed);

@@ -7,9 +7,6 @@ use site_shared::Naming;
 use std::alloc::{AllocError, Global};
 use std::time::Duration;
 
-/// How many sessions may be open at once.
-pub const PLACES: usize = 1024;
-
 /// The sessions that are open, each at its place, and which of them are looked at in the next turn.
 #[derive(Drop)]
 pub struct Places<J: Naming> {
@@ -19,18 +16,18 @@ pub struct Places<J: Naming> {
 }
 
 impl<J: Naming> Places<J> {
-    /// Places that are all free.
-    pub fn new(alloc: Global) -> Result<Places<J>, AllocError> {
-        let mut sessions = Vec::with_capacity(alloc, PLACES)?;
-        let mut free = Vec::with_capacity(alloc, PLACES)?;
-        for place in 0..PLACES {
+    /// So many places, all free.
+    pub fn new(alloc: Global, places: usize) -> Result<Places<J>, AllocError> {
+        let mut sessions = Vec::with_capacity(alloc, places)?;
+        let mut free = Vec::with_capacity(alloc, places)?;
+        for place in 0..places {
             sessions.push(None)?;
             free.push(place)?;
         }
         Ok(Places {
             sessions,
             free,
-            listed: Vec::with_capacity(alloc, PLACES)?,
+            listed: Vec::with_capacity(alloc, places)?,
         })
     }
 
@@ -162,7 +159,7 @@ impl<J: Naming> Places<J> {
         }
         match work {
             Work::Entered => session.come_back(),
-            Work::Looked(text, answered) => session.take_text(text.as_slice(), answered),
+            Work::Looked(text, answered) => session.take_text(text, answered),
             Work::Left => {
                 self.vacate(place);
                 return true;
@@ -170,6 +167,24 @@ impl<J: Naming> Places<J> {
         }
         self.list(place);
         false
+    }
+
+    /// How many bytes of answers wait to be read.
+    pub fn waiting_bytes(&self) -> usize {
+        let mut bytes = 0usize;
+        for session in self.sessions.iter().flatten() {
+            bytes = bytes.saturating_add(session.outbox.len());
+        }
+        bytes
+    }
+
+    /// Lets the look of a session begin that waited for room.
+    pub fn let_go(&mut self, place: usize) {
+        if let Some(session) = self.session(place) {
+            if session.let_go() {
+                self.list(place);
+            }
+        }
     }
 
     /// Ends a session with whom there is no patience left, or each one where the site stops.

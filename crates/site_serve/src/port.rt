@@ -4,6 +4,7 @@ ghost use Rattle.std.specs.Prelude.{◌≡◌, true};
 ghost use Rattle.std.specs.Option.{ForSome};
 ghost use Rattle.replica_core.specs.JournalLaws.{IsPartOf};
 ghost use Rattle.site_port.specs.Ports.{IsLookingFault};
+ghost use Rattle.site_serve.specs.SitePorts.{fault_of};
 ghost use Rattle.site_shared.specs.Accounts.{GoesOn};
 ghost use Rattle.site_shared.specs.Publishes.{arrive};
 
@@ -177,7 +178,9 @@ impl<'a, R: Wait, J: Naming> Sink for PullPort<'a, R, J> {
 }
 
 /// How a port refuses where the desk does.
-pub fn desk_fault(fault: DeskFault) -> PortFault {
+pub fn desk_fault(fault: DeskFault) -> PortFault
+    ensures { result ≡ fault_of fault }
+{
     match fault {
         DeskFault::ClockSpent => PortFault::ClockSpent,
         DeskFault::BadBody(cause) => PortFault::BadBody(cause),

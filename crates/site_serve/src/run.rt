@@ -17,7 +17,6 @@ use super::jobs::Worker;
 use super::looks::do_jobs;
 use super::news::News;
 use super::opening::{OwnLedger, OwnWindow};
-use super::places::PLACES;
 use super::port::PullPort;
 use super::seats::{Lines, Seats, seated};
 use super::setup::{ServeFault, Served, Setup, Turn};
@@ -40,8 +39,11 @@ use std::{io, thread};
 /// How many workers look side by side at most.
 const MOST_WORKERS: usize = 6;
 
-/// How many windows a site has.
-const WINDOWS: usize = 8;
+/// How many windows a site has at most: for its workers, its reports and its pulls.
+const WINDOWS: usize = 64;
+
+/// How many connections may be open at most.
+const MOST_CONNECTIONS: usize = 65_535;
 
 /// How many milliseconds a site waits for the other side of a connection.
 const PATIENCE_MS: u64 = 30_000;
@@ -120,6 +122,7 @@ where
         pause_ms,
         sessions,
         idle_ms,
+        connections,
     } = setup;
     let workers = workers.max(1).min(MOST_WORKERS);
     let Ok((poll, listener)) = polled(rt, listener) else {
@@ -147,6 +150,7 @@ where
         listener,
         most: sessions,
         workers,
+        connections: connections.max(1).min(MOST_CONNECTIONS),
     };
     match open_site(rt, site, start, workers + 1 + pullers, replica) {
         Ok((desk, windows)) => run_opened::<Brand, R, W, E, T, K>(
@@ -195,6 +199,7 @@ struct Loft {
     listener: Listener,
     most: u64,
     workers: usize,
+    connections: usize,
 }
 
 /// A poll, and a listener that it reports.
@@ -255,7 +260,7 @@ where
     requires keeper { (first : List Operation) × K.holds keeper first }
 {
     let mut ledger: OwnLedger<J, K> = OwnLedger::new(Ledger::new(desk, keeper));
-    let served = match seated(common.alloc, windows, loft.workers, PLACES) {
+    let served = match seated(common.alloc, windows, loft.workers, loft.connections) {
         Ok(Some(seats)) => { run_seated(rt, common, loft, shares, &mut ledger, seats, output) }
         Ok(None) => Err(ServeFault::NoPlace),
         Err(_) => Err(ServeFault::NoMemory),
@@ -294,6 +299,7 @@ where
         listener,
         most,
         workers: _,
+        connections,
     } = loft;
     let Ok(waker) = Waker::new(poll.registry(), BELL) else {
         return Err(ServeFault::NoPlace);
@@ -304,6 +310,7 @@ where
         listener,
         patience: common.patience,
         most,
+        connections,
     };
     let Ok(floor) = Floor::new(house) else {
         return Err(ServeFault::NoMemory);

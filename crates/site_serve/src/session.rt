@@ -1,13 +1,18 @@
 //! A session of a site, as a value: what was read of it, and what waits to be written.
 
-ghost use Rattle.std.specs.Prelude.{◌≡◌};
-ghost use Rattle.byte_ends.specs.Lines.{without_cr};
+ghost use Rattle.std.specs.Prelude.{◌≡◌, ◌<◌, ◌≤◌, ◌+◌, ◌++◌, Bool, Err, IfErr, IfOk, IfSome, MatchBool, Ok, Result, Some, drop, length, nat_eq, true};
+ghost use Rattle.gossip_line.specs.Steps.{answer_of};
+ghost use Rattle.gossip_line.specs.Texts.{answer_text, long_line, next_of, refusal_line, reply_text, stamp_line};
+ghost use Rattle.gossip_line.specs.declared.fault.LineFault.{LineFault};
+ghost use Rattle.site_port.specs.Ports.{reply_by, stamped};
+ghost use Rattle.site_serve.specs.Outboxes.{Adds};
+ghost use Rattle.site_serve.specs.SitePorts.{fault_of};
 
 use super::ask::{Answer, Done};
+use super::inbox::Inbox;
+use super::outbox::Outbox;
 use super::port::desk_fault;
-use byte_ends::Ends;
-use gossip_line::{LineFault, Saying, say, say_taken, say_too_long};
-use line_reader::LINE_LIMIT;
+use gossip_line::{LineFault, Saying};
 use memchr::memchr;
 use mio::net::TcpStream;
 use review_ops::Stamp;
@@ -36,18 +41,20 @@ pub struct Session<J: Naming> {
     /// Its number, from 1, in the order in which sessions were accepted.
     pub number: u64,
     stream: TcpStream,
-    unread: Vec<u8>,
-    next: usize,
-    scanned: usize,
+    /// What was read of it and isn't done yet.
+    pub inbox: Inbox,
+    /// What it was answered and isn't sent yet.
+    pub outbox: Outbox,
+    /// How many lines of it are done.
     lines: u64,
-    answers: Vec<u8>,
-    sent: usize,
     /// The newest receipt that it was answered by.
     receipt: Option<Arc<BrandedReceipt<J>, Global>>,
     /// How many takes wait for their publish.
     waiting: usize,
     /// Whether a worker has a line of it.
     is_away: bool,
+    /// Whether a look of it waits until others have read their answers.
+    is_held_back: bool,
     /// Whether it is among those that are looked at in the next turn.
     pub is_listed: bool,
     /// Whether the connection may have more to read.
@@ -66,15 +73,13 @@ impl<J: Naming> Session<J> {
         Session {
             number,
             stream,
-            unread: Vec::new(alloc),
-            next: 0,
-            scanned: 0,
+            inbox: Inbox::new(alloc),
+            outbox: Outbox::new(alloc),
             lines: 0,
-            answers: Vec::new(alloc),
-            sent: 0,
             receipt: None,
             waiting: 0,
             is_away: true,
+            is_held_back: false,
             is_listed: false,
             may_read: true,
             is_read_out: false,
@@ -85,23 +90,23 @@ impl<J: Naming> Session<J> {
         }
     }
 
-    /// How many bytes wait to be written.
-    pub fn waiting_bytes(&self) -> usize {
-        self.answers.len().saturating_sub(self.sent)
-    }
-
     /// Whether another line of it may be answered now.
     pub fn is_open(&self) -> bool {
-        self.ending.is_none() && !self.is_away && self.waiting_bytes() <= WAITING_BYTES
+        self.ending.is_none()
+            && !self.is_away
+            && !self.is_held_back
+            && self.outbox.len() <= WAITING_BYTES
     }
 
     /// Whether nothing of it is left to do.
     pub fn is_over(&self) -> bool {
-        self.ending.is_some() && !self.is_away && self.waiting == 0 && self.waiting_bytes() == 0
+        self.ending.is_some() && !self.is_away && self.waiting == 0 && self.outbox.len() == 0
     }
 
     /// Whether the next line is its first.
-    pub fn is_first(&self) -> bool {
+    pub fn is_first(&self) -> bool
+        ensures { result ≡ nat_eq self.now.lines 0 }
+    {
         self.lines == 0
     }
 
@@ -111,31 +116,47 @@ impl<J: Naming> Session<J> {
     }
 
     /// Answers a line of which it is known what is answered.
-    pub fn say(&mut self, alloc: Global, saying: Saying) {
-        let mut drain = self.drain(alloc);
-        let said = say(saying, &mut drain);
-        self.answers = drain.into_inner();
+    pub fn say(&mut self, alloc: Global, saying: Saying)
+        ensures says { (result : Result Bool LineFault) × Adds (answer_text (answer_of saying)) (next_of (answer_of saying))
+            self.old.outbox self.new.outbox result }
+        ensures inbox { self.new.inbox ≡ self.old.inbox }
+        ensures waits { self.new.waiting ≡ self.old.waiting }
+    {
+        let said = self.outbox.say(alloc, saying);
         self.go_on(said);
     }
 
-    /// Answers that a line is too long.
-    pub fn say_too_long(&mut self, alloc: Global) {
-        let mut drain = self.drain(alloc);
-        let said = say_too_long(&mut drain);
-        self.answers = drain.into_inner();
+    /// Answers that a line is too long, and ends.
+    pub fn say_too_long(&mut self, alloc: Global)
+        ensures says { (result : Result (Unit {0}) LineFault) × Adds long_line (Err LineFault.LongLine) self.old.outbox self.new.outbox
+            result }
+        ensures inbox { self.new.inbox ≡ self.old.inbox }
+        ensures waits { self.new.waiting ≡ self.old.waiting }
+    {
+        let said = self.outbox.say_too_long(alloc);
         self.go_on(said.map(|()| true));
     }
 
     /// Answers a line whose body was taken in, or refused.
-    pub fn say_taken(&mut self, alloc: Global, taken: Result<Stamp, PortFault>) {
-        let mut drain = self.drain(alloc);
-        let said = say_taken(taken, &mut drain);
-        self.answers = drain.into_inner();
+    fn say_taken(&mut self, alloc: Global, taken: Result<Stamp, PortFault>)
+        ensures says { (result : Result Bool LineFault) × Adds (reply_text (reply_by stamped taken)) (Ok true) self.old.outbox
+            self.new.outbox result }
+        ensures inbox { self.new.inbox ≡ self.old.inbox }
+        ensures receipt { self.new.receipt ≡ self.old.receipt }
+    {
+        let said = self.outbox.say_taken(alloc, taken);
         self.go_on(said);
     }
 
     /// Is answered by what the desk did, and has seen from then on what it published.
-    pub fn take_answer(&mut self, alloc: Global, answer: Answer<J>) {
+    pub fn take_answer(&mut self, alloc: Global, answer: Answer<J>)
+        ensures stamp { IfOk answer (λ done. IfSome done.stamp (λ stamp. (result : Result Bool LineFault)
+            × Adds (stamp_line stamp) (Ok true) self.old.outbox self.new.outbox result)) }
+        ensures fault { IfErr answer (λ fault. (result : Result Bool LineFault)
+            × Adds (refusal_line (fault_of fault)) (Ok true) self.old.outbox self.new.outbox result) }
+        ensures receipt { IfOk answer (λ done. self.new.receipt ≡ Some done.receipt) }
+        ensures inbox { self.new.inbox ≡ self.old.inbox }
+    {
         self.waiting = self.waiting.saturating_sub(1);
         match answer {
             Ok(done) => {
@@ -148,12 +169,12 @@ impl<J: Naming> Session<J> {
     }
 
     /// Is answered by a text that a worker made, and goes on or not.
-    pub fn take_text(&mut self, text: &[u8], answered: Result<bool, LineFault>) {
+    pub fn take_text(&mut self, text: Vec<u8>, answered: Result<bool, LineFault>) {
         self.is_away = false;
-        if self.answers.extend_from_slice(text).is_err() {
-            self.end(Err(LineFault::NoMemory));
+        match self.outbox.add(text) {
+            Ok(()) => self.go_on(answered),
+            Err(_) => self.end(Err(LineFault::NoMemory)),
         }
-        self.go_on(answered);
     }
 
     /// Goes on, since its worker is done.
@@ -162,17 +183,39 @@ impl<J: Naming> Session<J> {
     }
 
     /// Waits for a worker.
-    pub fn go_away(&mut self) {
+    pub fn go_away(&mut self)
+        ensures inbox { self.new.inbox ≡ self.old.inbox }
+        ensures kept { (self.new.outbox ≡ self.old.outbox) × (self.new.waiting ≡ self.old.waiting) }
+    {
         self.is_away = true;
     }
 
+    /// Waits until others have read their answers.
+    pub fn hold_back(&mut self)
+        ensures inbox { self.new.inbox ≡ self.old.inbox }
+        ensures kept { (self.new.outbox ≡ self.old.outbox) × (self.new.waiting ≡ self.old.waiting) }
+    {
+        self.is_held_back = true;
+    }
+
+    /// Waits no more until others have read their answers. Whether it did.
+    pub fn let_go(&mut self) -> bool {
+        mem::replace(&mut self.is_held_back, false)
+    }
+
     /// Waits for the next publish.
-    pub fn await_publish(&mut self) {
+    pub fn await_publish(&mut self)
+        ensures inbox { self.new.inbox ≡ self.old.inbox }
+        ensures outbox { self.new.outbox ≡ self.old.outbox }
+        ensures waits { 0 < self.new.waiting }
+    {
         self.waiting = self.waiting.saturating_add(1);
     }
 
     /// Whether it waits for the next publish.
-    pub fn is_waiting(&self) -> bool {
+    pub fn is_waiting(&self) -> bool
+        ensures { MatchBool result (0 < self.now.waiting) (self.now.waiting ≡ 0) }
+    {
         self.waiting > 0
     }
 
@@ -191,69 +234,52 @@ impl<J: Naming> Session<J> {
         self.may_read = true;
     }
 
-    /// What waits to be written, as an end that more is written to.
-    fn drain(&mut self, alloc: Global) -> Ends<Vec<u8>> {
-        Ends::new(mem::replace(&mut self.answers, Vec::new(alloc)))
-    }
-
-    /// The length of the next line, where that was read whole.
-    pub fn next_line(&mut self) -> Option<usize> {
-        let from = self.scanned.max(self.next);
-        let rest = self.unread.get(from..).unwrap_or(&[]);
-        match memchr(b'\n', rest) {
-            Some(place) => {
-                let end = from.saturating_add(place);
-                Some(end.saturating_sub(self.next))
-            }
-            None => {
-                self.scanned = self.unread.len();
-                None
-            }
-        }
-    }
-
-    /// The next line, of so many bytes, without the carriage return at its end.
-    pub fn line(&self, length: usize) -> &[u8] {
-        let rest = self.unread.get(self.next..).unwrap_or(&[]);
-        without_cr(rest.get(..length).unwrap_or(&[]))
-    }
-
-    /// Goes on past a line of so many bytes.
-    pub fn pass(&mut self, length: usize) {
-        self.next = self.next.saturating_add(length).saturating_add(1);
-        self.scanned = self.next;
+    /// Goes on past a line of this size, which is done.
+    pub fn pass(&mut self, size: usize)
+        requires { size < length self.old.inbox }
+        ensures inbox { self.new.inbox ≡ drop (size + 1) self.old.inbox }
+        ensures kept { (self.new.outbox ≡ self.old.outbox) × (self.new.waiting ≡ self.old.waiting) }
+    {
+        self.inbox.pass(size);
         self.lines = self.lines.saturating_add(1);
     }
 
     /// Ends, since it has had all its lines.
-    pub fn end_spent(&mut self) {
+    pub fn end_spent(&mut self)
+        ensures inbox { self.new.inbox ≡ self.old.inbox }
+        ensures kept { (self.new.outbox ≡ self.old.outbox) × (self.new.waiting ≡ self.old.waiting) }
+    {
         self.end(Err(LineFault::ReadFault));
     }
 
     /// Ends once all that waits is written, unless it was to end before.
-    pub fn end(&mut self, ending: Result<(), LineFault>) {
+    pub fn end(&mut self, ending: Result<(), LineFault>)
+        ensures inbox { self.new.inbox ≡ self.old.inbox }
+        ensures receipt { self.new.receipt ≡ self.old.receipt }
+        ensures kept { (self.new.outbox ≡ self.old.outbox) × (self.new.waiting ≡ self.old.waiting) }
+    {
         if self.ending.is_none() {
             self.ending = Some(ending);
         }
     }
 
     /// Notes whether the session goes on after an answer.
-    pub fn go_on(&mut self, answered: Result<bool, LineFault>) {
+    fn go_on(&mut self, answered: Result<bool, LineFault>)
+        ensures inbox { self.new.inbox ≡ self.old.inbox }
+        ensures receipt { self.new.receipt ≡ self.old.receipt }
+        ensures kept { (self.new.outbox ≡ self.old.outbox) × (self.new.waiting ≡ self.old.waiting) }
+    {
         match answered {
             Ok(true) => {}
             Ok(false) => self.end(Ok(())),
-            Err(LineFault::WriteFault) => self.end(Err(LineFault::NoMemory)),
             Err(fault) => self.end(Err(fault)),
         }
     }
 
-    /// Whether more is held than a line may have.
-    pub fn is_too_long(&self) -> bool {
-        self.unread.len().saturating_sub(self.next) > LINE_LIMIT
-    }
-
     /// Reads what is there, and says whether something came.
-    pub fn read(&mut self, buffer: &mut [u8], now: Duration) -> bool {
+    pub fn read(&mut self, buffer: &mut [u8], now: Duration) -> bool
+        ensures kept { (self.new.outbox ≡ self.old.outbox) × (self.new.waiting ≡ self.old.waiting) }
+    {
         if self.is_read_out {
             self.end(Ok(()));
             return false;
@@ -271,7 +297,7 @@ impl<J: Naming> Session<J> {
                 self.may_read = count == buffer.len();
                 let came = buffer.get(..count).unwrap_or(&[]);
                 self.note(came, now);
-                if self.keep(came).is_err() {
+                if self.inbox.keep(came).is_err() {
                     self.end(Err(LineFault::NoMemory));
                     return false;
                 }
@@ -288,21 +314,10 @@ impl<J: Naming> Session<J> {
         }
     }
 
-    /// Keeps what came, in place of what was passed.
-    fn keep(&mut self, came: &[u8]) -> Result<(), AllocError> {
-        if self.next >= self.unread.len() {
-            self.unread.clear();
-        } else if self.next > 0 {
-            self.unread.drain(..self.next);
-        }
-        self.scanned = self.scanned.saturating_sub(self.next);
-        self.next = 0;
-        self.unread.extend_from_slice(came)?;
-        Ok(())
-    }
-
     /// Notes what came: the wait for a line begins anew where one has ended or begun.
-    fn note(&mut self, came: &[u8], now: Duration) {
+    fn note(&mut self, came: &[u8], now: Duration)
+        ensures kept { (self.new.outbox ≡ self.old.outbox) × (self.new.waiting ≡ self.old.waiting) }
+    {
         let next = match came.last() {
             Some(b'\n') => Awaited::NextLine,
             _ => Awaited::RestOfLine,
@@ -316,7 +331,7 @@ impl<J: Naming> Session<J> {
     /// Writes what waits, as much as the connection takes.
     pub fn write(&mut self, now: Duration) {
         for _ in 0..WRITES {
-            let text = self.answers.as_slice().get(self.sent..).unwrap_or(&[]);
+            let text = self.outbox.as_slice();
             if text.is_empty() {
                 self.stuck = now;
                 return;
@@ -336,36 +351,30 @@ impl<J: Naming> Session<J> {
     }
 
     /// Notes that so many bytes of what waits were written.
-    fn note_sent(&mut self, count: usize, now: Duration) {
-        self.sent = self.sent.saturating_add(count);
+    fn note_sent(&mut self, count: usize, now: Duration)
+        requires { count ≤ length self.old.outbox }
+        ensures { self.new.outbox ≡ drop count self.old.outbox }
+    {
+        self.outbox.note_sent(count);
         self.stuck = now;
-        if self.waiting_bytes() == 0 {
-            self.forget_answers();
-        }
-    }
-
-    /// Gives up what was written.
-    fn forget_answers(&mut self) {
-        self.answers.clear();
-        self.sent = 0;
     }
 
     /// Ends with a fault, and nothing more is written.
     pub fn fail(&mut self, fault: LineFault) {
         self.end(Err(fault));
-        self.forget_answers();
+        self.outbox.clear();
     }
 
     /// Ends where the patience with the other side is at its end.
     pub fn end_if_over(&mut self, patience: Patience, now: Duration) {
-        if self.waiting_bytes() > 0 {
+        if self.outbox.len() > 0 {
             let stuck = now.saturating_sub(self.stuck);
             if patience.is_over(Awaited::RestOfLine, stuck) {
                 self.fail(LineFault::WriteFault);
             }
             return;
         }
-        if self.is_away || self.waiting > 0 || self.ending.is_some() {
+        if self.is_away || self.is_held_back || self.waiting > 0 || self.ending.is_some() {
             return;
         }
         let waited = now.saturating_sub(self.since);
@@ -376,7 +385,7 @@ impl<J: Naming> Session<J> {
 
     /// Whether there is something to read or to answer.
     pub fn has_more(&mut self) -> bool {
-        self.may_read || self.next_line().is_some()
+        self.may_read || self.inbox.next_line().is_some()
     }
 
     /// Its newest receipt once more.
@@ -395,15 +404,5 @@ impl<J: Naming> Session<J> {
     /// The connection, to be registered.
     pub fn stream(&mut self) -> &mut TcpStream {
         &mut self.stream
-    }
-}
-
-/// A line without the carriage return at its end.
-fn without_cr(line: &[u8]) -> &[u8]
-    ensures { result.now ≡ without_cr line.now }
-{
-    match line.split_last() {
-        Some((last, rest)) if *last == b'\r' => rest,
-        _ => line,
     }
 }

@@ -20,7 +20,7 @@ pub struct Setup {
     pub start: u32,
     /// The ports of its peers on this machine.
     pub peers: Vec<u16>,
-    /// How many sessions it answers side by side, from 1 to 6: none is as 1, and more are as 6.
+    /// How many threads look at its record for sessions, from 1 to 6: none is as 1, and more are as 6.
     pub workers: usize,
     /// How many milliseconds pass between two rounds of pulls.
     pub pause_ms: u64,
@@ -28,6 +28,8 @@ pub struct Setup {
     pub sessions: u64,
     /// How many milliseconds a session may send no whole line; without end where that is 0.
     pub idle_ms: u64,
+    /// How many connections may be open at once, from 1 to 65,535: none is as 1, and more are as 65,535.
+    pub connections: usize,
 }
 
 /// What a site that ended leaves.

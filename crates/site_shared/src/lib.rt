@@ -1,4 +1,4 @@
-//! A running site that threads share without locks: one desk takes in and publishes, up to eight windows look beside it
+//! A running site that threads share without locks: one desk takes in and publishes, up to 64 windows look beside it
 //! and never wait for it, and receipts show a window what it must have seen.
 //!
 //! Its tests are in the crate `site_tests`.

@@ -30,7 +30,7 @@ pub fn open_site<R: Wait>(
     windows: usize,
     replica: Replica,
 ) -> Result<(Desk, Vec<Window>), OpenFault>
-    requires { (0 < windows) × (windows ≤ 8) }
+    requires { (0 < windows) × (windows ≤ 64) }
     ensures used { (result ≡ Err StartUsed) ↔ (list_any (is_used site start) replica ≡ true) }
     ensures desk { IfOk result (λ opened. (opened.0.published ≡ replica ∷ []) × (opened.0.held ≡ [])
         × (opened.0.site ≡ site) × (opened.0.start ≡ start)) }
@@ -83,7 +83,7 @@ fn shown_first<R: Wait>(
     windows: usize,
     latest: &Shown,
 ) -> Result<Show, NoMemory>
-    requires { (0 < windows) × (windows ≤ 8) }
+    requires { (0 < windows) × (windows ≤ 64) }
     ensures { IfOk result
         (λ show. (drop show.behind show.log.items ≡ []) × (show.desk.shown.value.sight.seen ≡ latest.now.sight.seen)
         × (view show.desk.place ≡ Some latest.now.sight.seen)) }

@@ -18,9 +18,14 @@ fn site_of<'a>(serving: &ServeWords<'a>) -> (&'a str, u16, Option<u32>) {
     (serving.gate, serving.site, serving.start)
 }
 
-/// The port, the number of workers and the pause between two rounds of pulls.
-fn numbers_of(serving: &ServeWords<'_>) -> (u16, usize, u64) {
-    (serving.port, serving.workers, serving.pause_ms)
+/// The port, the numbers of workers and of connections, and the pause between two rounds of pulls.
+fn numbers_of(serving: &ServeWords<'_>) -> (u16, usize, usize, u64) {
+    (
+        serving.port,
+        serving.workers,
+        serving.connections,
+        serving.pause_ms,
+    )
 }
 
 /// After how many sessions the site ends, after how many silent milliseconds a session does, and whether the site ends
@@ -55,6 +60,7 @@ fn with_defaults(alloc: Global) -> ServeWords<'static> {
         pause_ms: 1000,
         sessions: 0,
         idle_ms: 0,
+        connections: 1024,
         until_input_ends: false,
         load: None,
         save: None,
@@ -71,7 +77,7 @@ fn options_have_defaults(rt: HostRuntime) -> Result<(), Fail> {
 }
 
 /// Words with each option.
-const ALL: [&str; 25] = [
+const ALL: [&str; 27] = [
     "serve",
     "-",
     "8001",
@@ -90,6 +96,8 @@ const ALL: [&str; 25] = [
     "3",
     "--idle",
     "5",
+    "--connections",
+    "9",
     "--load",
     "a",
     "--save",
@@ -111,6 +119,7 @@ fn with_all(peers: Vec<u16>) -> ServeWords<'static> {
         pause_ms: 600_000,
         sessions: 3,
         idle_ms: 5,
+        connections: 9,
         until_input_ends: true,
         load: Some("a"),
         save: Some("b"),
@@ -127,7 +136,7 @@ fn all_options_are_read(rt: HostRuntime) -> Result<(), Fail> {
 }
 
 /// The least and the greatest number of each option that has limits.
-const LIMITS: [(&str, &str, u64); 13] = [
+const LIMITS: [(&str, &str, u64); 15] = [
     ("--site", "1", 1),
     ("--site", "65535", 65_535),
     ("--start", "1", 1),
@@ -145,6 +154,8 @@ const LIMITS: [(&str, &str, u64); 13] = [
         18_446_744_073_709_551_615,
     ),
     ("--idle", "18446744073709551615", 18_446_744_073_709_551_615),
+    ("--connections", "1", 1),
+    ("--connections", "65535", 65_535),
 ];
 
 /// The numbers of a site, in the order of the options above.
@@ -156,6 +167,7 @@ fn number_of(serving: &ServeWords<'_>, option: &str) -> u64 {
         "--workers" => serving.workers as u64,
         "--pause" => serving.pause_ms,
         "--sessions" => serving.sessions,
+        "--connections" => serving.connections as u64,
         _ => serving.idle_ms,
     }
 }

@@ -165,10 +165,11 @@ Options:
       --site <N>          The site's number, from 1 to 65535
       --start <N>         The start, above every start that the site ever ran under; with --journal it may be left out
       --port <P>          The port on 127.0.0.1; 0 has the system choose one [default: 0]
-      --workers <N>       How many sessions side by side, 1 to 6 [default: 2]
+      --workers <N>       How many threads answer ready, state and front, 1 to 6 [default: 2]
       --pause <MS>        Between two rounds of pulls, 1 to 600000 [default: 1000]
       --sessions <N>      Ends after so many sessions; 0 is without end [default: 0]
       --idle <MS>         How long a session may be silent; 0 is without end [default: 0]
+      --connections <N>   How many connections may be open at once, 1 to 65535 [default: 1024]
       --until-input-ends  Ends in order with standard input, or at its line stop
       --load <FILE>       The snapshot to begin with
       --save <FILE>       The snapshot that is written at the end
@@ -378,7 +379,7 @@ const OPTIONS: [(&str, &str); 14] = [
 ];
 
 /// Numbers one beyond their limits, and what is no number.
-const NUMBERS: [(&str, &str); 24] = [
+const NUMBERS: [(&str, &str); 25] = [
     (
         "why g s x",
         "error: invalid value 'x' for '<CHANGE[,SET]>': CHANGE and SET are numbers from 0 to 4294967295",
@@ -450,6 +451,10 @@ const NUMBERS: [(&str, &str); 24] = [
     (
         "serve g --site 1 --start 1 --idle x",
         "error: invalid value 'x' for '--idle <MS>': invalid digit found in string",
+    ),
+    (
+        "serve g --site 1 --start 1 --connections 65536",
+        "error: invalid value '65536' for '--connections <N>': 65536 is not in 1..=65535",
     ),
     (
         "serve g 0 --site 1 --start 1",

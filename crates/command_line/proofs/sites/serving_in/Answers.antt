@@ -33,3 +33,8 @@ pub returns-in_err-number_in-4-clause-none : goal.returns-in_err-number_in-4-cla
 returns-in_err-number_in-4-clause-none c =
     let none : (words : ServeWords) → ¬ AreOptions (rows_in c.args.values.now) words = λ words is. c.in_err-number_in-4.ensures.found words.idle_ms is.idle in
     search (rules, none)
+
+pub returns-in_err-number_in-5-clause-none : goal.returns-in_err-number_in-5-clause-none
+returns-in_err-number_in-5-clause-none c =
+    let none : (words : ServeWords) → ¬ AreOptions (rows_in c.args.values.now) words = λ words is. c.in_err-number_in-5.ensures.found words.connections is.connections in
+    search (rules, none)

@@ -1,0 +1,108 @@
+//! What was read of a session and isn't done yet.
+
+ghost use Rattle.std.specs.Prelude.{◌≡◌, ◌<◌, ◌≤◌, ◌+◌, ◌++◌, [], List, ℕ, MatchBool, MatchOption, OnOk, drop, length, take};
+ghost use Rattle.byte_ends.specs.Lines.{without_cr};
+ghost use Rattle.line_reader.specs.Lines.{HasFirstLf, HasNoLf};
+
+use line_reader::LINE_LIMIT;
+use memchr::memchr;
+use std::alloc::{AllocError, Global};
+use std::marker::Model;
+
+/// The bytes that were read of a session, from its first line on that isn't done. Contracts see these bytes.
+#[derive(Drop)]
+pub struct Inbox {
+    bytes: Vec<u8>,
+    /// How many bytes are done.
+    next: usize,
+    /// How many of those that aren't are known to have no line end.
+    scanned: usize,
+}
+
+impl Model for Inbox {
+    ghost use Rattle.std.specs.Prelude.{List, ℕ, drop};
+    ghost use Rattle.site_serve.specs.Inboxes.{IsScanned};
+
+    ghost Value = { List ℕ };
+
+    ghost view = { λ inbox. drop inbox.next inbox.bytes.items };
+
+    ghost invariant = { λ inbox. IsScanned inbox.next inbox.scanned inbox.bytes.items };
+}
+
+impl Inbox {
+    /// Nothing was read yet.
+    pub fn new(alloc: Global) -> Inbox
+        ensures { result ≡ [] }
+    {
+        Inbox {
+            bytes: Vec::new(alloc),
+            next: 0,
+            scanned: 0,
+        }
+    }
+
+    /// The size of the next line, where that was read whole. Each byte is looked at once.
+    pub fn next_line(&mut self) -> Option<usize>
+        ensures same { self.new ≡ self.old }
+        ensures found { MatchOption result (HasNoLf self.new) (HasFirstLf self.new) }
+    {
+        match first_lf(&self.bytes[self.next + self.scanned..]) {
+            Some(at) => Some(self.scanned + at),
+            None => {
+                self.scanned = self.bytes.len() - self.next;
+                None
+            }
+        }
+    }
+
+    /// The next line, of this size, without the carriage return at its end.
+    pub fn line(&self, size: usize) -> &[u8]
+        requires { size ≤ length self.now }
+        ensures { result.now ≡ without_cr (take size self.now) }
+    {
+        without_cr(&self.bytes[self.next..self.next + size])
+    }
+
+    /// Goes on past a line of this size and its end.
+    pub fn pass(&mut self, size: usize)
+        requires { size < length self.old }
+        ensures { self.new ≡ drop (size + 1) self.old }
+    {
+        self.next += size + 1;
+        self.scanned = 0;
+    }
+
+    /// Whether more is held than a line may have.
+    pub fn is_too_long(&self) -> bool
+        ensures { MatchBool result (524288 < length self.now) (length self.now ≤ 524288) }
+    {
+        self.bytes.len() - self.next > LINE_LIMIT
+    }
+
+    /// Keeps what came, in place of what is done. Where memory is refused what came is lost.
+    pub fn keep(&mut self, came: &[u8]) -> Result<(), AllocError>
+        ensures { OnOk result (self.new ≡ self.old ++ came.now) }
+    {
+        self.bytes.drain(..self.next);
+        self.next = 0;
+        self.bytes.extend_from_slice(came)
+    }
+}
+
+/// The place of the first LF.
+fn first_lf(bytes: &[u8]) -> Option<usize>
+    ensures { MatchOption result (HasNoLf bytes.now) (HasFirstLf bytes.now) }
+{
+    memchr(b'\n', bytes)
+}
+
+/// A line without the carriage return at its end.
+fn without_cr(line: &[u8]) -> &[u8]
+    ensures { result.now ≡ without_cr line.now }
+{
+    match line.split_last() {
+        Some((b'\r', front)) => front,
+        _ => line,
+    }
+}
