@@ -1,6 +1,6 @@
 //! Connections over sockets of this machine.
 
-use site_net::{Awaited, Door, Patience, PatientReader, PatientWriter, Stop};
+use site_net::{Awaited, Patience, PatientReader, PatientWriter, Stop};
 use std::io::{Read, Write};
 use std::net::{Net, TcpListener, TcpStream};
 use std::process::Abort;
@@ -108,39 +108,29 @@ fn a_side_that_never_reads_is_given_up(rt: HostRuntime) -> Result<(), Fail> {
     panic!(rt; "64 MB were taken in by nobody")
 }
 
-/// Waits for a connection, and then for a line, until the site stops.
-fn serve<R: Abort + Clock + Wait>(rt: &R, door: &Door, stop: &Stop) -> bool {
-    for _ in 0..1_000 {
-        let Ok(stream) = door.accept() else {
-            return stop.is_asked();
-        };
-        let Ok(mut reader) = PatientReader::new(rt, &stream, stop, patience(60_000, None)) else {
-            return false;
-        };
-        if !matches!(reader.read(&mut [0; 64]), Ok(0)) {
-            return false;
-        }
-    }
-    false
+/// Reads a connection that brings nothing until the site stops: whether that is its end.
+fn read_silence<R: Clock>(rt: &R, stream: &TcpStream, stop: &Stop) -> bool {
+    let Ok(mut reader) = PatientReader::new(rt, stream, stop, patience(60_000, None)) else {
+        return false;
+    };
+    matches!(reader.read(&mut [0; 64]), Ok(0))
 }
 
-/// Asks the site to stop once it has rested, and shuts the door.
-fn end<R: Wait + Clock>(rt: &R, door: &Door, stop: &Stop) -> bool {
+/// Asks the site to stop once it has rested, and rests again, which then ends at once.
+fn end<R: Wait + Clock>(rt: &R, stop: &Stop) -> bool {
     stop.rest(rt, Duration::from_millis(100));
     stop.ask(rt);
     stop.rest(rt, Duration::from_millis(600_000));
-    door.shut().is_ok()
+    stop.is_asked()
 }
 
 #[test]
 fn a_stop_wakes_who_waits(rt: HostRuntime) -> Result<(), Fail> {
-    let listener = TcpListener::bind(&rt, "127.0.0.1:0")?;
-    let _idle = TcpStream::connect(&rt, listener.local_addr()?)?;
-    let door = Door::new(listener)?;
+    let (_asking, asked) = both_sides(&rt)?;
     let stop = Stop::new();
     let begun = Instant::now(&rt)?;
-    let (served, ended) = thread::join(&rt, || serve(&rt, &door, &stop), || end(&rt, &door, &stop));
-    assert!(rt; served && ended);
+    let (read, ended) = thread::join(&rt, || read_silence(&rt, &asked, &stop), || end(&rt, &stop));
+    assert!(rt; read && ended);
     assert!(rt; begun.elapsed(&rt)? < Duration::from_millis(30_000));
     Ok(())
 }

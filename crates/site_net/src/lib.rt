@@ -1,18 +1,15 @@
-//! The connections of a site: a listener that can be shut from beside, ends that don't wait for ever, and the wish that
-//! a site stops.
+//! The connections of a site: ends that don't wait for ever, and the wish that a site stops.
 //!
 //! Its tests are in the crate `serve_tests`.
 #![tactic(auto)]
 
 mod connect;
-mod door;
 mod patience;
 mod reader;
 mod stop;
 mod writer;
 
 pub use connect::connected;
-pub use door::Door;
 pub use patience::{Awaited, Patience};
 pub use reader::PatientReader;
 pub use stop::Stop;

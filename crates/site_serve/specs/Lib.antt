@@ -6,3 +6,4 @@ pub mod Inboxes
 pub mod Outboxes
 pub mod Doing
 pub mod Looks
+pub mod Seats

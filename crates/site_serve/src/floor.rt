@@ -28,9 +28,9 @@ use std::sync::Wait;
 use std::time::{Clock, Duration, Instant};
 
 /// The token of the listener, and that of who has done something for the loop.
-pub const DOOR: Token = Token(usize::MAX);
+pub(super) const DOOR: Token = Token(usize::MAX);
 
-pub const BELL: Token = Token(usize::MAX - 1);
+pub(super) const BELL: Token = Token(usize::MAX - 1);
 
 /// How many milliseconds a turn waits for something to do.
 const TICK_MS: u64 = 100;
@@ -52,7 +52,7 @@ const EVENTS: usize = 256;
 
 /// What the loop has beside the sessions.
 #[derive(Drop)]
-pub struct Floor {
+pub(super) struct Floor {
     alloc: Global,
     poll: Poll,
     events: Events,
@@ -79,7 +79,7 @@ pub struct Floor {
 
 /// What the loop is run with.
 #[derive(Drop)]
-pub struct House {
+pub(super) struct House {
     pub alloc: Global,
     pub poll: Poll,
     pub listener: TcpListener,
@@ -92,7 +92,7 @@ pub struct House {
 
 impl Floor {
     /// A loop that has accepted nothing yet.
-    pub fn new(house: House) -> Result<Floor, AllocError> {
+    pub(super) fn new(house: House) -> Result<Floor, AllocError> {
         let House {
             alloc,
             poll,
@@ -381,7 +381,7 @@ fn publish<R: Wait, J: Naming, K: Keeps>(
 
 /// What the loop works for.
 #[derive(Drop)]
-pub struct Site<'a, E: Drain, J: Naming> {
+pub(super) struct Site<'a, E: Drain, J: Naming> {
     pub news: &'a News<J>,
     pub errors: &'a Errors<E>,
     pub stop: &'a Stop,
@@ -432,7 +432,7 @@ fn turn<R: Wait + Clock, J: Naming, K: Keeps, E: Drain>(
 
 /// Serves until the site stops, and then does what the pullers still ask. Answers the last publish, which has shown all
 /// that was taken.
-pub fn serve_floor<R: Wait + Clock, J: Naming, K: Keeps, E: Drain>(
+pub(super) fn serve_floor<R: Wait + Clock, J: Naming, K: Keeps, E: Drain>(
     rt: &R,
     site: Site<'_, E, J>,
     floor: Floor,

@@ -11,7 +11,7 @@ use std::marker::Model;
 
 /// The bytes that were read of a session, from its first line on that isn't done. Contracts see these bytes.
 #[derive(Drop)]
-pub struct Inbox {
+pub(super) struct Inbox {
     bytes: Vec<u8>,
     /// How many bytes are done.
     next: usize,
@@ -20,19 +20,19 @@ pub struct Inbox {
 }
 
 impl Model for Inbox {
-    ghost use Rattle.std.specs.Prelude.{List, ℕ, drop};
+    ghost use Rattle.std.specs.Prelude.{List, ℕ, drop, vec_len};
     ghost use Rattle.site_serve.specs.Inboxes.{IsScanned};
 
     ghost Value = { List ℕ };
 
     ghost view = { λ inbox. drop inbox.next inbox.bytes.items };
 
-    ghost invariant = { λ inbox. IsScanned inbox.next inbox.scanned inbox.bytes.items };
+    ghost invariant = { λ inbox. IsScanned inbox.next inbox.scanned (vec_len inbox.bytes) inbox.bytes.items };
 }
 
 impl Inbox {
     /// Nothing was read yet.
-    pub fn new(alloc: Global) -> Inbox
+    pub(super) fn new(alloc: Global) -> Inbox
         ensures { result ≡ [] }
     {
         Inbox {
@@ -43,7 +43,7 @@ impl Inbox {
     }
 
     /// The size of the next line, where that was read whole. Each byte is looked at once.
-    pub fn next_line(&mut self) -> Option<usize>
+    pub(super) fn next_line(&mut self) -> Option<usize>
         ensures same { self.new ≡ self.old }
         ensures found { MatchOption result (HasNoLf self.new) (HasFirstLf self.new) }
     {
@@ -57,7 +57,7 @@ impl Inbox {
     }
 
     /// The next line, of this size, without the carriage return at its end.
-    pub fn line(&self, size: usize) -> &[u8]
+    pub(super) fn line(&self, size: usize) -> &[u8]
         requires { size ≤ length self.now }
         ensures { result.now ≡ without_cr (take size self.now) }
     {
@@ -65,7 +65,7 @@ impl Inbox {
     }
 
     /// Goes on past a line of this size and its end.
-    pub fn pass(&mut self, size: usize)
+    pub(super) fn pass(&mut self, size: usize)
         requires { size < length self.old }
         ensures { self.new ≡ drop (size + 1) self.old }
     {
@@ -74,14 +74,14 @@ impl Inbox {
     }
 
     /// Whether more is held than a line may have.
-    pub fn is_too_long(&self) -> bool
+    pub(super) fn is_too_long(&self) -> bool
         ensures { MatchBool result (524288 < length self.now) (length self.now ≤ 524288) }
     {
         self.bytes.len() - self.next > LINE_LIMIT
     }
 
     /// Keeps what came, in place of what is done. Where memory is refused what came is lost.
-    pub fn keep(&mut self, came: &[u8]) -> Result<(), AllocError>
+    pub(super) fn keep(&mut self, came: &[u8]) -> Result<(), AllocError>
         ensures { OnOk result (self.new ≡ self.old ++ came.now) }
     {
         self.bytes.drain(..self.next);

@@ -9,7 +9,7 @@ use std::sync::Arc;
 
 /// What a worker does for a session.
 #[derive(Drop)]
-pub enum Task {
+pub(super) enum Task {
     /// It begins.
     Enter,
     /// It asks to look at what the site has.
@@ -20,7 +20,7 @@ pub enum Task {
 
 /// A task of the session of a number, at its place. It is shown no less than what its receipt has seen published.
 #[derive(Drop)]
-pub struct Job<J: Naming> {
+pub(super) struct Job<J: Naming> {
     pub place: usize,
     pub session: u64,
     pub receipt: Option<Arc<BrandedReceipt<J>, Global>>,
@@ -29,7 +29,7 @@ pub struct Job<J: Naming> {
 
 /// What a worker has done.
 #[derive(Drop)]
-pub enum Work {
+pub(super) enum Work {
     /// The session has begun.
     Entered,
     /// A look is answered so, and the session goes on or not.
@@ -40,7 +40,7 @@ pub enum Work {
 
 /// What a worker has done for the session of a number, at its place.
 #[derive(Drop)]
-pub struct Reply {
+pub(super) struct Reply {
     pub place: usize,
     pub session: u64,
     pub work: Work,
@@ -48,7 +48,7 @@ pub struct Reply {
 
 /// What a worker works with: a window to look through, and the ends of two channels.
 #[derive(Drop)]
-pub struct Worker<J: Naming> {
+pub(super) struct Worker<J: Naming> {
     pub window: OwnWindow<J>,
     pub jobs: Receiver<Job<J>, Global>,
     pub replies: Sender<Reply, Global>,

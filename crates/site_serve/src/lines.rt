@@ -29,7 +29,7 @@ const LINES_A_TURN: usize = 64;
 
 /// What the lines of a session are done with.
 #[derive(Clone, Copy)]
-pub struct Means<'a, J: Naming> {
+pub(super) struct Means<'a, J: Naming> {
     pub alloc: Global,
     /// The session, by its place and its number.
     pub place: usize,
@@ -42,7 +42,7 @@ pub struct Means<'a, J: Naming> {
 
 /// Does the lines of a session that are there, so many in a turn at most. Who asks to take in a body waits for the
 /// publish.
-pub fn do_lines<R: Wait, J: Naming, K: Keeps>(
+pub(super) fn do_lines<R: Wait, J: Naming, K: Keeps>(
     rt: &R,
     means: &Means<'_, J>,
     buffer: &mut [u8],

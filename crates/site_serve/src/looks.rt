@@ -28,7 +28,7 @@ use std::alloc::Global;
 use std::sync::{Arc, Wait};
 
 /// Does the jobs of sessions until no more come.
-pub fn do_jobs<R: Wait, E: Drain, T: Turn, J: Naming>(
+pub(super) fn do_jobs<R: Wait, E: Drain, T: Turn, J: Naming>(
     rt: &R,
     alloc: Global,
     gate: &Gate,

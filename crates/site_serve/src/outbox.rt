@@ -18,7 +18,7 @@ use std::mem;
 
 /// The bytes that a session was answered and that weren't sent yet. Contracts see these bytes.
 #[derive(Drop)]
-pub struct Outbox {
+pub(super) struct Outbox {
     answers: Vec<u8>,
     /// How many bytes were sent.
     sent: usize,
@@ -36,7 +36,7 @@ impl Model for Outbox {
 
 impl Outbox {
     /// Nothing was answered yet.
-    pub fn new(alloc: Global) -> Outbox
+    pub(super) fn new(alloc: Global) -> Outbox
         ensures { result ≡ [] }
     {
         Outbox {
@@ -46,21 +46,21 @@ impl Outbox {
     }
 
     /// How many bytes wait to be sent.
-    pub fn len(&self) -> usize
+    pub(super) fn len(&self) -> usize
         ensures { result ≡ length self.now }
     {
         self.answers.len() - self.sent
     }
 
     /// What waits to be sent.
-    pub fn as_slice(&self) -> &[u8]
+    pub(super) fn as_slice(&self) -> &[u8]
         ensures { result.now ≡ self.now }
     {
         &self.answers[self.sent..]
     }
 
     /// Adds the answer to a line of which it is known what is answered.
-    pub fn say(&mut self, alloc: Global, saying: Saying) -> Result<bool, LineFault>
+    pub(super) fn say(&mut self, alloc: Global, saying: Saying) -> Result<bool, LineFault>
         ensures { Adds (answer_text (answer_of saying)) (next_of (answer_of saying)) self.old self.new result }
     {
         let mut drain = drain_over(&mut self.answers, alloc);
@@ -70,7 +70,7 @@ impl Outbox {
     }
 
     /// Adds that a line is too long.
-    pub fn say_too_long(&mut self, alloc: Global) -> Result<(), LineFault>
+    pub(super) fn say_too_long(&mut self, alloc: Global) -> Result<(), LineFault>
         ensures { Adds long_line (Err LineFault.LongLine) self.old self.new result }
     {
         let mut drain = drain_over(&mut self.answers, alloc);
@@ -80,7 +80,7 @@ impl Outbox {
     }
 
     /// Adds the answer to a line whose body was taken in, or refused.
-    pub fn say_taken(
+    pub(super) fn say_taken(
         &mut self,
         alloc: Global,
         taken: Result<Stamp, PortFault>,
@@ -94,7 +94,7 @@ impl Outbox {
     }
 
     /// Adds a text.
-    pub fn add(&mut self, text: Vec<u8>) -> Result<(), AllocError>
+    pub(super) fn add(&mut self, text: Vec<u8>) -> Result<(), AllocError>
         ensures ok { OnOk result (self.new ≡ self.old ++ text.items) }
         ensures err { OnErr result (self.new ≡ self.old) }
     {
@@ -107,7 +107,7 @@ impl Outbox {
     }
 
     /// Notes that so many bytes were sent.
-    pub fn note_sent(&mut self, count: usize)
+    pub(super) fn note_sent(&mut self, count: usize)
         requires { count ≤ length self.old }
         ensures { self.new ≡ drop count self.old }
     {
@@ -118,7 +118,7 @@ impl Outbox {
     }
 
     /// Gives up what waits to be sent.
-    pub fn clear(&mut self)
+    pub(super) fn clear(&mut self)
         ensures { self.new ≡ [] }
     {
         self.answers.clear();
@@ -135,7 +135,7 @@ fn drain_over(answers: &mut Vec<u8>, alloc: Global) -> Ends<Vec<u8>>
 }
 
 /// Where bytes in memory can't take more, memory was refused.
-pub fn refusing_memory<T>(said: Result<T, LineFault>) -> Result<T, LineFault>
+pub(super) fn refusing_memory<T>(said: Result<T, LineFault>) -> Result<T, LineFault>
     ensures { IsRefusingMemory said result }
 {
     match said {

@@ -1,5 +1,7 @@
 //! The sessions that are open, each at its place.
 
+ghost use Rattle.site_serve.specs.Seats.{OnlyAt};
+
 use super::ask::Answer;
 use super::jobs::{Reply, Work};
 use super::session::Session;
@@ -9,7 +11,7 @@ use std::time::Duration;
 
 /// The sessions that are open, each at its place, and which of them are looked at in the next turn.
 #[derive(Drop)]
-pub struct Places<J: Naming> {
+pub(super) struct Places<J: Naming> {
     sessions: Vec<Option<Session<J>>>,
     free: Vec<usize>,
     listed: Vec<usize>,
@@ -17,7 +19,7 @@ pub struct Places<J: Naming> {
 
 impl<J: Naming> Places<J> {
     /// So many places, all free.
-    pub fn new(alloc: Global, places: usize) -> Result<Places<J>, AllocError> {
+    pub(super) fn new(alloc: Global, places: usize) -> Result<Places<J>, AllocError> {
         let mut sessions = Vec::with_capacity(alloc, places)?;
         let mut free = Vec::with_capacity(alloc, places)?;
         for place in 0..places {
@@ -32,29 +34,29 @@ impl<J: Naming> Places<J> {
     }
 
     /// How many places there are.
-    pub fn count(&self) -> usize {
+    pub(super) fn count(&self) -> usize {
         self.sessions.len()
     }
 
     /// Whether every place is free.
-    pub fn are_free(&self) -> bool {
+    pub(super) fn are_free(&self) -> bool {
         self.free.len() >= self.sessions.len()
     }
 
     /// A place that is free, which from then on isn't.
-    pub fn free_one(&mut self) -> Option<usize> {
+    pub(super) fn free_one(&mut self) -> Option<usize> {
         self.free.pop()
     }
 
     /// Seats a session at a place.
-    pub fn seat(&mut self, place: usize, session: Session<J>) {
+    pub(super) fn seat(&mut self, place: usize, session: Session<J>) {
         if let Some(seat) = self.sessions.get_mut(place) {
             *seat = Some(session);
         }
     }
 
     /// Frees a place.
-    pub fn vacate(&mut self, place: usize) {
+    pub(super) fn vacate(&mut self, place: usize) {
         if let Some(seat) = self.sessions.get_mut(place) {
             *seat = None;
             // There is room for each place.
@@ -63,7 +65,7 @@ impl<J: Naming> Places<J> {
     }
 
     /// The session at a place.
-    pub fn session(&mut self, place: usize) -> Option<&mut Session<J>> {
+    pub(super) fn session(&mut self, place: usize) -> Option<&mut Session<J>> {
         match self.sessions.get_mut(place) {
             Some(Some(session)) => Some(session),
             _ => None,
@@ -71,23 +73,19 @@ impl<J: Naming> Places<J> {
     }
 
     /// Has a session looked at in the next turn.
-    pub fn list(&mut self, place: usize) {
-        if let Some(session) = self.session(place) {
-            if session.is_listed {
-                return;
-            }
-            session.is_listed = true;
-            let _kept = self.listed.push(place);
+    pub(super) fn list(&mut self, place: usize) {
+        if let Some(Some(session)) = self.sessions.get_mut(place) {
+            enlist(session, &mut self.listed, place);
         }
     }
 
     /// How many sessions are looked at in the next turn.
-    pub fn listed(&self) -> usize {
+    pub(super) fn listed(&self) -> usize {
         self.listed.len()
     }
 
     /// The place of one of those that are looked at in the next turn.
-    pub fn listed_at(&self, at: usize) -> Option<usize> {
+    pub(super) fn listed_at(&self, at: usize) -> Option<usize> {
         match self.listed.get(at) {
             Some(place) => Some(*place),
             None => None,
@@ -95,7 +93,7 @@ impl<J: Naming> Places<J> {
     }
 
     /// Keeps only those among the listed that have more to do.
-    pub fn unlist(&mut self) {
+    pub(super) fn unlist(&mut self) {
         let mut kept = 0;
         for at in 0..self.listed.len() {
             if let Some(place) = self.listed_at(at) {
@@ -127,25 +125,34 @@ impl<J: Naming> Places<J> {
     }
 
     /// Notes that the connection of a session may have more to read, or takes more.
-    pub fn note_ready(&mut self, place: usize) {
-        if let Some(session) = self.session(place) {
+    pub(super) fn note_ready(&mut self, place: usize) {
+        if let Some(Some(session)) = self.sessions.get_mut(place) {
             session.note_ready();
-            self.list(place);
+            enlist(session, &mut self.listed, place);
         }
     }
 
     /// Answers a session by what the desk did, unless it has gone.
-    pub fn take_answer(&mut self, alloc: Global, place: usize, number: u64, answer: Answer<J>) {
-        if let Some(session) = self.session(place) {
-            if session.number == number {
-                session.take_answer(alloc, answer);
-                self.list(place);
-            }
+    pub(super) fn take_answer(
+        &mut self,
+        alloc: Global,
+        place: usize,
+        number: u64,
+        answer: Answer<J>,
+    )
+        ensures { OnlyAt place self.old.sessions.items self.new.sessions.items }
+    {
+        let Some(Some(session)) = self.sessions.get_mut(place) else {
+            return;
+        };
+        if session.number == number {
+            session.take_answer(alloc, answer);
+            enlist(session, &mut self.listed, place);
         }
     }
 
     /// Takes what a worker has done for a session, unless that has gone.
-    pub fn take_reply(&mut self, reply: Reply) -> bool {
+    pub(super) fn take_reply(&mut self, reply: Reply) -> bool {
         let Reply {
             place,
             session: number,
@@ -170,7 +177,7 @@ impl<J: Naming> Places<J> {
     }
 
     /// How many bytes of answers wait to be read.
-    pub fn waiting_bytes(&self) -> usize {
+    pub(super) fn waiting_bytes(&self) -> usize {
         let mut bytes = 0usize;
         for session in self.sessions.iter().flatten() {
             bytes = bytes.saturating_add(session.outbox.len());
@@ -179,7 +186,7 @@ impl<J: Naming> Places<J> {
     }
 
     /// Lets the look of a session begin that waited for room.
-    pub fn let_go(&mut self, place: usize) {
+    pub(super) fn let_go(&mut self, place: usize) {
         if let Some(session) = self.session(place) {
             if session.let_go() {
                 self.list(place);
@@ -188,7 +195,7 @@ impl<J: Naming> Places<J> {
     }
 
     /// Ends a session with whom there is no patience left, or each one where the site stops.
-    pub fn end_if_over(
+    pub(super) fn end_if_over(
         &mut self,
         place: usize,
         patience: site_net::Patience,
@@ -205,4 +212,13 @@ impl<J: Naming> Places<J> {
             }
         }
     }
+}
+
+/// Has a session looked at in the next turn. There is room for each place.
+fn enlist<J: Naming>(session: &mut Session<J>, listed: &mut Vec<usize>, place: usize) {
+    if session.is_listed {
+        return;
+    }
+    session.is_listed = true;
+    let _kept = listed.push(place);
 }

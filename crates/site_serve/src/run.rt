@@ -187,7 +187,10 @@ fn shares_of(
         if let Some(share) = shares.get_mut(next) {
             share.push(peer)?;
         }
-        next = if next + 1 < pullers { next + 1 } else { 0 };
+        next = next.wrapping_add(1);
+        if next >= pullers {
+            next = 0;
+        }
     }
     Ok(shares)
 }

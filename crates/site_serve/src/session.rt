@@ -1,6 +1,7 @@
 //! A session of a site, as a value: what was read of it, and what waits to be written.
 
-ghost use Rattle.std.specs.Prelude.{◌≡◌, ◌<◌, ◌≤◌, ◌+◌, ◌++◌, Bool, Err, IfErr, IfOk, IfSome, MatchBool, Ok, Result, Some, drop, length, nat_eq, true};
+ghost use Rattle.std.specs.Prelude.{◌≡◌, ◌⊎◌, ◌<◌, ◌≤◌, ◌+◌, ◌++◌, [], Bool, Err, IfErr, IfOk, IfSome, MatchBool, MatchOption, None, Ok, Result, Some, drop, length, nat_eq, true};
+ghost use Rattle.std.specs.Arc.{arc_value};
 ghost use Rattle.gossip_line.specs.Steps.{answer_of};
 ghost use Rattle.gossip_line.specs.Texts.{answer_text, long_line, next_of, refusal_line, reply_text, stamp_line};
 ghost use Rattle.gossip_line.specs.declared.fault.LineFault.{LineFault};
@@ -37,7 +38,7 @@ const WRITES: usize = 16;
 
 /// A session: its connection, what was read and not yet answered, and what was answered and not yet written.
 #[derive(Drop)]
-pub struct Session<J: Naming> {
+pub(super) struct Session<J: Naming> {
     /// Its number, from 1, in the order in which sessions were accepted.
     pub number: u64,
     stream: TcpStream,
@@ -69,7 +70,7 @@ pub struct Session<J: Naming> {
 
 impl<J: Naming> Session<J> {
     /// A session of which nothing was read, and which waits until it has begun.
-    pub fn new(alloc: Global, number: u64, stream: TcpStream, now: Duration) -> Session<J> {
+    pub(super) fn new(alloc: Global, number: u64, stream: TcpStream, now: Duration) -> Session<J> {
         Session {
             number,
             stream,
@@ -91,7 +92,7 @@ impl<J: Naming> Session<J> {
     }
 
     /// Whether another line of it may be answered now.
-    pub fn is_open(&self) -> bool {
+    pub(super) fn is_open(&self) -> bool {
         self.ending.is_none()
             && !self.is_away
             && !self.is_held_back
@@ -99,24 +100,24 @@ impl<J: Naming> Session<J> {
     }
 
     /// Whether nothing of it is left to do.
-    pub fn is_over(&self) -> bool {
+    pub(super) fn is_over(&self) -> bool {
         self.ending.is_some() && !self.is_away && self.waiting == 0 && self.outbox.len() == 0
     }
 
     /// Whether the next line is its first.
-    pub fn is_first(&self) -> bool
+    pub(super) fn is_first(&self) -> bool
         ensures { result ≡ nat_eq self.now.lines 0 }
     {
         self.lines == 0
     }
 
     /// Whether it has had as many lines as a session may have.
-    pub fn is_spent(&self) -> bool {
+    pub(super) fn is_spent(&self) -> bool {
         self.lines >= LINES
     }
 
     /// Answers a line of which it is known what is answered.
-    pub fn say(&mut self, alloc: Global, saying: Saying)
+    pub(super) fn say(&mut self, alloc: Global, saying: Saying)
         ensures says { (result : Result Bool LineFault) × Adds (answer_text (answer_of saying)) (next_of (answer_of saying))
             self.old.outbox self.new.outbox result }
         ensures inbox { self.new.inbox ≡ self.old.inbox }
@@ -127,7 +128,7 @@ impl<J: Naming> Session<J> {
     }
 
     /// Answers that a line is too long, and ends.
-    pub fn say_too_long(&mut self, alloc: Global)
+    pub(super) fn say_too_long(&mut self, alloc: Global)
         ensures says { (result : Result (Unit {0}) LineFault) × Adds long_line (Err LineFault.LongLine) self.old.outbox self.new.outbox
             result }
         ensures inbox { self.new.inbox ≡ self.old.inbox }
@@ -149,7 +150,7 @@ impl<J: Naming> Session<J> {
     }
 
     /// Is answered by what the desk did, and has seen from then on what it published.
-    pub fn take_answer(&mut self, alloc: Global, answer: Answer<J>)
+    pub(super) fn take_answer(&mut self, alloc: Global, answer: Answer<J>)
         ensures stamp { IfOk answer (λ done. IfSome done.stamp (λ stamp. (result : Result Bool LineFault)
             × Adds (stamp_line stamp) (Ok true) self.old.outbox self.new.outbox result)) }
         ensures fault { IfErr answer (λ fault. (result : Result Bool LineFault)
@@ -169,7 +170,10 @@ impl<J: Naming> Session<J> {
     }
 
     /// Is answered by a text that a worker made, and goes on or not.
-    pub fn take_text(&mut self, text: Vec<u8>, answered: Result<bool, LineFault>) {
+    pub(super) fn take_text(&mut self, text: Vec<u8>, answered: Result<bool, LineFault>)
+        ensures says { (self.new.outbox ≡ self.old.outbox ++ text.items) ⊎ (self.new.outbox ≡ self.old.outbox) }
+        ensures inbox { self.new.inbox ≡ self.old.inbox }
+    {
         self.is_away = false;
         match self.outbox.add(text) {
             Ok(()) => self.go_on(answered),
@@ -178,12 +182,12 @@ impl<J: Naming> Session<J> {
     }
 
     /// Goes on, since its worker is done.
-    pub fn come_back(&mut self) {
+    pub(super) fn come_back(&mut self) {
         self.is_away = false;
     }
 
     /// Waits for a worker.
-    pub fn go_away(&mut self)
+    pub(super) fn go_away(&mut self)
         ensures inbox { self.new.inbox ≡ self.old.inbox }
         ensures kept { (self.new.outbox ≡ self.old.outbox) × (self.new.waiting ≡ self.old.waiting) }
     {
@@ -191,7 +195,7 @@ impl<J: Naming> Session<J> {
     }
 
     /// Waits until others have read their answers.
-    pub fn hold_back(&mut self)
+    pub(super) fn hold_back(&mut self)
         ensures inbox { self.new.inbox ≡ self.old.inbox }
         ensures kept { (self.new.outbox ≡ self.old.outbox) × (self.new.waiting ≡ self.old.waiting) }
     {
@@ -199,12 +203,12 @@ impl<J: Naming> Session<J> {
     }
 
     /// Waits no more until others have read their answers. Whether it did.
-    pub fn let_go(&mut self) -> bool {
+    pub(super) fn let_go(&mut self) -> bool {
         mem::replace(&mut self.is_held_back, false)
     }
 
     /// Waits for the next publish.
-    pub fn await_publish(&mut self)
+    pub(super) fn await_publish(&mut self)
         ensures inbox { self.new.inbox ≡ self.old.inbox }
         ensures outbox { self.new.outbox ≡ self.old.outbox }
         ensures waits { 0 < self.new.waiting }
@@ -213,29 +217,29 @@ impl<J: Naming> Session<J> {
     }
 
     /// Whether it waits for the next publish.
-    pub fn is_waiting(&self) -> bool
+    pub(super) fn is_waiting(&self) -> bool
         ensures { MatchBool result (0 < self.now.waiting) (self.now.waiting ≡ 0) }
     {
         self.waiting > 0
     }
 
     /// Whether it ends once all that waits is written.
-    pub fn is_ending(&self) -> bool {
+    pub(super) fn is_ending(&self) -> bool {
         self.ending.is_some()
     }
 
     /// How it ended.
-    pub fn ended(&self) -> Result<(), LineFault> {
+    pub(super) fn ended(&self) -> Result<(), LineFault> {
         self.ending.unwrap_or(Ok(()))
     }
 
     /// Notes that its connection may have more to read.
-    pub fn note_ready(&mut self) {
+    pub(super) fn note_ready(&mut self) {
         self.may_read = true;
     }
 
     /// Goes on past a line of this size, which is done.
-    pub fn pass(&mut self, size: usize)
+    pub(super) fn pass(&mut self, size: usize)
         requires { size < length self.old.inbox }
         ensures inbox { self.new.inbox ≡ drop (size + 1) self.old.inbox }
         ensures kept { (self.new.outbox ≡ self.old.outbox) × (self.new.waiting ≡ self.old.waiting) }
@@ -245,7 +249,7 @@ impl<J: Naming> Session<J> {
     }
 
     /// Ends, since it has had all its lines.
-    pub fn end_spent(&mut self)
+    pub(super) fn end_spent(&mut self)
         ensures inbox { self.new.inbox ≡ self.old.inbox }
         ensures kept { (self.new.outbox ≡ self.old.outbox) × (self.new.waiting ≡ self.old.waiting) }
     {
@@ -253,7 +257,7 @@ impl<J: Naming> Session<J> {
     }
 
     /// Ends once all that waits is written, unless it was to end before.
-    pub fn end(&mut self, ending: Result<(), LineFault>)
+    pub(super) fn end(&mut self, ending: Result<(), LineFault>)
         ensures inbox { self.new.inbox ≡ self.old.inbox }
         ensures receipt { self.new.receipt ≡ self.old.receipt }
         ensures kept { (self.new.outbox ≡ self.old.outbox) × (self.new.waiting ≡ self.old.waiting) }
@@ -277,7 +281,7 @@ impl<J: Naming> Session<J> {
     }
 
     /// Reads what is there, and says whether something came.
-    pub fn read(&mut self, buffer: &mut [u8], now: Duration) -> bool
+    pub(super) fn read(&mut self, buffer: &mut [u8], now: Duration) -> bool
         ensures kept { (self.new.outbox ≡ self.old.outbox) × (self.new.waiting ≡ self.old.waiting) }
     {
         if self.is_read_out {
@@ -329,7 +333,7 @@ impl<J: Naming> Session<J> {
     }
 
     /// Writes what waits, as much as the connection takes.
-    pub fn write(&mut self, now: Duration) {
+    pub(super) fn write(&mut self, now: Duration) {
         for _ in 0..WRITES {
             let text = self.outbox.as_slice();
             if text.is_empty() {
@@ -360,13 +364,15 @@ impl<J: Naming> Session<J> {
     }
 
     /// Ends with a fault, and nothing more is written.
-    pub fn fail(&mut self, fault: LineFault) {
+    pub(super) fn fail(&mut self, fault: LineFault)
+        ensures { self.new.outbox ≡ [] }
+    {
         self.end(Err(fault));
         self.outbox.clear();
     }
 
     /// Ends where the patience with the other side is at its end.
-    pub fn end_if_over(&mut self, patience: Patience, now: Duration) {
+    pub(super) fn end_if_over(&mut self, patience: Patience, now: Duration) {
         if self.outbox.len() > 0 {
             let stuck = now.saturating_sub(self.stuck);
             if patience.is_over(Awaited::RestOfLine, stuck) {
@@ -384,12 +390,14 @@ impl<J: Naming> Session<J> {
     }
 
     /// Whether there is something to read or to answer.
-    pub fn has_more(&mut self) -> bool {
+    pub(super) fn has_more(&mut self) -> bool {
         self.may_read || self.inbox.next_line().is_some()
     }
 
     /// Its newest receipt once more.
-    pub fn receipt_again(&self) -> Result<Option<Arc<BrandedReceipt<J>, Global>>, AllocError> {
+    pub(super) fn receipt_again(
+        &self,
+    ) -> Result<Option<Arc<BrandedReceipt<J>, Global>>, AllocError> {
         match &self.receipt {
             Some(receipt) => Ok(Some(Arc::try_clone(receipt)?)),
             None => Ok(None),
@@ -397,12 +405,7 @@ impl<J: Naming> Session<J> {
     }
 
     /// Closes the connection.
-    pub fn close(&mut self) {
+    pub(super) fn close(&mut self) {
         let _closed = self.stream.shutdown(Shutdown::Both);
-    }
-
-    /// The connection, to be registered.
-    pub fn stream(&mut self) -> &mut TcpStream {
-        &mut self.stream
     }
 }

@@ -2,5 +2,5 @@ use Rattle.std.proofs.Common.{◌≡◌, All}
 use Rattle.site_serve.proofs.seats.hired.Given as goal
 
 -- the windows that are left are of the opening
-abbrev pub invariant-loop-_worker : goal.invariant-loop-_worker
-invariant-loop-_worker g l = All (λ window. window.book ≡ g.J.Naming.book) l.windows.items
+abbrev pub invariant-loop-worker : goal.invariant-loop-worker
+invariant-loop-worker g l = All (λ window. window.book ≡ g.J.Naming.book) l.windows.items
