@@ -69,7 +69,8 @@ impl Inbox {
         requires { size < length self.old }
         ensures { self.new ≡ drop (size + 1) self.old }
     {
-        self.next += size + 1;
+        let end = self.next + size;
+        self.next = end + 1;
         self.scanned = 0;
     }
 
