@@ -1,9 +1,9 @@
 //! Snapshots that are merged, and what is printed, worked out by hand.
 
-use super::one_file::OneFile;
+use super::one_file::{BrokenFile, OneFile};
 use super::program::run_words;
 use byte_ends::{Broken, Ends};
-use std::alloc::Global;
+use std::alloc::{AllocError, Global};
 use std::process::Abort;
 use std::test::Fail;
 
@@ -226,4 +226,76 @@ fn broken_ends_are_reported(rt: HostRuntime) -> Result<(), Fail> {
     assert_eq!(rt; status, 0);
     assert!(rt; errors.is_empty());
     Ok(())
+}
+
+/// A snapshot of so many operations, in their order.
+pub(super) fn snapshot_of(alloc: Global, count: u64) -> Result<String, AllocError> {
+    let mut text = format!(in alloc; "reviewgate 2\n")?;
+    for seq in 1..=count {
+        write!(
+            text,
+            "{{\"change\":5,\"op\":\"merged\",\"seq\":{seq},\"site\":1,\"start\":1,\"time\":{seq}}}\n"
+        )?;
+    }
+    write!(text, "end {count}\n")?;
+    Ok(text)
+}
+
+// A snapshot of several blocks of 64 KiB, whose lines lie across them.
+#[test]
+fn long_snapshots_are_merged(rt: HostRuntime) -> Result<(), Fail> {
+    let alloc = rt.alloc();
+    let text = snapshot_of(alloc, 2000)?;
+    let long = text.as_str();
+    assert!(rt; long.len() > 131_072);
+    let empty = "reviewgate 2\nend 0\n";
+    assert_merges(&rt, alloc, ["kept", "kept"], long, "", 0, long, "");
+    assert_merges(&rt, alloc, ["kept", "-"], long, empty, 0, long, "");
+    assert_merges(&rt, alloc, ["-", "kept"], empty, long, 0, long, "");
+    Ok(())
+}
+
+/// How merging the input and a file is refused, where a read of either fails before this byte.
+fn broken_after(alloc: Global, text: &[u8], input: u64, file: u64) -> (u8, Vec<u8>) {
+    let mut error_output = Ends::new(Vec::new(alloc));
+    let words = ["merge", "-", "kept"];
+    let ended = run_words(
+        alloc,
+        words.as_slice(),
+        &mut Broken::before_byte(Ends::new(text), input),
+        &mut Ends::new(Vec::new(alloc)),
+        &mut error_output,
+        &mut BrokenFile {
+            text: b"reviewgate 2\n{\nend 1\n",
+            byte: file,
+            failures: 0,
+        },
+    );
+    (ended, error_output.into_inner())
+}
+
+// A line that is refused doesn't hide that a read fails after it, of the input or of a file.
+#[test]
+fn a_failure_after_a_bad_line_is_reported(rt: HostRuntime) {
+    let bad = b"reviewgate 2\n{\nend 1\n".as_slice();
+    for byte in 15..=22u64 {
+        let (status, errors) = broken_after(rt.alloc(), bad, byte, 99);
+        assert_eq!(rt; status, 1);
+        assert_eq!(rt;
+            errors.as_slice(),
+            b"reviewgate: snapshot 7 ReadFault\n".as_slice()
+        );
+        let (status, errors) = broken_after(rt.alloc(), BOTH.as_bytes(), 999, byte);
+        assert_eq!(rt; status, 1);
+        assert_eq!(rt;
+            errors.as_slice(),
+            b"reviewgate: snapshot 7 ReadFault\n".as_slice()
+        );
+    }
+    let (status, errors) = broken_after(rt.alloc(), BOTH.as_bytes(), 999, 99);
+    assert_eq!(rt; status, 1);
+    assert_eq!(rt;
+        errors.as_slice(),
+        b"reviewgate: snapshot 2 BadLine 2 NotJson\n".as_slice()
+    );
 }

@@ -1,9 +1,11 @@
-//! A file for tests.
+//! Files for tests.
 
 ghost use Rattle.std.specs.Prelude.{[]};
 
-use byte_ends::BytesFault;
+use byte_ends::{Broken, BytesFault, Ends};
 use console::Named;
+use replica_core::Replica;
+use snapshot_text::{SnapFault, read_onto};
 use std::alloc::Global;
 
 /// The only file that is there.
@@ -32,6 +34,50 @@ impl Named for OneFile<'_> {
             Ok(bytes) => Ok(bytes),
             Err(_) => Err(BytesFault::NoMemory),
         }
+    }
+
+    fn read_snapshot(&mut self, replica: Replica, name: &str) -> Result<Replica, SnapFault> {
+        let answer = if name == self.name {
+            read_onto(replica, &mut Ends::new(self.text))
+        } else {
+            Err(SnapFault::ReadFault)
+        };
+        if matches!(&answer, Err(SnapFault::ReadFault)) {
+            self.failures = self.failures.saturating_add(1);
+        }
+        answer
+    }
+
+    fn failures(&self) -> u64 {
+        self.failures
+    }
+}
+
+/// The file of a snapshot under any name. A read of it fails before this byte.
+#[derive(Drop)]
+pub struct BrokenFile<'a> {
+    pub text: &'a [u8],
+    pub byte: u64,
+    pub failures: u64,
+}
+
+impl Named for BrokenFile<'_> {
+    ghost files = { λ files. [] };
+
+    ghost failed = { λ files. files.failures };
+
+    fn read(&mut self, _name: &str, _limit: usize) -> Result<Vec<u8>, BytesFault> {
+        self.failures = self.failures.saturating_add(1);
+        Err(BytesFault::ReadFault)
+    }
+
+    fn read_snapshot(&mut self, replica: Replica, _name: &str) -> Result<Replica, SnapFault> {
+        let mut source = Broken::before_byte(Ends::new(self.text), self.byte);
+        let answer = read_onto(replica, &mut source);
+        if matches!(&answer, Err(SnapFault::ReadFault)) {
+            self.failures = self.failures.saturating_add(1);
+        }
+        answer
     }
 
     fn failures(&self) -> u64 {

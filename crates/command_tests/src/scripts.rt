@@ -5,6 +5,8 @@ ghost use Rattle.std.specs.Prelude.{[]};
 use super::program::run_words;
 use byte_ends::{Broken, BytesFault, Ends};
 use console::Named;
+use replica_core::Replica;
+use snapshot_text::SnapFault;
 use std::alloc::Global;
 use std::process::Abort;
 use std::test::Fail;
@@ -23,6 +25,11 @@ impl Named for NoFiles {
     fn read(&mut self, _name: &str, _limit: usize) -> Result<Vec<u8>, BytesFault> {
         self.failures = self.failures.saturating_add(1);
         Err(BytesFault::ReadFault)
+    }
+
+    fn read_snapshot(&mut self, _replica: Replica, _name: &str) -> Result<Replica, SnapFault> {
+        self.failures = self.failures.saturating_add(1);
+        Err(SnapFault::ReadFault)
     }
 
     fn failures(&self) -> u64 {

@@ -1,5 +1,6 @@
 //! Real files, opened by their names.
 
+use super::merges::snapshot_of;
 use super::program::run_words;
 use byte_ends::Ends;
 use console::{Named, SystemFiles};
@@ -65,5 +66,55 @@ fn real_files_are_read_by_name(rt: HostRuntime) -> Result<(), Fail> {
     assert!(rt; files.failures() == 2);
     fs::remove_file(&rt, "reviewgate_whole.tmp")?;
     fs::remove_file(&rt, "reviewgate_longer.tmp")?;
+    Ok(())
+}
+
+/// Merging the snapshots of two names ends with this status, prints this, and writes this to the error output.
+fn assert_merges(
+    rt: &impl Abort,
+    alloc: Global,
+    files: &mut SystemFiles<HostRuntime>,
+    names: [&str; 2],
+    output: &[u8],
+    line: &[u8],
+) {
+    let mut printed = Ends::new(Vec::new(alloc));
+    let mut errors = Ends::new(Vec::new(alloc));
+    let [first, second] = names;
+    let status = run_words(
+        alloc,
+        ["merge", first, second].as_slice(),
+        &mut Ends::new(b"reviewgate 2\nend 0\n".as_slice()),
+        &mut printed,
+        &mut errors,
+        files,
+    );
+    assert_eq!(rt; printed.get_ref().as_slice(), output, "{first}");
+    assert_eq!(rt; errors.get_ref().as_slice(), line, "{first}");
+    assert_eq!(rt; status > 0, !line.is_empty(), "{first}");
+}
+
+// A file of several blocks of 64 KiB, a folder, and one that isn't there.
+#[test]
+fn real_snapshots_are_read_by_name(rt: HostRuntime) -> Result<(), Fail> {
+    let alloc = rt.alloc();
+    let text = snapshot_of(alloc, 2000)?;
+    fs::write(&rt, "reviewgate_snapshot.tmp", text.as_bytes())?;
+    let mut files = SystemFiles::new(rt);
+    let name = "reviewgate_snapshot.tmp";
+    let unread = b"reviewgate: snapshot 7 ReadFault\n".as_slice();
+    assert_merges(&rt, alloc, &mut files, [name, "-"], text.as_bytes(), b"");
+    assert_merges(&rt, alloc, &mut files, ["-", name], text.as_bytes(), b"");
+    assert_merges(&rt, alloc, &mut files, [".", name], b"", unread);
+    assert_merges(
+        &rt,
+        alloc,
+        &mut files,
+        [name, "reviewgate_missing.tmp"],
+        b"",
+        unread,
+    );
+    assert!(rt; files.failures() == 2);
+    fs::remove_file(&rt, name)?;
     Ok(())
 }

@@ -1,10 +1,15 @@
 //! The files that a command names.
 
-ghost use Rattle.std.specs.Prelude.{◌≡◌, ◌<◌, ◌≤◌, ℕ, List, [], length, vec_len, IfOk, IfSome, IsErrOf};
+ghost use Rattle.std.specs.Prelude.{◌≡◌, ◌<◌, ◌≤◌, ℕ, List, [], length, vec_len, IfErr, IfOk, IfSome, IsErrOf};
+ghost use Rattle.std.specs.Prelude.{MatchResult};
+ghost use Rattle.byte_ends.specs.Failures.{OneFailed};
 ghost use Rattle.byte_ends.specs.ReadAll.{CountsRead};
+ghost use Rattle.snapshot_text.specs.Snapshot.{Brings, CountsSnapFault, IsRefusedBy};
 ghost use Rattle.console.specs.Console.{Contents, file_of};
 
 use byte_ends::{BytesFault, Ends, read_all};
+use replica_core::Replica;
+use snapshot_text::{SnapFault, read_onto};
 use std::alloc::Global;
 use std::fs;
 use std::rt::Files;
@@ -17,8 +22,9 @@ pub trait Named {
     /// How many calls answered `ReadFault`. The count stays at `u64::MAX`.
     ghost failed: { Self → ℕ };
 
-    /// All bytes of the file of a name, which are at most `limit`. Refusals: 6 `TooLong`, there are more; 7
-    /// `ReadFault`, it can't be opened or read; 8 `NoMemory`.
+    /// All bytes of the file of a name, which are at most `limit`: of a script, a gate file or a message file.
+    /// Refusals: 6 `TooLong`, there are more; 7 `ReadFault`, it can't be opened or read; 8 `NoMemory`. It costs
+    /// O(bytes).
     fn read(&mut self, name: &str, limit: usize) -> Result<Vec<u8>, BytesFault>
         ensures ok { IfOk result
             (λ bytes. IfSome (file_of (files self.old) name.now) (λ contents. bytes.items ≡ contents)) }
@@ -27,6 +33,17 @@ pub trait Named {
             → IfSome (file_of (files self.old) name.now) (λ contents. limit < length contents) }
         ensures kept { files self.new ≡ files self.old }
         ensures counted { CountsRead (failed self.old) (failed self.new) result };
+
+    /// The replica to which the operations of the snapshot in the file of a name came, after those that it has. The
+    /// text is read in blocks. The refusals and costs are those of `snapshot_text::read_onto`; 7 `ReadFault` also where
+    /// the file can't be opened.
+    fn read_snapshot(&mut self, replica: Replica, name: &str) -> Result<Replica, SnapFault>
+        ensures ok { IfOk result (λ both. Brings (file_of (files self.old) name.now) replica both) }
+        ensures err { IfErr result (λ fault. IsRefusedBy (file_of (files self.old) name.now) fault) }
+        ensures kept { files self.new ≡ files self.old }
+        ensures counted { MatchResult result
+            (λ _. failed self.new ≡ failed self.old)
+            (CountsSnapFault (failed self.old) (failed self.new)) };
 
     /// How many calls answered `ReadFault`. The count stays at `u64::MAX`.
     fn failures(&self) -> u64
@@ -47,6 +64,13 @@ impl<R: Files + AllocGlobal + Drop> SystemFiles<R> {
     {
         SystemFiles { rt, failures: 0 }
     }
+
+    /// Counts a file that can't be opened or read.
+    fn count_failure(&mut self)
+        ensures { OneFailed self.old.failures self.new.failures }
+    {
+        self.failures = self.failures.saturating_add(1);
+    }
 }
 
 impl<R: Files + AllocGlobal + Drop> Named for SystemFiles<R> {
@@ -61,7 +85,18 @@ impl<R: Files + AllocGlobal + Drop> Named for SystemFiles<R> {
             Err(_) => Err(BytesFault::ReadFault),
         };
         if matches!(&answer, Err(BytesFault::ReadFault)) {
-            self.failures = self.failures.saturating_add(1);
+            self.count_failure();
+        }
+        answer
+    }
+
+    fn read_snapshot(&mut self, replica: Replica, name: &str) -> Result<Replica, SnapFault> {
+        let answer = match fs::open(&self.rt, name) {
+            Ok(file) => read_onto(replica, &mut Ends::new(file)),
+            Err(_) => Err(SnapFault::ReadFault),
+        };
+        if matches!(&answer, Err(SnapFault::ReadFault)) {
+            self.count_failure();
         }
         answer
     }

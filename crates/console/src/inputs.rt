@@ -15,7 +15,6 @@ use super::refusals::Refusal;
 use super::streams::Console;
 use gate_rules::Gate;
 use replica_core::Replica;
-use snapshot_text::{SNAPSHOT_LIMIT, SnapFault, snapshot_onto};
 use std::alloc::Global;
 use std::str;
 
@@ -136,11 +135,7 @@ pub fn read_snapshot<'n, C: Console>(
     ensures refused { IfErr result
         (IsRefused (input snapshot_file name.now) (C.state console.old) (C.state console.new)) }
 {
-    let text = match console.read(replica.allocator(), name, SNAPSHOT_LIMIT) {
-        Ok(text) => text,
-        Err(fault) => return Err(Refusal::Snapshot(SnapFault::from(fault))),
-    };
-    match snapshot_onto(replica, text.as_slice()) {
+    match console.read_snapshot(replica, name) {
         Ok(both) => Ok(both),
         Err(fault) => Err(Refusal::Snapshot(fault)),
     }

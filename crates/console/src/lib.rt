@@ -3,8 +3,8 @@
 //!
 //! Its tests are in the crate `command_tests`.
 //!
-//! The name `-` is that of the input, which is read once: a second `-` is empty. Each kind of input has its limit, and
-//! is judged once it is read.
+//! The name `-` is that of the input, which is read once: a second `-` is empty. Each kind of input has its limit. A
+//! script, a gate file or a message is judged once it is read, and a snapshot as it is read, in blocks.
 #![tactic(auto)]
 
 mod files;

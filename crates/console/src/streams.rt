@@ -1,12 +1,15 @@
 //! The input, the output and the files of the program, as one value.
 
 ghost use Rattle.std.specs.Prelude.{◌≡◌, ◌⊎◌, Some, [], if◌then◌else◌, IfOk, IfErr};
+ghost use Rattle.byte_ends.specs.Lines.{lines_of};
 ghost use Rattle.replica_core.specs.InOrder.{IsInOrderOf};
+ghost use Rattle.replica_core.specs.Journal.{all_arrived};
 ghost use Rattle.report_text.specs.Report.{report_of};
-ghost use Rattle.snapshot_text.specs.Snapshot.{snapshot_text};
+ghost use Rattle.snapshot_text.specs.Snapshot.{SaysOperations, snapshot_text};
 ghost use Rattle.review_ops.specs.Operation.{Operation};
 ghost use Rattle.std.specs.Prelude.{List};
 ghost use Rattle.console.specs.Console.{ConsoleState, IsRead, IsUnread, is_input};
+ghost use Rattle.console.specs.Inputs.{IsHad, IsRefused, input, snapshot_file};
 ghost use Rattle.console.specs.Printing.{Prints, PrintsSnapshot};
 
 use super::files::Named;
@@ -15,7 +18,7 @@ use byte_ends::{BytesFault, Drain, Source, read_all, write_all};
 use ready_core::Verdicts;
 use replica_core::Replica;
 use report_text::{WriteReportFault, write_report};
-use snapshot_text::{WriteSnapFault, write_snapshot};
+use snapshot_text::{SnapFault, WriteSnapFault, read_onto, write_snapshot};
 use std::alloc::Global;
 
 /// What a command reads from and prints to.
@@ -23,12 +26,23 @@ pub trait Console {
     /// What is known of its ends.
     ghost state: { Self → ConsoleState };
 
-    /// All bytes of the file of a name, or for `-` those that the input has left, which are at most `limit`. A second
-    /// `-` has none. Refusals: 6 `TooLong`, there are more; 7 `ReadFault`, the input failed, or the file can't be
-    /// opened or read; 8 `NoMemory`. It costs O(bytes).
+    /// All bytes of the file of a name, or for `-` those that the input has left, which are at most `limit`: of a
+    /// script, a gate file or a message file. A second `-` has none. Refusals: 6 `TooLong`, there are more; 7
+    /// `ReadFault`, the input failed, or the file can't be opened or read; 8 `NoMemory`. It costs O(bytes).
     fn read(&mut self, alloc: Global, name: &str, limit: usize) -> Result<Vec<u8>, BytesFault>
         ensures read { IfOk result (λ bytes. IsRead name.now limit (state self.old) (state self.new) bytes.items) }
         ensures unread { IfErr result (IsUnread name.now limit (state self.old) (state self.new)) };
+
+    /// The replica to which the operations of the snapshot of a name came, after those that it has: of the file of the
+    /// name, or for `-` of what the input has left. A second `-` has nothing, and so no header. The text is read in
+    /// blocks. The refusals and costs are those of `snapshot_text::read_onto`; 7 `ReadFault` also where the file can't
+    /// be opened.
+    fn read_snapshot(&mut self, replica: Replica, name: &str) -> Result<Replica, SnapFault>
+        ensures had { IfOk result (λ both. (ops : List Operation) × (both ≡ all_arrived replica ops)
+            × IsHad (input snapshot_file name.now) (λ text. SaysOperations (lines_of text) ops)
+            (state self.old) (state self.new)) }
+        ensures refused { IfErr result (λ fault. IsRefused (input snapshot_file name.now)
+            (state self.old) (state self.new) (Refusal.Snapshot fault)) };
 
     /// Prints a text. Refusal: `Output`, the output failed.
     fn print(&mut self, text: &[u8]) -> Result<(), Refusal<'static>>
@@ -80,6 +94,17 @@ impl<'i, 'o, 'f, I: Source, O: Drain, N: Named> Console for Streams<'i, 'o, 'f, 
         }
         self.is_spent = true;
         read_all(alloc, self.input, limit)
+    }
+
+    fn read_snapshot(&mut self, replica: Replica, name: &str) -> Result<Replica, SnapFault> {
+        if !is_input(name) {
+            return self.files.read_snapshot(replica, name);
+        }
+        if self.is_spent {
+            return Err(SnapFault::BadHeader);
+        }
+        self.is_spent = true;
+        read_onto(replica, self.input)
     }
 
     fn print(&mut self, text: &[u8]) -> Result<(), Refusal<'static>> {

@@ -1,8 +1,10 @@
 -- What is known when a snapshot was read to its end, or too much of it came.
-use Rattle.std.proofs.Common.{◌≡◌, ◌<◌, ◌∙◌, ℕ, List, Option, None, Some, Result, Ok, Err, length, inr, ap}
-use Rattle.std.proofs.Common.{subst, arith, length-append}
-use Rattle.std.specs.Prelude.{IfSome, IfOk, IfErr, OnOk, MatchResult}
-use Rattle.std.specs.Io.KnownBytes.{Consumes}
+use Rattle.std.proofs.Common.{◌≡◌, ◌⊎◌, ◌<◌, ◌≤◌, ◌∙◌, ℕ, List, Option, None, Some, Result, Ok, Err, length}
+use Rattle.std.proofs.Common.{inr, ap, refl, subst, arith, length-append}
+use Rattle.std.proofs.KnownBytes.{Consumes-whole}
+use Rattle.std.specs.Prelude.{IfSome, IfOk, IfErr, MatchResult}
+use Rattle.std.specs.Io.KnownBytes.{Consumes, IsAtEnd}
+use Rattle.byte_ends.specs.Lines.{lines_of}
 use Rattle.review_ops.specs.Operation.{Operation}
 use Rattle.replica_core.specs.Journal.{all_arrived}
 use Rattle.snapshot_text.specs.declared.fault.SnapFault.{SnapFault}
@@ -10,11 +12,8 @@ use Rattle.snapshot_text.specs.declared.fault.SnapFault.TheVariants.{BadHeader, 
 use Rattle.snapshot_text.specs.declared.fault.SnapFault.TheVariants.{TooLong, ReadFault, NoMemory}
 use Rattle.snapshot_text.specs.Progress.{IsFaultIn}
 use Rattle.snapshot_text.specs.Snapshot.{SaysOperations, IsFirstSnapFault, IsOutside, CountsSnapFault}
+use Rattle.snapshot_text.specs.Snapshot.{IsRefusedBy, IsWhole, most_bytes}
 use Rattle.snapshot_text.proofs.OneReading.{one_reading}
-
-pub on_ok_always : {T E P : Type 0} (r : Result T E) → P → OnOk r P
-on_ok_always (Ok x) p = p
-on_ok_always (Err e) p = tt
 
 -- lines that say operations are read so, unless memory was refused
 pub only_reading : (r : Result (List Operation) SnapFault) (base : List Operation) (lines : List (List ℕ))
@@ -58,6 +57,27 @@ too_much None new came most read more = tt
 too_much (Some text) None came most read more = absurd read
 too_much (Some text) (Some rest) came most read more = omega (arith, more, ap length read, length-append came rest)
 
-pub whatever : (left : Option (List ℕ)) (P : List ℕ → Type 0) → ((text : List ℕ) → P text) → IfSome left P
-whatever None P all = tt
-whatever (Some text) P all = all text
+-- ---- a source that was read to its end
+pub all_came : (old new : Option (List ℕ)) (came : List ℕ) → Consumes old new came → IsAtEnd new
+    → length came ≤ most_bytes → IsWhole old came
+all_came old new came read at_end few = record {
+  same = Consumes-whole old new came (λ bytes. came ≡ bytes) read at_end refl;
+  within = few;
+}
+
+pub at_end_anyway : {T P : Type 0} (r : Result T SnapFault) → P
+    → MatchResult r (λ _. P) (λ fault. IsOutside fault ⊎ P)
+at_end_anyway (Ok x) p = p
+at_end_anyway (Err fault) p = inr p
+
+-- the first fault of a whole text refuses it
+pub refused_by : (known : Option (List ℕ)) (text : List ℕ) (fault : SnapFault) → IsWhole known text
+    → IsFirstSnapFault (lines_of text) fault → IsRefusedBy known fault
+refused_by known text BadHeader whole is = (text, whole, is)
+refused_by known text (BadLine n cause) whole is = (text, whole, is)
+refused_by known text NoEnd whole is = (text, whole, is)
+refused_by known text BadCount whole is = (text, whole, is)
+refused_by known text AfterEnd whole is = (text, whole, is)
+refused_by known text TooLong whole is = absurd is
+refused_by known text ReadFault whole is = absurd is
+refused_by known text NoMemory whole is = tt

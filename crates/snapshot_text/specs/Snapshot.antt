@@ -1,10 +1,12 @@
 -- The text of a snapshot, and what a text says when it is read. The form is the project's own.
 use Rattle.std.specs.Prelude.{◌≡◌, ◌≢◌, ◌⊎◌, ◌+◌, ◌<◌, ◌≤◌, ℕ, List, [], ◌∷◌, ◌++◌, codes, length, flat_map}
+use Rattle.std.specs.Prelude.{Option, IfSome}
 use Rattle.std.specs.Fmt.{decimal}
 use Rattle.std.specs.Str.Parse.{IsNumeral, digits_value}
 use Rattle.byte_ends.specs.Failures.{OneFailed}
 use Rattle.byte_ends.specs.Lines.{as_line, lines_of}
 use Rattle.review_ops.specs.Operation.{Operation}
+use Rattle.replica_core.specs.Journal.{all_arrived}
 use Rattle.op_text.specs.declared.field.Form.TheVariants as form
 use Rattle.op_text.specs.declared.fault.OpTextFault.{OpTextFault}
 use Rattle.op_text.specs.declared.fault.OpTextFault.TheVariants as op_fault
@@ -113,6 +115,26 @@ IsRefusal text NoMemory = Unit {0}
 -- the fault is one of a text, or want of memory: there is not too much, and its source didn't fail
 abbrev pub IsOfText : SnapFault → Type 0
 IsOfText fault = (fault ≢ TooLong) × (fault ≢ ReadFault)
+
+-- ---- what is read where the bytes may not be known
+
+-- the text is all that was there, where that is known, and within the limit
+pub record IsWhole (known : Option (List ℕ)) (text : List ℕ) : Type 0 where
+  pub same : IfSome known (λ bytes. text ≡ bytes)
+  pub within : length text ≤ most_bytes
+
+-- a whole text says operations, and they have arrived after those of the base
+abbrev pub Brings : Option (List ℕ) → List Operation → List Operation → Type 0
+Brings known base both =
+    (text : List ℕ) × IsWhole known text × (ops : List Operation) × SaysOperations (lines_of text) ops
+    × (both ≡ all_arrived base ops)
+
+-- why nothing was brought: there is too much, reading failed, memory was refused, or a whole text has this fault first
+abbrev pub IsRefusedBy : Option (List ℕ) → SnapFault → Type 0
+IsRefusedBy known TooLong = IfSome known (λ bytes. most_bytes < length bytes)
+IsRefusedBy known ReadFault = Unit {0}
+IsRefusedBy known NoMemory = Unit {0}
+IsRefusedBy known fault = (text : List ℕ) × IsWhole known text × IsFirstSnapFault (lines_of text) fault
 
 -- the fault says nothing of the lines
 abbrev pub IsOutside : SnapFault → Type 0

@@ -2,11 +2,10 @@
 
 ghost use Rattle.std.specs.Prelude.{◌≡◌, ◌++◌, OnOk, string_bytes};
 ghost use Rattle.snapshot_text.specs.Fault.{number_of, name_of, words_of, write_number_of, write_name_of};
-ghost use Rattle.snapshot_text.specs.Fault.{snap_fault_of};
 ghost use Rattle.snapshot_text.specs.declared.fault.WriteSnapFault.TheVariants.{WriteFault as WriteFailed};
 ghost use Rattle.snapshot_text.specs.declared.fault.WriteSnapFault.TheVariants.{NoMemory as OutOfMemory};
 
-use byte_ends::{BytesFault, Failed};
+use byte_ends::Failed;
 use lattice_core::NoMemory;
 use op_text::OpTextFault;
 use std::alloc::AllocError;
@@ -119,18 +118,6 @@ impl WriteSnapFault {
         match self {
             WriteSnapFault::WriteFault => "WriteFault",
             WriteSnapFault::NoMemory => "NoMemory",
-        }
-    }
-}
-
-impl From<BytesFault> for SnapFault {
-    ghost from_gives = { λ fault given. given ≡ snap_fault_of fault };
-
-    fn from(fault: BytesFault) -> SnapFault {
-        match fault {
-            BytesFault::TooLong => SnapFault::TooLong,
-            BytesFault::ReadFault => SnapFault::ReadFault,
-            BytesFault::NoMemory => SnapFault::NoMemory,
         }
     }
 }

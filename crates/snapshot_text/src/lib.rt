@@ -22,8 +22,7 @@ mod progress;
 mod read;
 mod write;
 
-pub use byte_ends::{BytesFault, read_all};
 pub use fault::{SnapFault, WriteSnapFault};
 pub use laws::{lines_have_one_reading, snapshots_are_one, snapshots_say_their_operations};
-pub use read::{SNAPSHOT_LIMIT, read_snapshot, snapshot_of, snapshot_onto};
+pub use read::{read_onto, read_snapshot, snapshot_of, snapshot_onto};
 pub use write::write_snapshot;

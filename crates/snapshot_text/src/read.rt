@@ -1,6 +1,6 @@
 //! Reads snapshots.
 
-ghost use Rattle.std.specs.Prelude.{◌≡◌, ◌≤◌, ◌<◌, ◌+◌, ◌-◌, ◌^◌, ◌++◌, length, OnOk, List, [], Some, IfOk, IfErr};
+ghost use Rattle.std.specs.Prelude.{◌≡◌, ◌⊎◌, ◌≤◌, ◌<◌, ◌+◌, ◌-◌, ◌^◌, ◌++◌, length, OnOk, List, [], Some, IfOk, IfErr};
 ghost use Rattle.std.specs.Prelude.{IfSome, MatchResult, ℕ};
 ghost use Rattle.std.specs.Io.KnownBytes.{Consumes, IsAtEnd};
 ghost use Rattle.byte_ends.specs.Lines.{lines_of};
@@ -8,7 +8,7 @@ ghost use Rattle.review_ops.specs.Operation.{Operation};
 ghost use Rattle.replica_core.specs.Journal.{all_arrived};
 ghost use Rattle.snapshot_text.specs.Progress.{HasRead};
 ghost use Rattle.snapshot_text.specs.Snapshot.{SaysOperations, most_bytes, IsRefusal, IsOfText};
-ghost use Rattle.snapshot_text.specs.Snapshot.{IsOutside, CountsSnapFault};
+ghost use Rattle.snapshot_text.specs.Snapshot.{Brings, IsOutside, IsRefusedBy, CountsSnapFault};
 
 use super::blocks::Blocks;
 use super::fault::SnapFault;
@@ -17,38 +17,60 @@ use replica_core::Replica;
 use std::alloc::Global;
 
 /// The most bytes that a snapshot has: 1 GiB.
-pub const SNAPSHOT_LIMIT: usize = 1_073_741_824;
+const SNAPSHOT_LIMIT: usize = 1_073_741_824;
 
 /// How many bytes are read at once.
 const BLOCK: usize = 65_536;
 
 /// Reads a snapshot to the end of its source: the replica in which its operations have arrived in the order of their
-/// lines. Lines may come in any order and be repeated. The first line says version 1 or 2; the end line has 1 to 20
-/// digits. Refusals, of which the first in line order counts: 1 `BadHeader`, 2 `BadLine` with the line's number from 1
-/// and the cause, 3 `NoEnd`, 4 `BadCount`, 5 `AfterEnd`; and before any of them 6 `TooLong`, more than 1,073,741,824
-/// bytes, and 7 `ReadFault`, the source failed; 8 `NoMemory`. So what comes after a line that is refused is read to its
-/// end. Nothing of a refused snapshot is handed out. It reads up to 64 KiB at once, and holds no more of the text than
-/// that and the beginning of a line. It costs O(n) for n bytes, beside what a gathering's `take` costs for each operation
-/// and its `joined` for all.
+/// lines. It reads, refuses and costs what `read_onto` does.
 pub fn read_snapshot<S: Source>(alloc: Global, source: &mut S) -> Result<Replica, SnapFault>
-    ensures ok { IfOk result (λ replica. IfSome (S.left source.old) (λ text. (ops : List Operation)
-        × SaysOperations (lines_of text) ops × (replica ≡ all_arrived [] ops))) }
-    ensures within { OnOk result (IfSome (S.left source.old) (λ text. length text ≤ most_bytes)) }
-    ensures err { IfErr result
-        (λ fault. IfSome (S.left source.old) (λ text. IsRefusal text fault)) }
+    ensures ok { IfOk result (λ replica. Brings (S.left source.old) [] replica) }
+    ensures err { IfErr result (λ fault. IsRefusedBy (S.left source.old) fault) }
 
     // What says operations is read.
     ensures only { (text : List ℕ) → (ops : List Operation)
         → S.left source.old ≡ Some text → SaysOperations (lines_of text) ops
         → MatchResult result (λ replica. replica ≡ all_arrived [] ops) IsOutside }
+
+    // Unless it is refused for another reason than its text, it was read to its end.
+    ensures end { MatchResult result (λ _. IsAtEnd (S.left source.new))
+        (λ fault. IsOutside fault ⊎ IsAtEnd (S.left source.new)) }
     ensures counted { MatchResult result
         (λ _. S.failed source.new ≡ S.failed source.old)
         (CountsSnapFault (S.failed source.old) (S.failed source.new)) }
 {
-    let Ok(mut block) = vec![in alloc; 0u8; BLOCK] else {
+    read_onto(Replica::new(alloc), source)
+}
+
+/// Reads a snapshot to the end of its source, into a replica that is given up for it: its operations arrive, in the
+/// order of their lines, after what the replica has. Lines may come in any order and be repeated. The first line says
+/// version 1 or 2; the end line has 1 to 20 digits. Refusals, of which the first in line order counts: 1 `BadHeader`,
+/// 2 `BadLine` with the line's number from 1 and the cause, 3 `NoEnd`, 4 `BadCount`, 5 `AfterEnd`; and before any of
+/// them 6 `TooLong`, more than 1,073,741,824 bytes, and 7 `ReadFault`, the source failed; 8 `NoMemory`. So what comes
+/// after a line that is refused is read to its end. Neither the replica nor anything of a refused snapshot is handed
+/// out. It reads up to 64 KiB at once, and holds no more of the text than that and the beginning of a line. It costs
+/// O(n) for n bytes, beside what a gathering's `take` costs for each operation and its `joined` for all.
+pub fn read_onto<S: Source>(replica: Replica, source: &mut S) -> Result<Replica, SnapFault>
+    ensures ok { IfOk result (λ both. Brings (S.left source.old) replica both) }
+    ensures err { IfErr result (λ fault. IsRefusedBy (S.left source.old) fault) }
+
+    // What says operations is read.
+    ensures only { (text : List ℕ) → (ops : List Operation)
+        → S.left source.old ≡ Some text → SaysOperations (lines_of text) ops
+        → MatchResult result (λ both. both ≡ all_arrived replica ops) IsOutside }
+
+    // Unless it is refused for another reason than its text, it was read to its end.
+    ensures end { MatchResult result (λ _. IsAtEnd (S.left source.new))
+        (λ fault. IsOutside fault ⊎ IsAtEnd (S.left source.new)) }
+    ensures counted { MatchResult result
+        (λ _. S.failed source.new ≡ S.failed source.old)
+        (CountsSnapFault (S.failed source.old) (S.failed source.new)) }
+{
+    let Ok(mut block) = vec![in replica.allocator(); 0u8; BLOCK] else {
         return Err(SnapFault::NoMemory);
     };
-    let mut blocks = Blocks::onto(Replica::new(alloc));
+    let mut blocks = Blocks::onto(replica);
     let mut seen = 0usize;
     while seen <= SNAPSHOT_LIMIT {
         match read_block(source, block.as_mut_slice(), &mut blocks)? {
@@ -86,7 +108,7 @@ fn read_block<S: Source>(
 }
 
 /// Reads the text of a snapshot as `read_snapshot` reads what a source has, for a caller that has the bytes and has
-/// seen to their limit. Of the refusals 6 and 7 never come. It costs what `read_snapshot` does.
+/// seen to their limit. Of the refusals 6 and 7 never come. It costs what `read_onto` does.
 pub fn snapshot_of(alloc: Global, text: &[u8]) -> Result<Replica, SnapFault>
     requires { length text.now ≤ most_bytes }
     ensures ok { IfOk result (λ replica. (ops : List Operation)
@@ -101,9 +123,8 @@ pub fn snapshot_of(alloc: Global, text: &[u8]) -> Result<Replica, SnapFault>
     snapshot_onto(Replica::new(alloc), text)
 }
 
-/// Reads the text of a snapshot, as `snapshot_of` does, into a replica that is given up for it: its operations arrive,
-/// in the order of their lines, after what the replica has. Neither the replica nor anything of the text is handed out
-/// of a refusal. It costs what `read_snapshot` does.
+/// Reads the text of a snapshot, as `snapshot_of` does, into a replica that is given up for it, as `read_onto` does.
+/// It costs what that does.
 pub fn snapshot_onto(replica: Replica, text: &[u8]) -> Result<Replica, SnapFault>
     requires { length text.now ≤ most_bytes }
     ensures ok { IfOk result (λ both. (ops : List Operation)
