@@ -1,0 +1,5 @@
+pub mod Asking
+pub mod Meeting
+pub mod Names
+pub mod Warnings
+pub mod Checked
