@@ -2,8 +2,9 @@
 -- words. The conditions are those of Zuul's Gerrit driver (zuul-ci.org/docs, "Gerrit", pipeline requirements); the words
 -- are the project's own.
 use Rattle.std.specs.Prelude.{ℕ, suc, ℤ, List, [], ◌∷◌, ◌++◌, Bool, true, false, Option, None, Some, codes, decimal}
-use Rattle.std.specs.Prelude.{flat_map, map, if◌then◌else◌, ◌==◌}
+use Rattle.std.specs.Prelude.{encode_utf8, flat_map, map, if◌then◌else◌, ◌==◌}
 use Rattle.std.specs.Fmt.{signed_decimal}
+use Rattle.std.specs.Str.{chars}
 use Rattle.json.specs.Print.{quoted}
 use Rattle.gate_rules.specs.Own.{side_rules}
 use Rattle.gate_rules.specs.Rules.{GateRules, LabelRule, PatternRule}
@@ -30,14 +31,15 @@ made_of make (Some x) = make x
 
 -- ---- places
 
--- the name of a connection in a JSON pointer (RFC 6901, section 3)
+-- a character of a connection's name in a JSON pointer (RFC 6901, section 3)
 abbrev pub escaped : ℕ → List ℕ
-escaped byte = if byte == 126 then codes "~0" else if byte == 47 then codes "~1" else byte ∷ []
+escaped letter =
+    if letter == 126 then codes "~0" else if letter == 47 then codes "~1" else encode_utf8 letter
 
 -- the place of a key among the conditions of a side, as a JSON pointer
 abbrev pub place_of : GateRules → Side → List ℕ → List ℕ
 place_of gate side key =
-    codes "/" ++ side_name side ++ codes "/" ++ flat_map escaped gate.connection ++ codes "/" ++ key
+    codes "/" ++ side_name side ++ codes "/" ++ flat_map escaped (chars gate.connection) ++ codes "/" ++ key
 
 -- an approval has its place in the list of them, and one that is alone is the first of the list of it
 abbrev pub approval_key : ℕ → List ℕ
@@ -76,16 +78,30 @@ pattern_words pattern =
 abbrev pub condition_line : GateRules → Side → List ℕ → List ℕ → List ℕ
 condition_line gate side key words = side_name side ++ codes " " ++ place_of gate side key ++ codes " " ++ words
 
+abbrev pub open_lines : GateRules → Side → List (List ℕ)
+open_lines gate side =
+    made_of (λ asked. condition_line gate side (codes "open") (open_words asked) ∷ []) (side_rules gate side).is_open
+
+abbrev pub current_lines : GateRules → Side → List (List ℕ)
+current_lines gate side =
+    made_of (λ asked. condition_line gate side (codes "current-patchset") (current_words asked) ∷ [])
+    (side_rules gate side).is_current
+
+abbrev pub status_lines : GateRules → Side → List (List ℕ)
+status_lines gate side =
+    made_of (λ texts. condition_line gate side (codes "status") (status_words texts) ∷ []) (side_rules gate side).status
+
+abbrev pub approval_line : GateRules → Side → ℕ → PatternRule → List ℕ
+approval_line gate side place pattern = condition_line gate side (approval_key place) (pattern_words pattern)
+
 abbrev pub approval_lines : GateRules → Side → ℕ → PatternRule → List (List ℕ)
-approval_lines gate side place pattern = condition_line gate side (approval_key place) (pattern_words pattern) ∷ []
+approval_lines gate side place pattern = approval_line gate side place pattern ∷ []
 
 -- the conditions of a side, in the order in which items are judged by them
 abbrev pub side_lines : GateRules → Side → List (List ℕ)
-side_lines gate side = let rules = side_rules gate side in
-    made_of (λ asked. condition_line gate side (codes "open") (open_words asked) ∷ []) rules.is_open
-    ++ made_of (λ asked. condition_line gate side (codes "current-patchset") (current_words asked) ∷ []) rules.is_current
-    ++ made_of (λ texts. condition_line gate side (codes "status") (status_words texts) ∷ []) rules.status
-    ++ numbered (approval_lines gate side) 0 rules.approvals
+side_lines gate side =
+    open_lines gate side ++ current_lines gate side ++ status_lines gate side
+    ++ numbered (approval_lines gate side) 0 (side_rules gate side).approvals
 
 -- a line for each condition: what is required, then what is rejected
 abbrev pub condition_lines : GateRules → List (List ℕ)

@@ -13,6 +13,8 @@ use Rattle.gate_rules.specs.Reading.{each}
 use Rattle.gate_rules.specs.Rules.{GateRules, LabelRule, PatternRule}
 use Rattle.gate_rules.specs.declared.condition.Clause.TheVariants.{CurrentSet, OpenState, StatusIn}
 use Rattle.gate_rules.specs.declared.condition.Condition.{Condition}
+use Rattle.gate_rules.specs.declared.condition.Side.{Side}
+use Rattle.gate_rules.specs.declared.condition.Side.TheVariants.{Require, Reject}
 
 -- ---- the status
 
@@ -60,10 +62,14 @@ abbrev pub rejects_votes : List PatternRule → PatternRule → List ℕ → ℤ
 rejects_votes rejected pattern label value =
     some (λ other. is_as_wide other pattern && matches other (vote_of pattern label value)) rejected
 
+abbrev pub has_none : {A : Type 0} → List A → Bool
+has_none [] = true
+has_none (x ∷ xs) = false
+
 -- votes of every label are
 abbrev pub rejects_any_label : List PatternRule → PatternRule → Bool
 rejects_any_label rejected pattern =
-    some (λ other. is_as_wide other pattern && names other.username (unwrap_or pattern.username []) && is_empty other.labels)
+    some (λ other. is_as_wide other pattern && names other.username (unwrap_or pattern.username []) && has_none other.labels)
     rejected
 
 -- every vote that the pattern takes is rejected; one with two labels takes none
@@ -71,6 +77,22 @@ abbrev pub rejects_each : List PatternRule → PatternRule → List LabelRule �
 rejects_each rejected pattern [] = rejects_any_label rejected pattern
 rejects_each rejected pattern (rule ∷ []) = each (rejects_votes rejected pattern rule.label) rule.values
 rejects_each rejected pattern (rule ∷ other ∷ rules) = true
+
+-- ---- the conditions of a gate
+
+abbrev pub is_open_never_met : GateRules → Bool
+is_open_never_met gate = is_some gate.require.is_open && lets_none_in gate
+
+abbrev pub is_current_never_met : GateRules → Bool
+is_current_never_met gate = same_answer gate.require.is_current gate.reject.is_current
+
+abbrev pub is_status_never_met : GateRules → Bool
+is_status_never_met gate = is_some gate.require.status && lets_none_in gate
+
+-- an approval: only one that is required is to be met
+abbrev pub is_never_met : GateRules → Side → PatternRule → Bool
+is_never_met gate Require pattern = rejects_each gate.reject.approvals pattern pattern.labels
+is_never_met gate Reject pattern = false
 
 -- ---- what the tests mean
 

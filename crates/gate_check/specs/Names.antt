@@ -21,10 +21,10 @@ pub record Names : Type 0 where
   pub has_voter : List ℕ → Bool
 
 abbrev pub is_label_among : List Slot → List ℕ → Bool
-is_label_among slots label = some (λ slot. bytes_eq label slot.label) slots
+is_label_among slots label = some (λ slot. bytes_eq slot.label label) slots
 
 abbrev pub is_voter_among : List Slot → List ℕ → Bool
-is_voter_among slots voter = some (λ slot. bytes_eq voter slot.voter) slots
+is_voter_among slots voter = some (λ slot. bytes_eq slot.voter voter) slots
 
 abbrev pub names_in : State → Names
 names_in state = record {

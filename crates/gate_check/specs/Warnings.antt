@@ -8,7 +8,7 @@ use Rattle.gate_rules.specs.Rules.{GateRules, LabelRule, PatternRule}
 use Rattle.gate_rules.specs.declared.condition.Side.{Side}
 use Rattle.gate_rules.specs.declared.condition.Side.TheVariants.{Require, Reject}
 use Rattle.gate_check.specs.Asking.{approval_key, numbered, place_of}
-use Rattle.gate_check.specs.Meeting.{lets_none_in, rejects_each, same_answer}
+use Rattle.gate_check.specs.Meeting.{is_current_never_met, is_never_met, is_open_never_met, is_status_never_met}
 use Rattle.gate_check.specs.Names.{Names}
 use Rattle.gate_check.specs.declared.warning.Warning.{Warning}
 use Rattle.gate_check.specs.declared.warning.Warning.TheVariants.{Pattern, UnknownLabel, UnknownVoter, NeverMet}
@@ -70,25 +70,27 @@ unknown_warnings place (Some names) pattern =
 abbrev pub never_met : Bool → List ℕ → List (List ℕ)
 never_met is_so place = warned is_so (warning_line NeverMet place None)
 
--- only a pattern that is required is to be met
-abbrev pub is_never_met : GateRules → Side → PatternRule → Bool
-is_never_met gate Require pattern = rejects_each gate.reject.approvals pattern pattern.labels
-is_never_met gate Reject pattern = false
-
 -- ---- the warnings of a gate
 
+-- of an approval at a place
+abbrev pub warnings_at : List ℕ → Option Names → Bool → PatternRule → List (List ℕ)
+warnings_at place names is_so pattern =
+    pattern_warnings place pattern.username ++ unknown_warnings place names pattern ++ never_met is_so place
+
 abbrev pub approval_warnings : GateRules → Option Names → Side → ℕ → PatternRule → List (List ℕ)
-approval_warnings gate names side number pattern = let place = place_of gate side (approval_key number) in
-    pattern_warnings place pattern.username ++ unknown_warnings place names pattern
-    ++ never_met (is_never_met gate side pattern) place
+approval_warnings gate names side number pattern =
+    warnings_at (place_of gate side (approval_key number)) names (is_never_met gate side pattern) pattern
+
+-- of what is required under a key
+abbrev pub key_warnings : GateRules → List ℕ → Bool → List (List ℕ)
+key_warnings gate key is_so = never_met is_so (place_of gate Require key)
 
 -- of the conditions before the approvals
 abbrev pub first_warnings : GateRules → List (List ℕ)
 first_warnings gate =
-    never_met (is_some gate.require.is_open && lets_none_in gate) (place_of gate Require (codes "open"))
-    ++ never_met (same_answer gate.require.is_current gate.reject.is_current)
-    (place_of gate Require (codes "current-patchset"))
-    ++ never_met (is_some gate.require.status && lets_none_in gate) (place_of gate Require (codes "status"))
+    key_warnings gate (codes "open") (is_open_never_met gate)
+    ++ key_warnings gate (codes "current-patchset") (is_current_never_met gate)
+    ++ key_warnings gate (codes "status") (is_status_never_met gate)
 
 -- condition by condition, as items are judged by them
 abbrev pub warning_lines : GateRules → Option Names → List (List ℕ)

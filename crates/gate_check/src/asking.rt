@@ -1,7 +1,8 @@
 //! A line for each condition of a gate.
 
 ghost use Rattle.std.specs.Prelude.{◌≡◌, ◌++◌, IfOk, OnOk, map, string_bytes};
-ghost use Rattle.gate_check.specs.Asking.{approval_lines, condition_line, condition_lines, numbered, side_lines};
+ghost use Rattle.gate_check.specs.Asking.{approval_line, approval_lines, condition_line, condition_lines, current_lines};
+ghost use Rattle.gate_check.specs.Asking.{numbered, open_lines, side_lines, status_lines};
 
 use super::place::{approval_key, place_of};
 use super::words::{current_words, open_words, pattern_words, status_words};
@@ -24,19 +25,57 @@ fn add_side(alloc: Global, gate: &Gate, side: Side, lines: &mut Vec<String>) -> 
     ensures { OnOk result (map string_bytes lines.new.items
         ≡ map string_bytes lines.old.items ++ side_lines gate.now side) }
 {
-    let clauses = gate.clauses(side);
-    if let Some(asked) = clauses.asks_open() {
-        lines.push(line(alloc, gate, side, "open", open_words(asked))?)?;
-    }
-    if let Some(asked) = clauses.asks_current() {
-        let words = current_words(asked);
-        lines.push(line(alloc, gate, side, "current-patchset", words)?)?;
-    }
-    if let Some(texts) = clauses.statuses() {
-        let words = status_words(alloc, texts)?;
-        lines.push(line(alloc, gate, side, "status", words.as_str())?)?;
-    }
-    add_approvals(alloc, gate, side, clauses.approvals(), lines)
+    add_open(alloc, gate, side, lines)?;
+    add_current(alloc, gate, side, lines)?;
+    add_status(alloc, gate, side, lines)?;
+    add_approvals(alloc, gate, side, gate.clauses(side).approvals(), lines)
+}
+
+/// Adds the line of `open`, where it is asked.
+fn add_open(alloc: Global, gate: &Gate, side: Side, lines: &mut Vec<String>) -> Result<(), NoMemory>
+    ensures { OnOk result (map string_bytes lines.new.items
+        ≡ map string_bytes lines.old.items ++ open_lines gate.now side) }
+{
+    let Some(asked) = gate.clauses(side).asks_open() else {
+        return Ok(());
+    };
+    lines.push(line(alloc, gate, side, "open", open_words(asked))?)?;
+    Ok(())
+}
+
+/// Adds the line of `current-patchset`, where it is asked.
+fn add_current(
+    alloc: Global,
+    gate: &Gate,
+    side: Side,
+    lines: &mut Vec<String>,
+) -> Result<(), NoMemory>
+    ensures { OnOk result (map string_bytes lines.new.items
+        ≡ map string_bytes lines.old.items ++ current_lines gate.now side) }
+{
+    let Some(asked) = gate.clauses(side).asks_current() else {
+        return Ok(());
+    };
+    lines.push(line(alloc, gate, side, "current-patchset", current_words(asked))?)?;
+    Ok(())
+}
+
+/// Adds the line of `status`, where it is asked.
+fn add_status(
+    alloc: Global,
+    gate: &Gate,
+    side: Side,
+    lines: &mut Vec<String>,
+) -> Result<(), NoMemory>
+    ensures { OnOk result (map string_bytes lines.new.items
+        ≡ map string_bytes lines.old.items ++ status_lines gate.now side) }
+{
+    let Some(texts) = gate.clauses(side).statuses() else {
+        return Ok(());
+    };
+    let words = status_words(alloc, texts)?;
+    lines.push(line(alloc, gate, side, "status", words.as_str())?)?;
+    Ok(())
 }
 
 /// Adds the lines of approvals.
@@ -51,11 +90,24 @@ fn add_approvals(
         ≡ map string_bytes lines.old.items ++ numbered (approval_lines gate.now side) 0 approvals.now) }
 {
     for place in 0..approvals.len() {
-        let key = approval_key(alloc, place)?;
-        let words = pattern_words(alloc, &approvals[place])?;
-        lines.push(line(alloc, gate, side, key.as_str(), words.as_str())?)?;
+        lines.push(approval_line(alloc, gate, side, place, &approvals[place])?)?;
     }
     Ok(())
+}
+
+/// The line of an approval.
+fn approval_line(
+    alloc: Global,
+    gate: &Gate,
+    side: Side,
+    place: usize,
+    pattern: &Pattern,
+) -> Result<String, NoMemory>
+    ensures { IfOk result (λ line. string_bytes line ≡ approval_line gate.now side place pattern.now) }
+{
+    let key = approval_key(alloc, place)?;
+    let words = pattern_words(alloc, pattern)?;
+    line(alloc, gate, side, key.as_str(), words.as_str())
 }
 
 /// The line of a condition.

@@ -27,9 +27,9 @@ pub struct Checked {
 /// are required with their values, q that are rejected, and v votes of n labels and voters.
 pub fn check_gate(alloc: Global, gate: &Gate, state: Option<&State>) -> Result<Checked, NoMemory>
     ensures text { IfOk result
-        (λ check. string_bytes check.text ≡ check_text gate.now (option_map (λ known. known.now) state)) }
+        (λ check. string_bytes check.text ≡ check_text gate.now (option_map (λ known. known.now) state.entry)) }
     ensures warnings { IfOk result
-        (λ check. check.warnings ≡ length (warnings_of gate.now (option_map (λ known. known.now) state))) }
+        (λ check. check.warnings ≡ length (warnings_of gate.now (option_map (λ known. known.now) state.entry))) }
 {
     let conditions = condition_lines(alloc, gate)?;
     let warnings = warnings_of(alloc, gate, state)?;
@@ -48,7 +48,7 @@ pub fn check_gate(alloc: Global, gate: &Gate, state: Option<&State>) -> Result<C
 /// The lines of the warnings, with the record of a state or without one.
 fn warnings_of(alloc: Global, gate: &Gate, state: Option<&State>) -> Result<Vec<String>, NoMemory>
     ensures { IfOk result (λ lines. map string_bytes lines.items
-        ≡ warnings_of gate.now (option_map (λ known. known.now) state)) }
+        ≡ warnings_of gate.now (option_map (λ known. known.now) state.entry)) }
 {
     let Some(state) = state else {
         return warning_lines(alloc, gate, None);

@@ -1,13 +1,14 @@
 //! The warnings of a gate.
 
-ghost use Rattle.std.specs.Prelude.{◌≡◌, ◌++◌, IfOk, OnOk, flat_map, map, option_map, string_bytes};
-ghost use Rattle.gate_rules.specs.Own.{side_rules, some};
+ghost use Rattle.std.specs.Prelude.{◌≡◌, ◌++◌, IfOk, OnOk, flat_map, map, nat_eq, option_map, string_bytes};
+ghost use Rattle.gate_rules.specs.Own.{some};
 ghost use Rattle.gate_check.specs.Asking.{numbered};
-ghost use Rattle.gate_check.specs.Warnings.{approval_warnings, first_warnings, is_sign, label_warning, never_met};
+ghost use Rattle.gate_check.specs.Shown.{names_shown};
+ghost use Rattle.gate_check.specs.Warnings.{approval_warnings, first_warnings, is_sign, key_warnings, label_warning};
 ghost use Rattle.gate_check.specs.Warnings.{pattern_warnings, unknown_warnings, voter_warnings, warned, warning_line};
-ghost use Rattle.gate_check.specs.Warnings.{warning_lines};
+ghost use Rattle.gate_check.specs.Warnings.{warning_lines, warnings_at};
 
-use super::meeting::{is_never_met, lets_none_in, same_answer};
+use super::meeting::{is_current_never_met, is_never_met, is_open_never_met, is_status_never_met};
 use super::names::Names;
 use super::place::{approval_key, place_of};
 use super::warning::Warning;
@@ -23,12 +24,14 @@ pub fn warning_lines(
     names: Option<&Names>,
 ) -> Result<Vec<String>, NoMemory>
     ensures { IfOk result
-        (λ lines. map string_bytes lines.items ≡ warning_lines gate.now (option_map (λ known. known.now) names)) }
+        (λ lines. map string_bytes lines.items ≡ warning_lines gate.now (option_map (λ known. names_shown known.now) names.entry)) }
 {
     let mut lines = Vec::new(alloc);
     add_first(alloc, gate, &mut lines)?;
-    add_approvals(alloc, gate, names, Side::Require, &mut lines)?;
-    add_approvals(alloc, gate, names, Side::Reject, &mut lines)?;
+    let required = gate.clauses(Side::Require).approvals();
+    add_approvals(alloc, gate, names, Side::Require, required, &mut lines)?;
+    let rejected = gate.clauses(Side::Reject).approvals();
+    add_approvals(alloc, gate, names, Side::Reject, rejected, &mut lines)?;
     Ok(lines)
 }
 
@@ -36,25 +39,15 @@ pub fn warning_lines(
 fn add_first(alloc: Global, gate: &Gate, lines: &mut Vec<String>) -> Result<(), NoMemory>
     ensures { OnOk result (map string_bytes lines.new.items ≡ map string_bytes lines.old.items ++ first_warnings gate.now) }
 {
-    let required = gate.clauses(Side::Require);
-    let rejected = gate.clauses(Side::Reject);
-    let none_in = lets_none_in(gate);
-    let same = same_answer(required.asks_current(), rejected.asks_current());
+    add_key(alloc, gate, "open", is_open_never_met(gate), lines)?;
     add_key(
         alloc,
         gate,
-        "open",
-        required.asks_open().is_some() && none_in,
+        "current-patchset",
+        is_current_never_met(gate),
         lines,
     )?;
-    add_key(alloc, gate, "current-patchset", same, lines)?;
-    add_key(
-        alloc,
-        gate,
-        "status",
-        required.statuses().is_some() && none_in,
-        lines,
-    )
+    add_key(alloc, gate, "status", is_status_never_met(gate), lines)
 }
 
 /// Adds that what is required under a key is never met, if it is so.
@@ -66,7 +59,7 @@ fn add_key(
     lines: &mut Vec<String>,
 ) -> Result<(), NoMemory>
     ensures { OnOk result (map string_bytes lines.new.items
-        ≡ map string_bytes lines.old.items ++ never_met is_so (place_of gate.now Side.Require key.now)) }
+        ≡ map string_bytes lines.old.items ++ key_warnings gate.now key.now is_so) }
 {
     let place = place_of(alloc, gate, Side::Require, key)?;
     add(alloc, is_so, Warning::NeverMet, place.as_str(), None, lines)
@@ -78,14 +71,14 @@ fn add_approvals(
     gate: &Gate,
     names: Option<&Names>,
     side: Side,
+    approvals: &[Pattern],
     lines: &mut Vec<String>,
 ) -> Result<(), NoMemory>
     ensures { OnOk result (map string_bytes lines.new.items
         ≡ map string_bytes lines.old.items
-        ++ numbered (approval_warnings gate.now (option_map (λ known. known.now) names) side) 0
-        (side_rules gate.now side).approvals) }
+        ++ numbered (approval_warnings gate.now (option_map (λ known. names_shown known.now) names.entry) side) 0
+        approvals.now) }
 {
-    let approvals = gate.clauses(side).approvals();
     for number in 0..approvals.len() {
         add_approval(alloc, gate, names, side, number, &approvals[number], lines)?;
     }
@@ -104,14 +97,30 @@ fn add_approval(
 ) -> Result<(), NoMemory>
     ensures { OnOk result (map string_bytes lines.new.items
         ≡ map string_bytes lines.old.items
-        ++ approval_warnings gate.now (option_map (λ known. known.now) names) side number pattern.now) }
+        ++ approval_warnings gate.now (option_map (λ known. names_shown known.now) names.entry) side number pattern.now) }
 {
     let key = approval_key(alloc, number)?;
     let place = place_of(alloc, gate, side, key.as_str())?;
-    add_pattern(alloc, place.as_str(), pattern.username(), lines)?;
-    add_unknown(alloc, place.as_str(), names, pattern, lines)?;
     let is_so = is_never_met(gate, side, pattern);
-    add(alloc, is_so, Warning::NeverMet, place.as_str(), None, lines)
+    add_at(alloc, place.as_str(), names, is_so, pattern, lines)
+}
+
+/// Adds those of an approval at a place.
+fn add_at(
+    alloc: Global,
+    place: &str,
+    names: Option<&Names>,
+    is_never_met: bool,
+    pattern: &Pattern,
+    lines: &mut Vec<String>,
+) -> Result<(), NoMemory>
+    ensures { OnOk result (map string_bytes lines.new.items
+        ≡ map string_bytes lines.old.items
+        ++ warnings_at place.now (option_map (λ known. names_shown known.now) names.entry) is_never_met pattern.now) }
+{
+    add_pattern(alloc, place, pattern.username(), lines)?;
+    add_unknown(alloc, place, names, pattern, lines)?;
+    add(alloc, is_never_met, Warning::NeverMet, place, None, lines)
 }
 
 /// Adds that a username looks like a regular expression, if it does.
@@ -122,14 +131,14 @@ fn add_pattern(
     lines: &mut Vec<String>,
 ) -> Result<(), NoMemory>
     ensures { OnOk result (map string_bytes lines.new.items
-        ≡ map string_bytes lines.old.items ++ pattern_warnings place.now (option_map (λ name. name.now) username)) }
+        ≡ map string_bytes lines.old.items ++ pattern_warnings place.now (option_map (λ name. name.now) username.entry)) }
 {
     let Some(voter) = username else {
         return Ok(());
     };
     add(
         alloc,
-        has_sign(voter),
+        has_sign(voter.as_bytes()),
         Warning::Pattern,
         place,
         Some(voter),
@@ -138,11 +147,30 @@ fn add_pattern(
 }
 
 /// Whether a username has a character that a regular expression would have.
-fn has_sign(username: &str) -> bool
+fn has_sign(username: &[u8]) -> bool
     ensures { result ≡ some is_sign username.now }
 {
-    for byte in username.as_bytes() {
-        if b"^$*+?()[]{}|\\".contains(byte) {
+    for byte in username {
+        if is_sign(*byte) {
+            return true;
+        }
+    }
+    false
+}
+
+/// Whether a byte is such a character.
+fn is_sign(byte: u8) -> bool
+    ensures { result ≡ is_sign byte }
+{
+    has_byte(b"^$*+?()[]{}|\\", byte)
+}
+
+/// Whether a byte is among these.
+fn has_byte(bytes: &[u8], byte: u8) -> bool
+    ensures { result ≡ some (nat_eq byte) bytes.now }
+{
+    for other in bytes {
+        if byte == *other {
             return true;
         }
     }
@@ -159,7 +187,7 @@ fn add_unknown(
 ) -> Result<(), NoMemory>
     ensures { OnOk result (map string_bytes lines.new.items
         ≡ map string_bytes lines.old.items
-        ++ unknown_warnings place.now (option_map (λ known. known.now) names) pattern.now) }
+        ++ unknown_warnings place.now (option_map (λ known. names_shown known.now) names.entry) pattern.now) }
 {
     let Some(names) = names else {
         return Ok(());
@@ -177,7 +205,7 @@ fn add_labels(
     lines: &mut Vec<String>,
 ) -> Result<(), NoMemory>
     ensures { OnOk result (map string_bytes lines.new.items
-        ≡ map string_bytes lines.old.items ++ flat_map (label_warning place.now names.now) labels.now) }
+        ≡ map string_bytes lines.old.items ++ flat_map (label_warning place.now (names_shown names.now)) labels.now) }
 {
     for rule in labels {
         let label = rule.label();
@@ -204,7 +232,7 @@ fn add_voter(
 ) -> Result<(), NoMemory>
     ensures { OnOk result (map string_bytes lines.new.items
         ≡ map string_bytes lines.old.items
-        ++ voter_warnings place.now names.now (option_map (λ name. name.now) username)) }
+        ++ voter_warnings place.now (names_shown names.now) (option_map (λ name. name.now) username.entry)) }
 {
     let Some(voter) = username else {
         return Ok(());
@@ -231,7 +259,7 @@ fn add(
 ) -> Result<(), NoMemory>
     ensures { OnOk result (map string_bytes lines.new.items
         ≡ map string_bytes lines.old.items
-        ++ warned is_so (warning_line warning place.now (option_map (λ text. text.now) about))) }
+        ++ warned is_so (warning_line warning place.now (option_map (λ text. text.now) about.entry))) }
 {
     if is_so {
         lines.push(warning.line(alloc, place, about)?)?;

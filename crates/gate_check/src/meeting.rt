@@ -5,15 +5,37 @@ ghost use Rattle.std.specs.Str.{bytes_eq};
 ghost use Rattle.gate_rules.specs.Own.{compared, names, some};
 ghost use Rattle.gate_rules.specs.Reading.{each};
 ghost use Rattle.gate_rules.specs.declared.condition.Clause.TheVariants.{OpenState, StatusIn};
-ghost use Rattle.gate_check.specs.Meeting.{comes_out, is_as_wide, lets_in, lets_none_in, rejects_any_label, rejects_each};
+ghost use Rattle.gate_check.specs.Meeting.{comes_out, is_as_wide, is_current_never_met, is_never_met, is_open_never_met};
+ghost use Rattle.gate_check.specs.Meeting.{is_status_never_met, lets_in, lets_none_in, rejects_any_label, rejects_each};
 ghost use Rattle.gate_check.specs.Meeting.{rejects_votes, same_answer, standing_with};
-ghost use Rattle.gate_check.specs.Warnings.{is_never_met};
 
 use change_core::{Approval, Status};
 use gate_rules::{Clauses, Gate, LabelValues, Pattern, Side};
 
+/// Whether `open` is required and can't be met.
+pub fn is_open_never_met(gate: &Gate) -> bool
+    ensures { result ≡ is_open_never_met gate.now }
+{
+    gate.clauses(Side::Require).asks_open().is_some() && lets_none_in(gate)
+}
+
+/// Whether `current-patchset` is required and can't be met.
+pub fn is_current_never_met(gate: &Gate) -> bool
+    ensures { result ≡ is_current_never_met gate.now }
+{
+    let required = gate.clauses(Side::Require).asks_current();
+    same_answer(required, gate.clauses(Side::Reject).asks_current())
+}
+
+/// Whether `status` is required and can't be met.
+pub fn is_status_never_met(gate: &Gate) -> bool
+    ensures { result ≡ is_status_never_met gate.now }
+{
+    gate.clauses(Side::Require).statuses().is_some() && lets_none_in(gate)
+}
+
 /// Whether the conditions on a change's status let no change in.
-pub fn lets_none_in(gate: &Gate) -> bool
+fn lets_none_in(gate: &Gate) -> bool
     ensures { result ≡ lets_none_in gate.now }
 {
     !(lets_in(gate, Status::New)
@@ -72,7 +94,7 @@ fn comes_out(wanted: bool, compared: Option<bool>) -> bool
 }
 
 /// Whether the same is required and rejected.
-pub fn same_answer(required: Option<bool>, rejected: Option<bool>) -> bool
+fn same_answer(required: Option<bool>, rejected: Option<bool>) -> bool
     ensures { result ≡ same_answer required rejected }
 {
     match (required, rejected) {

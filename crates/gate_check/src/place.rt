@@ -1,6 +1,7 @@
 //! The places of conditions in a gate file.
 
-ghost use Rattle.std.specs.Prelude.{◌≡◌, IfOk, flat_map, string_bytes};
+ghost use Rattle.std.specs.Prelude.{◌≡◌, ◌++◌, IfOk, OnOk, flat_map, string_bytes};
+ghost use Rattle.std.specs.Str.{chars};
 ghost use Rattle.gate_check.specs.Asking.{approval_key, escaped, place_of};
 
 use gate_rules::{Gate, Side};
@@ -25,15 +26,25 @@ pub fn approval_key(alloc: Global, place: usize) -> Result<String, NoMemory>
 
 /// The name of a connection in a JSON pointer.
 fn escaped(alloc: Global, connection: &str) -> Result<String, NoMemory>
-    ensures { IfOk result (λ name. string_bytes name ≡ flat_map escaped connection.now) }
+    ensures { IfOk result (λ name. string_bytes name ≡ flat_map escaped (chars connection.now)) }
 {
     let mut name = String::new(alloc);
     for letter in connection.chars() {
-        match letter {
-            '~' => name.push_str("~0")?,
-            '/' => name.push_str("~1")?,
-            other => name.push(other)?,
-        }
+        add_letter(&mut name, letter)?;
     }
     Ok(name)
+}
+
+/// Adds a character of such a name.
+fn add_letter(name: &mut String, letter: char) -> Result<(), NoMemory>
+    ensures { OnOk result (string_bytes name.new ≡ string_bytes name.old ++ escaped letter) }
+{
+    if letter == '~' {
+        name.push_str("~0")?;
+    } else if letter == '/' {
+        name.push_str("~1")?;
+    } else {
+        name.push(letter)?;
+    }
+    Ok(())
 }

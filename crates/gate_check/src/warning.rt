@@ -53,7 +53,7 @@ impl Warning {
         about: Option<&str>,
     ) -> Result<String, NoMemory>
         ensures { IfOk result (λ line. string_bytes line
-            ≡ warning_line self place.now (option_map (λ text. text.now) about)) }
+            ≡ warning_line self place.now (option_map (λ text. text.now) about.entry)) }
     {
         let number = self.number();
         let name = self.name();
@@ -64,7 +64,7 @@ impl Warning {
 
 /// What a warning is about, where it is about something.
 fn about_words(alloc: Global, about: Option<&str>) -> Result<String, NoMemory>
-    ensures { IfOk result (λ words. string_bytes words ≡ about_words (option_map (λ text. text.now) about)) }
+    ensures { IfOk result (λ words. string_bytes words ≡ about_words (option_map (λ text. text.now) about.entry)) }
 {
     let Some(text) = about else {
         return Ok(String::new(alloc));

@@ -69,7 +69,7 @@ fn label_words(alloc: Global, label: &LabelValues) -> Result<String, NoMemory>
 
 /// What names the voter, where one is named.
 fn voter_words(alloc: Global, voter: Option<&str>) -> Result<String, NoMemory>
-    ensures { IfOk result (λ words. string_bytes words ≡ voter_words (option_map (λ name. name.now) voter)) }
+    ensures { IfOk result (λ words. string_bytes words ≡ voter_words (option_map (λ name. name.now) voter.entry)) }
 {
     let Some(voter) = voter else {
         return Ok(String::new(alloc));
