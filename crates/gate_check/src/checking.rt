@@ -7,6 +7,7 @@ ghost use Rattle.gate_check.specs.Names.{names_in};
 
 use super::asking::condition_lines;
 use super::finding::warning_lines;
+use super::laws::what_is_never_met_lets_nothing_in;
 use super::names::Names;
 use gate_rules::Gate;
 use lattice_core::NoMemory;
@@ -31,6 +32,7 @@ pub fn check_gate(alloc: Global, gate: &Gate, state: Option<&State>) -> Result<C
     ensures warnings { IfOk result
         (λ check. check.warnings ≡ length (warnings_of gate.now (option_map (λ known. known.now) state.entry))) }
 {
+    what_is_never_met_lets_nothing_in();
     let conditions = condition_lines(alloc, gate)?;
     let warnings = warnings_of(alloc, gate, state)?;
     let mut text = String::new(alloc);

@@ -14,6 +14,7 @@
 mod asking;
 mod checking;
 mod finding;
+mod laws;
 mod meeting;
 mod names;
 mod place;
@@ -21,4 +22,5 @@ mod warning;
 mod words;
 
 pub use checking::{Checked, check_gate};
+pub use laws::what_is_never_met_lets_nothing_in;
 pub use warning::Warning;
