@@ -2,9 +2,10 @@
 _reviewgate() {
     local word=${COMP_WORDS[COMP_CWORD]} command=${COMP_WORDS[1]} words=""
     if [ "$COMP_CWORD" -eq 1 ]; then
-        words="ready why graph merge footers simulate serve recover events help --help --version"
+        words="ready why graph merge footers check simulate serve recover events help --help --version"
     else
         case $command in
+            check) words="--strict --help" ;;
             events) words="--to --query --complete --project --projects --gate --help" ;;
             footers) words="--change --help" ;;
             graph) words="--around --help" ;;

@@ -5,8 +5,8 @@ use Rattle.command_tree.specs.Matching.{AreFaultlessWords, Matched, Row, Text, m
 use Rattle.command_line.specs.declared.asked.Asked.{Asked}
 use Rattle.command_line.specs.declared.asked.Asked.TheVariants.{Events, Help, NoMemory, Recover, Run, Serve, Usage}
 use Rattle.command_line.specs.declared.asked.Asked.TheVariants.{Version}
-use Rattle.command_line.specs.Asking.{WordsAsk, IsAskedByWords, IsNothing, Means, Name, ArgumentsSay, events, footers, graph, merge, ready}
-use Rattle.command_line.specs.Asking.{recover, serve, simulate, text_of, why}
+use Rattle.command_line.specs.Asking.{WordsAsk, IsAskedByWords, IsNothing, Means, Name, ArgumentsSay, check, events, footers, graph, merge}
+use Rattle.command_line.specs.Asking.{ready, recover, serve, simulate, text_of, why}
 use Rattle.command_line.specs.Values.{Finds}
 
 -- ---- no two commands have one text
@@ -16,7 +16,8 @@ abbrev command_of : Text → Option Name
 command_of text =
     if bytes_eq text (codes "ready") then Some ready else if bytes_eq text (codes "why") then Some why
     else if bytes_eq text (codes "graph") then Some graph else if bytes_eq text (codes "merge") then Some merge
-    else if bytes_eq text (codes "footers") then Some footers else if bytes_eq text (codes "simulate") then Some simulate
+    else if bytes_eq text (codes "footers") then Some footers else if bytes_eq text (codes "check") then Some check
+    else if bytes_eq text (codes "simulate") then Some simulate
     else if bytes_eq text (codes "serve") then Some serve else if bytes_eq text (codes "recover") then Some recover
     else if bytes_eq text (codes "events") then Some events else None
 
@@ -26,6 +27,7 @@ command_of_text why = refl
 command_of_text graph = refl
 command_of_text merge = refl
 command_of_text footers = refl
+command_of_text check = refl
 command_of_text simulate = refl
 command_of_text serve = refl
 command_of_text recover = refl

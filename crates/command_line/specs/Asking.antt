@@ -8,7 +8,8 @@ use Rattle.command_line.specs.declared.asked.Answer.TheVariants.{Complete, Query
 use Rattle.command_line.specs.declared.asked.Asked.{Asked}
 use Rattle.command_line.specs.declared.asked.Asked.TheVariants.{Events, Help, NoMemory, Recover, Run, Serve, Usage}
 use Rattle.command_line.specs.declared.asked.Asked.TheVariants.{Version}
-use Rattle.command_line.specs.declared.asked.Command.TheVariants.{Footers, Graph, Merge, Ready, Simulate, Why}
+use Rattle.command_line.specs.declared.asked.Command.TheVariants.{Check, Footers, Graph, Merge, Ready, Simulate}
+use Rattle.command_line.specs.declared.asked.Command.TheVariants.{Why}
 use Rattle.command_line.specs.declared.asked.EventWords.{EventWords}
 use Rattle.command_line.specs.declared.asked.ServeWords.{ServeWords}
 use Rattle.command_line.specs.Values.{HasArgument, GivesAny, GivesItem, GivesNumber, GivesNumbers, GivesTexts}
@@ -69,6 +70,7 @@ pub data Name : Type 0 where
   graph : Name
   merge : Name
   footers : Name
+  check : Name
   simulate : Name
   serve : Name
   recover : Name
@@ -80,6 +82,7 @@ text_of why = codes "why"
 text_of graph = codes "graph"
 text_of merge = codes "merge"
 text_of footers = codes "footers"
+text_of check = codes "check"
 text_of simulate = codes "simulate"
 text_of serve = codes "serve"
 text_of recover = codes "recover"
@@ -99,6 +102,10 @@ ArgumentsSay merge rows (Run (Merge first second)) =
 ArgumentsSay footers rows (Run (Footers gate message change)) =
     HasArgument rows (codes "GATE") gate.now × HasArgument rows (codes "FILE") message.now
     × GivesNumber rows (codes "change") 0 4294967295 change
+ArgumentsSay check rows (Run (Check gate snapshot is_strict)) =
+    HasArgument rows (codes "GATE") gate.now
+    × (first_of (codes "SNAPSHOT") rows ≡ option_map (λ name. name.now) snapshot)
+    × (IsTrue is_strict ↔ HasFlag rows (codes "strict"))
 ArgumentsSay simulate rows (Run (Simulate script gate)) =
     HasArgument rows (codes "SCRIPT") script.now × (first_of (codes "GATE") rows ≡ option_map (λ name. name.now) gate)
 ArgumentsSay serve rows (Serve words) = IsSite rows words

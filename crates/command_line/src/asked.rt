@@ -55,6 +55,13 @@ pub enum Command<'a> {
         message: &'a str,
         change: u32,
     },
+    /// To print what a gate file asks for, with warnings; of the record, too, where a snapshot is named; a warning is a
+    /// refusal where `is_strict`.
+    Check {
+        gate: &'a str,
+        snapshot: Option<&'a str>,
+        is_strict: bool,
+    },
     /// To play the script of this name, with reports under a gate file where one is named.
     Simulate {
         script: &'a str,

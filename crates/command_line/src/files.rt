@@ -1,7 +1,7 @@
 //! What the arguments of the commands over files say.
 
 ghost use Rattle.command_tree.specs.Rows.{rows_in};
-ghost use Rattle.command_line.specs.Asking.{ArgumentsSay, footers, graph, merge, ready, recover, simulate, why};
+ghost use Rattle.command_line.specs.Asking.{ArgumentsSay, check, footers, graph, merge, ready, recover, simulate, why};
 ghost use Rattle.command_line.specs.Values.{Finds};
 
 use super::asked::{Asked, Command};
@@ -66,6 +66,20 @@ pub fn footers_in<'a>(values: &Values<'a>) -> Option<Asked<'a>>
         gate,
         message,
         change,
+    }))
+}
+
+/// `check GATE [SNAPSHOT] [--strict]`
+pub fn check_in<'a>(values: &Values<'a>) -> Option<Asked<'a>>
+    ensures { Finds (ArgumentsSay check (rows_in values.now)) result }
+{
+    let gate = values.text("GATE")?;
+    let snapshot = values.text("SNAPSHOT");
+    let is_strict = values.flag("strict");
+    Some(Asked::Run(Command::Check {
+        gate,
+        snapshot,
+        is_strict,
     }))
 }
 

@@ -7,7 +7,9 @@ ghost use Rattle.command_tree.specs.Rows.{rows_in};
 
 use super::asked::Asked;
 use super::feeds::{events_in, lacks_port};
-use super::files::{footers_in, graph_in, merge_in, ready_in, recover_in, simulate_in, why_in};
+use super::files::{
+    check_in, footers_in, graph_in, merge_in, ready_in, recover_in, simulate_in, why_in,
+};
 use super::sites::serve_in;
 use command_tree::{Parsed, Values, parse};
 use std::alloc::{AllocError, Global};
@@ -71,6 +73,7 @@ fn named<'a>(
         "graph" => Ok(graph_in(values)),
         "merge" => Ok(merge_in(values)),
         "footers" => Ok(footers_in(values)),
+        "check" => Ok(check_in(values)),
         "simulate" => Ok(simulate_in(values)),
         "serve" => serve_in(alloc, values),
         "recover" => Ok(recover_in(values)),

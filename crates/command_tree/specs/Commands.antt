@@ -32,6 +32,12 @@ footers_app =
     with_rule (with_rule (with_rule (new_app (codes "footers")) (needed (codes "GATE"))) (needed (codes "FILE")))
     (number_with (codes "change") (codes "0") 0 4294967295)
 
+-- `check GATE [SNAPSHOT] [--strict]`
+abbrev pub check_app : App
+check_app =
+    with_rule (with_rule (with_rule (new_app (codes "check")) (needed (codes "GATE"))) (new_rule (codes "SNAPSHOT")))
+    (flag_rule (codes "strict"))
+
 -- `simulate SCRIPT [GATE]`
 abbrev pub simulate_app : App
 simulate_app = with_rule (with_rule (new_app (codes "simulate")) (needed (codes "SCRIPT"))) (new_rule (codes "GATE"))
@@ -103,7 +109,9 @@ judging_app = with_subcommand (with_subcommand (with_subcommand bare_app ready_a
 -- with those that read other files
 abbrev pub reading_app : App
 reading_app =
-    with_subcommand (with_subcommand (with_subcommand judging_app merge_app.top) footers_app.top) simulate_app.top
+    with_subcommand
+    (with_subcommand (with_subcommand (with_subcommand judging_app merge_app.top) footers_app.top) check_app.top)
+    simulate_app.top
 
 -- the program
 abbrev pub program : App

@@ -1,11 +1,11 @@
 //! The program's commands and their arguments.
 
 ghost use Rattle.std.specs.Prelude.{IfOk};
-ghost use Rattle.command_tree.specs.Commands.{IsApp, bare_app, events_app, footers_app, graph_app, judging_app};
-ghost use Rattle.command_tree.specs.Commands.{merge_app, program, reading_app, ready_app, recover_app, simulate_app};
-ghost use Rattle.command_tree.specs.Commands.{why_app};
+ghost use Rattle.command_tree.specs.Commands.{IsApp, bare_app, check_app, events_app, footers_app, graph_app};
+ghost use Rattle.command_tree.specs.Commands.{judging_app, merge_app, program, reading_app, ready_app, recover_app};
+ghost use Rattle.command_tree.specs.Commands.{simulate_app, why_app};
 
-use super::arguments::{AROUND, CHANGE, default_option, file, number_option};
+use super::arguments::{AROUND, CHANGE, default_option, file, flag, number_option};
 use super::feed_options::events_command;
 use super::site_options::serve_command;
 use clap::{Arg, Command};
@@ -37,7 +37,8 @@ fn reading_commands<'a>(alloc: Global) -> Result<Command<'a>, AllocError>
     let judging = judging_commands(alloc)?;
     let merging = judging.subcommand(merge_command(alloc)?)?;
     let depending = merging.subcommand(footers_command(alloc)?)?;
-    depending.subcommand(simulate_command(alloc)?)
+    let checking = depending.subcommand(check_command(alloc)?)?;
+    checking.subcommand(simulate_command(alloc)?)
 }
 
 /// The program with the commands that judge a snapshot.
@@ -147,6 +148,21 @@ fn footers_command<'a>(alloc: Global) -> Result<Command<'a>, AllocError>
         .arg(file(alloc, "GATE", GATE_HELP))?
         .arg(message)?
         .arg(change)
+}
+
+/// `check GATE [SNAPSHOT] [--strict]`
+fn check_command<'a>(alloc: Global) -> Result<Command<'a>, AllocError>
+    ensures { IfOk result (IsApp check_app) }
+{
+    let snapshot = Arg::new(alloc, "SNAPSHOT").help(
+        "The snapshot whose votes the gate is compared with, or - for standard input",
+    );
+    let strict = flag(alloc, "strict", "Ends with status 1 if there is a warning");
+    Command::new(alloc, "check")
+        .about("Prints what a gate file asks for, and warns of what looks mistaken")
+        .arg(file(alloc, "GATE", GATE_HELP))?
+        .arg(snapshot)?
+        .arg(strict)
 }
 
 /// `simulate SCRIPT [GATE]`

@@ -5,3 +5,4 @@ mod Merged
 mod Played
 mod Simulated
 mod SameEnds
+pub mod Checking

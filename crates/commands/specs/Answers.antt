@@ -1,8 +1,9 @@
 -- What each command prints: its text as a relation to the texts of its inputs.
-use Rattle.std.specs.Prelude.{◌≡◌, ◌⊎◌, ℕ, List, [], ◌∷◌, ◌++◌, Option, None, Some, Ok, Err}
+use Rattle.std.specs.Prelude.{◌≡◌, ◌⊎◌, ◌<◌, ℕ, Bool, true, List, [], ◌∷◌, ◌++◌, Option, None, Some, Ok, Err}
 use Rattle.std.specs.Prelude.{codes, decimal, flat_map, length}
 use Rattle.byte_ends.specs.Lines.{lines_of}
 use Rattle.footer_text.specs.Footers.{AreFooters}
+use Rattle.gate_check.specs.Checked.{check_text, warnings_of}
 use Rattle.gate_rules.specs.Rules.{GateRules}
 use Rattle.gate_rules.specs.Spelling.{SpellsGate}
 use Rattle.graph_text.specs.Drawing.{IsGraphText}
@@ -24,9 +25,11 @@ use Rattle.script_text.specs.declared.script.Step.{Step}
 use Rattle.why_text.specs.Asked.{IsItemAsked}
 use Rattle.why_text.specs.Why.{IsWhy}
 use Rattle.world_core.specs.World.{new_world}
+use Rattle.console.specs.Console.{ConsoleState}
+use Rattle.console.specs.Inputs.{IsHad, input, snapshot_file}
 use Rattle.console.specs.Printing.{Ended}
 use Rattle.console.specs.declared.refusals.Refusal.{Refusal}
-use Rattle.console.specs.declared.refusals.Refusal.TheVariants.{Memory, NoItem, Script}
+use Rattle.console.specs.declared.refusals.Refusal.TheVariants.{Memory, NoItem, Script, Warnings}
 
 -- the answer is printed; or the change or the patch set that is asked for isn't there, or memory was refused, before
 -- anything was printed
@@ -127,6 +130,42 @@ pub record AreFooterLines (gate message : List ℕ) (change : ℕ) (answer : Lis
   pub ignored : List (List ℕ)
   pub footers : AreFooters rules.bases change message needs ignored
   pub text : answer ≡ footers_text needs ignored
+
+-- ---- `check`: what the gate asks for, and warnings, with the record of a snapshot, where one is named
+
+-- the snapshot says the record of this state
+abbrev pub SaysRecord : State → List ℕ → Type 0
+SaysRecord state snapshot =
+    (ops : List Operation) × SaysOperations (lines_of snapshot) ops × (state ≡ state_of (all_arrived [] ops))
+
+abbrev pub GivesRecord : List (List ℕ) → Option State → Type 0
+GivesRecord [] state = state ≡ None
+GivesRecord (snapshot ∷ []) None = ⊥
+GivesRecord (snapshot ∷ []) (Some state) = SaysRecord state snapshot
+GivesRecord (snapshot ∷ other ∷ texts) state = ⊥
+
+-- a snapshot is had, where one is named
+abbrev pub IsRecordHad : Option (List ℕ) → Option State → ConsoleState → ConsoleState → Type 0
+IsRecordHad None None old new = new ≡ old
+IsRecordHad (Some name) (Some state) old new = IsHad (input snapshot_file name) (SaysRecord state) old new
+IsRecordHad name state old new = ⊥
+
+-- how a check ends that has so many warnings
+abbrev pub EndsChecked : Bool → ℕ → Ended → Type 0
+EndsChecked is_strict count (Ok done) = is_strict ≡ true → count ≡ 0
+EndsChecked is_strict count (Err (Warnings found)) = (is_strict ≡ true) × (found ≡ count) × (0 < count)
+EndsChecked is_strict count (Err refusal) = ⊥
+
+-- the text is printed, and the check ends by its warnings; or memory was refused before anything was printed
+abbrev pub IsCheckText : GateRules → Option State → Bool → List ℕ → Ended → Type 0
+IsCheckText rules state is_strict answer ended =
+    ((answer ≡ check_text rules state) × EndsChecked is_strict (length (warnings_of rules state)) ended)
+    ⊎ ((answer ≡ []) × (ended ≡ Err Memory))
+
+abbrev pub IsChecked : List ℕ → List (List ℕ) → Bool → List ℕ → Ended → Type 0
+IsChecked gate snapshots is_strict answer ended =
+    (rules : GateRules) × SpellsGate gate rules × (state : Option State) × GivesRecord snapshots state
+    × IsCheckText rules state is_strict answer ended
 
 -- ---- `simulate`: the answers of the script's lines, in a run of the world
 

@@ -2,10 +2,10 @@
 -- and judged, and the answer that it prints where all are had.
 use Rattle.std.specs.Prelude.{◌⊎◌, ℕ, List, [], ◌∷◌, IsErrAnd, IsErrOf, None, Some}
 use Rattle.command_line.specs.declared.asked.Command.{Command}
-use Rattle.command_line.specs.declared.asked.Command.TheVariants.{Footers, Graph, Merge, Ready, Simulate, Why}
+use Rattle.command_line.specs.declared.asked.Command.TheVariants.{Check, Footers, Graph, Merge, Ready, Simulate, Why}
 use Rattle.console.specs.Printing.{Ended}
 use Rattle.commands.specs.Answers.{AreFooterLines, HasAround, HasItem, IsMergedText, IsOf, IsPicture, IsReason, IsReport}
-use Rattle.commands.specs.Answers.{IsAround, IsItemText, IsSimulated, IsWhole, Misses, MissesNone}
+use Rattle.commands.specs.Answers.{IsAround, IsChecked, IsItemText, IsSimulated, IsWhole, Misses, MissesNone}
 use Rattle.console.specs.Console.{ConsoleState, IsCutShort, IsPrinted}
 use Rattle.console.specs.Inputs.{AreHad, Input, IsFirstRefused, input}
 use Rattle.console.specs.Inputs.{gate_file, message_file, script_file, snapshot_file}
@@ -19,6 +19,9 @@ inputs_of (Merge first second) = input snapshot_file first.now ∷ input snapsho
 inputs_of (Footers gate message change) = input gate_file gate.now ∷ input message_file message.now ∷ []
 inputs_of (Why gate snapshot change set) = input gate_file gate.now ∷ input snapshot_file snapshot.now ∷ []
 inputs_of (Graph gate snapshot around) = input gate_file gate.now ∷ input snapshot_file snapshot.now ∷ []
+inputs_of (Check gate None is_strict) = input gate_file gate.now ∷ []
+inputs_of (Check gate (Some snapshot) is_strict) =
+    input gate_file gate.now ∷ input snapshot_file snapshot.now ∷ []
 
 -- of these texts the command prints this answer, and ends so once it is printed
 abbrev pub IsAnswer : Command → List (List ℕ) → List ℕ → Ended → Type 0
@@ -33,6 +36,8 @@ IsAnswer (Why gate snapshot change set) (one ∷ other ∷ []) answer ended =
     answer ended
 IsAnswer (Graph gate snapshot around) (one ∷ other ∷ []) answer ended =
     IsWhole (IsOf one other (IsPicture around)) (Misses (IsAround around) other (HasAround around)) answer ended
+IsAnswer (Check gate snapshot is_strict) (text ∷ snapshots) answer ended =
+    IsChecked text snapshots is_strict answer ended
 IsAnswer command texts answer ended = ⊥
 
 -- all of the answer was printed, and the command ends as it does; or the output failed, and a proper prefix was printed

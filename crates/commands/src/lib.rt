@@ -7,6 +7,7 @@
 //! in place of one.
 #![tactic(auto)]
 
+mod check;
 mod footers;
 mod graph;
 mod merge;

@@ -7,6 +7,7 @@ ghost use Rattle.commands.specs.Ending.{Ends};
 ghost use Rattle.console.specs.Showing.{Shows, error_output};
 ghost use Rattle.commands.specs.Running.{PrintsText, Reports, Runs, counts};
 
+use super::check::check;
 use super::footers::footers;
 use super::graph::graph;
 use super::merge::merge;
@@ -96,6 +97,11 @@ fn do_command<'n, C: Console>(
             snapshot,
             around,
         } => graph(alloc, gate, snapshot, *around, console),
+        Command::Check {
+            gate,
+            snapshot,
+            is_strict,
+        } => check(alloc, gate, *snapshot, *is_strict, console),
     }
 }
 

@@ -10,7 +10,7 @@ use Rattle.script_text.specs.Fault as script
 use Rattle.console.specs.Console.{is_input}
 use Rattle.console.specs.declared.refusals.Refusal.{Refusal}
 use Rattle.console.specs.declared.refusals.Refusal.TheVariants.{Script, Snapshot, Gate, File, NotText, NoItem, Output}
-use Rattle.console.specs.declared.refusals.Refusal.TheVariants.{Memory}
+use Rattle.console.specs.declared.refusals.Refusal.TheVariants.{Memory, Warnings}
 
 abbrev pub part_of : Refusal → Part
 part_of (Script fault) = part.Script
@@ -19,6 +19,7 @@ part_of (Gate fault) = part.Gate
 part_of (File name fault) = part.File
 part_of (NotText name) = part.File
 part_of (NoItem change set) = part.Item
+part_of (Warnings count) = part.Check
 part_of Output = part.Output
 part_of Memory = part.Memory
 
@@ -29,6 +30,7 @@ number_of (Gate fault) = gate.number_of fault
 number_of (File name fault) = bytes.number_of fault
 number_of (NotText name) = 9
 number_of (NoItem change set) = 1
+number_of (Warnings count) = 1
 number_of Output = 1
 number_of Memory = 1
 
@@ -48,6 +50,7 @@ words_of (Gate fault) = gate.words_of fault
 words_of (File name fault) = file_words (bytes.name_of fault) name.now
 words_of (NotText name) = file_words (codes "NotText") name.now
 words_of (NoItem change set) = item_words change set
+words_of (Warnings count) = codes "Warnings " ++ decimal count
 words_of Output = codes "WriteFault"
 words_of Memory = codes "NoMemory"
 

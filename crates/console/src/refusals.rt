@@ -24,6 +24,8 @@ pub enum Refusal<'n> {
     NotText(&'n str),
     /// What is asked for isn't known: this patch set of the change, or, where none is named, the change's items.
     NoItem(u32, Option<u32>),
+    /// There are this many warnings, of which none is let pass.
+    Warnings(usize),
     /// The output failed.
     Output,
     /// Memory was refused where no other part says so.
@@ -50,6 +52,7 @@ impl<'n> Refusal<'n> {
             Refusal::Gate(_) => Part::Gate,
             Refusal::File(_, _) | Refusal::NotText(_) => Part::File,
             Refusal::NoItem(_, _) => Part::Item,
+            Refusal::Warnings(_) => Part::Check,
             Refusal::Output => Part::Output,
             Refusal::Memory => Part::Memory,
         }
@@ -65,7 +68,7 @@ impl<'n> Refusal<'n> {
             Refusal::Gate(fault) => fault.number(),
             Refusal::File(_, fault) => fault.number(),
             Refusal::NotText(_) => 9,
-            Refusal::NoItem(_, _) | Refusal::Output | Refusal::Memory => 1,
+            Refusal::NoItem(_, _) | Refusal::Warnings(_) | Refusal::Output | Refusal::Memory => 1,
         }
     }
 
@@ -80,6 +83,7 @@ impl<'n> Refusal<'n> {
             Refusal::File(name, fault) => write_file(words, fault.name(), name),
             Refusal::NotText(name) => write_file(words, "NotText", name),
             Refusal::NoItem(change, set) => write_item(words, *change, *set),
+            Refusal::Warnings(count) => write!(words, "Warnings {count}"),
             Refusal::Output => words.push_str("WriteFault"),
             Refusal::Memory => words.push_str("NoMemory"),
         }

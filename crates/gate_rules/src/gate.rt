@@ -5,7 +5,7 @@ ghost use Rattle.std.specs.Prelude.{string_bytes};
 ghost use Rattle.gate_rules.specs.Rules.{LabelRule, PatternRule, SideRules, GateRules};
 ghost use Rattle.change_core.specs.VoteShown.{approval_shown};
 ghost use Rattle.gate_rules.specs.Own.{takes, names, labels_take, matches, compared, IsFirstApproval, IsFirstWith};
-ghost use Rattle.gate_rules.specs.Own.{IsBroken, IsFirstBroken, IsOwn};
+ghost use Rattle.gate_rules.specs.Own.{IsBroken, IsFirstBroken, IsOwn, side_rules};
 ghost use Rattle.state_core.specs.Items.{IsItem};
 ghost use Rattle.gate_rules.specs.Spelling.{SpellsGate, IsRefusalOf};
 
@@ -99,6 +99,20 @@ impl LabelValues {
         self.label.as_str() == approval.label && has_value(self.values.as_slice(), approval)
     }
 
+    /// The label, in lower case.
+    pub fn label(&self) -> &str
+        ensures { result.now ≡ self.now.label }
+    {
+        self.label.as_str()
+    }
+
+    /// The values that are accepted.
+    pub fn values(&self) -> &[i8]
+        ensures { result.now ≡ self.now.values }
+    {
+        self.values.as_slice()
+    }
+
     /// A label, which is in lower case, and its values.
     pub(crate) fn new(label: String, values: Vec<i8>) -> LabelValues
         ensures { result ≡ record { label = string_bytes label; values = values.items } }
@@ -122,6 +136,23 @@ impl Pattern {
         ensures { result ≡ matches self.now (approval_shown approval.now) }
     {
         self.names(approval.voter) && labels_take(self.labels.as_slice(), approval)
+    }
+
+    /// The voter, where one is named.
+    pub fn username(&self) -> Option<&str>
+        ensures { option_map (λ name. name.now) result ≡ self.now.username }
+    {
+        match &self.username {
+            Some(username) => Some(username.as_str()),
+            None => None,
+        }
+    }
+
+    /// The labels.
+    pub fn labels(&self) -> &[LabelValues]
+        ensures { result.now ≡ self.now.labels }
+    {
+        self.labels.as_slice()
     }
 
     /// Whether the pattern takes this voter.
@@ -178,6 +209,37 @@ fn labels_take(labels: &[LabelValues], approval: &Approval<'_>) -> bool
 }
 
 impl Clauses {
+    /// Whether a change has to be open, or not open, where either is asked.
+    pub fn asks_open(&self) -> Option<bool>
+        ensures { result ≡ self.now.is_open }
+    {
+        self.is_open
+    }
+
+    /// Whether a patch set has to be the current one, or not that, where either is asked.
+    pub fn asks_current(&self) -> Option<bool>
+        ensures { result ≡ self.now.is_current }
+    {
+        self.is_current
+    }
+
+    /// The statuses of which a change has to have one, where it has to.
+    pub fn statuses(&self) -> Option<&[String]>
+        ensures { option_map (λ texts. map string_bytes texts.now) result ≡ self.now.status }
+    {
+        match &self.status {
+            Some(texts) => Some(texts.as_slice()),
+            None => None,
+        }
+    }
+
+    /// What approvals a patch set has to have.
+    pub fn approvals(&self) -> &[Pattern]
+        ensures { result.now ≡ self.now.approvals }
+    {
+        self.approvals.as_slice()
+    }
+
     /// The conditions of a side.
     pub(crate) fn new(
         is_open: Option<bool>,
@@ -355,6 +417,23 @@ impl Gate {
         ensures { result.now ≡ self.now.bases }
     {
         &self.bases
+    }
+
+    /// The connection whose conditions these are.
+    pub fn connection(&self) -> &str
+        ensures { result.now ≡ self.now.connection }
+    {
+        self.connection.as_str()
+    }
+
+    /// The conditions of a side.
+    pub fn clauses(&self, side: Side) -> &Clauses
+        ensures { result.now ≡ side_rules self.now side }
+    {
+        match side {
+            Side::Require => &self.require,
+            Side::Reject => &self.reject,
+        }
     }
 
     /// Whether items on a cycle of dependencies may be ready.

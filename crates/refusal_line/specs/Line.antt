@@ -1,8 +1,8 @@
 -- The line of a refusal.
 use Rattle.std.specs.Prelude.{ℕ, List, ◌++◌, codes, decimal}
 use Rattle.refusal_line.specs.declared.part.Part.{Part}
-use Rattle.refusal_line.specs.declared.part.Part.TheVariants.{Events, File, Gate, Item, Journal, Memory, Output, Peer}
-use Rattle.refusal_line.specs.declared.part.Part.TheVariants.{Script, Serve, Session, Snapshot}
+use Rattle.refusal_line.specs.declared.part.Part.TheVariants.{Check, Events, File, Gate, Item, Journal, Memory, Output}
+use Rattle.refusal_line.specs.declared.part.Part.TheVariants.{Peer, Script, Serve, Session, Snapshot}
 
 -- the part's name
 abbrev pub name_of : Part → List ℕ
@@ -12,6 +12,7 @@ name_of Gate = codes "gate"
 name_of Journal = codes "journal"
 name_of File = codes "file"
 name_of Item = codes "item"
+name_of Check = codes "check"
 name_of Output = codes "output"
 name_of Memory = codes "memory"
 name_of Serve = codes "serve"

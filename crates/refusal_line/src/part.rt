@@ -17,6 +17,8 @@ pub enum Part {
     File,
     /// What is asked for of a record.
     Item,
+    /// What a gate file's check finds.
+    Check,
     /// Whether the output takes what is printed.
     Output,
     /// Memory, where no other part has it.
@@ -45,6 +47,7 @@ impl Part {
             Part::Journal => "journal",
             Part::File => "file",
             Part::Item => "item",
+            Part::Check => "check",
             Part::Output => "output",
             Part::Memory => "memory",
             Part::Serve => "serve",

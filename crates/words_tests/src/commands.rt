@@ -20,6 +20,7 @@ fn first_name<'a>(command: &Command<'a>) -> &'a str {
         Command::Merge { first, .. } => first,
         Command::Ready { gate, .. }
         | Command::Footers { gate, .. }
+        | Command::Check { gate, .. }
         | Command::Why { gate, .. }
         | Command::Graph { gate, .. } => gate,
     }
@@ -29,6 +30,7 @@ fn first_name<'a>(command: &Command<'a>) -> &'a str {
 fn second_name<'a>(command: &Command<'a>) -> &'a str {
     match command {
         Command::Simulate { gate, .. } => gate.unwrap_or(""),
+        Command::Check { snapshot, .. } => snapshot.unwrap_or(""),
         Command::Merge { second, .. } => second,
         Command::Footers { message, .. } => message,
         Command::Ready { snapshot, .. }
@@ -72,8 +74,11 @@ fn assert_asks(
 
 #[test]
 fn files_are_named_in_their_order(rt: HostRuntime) {
-    let cases: [(&[&str], &str, &str); 6] = [
+    let cases: [(&[&str], &str, &str); 9] = [
         (&["graph", "g", "-"], "g", "-"),
+        (&["check", "g"], "g", ""),
+        (&["check", "g", "s"], "g", "s"),
+        (&["check", "--strict", "-", "s"], "-", "s"),
         (&["simulate", "-"], "-", ""),
         (&["simulate", "s", "g"], "s", "g"),
         (&["ready", "g", "-"], "g", "-"),
@@ -100,6 +105,23 @@ fn a_change_is_a_number(rt: HostRuntime) {
     for (words, change) in cases {
         assert_asks(&rt, rt.alloc(), words, "g", "m", change);
     }
+}
+
+/// Whether words ask for a strict check.
+fn asks_strictly(alloc: Global, words: &[&str]) -> bool {
+    match command_of(alloc, words) {
+        Some(Command::Check { is_strict, .. }) => is_strict,
+        _ => false,
+    }
+}
+
+#[test]
+fn a_check_is_strict_where_it_is_asked(rt: HostRuntime) {
+    let alloc = rt.alloc();
+    assert!(rt; asks_strictly(alloc, ["check", "g", "s", "--strict"].as_slice()));
+    assert!(rt; asks_strictly(alloc, ["check", "--strict", "g"].as_slice()));
+    assert!(rt; !asks_strictly(alloc, ["check", "g", "s"].as_slice()));
+    assert_asks(&rt, alloc, ["check", "g", "s", "t"].as_slice(), "", "", 0);
 }
 
 /// The patch set that is asked about, and 7 where none is.

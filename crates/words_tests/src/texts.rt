@@ -51,6 +51,7 @@ Commands:
   graph     Prints what items wait for as a Graphviz graph
   merge     Prints the snapshot of two together
   footers   Prints the changes that a commit message depends on
+  check     Prints what a gate file asks for, and warns of what looks mistaken
   simulate  Plays a script of several sites and prints what each line answers
   serve     Runs a site: answers sessions, pulls from peers, prints the report whenever it changes
   recover   Prints the snapshot of a journal, without a line that a crash tore
@@ -63,7 +64,7 @@ Options:
 ";
 
 /// Help of each command.
-const HELP: [(&str, &str); 9] = [
+const HELP: [(&str, &str); 10] = [
     (
         "ready",
         "Prints which items may be enqueued, and why each other one waits
@@ -135,6 +136,21 @@ Arguments:
 Options:
       --change <N>  The number of the message's own change; 0 is none [default: 0]
   -h, --help        Print help
+",
+    ),
+    (
+        "check",
+        "Prints what a gate file asks for, and warns of what looks mistaken
+
+Usage: reviewgate check [OPTIONS] <GATE> [SNAPSHOT]
+
+Arguments:
+  <GATE>      The gate file, or - for standard input
+  [SNAPSHOT]  The snapshot whose votes the gate is compared with, or - for standard input
+
+Options:
+      --strict  Ends with status 1 if there is a warning
+  -h, --help    Print help
 ",
     ),
     (
@@ -245,7 +261,7 @@ fn the_version_names_the_toolchain(rt: HostRuntime) -> Result<(), Fail> {
 const COMMANDS: [(&str, &str); 19] = [
     (
         "",
-        "error: 'reviewgate' requires a subcommand but one was not provided\n  [subcommands: ready, why, graph, merge, footers, simulate, serve, recover, events, help]\n\nUsage: reviewgate <COMMAND>",
+        "error: 'reviewgate' requires a subcommand but one was not provided\n  [subcommands: ready, why, graph, merge, footers, check, simulate, serve, recover, events, help]\n\nUsage: reviewgate <COMMAND>",
     ),
     (
         "help nothing",

@@ -1,6 +1,6 @@
 use Rattle.std.proofs.lemmas.Result.{IfOk-weaker}
 use Rattle.command_tree.specs.Rows.{rows_in}
-use Rattle.command_line.specs.Asking.{events, footers, graph, merge, ready, recover, serve, simulate, why}
+use Rattle.command_line.specs.Asking.{check, events, footers, graph, merge, ready, recover, serve, simulate, why}
 use Rattle.command_line.proofs.Naming.{found_named}
 use Rattle.command_line.proofs.words.named.Goals as goal
 
@@ -23,6 +23,10 @@ returns-in-merge c =
 pub returns-in-footers : goal.returns-in-footers
 returns-in-footers c =
     found_named footers c.args.name.now (rows_in c.args.values.now) c.footers_in.result c.in-footers.is c.footers_in.ensures
+
+pub returns-in-check : goal.returns-in-check
+returns-in-check c =
+    found_named check c.args.name.now (rows_in c.args.values.now) c.check_in.result c.in-check.is c.check_in.ensures
 
 pub returns-in-simulate : goal.returns-in-simulate
 returns-in-simulate c =

@@ -17,3 +17,6 @@ returns-in-Why g c = rw c.in-Why.is c.why.ensures
 
 pub returns-in-Graph : goal.returns-in-Graph
 returns-in-Graph g c = rw c.in-Graph.is c.graph.ensures
+
+pub returns-in-Check : goal.returns-in-Check
+returns-in-Check g c = rw c.in-Check.is c.check.ensures

@@ -1,0 +1,193 @@
+//! What `check` prints of gate files, worked out by hand.
+
+use super::reports::assert_prints;
+use std::alloc::Global;
+use std::process::Abort;
+use std::test::Fail;
+
+/// A gate without anything to warn of.
+const GATE: &str =
+    r#"{"bases":["https://r/"],"require":{"gerrit":{"open":true,"current-patchset":true,
+"approval":[{"Workflow":1},{"username":"zuul","Verified":[1,2]}]}},
+"reject":{"gerrit":{"status":["MERGED","ABANDONED"],"approval":{"Code-Review":-2}}}}"#;
+
+/// What is printed of it.
+const ASKED: &str = r#"require /require/gerrit/open open
+require /require/gerrit/current-patchset current patch set
+require /require/gerrit/approval/0 workflow 1
+require /require/gerrit/approval/1 verified 1 or 2 by "zuul"
+reject /reject/gerrit/status status "MERGED" or "ABANDONED"
+reject /reject/gerrit/approval/0 code-review -2
+"#;
+
+/// A record with a vote of zuul, and a withdrawn one of ann.
+const RECORD: &str = r#"reviewgate 2
+{"change":101,"message":"m","op":"patchset","seq":1,"set":1,"site":1,"start":1,"time":1}
+{"change":101,"label":"verified","op":"vote","seq":2,"set":1,"site":1,"start":1,"time":2,"value":1,"voter":"zuul"}
+{"change":101,"label":"workflow","op":"vote","seq":3,"set":1,"site":1,"start":1,"time":3,"value":1,"voter":"ann"}
+{"change":101,"label":"workflow","op":"withdraw","seq":4,"set":1,"site":1,"start":1,"time":4,"voter":"ann"}
+end 4
+"#;
+
+/// What `check` prints of a gate file alone, and the status.
+fn assert_check(
+    rt: &impl Abort,
+    alloc: Global,
+    gate: &str,
+    status: u8,
+    output: &str,
+    errors: &str,
+) {
+    let words = ["check", "gate"];
+    assert_prints(
+        rt,
+        alloc,
+        words.as_slice(),
+        gate,
+        "",
+        status,
+        output,
+        errors,
+    );
+}
+
+/// What `check` prints of the gate and a record on the input, and the status.
+fn assert_with_record(
+    rt: &impl Abort,
+    alloc: Global,
+    words: &[&str],
+    input: &str,
+    status: u8,
+    output: &str,
+    errors: &str,
+) {
+    assert_prints(rt, alloc, words, GATE, input, status, output, errors);
+}
+
+#[test]
+fn a_gate_is_put_in_words(rt: HostRuntime) -> Result<(), Fail> {
+    let alloc = rt.alloc();
+    let text = format!(in alloc; "{ASKED}end 6 0\n")?;
+    assert_check(&rt, alloc, GATE, 0, text.as_str(), "");
+    let bare = r#"{"bases":["https://r/"]}"#;
+    assert_check(&rt, alloc, bare, 0, "end 0 0\n", "");
+    let empty =
+        r#"{"bases":["https://r/"],"connection":"a/b~","reject":{"a/b~":{"open":false,"current-patchset":false,
+"status":[],"approval":[{},{"Verified":[]},{"Verified":1,"Workflow":[-1,1],"username":"a\nb"}]}}}"#;
+    let lines = r#"reject /reject/a~1b~0/open not open
+reject /reject/a~1b~0/current-patchset not the current patch set
+reject /reject/a~1b~0/status status none
+reject /reject/a~1b~0/approval/0 any vote
+reject /reject/a~1b~0/approval/1 verified none
+reject /reject/a~1b~0/approval/2 verified 1 and workflow -1 or 1 by "a\nb"
+end 6 0
+"#;
+    assert_check(&rt, alloc, empty, 0, lines, "");
+    Ok(())
+}
+
+#[test]
+fn names_are_looked_for_in_a_record(rt: HostRuntime) -> Result<(), Fail> {
+    let alloc = rt.alloc();
+    let words = ["check", "gate", "-"];
+    let text = format!(in alloc;
+        "{ASKED}warning 2 UnknownLabel /reject/gerrit/approval/0 \"code-review\"\nend 6 1\n"
+    )?;
+    assert_with_record(&rt, alloc, words.as_slice(), RECORD, 0, text.as_str(), "");
+    let text = format!(in alloc;
+        "{ASKED}warning 2 UnknownLabel /require/gerrit/approval/0 \"workflow\"\nwarning 2 UnknownLabel /require/gerrit/approval/1 \"verified\"\nwarning 3 UnknownVoter /require/gerrit/approval/1 \"zuul\"\nwarning 2 UnknownLabel /reject/gerrit/approval/0 \"code-review\"\nend 6 4\n"
+    )?;
+    let empty = "reviewgate 2\nend 0\n";
+    assert_with_record(&rt, alloc, words.as_slice(), empty, 0, text.as_str(), "");
+    Ok(())
+}
+
+#[test]
+fn a_username_is_no_pattern(rt: HostRuntime) {
+    let gate =
+        r#"{"bases":["https://r/"],"require":{"gerrit":{"approval":[{"username":"^zuul.*"},{"username":"a.b-c"}]}},
+"reject":{"gerrit":{"approval":{"username":"(a|b)","Verified":-1}}}}"#;
+    let lines = r#"require /require/gerrit/approval/0 any vote by "^zuul.*"
+require /require/gerrit/approval/1 any vote by "a.b-c"
+reject /reject/gerrit/approval/0 verified -1 by "(a|b)"
+warning 1 Pattern /require/gerrit/approval/0 "^zuul.*"
+warning 1 Pattern /reject/gerrit/approval/0 "(a|b)"
+end 3 2
+"#;
+    assert_check(&rt, rt.alloc(), gate, 0, lines, "");
+}
+
+#[test]
+fn what_is_never_met_is_said(rt: HostRuntime) {
+    let alloc = rt.alloc();
+    let statuses =
+        r#"{"bases":["https://r/"],"require":{"gerrit":{"open":true,"current-patchset":true,"status":"MERGED"}},
+"reject":{"gerrit":{"current-patchset":true}}}"#;
+    let lines = r#"require /require/gerrit/open open
+require /require/gerrit/current-patchset current patch set
+require /require/gerrit/status status "MERGED"
+reject /reject/gerrit/current-patchset current patch set
+warning 4 NeverMet /require/gerrit/open
+warning 4 NeverMet /require/gerrit/current-patchset
+warning 4 NeverMet /require/gerrit/status
+end 4 3
+"#;
+    assert_check(&rt, alloc, statuses, 0, lines, "");
+    let approvals =
+        r#"{"bases":["https://r/"],"require":{"gerrit":{"approval":[{"Verified":1},{"Verified":[1,2]},
+{"Verified":1,"username":"zuul"},{"Workflow":1},{"Workflow":1,"Verified":2},{"username":"bob"},{"Review":[]}]}},
+"reject":{"gerrit":{"approval":[{"Verified":[0,1]},{"Workflow":1,"username":"zuul"},{"username":"bob"}]}}}"#;
+    let lines = r#"require /require/gerrit/approval/0 verified 1
+require /require/gerrit/approval/1 verified 1 or 2
+require /require/gerrit/approval/2 verified 1 by "zuul"
+require /require/gerrit/approval/3 workflow 1
+require /require/gerrit/approval/4 verified 2 and workflow 1
+require /require/gerrit/approval/5 any vote by "bob"
+require /require/gerrit/approval/6 review none
+reject /reject/gerrit/approval/0 verified 0 or 1
+reject /reject/gerrit/approval/1 workflow 1 by "zuul"
+reject /reject/gerrit/approval/2 any vote by "bob"
+warning 4 NeverMet /require/gerrit/approval/0
+warning 4 NeverMet /require/gerrit/approval/2
+warning 4 NeverMet /require/gerrit/approval/4
+warning 4 NeverMet /require/gerrit/approval/5
+warning 4 NeverMet /require/gerrit/approval/6
+end 10 5
+"#;
+    assert_check(&rt, alloc, approvals, 0, lines, "");
+}
+
+#[test]
+fn a_strict_check_refuses_warnings(rt: HostRuntime) -> Result<(), Fail> {
+    let alloc = rt.alloc();
+    let strict = ["check", "gate", "-", "--strict"];
+    let text = format!(in alloc;
+        "{ASKED}warning 2 UnknownLabel /reject/gerrit/approval/0 \"code-review\"\nend 6 1\n"
+    )?;
+    let errors = "reviewgate: check 1 Warnings 1\n";
+    assert_with_record(
+        &rt,
+        alloc,
+        strict.as_slice(),
+        RECORD,
+        1,
+        text.as_str(),
+        errors,
+    );
+    let clean = format!(in alloc; "{ASKED}end 6 0\n")?;
+    let words = ["check", "--strict", "gate"];
+    assert_with_record(&rt, alloc, words.as_slice(), "", 0, clean.as_str(), "");
+    Ok(())
+}
+
+#[test]
+fn a_check_refuses_bad_inputs(rt: HostRuntime) {
+    let alloc = rt.alloc();
+    assert_check(&rt, alloc, "[", 1, "", "reviewgate: gate 1 NotJson\n");
+    let strict = ["check", "gate", "-", "--strict"];
+    let errors = "reviewgate: snapshot 1 BadHeader\n";
+    assert_with_record(&rt, alloc, strict.as_slice(), "", 1, "", errors);
+    let words = ["check", "gate", "none"];
+    let errors = "reviewgate: snapshot 7 ReadFault\n";
+    assert_with_record(&rt, alloc, words.as_slice(), RECORD, 1, "", errors);
+}

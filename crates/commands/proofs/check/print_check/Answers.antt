@@ -1,0 +1,17 @@
+use Rattle.std.proofs.Common.{◌∙◌, inl, inr, [], refl, subst}
+use Rattle.std.specs.Prelude.{option_map}
+use Rattle.commands.specs.Answers.{EndsChecked, IsCheckText}
+use Rattle.commands.proofs.Checking.{ends_cut, ends_printed}
+use Rattle.commands.proofs.HowItEnds.{nothing_printed}
+use Rattle.commands.proofs.check.print_check.Goals as goal
+
+pub returns-in_default : goal.returns-in_default
+returns-in_default g c = inl ([], inr (refl, refl), nothing_printed _)
+
+pub returns-in_err-print : goal.returns-in_err-print
+returns-in_err-print g c = ?
+
+pub returns : goal.returns
+returns g c =
+    ends_printed (IsCheckText c.args.rules.now (option_map (λ known. known.now) c.args.state) c.args.is_strict) _ _ _ c.end_of-ended.result
+    (inl (c.as_bytes.ensures.value ∙ c.in-Ok.ensures.text, subst (λ n. EndsChecked c.args.is_strict n c.end_of-ended.result) c.in-Ok.ensures.warnings c.end_of-ended.ensures)) c.in_ok-print.ensures

@@ -1,0 +1,94 @@
+//! Prints what a gate file asks for, with warnings of what looks mistaken in it.
+
+ghost use Rattle.std.specs.Prelude.{◌≡◌, IfErr, IfOk, IsSomeAnd, option_map};
+ghost use Rattle.console.specs.Inputs.{IsRefused, input, snapshot_file};
+ghost use Rattle.state_core.specs.State.{state_of};
+ghost use Rattle.commands.specs.Answers.{EndsChecked, IsCheckText, IsRecordHad};
+ghost use Rattle.commands.specs.Ending.{Ends, Finishes};
+
+use command_line::Command;
+use console::{Console, Refusal, read_gate, read_snapshot};
+use gate_check::check_gate;
+use gate_rules::Gate;
+use replica_core::Replica;
+use state_core::State;
+use std::alloc::Global;
+use std::mem::ManuallyDrop;
+
+/// Prints what a gate file asks for, condition by condition, and warnings of what looks mistaken in it; of the record of
+/// a snapshot, too, where one is named. Refusals: those of the gate file, then of the snapshot; `Memory`, memory was
+/// refused once both were read; `Output`; `Warnings`, where `is_strict`, once all is printed: there are warnings. It
+/// costs what reading both costs, and what `check_gate` does.
+pub fn check<'n, C: Console>(
+    alloc: Global,
+    gate: &'n str,
+    snapshot: Option<&'n str>,
+    is_strict: bool,
+    console: &mut C,
+) -> Result<(), Refusal<'n>>
+    ensures { Ends (Command.Check gate.entry snapshot.entry is_strict) (C.state console.old) (C.state console.new) result }
+{
+    let rules = read_gate(alloc, gate, console)?;
+    let record = read_record(alloc, snapshot, console)?;
+    let ended = print_check(alloc, &rules, state_in(&record), is_strict, console);
+    // The program ends now, and the record's memory goes with it.
+    let _kept = ManuallyDrop::new(record);
+    ended
+}
+
+/// The record of the snapshot of a name, where one is named.
+fn read_record<'n, C: Console>(
+    alloc: Global,
+    name: Option<&'n str>,
+    console: &mut C,
+) -> Result<Option<Replica>, Refusal<'n>>
+    ensures had { IfOk result (λ read. IsRecordHad (option_map (λ snapshot. snapshot.now) name.entry)
+        (option_map state_of read) (C.state console.old) (C.state console.new)) }
+    ensures refused { IfErr result (λ refusal. IsSomeAnd name.entry (λ snapshot.
+        IsRefused (input snapshot_file snapshot.now) (C.state console.old) (C.state console.new) refusal)) }
+{
+    let Some(name) = name else {
+        return Ok(None);
+    };
+    let record = read_snapshot(Replica::new(alloc), name, console)?;
+    Ok(Some(record))
+}
+
+/// The state of a record, where there is one.
+fn state_in(replica: &Option<Replica>) -> Option<&State>
+    ensures { option_map (λ state. state.now) result ≡ option_map state_of replica.now }
+{
+    match replica {
+        Some(replica) => Some(replica.state()),
+        None => None,
+    }
+}
+
+/// Prints what a gate asks for, with warnings.
+fn print_check<C: Console>(
+    alloc: Global,
+    rules: &Gate,
+    state: Option<&State>,
+    is_strict: bool,
+    console: &mut C,
+) -> Result<(), Refusal<'static>>
+    ensures { Finishes (IsCheckText rules.now (option_map (λ known. known.now) state) is_strict) (C.state console.old)
+        (C.state console.new) result }
+{
+    let Ok(checked) = check_gate(alloc, rules, state) else {
+        return Err(Refusal::Memory);
+    };
+    let ended = end_of(is_strict, checked.warnings);
+    console.print(checked.text.as_bytes())?;
+    ended
+}
+
+/// How a check ends that has so many warnings.
+fn end_of(is_strict: bool, warnings: usize) -> Result<(), Refusal<'static>>
+    ensures { EndsChecked is_strict warnings result }
+{
+    if is_strict && warnings > 0 {
+        return Err(Refusal::Warnings(warnings));
+    }
+    Ok(())
+}

@@ -1,0 +1,97 @@
+-- Texts that are joined, and lines that are added one after another.
+use Rattle.std.proofs.Common.{◌≡◌, ◌∙◌, ◌+◌, ◌<◌, ℕ, suc, List, [], ◌∷◌, ◌++◌, Bool, false, Result, length, map, flat_map, take, drop, get_or, sym, ap, refl}
+use Rattle.std.proofs.Common.{append-nil, append_assoc, arith, string_bytes, add-one, drop-cons, length-drop, ◌≤◌}
+use Rattle.std.specs.List.{join_by}
+use Rattle.std.specs.Prelude.{IsUtf8, OnOk, encode_utf8, ◌==◌}
+use Rattle.std.specs.Str.{chars}
+use Rattle.std.proofs.lemmas.Result.{on_ok_weaker}
+use Rattle.std.proofs.lemmas.Str.{IsUtf8-past_char, chars_past_char, chars-nil}
+use Rattle.std.proofs.lemmas.List.{nil_from_length, length-append, take_more}
+use Rattle.std.proofs.lemmas.List.Concat.{flat_map-append}
+use Rattle.std.proofs.lemmas.List.Folds.{flat_map-map}
+use Rattle.json.proofs.Printed.Tokens.{print_from_push, print_from-append}
+use Rattle.json.specs.Token.{string}
+use Rattle.json.specs.Print.{print, quoted}
+use Rattle.gate_check.specs.Asking.{escaped, joined, numbered}
+
+print_nothing : print [] ≡ []
+print_nothing = nil_from_length (print [])
+    (omega (arith, ap length (print_from-append false [] []), length-append (print []) (print [])))
+
+pub quoted_alone : (text : List ℕ) → print (string text ∷ []) ≡ quoted text
+quoted_alone text = print_from_push false [] (string text) ∙ ap (λ l. l ++ quoted text) print_nothing
+
+pub joined_some : {X : Type 0} (text_of : X → List ℕ) (none separator : List ℕ) (texts : List X) (is_empty : Bool)
+    → is_empty ≡ (length texts == 0) → is_empty ≡ false
+    → join_by text_of separator texts ≡ joined none separator (map text_of texts)
+joined_some text_of none separator [] is_empty is not = cc
+joined_some text_of none separator (x ∷ xs) is_empty is not =
+    ap (λ l. text_of x ++ l) (sym (flat_map-map (λ other. separator ++ other) text_of xs))
+
+-- ---- the characters of a name
+
+pub text_left : (bs rest : List ℕ) (letter : ℕ) → IsUtf8 bs → bs ≡ encode_utf8 letter ++ rest → IsUtf8 rest
+text_left bs rest letter text starts = IsUtf8-past_char bs rest letter text starts
+
+pub letter_more : (old new whole bs rest : List ℕ) (letter : ℕ) → IsUtf8 bs → bs ≡ encode_utf8 letter ++ rest
+    → new ≡ old ++ escaped letter → old ++ flat_map escaped (chars bs) ≡ whole
+    → new ++ flat_map escaped (chars rest) ≡ whole
+letter_more old new whole bs rest letter text starts is so_far =
+    ap (λ l. l ++ flat_map escaped (chars rest)) is
+    ∙ append_assoc old (escaped letter) (flat_map escaped (chars rest))
+    ∙ ap (λ l. old ++ flat_map escaped l) (sym (chars_past_char bs rest letter text starts)) ∙ so_far
+
+pub letters_done : (now whole bs : List ℕ) → length bs ≡ 0 → now ++ flat_map escaped (chars bs) ≡ whole → now ≡ whole
+letters_done now whole bs none so_far =
+    sym (append-nil now) ∙ ap (λ l. now ++ flat_map escaped l) (sym (ap chars (nil_from_length bs none) ∙ chars-nil))
+    ∙ so_far
+
+-- one more
+pub flat_more : {X Y : Type 0} (f : X → List Y) (xs : List X) (i : ℕ) (d : X) → i < length xs
+    → flat_map f (take (i + 1) xs) ≡ flat_map f (take i xs) ++ f (get_or xs i d)
+flat_more f xs i d inside =
+    ap (flat_map f) (take_more xs i d inside) ∙ flat_map-append f (take i xs) (get_or xs i d ∷ [])
+    ∙ ap (λ l. flat_map f (take i xs) ++ l) (append-nil (f (get_or xs i d)))
+
+pub numbered_more : {X Y : Type 0} (make : ℕ → X → List Y) (xs : List X) (i : ℕ) (d : X) → i < length xs
+    → numbered make i (drop i xs) ≡ make i (get_or xs i d) ++ numbered make (i + 1) (drop (i + 1) xs)
+numbered_more make xs i d inside = rw (add-one, drop-cons xs i d) refl
+
+-- lines after lines
+pub added : {Y : Type 0} (start done more old new : List Y) → old ≡ start ++ done → new ≡ old ++ more
+    → new ≡ start ++ (done ++ more)
+added start done more old new so_far is = is ∙ ap (λ l. l ++ more) so_far ∙ append_assoc start done more
+
+module _ {X Y : Type 0} (make : ℕ → X → List Y) (xs : List X) (i : ℕ) where
+  -- one more is made, and the later ones are left
+  pub numbered_step : (d : X) → i < length xs → (old new whole : List Y) → new ≡ old ++ make i (get_or xs i d)
+      → old ++ numbered make i (drop i xs) ≡ whole → new ++ numbered make (i + 1) (drop (i + 1) xs) ≡ whole
+  numbered_step d inside old new whole is so_far =
+      ap (λ l. l ++ numbered make (i + 1) (drop (i + 1) xs)) is
+      ∙ append_assoc old (make i (get_or xs i d)) (numbered make (i + 1) (drop (i + 1) xs))
+      ∙ ap (λ l. old ++ l) (sym (numbered_more make xs i d inside)) ∙ so_far
+
+  pub numbered_done : length xs ≤ i → (now whole : List Y) → now ++ numbered make i (drop i xs) ≡ whole → now ≡ whole
+  numbered_done past now whole so_far =
+      let none : drop i xs ≡ [] = nil_from_length (drop i xs) (omega (arith, length-drop {A = X})) in
+      sym (append-nil now) ∙ ap (λ l. now ++ numbered make i l) (sym none) ∙ so_far
+
+-- ---- lines that several calls add
+
+module _ {Y E : Type 0} (result : Result (Unit {0}) E) (start a b : List Y) where
+  pub after_two : (one two : List Y) → one ≡ start ++ a → OnOk result (two ≡ one ++ b)
+      → OnOk result (two ≡ start ++ (a ++ b))
+  after_two one two first last = on_ok_weaker result (added start a b one two first) last
+
+  module _ (c : List Y) where
+    pub after_three : (one two three : List Y) → one ≡ start ++ a → two ≡ one ++ b → OnOk result (three ≡ two ++ c)
+        → OnOk result (three ≡ start ++ (a ++ b ++ c))
+    after_three one two three first second last =
+        on_ok_weaker result (added start (a ++ b) c two three (added start a b one two first second)) last
+
+    pub after_four : (d one two three four : List Y) → one ≡ start ++ a → two ≡ one ++ b → three ≡ two ++ c
+        → OnOk result (four ≡ three ++ d) → OnOk result (four ≡ start ++ (a ++ b ++ c ++ d))
+    after_four d one two three four first second next last =
+        on_ok_weaker result
+        (added start (a ++ b ++ c) d three four
+        (added start (a ++ b) c two three (added start a b one two first second) next)) last

@@ -1,0 +1,107 @@
+-- Which conditions of a gate no item can meet beside the gate's others.
+use Rattle.std.specs.Prelude.{◌≡◌, ℕ, ℤ, List, [], ◌∷◌, Bool, true, false, not, ◌&&◌, ◌||◌, Option, None, Some, is_some, unwrap_or}
+use Rattle.std.specs.Prelude.{if◌then◌else◌}
+use Rattle.std.specs.FinMap as finite
+use Rattle.change_core.specs.Change.{Change}
+use Rattle.change_core.specs.Status.{status_name}
+use Rattle.change_core.specs.Votes.{GivenApproval}
+use Rattle.change_core.specs.declared.life.Status.{Status}
+use Rattle.change_core.specs.declared.life.Status.TheVariants.{New, Abandoned, Merged}
+use Rattle.gate_rules.specs.Own.{IsBroken, ItemStanding, compared, is_new, matches, names, same_flag, some}
+use Rattle.gate_rules.specs.Own.{standing_of}
+use Rattle.gate_rules.specs.Reading.{each}
+use Rattle.gate_rules.specs.Rules.{GateRules, LabelRule, PatternRule}
+use Rattle.gate_rules.specs.declared.condition.Clause.TheVariants.{CurrentSet, OpenState, StatusIn}
+use Rattle.gate_rules.specs.declared.condition.Condition.{Condition}
+use Rattle.gate_rules.specs.declared.condition.Side.{Side}
+use Rattle.gate_rules.specs.declared.condition.Side.TheVariants.{Require, Reject}
+
+-- ---- the status
+
+-- an item of a change with this status, on whose current patch set nobody voted
+abbrev pub standing_with : Status → ItemStanding
+standing_with status =
+    record { status = status_name status; is_open = is_new status; is_current = true; approvals = [] }
+
+-- what is compared, where it is, comes out as wanted
+abbrev pub comes_out : Bool → Option Bool → Bool
+comes_out wanted None = true
+comes_out wanted (Some so) = same_flag wanted so
+
+-- the conditions on a change's status let a change of this status in
+abbrev pub lets_in : GateRules → Status → Bool
+lets_in gate status = let standing = standing_with status in
+    comes_out true (compared gate.require standing OpenState) && comes_out true (compared gate.require standing StatusIn)
+    && comes_out false (compared gate.reject standing OpenState)
+    && comes_out false (compared gate.reject standing StatusIn)
+
+-- they let no change in
+abbrev pub lets_none_in : GateRules → Bool
+lets_none_in gate = not (lets_in gate New || lets_in gate Abandoned || lets_in gate Merged)
+
+-- ---- the current patch set
+
+-- the same is required and rejected
+abbrev pub same_answer : Option Bool → Option Bool → Bool
+same_answer None rejected = false
+same_answer (Some required) None = false
+same_answer (Some required) (Some rejected) = same_flag required rejected
+
+-- ---- approvals
+
+-- the vote of this label and value by the voter whom the pattern names, if it names one
+abbrev pub vote_of : PatternRule → List ℕ → ℤ → GivenApproval
+vote_of pattern label value = record { label = label; voter = unwrap_or pattern.username []; value = value }
+
+-- it takes every voter whom the pattern takes, if it takes the one who is named
+abbrev pub is_as_wide : PatternRule → PatternRule → Bool
+is_as_wide other pattern = not (is_some other.username) || is_some pattern.username
+
+-- the votes of this label and value that the pattern takes are rejected
+abbrev pub rejects_votes : List PatternRule → PatternRule → List ℕ → ℤ → Bool
+rejects_votes rejected pattern label value =
+    some (λ other. is_as_wide other pattern && matches other (vote_of pattern label value)) rejected
+
+abbrev pub has_none : {A : Type 0} → List A → Bool
+has_none [] = true
+has_none (x ∷ xs) = false
+
+-- votes of every label are
+abbrev pub rejects_any_label : List PatternRule → PatternRule → Bool
+rejects_any_label rejected pattern =
+    some (λ other. is_as_wide other pattern && names other.username (unwrap_or pattern.username []) && has_none other.labels)
+    rejected
+
+-- every vote that the pattern takes is rejected; one with two labels takes none
+abbrev pub rejects_each : List PatternRule → PatternRule → List LabelRule → Bool
+rejects_each rejected pattern [] = rejects_any_label rejected pattern
+rejects_each rejected pattern (rule ∷ []) = each (rejects_votes rejected pattern rule.label) rule.values
+rejects_each rejected pattern (rule ∷ other ∷ rules) = true
+
+-- ---- the conditions of a gate
+
+abbrev pub is_open_never_met : GateRules → Bool
+is_open_never_met gate = is_some gate.require.is_open && lets_none_in gate
+
+abbrev pub is_current_never_met : GateRules → Bool
+is_current_never_met gate = same_answer gate.require.is_current gate.reject.is_current
+
+abbrev pub is_status_never_met : GateRules → Bool
+is_status_never_met gate = is_some gate.require.status && lets_none_in gate
+
+-- an approval: only one that is required is to be met
+abbrev pub is_never_met : GateRules → Side → PatternRule → Bool
+is_never_met gate Require pattern = rejects_each gate.reject.approvals pattern pattern.labels
+is_never_met gate Reject pattern = false
+
+-- ---- what the tests mean
+
+-- an item of any change breaks some condition of the gate
+abbrev pub LetsNothingIn : GateRules → Type 0
+LetsNothingIn gate = (change : Change) (current set : ℕ)
+    → (condition : Condition) × IsBroken gate (standing_of change current set) condition
+
+-- every vote that the pattern takes is taken by one that is rejected
+abbrev pub IsRejected : List PatternRule → PatternRule → Type 0
+IsRejected rejected pattern =
+    (vote : GivenApproval) → matches pattern vote ≡ true → some (λ other. matches other vote) rejected ≡ true

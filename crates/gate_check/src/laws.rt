@@ -1,0 +1,17 @@
+//! What the tests of `NeverMet` mean.
+
+ghost use Rattle.std.specs.Prelude.{◌≡◌, ℕ, Some, slice_get, true};
+ghost use Rattle.gate_rules.specs.Rules.{GateRules, PatternRule};
+ghost use Rattle.gate_rules.specs.declared.condition.Side.TheVariants.{Require};
+ghost use Rattle.gate_check.specs.Meeting.{IsRejected, LetsNothingIn, is_current_never_met, is_never_met};
+ghost use Rattle.gate_check.specs.Meeting.{is_open_never_met, is_status_never_met};
+
+/// Where a gate has a condition that is never met, an item of any change breaks some condition of the gate.
+pub fn what_is_never_met_lets_nothing_in()
+    ensures opening { (gate : GateRules) → is_open_never_met gate ≡ true → LetsNothingIn gate }
+    ensures current { (gate : GateRules) → is_current_never_met gate ≡ true → LetsNothingIn gate }
+    ensures status { (gate : GateRules) → is_status_never_met gate ≡ true → LetsNothingIn gate }
+    ensures approval { (gate : GateRules) (place : ℕ) (pattern : PatternRule)
+        → slice_get gate.require.approvals place ≡ Some pattern → is_never_met gate Require pattern ≡ true
+        → IsRejected gate.reject.approvals pattern × LetsNothingIn gate }
+{}

@@ -1,0 +1,26 @@
+//! What a gate asks, in words, and warnings of what looks mistaken in its gate file.
+//!
+//! Its tests are in the crate `command_tests`.
+//!
+//! An example of its use:
+//!
+//! ```
+//! let gate = Gate::read(alloc, br#"{"bases":["https://r/"],"require":{"gerrit":{"open":true}}}"#)?;
+//! let found = check_gate(alloc, &gate, None)?;
+//! assert_eq!(rt; found.text.as_str(), "require /require/gerrit/open open\nend 1 0\n");
+//! ```
+#![tactic(auto)]
+
+mod asking;
+mod checking;
+mod finding;
+mod laws;
+mod meeting;
+mod names;
+mod place;
+mod warning;
+mod words;
+
+pub use checking::{Checked, check_gate};
+pub use laws::what_is_never_met_lets_nothing_in;
+pub use warning::Warning;

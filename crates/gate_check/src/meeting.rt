@@ -1,0 +1,183 @@
+//! Which conditions of a gate no item can meet beside the gate's others.
+
+ghost use Rattle.std.specs.Prelude.{◌≡◌, [], map, string_bytes, unwrap_or};
+ghost use Rattle.std.specs.Str.{bytes_eq};
+ghost use Rattle.gate_rules.specs.Own.{compared, names, some};
+ghost use Rattle.gate_rules.specs.Reading.{each};
+ghost use Rattle.gate_rules.specs.declared.condition.Clause.TheVariants.{OpenState, StatusIn};
+ghost use Rattle.gate_check.specs.Meeting.{comes_out, is_as_wide, is_current_never_met, is_never_met, is_open_never_met};
+ghost use Rattle.gate_check.specs.Meeting.{is_status_never_met, lets_in, lets_none_in, rejects_any_label, rejects_each};
+ghost use Rattle.gate_check.specs.Meeting.{rejects_votes, same_answer, standing_with};
+
+use change_core::{Approval, Status};
+use gate_rules::{Clauses, Gate, LabelValues, Pattern, Side};
+
+/// Whether `open` is required and can't be met.
+pub fn is_open_never_met(gate: &Gate) -> bool
+    ensures { result ≡ is_open_never_met gate.now }
+{
+    gate.clauses(Side::Require).asks_open().is_some() && lets_none_in(gate)
+}
+
+/// Whether `current-patchset` is required and can't be met.
+pub fn is_current_never_met(gate: &Gate) -> bool
+    ensures { result ≡ is_current_never_met gate.now }
+{
+    let required = gate.clauses(Side::Require).asks_current();
+    same_answer(required, gate.clauses(Side::Reject).asks_current())
+}
+
+/// Whether `status` is required and can't be met.
+pub fn is_status_never_met(gate: &Gate) -> bool
+    ensures { result ≡ is_status_never_met gate.now }
+{
+    gate.clauses(Side::Require).statuses().is_some() && lets_none_in(gate)
+}
+
+/// Whether the conditions on a change's status let no change in.
+fn lets_none_in(gate: &Gate) -> bool
+    ensures { result ≡ lets_none_in gate.now }
+{
+    !(lets_in(gate, Status::New)
+        || lets_in(gate, Status::Abandoned)
+        || lets_in(gate, Status::Merged))
+}
+
+/// Whether they let a change of this status in.
+fn lets_in(gate: &Gate, status: Status) -> bool
+    ensures { result ≡ lets_in gate.now status }
+{
+    let require = gate.clauses(Side::Require);
+    let reject = gate.clauses(Side::Reject);
+    comes_out(true, open_is(require, status))
+        && comes_out(true, status_among(require, status))
+        && comes_out(false, open_is(reject, status))
+        && comes_out(false, status_among(reject, status))
+}
+
+/// Whether a change of this status is open as is asked, where it is.
+fn open_is(clauses: &Clauses, status: Status) -> Option<bool>
+    ensures { result ≡ compared clauses.now (standing_with status) OpenState }
+{
+    let asked = clauses.asks_open()?;
+    Some((status == Status::New) == asked)
+}
+
+/// Whether the status is among those that are asked, where they are.
+fn status_among(clauses: &Clauses, status: Status) -> Option<bool>
+    ensures { result ≡ compared clauses.now (standing_with status) StatusIn }
+{
+    let texts = clauses.statuses()?;
+    Some(is_among(texts, status.name()))
+}
+
+/// Whether a status is one of the texts.
+fn is_among(texts: &[String], status: &str) -> bool
+    ensures { result ≡ some (bytes_eq status.now) (map string_bytes texts.now) }
+{
+    for text in texts {
+        if status == text.as_str() {
+            return true;
+        }
+    }
+    false
+}
+
+/// Whether what is compared, where it is, comes out as wanted.
+fn comes_out(wanted: bool, compared: Option<bool>) -> bool
+    ensures { result ≡ comes_out wanted compared }
+{
+    match compared {
+        Some(so) => so == wanted,
+        None => true,
+    }
+}
+
+/// Whether the same is required and rejected.
+fn same_answer(required: Option<bool>, rejected: Option<bool>) -> bool
+    ensures { result ≡ same_answer required rejected }
+{
+    match (required, rejected) {
+        (Some(required), Some(rejected)) => required == rejected,
+        _ => false,
+    }
+}
+
+/// Whether a pattern of a side is required and can't be met: every vote that it takes is rejected.
+pub fn is_never_met(gate: &Gate, side: Side, pattern: &Pattern) -> bool
+    ensures { result ≡ is_never_met gate.now side pattern.now }
+{
+    match side {
+        Side::Require => rejects_each(gate.clauses(Side::Reject).approvals(), pattern),
+        Side::Reject => false,
+    }
+}
+
+/// Whether every vote that the pattern takes is taken by one that is rejected. One with two labels takes no vote.
+fn rejects_each(rejected: &[Pattern], pattern: &Pattern) -> bool
+    ensures { result ≡ rejects_each rejected.now pattern.now pattern.now.labels }
+{
+    let labels = pattern.labels();
+    if labels.is_empty() {
+        return rejects_any_label(rejected, pattern);
+    }
+    labels.len() > 1 || rejects_values(rejected, pattern, &labels[0])
+}
+
+/// Whether the votes of this label and each of its values that the pattern takes are rejected.
+fn rejects_values(rejected: &[Pattern], pattern: &Pattern, rule: &LabelValues) -> bool
+    ensures { result ≡ each (rejects_votes rejected.now pattern.now rule.now.label) rule.now.values }
+{
+    for value in rule.values() {
+        if !rejects_votes(rejected, pattern, rule.label(), *value) {
+            return false;
+        }
+    }
+    true
+}
+
+/// Whether the votes of this label and value that the pattern takes are rejected.
+fn rejects_votes(rejected: &[Pattern], pattern: &Pattern, label: &str, value: i8) -> bool
+    ensures { result ≡ rejects_votes rejected.now pattern.now label.now value }
+{
+    let vote = Approval {
+        label,
+        voter: pattern.username().unwrap_or(""),
+        value,
+    };
+    for other in rejected {
+        if is_as_wide(other, pattern) && other.matches(&vote) {
+            return true;
+        }
+    }
+    false
+}
+
+/// Whether all votes that the pattern takes are rejected, of whatever label they are.
+fn rejects_any_label(rejected: &[Pattern], pattern: &Pattern) -> bool
+    ensures { result ≡ rejects_any_label rejected.now pattern.now }
+{
+    for other in rejected {
+        if is_as_wide(other, pattern) && takes_voter(other, pattern) && other.labels().is_empty() {
+            return true;
+        }
+    }
+    false
+}
+
+/// Whether the other one takes every voter whom the pattern takes, if it takes the one who is named.
+fn is_as_wide(other: &Pattern, pattern: &Pattern) -> bool
+    ensures { result ≡ is_as_wide other.now pattern.now }
+{
+    other.username().is_none() || pattern.username().is_some()
+}
+
+/// Whether the other one takes the voter whom the pattern names, or whom it takes where it names none.
+fn takes_voter(other: &Pattern, pattern: &Pattern) -> bool
+    ensures { result ≡ names other.now.username (unwrap_or pattern.now.username []) }
+{
+    match other.username() {
+        Some(username) => username == pattern.username().unwrap_or(""),
+        None => true,
+    }
+}
