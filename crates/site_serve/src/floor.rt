@@ -455,7 +455,7 @@ pub(super) fn serve_floor<R: Wait + Clock, J: Naming, K: Keeps, E: Drain>(
     for _ in rt.forever() {
         floor.wait(&mut places);
         floor.note_time(rt, &begun);
-        turn(
+        let turned = turn(
             rt,
             &site,
             &mut floor,
@@ -463,7 +463,11 @@ pub(super) fn serve_floor<R: Wait + Clock, J: Naming, K: Keeps, E: Drain>(
             &lines,
             ledger,
             &mut waiters,
-        )?;
+        );
+        if let Err(fault) = turned {
+            places.refuse_waiting(alloc, floor.now);
+            return Err(fault);
+        }
         if floor.is_over(rt, &mut places, site.stop) {
             return end_asks(rt, alloc, places, lines, ledger, waiters);
         }

@@ -151,6 +151,16 @@ impl<J: Naming> Places<J> {
         }
     }
 
+    /// Answers each session whose `take`s wait that the site has ended, as far as its connection takes that at once.
+    pub(super) fn refuse_waiting(&mut self, alloc: Global, now: Duration) {
+        for place in 0..self.sessions.len() {
+            if let Some(Some(session)) = self.sessions.get_mut(place) {
+                session.refuse_waiting(alloc);
+                session.write(now);
+            }
+        }
+    }
+
     /// Takes what a worker has done for a session, unless that has gone.
     pub(super) fn take_reply(&mut self, reply: Reply) -> bool {
         let Reply {

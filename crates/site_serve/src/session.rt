@@ -169,6 +169,14 @@ impl<J: Naming> Session<J> {
         }
     }
 
+    /// Is answered for each `take` that waits that the site has ended: it may be kept, or not.
+    pub(super) fn refuse_waiting(&mut self, alloc: Global) {
+        for _take in 0..self.waiting {
+            self.say_taken(alloc, Err(PortFault::Closed));
+        }
+        self.waiting = 0;
+    }
+
     /// Is answered by a text that a worker made, and goes on or not.
     pub(super) fn take_text(&mut self, text: Vec<u8>, answered: Result<bool, LineFault>)
         ensures says { (self.new.outbox ≡ self.old.outbox ++ text.items) ⊎ (self.new.outbox ≡ self.old.outbox) }
