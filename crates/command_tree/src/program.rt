@@ -141,7 +141,7 @@ fn footers_command<'a>(alloc: Global) -> Result<Command<'a>, AllocError>
         CHANGE,
         "0",
         "N",
-        "The number of the message's own change; 0 is none",
+        "The number of the message's own change; 0 means none",
     );
     Command::new(alloc, "footers")
         .about("Prints the changes that a commit message depends on")

@@ -5,8 +5,8 @@ ghost use Rattle.command_tree.specs.Commands.{IsApp, ending_app, paced_app, peer
 ghost use Rattle.command_tree.specs.Rules.{IsRule, needed_number};
 
 use super::arguments::{
-    CONNECTIONS, IDLE, PAUSE, PEER, PORT, SESSIONS, SITE, START, WORKERS, default_option, file, flag,
-    number_option, numbers, option,
+    CONNECTIONS, IDLE, PAUSE, PEER, PORT, SESSIONS, SITE, START, WORKERS, default_option, file,
+    flag, number_option, numbers, option,
 };
 use super::program::GATE_HELP;
 use clap::{Arg, Command};
@@ -42,7 +42,7 @@ fn ending_command<'a>(alloc: Global) -> Result<Command<'a>, AllocError>
         IDLE,
         "0",
         "MS",
-        "How long a session may be silent; 0 is without end",
+        "How long a session may be silent; 0 means no limit",
     );
     let connections = default_option(
         alloc,
@@ -54,7 +54,7 @@ fn ending_command<'a>(alloc: Global) -> Result<Command<'a>, AllocError>
     let ending = flag(
         alloc,
         "until-input-ends",
-        "Ends in order with standard input, or at its line stop",
+        "Ends in order when standard input ends, or at its line stop",
     );
     let paced = paced_command(alloc)?;
     paced.arg(idle)?.arg(connections)?.arg(ending)
@@ -83,7 +83,7 @@ fn paced_command<'a>(alloc: Global) -> Result<Command<'a>, AllocError>
         SESSIONS,
         "0",
         "N",
-        "Ends after so many sessions; 0 is without end",
+        "Ends after so many sessions; 0 means no limit",
     );
     let placed = placed_command(alloc)?;
     placed.arg(workers)?.arg(pause)?.arg(sessions)
@@ -97,7 +97,7 @@ fn placed_command<'a>(alloc: Global) -> Result<Command<'a>, AllocError>
         alloc,
         START,
         "N",
-        "The start, above every start that the site ever ran under; with --journal it may be left out",
+        "The start, greater than every start the site has used; optional with --journal",
     );
     let port = default_option(
         alloc,

@@ -16,7 +16,7 @@ pub struct Setup {
     pub replica: Replica,
     /// Its number, from 1.
     pub site: u16,
-    /// The start of what it takes in, above every start that it ever ran under.
+    /// The start of what it takes in, which must be greater than every start that it has used.
     pub start: u32,
     /// The ports of its peers on this machine.
     pub peers: Vec<u16>,

@@ -134,7 +134,7 @@ Arguments:
   <FILE>  The file of the commit message, or - for standard input
 
 Options:
-      --change <N>  The number of the message's own change; 0 is none [default: 0]
+      --change <N>  The number of the message's own change; 0 means none [default: 0]
   -h, --help        Print help
 ",
     ),
@@ -179,14 +179,14 @@ Arguments:
 
 Options:
       --site <N>          The site's number, from 1 to 65535
-      --start <N>         The start, above every start that the site ever ran under; with --journal it may be left out
+      --start <N>         The start, greater than every start the site has used; optional with --journal
       --port <P>          The port on 127.0.0.1; 0 has the system choose one [default: 0]
       --workers <N>       How many threads answer ready, state and front, 1 to 6 [default: 2]
       --pause <MS>        Between two rounds of pulls, 1 to 600000 [default: 1000]
-      --sessions <N>      Ends after so many sessions; 0 is without end [default: 0]
-      --idle <MS>         How long a session may be silent; 0 is without end [default: 0]
+      --sessions <N>      Ends after so many sessions; 0 means no limit [default: 0]
+      --idle <MS>         How long a session may be silent; 0 means no limit [default: 0]
       --connections <N>   How many connections may be open at once, 1 to 65535 [default: 1024]
-      --until-input-ends  Ends in order with standard input, or at its line stop
+      --until-input-ends  Ends in order when standard input ends, or at its line stop
       --load <FILE>       The snapshot to begin with
       --save <FILE>       The snapshot that is written at the end
       --journal <FILE>    The journal that keeps what is taken in
