@@ -72,7 +72,7 @@ fn print_check<C: Console>(
     is_strict: bool,
     console: &mut C,
 ) -> Result<(), Refusal<'static>>
-    ensures { Finishes (IsCheckText rules.now (option_map (λ known. known.now) state) is_strict) (C.state console.old)
+    ensures { Finishes (IsCheckText rules.now (option_map (λ known. known.now) state.entry) is_strict) (C.state console.old)
         (C.state console.new) result }
 {
     let Ok(checked) = check_gate(alloc, rules, state) else {

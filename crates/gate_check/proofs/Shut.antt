@@ -18,7 +18,7 @@ use Rattle.gate_rules.specs.declared.condition.Clause.TheVariants.{Approval, Cur
 use Rattle.gate_rules.specs.declared.condition.Condition.{Condition}
 use Rattle.gate_rules.specs.declared.condition.Side.TheVariants.{Reject, Require}
 use Rattle.gate_check.specs.Meeting.{IsRejected, LetsNothingIn, comes_out, has_none, is_as_wide, lets_in, lets_none_in}
-use Rattle.gate_check.specs.Meeting.{is_current_never_met, rejects_any_label, rejects_each, rejects_votes, same_answer}
+use Rattle.gate_check.specs.Meeting.{is_current_never_met, rejects_each, rejects_votes, same_answer}
 use Rattle.gate_check.specs.Meeting.{standing_with, vote_of}
 
 -- ---- tests
@@ -38,7 +38,7 @@ three_fail false false true e = cc
 three_fail false false false e = (refl, refl, refl)
 
 module _ {X : Type 0} (test : X → Bool) where
-  some_in : (xs : List X) → some test xs ≡ true → (x : X) × (k : ℕ) × (slice_get xs k ≡ Some x) × (test x ≡ true)
+  pub some_in : (xs : List X) → some test xs ≡ true → (x : X) × (k : ℕ) × (slice_get xs k ≡ Some x) × (test x ≡ true)
   some_in [] e = cc
   some_in (x ∷ xs) e =
       elim (test x) as (λ b. test x ≡ b → (if b then true else some test xs) ≡ true → (y : X) × (k : ℕ) × (slice_get (x ∷ xs) k ≡ Some y) × (test y ≡ true)) [
@@ -46,7 +46,7 @@ module _ {X : Type 0} (test : X → Bool) where
         | false ↦ λ is found. let later = some_in xs found in (later.0, suc later.1, later.2, later.3)
       ] refl e
 
-  some_at : (xs : List X) (k : ℕ) (x : X) → slice_get xs k ≡ Some x → test x ≡ true → some test xs ≡ true
+  pub some_at : (xs : List X) (k : ℕ) (x : X) → slice_get xs k ≡ Some x → test x ≡ true → some test xs ≡ true
   some_at [] k x at is = cc
   some_at (y ∷ xs) zero x at is =
       let same : y ≡ x = cc in ap (λ b. if b then true else some test xs) (ap test same ∙ is)
@@ -151,7 +151,7 @@ none_take : (labels : List LabelRule) (vote : GivenApproval) → has_none labels
 none_take [] vote is = refl
 none_take (rule ∷ rules) vote is = cc
 
-all_hold : (a b : Bool) → a ≡ true → b ≡ true → (a && b) ≡ true
+pub all_hold : (a b : Bool) → a ≡ true → b ≡ true → (a && b) ≡ true
 all_hold true b p q = q
 all_hold false b p q = cc
 

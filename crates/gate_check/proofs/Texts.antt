@@ -1,6 +1,6 @@
 -- Texts that are joined, and lines that are added one after another.
-use Rattle.std.proofs.Common.{◌≡◌, ◌∙◌, ◌+◌, ◌<◌, ℕ, suc, List, [], ◌∷◌, ◌++◌, Bool, false, Result, length, map, flat_map, take, drop, get_or, sym, ap, refl}
-use Rattle.std.proofs.Common.{append-nil, append_assoc, arith, string_bytes, add-one, drop-cons, length-drop, ◌≤◌}
+use Rattle.std.proofs.Common.{◌≡◌, ◌∙◌, ◌+◌, ◌<◌, ℕ, List, [], ◌∷◌, ◌++◌, Bool, false, Result, length, map, flat_map, take, drop, get_or, sym, ap, refl}
+use Rattle.std.proofs.Common.{append-nil, append_assoc, arith, add-one, drop-cons, length-drop, ◌≤◌}
 use Rattle.std.specs.List.{join_by}
 use Rattle.std.specs.Prelude.{IsUtf8, OnOk, encode_utf8, ◌==◌}
 use Rattle.std.specs.Str.{chars}

@@ -1,5 +1,5 @@
 -- The text of a check: a line for each condition, one for each warning, and `end` with how many there are of both.
-use Rattle.std.specs.Prelude.{◌≡◌, ℕ, List, ◌++◌, Option, codes, decimal, flat_map, length, option_map}
+use Rattle.std.specs.Prelude.{ℕ, List, ◌++◌, Option, codes, decimal, flat_map, length, option_map}
 use Rattle.byte_ends.specs.Lines.{as_line}
 use Rattle.gate_rules.specs.Rules.{GateRules}
 use Rattle.state_core.specs.State.{State}

@@ -1,7 +1,5 @@
 -- Which conditions of a gate no item can meet beside the gate's others.
 use Rattle.std.specs.Prelude.{◌≡◌, ℕ, ℤ, List, [], ◌∷◌, Bool, true, false, not, ◌&&◌, ◌||◌, Option, None, Some, is_some, unwrap_or}
-use Rattle.std.specs.Prelude.{if◌then◌else◌}
-use Rattle.std.specs.FinMap as finite
 use Rattle.change_core.specs.Change.{Change}
 use Rattle.change_core.specs.Status.{status_name}
 use Rattle.change_core.specs.Votes.{GivenApproval}
@@ -11,7 +9,7 @@ use Rattle.gate_rules.specs.Own.{IsBroken, ItemStanding, compared, is_new, match
 use Rattle.gate_rules.specs.Own.{standing_of}
 use Rattle.gate_rules.specs.Reading.{each}
 use Rattle.gate_rules.specs.Rules.{GateRules, LabelRule, PatternRule}
-use Rattle.gate_rules.specs.declared.condition.Clause.TheVariants.{CurrentSet, OpenState, StatusIn}
+use Rattle.gate_rules.specs.declared.condition.Clause.TheVariants.{OpenState, StatusIn}
 use Rattle.gate_rules.specs.declared.condition.Condition.{Condition}
 use Rattle.gate_rules.specs.declared.condition.Side.{Side}
 use Rattle.gate_rules.specs.declared.condition.Side.TheVariants.{Require, Reject}

@@ -1,5 +1,5 @@
 -- The labels and the voters of a record: those that some vote has, be it withdrawn or not.
-use Rattle.std.specs.Prelude.{ℕ, List, Bool, Option, map, flat_map, option_map}
+use Rattle.std.specs.Prelude.{ℕ, List, Bool, map, flat_map}
 use Rattle.std.specs.FinMap as finite
 use Rattle.std.specs.Str.{bytes_eq}
 use Rattle.change_core.specs.Change.{Change}

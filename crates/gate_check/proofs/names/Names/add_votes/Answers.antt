@@ -1,4 +1,4 @@
-use Rattle.std.proofs.Common.{◌≡◌, ◌∙◌, ◌||◌, ap, map}
+use Rattle.std.proofs.Common.{◌∙◌, ◌||◌, ap, map}
 use Rattle.std.specs.BTreeSet.{contains_text}
 use Rattle.std.specs.Map.Iter.{deref_pair}
 use Rattle.std.specs.Str.{bytes_eq}

@@ -1,11 +1,10 @@
-use Rattle.std.proofs.Common.{◌≡◌, ◌∙◌, ◌||◌, ap, flat_map, map}
+use Rattle.std.proofs.Common.{◌∙◌, ◌||◌, ap, flat_map, map}
 use Rattle.std.specs.BTreeSet.{contains_text}
 use Rattle.std.specs.FinMap.{entries}
 use Rattle.std.specs.Map.Iter.{deref_pair}
 use Rattle.std.specs.Str.{bytes_eq}
 use Rattle.std.proofs.lemmas.Map.Iter.{rest_more, rest_all}
 use Rattle.gate_check.specs.Names.{is_label_among, is_voter_among, slots_on}
-use Rattle.gate_check.specs.Shown.{names_shown}
 use Rattle.gate_check.proofs.Found.{lacks_all, same_names, slots_of, some_list_done, some_list_more}
 use Rattle.gate_check.proofs.names.Names.of_changes.Goals as goal
 

@@ -1,5 +1,4 @@
 use Rattle.std.proofs.Common.{◌≡◌, ℕ, List, ◌||◌, flat_map, map}
-use Rattle.std.specs.FinMap.{entries}
 use Rattle.state_core.specs.State.{state_shown}
 use Rattle.gate_check.specs.Names.{is_label_among, is_voter_among, slots_in, slots_on}
 use Rattle.gate_check.specs.Shown.{names_shown}
