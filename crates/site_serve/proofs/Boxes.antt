@@ -1,7 +1,7 @@
 -- What was read of a session and what it was answered: where its lines end, and what is added.
 use Rattle.std.proofs.Common.{◌≡◌, ◌≢◌, ℕ, ◌+◌, ◌-◌, ◌≤◌, ◌<◌, List, [], ◌∷◌, ◌++◌, Some, Result, Err, length}
 use Rattle.std.proofs.Common.{take, drop, sym, ap, ◌∙◌, subst, arith, inl, inr, append_assoc, length-drop, take-add, take-append-drop, drop-drop}
-use Rattle.std.proofs.lemmas.List.{drop-append-le}
+use Rattle.std.proofs.lemmas.List.{drop-append-le, take_rest}
 use Rattle.std.proofs.lemmas.List.Elements.{All-append}
 use Rattle.byte_ends.specs.Lines.{as_line}
 use Rattle.line_reader.specs.Lines.{HasNoLf, HasFirstLf}
@@ -42,3 +42,15 @@ first_after held count at within plain found =
 pub plain_after : (held : List ℕ) (count : ℕ) → HasNoLf (take count held) → HasNoLf (drop count held) → HasNoLf held
 plain_after held count plain more =
     subst HasNoLf (take-append-drop count held) (All-append (λ byte. byte ≢ 10) (take count held) (drop count held) plain more)
+
+-- a slice past what is done and scanned
+pub rest_is : (bytes read : List ℕ) (next scanned : ℕ) → read ≡ bytes
+    → take (length read - (next + scanned)) (drop (next + scanned) read) ≡ drop scanned (drop next bytes)
+rest_is bytes read next scanned is =
+    take_rest read (next + scanned) ∙ ap (drop (next + scanned)) is ∙ sym (drop-drop scanned next bytes)
+
+-- all that is left is scanned
+pub all_plain : (bytes : List ℕ) (next count : ℕ) → count ≡ length bytes → HasNoLf (drop next bytes)
+    → HasNoLf (take (count - next) (drop next bytes))
+all_plain bytes next count is plain =
+    subst HasNoLf (sym (ap (λ n. take (n - next) (drop next bytes)) is ∙ take_rest bytes next)) plain

@@ -6,4 +6,3 @@ pub mod Inboxes
 pub mod Outboxes
 pub mod Doing
 pub mod Looks
-pub mod Seats

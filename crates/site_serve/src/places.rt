@@ -1,7 +1,5 @@
 //! The sessions that are open, each at its place.
 
-ghost use Rattle.site_serve.specs.Seats.{OnlyAt};
-
 use super::ask::Answer;
 use super::jobs::{Reply, Work};
 use super::session::Session;
@@ -139,9 +137,7 @@ impl<J: Naming> Places<J> {
         place: usize,
         number: u64,
         answer: Answer<J>,
-    )
-        ensures { OnlyAt place self.old.sessions.items self.new.sessions.items }
-    {
+    ) {
         let Some(Some(session)) = self.sessions.get_mut(place) else {
             return;
         };
