@@ -17,6 +17,13 @@ use Rattle.commands.specs.Answers.{IsCheckText, IsRecordHad, SaysRecord}
 use Rattle.commands.specs.Ending.{Ends, Finishes, inputs_of}
 use Rattle.commands.proofs.Simulated.{finishes_so}
 
+pub gate_refused : (gate : Bor (List ℕ)) (is_strict : Bool) (snapshot : Option (Bor (List ℕ)))
+    (old new : ConsoleState) (refusal : Refusal)
+    → IsRefused (input gate_file gate.now) old new refusal
+    → IsFirstRefused (inputs_of (Check gate snapshot is_strict)) old new refusal
+gate_refused gate is_strict None old new refusal refused = inl refused
+gate_refused gate is_strict (Some snapshot) old new refusal refused = inl refused
+
 module _ (gate : Bor (List ℕ)) (is_strict : Bool) (rules : GateRules) where
   pub record_refused : (snapshot : Option (Bor (List ℕ))) (old mid new : ConsoleState) (refusal : Refusal)
       → IsHad (input gate_file gate.now) (λ text. SpellsGate text rules) old mid

@@ -4,8 +4,13 @@ use Rattle.std.specs.Prelude.{option_map}
 use Rattle.state_core.specs.State.{State, state_of}
 use Rattle.commands.specs.Answers.{IsCheckText}
 use Rattle.commands.specs.Ending.{Finishes}
-use Rattle.commands.proofs.Checking.{checked, record_refused}
+use Rattle.commands.proofs.Checking.{checked, gate_refused, record_refused}
 use Rattle.commands.proofs.check.check.Goals as goal
+
+pub returns-in_err-rules : goal.returns-in_err-rules
+returns-in_err-rules g c =
+    let p = err_from_is_err_and c.from_residual.result c.from_residual.ensures.1 in
+    rw (p.1, p.2) (inl (gate_refused c.args.gate c.args.is_strict c.args.snapshot _ _ _ c.in_err-rules.ensures.refused))
 
 pub returns-in_err-record : goal.returns-in_err-record
 returns-in_err-record g c =
@@ -15,5 +20,5 @@ returns-in_err-record g c =
 
 pub returns : goal.returns
 returns g c =
-    checked c.args.gate c.args.is_strict c.in_ok-rules.rules c.args.snapshot (option_map state_of c.in_ok-record.record) _ _ _ _ c.print_check.result c.in_ok-rules.ensures.had c.in_ok-record.ensures.had
-    (subst (λ (state : Option State). Finishes (IsCheckText c.in_ok-rules.rules state c.args.is_strict) (g.C.Console.state c.read_record.new.console) (g.C.Console.state c.print_check.new.console) c.print_check.result) c.state_in.ensures c.print_check.ensures)
+    checked c.args.gate c.args.is_strict c.in_ok-rules.rules c.args.snapshot (option_map state_of c.in_ok-record.record) _ _ _ _ c.print_check-ended.result c.in_ok-rules.ensures.had c.in_ok-record.ensures.had
+    (subst (λ (state : Option State). Finishes (IsCheckText c.in_ok-rules.rules state c.args.is_strict) (g.C.Console.state c.read_record.new.console) (g.C.Console.state c.print_check-ended.new.console) c.print_check-ended.result) c.state_in.ensures c.print_check-ended.ensures)

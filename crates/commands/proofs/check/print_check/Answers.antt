@@ -1,4 +1,5 @@
 use Rattle.std.proofs.Common.{◌∙◌, inl, inr, [], refl, subst}
+use Rattle.std.proofs.lemmas.Result.{err_from_is_err_and}
 use Rattle.std.specs.Prelude.{option_map}
 use Rattle.commands.specs.Answers.{EndsChecked, IsCheckText}
 use Rattle.commands.proofs.Checking.{ends_cut, ends_printed}
@@ -9,7 +10,11 @@ pub returns-in_default : goal.returns-in_default
 returns-in_default g c = inl ([], inr (refl, refl), nothing_printed _)
 
 pub returns-in_err-print : goal.returns-in_err-print
-returns-in_err-print g c = ?
+returns-in_err-print g c =
+    let p = err_from_is_err_and c.from_residual.result c.from_residual.ensures.1 in
+    rw (p.1, p.2)
+    (ends_cut (IsCheckText c.args.rules.now (option_map (λ known. known.now) c.args.state) c.args.is_strict) _ _ _ c.end_of-ended.result c.in_err-print.field-0.0
+    (inl (c.as_bytes.ensures.value ∙ c.in-Ok.ensures.text, subst (λ n. EndsChecked c.args.is_strict n c.end_of-ended.result) c.in-Ok.ensures.warnings c.end_of-ended.ensures)) c.in_err-print.ensures)
 
 pub returns : goal.returns
 returns g c =
