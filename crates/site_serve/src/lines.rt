@@ -65,13 +65,33 @@ pub(super) fn do_lines<R: Wait, J: Naming, K: Keeps>(
         if !session.is_open() || waiters.len() >= BATCH {
             return;
         }
-        let goes_on = match session.inbox.next_line() {
-            Some(size) => do_line(rt, means, session, ledger, waiters, size),
-            None => read_on(means, buffer, session),
-        };
-        if !goes_on {
+        if !do_next(rt, means, buffer, session, ledger, waiters) {
             return;
         }
+    }
+}
+
+/// Does the next line of a session, or reads on where none is there: false where it has to wait.
+#[tactic(auto, using(crate::proofs::Waiting::none_own))]
+fn do_next<R: Wait, J: Naming, K: Keeps>(
+    rt: &R,
+    means: &Means<'_, J>,
+    buffer: &mut [u8],
+    session: &mut Session<J>,
+    ledger: &mut OwnLedger<J, K>,
+    waiters: &mut Vec<Waiter>,
+) -> bool
+    requires held { All (λ waiter. IsHeldBy ledger.old.ledger.account waiter.held) waiters.old.items }
+    requires room { vec_len waiters.old < vec_capacity waiters.old }
+    ensures held { All (λ waiter. IsHeldBy ledger.new.ledger.account waiter.held) waiters.new.items }
+    ensures room { vec_capacity waiters.new ≡ vec_capacity waiters.old }
+    ensures own { AddsOwn (session_at means.now.place means.now.number) waiters.old.items waiters.new.items }
+    ensures order { 0 < session.old.waiting → session.new.outbox ≡ session.old.outbox }
+    ensures waits { 0 < session.old.waiting → 0 < session.new.waiting }
+{
+    match session.inbox.next_line() {
+        Some(size) => do_line(rt, means, session, ledger, waiters, size),
+        None => read_on(means, buffer, session),
     }
 }
 
@@ -94,6 +114,7 @@ fn read_on<J: Naming>(means: &Means<'_, J>, buffer: &mut [u8], session: &mut Ses
 }
 
 /// Does a line of a session: false where it has to wait, or the session ends at it.
+#[tactic(auto, using(crate::proofs::Waiting::none_own, crate::proofs::Waiting::one_own, crate::proofs::Waiting::says_does, crate::proofs::Waiting::looks_does))]
 fn do_line<R: Wait, J: Naming, K: Keeps>(
     rt: &R,
     means: &Means<'_, J>,
@@ -115,6 +136,7 @@ fn do_line<R: Wait, J: Naming, K: Keeps>(
         (session_at means.now.place means.now.number) session.old.outbox session.new.outbox waiters.old.items
         waiters.new.items)
         ((session.new.inbox ≡ session.old.inbox) × (waiters.new.items ≡ waiters.old.items)) }
+    ensures own { AddsOwn (session_at means.now.place means.now.number) waiters.old.items waiters.new.items }
     ensures order { 0 < session.old.waiting → session.new.outbox ≡ session.old.outbox }
     ensures waits { 0 < session.old.waiting → 0 < session.new.waiting }
 {
@@ -140,17 +162,25 @@ fn do_line<R: Wait, J: Naming, K: Keeps>(
             };
             hold_more(ledger, Ask::Intake { asker, draft }, waiters);
             session.await_publish();
+            session.pass(size);
+            true
         }
-        _ if session.is_waiting() => return false,
-        Step::Says(saying) => session.say(means.alloc, saying),
+        _ if session.is_waiting() => false,
+        Step::Says(saying) => {
+            session.say(means.alloc, saying);
+            session.pass(size);
+            true
+        }
         Step::Looks(_) if !means.has_room => {
             session.hold_back();
-            return false;
+            false
         }
-        Step::Looks(look) => look_for(rt, means, session, look),
+        Step::Looks(look) => {
+            look_for(rt, means, session, look);
+            session.pass(size);
+            true
+        }
     }
-    session.pass(size);
-    true
 }
 
 /// Has a worker look for a session.
