@@ -1,8 +1,9 @@
 //! Sites that pull from each other, and others that don't answer, don't read or don't go.
 
 use super::sites::{NoTurn, ending, listening, pulling, run_one, stall, talk, text_of};
+use byte_ends::Ends;
 use site_net::Stop;
-use site_serve::{ServeFault, Served, Setup};
+use site_serve::{ServeFault, Served, Setup, serve_run};
 use std::alloc::Global;
 use std::io::Write;
 use std::net::{Net, TcpListener, TcpStream};
@@ -182,6 +183,52 @@ fn a_client_that_never_reads_and_a_mute_peer_hold_no_other(rt: HostRuntime) -> R
     );
     assert_eq!(rt; text_of(&answers), "hello 2\nbye\n");
     assert!(rt; matches!(ended, Some((_, true, _))));
+    Ok(())
+}
+
+/// Greets the site that connects to a listener, and says nothing more until the site leaves.
+fn fall_silent<R: Net<Listener = TcpListener, Stream = TcpStream> + Wait>(
+    rt: &R,
+    alloc: Global,
+    mute: &TcpListener,
+    stop: &Stop,
+) -> io::Result<String> {
+    let (stream, _address) = mute.accept()?;
+    let mut stream = stream;
+    stream.write_all(b"hello 2\n")?;
+    let asked = io::read_to_string(alloc, stream);
+    stop.ask(rt);
+    asked
+}
+
+/// A peer that has greeted a pull and then says nothing is left after ten seconds, and that is reported.
+#[test]
+fn a_peer_that_falls_silent_is_left(rt: HostRuntime) -> Result<(), Fail> {
+    let alloc = rt.alloc();
+    let (mute, peer) = listening(&rt)?;
+    let (listener, _port) = listening(&rt)?;
+    let setup = with_peer(alloc, 1, peer)?;
+    let stop = Stop::new();
+    let mut errors = Ends::new(Vec::new(alloc));
+    let output = Ends::new(Vec::new(alloc));
+    let (ended, asked) = thread::join(
+        &rt,
+        || ending(serve_run(
+            &rt,
+            alloc,
+            listener,
+            setup,
+            &stop,
+            output,
+            &mut errors,
+            &NoTurn,
+        )),
+        || fall_silent(&rt, alloc, &mute, &stop),
+    );
+    let line = format!(in alloc; "reviewgate: peer 3 ReadFault {peer}\n")?;
+    assert_eq!(rt; ended, Some((0, true, false)));
+    assert_eq!(rt; text_of(&asked), "hello 2\nfront []\n");
+    assert!(rt; errors.get_ref().starts_with(line.as_bytes()));
     Ok(())
 }
 

@@ -53,6 +53,13 @@ impl<E: Drain> Errors<E> {
         }
     }
 
+    /// Writes that a pull from a peer ended well, after one that didn't.
+    pub fn is_back(&self, rt: &impl Wait, alloc: Global, peer: u16) {
+        if let Ok(line) = line_about(alloc, Part::Peer, 0, "Back", u64::from(peer)) {
+            self.write(rt, line.as_str());
+        }
+    }
+
     /// Writes a line, unless the end doesn't take it.
     fn write(&self, rt: &impl Wait, line: &str) {
         let mut drain = self.drain.lock(rt);

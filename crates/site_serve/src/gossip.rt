@@ -37,8 +37,11 @@ pub struct Pulling<'a> {
     pub stop: &'a Stop,
 }
 
-/// Pulls from each peer in turn, with a rest after each round, until the site stops. It asks for that where another
-/// process takes in as this site.
+/// The longest pause between two rounds of pulls from peers that can't be pulled from.
+const LONGEST_PAUSE: Duration = Duration::from_secs(60);
+
+/// Pulls from each peer in turn, with a rest after each round, until the site stops: a pause, which doubles with each
+/// round in which no pull ended well, up to a minute. It asks for the stop where another process takes in as this site.
 pub fn pull_from_peers<R: Wait + Clock + Net<Stream = TcpStream>, E: Drain, J: Naming>(
     rt: &R,
     pulling: Pulling<'_>,
@@ -47,9 +50,14 @@ pub fn pull_from_peers<R: Wait + Clock + Net<Stream = TcpStream>, E: Drain, J: N
     port: &mut PullPort<'_, R, J>,
 ) {
     let mut peers = peers;
+    let mut rest = pulling.pause;
     for _ in rt.forever() {
-        pull_round(rt, pulling, peers.as_mut_slice(), errors, port);
-        pulling.stop.rest(rt, pulling.pause);
+        if pull_round(rt, pulling, peers.as_mut_slice(), errors, port) {
+            rest = pulling.pause;
+        } else {
+            rest = longer(rest, pulling.pause);
+        }
+        pulling.stop.rest(rt, rest);
         if pulling.stop.is_asked() {
             return;
         }
@@ -57,33 +65,41 @@ pub fn pull_from_peers<R: Wait + Clock + Net<Stream = TcpStream>, E: Drain, J: N
     unreachable!()
 }
 
-/// Pulls from each peer once, unless the site stops.
+/// Twice the rest, but no longer than a minute, unless the pause is.
+fn longer(rest: Duration, pause: Duration) -> Duration {
+    rest.saturating_mul(2).min(LONGEST_PAUSE.max(pause))
+}
+
+/// Pulls from each peer once, unless the site stops. Whether a pull ended well.
 fn pull_round<R: Wait + Clock + Net<Stream = TcpStream>, E: Drain, J: Naming>(
     rt: &R,
     pulling: Pulling<'_>,
     peers: &mut [Peer],
     errors: &Errors<E>,
     port: &mut PullPort<'_, R, J>,
-) {
+) -> bool {
+    let mut is_well = false;
     for peer in peers {
         let condition = pull_from(rt, pulling, peer.port, port);
+        is_well |= condition == Condition::Well;
         if port.is_start_taken() {
             pulling.stop.ask(rt);
         }
         if pulling.stop.is_asked() {
-            return;
+            return is_well;
         }
         if condition != peer.condition {
             peer.condition = condition;
             report_condition(rt, pulling.alloc, peer, errors);
         }
     }
+    is_well
 }
 
-/// Writes what is wrong with a peer.
+/// Writes what is wrong with a peer, or that nothing is any more.
 fn report_condition<E: Drain>(rt: &impl Wait, alloc: Global, peer: &Peer, errors: &Errors<E>) {
     match peer.condition {
-        Condition::Well => {}
+        Condition::Well => errors.is_back(rt, alloc, peer.port),
         Condition::Unreachable => errors.not_reached(rt, alloc, peer.port),
         Condition::Failed(fault) => errors.pull_failed(rt, alloc, fault, peer.port),
     }

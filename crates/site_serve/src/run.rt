@@ -48,6 +48,9 @@ const MOST_CONNECTIONS: usize = 65_535;
 /// How many milliseconds a site waits for the other side of a connection.
 const PATIENCE_MS: u64 = 30_000;
 
+/// How many milliseconds a pull waits for each line of the peer.
+const PULL_PATIENCE_MS: u64 = 10_000;
+
 /// What the threads of a site share.
 #[derive(Drop)]
 struct Common<'a, E: Drain, T: Turn> {
@@ -444,7 +447,10 @@ where
     let pulling = Pulling {
         alloc: common.alloc,
         pause: common.pause,
-        patience: common.patience,
+        patience: Patience {
+            limit: Duration::from_millis(PULL_PATIENCE_MS),
+            idle: Some(Duration::from_millis(PULL_PATIENCE_MS)),
+        },
         stop: common.stop,
     };
     let mut port = PullPort::new(rt, waker, place);
