@@ -15,10 +15,10 @@ use state_core::State;
 use std::alloc::Global;
 use std::mem::ManuallyDrop;
 
-/// Prints what a gate file asks for, condition by condition, and warnings of what looks mistaken in it; of the record of
-/// a snapshot, too, where one is named. Refusals: those of the gate file, then of the snapshot; `Memory`, memory was
-/// refused once both were read; `Output`; `Warnings`, where `is_strict`, once all is printed: there are warnings. It
-/// costs what reading both costs, and what `check_gate` does.
+/// Prints what a gate file asks for, condition by condition, and warnings of what looks mistaken in it; where a snapshot
+/// is named, of names that its record hasn't got, too. Refusals: those of the gate file, then of the snapshot; `Memory`,
+/// memory was refused once both were read; `Output`; `Warnings`, where `is_strict`, once all is printed: there are
+/// warnings. It costs what reading both costs, and what `check_gate` does.
 pub fn check<'n, C: Console>(
     alloc: Global,
     gate: &'n str,
@@ -26,7 +26,8 @@ pub fn check<'n, C: Console>(
     is_strict: bool,
     console: &mut C,
 ) -> Result<(), Refusal<'n>>
-    ensures { Ends (Command.Check gate.entry snapshot.entry is_strict) (C.state console.old) (C.state console.new) result }
+    ensures { Ends (Command.Check gate.entry snapshot.entry is_strict) (C.state console.old)
+        (C.state console.new) result }
 {
     let rules = read_gate(alloc, gate, console)?;
     let record = read_record(alloc, snapshot, console)?;

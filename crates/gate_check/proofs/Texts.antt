@@ -79,10 +79,6 @@ module _ {X Y : Type 0} (make : ℕ → X → List Y) (xs : List X) (i : ℕ) wh
 -- ---- lines that several calls add
 
 module _ {Y E : Type 0} (result : Result (Unit {0}) E) (start a b : List Y) where
-  pub after_two : (one two : List Y) → one ≡ start ++ a → OnOk result (two ≡ one ++ b)
-      → OnOk result (two ≡ start ++ (a ++ b))
-  after_two one two first last = on_ok_weaker result (added start a b one two first) last
-
   module _ (c : List Y) where
     pub after_three : (one two three : List Y) → one ≡ start ++ a → two ≡ one ++ b → OnOk result (three ≡ two ++ c)
         → OnOk result (three ≡ start ++ (a ++ b ++ c))

@@ -1,6 +1,6 @@
 -- What each condition of a gate asks, in words: a line with the side, the condition's place in the gate file and the
--- words. The conditions are those of Zuul's Gerrit driver (zuul-ci.org/docs, "Gerrit", pipeline requirements); the words
--- are the project's own.
+-- words. The conditions are those of Zuul's Gerrit driver (zuul-ci.org/docs, "Gerrit", pipeline requirements); the
+-- words are the project's own.
 use Rattle.std.specs.Prelude.{ℕ, suc, List, [], ◌∷◌, ◌++◌, Bool, true, false, Option, None, Some, codes, decimal}
 use Rattle.std.specs.Prelude.{encode_utf8, flat_map, map, if◌then◌else◌, ◌==◌}
 use Rattle.std.specs.Fmt.{signed_decimal}

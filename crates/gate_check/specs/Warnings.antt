@@ -1,5 +1,5 @@
--- What looks mistaken in a gate: a line for each warning, with its number and name, the place of the condition, and what
--- it is about.
+-- What looks mistaken in a gate: a line for each warning, with its number and name, the place of the condition, and
+-- what it is about.
 use Rattle.std.specs.Prelude.{ℕ, List, [], ◌∷◌, ◌++◌, Bool, not, Option, None, Some, codes}
 use Rattle.std.specs.Prelude.{decimal, flat_map, if◌then◌else◌, nat_eq}
 use Rattle.json.specs.Print.{quoted}

@@ -21,11 +21,11 @@ pub struct Checked {
     pub warnings: usize,
 }
 
-/// Checks a gate: a line for each of its conditions, with the side, the place in the gate file and what is asked, in the
-/// order in which items are judged by them; a line for each warning, in that order; and `end` with how many there are of
-/// both. Where the state of a record is given, labels and voters are looked for there. The warnings are 1 `Pattern`, 2
-/// `UnknownLabel`, 3 `UnknownVoter` and 4 `NeverMet`. It costs O(b + p q + v log n) for b bytes of text, p patterns that
-/// are required with their values, q that are rejected, and v votes of n labels and voters.
+/// Checks a gate: a line for each of its conditions, with the side, the place in the gate file and what is asked, in
+/// the order in which items are judged by them; a line for each warning, in that order; and `end` with how many there
+/// are of both. Where the state of a record is given, labels and voters are looked for there. The warnings are 1
+/// `Pattern`, 2 `UnknownLabel`, 3 `UnknownVoter` and 4 `NeverMet`. It costs O(b + p q + v log n) for b bytes of text, p
+/// values of patterns that are required, q patterns that are rejected, and v votes of n labels and voters.
 pub fn check_gate(alloc: Global, gate: &Gate, state: Option<&State>) -> Result<Checked, NoMemory>
     ensures text { IfOk result
         (λ check. string_bytes check.text ≡ check_text gate.now (option_map (λ known. known.now) state.entry)) }
