@@ -37,8 +37,8 @@ pub struct Pulling<'a> {
     pub stop: &'a Stop,
 }
 
-/// The longest pause between two rounds of pulls from peers that can't be pulled from.
-const LONGEST_PAUSE: Duration = Duration::from_secs(60);
+/// The longest pause in seconds between two rounds of pulls from peers that can't be pulled from.
+const LONGEST_PAUSE_S: u64 = 60;
 
 /// Pulls from each peer in turn, with a rest after each round, until the site stops: a pause, which doubles with each
 /// round in which no pull ended well, up to a minute. It asks for the stop where another process takes in as this site.
@@ -67,7 +67,8 @@ pub fn pull_from_peers<R: Wait + Clock + Net<Stream = TcpStream>, E: Drain, J: N
 
 /// Twice the rest, but no longer than a minute, unless the pause is.
 fn longer(rest: Duration, pause: Duration) -> Duration {
-    rest.saturating_mul(2).min(LONGEST_PAUSE.max(pause))
+    let longest = Duration::from_secs(LONGEST_PAUSE_S).max(pause);
+    rest.saturating_mul(2).min(longest)
 }
 
 /// Pulls from each peer once, unless the site stops. Whether a pull ended well.
