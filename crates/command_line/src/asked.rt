@@ -86,9 +86,9 @@ pub struct ServeWords<'a> {
     pub workers: usize,
     /// How many milliseconds pass between two rounds of pulls, from 1 to 600,000.
     pub pause_ms: u64,
-    /// After how many sessions it ends; 0 is without end.
+    /// After how many sessions it ends; 0 means no limit.
     pub sessions: u64,
-    /// How many milliseconds a session may be silent; 0 is without end.
+    /// How many milliseconds a session may be silent; 0 means no limit.
     pub idle_ms: u64,
     /// How many connections may be open at once, from 1 to 65,535.
     pub connections: usize,

@@ -32,9 +32,9 @@ const NO_PORT: &str =
     "error: --complete and --gate need --to\n\nFor more information, try '--help'.\n";
 
 /// Reads the words that follow the program's name: a command is answered only where `clap` finds no fault in them.
-/// `Usage` is answered where it finds one that isn't a wish for help or for the version, where an item is none, where a
-/// site has neither a start nor a journal, where two options of a feed differ, and where one of them wants a port that
-/// isn't named; its text, and those of `Help` and `Version`, are `clap`'s, but for the last four. It costs O(bytes of
+/// `Usage` is a usage error: `clap` finds a fault other than a wish for help or for the version, an item is invalid, a
+/// site has neither a start nor a journal, two options of a feed exclude each other, or one of them needs a port that
+/// isn't named. Its text, and those of `Help` and `Version`, are `clap`'s, but for the last four. It costs O(bytes of
 /// the words).
 pub fn read_words<'a, S: AsStr>(alloc: Global, words: &'a [S]) -> Asked<'a>
     ensures { WordsAsk (map S.text words.entry.now) result }
@@ -82,8 +82,8 @@ fn named<'a>(
     }
 }
 
-/// What is wrong with values in which `clap` found no fault: an item that is none, a site with no start, or a feed
-/// whose options don't go together.
+/// The usage error of values in which `clap` found no fault: an invalid item, a site without a start, or options of a
+/// feed that exclude each other.
 fn misused<'a>(alloc: Global, name: &str, values: &Values<'_>) -> Asked<'a>
     ensures { IsUsage result }
 {
@@ -98,7 +98,7 @@ fn misused<'a>(alloc: Global, name: &str, values: &Values<'_>) -> Asked<'a>
     usage(String::from_str(alloc, text))
 }
 
-/// What is wrong with an item that is none.
+/// The usage error of an invalid item.
 fn no_item(alloc: Global, item: &str) -> Result<String, AllocError> {
     format!(in alloc; "error: invalid value '{item}' for '<CHANGE[,SET]>': {ITEM_LIMITS}")
 }

@@ -16,7 +16,7 @@ use gate_rules::{Gate, LabelValues, Pattern, Side};
 use lattice_core::NoMemory;
 use std::alloc::Global;
 
-/// A line for each warning, condition by condition; where the names of a record are given, of those that it hasn't got,
+/// A line for each warning, condition by condition; where the names of a record are given, of those that it lacks,
 /// too.
 pub fn warning_lines(
     alloc: Global,
@@ -177,7 +177,7 @@ fn has_byte(bytes: &[u8], byte: u8) -> bool
     false
 }
 
-/// Adds which names of a pattern the record hasn't got.
+/// Adds which names of a pattern the record lacks.
 fn add_unknown(
     alloc: Global,
     place: &str,
@@ -196,7 +196,7 @@ fn add_unknown(
     add_voter(alloc, place, names, pattern.username(), lines)
 }
 
-/// Adds which labels the record hasn't got.
+/// Adds which labels the record lacks.
 fn add_labels(
     alloc: Global,
     place: &str,
@@ -222,7 +222,7 @@ fn add_labels(
     Ok(())
 }
 
-/// Adds that the record hasn't got the voter, if it is so.
+/// Adds that the record lacks the voter, if it does.
 fn add_voter(
     alloc: Global,
     place: &str,

@@ -23,7 +23,7 @@ pub enum LineFault {
     /// 5: memory was refused.
     #[error("no memory")]
     NoMemory,
-    /// 6: the answer is none that a session gives, or it is cut.
+    /// 6: the answer is not one of a session, or it is cut.
     #[error("a bad answer")]
     BadAnswer,
     /// 7: the sink has ended.

@@ -7,7 +7,7 @@ use replica_core::{Replica, latest_start};
 use std::time::{Clock, SystemTime};
 
 /// The start that a site runs under: the one that is named, from 1, unless the record has a stamp of the site under it
-/// or a later one, or the next one where none is named. None where there is none.
+/// or a later one; without a name the next one. `None` if every start is used.
 pub fn start_of<R: Clock>(rt: &R, named: Option<u32>, replica: &Replica, site: u16) -> Option<u32>
     ensures unused { IfSome result (λ start. IsUnused site start replica.now) }
     ensures named { IfSome named (λ start. IfSome result (λ taken. taken ≡ start)) }

@@ -27,8 +27,8 @@ pub struct FileTape {
 }
 
 impl FileTape {
-    /// Opens the file of this name, which is made for its owner alone where there is none, locks it until it is closed,
-    /// and has the system keep that its folder has it.
+    /// Opens the file of this name, creates it with mode 0600 if it does not exist, locks it until it is closed, and
+    /// syncs its folder.
     pub fn open<R: Files<File = File>>(rt: &R, name: &str) -> Result<FileTape, TapeFault> {
         let file = opened(rt, name)?;
         match file.try_lock() {

@@ -19,7 +19,7 @@ pub trait Keeps {
     fn what_it_has_survives(&self)
         ensures { (ops : List Operation) → holds self.now ops → survives self.now ops };
 
-    /// Keeps the operations, after those that it has, which stay whatever comes of the call. At `Ok` these stay too.
+    /// Keeps the operations, after those that it has, which stay whether the call fails or not. At `Ok` these stay too.
     /// After any fault but want of memory nothing is promised of a later call.
     fn keep(&mut self, ops: &[Op]) -> Result<(), KeepFault>
         ensures ok { OnOk result

@@ -75,14 +75,6 @@ taken_on journal other part (Ok None) h = refl
 taken_on journal other part (Ok (Some stamp)) h = stamped_part journal other part stamp h
 taken_on journal other part (Err fault) h = tt
 
--- a window that has learnt the publish sees what was stamped
-pub learnt_stamp : {T E : Type 0} (published seen : List Operation) (stamped : Option Timestamp) (stamp : Timestamp)
-    (learnt : Result T E) (v : T) → learnt ≡ Ok v → OnOk learnt (IsPartOf published seen)
-    → has_stamped published stamped ≡ true → stamped ≡ Some stamp → has_stamp seen stamp ≡ true
-learnt_stamp published seen stamped stamp learnt v is part h same =
-    stamped_part published seen (subst (λ r. OnOk r (IsPartOf published seen)) is part) stamp
-    (ap (has_stamped published) (sym same) ∙ h)
-
 pub none_waits : {W : Type 0} (P : W → Type 0) (waiters : List W) → waiters ≡ [] → All P waiters
 none_waits P waiters none = subst (All P) (sym none) (All-nil P)
 

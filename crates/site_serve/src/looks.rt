@@ -103,7 +103,7 @@ fn looked<R: Wait, J: Naming>(
     shown(alloc, look, port)
 }
 
-/// Sees no less than what the receipt has seen published from now on. False where that is none of this opening.
+/// Sees no less than what the receipt has seen published from now on. False for a receipt of another opening.
 fn has_learnt<R: Wait, J: Naming>(
     receipt: &Option<Arc<BrandedReceipt<J>, Global>>,
     port: &mut SitePort<'_, '_, R, J>,

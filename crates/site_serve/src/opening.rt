@@ -111,7 +111,7 @@ impl<J: Naming> OwnWindow<J> {
         self.window.missing(front, limit)
     }
 
-    /// Whether an operation bears the site's number, and its start or a later one, though the record hasn't got it.
+    /// Whether an operation bears the site's number, and its start or a later one, though the record lacks it.
     pub fn has_foreign(&mut self, ops: &[Op]) -> Result<bool, WindowFault>
         ensures later { GoesOn self.old.window self.new.window }
         ensures ok { IfOk result (λ found. found

@@ -53,7 +53,7 @@ impl<'a, 'g, R: Wait, J: Naming> SitePort<'a, 'g, R, J> {
         }
     }
 
-    /// Sees no less than a publish from now on. False where that is none of this opening.
+    /// Sees no less than a publish from now on. False for a publish of another opening.
     pub fn learn(&mut self, receipt: &BrandedReceipt<J>) -> bool
         ensures later { GoesOn self.old.window.window self.new.window.window }
         ensures gate { self.new.gate ≡ self.old.gate }

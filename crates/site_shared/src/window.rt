@@ -202,7 +202,7 @@ impl Window {
     }
 
     /// Whether one of the operations bears the window's own site, and its start or a later one, though the journal
-    /// hasn't got it: then another process takes in as this site. It takes no memory, and costs O(log r + log n) for
+    /// lacks it: then another process takes in as this site. It takes no memory, and costs O(log r + log n) for
     /// each operation, for r rows and n operations of its row.
     pub fn has_foreign(&mut self, ops: &[Op]) -> Result<bool, WindowFault>
         ensures later { GoesOn self.old self.new }
@@ -314,7 +314,7 @@ impl Window {
     }
 }
 
-/// Whether one of the operations bears the site and the start or a later one, though the replica hasn't got it.
+/// Whether one of the operations bears the site and the start or a later one, though the replica lacks it.
 fn is_any_foreign(replica: &Replica, ops: &[Op], site: u16, start: u32) -> bool
     ensures { result ≡ list_any (is_foreign site start replica.now) ops.now }
 {
