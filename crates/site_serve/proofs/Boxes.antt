@@ -1,5 +1,5 @@
 -- What was read of a session and what it was answered: where its lines end, and what is added.
-use Rattle.std.proofs.Common.{◌≡◌, ◌≢◌, ℕ, ◌+◌, ◌-◌, ◌≤◌, ◌<◌, List, [], ◌∷◌, ◌++◌, Some, Result, Err, length}
+use Rattle.std.proofs.Common.{◌≡◌, ◌≢◌, ℕ, ◌+◌, ◌-◌, ◌≤◌, List, [], ◌∷◌, ◌++◌, Some, Result, Err, length}
 use Rattle.std.proofs.Common.{take, drop, sym, ap, ◌∙◌, subst, arith, inl, inr, append_assoc, length-drop, take-add, take-append-drop, drop-drop}
 use Rattle.std.proofs.lemmas.List.{drop-append-le, take_rest}
 use Rattle.std.proofs.lemmas.List.Elements.{All-append}

@@ -12,7 +12,7 @@ use Rattle.replica_core.specs.InOrder.{same_itself}
 use Rattle.replica_core.specs.Journal.{has, has_stamp, same_operation}
 use Rattle.replica_core.specs.JournalLaws.{IsPartOf, all_arrived-push, has-all_arrived, has-append_right, kept-arrived}
 use Rattle.replica_core.specs.JournalLaws.{one_passes, part_passes}
-use Rattle.site_serve.specs.Acknowledged.{IsHeldBy, IsTakenInto, has_stamped}
+use Rattle.site_serve.specs.Acknowledged.{IsHeldBy, IsTakenInto}
 use Rattle.site_ledger.specs.Keeping.{Entries}
 use Rattle.site_shared.specs.Accounts.{Account, Extent, holding, record_of}
 use Rattle.site_shared.specs.Publishes.{arrive}

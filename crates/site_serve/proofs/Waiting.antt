@@ -1,5 +1,5 @@
 -- Who waits once lines of a session are done, and what a line does.
-use Rattle.std.proofs.Common.{◌≡◌, ◌⊎◌, true, ℕ, Bool, List, [], ◌∷◌, ◌++◌, All, Result, Ok, refl, sym, ap, ◌∙◌, append_assoc, append-nil, inl, inr}
+use Rattle.std.proofs.Common.{◌≡◌, ◌⊎◌, true, ℕ, Bool, List, [], ◌∷◌, ◌++◌, Result, Ok, sym, ap, ◌∙◌, append_assoc, append-nil, inl, inr}
 use Rattle.std.proofs.lemmas.List.Elements.{All-append, All-nil, All-push}
 use Rattle.gossip_line.specs.Steps.{IsStep, answer_of}
 use Rattle.gossip_line.specs.Texts.{answer_text, next_of, no_memory_line}
@@ -7,7 +7,6 @@ use Rattle.gossip_line.specs.declared.fault.LineFault.{LineFault}
 use Rattle.gossip_line.specs.declared.step.Look.{Look}
 use Rattle.gossip_line.specs.declared.step.Saying.{Saying}
 use Rattle.gossip_line.specs.declared.step.Step.TheVariants as step
-use Rattle.review_ops.specs.Deed.{Deed}
 use Rattle.site_serve.specs.Acknowledged.{AddsOne, AddsOwn}
 use Rattle.site_serve.specs.Doing.{DoesLine}
 use Rattle.site_serve.specs.Outboxes.{Adds}

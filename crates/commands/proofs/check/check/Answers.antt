@@ -1,4 +1,4 @@
-use Rattle.std.proofs.Common.{List, ℕ, Option, inl, subst}
+use Rattle.std.proofs.Common.{Option, inl, subst}
 use Rattle.std.proofs.lemmas.Result.{err_from_is_err_and}
 use Rattle.std.specs.Prelude.{option_map}
 use Rattle.state_core.specs.State.{State, state_of}

@@ -1,4 +1,4 @@
-use Rattle.std.proofs.Common.{◌≤◌, arith, length}
+use Rattle.std.proofs.Common.{arith}
 use Rattle.byte_ends.specs.Ends.{ends_failed}
 use Rattle.gossip_line.specs.Steps.{answer_of}
 use Rattle.gossip_line.specs.Texts.{answer_text, next_of}
