@@ -12,7 +12,7 @@ use clap::{Arg, Command};
 use std::alloc::{AllocError, Global};
 
 /// The program's version, and the identity of the toolchain that proves and builds it, as `rt version` prints it.
-const VERSION: &str = "0.1.0 (logic dac8208d650f15bf)";
+const VERSION: &str = "0.2.0 (logic dac8208d650f15bf)";
 
 /// What a gate file is.
 pub const GATE_HELP: &str = "The gate file, or - for standard input";

@@ -250,7 +250,7 @@ fn each_command_has_its_help(rt: HostRuntime) -> Result<(), Fail> {
 
 #[test]
 fn the_version_names_the_toolchain(rt: HostRuntime) -> Result<(), Fail> {
-    let text = "reviewgate 0.1.0 (logic dac8208d650f15bf)\n";
+    let text = "reviewgate 0.2.0 (logic dac8208d650f15bf)\n";
     for line in ["--version", "-V"] {
         assert_says(&rt, rt.alloc(), line, "version", text)?;
     }
