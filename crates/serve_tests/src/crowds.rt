@@ -115,6 +115,49 @@ fn lines_may_come_in_pieces(rt: HostRuntime) -> Result<(), Fail> {
     Ok(())
 }
 
+/// How many sessions end with their lines.
+const ENDING: usize = 20;
+
+/// What sessions are answered that end with their lines, without a farewell, one after the other.
+fn ends_with_lines<R: Net<Listener = TcpListener, Stream = TcpStream> + Wait>(
+    rt: &R,
+    alloc: Global,
+    port: u16,
+    stop: &Stop,
+) -> io::Result<usize> {
+    let mut answered = 0;
+    for _session in 0..ENDING {
+        let answers = talk(
+            rt,
+            alloc,
+            port,
+            "hello 2\ntake {\"change\":7,\"op\":\"merged\"}\n",
+        )?;
+        if answers.as_str().starts_with("hello 2\nok ") {
+            answered += 1;
+        }
+    }
+    stop.ask(rt);
+    Ok(answered)
+}
+
+/// A client that sends its lines and closes its side at once is answered, and its session ends.
+#[test]
+fn sessions_end_with_their_lines(rt: HostRuntime) -> Result<(), Fail> {
+    let alloc = rt.alloc();
+    let (listener, port) = listening(&rt)?;
+    let setup = pulling(alloc, 1, &[])?;
+    let stop = Stop::new();
+    let (ended, answered) = thread::join(
+        &rt,
+        || ending(run_one(&rt, alloc, listener, setup, &stop, &NoTurn)),
+        || ends_with_lines(&rt, alloc, port, &stop),
+    );
+    assert!(rt; matches!(answered, Ok(ENDING)));
+    assert_eq!(rt; ended, Some((ENDING, true, false)));
+    Ok(())
+}
+
 /// How many bodies are taken in at once.
 const AT_ONCE: u32 = 10_000;
 

@@ -187,7 +187,7 @@ fn a_client_that_never_reads_and_a_mute_peer_hold_no_other(rt: HostRuntime) -> R
 }
 
 /// Greets the site that connects to a listener, and says nothing more until the site leaves.
-fn fall_silent<R: Net<Listener = TcpListener, Stream = TcpStream> + Wait>(
+fn fall_silent<R: Net<Listener = TcpListener, Stream = TcpStream> + Clock + Wait>(
     rt: &R,
     alloc: Global,
     mute: &TcpListener,
@@ -197,6 +197,7 @@ fn fall_silent<R: Net<Listener = TcpListener, Stream = TcpStream> + Wait>(
     let mut stream = stream;
     stream.write_all(b"hello 2\n")?;
     let asked = io::read_to_string(alloc, stream);
+    let _ = thread::sleep(rt, Duration::from_millis(300));
     stop.ask(rt);
     asked
 }

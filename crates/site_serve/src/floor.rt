@@ -137,7 +137,7 @@ impl Floor {
             } else if token == BELL {
                 self.is_rung = true;
             } else {
-                places.note_ready(token.0);
+                places.note_ready(token.0, event.is_read_closed());
             }
         }
     }

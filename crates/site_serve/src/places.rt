@@ -122,10 +122,11 @@ impl<J: Naming> Places<J> {
         }
     }
 
-    /// Notes that the connection of a session may have more to read, or takes more.
-    pub(super) fn note_ready(&mut self, place: usize) {
+    /// Notes that the connection of a session may have more to read, or takes more, and whether the other side sends
+    /// nothing more.
+    pub(super) fn note_ready(&mut self, place: usize, is_closing: bool) {
         if let Some(Some(session)) = self.sessions.get_mut(place) {
-            session.note_ready();
+            session.note_ready(is_closing);
             enlist(session, &mut self.listed, place);
         }
     }

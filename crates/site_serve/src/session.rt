@@ -60,6 +60,8 @@ pub(super) struct Session<J: Naming> {
     pub is_listed: bool,
     /// Whether the connection may have more to read.
     may_read: bool,
+    /// Whether the other side sends nothing more, so that reading goes on until that end.
+    is_closing: bool,
     is_read_out: bool,
     /// How it ends, once all that waits is written.
     ending: Option<Result<(), LineFault>>,
@@ -83,6 +85,7 @@ impl<J: Naming> Session<J> {
             is_held_back: false,
             is_listed: false,
             may_read: true,
+            is_closing: false,
             is_read_out: false,
             ending: None,
             awaited: Awaited::FirstLine,
@@ -241,9 +244,10 @@ impl<J: Naming> Session<J> {
         self.ending.unwrap_or(Ok(()))
     }
 
-    /// Notes that its connection may have more to read.
-    pub(super) fn note_ready(&mut self) {
+    /// Notes that its connection may have more to read, and whether the other side sends nothing more after that.
+    pub(super) fn note_ready(&mut self, is_closing: bool) {
         self.may_read = true;
+        self.is_closing |= is_closing;
     }
 
     /// Goes on past a line of this size, which is done.
@@ -306,7 +310,9 @@ impl<J: Naming> Session<J> {
                 false
             }
             Ok(count) => {
-                self.may_read = count == buffer.len();
+                // Less than was asked for is all that is there, and what comes later is noted. But an end that came with
+                // it isn't noted again.
+                self.may_read = self.is_closing || count == buffer.len();
                 let came = buffer.get(..count).unwrap_or(&[]);
                 self.note(came, now);
                 if self.inbox.keep(came).is_err() {
