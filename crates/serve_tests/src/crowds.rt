@@ -125,7 +125,7 @@ fn ends_with_lines<R: Net<Listener = TcpListener, Stream = TcpStream> + Wait>(
     port: u16,
     stop: &Stop,
 ) -> io::Result<usize> {
-    let mut answered = 0;
+    let mut answered = 0usize;
     for _session in 0..ENDING {
         let answers = talk(
             rt,
@@ -134,7 +134,7 @@ fn ends_with_lines<R: Net<Listener = TcpListener, Stream = TcpStream> + Wait>(
             "hello 2\ntake {\"change\":7,\"op\":\"merged\"}\n",
         )?;
         if answers.as_str().starts_with("hello 2\nok ") {
-            answered += 1;
+            answered = answered.saturating_add(1);
         }
     }
     stop.ask(rt);
