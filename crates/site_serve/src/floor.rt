@@ -285,7 +285,8 @@ impl Floor {
         places.unlist();
     }
 
-    /// Ends the sessions with whom there is no patience left, and all where the site stops.
+    /// Ten times a second: has the door tried again, looks whether more answers may be made, and ends the sessions with
+    /// whom there is no patience left.
     fn look_at_clock<J: Naming>(&mut self, places: &mut Places<J>) {
         if self.now.saturating_sub(self.looked) < Duration::from_millis(TICK_MS) {
             return;
