@@ -1,6 +1,6 @@
 //! A session of a site, as a value: what was read of it, and what waits to be written.
 
-ghost use Rattle.std.specs.Prelude.{◌≡◌, ◌⊎◌, ◌<◌, ◌≤◌, ◌+◌, ◌++◌, [], Bool, Err, IfErr, IfOk, IfSome, MatchBool, MatchOption, None, Ok, Result, Some, drop, length, nat_eq, true};
+ghost use Rattle.std.specs.Prelude.{◌≡◌, ◌⊎◌, ◌<◌, ◌≤◌, ◌+◌, ◌-◌, ◌++◌, [], Bool, Err, IfErr, IfOk, IfSome, MatchBool, MatchOption, None, Ok, Result, Some, drop, length, nat_eq, true};
 ghost use Rattle.std.specs.Arc.{arc_value};
 ghost use Rattle.gossip_line.specs.Steps.{answer_of};
 ghost use Rattle.gossip_line.specs.Texts.{answer_text, long_line, next_of, refusal_line, reply_text, stamp_line};
@@ -147,6 +147,7 @@ impl<J: Naming> Session<J> {
             self.new.outbox result }
         ensures inbox { self.new.inbox ≡ self.old.inbox }
         ensures receipt { self.new.receipt ≡ self.old.receipt }
+        ensures waits { self.new.waiting ≡ self.old.waiting }
     {
         let said = self.outbox.say_taken(alloc, taken);
         self.go_on(said);
@@ -160,6 +161,7 @@ impl<J: Naming> Session<J> {
             × Adds (refusal_line (fault_of fault)) (Ok true) self.old.outbox self.new.outbox result) }
         ensures receipt { IfOk answer (λ done. self.new.receipt ≡ Some done.receipt) }
         ensures inbox { self.new.inbox ≡ self.old.inbox }
+        ensures waits { self.new.waiting ≡ self.old.waiting - 1 }
     {
         self.waiting = self.waiting.saturating_sub(1);
         match answer {
@@ -173,7 +175,9 @@ impl<J: Naming> Session<J> {
     }
 
     /// Is answered for each `take` that waits that the site has ended: it may be kept, or not.
-    pub(super) fn refuse_waiting(&mut self, alloc: Global) {
+    pub(super) fn refuse_waiting(&mut self, alloc: Global)
+        ensures { self.new.waiting ≡ 0 }
+    {
         for _take in 0..self.waiting {
             self.say_taken(alloc, Err(PortFault::Closed));
         }
