@@ -4,6 +4,9 @@
 //!
 //! Its tests are in the crate `text_tests`.
 //!
+//! It is here since a contract has to say that a fault comes only where an end failed: `std`'s `Read` and `Write` don't
+//! count failures. Not taken: `std`'s `BufRead` and `bytes`, for the same reason.
+//!
 //! An example of its use:
 //!
 //! ```

@@ -2,6 +2,10 @@
 //!
 //! Its tests are in the crate `change_tests`.
 //!
+//! It is a crate of its own so that the rules of one change are proved apart from maps and journals. Not taken: votes
+//! as a set of tagged additions (an OR-set), in which a withdrawn vote could come back with an old copy; a log that is
+//! replayed for each question.
+//!
 //! An example of its use:
 //!
 //! ```

@@ -3,6 +3,10 @@
 //!
 //! Its tests are in the crate `change_tests`.
 //!
+//! It is here since a change mostly has two patch sets and five votes, and sometimes 100,000. Not taken: `std`'s
+//! `BTreeMap`, whose leaves have room for fifteen; one `Vec`, in which an insertion moves all that follows; `smallvec`,
+//! which keeps short lists well and long ones as a `Vec` does.
+//!
 //! An example of its use:
 //!
 //! ```

@@ -2,6 +2,9 @@
 //!
 //! Its tests are in the crate `words_tests`.
 //!
+//! It is a crate of its own so that what the words ask for is one enum with a contract. Not taken: `clap`'s matches in
+//! the hands of each command, which would look up arguments by name.
+//!
 //! An example of its use:
 //!
 //! ```

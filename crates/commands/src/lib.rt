@@ -3,8 +3,26 @@
 //!
 //! Its tests are in the crate `command_tests`.
 //!
+//! It is a crate of its own so that all commands keep one law, in which each is one row. Not taken: a contract for each
+//! command by itself, which would have to say anew which input is refused first.
+//!
 //! `run_command` runs a command over any ends and files; `print_text`, `report_usage` and `report` do what is asked for
 //! in place of one.
+//!
+//! An example of its use:
+//!
+//! ```
+//! let text = br#"{"bases":["https://r/"],"require":{"gerrit":{"open":true}}}"#.as_slice();
+//! let command = Command::Check { gate: "-", snapshot: None, is_strict: false };
+//! let mut input = Ends::new(text);
+//! let mut output = Ends::new(Vec::new(alloc));
+//! let mut errors = Ends::new(Vec::new(alloc));
+//! let mut files = SystemFiles::new(&rt);
+//! let status = run_command(alloc, &command, &mut input, &mut output, &mut errors, &mut files);
+//! assert_eq!(rt; status, 0);
+//! let printed = b"require /require/gerrit/open open\nend 1 0\n".as_slice();
+//! assert_eq!(rt; output.get_ref().as_slice(), printed);
+//! ```
 #![tactic(auto)]
 
 mod check;

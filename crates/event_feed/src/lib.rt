@@ -5,6 +5,9 @@
 //!
 //! Its tests are in the crate `text_tests`.
 //!
+//! It is a crate of its own so that the same reading serves a printed feed and one of a site. Not taken: asynchronous
+//! streams of `futures`, for one input that is read line by line.
+//!
 //! | Line of the errors | Where |
 //! |---|---|
 //! | `reviewgate: events 1 BadEvent n KEY` | line n is no event, lacks what its kind needs, or has a bad body |

@@ -3,6 +3,9 @@
 //!
 //! Its tests are in the crate `record_tests`.
 //!
+//! It is a crate of its own so that 'what the record lacks' is a law over states, without sockets. Not taken: sending
+//! everything again, with which each query would add an operation for every vote that it lists.
+//!
 //! An example of its use:
 //!
 //! ```

@@ -4,6 +4,9 @@
 //!
 //! Its tests are in the crate `serve_tests`.
 //!
+//! It is a crate of its own so that a feed is a client like any other: a site doesn't know Gerrit. Not taken: Gerrit's
+//! REST interface and SSH as a library: `ssh` itself is better kept, and its output can be recorded and played.
+//!
 //! | Line of the errors | Where |
 //! |---|---|
 //! | `reviewgate: events 1 BadEvent n KEY` | line n is no event, lacks what its kind needs, or has a bad body |
@@ -15,6 +18,16 @@
 //! |---|---|
 //! | `pulled N` | the record of N operations is pulled, and the input is read from now on |
 //! | `ask N` | change N has to be queried |
+//!
+//! An example of its use:
+//!
+//! ```
+//! assert!(rt; read_answer(alloc, b"ok 5,1,1,2").is_ok());
+//! let mut front = Front::new(alloc);
+//! let first = Stamp::new(5, 1, 1, 1).ok_or("a stamp")?;
+//! go_on(&mut front, first)?;
+//! assert_eq!(rt; front.reach(Row { site: 1, start: 1 }), 1);
+//! ```
 #![tactic(auto)]
 
 mod answer;

@@ -2,6 +2,9 @@
 //!
 //! Its tests are in the crate `command_tests`.
 //!
+//! It is a crate of its own so that warnings can't change a verdict: nothing that judges uses it. Not taken: refusing
+//! what it warns of, since a gate may be written before the first vote.
+//!
 //! An example of its use:
 //!
 //! ```

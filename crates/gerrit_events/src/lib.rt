@@ -4,6 +4,9 @@
 //!
 //! Its tests are in the crate `text_tests`.
 //!
+//! It is a crate of its own so that Gerrit's forms are in one place. Not taken: `serde`'s derives over Gerrit's
+//! attributes, since Gerrit leaves keys out and adds others from version to version.
+//!
 //! | `type` | What it brings |
 //! |---|---|
 //! | `patchset-created` | the patch set |

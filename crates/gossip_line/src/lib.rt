@@ -3,6 +3,10 @@
 //!
 //! Its tests are in the crate `site_tests`.
 //!
+//! It is a crate of its own so that the lines between sites are the same over memory, pipes and sockets. Not taken:
+//! HTTP and gRPC, whose headers and framing a shell can't write by hand; pushing to peers, which needs to know who is
+//! there: a pull needs only the own front.
+//!
 //! | Line | Answer |
 //! |---|---|
 //! | `hello 2`, which comes first | `hello 2` |

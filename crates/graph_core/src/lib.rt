@@ -2,6 +2,10 @@
 //!
 //! Its tests are in the crate `gate_tests`.
 //!
+//! It is a crate of its own so that what waits for what is known without the gate's conditions on reviews. Not taken:
+//! edges to merged changes, over which a whole history would be reached; a graph that is kept and changed in place,
+//! which costs as much as the verdicts that are kept.
+//!
 //! An item is a known patch set of a change. It names the changes in the `Depends-On:` footers of its message, and the
 //! change of its Git parent, unless that is its own. Those of them that aren't merged are its targets. A target that is
 //! known stands for its current patch set.

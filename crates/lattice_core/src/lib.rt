@@ -3,6 +3,10 @@
 //!
 //! Its tests are in the crate `change_tests`.
 //!
+//! It is a crate of its own so that the promise on gossip rests on a few laws that know nothing of reviews. Not taken:
+//! operation-based counters and sequences (CRDTs that need causal delivery, which gossip that loses and repeats doesn't
+//! give), and a join as a bare function, whose laws each user would prove again.
+//!
 //! `Join` is the trait of such states, with its laws. `Flag`, `Register` and `Greatest` are the least of them; `Both`
 //! and `JoinMap` are made of others, and their laws follow from those of their parts. `Keep` is the trait of what they
 //! hold: keys and values with an exact order. Contracts speak of shapes: what values are, wherever they lie in memory.

@@ -2,6 +2,10 @@
 //!
 //! Its tests are in the crate `text_tests`.
 //!
+//! It is a crate of its own so that snapshots, journals, sessions and scripts share one text of an operation.
+//! Not taken: a binary form, which nobody can read or compare with other tools; `serde`'s derives, since a refusal has
+//! to name the first bad key. What is in the form that is written is read by one walk, and all else by `serde_json`.
+//!
 //! An operation is one JSON object (RFC 8259), read as serde_json's `Value` reads it and written compactly, with its
 //! members in byte order of their keys, on one line. `op` says the kind; a body is the same object without `seq`,
 //! `site`, `start` and `time`.

@@ -2,6 +2,9 @@
 //!
 //! Its tests are in the crate `site_tests`.
 //!
+//! It is a crate of its own since it is outside the law of the other commands: a journal has no limit, and is read
+//! while it may be torn. Not taken: repairing the journal in place, which a mistake would make final.
+//!
 //! The journal is read block by block, and neither locked nor changed. A torn line at its end is left out, and its
 //! length is reported.
 //!

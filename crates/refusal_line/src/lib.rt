@@ -2,6 +2,9 @@
 //!
 //! Its tests are in the crate `command_tests`.
 //!
+//! It is a crate of its own so that one function makes such lines, whoever refuses. Not taken: each fault's `Display`
+//! (a fault doesn't know which part reports it) and the crate `log`, whose records have no number.
+//!
 //! An example of its use:
 //!
 //! ```

@@ -2,6 +2,9 @@
 //!
 //! Its tests are in the crate `text_tests`.
 //!
+//! It is a crate of its own so that a report is pinned byte by byte. Not taken: `std`'s `format!` for each line, which
+//! takes memory for each; JSON as the report, which a shell can't read line by line.
+//!
 //! An example of its use:
 //!
 //! ```

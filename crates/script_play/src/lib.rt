@@ -3,6 +3,9 @@
 //!
 //! Its tests are in the crate `text_tests`.
 //!
+//! It is a crate of its own so that the theorem can be said of printed lines. Not taken: playing in the machine alone,
+//! without texts, which nobody could compare with a running site.
+//!
 //! | Printed | Of what |
 //! |---|---|
 //! | `ok TIME,SITE,START,SEQ` | a body that was taken in |

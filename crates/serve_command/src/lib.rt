@@ -1,6 +1,21 @@
 //! `serve`: a site that runs as a program, from its files and its port to its snapshot.
 //!
 //! Its tests are in the crate `serve_tests`.
+//!
+//! It is a crate of its own so that the order of a site's start and end is over any tape and any output. Not taken:
+//! daemon mode, privileges and log files, which systemd does.
+//!
+//! An example of its use:
+//!
+//! ```
+//! let words = ["serve", "-", "--site", "1", "--start", "1"];
+//! let Asked::Serve(words) = read_words(alloc, &words) else {
+//!     return Err(Fail::from("a site"));
+//! };
+//! let input = Ends::new(b"no gate file".as_slice());
+//! let ended = serve(rt, alloc, words, input, Ends::new(Vec::new(alloc)));
+//! assert!(rt; matches!(ended, Ended::Refused(Refusal::Gate(_))));
+//! ```
 #![tactic(auto)]
 
 mod command;

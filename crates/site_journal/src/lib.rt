@@ -2,6 +2,9 @@
 //!
 //! Its tests are in the crate `site_tests`.
 //!
+//! It is a crate of its own so that what survives a crash is said of a tape, and knows no file. Not taken: `sqlite`,
+//! whose own journal would be a second one, and a database of keys and values: the record is a list that only grows.
+//!
 //! The first line is `reviewgate 2`; then comes one operation a line, in the order in which they came. What is past the
 //! last line end was torn while it was written, and counts for nothing.
 //!

@@ -2,6 +2,9 @@
 //!
 //! Its tests are in the crate `site_tests`.
 //!
+//! It is a crate of its own so that 'kept before it is published' is the invariant of one struct, over any keeper.
+//! Not taken: publishing first and syncing later, which answers `ok` for what a crash loses.
+//!
 //! An example of its use, without a journal:
 //!
 //! ```

@@ -1,6 +1,21 @@
 //! The connections of a site: ends that don't wait for ever, and the wish that a site stops.
 //!
 //! Its tests are in the crate `serve_tests`.
+//!
+//! It is here since every wait of a site for another machine has to end. Not taken: `tokio`, whose tasks would have to
+//! carry the desk between threads; sockets without time-outs, with which a silent peer holds a pull for ever.
+//!
+//! An example of its use:
+//!
+//! ```
+//! use std::time::Duration;
+//! let patience = Patience { limit: Duration::from_secs(10), idle: None };
+//! assert!(rt; patience.is_over(Awaited::FirstLine, Duration::from_secs(11)));
+//! assert!(rt; !patience.is_over(Awaited::NextLine, Duration::from_secs(11)));
+//! let stop = Stop::new();
+//! stop.ask(&rt);
+//! assert!(rt; stop.is_asked());
+//! ```
 #![tactic(auto)]
 
 mod connect;

@@ -2,6 +2,9 @@
 //!
 //! Its tests are in the crate `site_tests`.
 //!
+//! It is a crate of its own so that a session's promise holds over any site: the one of the tests, and one that threads
+//! share. Not taken: sessions over a replica itself, whose law would say nothing of a running site.
+//!
 //! | Fault | Where |
 //! |---|---|
 //! | 1 `ClockSpent`, 2 `BadBody` | of an intake alone |

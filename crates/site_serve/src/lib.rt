@@ -2,6 +2,41 @@
 //! changes.
 //!
 //! Its tests are in the crate `serve_tests`.
+//!
+//! It is a crate of its own so that threads and sockets are in one place. Not taken: a thread for each session (silent
+//! clients keep the others out), `tokio` and `hyper` (a runtime of futures round one loop over `mio`), and a second
+//! thread between sockets and desk, which would have to be woken for each take.
+//!
+//! An example of its use:
+//!
+//! ```
+//! use std::net::TcpListener;
+//! #[derive(Drop)]
+//! struct Quiet;
+//! impl Turn for Quiet {
+//!     fn enter(&self, _session: u64) {}
+//!     fn left(&self, _session: u64) {}
+//! }
+//! 
+//! let listener = TcpListener::bind(&rt, "127.0.0.1:0")?;
+//! let setup = Setup {
+//!     gate: Gate::read(alloc, br#"{"bases":["https://r/"]}"#)?,
+//!     replica: Replica::new(alloc),
+//!     site: 1,
+//!     start: 1,
+//!     peers: Vec::new(alloc),
+//!     workers: 1,
+//!     pause_ms: 1000,
+//!     sessions: 0,
+//!     idle_ms: 0,
+//!     connections: 1024,
+//! };
+//! let stop = Stop::new();
+//! stop.ask(&rt);
+//! let (output, errors) = (Ends::new(Vec::new(alloc)), Ends::new(Vec::new(alloc)));
+//! let served = serve_run(&rt, alloc, listener, setup, &stop, output, errors, &Quiet)?;
+//! assert_eq!(rt; served.replica.len(), 0);
+//! ```
 #![tactic(auto)]
 
 mod ask;

@@ -3,6 +3,9 @@
 //!
 //! Its tests are in the crate `site_tests`.
 //!
+//! It is a crate of its own so that it alone knows `left_right` and `logbook`. Not taken: one lock round the replica
+//! (readers would wait for the disk), and `rayon` or message passing for looks, which would copy the record for each.
+//!
 //! What was published is one list, which begins with the journal that the site was opened with and only grows. The
 //! desk's account is that list and what is held; each look of a window is at one prefix of the list, which goes on from
 //! all that the window has seen and learnt. A watch keeps the verdicts on what a window saw, and a window brings it up
@@ -17,6 +20,18 @@
 //! | `WindowFault` 2 `NoMemory`, 3 `Closed` | of a look |
 //! | `RefreshFault` 1 `Stranger`, 3 `Closed` | of `Window::refresh`: nothing changes |
 //! | `RefreshFault` 2 `NoMemory` | of `Window::refresh`: the watch has no verdicts until a refresh succeeds |
+//!
+//! An example of its use:
+//!
+//! ```
+//! let (mut desk, mut windows) = open_site(&rt, 1, 1, 1, Replica::new(alloc))?;
+//! let receipt = desk.intake(&rt, Draft::Merged { change: 101 });
+//! let front = windows.pop().map(|mut window| window.front());
+//! desk.end(&rt);
+//! let stamp = receipt?.stamp().ok_or("a stamp")?;
+//! let front = front.ok_or("a window")??;
+//! assert_eq!(rt; front.reach(Row { site: 1, start: 1 }), stamp.seq());
+//! ```
 #![tactic(auto)]
 
 mod branded;

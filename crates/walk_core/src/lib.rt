@@ -2,6 +2,10 @@
 //!
 //! Its tests are in the crate `walk_tests`.
 //!
+//! It is a crate of its own so that graphs are proved without changes and gates. There is no graph library among those
+//! of the toolchain. Not taken: a sort by depth-first search alone (cycles are allowed by some gates), and counting
+//! what each node leads to by a search from each (quadratic; it is the slow program of the tests).
+//!
 //! An example of its use:
 //!
 //! ```

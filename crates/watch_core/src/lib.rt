@@ -3,6 +3,10 @@
 //!
 //! Its tests are in the crate `watch_tests`.
 //!
+//! It is a crate of its own so that keeping verdicts up to date can be wrong nowhere else: what it keeps equals an
+//! evaluation of the whole. Not taken: an evaluation of the whole record for each publish, and caches of single
+//! conditions, since most of an evaluation's time goes into the graph.
+//!
 //! An example of its use:
 //!
 //! ```

@@ -3,6 +3,9 @@
 //!
 //! Its tests are in the crate `gate_tests`.
 //!
+//! It is a crate of its own since it needs the gate file's own bytes, which judgement doesn't. Not taken: the whole
+//! tree of causes in place of one chain, which at a big record nobody reads (`graph` draws it).
+//!
 //! An example of its use:
 //!
 //! ```

@@ -2,6 +2,10 @@
 //!
 //! Its tests are in the crate `record_tests`.
 //!
+//! It is a crate of its own so that sites and a network that loses, repeats and reorders are one machine, over which
+//! the theorem is stated. Not taken: random runs as the test of convergence (they are tests beside the proof); a model
+//! of time, of which nothing is promised.
+//!
 //! An example of its use:
 //!
 //! ```
