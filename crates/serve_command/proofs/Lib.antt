@@ -1,3 +1,4 @@
 pub mod Adding
 pub mod Ending
 mod Starts
+mod Restarting

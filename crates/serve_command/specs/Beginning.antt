@@ -6,9 +6,12 @@ use Rattle.console.specs.Inputs.{IsHad, gate_file, input, snapshot_file}
 use Rattle.gate_rules.specs.Rules.{GateRules}
 use Rattle.gate_rules.specs.Spelling.{SpellsGate}
 use Rattle.replica_core.specs.Journal.{all_arrived, has}
+use Rattle.replica_core.specs.JournalLaws.{IsPartOf}
 use Rattle.replica_core.specs.Sets.{IsSameSet}
 use Rattle.review_ops.specs.Operation.{Operation}
 use Rattle.site_journal.specs.Book.{Book, IsHolding, IsOpened}
+use Rattle.site_journal.specs.Tape.{Image, IsLeftBy}
+use Rattle.site_ledger.specs.Keeping.{Survive}
 use Rattle.snapshot_text.specs.Snapshot.{SaysOperations}
 
 -- ---- the inputs
@@ -35,6 +38,11 @@ pub record IsBegun (text : List ℕ) (loaded begun : List Operation) : Type 0 wh
   pub after : List ℕ
   pub opened : IsOpened text own torn after
   pub both : IsSameSet begun (own ++ loaded)
+
+-- the record has whatever a site had published by a journal of which a crash left this text
+abbrev pub HasSurvivors : List ℕ → List Operation → Type 0
+HasSurvivors text begun = (book : Book) (image : Image) (published : List Operation) → book.image ≡ Some image
+    → IsLeftBy image text → Survive book published → IsPartOf published begun
 
 -- what a record lacks of another one; for private clauses, as what follows
 abbrev pub lacking_of : List Operation → List Operation → List Operation

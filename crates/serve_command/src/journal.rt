@@ -5,7 +5,7 @@ ghost use Rattle.replica_core.specs.Sets.{IsSameSet};
 ghost use Rattle.review_ops.specs.Operation.{Operation};
 ghost use Rattle.site_journal.specs.Book.{IsHolding};
 ghost use Rattle.site_journal.specs.Tape.{IsAtStart};
-ghost use Rattle.serve_command.specs.Beginning.{IsAdded, IsBegun, lacking_of};
+ghost use Rattle.serve_command.specs.Beginning.{HasSurvivors, IsAdded, IsBegun, lacking_of};
 
 use super::command::Ended;
 use super::fault::ProgramFault;
@@ -14,7 +14,7 @@ use byte_ends::Drain;
 use console::show_torn;
 use replica_core::Replica;
 use review_ops::Op;
-use site_journal::{Journal, JournalFault, KeepFault, Tape};
+use site_journal::{Journal, JournalFault, KeepFault, Tape, journals_have_one_reading};
 use site_serve::ServeFault;
 use std::alloc::Global;
 use std::fs::File;
@@ -40,10 +40,27 @@ pub fn open_journal<R: Files<File = File>, E: Drain>(
 }
 
 /// Begins a site's record by a journal on a tape that was just opened: it has what the journal says and what was loaded
-/// beside, which is added to the journal where that lacks it, and synced. So the journal says just the record. How many
-/// bytes of a torn line were cut off is written to `errors`. It costs O(n log n) for n operations, and a sync for each
+/// beside, which is added to the journal where that lacks it, and synced. So the journal says just the record, and the
+/// record has whatever was published by a site whose journal a crash left so. How many bytes of a torn line were cut off
+/// is written to `errors`. It costs O(n log n) for n operations, and a sync for each
 /// 4,096 that are added.
 pub fn begin<T: Tape + Drop, E: Drain>(
+    alloc: Global,
+    tape: T,
+    loaded: Replica,
+    errors: &mut E,
+) -> Result<(Journal<T>, Replica), Ended<'static>>
+    requires { IsAtStart (T.image tape) (T.left tape) }
+    ensures kept { IfOk result (λ begun. (ops : List Operation) × IsHolding begun.0 ops × IsSameSet begun.1 ops) }
+    ensures whole { IfOk result (λ begun. IfSome (T.image tape) (λ i. IsBegun i.contents loaded begun.1)) }
+    ensures survivors { IfOk result (λ begun. IfSome (T.image tape) (λ i. HasSurvivors i.contents begun.1)) }
+{
+    journals_have_one_reading();
+    open_and_add(alloc, tape, loaded, errors)
+}
+
+/// Opens a journal, and adds to it and to the record what was loaded.
+fn open_and_add<T: Tape + Drop, E: Drain>(
     alloc: Global,
     tape: T,
     loaded: Replica,

@@ -1,6 +1,6 @@
 -- What is held is in the record, stays in it, and is published with it.
-use Rattle.std.proofs.Common.{◌≡◌, Bool, true, false, List, [], ◌∷◌, ◌++◌, Option, Some, None, Result, Ok, Err}
-use Rattle.std.proofs.Common.{IfOk, OnOk, OnErr, if◌then◌else◌, get_or, refl, ap, sym, subst, ◌∙◌}
+use Rattle.std.proofs.Common.{◌≡◌, append-nil, Bool, true, false, List, [], ◌∷◌, ◌++◌, Option, Some, None, Result, Ok, Err}
+use Rattle.std.proofs.Common.{IfOk, OnOk, OnErr, if◌then◌else◌, get_or, inl, inr, refl, ap, sym, subst, ◌∙◌}
 use Rattle.std.proofs.lemmas.Bool.{or_left}
 use Rattle.std.proofs.lemmas.List.Elements.{All-nil, All-push}
 use Rattle.lattice_core.specs.Exact.{test_of_same}
@@ -10,8 +10,8 @@ use Rattle.review_ops.specs.Operation.{Operation}
 use Rattle.review_ops.specs.Timestamp.{Timestamp, timestamp_cmp, timestamps_exact}
 use Rattle.replica_core.specs.InOrder.{same_itself}
 use Rattle.replica_core.specs.Journal.{has, has_stamp, same_operation}
-use Rattle.replica_core.specs.JournalLaws.{IsPartOf, all_arrived-push, has-all_arrived, has-append_right, kept-arrived}
-use Rattle.replica_core.specs.JournalLaws.{one_passes, part_passes}
+use Rattle.replica_core.specs.JournalLaws.{IsPartOf, all_arrived-push, has-all_arrived, has-append_cases, has-append_right}
+use Rattle.replica_core.specs.JournalLaws.{kept-arrived, one_is, one_passes, part_passes}
 use Rattle.site_serve.specs.Acknowledged.{IsHeldBy, IsTakenInto}
 use Rattle.site_ledger.specs.Keeping.{Entries}
 use Rattle.site_shared.specs.Accounts.{Account, Extent, holding, record_of}
@@ -67,6 +67,33 @@ pub new_grows : {K T E : Type 0} (old new : Entries K) (op : Operation) (result 
     → OnOk result (new.account ≡ (if has (record_of old.account) op then old.account else holding old.account (op ∷ []))) → OnErr result (new ≡ old) → IsPartOf (record_of old.account) (record_of new.account)
 new_grows old new op (Ok v) ok err = chosen_grows old.account new.account op ok
 new_grows old new op (Err e) ok err = same_grows old.account new.account (ap (λ l. l.account) err)
+
+chosen_has : (old new : Account) (op : Operation)
+    → new ≡ (if has (record_of old) op then old else holding old (op ∷ [])) → has (record_of new) op ≡ true
+chosen_has old new op is = elim (has (record_of old) op) as (λ b. has (record_of old) op ≡ b → new ≡ (if b then old else holding old (op ∷ [])) → has (record_of new) op ≡ true) [
+  | true ↦ λ e is. ap (λ (a : Account). has (record_of a) op) is ∙ e
+  | false ↦ λ e is. ap (λ (a : Account). has (record_of a) op) is ∙ holding_has old op
+] refl is
+
+pub new_has : {K T E : Type 0} (old new : Entries K) (op : Operation) (result : Result T E)
+    → OnOk result (new.account ≡ (if has (record_of old.account) op then old.account else holding old.account (op ∷ [])))
+    → OnOk result (has (record_of new.account) op ≡ true)
+new_has old new op (Ok v) ok = chosen_has old.account new.account op ok
+new_has old new op (Err e) ok = tt
+
+-- operations of which one more is in the journal
+pub one_more_part : (journal ops : List Operation) (op : Operation) → IsPartOf ops journal → has journal op ≡ true
+    → IsPartOf (ops ++ op ∷ []) journal
+one_more_part journal ops op part one other h = elim (has-append_cases ops (op ∷ []) other h) [
+  | inl earlier ↦ part other earlier
+  | inr last ↦ ap (has journal) (sym (one_is op other last)) ∙ one
+]
+
+-- all operations, once none is left beside those that are in the journal
+pub whole_part : (journal ops done left : List Operation) → ops ≡ done ++ left → left ≡ [] → IsPartOf done journal
+    → IsPartOf ops journal
+whole_part journal ops done left is none part other h =
+    part other (ap (λ l. has l other) (sym (is ∙ ap (λ l. done ++ l) none ∙ append-nil done)) ∙ h)
 
 -- what was stamped is in whatever has the journal
 pub taken_on : (journal other : List Operation) → IsPartOf journal other → (held : Result (Option Timestamp) DeskFault)

@@ -1,7 +1,10 @@
 -- What a running site acknowledges: an answer comes with the receipt of a publish, and what was stamped is among what
 -- the publishes brought.
-use Rattle.std.specs.Prelude.{◌≡◌, ◌++◌, ◌∷◌, [], All, ℕ, Bool, true, IfOk, List, Option, None, Some, Result}
+use Rattle.std.specs.Prelude.{◌≡◌, ◌++◌, ◌∷◌, [], All, ℕ, Bool, true, IfOk, List, Option, None, Some, Result, Ok, Err}
 use Rattle.replica_core.specs.Journal.{has_stamp}
+use Rattle.replica_core.specs.JournalLaws.{IsPartOf}
+use Rattle.review_ops.specs.Deed.{Deed}
+use Rattle.review_ops.specs.Draft.{deed_of}
 use Rattle.review_ops.specs.Operation.{Operation}
 use Rattle.review_ops.specs.Timestamp.{Timestamp}
 use Rattle.site_serve.specs.declared.ask.Ask.{Ask}
@@ -9,7 +12,7 @@ use Rattle.site_serve.specs.declared.ask.Ask.TheVariants as ask
 use Rattle.site_serve.specs.declared.ask.Asker.{Asker}
 use Rattle.site_serve.specs.declared.ask.Asker.TheVariants as asker
 use Rattle.site_serve.specs.declared.desk.Waiter.{Waiter}
-use Rattle.site_shared.specs.Accounts.{Account, record_of}
+use Rattle.site_shared.specs.Accounts.{Account, RefusesIntake, holding, next_operation, record_of}
 use Rattle.site_shared.specs.declared.fault.DeskFault.{DeskFault}
 
 -- whether the journal has an operation of the stamp; where nothing was stamped nothing is asked
@@ -25,9 +28,27 @@ IsTakenInto journal held = IfOk held (λ stamp. has_stamped journal stamp ≡ tr
 abbrev pub IsHeldBy : Account → Result (Option Timestamp) DeskFault → Type 0
 IsHeldBy account = IsTakenInto (record_of account)
 
--- who is added to those that wait, once
-abbrev pub AddsOne : Asker → List Waiter → List Waiter → Type 0
-AddsOne asker old new = (waiter : Waiter) × (new ≡ old ++ waiter ∷ []) × (waiter.asker ≡ asker)
+-- a body is held: the next operation with it comes to what is held, and has the stamp that is noted; or it is refused,
+-- and nothing comes
+abbrev pub HoldsBody : Deed → Account → Account → Result (Option Timestamp) DeskFault → Type 0
+HoldsBody deed old new (Ok None) = ⊥
+HoldsBody deed old new (Ok (Some stamp)) =
+    (new ≡ holding old (next_operation old deed ∷ [])) × (stamp ≡ (next_operation old deed).stamp)
+HoldsBody deed old new (Err fault) = (new ≡ old) × RefusesIntake old deed fault old
+
+-- operations are held: no stamp is noted, and all of them are published or held from then on; or they are refused
+abbrev pub HoldsAll : List Operation → Account → Result (Option Timestamp) DeskFault → Type 0
+HoldsAll ops new held = IfOk held (λ stamp. (stamp ≡ None) × IsPartOf ops (record_of new))
+
+-- what is asked is held
+abbrev pub HoldsAsk : Ask → Account → Account → Result (Option Timestamp) DeskFault → Type 0
+HoldsAsk (ask.Intake asker draft) old new held = HoldsBody (deed_of draft) old new held
+HoldsAsk (ask.TakeAll asker ops) old new held = HoldsAll ops.items new held
+
+-- who is added to those that wait, once, with what was held for that
+abbrev pub AddsOne : Asker → (Result (Option Timestamp) DeskFault → Type 0) → List Waiter → List Waiter → Type 0
+AddsOne asker IsHeldSo old new =
+    (waiter : Waiter) × (new ≡ old ++ waiter ∷ []) × (waiter.asker ≡ asker) × IsHeldSo waiter.held
 
 -- who are added to those that wait: nobody but this one, so many times
 abbrev pub AddsOwn : Asker → List Waiter → List Waiter → Type 0

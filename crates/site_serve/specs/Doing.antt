@@ -9,30 +9,47 @@ use Rattle.gossip_line.specs.declared.step.Saying.{Saying}
 use Rattle.gossip_line.specs.declared.step.Step.TheVariants as step
 use Rattle.review_ops.specs.Deed.{Deed}
 use Rattle.site_port.specs.Ports.{takes_in}
-use Rattle.site_serve.specs.Acknowledged.{AddsOne}
+use Rattle.site_serve.specs.Acknowledged.{AddsOne, HoldsBody}
 use Rattle.site_serve.specs.Outboxes.{Adds}
 use Rattle.site_serve.specs.declared.ask.Asker.{Asker}
 use Rattle.site_serve.specs.declared.desk.Waiter.{Waiter}
+use Rattle.site_shared.specs.Accounts.{Account}
+
+-- what a line finds and leaves: what its session was answered and isn't sent yet, who waits for the next publish, and
+-- what the desk has published and holds
+pub record Scene : Type 0 where
+  pub answers : List ℕ
+  pub waiters : List Waiter
+  pub account : Account
+
+-- nobody else waits, and nothing more is held
+abbrev pub IsLeft : Scene → Scene → Type 0
+IsLeft old new = (new.waiters ≡ old.waiters) × (new.account ≡ old.account)
 
 -- the line has an answer that is known, which is added to what waits to be sent, or as much of it as there is memory for
-abbrev pub SaysLine : Bool → List ℕ → List ℕ → List ℕ → Type 0
+abbrev pub SaysLine : Bool → List ℕ → Scene → Scene → Type 0
 SaysLine first line old new =
     (saying : Saying) × IsStep first line (step.Says saying)
-    × ((result : Result Bool LineFault) × Adds (answer_text (answer_of saying)) (next_of (answer_of saying)) old new result)
+    × ((result : Result Bool LineFault)
+    × Adds (answer_text (answer_of saying)) (next_of (answer_of saying)) old.answers new.answers result)
+    × IsLeft old new
 
--- the line is a body to take in, and its session waits for the next publish, after those who wait already
-abbrev pub TakesLine : Bool → List ℕ → Asker → List Waiter → List Waiter → Type 0
-TakesLine first line asker waiters waiting =
-    ((deed : Deed) × (first ≡ false) × Asks line (takes_in deed)) × AddsOne asker waiters waiting
+-- the line is a body to take in, which is held, or refused; and its session waits for the next publish, after those who
+-- wait already, for the answer to just that
+abbrev pub TakesLine : Bool → List ℕ → Asker → Scene → Scene → Type 0
+TakesLine first line asker old new =
+    (deed : Deed) × (first ≡ false) × Asks line (takes_in deed)
+    × AddsOne asker (HoldsBody deed old.account new.account) old.waiters new.waiters × (new.answers ≡ old.answers)
 
 -- the line asks to look, which a worker does; where memory is refused for that it is said at once
-abbrev pub LooksLine : Bool → List ℕ → List ℕ → List ℕ → Type 0
+abbrev pub LooksLine : Bool → List ℕ → Scene → Scene → Type 0
 LooksLine first line old new =
-    ((look : Look) × IsStep first line (step.Looks look))
-    × ((new ≡ old) ⊎ ((result : Result Bool LineFault) × Adds no_memory_line (Ok true) old new result))
+    (look : Look) × IsStep first line (step.Looks look)
+    × ((new.answers ≡ old.answers)
+    ⊎ ((result : Result Bool LineFault) × Adds no_memory_line (Ok true) old.answers new.answers result))
+    × IsLeft old new
 
 -- the line does one of these three, and nothing else
-abbrev pub DoesLine : Bool → List ℕ → Asker → List ℕ → List ℕ → List Waiter → List Waiter → Type 0
-DoesLine first line asker old new waiters waiting =
-    (SaysLine first line old new × (waiting ≡ waiters))
-    ⊎ ((TakesLine first line asker waiters waiting × (new ≡ old)) ⊎ (LooksLine first line old new × (waiting ≡ waiters)))
+abbrev pub DoesLine : Bool → List ℕ → Asker → Scene → Scene → Type 0
+DoesLine first line asker old new =
+    SaysLine first line old new ⊎ (TakesLine first line asker old new ⊎ LooksLine first line old new)

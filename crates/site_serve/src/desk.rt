@@ -4,7 +4,9 @@ ghost use Rattle.std.specs.Prelude.{◌≡◌, ◌+◌, ◌<◌, ◌≤◌, [], 
 ghost use Rattle.std.specs.Prelude.{vec_capacity, vec_len};
 ghost use Rattle.std.specs.Arc.{arc_value};
 ghost use Rattle.replica_core.specs.JournalLaws.{IsPartOf};
-ghost use Rattle.site_serve.specs.Acknowledged.{AddsOne, IsHeldBy, IsTakenInto, asker_of, has_stamped};
+ghost use Rattle.review_ops.specs.Draft.{deed_of};
+ghost use Rattle.site_serve.specs.Acknowledged.{AddsOne, HoldsAll, HoldsAsk, HoldsBody, IsHeldBy, IsTakenInto, asker_of};
+ghost use Rattle.site_serve.specs.Acknowledged.{has_stamped};
 ghost use Rattle.site_shared.specs.Accounts.{receipt_of, record_of};
 ghost use Rattle.site_shared.specs.Publishes.{arrive};
 
@@ -67,7 +69,8 @@ pub fn hold_more<J: Naming, K: Keeps>(
     requires held { All (λ waiter. IsHeldBy ledger.old.ledger.account waiter.held) waiters.old.items }
     requires room { vec_len waiters.old < vec_capacity waiters.old }
     ensures held { All (λ waiter. IsHeldBy ledger.new.ledger.account waiter.held) waiters.new.items }
-    ensures last { AddsOne (asker_of ask) waiters.old.items waiters.new.items }
+    ensures last { AddsOne (asker_of ask) (HoldsAsk ask ledger.old.ledger.account ledger.new.ledger.account)
+        waiters.old.items waiters.new.items }
     ensures one { vec_len waiters.new ≡ vec_len waiters.old + 1 }
     ensures room { vec_capacity waiters.new ≡ vec_capacity waiters.old }
 {
@@ -78,6 +81,7 @@ pub fn hold_more<J: Naming, K: Keeps>(
 /// Holds what is asked.
 fn hold_ask<J: Naming, K: Keeps>(ledger: &mut OwnLedger<J, K>, ask: Ask) -> Waiter
     ensures asker { result.asker ≡ asker_of ask }
+    ensures asked { HoldsAsk ask ledger.old.ledger.account ledger.new.ledger.account result.held }
     ensures held { IsHeldBy ledger.new.ledger.account result.held }
     ensures grows { IsPartOf (record_of ledger.old.ledger.account) (record_of ledger.new.ledger.account) }
 {
@@ -98,6 +102,7 @@ fn hold_draft<J: Naming, K: Keeps>(
     ledger: &mut OwnLedger<J, K>,
     draft: Draft,
 ) -> Result<Option<Stamp>, DeskFault>
+    ensures body { HoldsBody (deed_of draft) ledger.old.ledger.account ledger.new.ledger.account result }
     ensures held { IsHeldBy ledger.new.ledger.account result }
     ensures grows { IsPartOf (record_of ledger.old.ledger.account) (record_of ledger.new.ledger.account) }
 {
@@ -108,16 +113,19 @@ fn hold_draft<J: Naming, K: Keeps>(
 }
 
 /// Holds those operations that were neither published nor are held.
+#[tactic(auto, using(crate::proofs::Held::whole_part))]
 fn hold_all_new<J: Naming, K: Keeps>(
     ledger: &mut OwnLedger<J, K>,
     ops: Vec<Op>,
 ) -> Result<Option<Stamp>, DeskFault>
+    ensures all { HoldsAll ops.items ledger.new.ledger.account result }
     ensures held { IsHeldBy ledger.new.ledger.account result }
     ensures grows { IsPartOf (record_of ledger.old.ledger.account) (record_of ledger.new.ledger.account) }
 {
     for op in ops {
-        if ledger.hold_new(op).is_err() {
-            return Err(DeskFault::NoMemory(0));
+        match ledger.hold_new(op) {
+            Ok(()) => {}
+            Err(_) => return Err(DeskFault::NoMemory(0)),
         }
     }
     Ok(None)

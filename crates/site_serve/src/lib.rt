@@ -17,7 +17,7 @@
 //!     fn enter(&self, _session: u64) {}
 //!     fn left(&self, _session: u64) {}
 //! }
-//! 
+//!
 //! let listener = TcpListener::bind(&rt, "127.0.0.1:0")?;
 //! let setup = Setup {
 //!     gate: Gate::read(alloc, br#"{"bases":["https://r/"]}"#)?,

@@ -1,6 +1,6 @@
 //! Does the lines of a session.
 
-ghost use Rattle.std.specs.Prelude.{◌≡◌, ◌⊎◌, ◌<◌, ◌≤◌, ◌+◌, All, Bool, MatchBool, Ok, Result, drop, nat_eq, take, true};
+ghost use Rattle.std.specs.Prelude.{◌≡◌, ◌⊎◌, ◌<◌, ◌≤◌, ◌+◌, All, Bool, MatchBool, Ok, Result, drop, length, nat_eq, take, true};
 ghost use Rattle.std.specs.Prelude.{vec_capacity, vec_len};
 ghost use Rattle.byte_ends.specs.Lines.{without_cr};
 ghost use Rattle.gossip_line.specs.Texts.{no_memory_line};
@@ -114,7 +114,7 @@ fn read_on<J: Naming>(means: &Means<'_, J>, buffer: &mut [u8], session: &mut Ses
 }
 
 /// Does a line of a session: false where it has to wait, or the session ends at it.
-#[tactic(auto, using(crate::proofs::Waiting::none_own, crate::proofs::Waiting::one_own, crate::proofs::Waiting::says_does, crate::proofs::Waiting::looks_does))]
+#[tactic(auto, using(crate::proofs::Waiting::none_own, crate::proofs::Waiting::one_own, crate::proofs::Waiting::says_does, crate::proofs::Waiting::takes_does, crate::proofs::Waiting::looks_does))]
 fn do_line<R: Wait, J: Naming, K: Keeps>(
     rt: &R,
     means: &Means<'_, J>,
@@ -133,9 +133,11 @@ fn do_line<R: Wait, J: Naming, K: Keeps>(
     ensures does { MatchBool result
         ((session.new.inbox ≡ drop (size + 1) session.old.inbox)
         × DoesLine (nat_eq session.old.lines 0) (without_cr (take size session.old.inbox))
-        (session_at means.now.place means.now.number) session.old.outbox session.new.outbox waiters.old.items
-        waiters.new.items)
-        ((session.new.inbox ≡ session.old.inbox) × (waiters.new.items ≡ waiters.old.items)) }
+        (session_at means.now.place means.now.number)
+        (record { answers = session.old.outbox; waiters = waiters.old.items; account = ledger.old.ledger.account })
+        (record { answers = session.new.outbox; waiters = waiters.new.items; account = ledger.new.ledger.account }))
+        ((session.new.inbox ≡ session.old.inbox) × (waiters.new.items ≡ waiters.old.items)
+        × (ledger.new.ledger.account ≡ ledger.old.ledger.account)) }
     ensures own { AddsOwn (session_at means.now.place means.now.number) waiters.old.items waiters.new.items }
     ensures order { 0 < session.old.waiting → session.new.outbox ≡ session.old.outbox }
     ensures waits { 0 < session.old.waiting → 0 < session.new.waiting }
@@ -176,11 +178,28 @@ fn do_line<R: Wait, J: Naming, K: Keeps>(
             false
         }
         Step::Looks(look) => {
-            look_for(rt, means, session, look);
-            session.pass(size);
+            begin_look(rt, means, session, look, size);
             true
         }
     }
+}
+
+/// Has a worker look for a session, and goes on past the line of this size, which asks for that.
+fn begin_look<R: Wait, J: Naming>(
+    rt: &R,
+    means: &Means<'_, J>,
+    session: &mut Session<J>,
+    look: Look,
+    size: usize,
+)
+    requires { size < length session.old.inbox }
+    ensures says { (session.new.outbox ≡ session.old.outbox)
+        ⊎ ((result : Result Bool LineFault) × Adds no_memory_line (Ok true) session.old.outbox session.new.outbox result) }
+    ensures inbox { session.new.inbox ≡ drop (size + 1) session.old.inbox }
+    ensures waits { session.new.waiting ≡ session.old.waiting }
+{
+    look_for(rt, means, session, look);
+    session.pass(size);
 }
 
 /// Has a worker look for a session.

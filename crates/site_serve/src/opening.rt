@@ -191,6 +191,7 @@ impl<J: Naming, K: Keeps> OwnLedger<J, K> {
     pub fn hold_new(&mut self, op: Op) -> Result<(), NoMemory>
         ensures ok { OnOk result (self.new.ledger.account ≡ (if has (record_of self.old.ledger.account) op
             then self.old.ledger.account else holding self.old.ledger.account (op ∷ []))) }
+        ensures has { OnOk result (has (record_of self.new.ledger.account) op ≡ true) }
         ensures grows { IsPartOf (record_of self.old.ledger.account) (record_of self.new.ledger.account) }
         ensures err { OnErr result (self.new.ledger ≡ self.old.ledger) }
         ensures same { IsSameKeeping self.old.ledger self.new.ledger }

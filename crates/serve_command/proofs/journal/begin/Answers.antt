@@ -1,19 +1,7 @@
-use Rattle.std.proofs.Common.{◌++◌, List}
-use Rattle.replica_core.specs.Sets.{IsSameSet}
-use Rattle.review_ops.specs.Operation.{Operation}
-use Rattle.site_journal.specs.Book.{IsHolding}
-use Rattle.serve_command.specs.Beginning.{lacking_of}
-use Rattle.serve_command.proofs.Adding.{both_kept, opened_says}
-use Rattle.serve_command.proofs.Ending.{both_ok}
+use Rattle.serve_command.proofs.Restarting.{survivors_are_answered}
 use Rattle.serve_command.proofs.journal.begin.Goals as goal
 
-pub returns-in-Ok-clause-kept : goal.returns-in-Ok-clause-kept
-returns-in-Ok-clause-kept g c =
-    let own = c.in-Ok.started.replica in
-    let says = opened_says _ _ own _ c.in-Ok.ensures.ok.1 in
-    let now_said = says.0 ++ lacking_of own c.args.loaded in
-    both_ok c.add_loaded.result (λ begun. IsHolding begun.0 now_said)
-    (λ begun. IsSameSet begun.1 (own ++ c.args.loaded))
-    (λ begun. (ops : List Operation) × IsHolding begun.0 ops × IsSameSet begun.1 ops)
-    (λ begun kept both. (now_said, kept, both_kept own says.0 c.args.loaded begun.1 says.2 both))
-    (c.add_loaded.ensures.kept says.0 (record { sound = c.in-Ok.ensures.ok.0; holds = says.1 })) c.add_loaded.ensures.both
+pub returns-clause-survivors : goal.returns-clause-survivors
+returns-clause-survivors g c =
+    let law = c.journals_have_one_reading.ensures in
+    survivors_are_answered law.one law.fresh (g.T.Feed.image c.args.tape) c.args.loaded c.open_and_add.result c.open_and_add.ensures.whole

@@ -1,0 +1,45 @@
+-- What survived a crash is in the record that a site begins with.
+use Rattle.std.proofs.Common.{◌≡◌, ◌++◌, ℕ, List, [], Option, None, Some, Result, Ok, Err, IfOk, IfSome, inl, inr, ap, subst, ◌∙◌}
+use Rattle.replica_core.specs.Journal.{all_arrived, has}
+use Rattle.replica_core.specs.JournalLaws.{IsPartOf, has-all_arrived, has-append_left}
+use Rattle.review_ops.specs.Operation.{Operation}
+use Rattle.site_journal.specs.Tape.{Image, IsLeftBy}
+use Rattle.site_journal.specs.Text.{IsFresh, SaysJournal}
+use Rattle.serve_command.specs.Beginning.{HasSurvivors, IsBegun}
+
+-- what the text says first is in the record, once all that it says has come
+said_part : (ops published more own begun loaded : List Operation) → ops ≡ published ++ more → own ≡ all_arrived [] ops
+    → ((op : Operation) → has begun op ≡ has (own ++ loaded) op) → IsPartOf published begun
+said_part ops published more own begun loaded is taken both op h =
+    both op
+    ∙ has-append_left own loaded op
+    (ap (λ l. has l op) taken ∙ has-all_arrived [] ops op ∙ ap (λ l. has l op) is ∙ has-append_left published more op h)
+
+-- journals have one reading, and a prefix of the first line has none
+module _ (one : (text : List ℕ) (ops others : List Operation) (rest other : List ℕ) → SaysJournal text ops rest
+    → SaysJournal text others other → (ops ≡ others) × (rest ≡ other)) (fresh : (text : List ℕ) (ops : List Operation)
+    (rest : List ℕ) → SaysJournal text ops rest → ¬ IsFresh text) where
+  begun_part : (text : List ℕ) (loaded begun : List Operation) → IsBegun text loaded begun
+      → (published : List Operation)
+      → ((more : List Operation) × (rest : List ℕ) × SaysJournal text (published ++ more) rest)
+      → IsPartOf published begun
+  begun_part text loaded begun b published (more, rest, says) = elim b.opened.said [
+    | inl said ↦ said_part b.opened.ops published more b.own begun loaded
+        (one text b.opened.ops (published ++ more) b.opened.rest rest said says).0 b.opened.taken b.both
+    | inr none ↦ elim (fresh text (published ++ more) rest says none.0) [ ]
+  ]
+
+  pub survivors_are_begun : (text : List ℕ) (loaded begun : List Operation) → IsBegun text loaded begun
+      → HasSurvivors text begun
+  survivors_are_begun text loaded begun b book image published is left survives =
+      begun_part text loaded begun b published
+      (subst (λ known. IfSome known (λ i. (after : List ℕ) → IsLeftBy i after → (more : List Operation) × (rest : List ℕ) × SaysJournal after (published ++ more) rest)) is survives text left)
+
+  -- the same of what was answered, where the tape is known
+  pub survivors_are_answered : {J E : Type 0} (known : Option Image) (loaded : List Operation)
+      (result : Result (J × List Operation) E)
+      → IfOk result (λ begun. IfSome known (λ i. IsBegun i.contents loaded begun.1))
+      → IfOk result (λ begun. IfSome known (λ i. HasSurvivors i.contents begun.1))
+  survivors_are_answered None loaded (Ok begun) whole = tt
+  survivors_are_answered (Some i) loaded (Ok begun) whole = survivors_are_begun i.contents loaded begun.1 whole
+  survivors_are_answered known loaded (Err fault) whole = tt
