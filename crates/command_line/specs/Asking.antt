@@ -11,10 +11,21 @@ use Rattle.command_line.specs.declared.asked.Asked.TheVariants.{Version}
 use Rattle.command_line.specs.declared.asked.Command.TheVariants.{Check, Footers, Graph, Merge, Ready, Simulate}
 use Rattle.command_line.specs.declared.asked.Command.TheVariants.{Why}
 use Rattle.command_line.specs.declared.asked.EventWords.{EventWords}
+use Rattle.command_line.specs.declared.asked.Printing.{Printing}
+use Rattle.command_line.specs.declared.asked.Printing.TheVariants.{Report, Changes, Nothing}
 use Rattle.command_line.specs.declared.asked.ServeWords.{ServeWords}
 use Rattle.command_line.specs.Values.{HasArgument, GivesAny, GivesItem, GivesNumber, GivesNumbers, GivesTexts}
 
 -- ---- what the arguments of each command say
+
+-- what a site prints, by the word of an option
+abbrev pub printing_word : Printing → Text
+printing_word Report = codes "report"
+printing_word Changes = codes "changes"
+printing_word Nothing = codes "none"
+
+abbrev pub GivesPrinting : List Row → Printing → Type 0
+GivesPrinting rows prints = HasArgument rows (codes "print") (printing_word prints)
 
 -- what a site is run with, but for its peers, is what the arguments give
 pub record AreOptions (rows : List Row) (words : ServeWords) : Type 0 where
@@ -28,6 +39,7 @@ pub record AreOptions (rows : List Row) (words : ServeWords) : Type 0 where
   pub idle : GivesNumber rows (codes "idle") 0 18446744073709551615 words.idle_ms
   pub connections : GivesNumber rows (codes "connections") 1 65535 words.connections
   pub ending : IsTrue words.until_input_ends ↔ HasFlag rows (codes "until-input-ends")
+  pub prints : GivesPrinting rows words.prints
   pub load : first_of (codes "load") rows ≡ option_map (λ name. name.now) words.load
   pub save : first_of (codes "save") rows ≡ option_map (λ name. name.now) words.save
   pub journal : first_of (codes "journal") rows ≡ option_map (λ name. name.now) words.journal
@@ -120,7 +132,7 @@ abbrev pub IsAskedByWords : Matched → Asked → Type 0
 IsAskedByWords matched asked =
     (name : Name) × (rows : List Row) × (matched ≡ Some (text_of name, rows)) × ArgumentsSay name rows asked
 
--- it is none, or they say nothing: a start or a port is missing, an item is none, or two options differ
+-- it is none, or they say nothing: a start or a port is missing, an item or a word is none, or two options differ
 abbrev pub IsNothing : Matched → Type 0
 IsNothing matched = (asked : Asked) → ¬ IsAskedByWords matched asked
 

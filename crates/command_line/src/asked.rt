@@ -94,12 +94,25 @@ pub struct ServeWords<'a> {
     pub connections: usize,
     /// Whether it ends with the standard input.
     pub until_input_ends: bool,
+    /// What it prints of its verdicts.
+    pub prints: Printing,
     /// The name of the snapshot to begin with.
     pub load: Option<&'a str>,
     /// The name of the snapshot that is written at the end.
     pub save: Option<&'a str>,
     /// The name of the journal.
     pub journal: Option<&'a str>,
+}
+
+/// What a site prints of its verdicts.
+#[derive(Clone, Copy, Debug, PartialEq, Eq)]
+pub enum Printing {
+    /// The whole report, whenever it changes.
+    Report,
+    /// What changed from one report to the next.
+    Changes,
+    /// Nothing.
+    Nothing,
 }
 
 /// What Gerrit's lines are.

@@ -21,5 +21,5 @@ mod numbers;
 mod sites;
 mod words;
 
-pub use asked::{Answer, Asked, Command, EventWords, ServeWords};
+pub use asked::{Answer, Asked, Command, EventWords, Printing, ServeWords};
 pub use words::read_words;

@@ -2,11 +2,11 @@
 
 ghost use Rattle.std.specs.Prelude.{◌≡◌, IfNone, IfOk, IfSome, MatchBool};
 ghost use Rattle.command_tree.specs.Rows.{rows_in};
-ghost use Rattle.command_line.specs.Asking.{AreOptions, HasStart, ArgumentsSay, serve};
+ghost use Rattle.command_line.specs.Asking.{AreOptions, GivesPrinting, HasStart, ArgumentsSay, serve};
 ghost use Rattle.command_line.specs.Values.{Finds};
 ghost use Rattle.command_line.specs.declared.asked.ServeWords.{ServeWords};
 
-use super::asked::{Asked, ServeWords};
+use super::asked::{Asked, Printing, ServeWords};
 use super::numbers::{any_long_in, number_in, short_in, shorts_in};
 use command_tree::{CONNECTIONS, IDLE, PAUSE, PEER, PORT, SESSIONS, SITE, START, Values, WORKERS};
 use std::alloc::{AllocError, Global};
@@ -44,10 +44,23 @@ fn serving_in<'a>(values: &Values<'a>, peers: Vec<u16>) -> Option<ServeWords<'a>
         idle_ms: number_in(values, IDLE)?,
         connections: number_in(values, CONNECTIONS)? as usize,
         until_input_ends: values.flag("until-input-ends"),
+        prints: printing_in(values)?,
         load: values.text("load"),
         save: values.text("save"),
         journal: values.text("journal"),
     })
+}
+
+/// What a site prints; none where the word says nothing of it.
+pub fn printing_in(values: &Values<'_>) -> Option<Printing>
+    ensures { Finds (GivesPrinting (rows_in values.now)) result }
+{
+    match values.text("print")? {
+        "report" => Some(Printing::Report),
+        "changes" => Some(Printing::Changes),
+        "none" => Some(Printing::Nothing),
+        _ => None,
+    }
 }
 
 /// Whether neither a start nor a journal is named.

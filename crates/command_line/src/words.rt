@@ -10,7 +10,7 @@ use super::feeds::{events_in, lacks_port};
 use super::files::{
     check_in, footers_in, graph_in, merge_in, ready_in, recover_in, simulate_in, why_in,
 };
-use super::sites::serve_in;
+use super::sites::{printing_in, serve_in};
 use command_tree::{Parsed, Values, parse};
 use std::alloc::{AllocError, Global};
 use std::convert::AsStr;
@@ -23,6 +23,10 @@ const ITEM_LIMITS: &str =
 const NO_START: &str =
     "error: without --journal a site needs --start\n\nFor more information, try '--help'.\n";
 
+/// What a site may print.
+const PRINTINGS: &str =
+    "[possible values: report, changes, none]\n\nFor more information, try '--help'.\n";
+
 /// What is wrong where two options differ about what Gerrit's lines are.
 const TWO_ANSWERS: &str =
     "error: the argument '--query' cannot be used with '--complete'\n\nFor more information, try '--help'.\n";
@@ -33,9 +37,9 @@ const NO_PORT: &str =
 
 /// Reads the words that follow the program's name: a command is answered only where `clap` finds no fault in them.
 /// `Usage` is a usage error: `clap` finds a fault other than a wish for help or for the version, an item is invalid, a
-/// site has neither a start nor a journal, two options of a feed exclude each other, or one of them needs a port that
-/// isn't named. Its text, and those of `Help` and `Version`, are `clap`'s, but for the last four. It costs O(bytes of
-/// the words).
+/// word names nothing that a site prints, a site has neither a start nor a journal, two options of a feed exclude each
+/// other, or one of them needs a port that isn't named. Its text, and those of `Help` and `Version`, are `clap`'s, but
+/// for the last five. It costs O(bytes of the words).
 pub fn read_words<'a, S: AsStr>(alloc: Global, words: &'a [S]) -> Asked<'a>
     ensures { WordsAsk (map S.text words.entry.now) result }
 {
@@ -82,13 +86,18 @@ fn named<'a>(
     }
 }
 
-/// The usage error of values in which `clap` found no fault: an invalid item, a site without a start, or options of a
-/// feed that exclude each other.
+/// The usage error of values in which `clap` found no fault: an invalid item, a word that names nothing to print, a site
+/// without a start, or options of a feed that exclude each other.
 fn misused<'a>(alloc: Global, name: &str, values: &Values<'_>) -> Asked<'a>
     ensures { IsUsage result }
 {
     if let Some(item) = values.text("CHANGE[,SET]") {
         return usage(no_item(alloc, item));
+    }
+    if let Some(word) = values.text("print")
+        && printing_in(values).is_none()
+    {
+        return usage(no_printing(alloc, word));
     }
     let text = match name {
         "serve" => NO_START,
@@ -101,6 +110,11 @@ fn misused<'a>(alloc: Global, name: &str, values: &Values<'_>) -> Asked<'a>
 /// The usage error of an invalid item.
 fn no_item(alloc: Global, item: &str) -> Result<String, AllocError> {
     format!(in alloc; "error: invalid value '{item}' for '<CHANGE[,SET]>': {ITEM_LIMITS}")
+}
+
+/// The usage error of a word that says nothing of what is printed.
+fn no_printing(alloc: Global, word: &str) -> Result<String, AllocError> {
+    format!(in alloc; "error: invalid value '{word}' for '--print <WHAT>'\n  {PRINTINGS}")
 }
 
 /// What is wrong with the words, in a text of our own.

@@ -4,7 +4,7 @@ use Rattle.clap.specs.Words.{App, app_of, new_app, new_rule, with_rule, with_sub
 use Rattle.clap.specs.declared.builder.command.Command.{Command}
 use Rattle.clap.specs.declared.builder.command.Command.TheViews.{out-Command}
 use Rattle.command_tree.specs.Rules.{flag_rule, needed, needed_number, number_rule, number_with, numbers_rule}
-use Rattle.command_tree.specs.Rules.{option_rule, several_rule}
+use Rattle.command_tree.specs.Rules.{option_rule, option_with, several_rule}
 
 -- `ready GATE SNAPSHOT`
 abbrev pub ready_app : App
@@ -71,10 +71,14 @@ ending_app =
     (number_with (codes "connections") (codes "1024") 1 65535))
     (flag_rule (codes "until-input-ends"))
 
+-- with what it prints
+abbrev pub printing_app : App
+printing_app = with_rule ending_app (option_with (codes "print") (codes "report"))
+
 -- with the files that keep its record
 abbrev pub serve_app : App
 serve_app =
-    with_rule (with_rule (with_rule ending_app (option_rule (codes "load"))) (option_rule (codes "save")))
+    with_rule (with_rule (with_rule printing_app (option_rule (codes "load"))) (option_rule (codes "save")))
     (option_rule (codes "journal"))
 
 -- ---- the others, and the program

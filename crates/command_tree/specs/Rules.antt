@@ -13,6 +13,10 @@ needed name = record (new_rule name) { required = true }
 abbrev pub option_rule : List ℕ → Rule
 option_rule name = record (new_rule name) { long = Some name; value_names = 1 }
 
+-- the same, with the value that it has where the option is left out
+abbrev pub option_with : List ℕ → List ℕ → Rule
+option_with name default = record (option_rule name) { defaults = default ∷ [] }
+
 -- `--NAME VALUE`, as often as there are values
 abbrev pub several_rule : List ℕ → Rule
 several_rule name = record (option_rule name) { action = Some Append }

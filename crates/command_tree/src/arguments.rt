@@ -2,7 +2,7 @@
 
 ghost use Rattle.std.specs.Prelude.{◌≡◌};
 ghost use Rattle.command_tree.specs.Rules.{IsRule, flag_rule, needed, number_rule, number_with};
-ghost use Rattle.command_tree.specs.Rules.{numbers_rule, option_rule, several_rule};
+ghost use Rattle.command_tree.specs.Rules.{numbers_rule, option_rule, option_with, several_rule};
 
 use clap::builder::ValueParser;
 use clap::{Arg, ArgAction};
@@ -115,6 +115,19 @@ pub fn option<'a>(alloc: Global, name: &'a str, value: &'a str, help: &'a str) -
         .long(name)
         .value_name(value)
         .help(help)
+}
+
+/// An option with a value that is `default` where the option is left out.
+pub fn default_text<'a>(
+    alloc: Global,
+    name: &'a str,
+    default: &'a str,
+    value: &'a str,
+    help: &'a str,
+) -> Arg<'a>
+    ensures { IsRule (option_with name.entry.now default.entry.now) result }
+{
+    option(alloc, name, value, help).default_value(default)
 }
 
 /// An option that may be there more than once, each time with a value.

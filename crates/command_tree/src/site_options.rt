@@ -1,12 +1,12 @@
 //! The arguments of `serve`.
 
 ghost use Rattle.std.specs.Prelude.{IfOk, codes};
-ghost use Rattle.command_tree.specs.Commands.{IsApp, ending_app, paced_app, peered_app, placed_app, serve_app};
+ghost use Rattle.command_tree.specs.Commands.{IsApp, ending_app, paced_app, peered_app, placed_app, printing_app, serve_app};
 ghost use Rattle.command_tree.specs.Rules.{IsRule, needed_number};
 
 use super::arguments::{
-    CONNECTIONS, IDLE, PAUSE, PEER, PORT, SESSIONS, SITE, START, WORKERS, default_option, file,
-    flag, number_option, numbers, option,
+    CONNECTIONS, IDLE, PAUSE, PEER, PORT, SESSIONS, SITE, START, WORKERS, default_option,
+    default_text, file, flag, number_option, numbers, option,
 };
 use super::program::GATE_HELP;
 use clap::{Arg, Command};
@@ -29,11 +29,25 @@ pub fn serve_command<'a>(alloc: Global) -> Result<Command<'a>, AllocError>
         "FILE",
         "The journal that keeps what is taken in",
     );
-    let ending = ending_command(alloc)?;
-    ending.arg(load)?.arg(save)?.arg(journal)
+    let printing = printing_command(alloc)?;
+    printing.arg(load)?.arg(save)?.arg(journal)
 }
 
 /// The command with all but the names of files.
+fn printing_command<'a>(alloc: Global) -> Result<Command<'a>, AllocError>
+    ensures { IfOk result (IsApp printing_app) }
+{
+    let print = default_text(
+        alloc,
+        "print",
+        "report",
+        "WHAT",
+        "What it prints: report, changes or none",
+    );
+    ending_command(alloc)?.arg(print)
+}
+
+/// The command with all but what it prints and the names of files.
 fn ending_command<'a>(alloc: Global) -> Result<Command<'a>, AllocError>
     ensures { IfOk result (IsApp ending_app) }
 {

@@ -1,3 +1,1 @@
-mod Passing
-mod OneReport
 mod StateLines

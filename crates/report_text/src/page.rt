@@ -16,7 +16,7 @@ const PAGE: usize = 4096;
 /// A page is written when less than this is left of it: no line of a report has more bytes.
 const LINE: usize = 96;
 
-/// Text that waits to be written.
+/// Text that waits to be written. It takes no memory beside itself.
 pub type Page = ArrayString<PAGE>;
 
 /// Writes a number on the page.
@@ -29,7 +29,8 @@ pub fn add_number(page: &mut Page, number: u64)
     page.push_str(buffer.format(number));
 }
 
-/// Sends the page to the drain where it may not hold one more line.
+/// Sends the page to the drain where it may not hold one more line, of at most 96 bytes. It costs O(n) for n bytes of the
+/// page, as `send`.
 pub fn make_room<D: Drain>(page: &mut Page, drain: &mut D) -> Result<(), Failed>
     ensures ok { OnOk result (PassesPage (D.taken drain.old) page.old.bytes (D.taken drain.new) page.new.bytes []) }
     ensures room { OnOk result (HasRoom page.new 96) }

@@ -77,7 +77,7 @@ pub fn add_ready(page: &mut Page, item: Item)
     page.push_str("\n");
 }
 
-/// Adds the line of an item that is left out.
+/// Adds the line of an item that is left out, in O(1).
 pub fn add_out(page: &mut Page, left: &Left)
     requires { HasRoom page.old 96 }
     ensures { page.new.bytes ≡ page.old.bytes ++ out_line left.now }
@@ -89,7 +89,7 @@ pub fn add_out(page: &mut Page, left: &Left)
     page.push_str("\n");
 }
 
-/// Adds the end line, with how many lines of each kind there are.
+/// Adds the end line, with how many lines of each kind there are, in O(1).
 pub fn add_end(page: &mut Page, ready: usize, out: usize)
     requires { HasRoom page.old 96 }
     ensures { page.new.bytes ≡ page.old.bytes ++ end_line ready out }
@@ -101,8 +101,8 @@ pub fn add_end(page: &mut Page, ready: usize, out: usize)
     page.push_str("\n");
 }
 
-/// Adds an item, as `101,2`.
-fn add_item(page: &mut Page, item: Item)
+/// Adds an item, as `101,2`, of at most 41 bytes, in O(1).
+pub fn add_item(page: &mut Page, item: Item)
     requires { HasRoom page.old 41 }
     ensures text { page.new.bytes ≡ page.old.bytes ++ item_text item }
     ensures grown { array_string_len page.new ≤ array_string_len page.old + 41 }

@@ -1,8 +1,10 @@
 //! Tests of the texts that are read and printed: footers, operations, snapshots, scripts, what scripts print, reports,
-//! states, and Gerrit's events, through the public functions of their crates. A crate of tests alone, as `record_tests`
-//! is.
+//! what changed from one report to the next, states, and Gerrit's events, through the public functions of their crates.
+//! A crate of tests alone, as `record_tests` is.
 #![tactic(auto)]
 
+#[cfg(test)]
+mod changes;
 #[cfg(test)]
 mod ends;
 #[cfg(test)]

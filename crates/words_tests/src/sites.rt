@@ -1,6 +1,6 @@
 //! Sites that words ask for.
 
-use command_line::{Asked, ServeWords, read_words};
+use command_line::{Asked, Printing, ServeWords, read_words};
 use std::alloc::Global;
 use std::process::Abort;
 use std::test::Fail;
@@ -28,10 +28,15 @@ fn numbers_of(serving: &ServeWords<'_>) -> (u16, usize, usize, u64) {
     )
 }
 
-/// After how many sessions the site ends, after how many silent milliseconds a session does, and whether the site ends
-/// with its input.
-fn ends_of(serving: &ServeWords<'_>) -> (u64, u64, bool) {
-    (serving.sessions, serving.idle_ms, serving.until_input_ends)
+/// After how many sessions the site ends, after how many silent milliseconds a session does, whether the site ends with
+/// its input, and what it prints.
+fn ends_of(serving: &ServeWords<'_>) -> (u64, u64, bool, Printing) {
+    (
+        serving.sessions,
+        serving.idle_ms,
+        serving.until_input_ends,
+        serving.prints,
+    )
 }
 
 /// The names of the snapshots and the journal.
@@ -62,6 +67,7 @@ fn with_defaults(alloc: Global) -> ServeWords<'static> {
         idle_ms: 0,
         connections: 1024,
         until_input_ends: false,
+        prints: Printing::Report,
         load: None,
         save: None,
         journal: None,
@@ -77,7 +83,7 @@ fn options_have_defaults(rt: HostRuntime) -> Result<(), Fail> {
 }
 
 /// Words with each option.
-const ALL: [&str; 27] = [
+const ALL: [&str; 29] = [
     "serve",
     "-",
     "8001",
@@ -98,6 +104,8 @@ const ALL: [&str; 27] = [
     "5",
     "--connections",
     "9",
+    "--print",
+    "changes",
     "--load",
     "a",
     "--save",
@@ -121,6 +129,7 @@ fn with_all(peers: Vec<u16>) -> ServeWords<'static> {
         idle_ms: 5,
         connections: 9,
         until_input_ends: true,
+        prints: Printing::Changes,
         load: Some("a"),
         save: Some("b"),
         journal: Some("c"),
@@ -203,4 +212,24 @@ fn ports_of_peers_follow_the_gate(rt: HostRuntime) -> Result<(), Fail> {
     let serving = serving_of(rt.alloc(), words.as_slice()).ok_or("a site")?;
     assert_eq!(rt; serving.peers.as_slice(), [1, 65535].as_slice());
     Ok(())
+}
+
+/// What a site prints by this word, if the word says so.
+fn printing_of(alloc: Global, word: &str) -> Option<Printing> {
+    let words = ["serve", "g", "--site=1", "--start=1", "--print", word];
+    let serving = serving_of(alloc, words.as_slice())?;
+    Some(serving.prints)
+}
+
+#[test]
+fn each_word_says_what_is_printed(rt: HostRuntime) {
+    for (word, wanted) in [
+        ("report", Some(Printing::Report)),
+        ("changes", Some(Printing::Changes)),
+        ("none", Some(Printing::Nothing)),
+        ("Report", None),
+        ("", None),
+    ] {
+        assert_eq!(rt; printing_of(rt.alloc(), word), wanted);
+    }
 }

@@ -187,6 +187,7 @@ Options:
       --idle <MS>         How long a session may be silent; 0 means no limit [default: 0]
       --connections <N>   How many connections may be open at once, 1 to 65535 [default: 1024]
       --until-input-ends  Ends in order when standard input ends, or at its line stop
+      --print <WHAT>      What it prints: report, changes or none [default: report]
       --load <FILE>       The snapshot to begin with
       --save <FILE>       The snapshot that is written at the end
       --journal <FILE>    The journal that keeps what is taken in
@@ -394,8 +395,8 @@ const OPTIONS: [(&str, &str); 14] = [
     ),
 ];
 
-/// Numbers one beyond their limits, and what is no number.
-const NUMBERS: [(&str, &str); 25] = [
+/// Numbers one beyond their limits, and what is no number, or no word of an option.
+const NUMBERS: [(&str, &str); 26] = [
     (
         "why g s x",
         "error: invalid value 'x' for '<CHANGE[,SET]>': CHANGE and SET are numbers from 0 to 4294967295",
@@ -479,6 +480,10 @@ const NUMBERS: [(&str, &str); 25] = [
     (
         "serve g 8101 65536 --site 1 --start 1",
         "error: invalid value '65536' for '[PEER]...': 65536 is not in 1..=65535",
+    ),
+    (
+        "serve g --site 1 --start 1 --print all",
+        "error: invalid value 'all' for '--print <WHAT>'\n  [possible values: report, changes, none]",
     ),
     (
         "serve g --site 1",

@@ -1,6 +1,6 @@
 use Rattle.std.proofs.Common.{rules, refl, ◌∙◌}
 use Rattle.report_text.specs.Report.{ready_line}
-use Rattle.report_text.proofs.Passing.{line_added, lines_cut}
+use Rattle.report_text.specs.PageLaws.{line_added, lines_cut}
 use Rattle.report_text.proofs.report.write_ready.Goals as goal
 
 pub returns-in_err-make_room-clause-err : goal.returns-in_err-make_room-clause-err

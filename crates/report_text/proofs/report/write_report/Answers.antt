@@ -1,6 +1,6 @@
 use Rattle.std.proofs.Common.{rules, ◌++◌, flat_map, length, refl}
 use Rattle.report_text.specs.Report.{ready_line, out_line, end_line}
-use Rattle.report_text.proofs.Passing.{Passes-then, Passes-room, cut_before, cut_in_last, IsCut-more}
+use Rattle.report_text.specs.PageLaws.{Passes-then, Passes-room, cut_before, cut_in_last, IsCut-more}
 use Rattle.report_text.proofs.report.write_report.Goals as goal
 
 pub returns-in_err-write_out-clause-cut : goal.returns-in_err-write_out-clause-cut

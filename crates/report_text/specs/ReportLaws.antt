@@ -35,7 +35,7 @@ same_digits (c ∷ a) (d ∷ b) s t x y p q low_x low_y e =
     let later = same_digits a b s t x y p.1 q.1 low_x low_y rest in
     (ap (λ k. k ∷ a) first ∙ ap (λ l. d ∷ l) later.0, later.1)
 
-same_number : (m n : ℕ) (s t : List ℕ) (x y : ℕ) → m < 2 ^ 64 → n < 2 ^ 64 → x < 48 → y < 48
+pub same_number : (m n : ℕ) (s t : List ℕ) (x y : ℕ) → m < 2 ^ 64 → n < 2 ^ 64 → x < 48 → y < 48
     → decimal m ++ x ∷ s ≡ decimal n ++ y ∷ t → (m ≡ n) × (x ∷ s ≡ y ∷ t)
 same_number m n s t x y small_m small_n low_x low_y e =
     let a = decimal_is_IsNumeral m small_m in
@@ -51,7 +51,7 @@ item_then item rest =
     append_assoc (decimal item.change ++ codes ",") (decimal item.set) rest
     ∙ append_assoc (decimal item.change) (codes ",") (decimal item.set ++ rest)
 
-same_item : (a b : Item) (s t : List ℕ) (x y : ℕ) → IsSmallItem a → IsSmallItem b → x < 48 → y < 48
+pub same_item : (a b : Item) (s t : List ℕ) (x y : ℕ) → IsSmallItem a → IsSmallItem b → x < 48 → y < 48
     → item_text a ++ x ∷ s ≡ item_text b ++ y ∷ t → (a ≡ b) × (x ∷ s ≡ y ∷ t)
 same_item a b s t x y p q low_x low_y e =
     let change = same_number a.change b.change (decimal a.set ++ x ∷ s) (decimal b.set ++ y ∷ t) 44 44 p.change q.change (omega arith) (omega arith) (sym (item_then a (x ∷ s)) ∙ e ∙ item_then b (y ∷ t)) in
@@ -61,7 +61,7 @@ same_item a b s t x y p q low_x low_y e =
 
 -- ---- refusals, up to the end of the line
 
-abbrev head : List ℕ → ℕ
+abbrev pub head : List ℕ → ℕ
 head [] = 0
 head (x ∷ xs) = x
 
@@ -183,13 +183,13 @@ same_refusal (Dependency m) (Dependency n) s t p q e =
 
 -- ---- lines
 
-line_text : (text rest : List ℕ) → (text ++ 10 ∷ []) ++ rest ≡ text ++ 10 ∷ rest
-line_text text rest = append_assoc text (10 ∷ []) rest
+pub line_then : (text rest : List ℕ) → (text ++ 10 ∷ []) ++ rest ≡ text ++ 10 ∷ rest
+line_then text rest = append_assoc text (10 ∷ []) rest
 
 same_ready : (a b : Item) (s t : List ℕ) → IsSmallItem a → IsSmallItem b → ready_line a ++ s ≡ ready_line b ++ t
     → (a ≡ b) × (s ≡ t)
 same_ready a b s t p q e =
-    let whole = sym (line_text (codes "ready " ++ item_text a) s) ∙ e ∙ line_text (codes "ready " ++ item_text b) t in
+    let whole = sym (line_then (codes "ready " ++ item_text a) s) ∙ e ∙ line_then (codes "ready " ++ item_text b) t in
     let rest : item_text a ++ 10 ∷ s ≡ item_text b ++ 10 ∷ t = cc (whole) in
     let item = same_item a b s t 10 10 p q (omega arith) (omega arith) rest in
     (item.0, cc (item.1))
@@ -197,11 +197,11 @@ same_ready a b s t p q e =
 out_then : (left : Left) (rest : List ℕ)
     → out_line left ++ rest ≡ codes "out " ++ (item_text left.item ++ 32 ∷ (refusal_text left.refusal ++ 10 ∷ rest))
 out_then left rest =
-    line_text (codes "out " ++ item_text left.item ++ codes " " ++ refusal_text left.refusal) rest
+    line_then (codes "out " ++ item_text left.item ++ codes " " ++ refusal_text left.refusal) rest
     ∙ append_assoc (codes "out " ++ item_text left.item ++ codes " ") (refusal_text left.refusal) (10 ∷ rest)
     ∙ append_assoc (codes "out " ++ item_text left.item) (codes " ") (refusal_text left.refusal ++ 10 ∷ rest)
 
-same_out : (a b : Left) (s t : List ℕ) → IsSmallItem a.item → IsSmallItem b.item → IsSmallRefusal a.refusal
+pub same_out : (a b : Left) (s t : List ℕ) → IsSmallItem a.item → IsSmallItem b.item → IsSmallRefusal a.refusal
     → IsSmallRefusal b.refusal
     → out_line a ++ s ≡ out_line b ++ t → (printed a ≡ printed b) × (s ≡ t)
 same_out a b s t item_a item_b p q e =

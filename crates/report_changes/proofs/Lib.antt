@@ -1,0 +1,4 @@
+mod Members
+mod OneGroup
+mod Texts
+mod OneReading
