@@ -18,5 +18,5 @@ mod numbers;
 mod sites;
 mod words;
 
-pub use asked::{Answer, Asked, Command, EventWords, ServeWords};
+pub use asked::{Answer, Asked, Command, EventWords, RecoverWords, ServeWords};
 pub use words::read_words;
