@@ -586,8 +586,8 @@ def snapshot(ops) -> bytes:
 HEADER = b"reviewgate 2\n"
 
 
-def recovered(text: bytes) -> bytes:
-    """The snapshot of the operations of a journal's whole lines."""
+def recovered(text: bytes, without=(), until: int = 2**64 - 1) -> bytes:
+    """The snapshot of the operations of a journal's whole lines, but for those that are to be left out."""
     if HEADER.startswith(text) and text != HEADER:
         return snapshot([])
     if not text.startswith(HEADER):
@@ -598,13 +598,14 @@ def recovered(text: bytes) -> bytes:
             record.take(read_op(line))
         except Refused as cause:
             raise Refused(f"journal 2 BadLine {number} {str(cause).partition(' ')[2]}") from None
-    return snapshot(record.ops)
+    return snapshot([op for op in record.ops if (op.site, op.start) not in without and op.time <= until])
 
 
-def recover(text: bytes):
-    """What `recover` prints of a journal, what the error output says, and the status."""
+def recover(text: bytes, without=(), until: int = 2**64 - 1):
+    """What `recover` prints of a journal, but for the operations of some sites under some starts and those above a time;
+    what the error output says, and the status."""
     try:
-        printed = recovered(text)
+        printed = recovered(text, without, until)
     except Refused as cause:
         return b"", f"reviewgate: {cause}\n".encode(), 1
     torn = len(text) - (text.rfind(b"\n") + 1)

@@ -1,11 +1,11 @@
 -- Which command words name, and what they ask for by that.
-use Rattle.std.proofs.Common.{◌≡◌, ◌⊎◌, ◌∙◌, ap, sym, subst, inr, ℕ, List, Option, None, Some, if◌then◌else◌, codes, refl}
+use Rattle.std.proofs.Common.{◌≡◌, ◌∙◌, ap, sym, subst, inr, List, Option, None, Some, if◌then◌else◌, codes, refl}
 use Rattle.std.specs.Str.{bytes_eq}
 use Rattle.command_tree.specs.Matching.{AreFaultlessWords, Matched, Row, Text, matched_of}
 use Rattle.command_line.specs.declared.asked.Asked.{Asked}
 use Rattle.command_line.specs.declared.asked.Asked.TheVariants.{Events, Help, NoMemory, Recover, Run, Serve, Usage}
 use Rattle.command_line.specs.declared.asked.Asked.TheVariants.{Version}
-use Rattle.command_line.specs.Asking.{WordsAsk, IsAskedByWords, IsNothing, Means, Name, ArgumentsSay, check, events, footers, graph, merge}
+use Rattle.command_line.specs.Asking.{WordsAsk, IsAskedByWords, Means, Name, ArgumentsSay, check, events, footers, graph, merge}
 use Rattle.command_line.specs.Asking.{ready, recover, serve, simulate, text_of, why}
 use Rattle.command_line.specs.Values.{Finds}
 

@@ -1,20 +1,24 @@
 -- When the values of arguments say no number, no item and no command.
-use Rattle.std.proofs.Common.{◌≡◌, ◌∙◌, ◌<◌, ℕ, List, [], ◌∷◌, map, length, get_or, Option, None, Some, Bool, true, false}
+use Rattle.std.proofs.Common.{◌≡◌, ◌∙◌, ◌<◌, ℕ, List, [], ◌∷◌, map, length, get_or, Option, None, Some, Bool, true}
+use Rattle.std.proofs.Common.{false}
 use Rattle.std.proofs.Common.{not, Bor, option_map, is_some, sym, ap, subst, arith, codes}
-use Rattle.std.specs.Prelude.{MatchBool}
 use Rattle.std.specs.List.{AllZip, position_or_len, before_first, after_first}
 use Rattle.std.proofs.lemmas.Option.{slice_get-get_or}
 use Rattle.lattice_core.specs.ZipLaws.{AllZip-at}
 use Rattle.command_tree.specs.Matching.{Row, Text, first_of}
 use Rattle.command_line.specs.declared.asked.Asked.{Asked}
-use Rattle.command_line.specs.declared.asked.Asked.TheVariants.{Events, Run, Serve}
+use Rattle.command_line.specs.declared.asked.Asked.TheVariants.{Events, Recover, Run, Serve}
 use Rattle.command_line.specs.declared.asked.Command.TheVariants.{Footers, Graph, Why}
 use Rattle.command_line.specs.declared.asked.EventWords.{EventWords}
+use Rattle.command_line.specs.declared.asked.RecoverWords.{RecoverWords}
 use Rattle.command_line.specs.declared.asked.ServeWords.{ServeWords}
-use Rattle.command_line.specs.Asking.{AreFeedOptions, AreOptions, HasStart, ArgumentsSay, events, footers, graph, serve, why}
-use Rattle.command_line.specs.Values.{Finds, HasArgument, GivesAny, GivesItem, GivesNumber, NamesItem, Writes, is_comma}
+use Rattle.command_line.specs.Asking.{AreFeedOptions, AreOptions, ArgumentsSay, IsRecovery, events, footers}
+use Rattle.command_line.specs.Asking.{graph, recover, serve, why}
+use Rattle.command_line.specs.Values.{Finds, HasArgument, GivesAny, GivesItem, GivesNumber, NamesItem, NamesRow}
+use Rattle.command_line.specs.Values.{Writes, is_comma}
 
-same_text : (rows : List Row) (argument text other : Text) → HasArgument rows argument text → HasArgument rows argument other
+same_text : (rows : List Row) (argument text other : Text) → HasArgument rows argument text
+    → HasArgument rows argument other
     → text ≡ other
 same_text rows argument text other p q = cc
 
@@ -46,13 +50,20 @@ zip_under f R [] (z ∷ zs) all = absurd all
 zip_under f R (x ∷ xs) [] all = absurd all
 zip_under f R (x ∷ xs) (z ∷ zs) all = (all.0, zip_under f R xs zs all.1)
 
+-- texts of which one says nothing, say no list
+pub none_said : {T : Type 0} (Says : Text → T → Type 0) (texts : List (Bor Text)) (index : ℕ) (d : Bor Text)
+    → index < length texts → ((said : T) → ¬ Says (get_or texts index d).now said) → (all_said : List T)
+    → ¬ AllZip Says (map (λ text. text.now) texts) all_said
+none_said Says texts index d within none all_said all =
+    let under = zip_under (λ text. text.now) Says texts all_said all in
+    let at = AllZip-at (λ text said. Says text.now said) texts all_said under index (get_or texts index d) (slice_get-get_or texts index d within) in
+    none at.0 at.2
+
 pub none_unwritten : (least most : ℕ) (texts : List (Bor Text)) (index : ℕ) (d : Bor Text) → index < length texts
     → ((number : ℕ) → ¬ Writes least most (get_or texts index d).now number) → (numbers : List ℕ)
     → ¬ AllZip (Writes least most) (map (λ text. text.now) texts) numbers
 none_unwritten least most texts index d within none numbers all =
-    let under = zip_under (λ text. text.now) (Writes least most) texts numbers all in
-    let at = AllZip-at (λ text number. Writes least most text.now number) texts numbers under index (get_or texts index d) (slice_get-get_or texts index d within) in
-    none at.0 at.2
+    none_said (Writes least most) texts index d within none numbers all
 
 -- ---- items
 
@@ -67,6 +78,12 @@ pub no_item_after : (text : Text) → position_or_len is_comma text < length tex
     → ¬ NamesItem text item.0 item.1
 no_item_after text has none (change, None) names = let lacks = names.0 in omega (arith, has, lacks)
 no_item_after text has none (change, Some set) names = none set names.2
+
+-- ---- sites with starts
+
+pub no_row_before : (text : Text) → ((number : ℕ) → ¬ Writes 0 65535 (before_first is_comma text) number)
+    → (row : ℕ × ℕ) → ¬ NamesRow text row
+no_row_before text none (site, start) names = none site names.1
 
 pub item_found : (rows : List Row) (text : Text) (result : Option (ℕ × Option ℕ))
     → HasArgument rows (codes "CHANGE[,SET]") text → Finds (λ item. NamesItem text item.0 item.1) result
@@ -96,6 +113,11 @@ pub no_serve : (rows : List Row) → ((words : ServeWords) → ¬ AreOptions row
     → ¬ ArgumentsSay serve rows asked
 no_serve rows none (Serve words) says = none words says.0
 no_serve rows none asked says = says
+
+pub no_recover : (rows : List Row) → ((words : RecoverWords) → ¬ IsRecovery rows words) → (asked : Asked)
+    → ¬ ArgumentsSay recover rows asked
+no_recover rows none (Recover words) says = none words says
+no_recover rows none asked says = says
 
 pub no_events : (rows : List Row) → ((words : EventWords) → ¬ AreFeedOptions rows words) → (asked : Asked)
     → ¬ ArgumentsSay events rows asked

@@ -1,6 +1,6 @@
 -- What the words of a command line ask for: each command's arguments, with the limits of their numbers, and what they
 -- say.
-use Rattle.std.specs.Prelude.{◌≡◌, ◌⊎◌, ◌↔◌, ℕ, IsTrue, List, None, Option, Some, codes, map, option_map, string_bytes}
+use Rattle.std.specs.Prelude.{◌≡◌, ◌⊎◌, ◌↔◌, IsTrue, List, None, Some, codes, map, option_map, string_bytes}
 use Rattle.command_tree.specs.Matching.{AreFaulty, AskForHelp, AskForVersion, HasFlag, AreFaultlessWords, Matched, Row}
 use Rattle.command_tree.specs.Matching.{Text, first_of, matched_of}
 use Rattle.command_line.specs.declared.asked.Answer.{Answer}
@@ -13,8 +13,10 @@ use Rattle.command_line.specs.declared.asked.Command.TheVariants.{Why}
 use Rattle.command_line.specs.declared.asked.EventWords.{EventWords}
 use Rattle.command_line.specs.declared.asked.Printing.{Printing}
 use Rattle.command_line.specs.declared.asked.Printing.TheVariants.{Report, Changes, Nothing}
+use Rattle.command_line.specs.declared.asked.RecoverWords.{RecoverWords}
 use Rattle.command_line.specs.declared.asked.ServeWords.{ServeWords}
-use Rattle.command_line.specs.Values.{HasArgument, GivesAny, GivesItem, GivesNumber, GivesNumbers, GivesTexts}
+use Rattle.command_line.specs.Values.{HasArgument, GivesAny, GivesItem, GivesNumber, GivesNumbers, GivesRows}
+use Rattle.command_line.specs.Values.{GivesTexts}
 
 -- ---- what the arguments of each command say
 
@@ -31,7 +33,7 @@ GivesPrinting rows prints = HasArgument rows (codes "print") (printing_word prin
 pub record AreOptions (rows : List Row) (words : ServeWords) : Type 0 where
   pub gate : HasArgument rows (codes "GATE") words.gate.now
   pub site : GivesNumber rows (codes "site") 1 65535 words.site
-  pub start : GivesAny rows (codes "start") 1 4294967295 words.start
+  pub start : GivesAny rows (codes "start") 1 4294967294 words.start
   pub port : GivesNumber rows (codes "port") 0 65535 words.port
   pub workers : GivesNumber rows (codes "workers") 1 6 words.workers
   pub pause : GivesNumber rows (codes "pause") 1 600000 words.pause_ms
@@ -50,7 +52,14 @@ HasStart rows = first_of (codes "start") rows ≡ None → ¬ (first_of (codes "
 
 -- the arguments ask for this site
 abbrev pub IsSite : List Row → ServeWords → Type 0
-IsSite rows words = AreOptions rows words × GivesNumbers rows (codes "PEER") 1 65535 words.peers.items × HasStart rows
+IsSite rows words = AreOptions rows words × GivesNumbers rows (codes "PEER") 1 65535 words.peers.items
+    × GivesNumbers rows (codes "sites") 1 65535 words.sites.items × HasStart rows
+
+-- the arguments ask for this recovery
+pub record IsRecovery (rows : List Row) (words : RecoverWords) : Type 0 where
+  pub journal : HasArgument rows (codes "JOURNAL") words.journal.now
+  pub without : GivesRows rows (codes "without") words.without.items
+  pub until : GivesAny rows (codes "until") 0 18446744073709551615 words.until
 
 -- what Gerrit's lines are, by two options of which one is there at most
 abbrev pub GivesAnswer : List Row → Answer → Type 0
@@ -121,7 +130,7 @@ ArgumentsSay check rows (Run (Check gate snapshot is_strict)) =
 ArgumentsSay simulate rows (Run (Simulate script gate)) =
     HasArgument rows (codes "SCRIPT") script.now × (first_of (codes "GATE") rows ≡ option_map (λ name. name.now) gate)
 ArgumentsSay serve rows (Serve words) = IsSite rows words
-ArgumentsSay recover rows (Recover journal) = HasArgument rows (codes "JOURNAL") journal.now
+ArgumentsSay recover rows (Recover words) = IsRecovery rows words
 ArgumentsSay events rows (Events words) = IsFeed rows words
 ArgumentsSay name rows asked = ⊥
 
@@ -132,7 +141,8 @@ abbrev pub IsAskedByWords : Matched → Asked → Type 0
 IsAskedByWords matched asked =
     (name : Name) × (rows : List Row) × (matched ≡ Some (text_of name, rows)) × ArgumentsSay name rows asked
 
--- it is none, or they say nothing: a start or a port is missing, an item or a word is none, or two options differ
+-- it is none, or they say nothing: a start or a port is missing, an item, a word, or a site with a start is none, or
+-- two options differ
 abbrev pub IsNothing : Matched → Type 0
 IsNothing matched = (asked : Asked) → ¬ IsAskedByWords matched asked
 

@@ -48,6 +48,16 @@ NamesItem text change (Some set) =
     (position_or_len is_comma text < length text) × Writes 0 4294967295 (before_first is_comma text) change
     × Writes 0 4294967295 (after_first is_comma text) set
 
+-- a text names a site with a start: their numbers with a comma between
+abbrev pub NamesRow : List ℕ → ℕ × ℕ → Type 0
+NamesRow text row =
+    (position_or_len is_comma text < length text) × Writes 0 65535 (before_first is_comma text) row.0
+    × Writes 0 4294967295 (after_first is_comma text) row.1
+
+-- the option's values name these sites with starts, one after the other
+abbrev pub GivesRows : List Row → List ℕ → List (ℕ × ℕ) → Type 0
+GivesRows rows option = AllZip NamesRow (unwrap_or (all_of option rows) [])
+
 -- the argument names this item
 abbrev pub GivesItem : List Row → ℕ → Option ℕ → Type 0
 GivesItem rows change set = (text : List ℕ) × HasArgument rows (codes "CHANGE[,SET]") text × NamesItem text change set

@@ -7,8 +7,8 @@ pub enum Asked<'a> {
     Run(Command<'a>),
     /// To run a site.
     Serve(ServeWords<'a>),
-    /// To recover the journal of this name.
-    Recover(&'a str),
+    /// To recover a journal.
+    Recover(RecoverWords<'a>),
     /// To feed what Gerrit writes.
     Events(EventWords<'a>),
     /// The help text, for the output.
@@ -76,9 +76,11 @@ pub struct ServeWords<'a> {
     pub gate: &'a str,
     /// The ports of the peers.
     pub peers: Vec<u16>,
+    /// The numbers of the sites whose operations it takes from its peers, beside its own; none stands for all.
+    pub sites: Vec<u16>,
     /// The site's number.
     pub site: u16,
-    /// The start of what it takes in; none is only where a journal is named.
+    /// The start of what it takes in, from 1 to 4,294,967,294; none is only where a journal is named.
     pub start: Option<u32>,
     /// The port that it listens at; 0 for one that is free.
     pub port: u16,
@@ -113,6 +115,17 @@ pub enum Printing {
     Changes,
     /// Nothing.
     Nothing,
+}
+
+/// What a journal is recovered with.
+#[derive(Drop)]
+pub struct RecoverWords<'a> {
+    /// The journal's name.
+    pub journal: &'a str,
+    /// The sites with the starts whose operations are left out.
+    pub without: Vec<(u16, u32)>,
+    /// The greatest time of an operation that isn't left out; without it any time will do.
+    pub until: Option<u64>,
 }
 
 /// What Gerrit's lines are.

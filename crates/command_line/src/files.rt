@@ -1,12 +1,15 @@
 //! What the arguments of the commands over files say.
 
 ghost use Rattle.command_tree.specs.Rows.{rows_in};
-ghost use Rattle.command_line.specs.Asking.{ArgumentsSay, check, footers, graph, merge, ready, recover, simulate, why};
-ghost use Rattle.command_line.specs.Values.{Finds};
+ghost use Rattle.std.specs.Prelude.{IfOk, codes};
+ghost use Rattle.command_line.specs.Asking.{ArgumentsSay, IsRecovery, check, footers, graph, merge, ready, recover};
+ghost use Rattle.command_line.specs.Asking.{simulate, why};
+ghost use Rattle.command_line.specs.Values.{Finds, GivesRows};
 
-use super::asked::{Asked, Command};
-use super::numbers::{any_long_in, item_in, long_in};
-use command_tree::{AROUND, CHANGE, Values};
+use super::asked::{Asked, Command, RecoverWords};
+use super::numbers::{any_in, any_long_in, item_in, long_in, rows_of_sites};
+use command_tree::{AROUND, CHANGE, UNTIL, Values};
+use std::alloc::{AllocError, Global};
 
 /// `ready GATE SNAPSHOT`
 pub fn ready_in<'a>(values: &Values<'a>) -> Option<Asked<'a>>
@@ -92,10 +95,27 @@ pub fn simulate_in<'a>(values: &Values<'a>) -> Option<Asked<'a>>
     Some(Asked::Run(Command::Simulate { script, gate }))
 }
 
-/// `recover JOURNAL`
-pub fn recover_in<'a>(values: &Values<'a>) -> Option<Asked<'a>>
-    ensures { Finds (ArgumentsSay recover (rows_in values.now)) result }
+/// `recover JOURNAL [--without SITE,START].. [--until TIME]`
+pub fn recover_in<'a>(alloc: Global, values: &Values<'a>) -> Result<Option<Asked<'a>>, AllocError>
+    ensures { IfOk result (Finds (ArgumentsSay recover (rows_in values.now))) }
 {
-    let journal = values.text("JOURNAL")?;
-    Some(Asked::Recover(journal))
+    let Some(without) = rows_of_sites(alloc, values, "without")? else {
+        return Ok(None);
+    };
+    match recovering_in(values, without) {
+        Some(words) => Ok(Some(Asked::Recover(words))),
+        None => Ok(None),
+    }
+}
+
+/// What a journal is recovered with, without the operations of these sites and starts.
+fn recovering_in<'a>(values: &Values<'a>, without: Vec<(u16, u32)>) -> Option<RecoverWords<'a>>
+    requires { GivesRows (rows_in values.now) (codes "without") without.items }
+    ensures { Finds (IsRecovery (rows_in values.now)) result }
+{
+    Some(RecoverWords {
+        journal: values.text("JOURNAL")?,
+        without,
+        until: any_in(values, UNTIL)?,
+    })
 }

@@ -21,5 +21,7 @@ mod numbers;
 mod sites;
 mod words;
 
-pub use asked::{Answer, Asked, Command, EventWords, Printing, ServeWords};
+pub use asked::{
+    Answer, Asked, Command, EventWords, Printing, RecoverWords, ServeWords,
+};
 pub use words::read_words;

@@ -3,7 +3,8 @@
 ghost use Rattle.std.specs.Prelude.{◌≡◌, ◌<◌, ◌≤◌, ◌^◌, IfOk, IfSome, ℕ, List, MatchOption, map, option_map};
 ghost use Rattle.std.specs.List.{AllZip};
 ghost use Rattle.command_tree.specs.Rows.{rows_in};
-ghost use Rattle.command_line.specs.Values.{Finds, GivesAny, GivesItem, GivesNumber, GivesNumbers, NamesItem, Writes};
+ghost use Rattle.command_line.specs.Values.{Finds, GivesAny, GivesItem, GivesNumber, GivesNumbers, GivesRows};
+ghost use Rattle.command_line.specs.Values.{NamesItem, NamesRow, Writes};
 
 use command_tree::{Number, Values};
 use std::alloc::{AllocError, Global};
@@ -72,6 +73,17 @@ pub fn any_long_in(values: &Values<'_>, number: Number) -> Option<Option<u32>>
     Some(Some(long))
 }
 
+/// The number of an option, where it isn't left out.
+pub fn any_in(values: &Values<'_>, number: Number) -> Option<Option<u64>>
+    ensures { Finds (GivesAny (rows_in values.now) number.name.now number.least number.most) result }
+{
+    if values.text(number.name).is_none() {
+        return Some(None);
+    }
+    let given = number_in(values, number)?;
+    Some(Some(given))
+}
+
 /// The numbers of an argument that has as many as there are, each of at most 16 bits; none where a word is no such
 /// number.
 pub fn shorts_in(
@@ -105,6 +117,46 @@ fn shorts_of(alloc: Global, texts: &[&str], number: Number) -> Result<Option<Vec
         shorts.push(short as u16)?;
     }
     Ok(Some(shorts))
+}
+
+/// The sites with their starts that an option names, which may be there more than once; none where a word names none.
+pub fn rows_of_sites(
+    alloc: Global,
+    values: &Values<'_>,
+    option: &str,
+) -> Result<Option<Vec<(u16, u32)>>, AllocError>
+    ensures { IfOk result
+        (λ read. Finds (GivesRows (rows_in values.now) option.now) (option_map (λ rows. rows.items) read)) }
+{
+    match values.texts(option) {
+        None => Ok(Some(Vec::new(alloc))),
+        Some(texts) => rows_of(alloc, texts),
+    }
+}
+
+/// The sites with their starts that texts name; none where one of them names none.
+fn rows_of(alloc: Global, texts: &[&str]) -> Result<Option<Vec<(u16, u32)>>, AllocError>
+    ensures { IfOk result
+        (λ read. Finds (AllZip NamesRow (map (λ text. text.now) texts.now)) (option_map (λ rows. rows.items) read)) }
+{
+    let mut rows = Vec::new(alloc);
+    for text in texts {
+        let Some(row) = row_of(text) else {
+            return Ok(None);
+        };
+        rows.push(row)?;
+    }
+    Ok(Some(rows))
+}
+
+/// The site with a start that a text names.
+fn row_of(text: &str) -> Option<(u16, u32)>
+    ensures { Finds (NamesRow text.now) result }
+{
+    let (site, start) = text.split_once(',')?;
+    let site = number_within(site, 0, 65_535)?;
+    let start = long_of(start)?;
+    Some((site as u16, start))
 }
 
 /// The item that `CHANGE[,SET]` names.

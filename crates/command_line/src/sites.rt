@@ -8,7 +8,9 @@ ghost use Rattle.command_line.specs.declared.asked.ServeWords.{ServeWords};
 
 use super::asked::{Asked, Printing, ServeWords};
 use super::numbers::{any_long_in, number_in, short_in, shorts_in};
-use command_tree::{CONNECTIONS, IDLE, PAUSE, PEER, PORT, SESSIONS, SITE, START, Values, WORKERS};
+use command_tree::{
+    CONNECTIONS, IDLE, PAUSE, PEER, PORT, SESSIONS, SITE, SITES, START, Values, WORKERS,
+};
 use std::alloc::{AllocError, Global};
 
 /// `serve GATE [PEER].. --site N [option]..`
@@ -18,23 +20,28 @@ pub fn serve_in<'a>(alloc: Global, values: &Values<'a>) -> Result<Option<Asked<'
     let Some(peers) = shorts_in(alloc, values, PEER)? else {
         return Ok(None);
     };
+    let Some(sites) = shorts_in(alloc, values, SITES)? else {
+        return Ok(None);
+    };
     if lacks_start(values) {
         return Ok(None);
     }
-    match serving_in(values, peers) {
+    match serving_in(values, peers, sites) {
         Some(words) => Ok(Some(Asked::Serve(words))),
         None => Ok(None),
     }
 }
 
-/// What a site with these peers is run with.
-fn serving_in<'a>(values: &Values<'a>, peers: Vec<u16>) -> Option<ServeWords<'a>>
-    ensures some { IfSome result (λ words. AreOptions (rows_in values.now) words × (words.peers ≡ peers)) }
+/// What a site with these peers is run with, which takes in operations of these sites.
+fn serving_in<'a>(values: &Values<'a>, peers: Vec<u16>, sites: Vec<u16>) -> Option<ServeWords<'a>>
+    ensures some { IfSome result (λ words. AreOptions (rows_in values.now) words × (words.peers ≡ peers)
+        × (words.sites ≡ sites)) }
     ensures none { IfNone result ((words : ServeWords) → ¬ AreOptions (rows_in values.now) words) }
 {
     Some(ServeWords {
         gate: values.text("GATE")?,
         peers,
+        sites,
         site: short_in(values, SITE)?,
         start: any_long_in(values, START)?,
         port: short_in(values, PORT)?,

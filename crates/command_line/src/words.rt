@@ -27,6 +27,10 @@ const NO_START: &str =
 const PRINTINGS: &str =
     "[possible values: report, changes, none]\n\nFor more information, try '--help'.\n";
 
+/// What is wrong where `--without` names no site with a start.
+const NO_ROW: &str =
+    "error: --without needs SITE,START, numbers from 0 to 65535 and from 0 to 4294967295\n\nFor more information, try '--help'.\n";
+
 /// What is wrong where two options differ about what Gerrit's lines are.
 const TWO_ANSWERS: &str =
     "error: the argument '--query' cannot be used with '--complete'\n\nFor more information, try '--help'.\n";
@@ -37,9 +41,9 @@ const NO_PORT: &str =
 
 /// Reads the words that follow the program's name: a command is answered only where `clap` finds no fault in them.
 /// `Usage` is a usage error: `clap` finds a fault other than a wish for help or for the version, an item is invalid, a
-/// word names nothing that a site prints, a site has neither a start nor a journal, two options of a feed exclude each
-/// other, or one of them needs a port that isn't named. Its text, and those of `Help` and `Version`, are `clap`'s, but
-/// for the last five. It costs O(bytes of the words).
+/// word names nothing that a site prints, a site has neither a start nor a journal, `--without` names no site with a
+/// start, two options of a feed exclude each other, or one of them needs a port that isn't named. Its text, and those of
+/// `Help` and `Version`, are `clap`'s, but for the last six. It costs O(bytes of the words).
 pub fn read_words<'a, S: AsStr>(alloc: Global, words: &'a [S]) -> Asked<'a>
     ensures { WordsAsk (map S.text words.entry.now) result }
 {
@@ -80,14 +84,14 @@ fn named<'a>(
         "check" => Ok(check_in(values)),
         "simulate" => Ok(simulate_in(values)),
         "serve" => serve_in(alloc, values),
-        "recover" => Ok(recover_in(values)),
+        "recover" => recover_in(alloc, values),
         "events" => events_in(alloc, values),
         _ => Ok(None),
     }
 }
 
 /// The usage error of values in which `clap` found no fault: an invalid item, a word that names nothing to print, a site
-/// without a start, or options of a feed that exclude each other.
+/// without a start, an invalid pair of a site and a start, or options of a feed that exclude each other.
 fn misused<'a>(alloc: Global, name: &str, values: &Values<'_>) -> Asked<'a>
     ensures { IsUsage result }
 {
@@ -101,6 +105,7 @@ fn misused<'a>(alloc: Global, name: &str, values: &Values<'_>) -> Asked<'a>
     }
     let text = match name {
         "serve" => NO_START,
+        "recover" => NO_ROW,
         _ if lacks_port(values) => NO_PORT,
         _ => TWO_ANSWERS,
     };

@@ -4,7 +4,7 @@ use Rattle.clap.specs.Words.{App, app_of, new_app, new_rule, with_rule, with_sub
 use Rattle.clap.specs.declared.builder.command.Command.{Command}
 use Rattle.clap.specs.declared.builder.command.Command.TheViews.{out-Command}
 use Rattle.command_tree.specs.Rules.{flag_rule, needed, needed_number, number_rule, number_with, numbers_rule}
-use Rattle.command_tree.specs.Rules.{option_rule, option_with, several_rule}
+use Rattle.command_tree.specs.Rules.{option_rule, option_with, several_numbers, several_rule}
 
 -- `ready GATE SNAPSHOT`
 abbrev pub ready_app : App
@@ -52,14 +52,18 @@ peered_app =
 abbrev pub placed_app : App
 placed_app =
     with_rule
-    (with_rule (with_rule peered_app (needed_number (codes "site") 1 65535)) (number_rule (codes "start") 1 4294967295))
+    (with_rule (with_rule peered_app (needed_number (codes "site") 1 65535)) (number_rule (codes "start") 1 4294967294))
     (number_with (codes "port") (codes "0") 0 65535)
+
+-- with whose operations it takes in
+abbrev pub guarded_app : App
+guarded_app = with_rule placed_app (several_numbers (codes "sites") 1 65535)
 
 -- with how it works
 abbrev pub paced_app : App
 paced_app =
     with_rule
-    (with_rule (with_rule placed_app (number_with (codes "workers") (codes "2") 1 6))
+    (with_rule (with_rule guarded_app (number_with (codes "workers") (codes "2") 1 6))
     (number_with (codes "pause") (codes "1000") 1 600000))
     (number_with (codes "sessions") (codes "0") 0 18446744073709551615)
 
@@ -83,9 +87,12 @@ serve_app =
 
 -- ---- the others, and the program
 
--- `recover JOURNAL`
+-- `recover JOURNAL [--without SITE,START].. [--until TIME]`
 abbrev pub recover_app : App
-recover_app = with_rule (new_app (codes "recover")) (needed (codes "JOURNAL"))
+recover_app =
+    with_rule
+    (with_rule (with_rule (new_app (codes "recover")) (needed (codes "JOURNAL"))) (several_rule (codes "without")))
+    (number_rule (codes "until") 0 18446744073709551615)
 
 -- `events [--to PORT] [--query | --complete] ..`: where Gerrit's lines go to, and what they are
 abbrev pub feeding_app : App

@@ -37,6 +37,10 @@ needed_number name least most = record (number_rule name least most) { required 
 abbrev pub number_with : List ℕ → List ℕ → ℕ → ℕ → Rule
 number_with name default least most = record (number_rule name least most) { defaults = default ∷ [] }
 
+-- `--NAME NUMBER`, as often as there are numbers, each from the least to the greatest
+abbrev pub several_numbers : List ℕ → ℕ → ℕ → Rule
+several_numbers name least most = record (number_rule name least most) { action = Some Append }
+
 -- as many numbers without a dash as there are, each from the least to the greatest
 abbrev pub numbers_rule : List ℕ → ℕ → ℕ → Rule
 numbers_rule name least most =

@@ -2,7 +2,7 @@
 
 ghost use Rattle.std.specs.Prelude.{◌≡◌};
 ghost use Rattle.command_tree.specs.Rules.{IsRule, flag_rule, needed, number_rule, number_with};
-ghost use Rattle.command_tree.specs.Rules.{numbers_rule, option_rule, option_with, several_rule};
+ghost use Rattle.command_tree.specs.Rules.{numbers_rule, option_rule, option_with, several_numbers, several_rule};
 
 use clap::builder::ValueParser;
 use clap::{Arg, ArgAction};
@@ -23,11 +23,18 @@ pub const SITE: Number = Number {
     most: 65_535,
 };
 
-/// The start of what a site takes in.
+/// The start of what a site takes in. The greatest number of 32 bits is none: no peer lets it in.
 pub const START: Number = Number {
     name: "start",
     least: 1,
-    most: 4_294_967_295,
+    most: 4_294_967_294,
+};
+
+/// The number of a site whose operations are taken in.
+pub const SITES: Number = Number {
+    name: "sites",
+    least: 1,
+    most: 65_535,
 };
 
 /// The port that a site listens at.
@@ -84,6 +91,13 @@ pub const TO: Number = Number {
     name: "to",
     least: 1,
     most: 65_535,
+};
+
+/// The greatest time of an operation that is recovered.
+pub const UNTIL: Number = Number {
+    name: "until",
+    least: 0,
+    most: u64::MAX,
 };
 
 /// The change that a message is of.
@@ -153,6 +167,13 @@ pub fn number_option<'a>(alloc: Global, number: Number, value: &'a str, help: &'
 {
     let limits = ValueParser::unsigned(number.least, number.most);
     option(alloc, number.name, value, help).value_parser(limits)
+}
+
+/// An option that may be there more than once, each time with a number.
+pub fn several_of<'a>(alloc: Global, number: Number, value: &'a str, help: &'a str) -> Arg<'a>
+    ensures { IsRule (several_numbers number.name.now number.least number.most) result }
+{
+    number_option(alloc, number, value, help).action(ArgAction::Append)
 }
 
 /// An option with a number that is `default` where the option is left out.

@@ -26,8 +26,8 @@ mod site_options;
 mod values;
 
 pub use arguments::{
-    AROUND, CHANGE, CONNECTIONS, IDLE, Number, PAUSE, PEER, PORT, SESSIONS, SITE, START, TO,
-    WORKERS,
+    AROUND, CHANGE, CONNECTIONS, IDLE, Number, PAUSE, PEER, PORT, SESSIONS, SITE, SITES, START, TO,
+    UNTIL, WORKERS,
 };
 pub use parsing::{Parsed, parse};
 pub use values::Values;

@@ -5,7 +5,7 @@ ghost use Rattle.command_tree.specs.Commands.{IsApp, bare_app, check_app, events
 ghost use Rattle.command_tree.specs.Commands.{judging_app, merge_app, program, reading_app, ready_app, recover_app};
 ghost use Rattle.command_tree.specs.Commands.{simulate_app, why_app};
 
-use super::arguments::{AROUND, CHANGE, default_option, file, flag, number_option};
+use super::arguments::{AROUND, CHANGE, UNTIL, default_option, file, flag, number_option, several};
 use super::feed_options::events_command;
 use super::site_options::serve_command;
 use clap::{Arg, Command};
@@ -183,7 +183,7 @@ fn simulate_command<'a>(alloc: Global) -> Result<Command<'a>, AllocError>
         .arg(gate)
 }
 
-/// `recover JOURNAL`
+/// `recover JOURNAL [--without SITE,START].. [--until TIME]`
 fn recover_command<'a>(alloc: Global) -> Result<Command<'a>, AllocError>
     ensures { IfOk result (IsApp recover_app) }
 {
@@ -192,7 +192,21 @@ fn recover_command<'a>(alloc: Global) -> Result<Command<'a>, AllocError>
         "JOURNAL",
         "The journal's file, or - for standard input",
     );
+    let without = several(
+        alloc,
+        "without",
+        "SITE,START",
+        "Leaves out the operations of a site under a start, once for each such pair",
+    );
+    let until = number_option(
+        alloc,
+        UNTIL,
+        "TIME",
+        "Leaves out the operations whose time is above this",
+    );
     Command::new(alloc, "recover")
         .about("Prints the snapshot of a journal, without a line that a crash tore")
-        .arg(journal)
+        .arg(journal)?
+        .arg(without)?
+        .arg(until)
 }

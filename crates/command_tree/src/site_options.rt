@@ -1,12 +1,13 @@
 //! The arguments of `serve`.
 
 ghost use Rattle.std.specs.Prelude.{IfOk, codes};
-ghost use Rattle.command_tree.specs.Commands.{IsApp, ending_app, paced_app, peered_app, placed_app, printing_app, serve_app};
+ghost use Rattle.command_tree.specs.Commands.{IsApp, ending_app, guarded_app, paced_app, peered_app, placed_app};
+ghost use Rattle.command_tree.specs.Commands.{printing_app, serve_app};
 ghost use Rattle.command_tree.specs.Rules.{IsRule, needed_number};
 
 use super::arguments::{
-    CONNECTIONS, IDLE, PAUSE, PEER, PORT, SESSIONS, SITE, START, WORKERS, default_option,
-    default_text, file, flag, number_option, numbers, option,
+    CONNECTIONS, IDLE, PAUSE, PEER, PORT, SESSIONS, SITE, SITES, START, WORKERS, default_option,
+    default_text, file, flag, number_option, numbers, option, several_of,
 };
 use super::program::GATE_HELP;
 use clap::{Arg, Command};
@@ -74,7 +75,7 @@ fn ending_command<'a>(alloc: Global) -> Result<Command<'a>, AllocError>
     paced.arg(idle)?.arg(connections)?.arg(ending)
 }
 
-/// The command with what the site is, where it is reached and how it works.
+/// The command with what the site is, where it is reached, whom it listens to and how it works.
 fn paced_command<'a>(alloc: Global) -> Result<Command<'a>, AllocError>
     ensures { IfOk result (IsApp paced_app) }
 {
@@ -99,8 +100,21 @@ fn paced_command<'a>(alloc: Global) -> Result<Command<'a>, AllocError>
         "N",
         "Ends after so many sessions; 0 means no limit",
     );
-    let placed = placed_command(alloc)?;
-    placed.arg(workers)?.arg(pause)?.arg(sessions)
+    let guarded = guarded_command(alloc)?;
+    guarded.arg(workers)?.arg(pause)?.arg(sessions)
+}
+
+/// The command with what the site is, where it is reached and whom it listens to.
+fn guarded_command<'a>(alloc: Global) -> Result<Command<'a>, AllocError>
+    ensures { IfOk result (IsApp guarded_app) }
+{
+    let sites = several_of(
+        alloc,
+        SITES,
+        "N",
+        "A site whose operations it takes from peers, once for each; without it those of all",
+    );
+    placed_command(alloc)?.arg(sites)
 }
 
 /// The command with what the site is, and where it is reached.

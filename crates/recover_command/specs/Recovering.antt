@@ -1,14 +1,13 @@
 -- How a journal is recovered as a command: what is printed, what the error output is written, and the status.
-use Rattle.std.specs.Prelude.{◌≡◌, ◌<◌, ℕ, List, [], Option, Result, Ok, Err, IfSome, MatchResult}
+use Rattle.std.specs.Prelude.{◌≡◌, ◌<◌, ℕ, List, Option, Result, Ok, Err, IfSome, MatchResult}
 use Rattle.std.specs.Io.KnownBytes.{Appends}
 use Rattle.console.specs.Refusals.{refusal_line}
 use Rattle.console.specs.Showing.{ErrorOutput, ShowsLine, torn_line}
 use Rattle.console.specs.declared.refusals.Refusal.{Refusal}
 use Rattle.console.specs.declared.refusals.Refusal.TheVariants.{Memory, Output}
-use Rattle.replica_core.specs.InOrder.{IsInOrderOf}
-use Rattle.replica_core.specs.Journal.{all_arrived}
 use Rattle.review_ops.specs.Operation.{Operation}
-use Rattle.site_journal.specs.Recovery.{CountsRecovery, IsRecovered, IsRefusedRecovery}
+use Rattle.site_journal.specs.Recovery.{CountsRecovery, IsKeptOf, IsRecovered, IsRefusedRecovery}
+use Rattle.site_journal.specs.declared.leaving.LeftOut.{LeftOut}
 use Rattle.site_journal.specs.declared.recovery.RecoverFault.{RecoverFault}
 use Rattle.site_journal.specs.declared.recovery.RecoverFault.TheVariants.{Journal, Snapshot}
 use Rattle.snapshot_text.specs.Snapshot.{snapshot_text}
@@ -20,11 +19,13 @@ use Rattle.recover_command.specs.Lines.{journal_line}
 abbrev pub RecoveryEnd : Type 0
 RecoveryEnd = Result ℕ RecoverFault
 
--- the snapshot of the whole lines is printed; or nothing, or a proper prefix of it, by the fault
-abbrev pub PrintsWholeLines : Option (List ℕ) → Option (List ℕ) → Option (List ℕ) → RecoveryEnd → Type 0
-PrintsWholeLines left old new (Ok torn) = IfSome left (λ text. (ops : List Operation) × IsRecovered text ops torn
-    × (sorted : List Operation) × IsInOrderOf (all_arrived [] ops) sorted × Appends old new (snapshot_text sorted))
-PrintsWholeLines left old new (Err fault) = IsRefusedRecovery left old fault new
+-- the snapshot of the whole lines is printed, but for what is left out; or nothing, or a proper prefix of it, by the
+-- fault
+abbrev pub PrintsWholeLines : LeftOut → Option (List ℕ) → Option (List ℕ) → Option (List ℕ) → RecoveryEnd → Type 0
+PrintsWholeLines left_out left old new (Ok torn) =
+    IfSome left (λ text. (ops : List Operation) × IsRecovered text ops torn
+    × (sorted : List Operation) × IsKeptOf left_out ops sorted × Appends old new (snapshot_text sorted))
+PrintsWholeLines left_out left old new (Err fault) = IsRefusedRecovery left_out left old fault new
 
 -- how it is refused that the snapshot isn't written
 abbrev pub refusal_of : WriteSnapFault → Refusal
@@ -43,12 +44,13 @@ ReportsRecovery (Ok torn) old new status =
     (torn ≡ 0 → new ≡ old) × (0 < torn → ShowsLine (torn_line torn) old new) × (status ≡ 0)
 ReportsRecovery (Err fault) old new status = ShowsLine (recovery_fault_line fault) old new × (status ≡ 1)
 
--- how a journal of which this is left to read is recovered: what the output has taken before and after, how many of its
--- calls failed, and the same of the error output
-pub record RecoversAs (left old new : Option (List ℕ)) (failed now_failed : ℕ) (errors now_errors : ErrorOutput)
+-- how a journal of which this is left to read is recovered, without what is left out: what the output has taken before
+-- and after, how many of its calls failed, and the same of the error output
+pub record RecoversAs (left_out : LeftOut) (left old new : Option (List ℕ)) (failed now_failed : ℕ)
+    (errors now_errors : ErrorOutput)
     (status : ℕ)
     : Type 0 where
   pub ended : RecoveryEnd
-  pub printed : PrintsWholeLines left old new ended
+  pub printed : PrintsWholeLines left_out left old new ended
   pub counted : MatchResult ended (λ _. now_failed ≡ failed) (CountsRecovery failed now_failed)
   pub reported : ReportsRecovery ended errors now_errors status

@@ -6,15 +6,16 @@
 //! while it may be torn. Not taken: repairing the journal in place, which a mistake would make final.
 //!
 //! The journal is read block by block, and neither locked nor changed. A torn line at its end is left out, and its
-//! length is reported.
+//! length is reported. Operations of some sites and starts, or above a time, can be left out, too.
 //!
 //! An example of its use:
 //!
 //! ```
 //! let mut output = Ends::new(Vec::new(alloc));
 //! let mut errors = Ends::new(Vec::new(alloc));
+//! let nothing = LeftOut::nothing(alloc);
 //! let journal = Ends::new(b"reviewgate 2\n{\"change".as_slice());
-//! assert_eq!(rt; recover_to(alloc, journal, &mut output, &mut errors), 0);
+//! assert_eq!(rt; recover_to(alloc, journal, &nothing, &mut output, &mut errors), 0);
 //! assert_eq!(rt; output.get_ref().as_slice(), b"reviewgate 2\nend 0\n".as_slice());
 //! assert_eq!(rt; errors.get_ref().as_slice(), b"reviewgate: journal 6 Torn 8\n".as_slice());
 //! ```

@@ -7,7 +7,7 @@ ghost use Rattle.recover_command.specs.Recovering.{RecoversAs};
 
 use super::recovering::{recover_to, report};
 use byte_ends::{Drain, Ends, Source};
-use site_journal::{JournalFault, RecoverFault};
+use site_journal::{JournalFault, LeftOut, RecoverFault};
 use std::alloc::Global;
 use std::fs;
 use std::rt::Files;
@@ -22,19 +22,20 @@ pub fn recover_named<R: Files, I: Source + Drop, O: Drain, E: Drain>(
     alloc: Global,
     name: &str,
     input: I,
+    left_out: &LeftOut,
     output: &mut O,
     errors: &mut E,
 ) -> u8
     ensures { (left : Option (List ℕ)) × (is_input name.now ≡ true → left ≡ I.left input)
-        × RecoversAs left (O.taken output.old) (O.taken output.new) (O.failed output.old) (O.failed output.new)
+        × RecoversAs left_out.now left (O.taken output.old) (O.taken output.new) (O.failed output.old) (O.failed output.new)
         (error_output (E.taken errors.old) (E.failed errors.old))
         (error_output (E.taken errors.new) (E.failed errors.new)) result }
 {
     if name == INPUT {
-        return recover_to(alloc, input, output, errors);
+        return recover_to(alloc, input, left_out, output, errors);
     }
     match fs::open(rt, name) {
-        Ok(file) => recover_to(alloc, Ends::new(file), output, errors),
+        Ok(file) => recover_to(alloc, Ends::new(file), left_out, output, errors),
         Err(_) => report(
             alloc,
             &Err(RecoverFault::Journal(JournalFault::Failed)),

@@ -7,7 +7,7 @@ ghost use Rattle.recover_command.specs.Recovering.{RecoversAs, ReportsRecovery, 
 use super::lines::show_journal_fault;
 use byte_ends::{Drain, Source};
 use console::{Refusal, show_refusal, show_torn};
-use site_journal::{RecoverFault, recover};
+use site_journal::{LeftOut, RecoverFault, recover};
 use snapshot_text::WriteSnapFault;
 use std::alloc::Global;
 
@@ -17,22 +17,24 @@ const DONE: u8 = 0;
 /// The status of one that wasn't.
 const REFUSED: u8 = 1;
 
-/// Prints the snapshot of a journal's whole lines, and writes to `errors` how many bytes of a torn line were left out,
-/// if any, or why the journal isn't recovered. The answer is the exit status: 0, or 1 where it isn't. Nothing is
-/// printed of a journal that isn't read; where the output failed, a proper prefix of the snapshot is printed. It costs
-/// what reading the journal costs, and what writing the snapshot costs.
+/// Prints the snapshot of a journal's whole lines, but for the operations that are to be left out, and writes to
+/// `errors` how many bytes of a torn line were left out, if any, or why the journal isn't recovered. The answer is the
+/// exit status: 0, or 1 where it isn't. Nothing is printed of a journal that isn't read; where the output failed, a
+/// proper prefix of the snapshot is printed. It costs what reading the journal costs, and what writing the snapshot
+/// costs.
 pub fn recover_to<S: Source + Drop, O: Drain, E: Drain>(
     alloc: Global,
     source: S,
+    left_out: &LeftOut,
     output: &mut O,
     errors: &mut E,
 ) -> u8
-    ensures { RecoversAs (S.left source) (O.taken output.old) (O.taken output.new) (O.failed output.old)
+    ensures { RecoversAs left_out.now (S.left source) (O.taken output.old) (O.taken output.new) (O.failed output.old)
         (O.failed output.new)
         (error_output (E.taken errors.old) (E.failed errors.old))
         (error_output (E.taken errors.new) (E.failed errors.new)) result }
 {
-    let ended = recover(alloc, source, output);
+    let ended = recover(alloc, source, left_out, output);
     report(alloc, &ended, errors)
 }
 

@@ -4,13 +4,14 @@
 mod events;
 
 use byte_ends::{Drain, Ends};
-use command_line::{Asked, read_words};
+use command_line::{Asked, RecoverWords, read_words};
 use commands::{print_text, report, report_usage, run_command};
 use console::{Refusal, SystemFiles, show_line};
 use events::feed;
 use recover_command::{recover_named, show_journal_fault};
 use refusal_line::{Part, refusal_line};
 use serve_command::{Ended, serve};
+use site_journal::LeftOut;
 use std::alloc::Global;
 use std::env::Env;
 use std::io::ErrorKind;
@@ -42,7 +43,23 @@ fn main(rt: HostRuntime) -> ExitCode {
             let ended = serve(rt, alloc, words, input, Ends::new(rt.stderr()));
             report_site(alloc, ended, &mut errors)
         }
-        Asked::Recover(name) => recover_named(&rt, alloc, name, input, &mut output, &mut errors),
+        Asked::Recover(words) => {
+            let RecoverWords {
+                journal,
+                without: rows,
+                until,
+            } = words;
+            let left_out = LeftOut { rows, until };
+            recover_named(
+                &rt,
+                alloc,
+                journal,
+                input,
+                &left_out,
+                &mut output,
+                &mut errors,
+            )
+        }
         Asked::Events(words) => feed(rt, alloc, words, input, &mut output, &mut errors),
         Asked::Help(text) | Asked::Version(text) => {
             print_text(alloc, text.as_str(), &mut output, &mut errors)

@@ -1,10 +1,9 @@
 -- What the calls of a tape do to what is kept, one after the other.
-use Rattle.std.proofs.Common.{◌≡◌, ℕ, ◌+◌, ◌<◌, ◌≤◌, Bool, true, false, List, [], ◌∷◌, ◌++◌, Option, Some, None, Result}
+use Rattle.std.proofs.Common.{◌≡◌, ℕ, ◌+◌, ◌<◌, ◌≤◌, Bool, true, false, List, [], ◌∷◌, ◌++◌, Option, Some, None}
 use Rattle.std.proofs.Common.{length, take, get_or, refl, sym, ap, ◌∙◌, subst, arith, append-nil, length-append}
 use Rattle.std.specs.Prelude.{IfSome}
 use Rattle.std.proofs.lemmas.List.{take_at, take_all, take_more}
 use Rattle.line_reader.specs.Lines.{line_limit}
-use Rattle.byte_ends.specs.Failures.{most_failures, OneFailed, NoneFailed}
 use Rattle.review_ops.specs.Operation.{Operation}
 use Rattle.review_ops.specs.Timestamp.{IsNumbered}
 use Rattle.review_ops.specs.Good.{IsGood}
@@ -13,7 +12,7 @@ use Rattle.snapshot_text.specs.Snapshot.{operation_lines}
 use Rattle.snapshot_text.specs.Sound.{IsSound, AreSoundOperations}
 use Rattle.site_journal.specs.Prefixes.{IsPrefix}
 use Rattle.site_journal.specs.Text.{AreShort, SaysJournal}
-use Rattle.site_journal.specs.Tape.{Image, IsLeftBy, IsSettled, Changes, Grows, Steadies, Shrinks}
+use Rattle.site_journal.specs.Tape.{Image, IsLeftBy, IsSettled, Changes, Grows, Steadies}
 use Rattle.site_journal.specs.Book.{TakesBack, Recovers}
 use Rattle.site_journal.proofs.Bytes.{prefix-trans, prefix-length}
 

@@ -5,3 +5,4 @@ pub mod Steps
 pub mod Keeping
 pub mod Starting
 pub mod Fronts
+mod Kept

@@ -9,11 +9,9 @@ use Rattle.review_ops.specs.Operation.{Operation}
 use Rattle.replica_core.specs.Journal.{all_arrived}
 use Rattle.site_journal.specs.Prefixes.{IsPrefix}
 use Rattle.site_journal.specs.Text.{header_line, whole_lines, SaysJournal, IsTorn, IsFresh}
-use Rattle.site_journal.specs.Tape.{Image, IsSettled, Changes, Grows, Steadies, IsSynced, Shrinks, IsAtStart}
+use Rattle.site_journal.specs.Tape.{Image, IsSettled, Changes, Grows, Steadies, IsSynced, IsAtStart}
 use Rattle.site_journal.specs.Book.{IsOpened, IsUnharmed}
-use Rattle.site_journal.specs.Fault.{IsJournalRefusal}
 use Rattle.site_journal.specs.Reading.{IsFoundText}
-use Rattle.site_journal.specs.declared.fault.JournalFault.{JournalFault}
 use Rattle.site_journal.specs.declared.reading.Found.TheVariants.{Lines}
 use Rattle.site_journal.proofs.Bytes.{prefix-trans, has_none}
 use Rattle.site_journal.proofs.Steps.{header_length}

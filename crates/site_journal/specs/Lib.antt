@@ -7,3 +7,4 @@ pub mod Feeds
 pub mod Memory
 pub mod Reading
 pub mod Recovery
+pub mod Leaving

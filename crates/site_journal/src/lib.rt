@@ -25,6 +25,7 @@
 mod fault;
 mod journal;
 mod laws;
+mod leaving;
 mod memory;
 mod opening;
 mod reading;
@@ -36,6 +37,7 @@ pub use journal::{Journal, Started};
 pub use laws::{
     crashes_lose_nothing_acknowledged, journals_have_one_reading, journals_say_their_operations,
 };
+pub use leaving::LeftOut;
 pub use memory::MemoryTape;
 pub use opening::{Opened, open_tape};
 pub use recovery::{RecoverFault, recover};

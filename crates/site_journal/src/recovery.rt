@@ -8,11 +8,12 @@ ghost use Rattle.review_ops.specs.Operation.{Operation};
 ghost use Rattle.snapshot_text.specs.Snapshot.{snapshot_text};
 ghost use Rattle.site_journal.specs.Text.{IsFresh, SaysJournal};
 ghost use Rattle.site_journal.specs.Fault.{IsJournalRefusal};
-ghost use Rattle.site_journal.specs.Recovery.{CountsRecovery, IsRecovered, IsRefusedRecovery};
+ghost use Rattle.site_journal.specs.Recovery.{CountsRecovery, IsKeptOf, IsRecovered, IsRefusedRecovery};
 ghost use Rattle.site_journal.specs.declared.recovery.RecoverFault.TheVariants.{Journal as NotRead};
 ghost use Rattle.site_journal.specs.declared.recovery.RecoverFault.TheVariants.{Snapshot as NotWritten};
 
 use crate::fault::JournalFault;
+use crate::leaving::{LeftOut, without};
 use crate::reading::{Found, read_text};
 use crate::tape::SourceFeed;
 use byte_ends::{Drain, Source};
@@ -32,23 +33,25 @@ pub enum RecoverFault {
     Snapshot(WriteSnapFault),
 }
 
-/// Writes the snapshot of a journal's whole lines, and answers how many bytes of a torn line it left out. It changes
-/// nothing of what it reads.
+/// Writes the snapshot of a journal's whole lines, but for the operations that are to be left out, and answers how many
+/// bytes of a torn line it left out. It changes nothing of what it reads.
 pub fn recover<S: Source + Drop, D: Drain>(
     alloc: Global,
     source: S,
+    left_out: &LeftOut,
     drain: &mut D,
 ) -> Result<usize, RecoverFault>
     ensures ok { IfOk result (λ torn. IfSome (S.left source) (λ text. (ops : List Operation) × IsRecovered text ops torn
-        × (sorted : List Operation) × IsInOrderOf (all_arrived [] ops) sorted
+        × (sorted : List Operation) × IsKeptOf left_out.now ops sorted
         × Appends (D.taken drain.old) (D.taken drain.new) (snapshot_text sorted))) }
     ensures err { IfErr result
-        (λ fault. IsRefusedRecovery (S.left source) (D.taken drain.old) fault (D.taken drain.new)) }
+        (λ fault. IsRefusedRecovery left_out.now (S.left source) (D.taken drain.old) fault (D.taken drain.new)) }
     ensures counted { MatchResult result (λ _. D.failed drain.new ≡ D.failed drain.old)
         (CountsRecovery (D.failed drain.old) (D.failed drain.new)) }
 {
     let (replica, torn) = read_journal(alloc, source)?;
-    write_snapshot(alloc, &replica, drain)?;
+    let kept = without(alloc, replica, left_out)?;
+    write_snapshot(alloc, &kept, drain)?;
     Ok(torn)
 }
 

@@ -4,8 +4,8 @@ use byte_ends::{Broken, Ends};
 use op_text::read_op;
 use review_ops::Op;
 use site_journal::{
-    Journal, JournalFault, KeepFault, LineCause, MemoryTape, RecoverFault, Started, open_tape,
-    recover,
+    Journal, JournalFault, KeepFault, LeftOut, LineCause, MemoryTape, RecoverFault, Started,
+    open_tape, recover,
 };
 use site_ledger::{Keeps, NoJournal};
 use snapshot_text::WriteSnapFault;
@@ -213,7 +213,8 @@ fn other_texts_are_refused_and_stay(rt: HostRuntime) -> Result<(), Fail> {
 fn a_torn_end_is_left_out_of_a_recovery(rt: HostRuntime) -> Result<(), Fail> {
     let text = torn_journal(rt.alloc(), &[FIRST, SECOND, THIRD])?;
     let mut drain = Ends::new(Vec::new(rt.alloc()));
-    let torn = recover(rt.alloc(), Ends::new(text.as_slice()), &mut drain)?;
+    let nothing = LeftOut::nothing(rt.alloc());
+    let torn = recover(rt.alloc(), Ends::new(text.as_slice()), &nothing, &mut drain)?;
     assert_eq!(rt; torn, 6);
     assert!(rt; drain.get_ref().as_slice().ends_with(b"end 3\n"));
     Ok(())
@@ -222,13 +223,15 @@ fn a_torn_end_is_left_out_of_a_recovery(rt: HostRuntime) -> Result<(), Fail> {
 /// Why a recovery from a source fails that fails at its first call.
 fn broken_source(alloc: Global, text: &[u8]) -> Option<RecoverFault> {
     let source = Broken::at_call(Ends::new(text), 1);
-    recover(alloc, source, &mut Ends::new(Vec::new(alloc))).err()
+    let nothing = LeftOut::nothing(alloc);
+    recover(alloc, source, &nothing, &mut Ends::new(Vec::new(alloc))).err()
 }
 
 /// Why a recovery to a drain fails that fails at its first call.
 fn broken_drain(alloc: Global, text: &[u8]) -> Option<RecoverFault> {
     let mut drain = Broken::at_call(Ends::new(Vec::new(alloc)), 1);
-    recover(alloc, Ends::new(text), &mut drain).err()
+    let nothing = LeftOut::nothing(alloc);
+    recover(alloc, Ends::new(text), &nothing, &mut drain).err()
 }
 
 #[test]

@@ -3,7 +3,7 @@
 use byte_ends::{Broken, Drain, Ends, Source};
 use console::show_torn;
 use recover_command::{recover_named, recover_to, show_journal_fault};
-use site_journal::{JournalFault, LineCause, RecoverFault, recover};
+use site_journal::{JournalFault, LeftOut, LineCause, RecoverFault, recover};
 use std::alloc::{AllocError, Global};
 use std::fs;
 use std::process::Abort;
@@ -24,7 +24,8 @@ type Recovery = (Vec<u8>, Vec<u8>, u8);
 fn recovery_of<S: Source + Drop>(alloc: Global, source: S) -> Recovery {
     let mut output = Ends::new(Vec::new(alloc));
     let mut errors = Ends::new(Vec::new(alloc));
-    let status = recover_to(alloc, source, &mut output, &mut errors);
+    let nothing = LeftOut::nothing(alloc);
+    let status = recover_to(alloc, source, &nothing, &mut output, &mut errors);
     (output.into_inner(), errors.into_inner(), status)
 }
 
@@ -64,7 +65,8 @@ fn torn_of(bytes: &[u8]) -> usize {
 /// What `site_journal` recovers of a journal with these bytes.
 fn snapshot_of(alloc: Global, journal: &[u8]) -> Result<Vec<u8>, RecoverFault> {
     let mut snapshot = Ends::new(Vec::new(alloc));
-    let _torn = recover(alloc, Ends::new(journal), &mut snapshot)?;
+    let nothing = LeftOut::nothing(alloc);
+    let _torn = recover(alloc, Ends::new(journal), &nothing, &mut snapshot)?;
     Ok(snapshot.into_inner())
 }
 
@@ -117,7 +119,8 @@ fn what_is_no_journal_is_refused_and_nothing_is_printed(rt: HostRuntime) -> Resu
 /// What is written to the errors where a journal is recovered to this output, and the status.
 fn reported_to<O: Drain>(alloc: Global, output: &mut O) -> (Vec<u8>, u8) {
     let mut errors = Ends::new(Vec::new(alloc));
-    let status = recover_to(alloc, Ends::new(JOURNAL), output, &mut errors);
+    let nothing = LeftOut::nothing(alloc);
+    let status = recover_to(alloc, Ends::new(JOURNAL), &nothing, output, &mut errors);
     (errors.into_inner(), status)
 }
 
@@ -149,7 +152,8 @@ fn recovery_named<R: Files>(rt: &R, alloc: Global, name: &str) -> Recovery {
     let mut output = Ends::new(Vec::new(alloc));
     let mut errors = Ends::new(Vec::new(alloc));
     let input = Ends::new(b"reviewgate".as_slice());
-    let status = recover_named(rt, alloc, name, input, &mut output, &mut errors);
+    let nothing = LeftOut::nothing(alloc);
+    let status = recover_named(rt, alloc, name, input, &nothing, &mut output, &mut errors);
     (output.into_inner(), errors.into_inner(), status)
 }
 
@@ -203,4 +207,72 @@ fn reported_lines(alloc: Global) -> Vec<u8> {
 fn faults_and_torn_lines_have_a_line_each(rt: HostRuntime) {
     let lines = b"reviewgate: journal 2 BadLine 7 TooLong\nreviewgate: journal 6 Torn 3\n";
     assert_eq!(rt; reported_lines(rt.alloc()).as_slice(), lines.as_slice());
+}
+
+/// A journal of two sites, of which the second has two starts, and the four operations in order.
+const TWO_SITES: &[u8] = b"reviewgate 2\n\
+    {\"change\":5,\"op\":\"merged\",\"seq\":1,\"site\":1,\"start\":2,\"time\":1}\n\
+    {\"change\":6,\"op\":\"merged\",\"seq\":1,\"site\":2,\"start\":2,\"time\":2}\n\
+    {\"change\":7,\"op\":\"merged\",\"seq\":1,\"site\":2,\"start\":4294967295,\"time\":3}\n\
+    {\"change\":8,\"op\":\"merged\",\"seq\":2,\"site\":1,\"start\":2,\"time\":18446744073709551615}\n";
+
+const OP_5: &str = "{\"change\":5,\"op\":\"merged\",\"seq\":1,\"site\":1,\"start\":2,\"time\":1}\n";
+
+const OP_6: &str = "{\"change\":6,\"op\":\"merged\",\"seq\":1,\"site\":2,\"start\":2,\"time\":2}\n";
+
+const OP_7: &str =
+    "{\"change\":7,\"op\":\"merged\",\"seq\":1,\"site\":2,\"start\":4294967295,\"time\":3}\n";
+
+const OP_8: &str =
+    "{\"change\":8,\"op\":\"merged\",\"seq\":2,\"site\":1,\"start\":2,\"time\":18446744073709551615}\n";
+
+/// What is recovered of that journal without these sites and starts, and what is above a time.
+fn recovered_without(
+    alloc: Global,
+    rows: &[(u16, u32)],
+    until: Option<u64>,
+) -> Result<Vec<u8>, Fail> {
+    let left_out = LeftOut {
+        rows: rows.to_vec(alloc)?,
+        until,
+    };
+    let mut output = Ends::new(Vec::new(alloc));
+    let mut errors = Ends::new(Vec::new(alloc));
+    let source = Ends::new(TWO_SITES);
+    let _status = recover_to(alloc, source, &left_out, &mut output, &mut errors);
+    Ok(output.into_inner())
+}
+
+/// A snapshot of these lines.
+fn snapshot_with(alloc: Global, lines: &[&str]) -> Result<String, AllocError> {
+    let mut text = String::from_str(alloc, "reviewgate 2\n")?;
+    for line in lines {
+        text.push_str(line)?;
+    }
+    let count = lines.len();
+    let end = format!(in alloc; "end {count}\n")?;
+    text.push_str(end.as_str())?;
+    Ok(text)
+}
+
+// What is left out is left out, and exactly that: of a site under a start, not under another, and not of another site
+// under the same start; and what is above a time, not what is at it.
+#[test]
+fn what_is_left_out_is_left_out_and_nothing_else(rt: HostRuntime) -> Result<(), Fail> {
+    let alloc = rt.alloc();
+    let cases: [(&[(u16, u32)], Option<u64>, &[&str]); 7] = [
+        (&[], None, &[OP_5, OP_6, OP_7, OP_8]),
+        (&[(2, 4_294_967_295)], None, &[OP_5, OP_6, OP_8]),
+        (&[(2, 2)], None, &[OP_5, OP_7, OP_8]),
+        (&[(1, 2), (2, 4_294_967_295)], None, &[OP_6]),
+        (&[(3, 2), (2, 3)], None, &[OP_5, OP_6, OP_7, OP_8]),
+        (&[], Some(2), &[OP_5, OP_6]),
+        (&[(2, 2)], Some(18_446_744_073_709_551_614), &[OP_5, OP_7]),
+    ];
+    for (rows, until, lines) in cases {
+        let wanted = snapshot_with(alloc, lines)?;
+        let printed = recovered_without(alloc, rows, until)?;
+        assert_eq!(rt; printed.as_slice(), wanted.as_bytes());
+    }
+    Ok(())
 }

@@ -168,12 +168,46 @@ fn other_items_are_usage_errors(rt: HostRuntime) {
     }
 }
 
-/// The journal that words ask to recover.
-fn journal_of<'a>(alloc: Global, words: &'a [&'a str]) -> Option<&'a str> {
+/// The journal that words ask to recover, what they leave out, and the greatest time that they keep.
+type Recovery<'a> = (&'a str, Vec<(u16, u32)>, Option<u64>);
+
+/// What words ask to recover.
+fn recovery_of<'a>(alloc: Global, words: &'a [&'a str]) -> Option<Recovery<'a>> {
     match read_words(alloc, words) {
-        Asked::Recover(name) => Some(name),
+        Asked::Recover(words) => Some((words.journal, words.without, words.until)),
         _ => None,
     }
+}
+
+/// The name of a journal that is recovered whole.
+fn journal_of<'a>(alloc: Global, words: &'a [&'a str]) -> Option<&'a str> {
+    match recovery_of(alloc, words) {
+        Some((name, rows, None)) if rows.is_empty() => Some(name),
+        _ => None,
+    }
+}
+
+#[test]
+fn what_is_left_out_is_named_by_site_and_start(rt: HostRuntime) -> Result<(), Fail> {
+    let words = [
+        "recover",
+        "--without",
+        "2,4294967295",
+        "j",
+        "--without=65535,0",
+        "--until",
+        "18446744073709551615",
+    ];
+    let (name, rows, until) = recovery_of(rt.alloc(), words.as_slice()).ok_or("a recovery")?;
+    assert_eq!(rt; (name, until), ("j", Some(u64::MAX)));
+    assert_eq!(rt;
+        rows.as_slice(),
+        [(2, 4_294_967_295), (65_535, 0)].as_slice()
+    );
+    let words = ["recover", "j", "--until", "0"];
+    let (name, rows, until) = recovery_of(rt.alloc(), words.as_slice()).ok_or("a recovery")?;
+    assert_eq!(rt; (name, rows.len(), until), ("j", 0, Some(0)));
+    Ok(())
 }
 
 #[test]

@@ -51,6 +51,7 @@ fn assert_serves(rt: &impl Abort, serving: &ServeWords<'_>, wanted: &ServeWords<
     assert_eq!(rt; ends_of(serving), ends_of(wanted));
     assert_eq!(rt; files_of(serving), files_of(wanted));
     assert_eq!(rt; serving.peers.as_slice(), wanted.peers.as_slice());
+    assert_eq!(rt; serving.sites.as_slice(), wanted.sites.as_slice());
 }
 
 /// A site with what options are left out for.
@@ -58,6 +59,7 @@ fn with_defaults(alloc: Global) -> ServeWords<'static> {
     ServeWords {
         gate: "gate.json",
         peers: Vec::new(alloc),
+        sites: Vec::new(alloc),
         site: 1,
         start: Some(7),
         port: 0,
@@ -83,7 +85,7 @@ fn options_have_defaults(rt: HostRuntime) -> Result<(), Fail> {
 }
 
 /// Words with each option.
-const ALL: [&str; 29] = [
+const ALL: [&str; 33] = [
     "serve",
     "-",
     "8001",
@@ -91,9 +93,13 @@ const ALL: [&str; 29] = [
     "--site",
     "65535",
     "--start",
-    "4294967295",
+    "4294967294",
     "--port",
     "8000",
+    "--sites",
+    "65535",
+    "--sites",
+    "1",
     "--workers",
     "6",
     "--pause",
@@ -116,12 +122,13 @@ const ALL: [&str; 29] = [
 ];
 
 /// The site that they ask for.
-fn with_all(peers: Vec<u16>) -> ServeWords<'static> {
+fn with_all(peers: Vec<u16>, sites: Vec<u16>) -> ServeWords<'static> {
     ServeWords {
         gate: "-",
         peers,
+        sites,
         site: 65535,
-        start: Some(4_294_967_295),
+        start: Some(4_294_967_294),
         port: 8000,
         workers: 6,
         pause_ms: 600_000,
@@ -138,7 +145,8 @@ fn with_all(peers: Vec<u16>) -> ServeWords<'static> {
 
 #[test]
 fn all_options_are_read(rt: HostRuntime) -> Result<(), Fail> {
-    let wanted = with_all([8001, 8002].to_vec(rt.alloc())?);
+    let peers = [8001, 8002].to_vec(rt.alloc())?;
+    let wanted = with_all(peers, [65535, 1].to_vec(rt.alloc())?);
     let serving = serving_of(rt.alloc(), ALL.as_slice()).ok_or("a site")?;
     assert_serves(&rt, &serving, &wanted);
     Ok(())
@@ -149,7 +157,7 @@ const LIMITS: [(&str, &str, u64); 15] = [
     ("--site", "1", 1),
     ("--site", "65535", 65_535),
     ("--start", "1", 1),
-    ("--start", "4294967295", 4_294_967_295),
+    ("--start", "4294967294", 4_294_967_294),
     ("--port", "0", 0),
     ("--port", "65535", 65_535),
     ("--workers", "1", 1),

@@ -181,6 +181,7 @@ Options:
       --site <N>          The site's number, from 1 to 65535
       --start <N>         The start, greater than every start the site has used; optional with --journal
       --port <P>          The port on 127.0.0.1; 0 has the system choose one [default: 0]
+      --sites <N>         A site whose operations it takes from peers, once for each; without it those of all
       --workers <N>       How many threads answer ready, state and front, 1 to 6 [default: 2]
       --pause <MS>        Between two rounds of pulls, 1 to 600000 [default: 1000]
       --sessions <N>      Ends after so many sessions; 0 means no limit [default: 0]
@@ -198,13 +199,15 @@ Options:
         "recover",
         "Prints the snapshot of a journal, without a line that a crash tore
 
-Usage: reviewgate recover <JOURNAL>
+Usage: reviewgate recover [OPTIONS] <JOURNAL>
 
 Arguments:
   <JOURNAL>  The journal's file, or - for standard input
 
 Options:
-  -h, --help  Print help
+      --without <SITE,START>  Leaves out the operations of a site under a start, once for each such pair
+      --until <TIME>          Leaves out the operations whose time is above this
+  -h, --help                  Print help
 ",
     ),
     (
@@ -326,11 +329,11 @@ const COMMANDS: [(&str, &str); 19] = [
     ),
     (
         "recover a b",
-        "error: unexpected argument 'b' found\n\nUsage: reviewgate recover <JOURNAL>",
+        "error: unexpected argument 'b' found\n\nUsage: reviewgate recover [OPTIONS] <JOURNAL>",
     ),
     (
         "recover -a",
-        "error: unexpected argument '-a' found\n\n  tip: to pass '-a' as a value, use '-- -a'\n\nUsage: reviewgate recover <JOURNAL>",
+        "error: unexpected argument '-a' found\n\n  tip: to pass '-a' as a value, use '-- -a'\n\nUsage: reviewgate recover [OPTIONS] <JOURNAL>",
     ),
     (
         "events x",
@@ -396,7 +399,7 @@ const OPTIONS: [(&str, &str); 14] = [
 ];
 
 /// Numbers one beyond their limits, and what is no number, or no word of an option.
-const NUMBERS: [(&str, &str); 26] = [
+const NUMBERS: [(&str, &str); 34] = [
     (
         "why g s x",
         "error: invalid value 'x' for '<CHANGE[,SET]>': CHANGE and SET are numbers from 0 to 4294967295",
@@ -435,11 +438,43 @@ const NUMBERS: [(&str, &str); 26] = [
     ),
     (
         "serve g --site 1 --start 0",
-        "error: invalid value '0' for '--start <N>': 0 is not in 1..=4294967295",
+        "error: invalid value '0' for '--start <N>': 0 is not in 1..=4294967294",
     ),
     (
-        "serve g --site 1 --start 4294967296",
-        "error: invalid value '4294967296' for '--start <N>': 4294967296 is not in 1..=4294967295",
+        "serve g --site 1 --start 4294967295",
+        "error: invalid value '4294967295' for '--start <N>': 4294967295 is not in 1..=4294967294",
+    ),
+    (
+        "serve g --site 1 --start 1 --sites 2 --sites 0",
+        "error: invalid value '0' for '--sites <N>': 0 is not in 1..=65535",
+    ),
+    (
+        "serve g --site 1 --start 1 --sites 65536",
+        "error: invalid value '65536' for '--sites <N>': 65536 is not in 1..=65535",
+    ),
+    (
+        "serve g --site 1 --start 1 --sites 2,3",
+        "error: invalid value '2,3' for '--sites <N>': invalid digit found in string",
+    ),
+    (
+        "recover j --without 1",
+        "error: --without needs SITE,START, numbers from 0 to 65535 and from 0 to 4294967295",
+    ),
+    (
+        "recover j --without 1,2 --without 65536,1",
+        "error: --without needs SITE,START, numbers from 0 to 65535 and from 0 to 4294967295",
+    ),
+    (
+        "recover j --without 1,4294967296",
+        "error: --without needs SITE,START, numbers from 0 to 65535 and from 0 to 4294967295",
+    ),
+    (
+        "recover j --until x",
+        "error: invalid value 'x' for '--until <TIME>': invalid digit found in string",
+    ),
+    (
+        "recover j --until 18446744073709551616",
+        "error: invalid value '18446744073709551616' for '--until <TIME>': number too large to fit in target type",
     ),
     (
         "serve g --site 1 --start 1 --port 65536",

@@ -1,4 +1,3 @@
-use Rattle.std.proofs.Common.{rules}
 use Rattle.command_tree.specs.Rows.{rows_in}
 use Rattle.command_line.proofs.Reading.{no_serve}
 use Rattle.command_line.proofs.sites.serve_in.Goals as goal

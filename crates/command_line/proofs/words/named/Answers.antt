@@ -34,7 +34,8 @@ returns-in-simulate c =
 
 pub returns-in-recover : goal.returns-in-recover
 returns-in-recover c =
-    found_named recover c.args.name.now (rows_in c.args.values.now) c.recover_in.result c.in-recover.is c.recover_in.ensures
+    IfOk-weaker c.recover_in.result _ _
+    (λ read. found_named recover c.args.name.now (rows_in c.args.values.now) read c.in-recover.is) c.recover_in.ensures
 
 pub returns-in-serve : goal.returns-in-serve
 returns-in-serve c =

@@ -1,0 +1,24 @@
+//! What a site lets in of what its peers hand over: operations of the sites that it knows, whose times and starts
+//! aren't far ahead of what it has.
+//!
+//! Its tests are in the crate `site_tests`.
+//!
+//! | Bar | Of the first operation that isn't allowed |
+//! |---|---|
+//! | 11 `NotListed` | its site is neither the own one nor in the list |
+//! | 12 `FarAhead` | its time is more than 2^40 above the record's greatest, or its start is 4,294,967,295 |
+//!
+//! An example of its use:
+//!
+//! ```
+//! let guard = Guard { own: 1, sites: vec![in alloc; 2, 3]? };
+//! let op = Op::new(stamp, body);
+//! assert_eq!(rt; guard.admit(latest_time(&replica), &[op]), Ok(()));
+//! ```
+#![tactic(auto)]
+
+mod clock;
+mod guard;
+
+pub use clock::latest_time;
+pub use guard::{Bar, FURTHEST, Guard, LAST_START};
