@@ -81,6 +81,7 @@ fn report_site<E: Drain>(alloc: Global, ended: Ended<'_>, errors: &mut E) -> u8 
         }
         Ended::Site(fault) => report_fault(alloc, fault.number(), fault.name(), errors),
         Ended::Program(fault) => report_fault(alloc, fault.number(), fault.name(), errors),
+        Ended::Unprinted => 1,
     }
 }
 

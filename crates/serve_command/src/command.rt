@@ -4,6 +4,7 @@ ghost use Rattle.std.specs.Prelude.{◌≡◌, IfOk, List, option_map};
 ghost use Rattle.review_ops.specs.Operation.{Operation};
 ghost use Rattle.serve_command.specs.Beginning.{AreInputs};
 ghost use Rattle.serve_command.specs.Endings.{EndsAs};
+ghost use Rattle.serve_command.specs.Printing.{prints_of};
 
 use super::fault::ProgramFault;
 use super::input_end::stop_with_input;
@@ -12,14 +13,14 @@ use super::output::PatientOutput;
 use super::save::save;
 use super::start::start_of;
 use byte_ends::{Drain, Ends, Source, write_all};
-use command_line::ServeWords;
+use command_line::{Printing, ServeWords};
 use console::{Console, Named, Refusal, Streams, SystemFiles, read_gate, read_snapshot};
 use gate_rules::Gate;
 use replica_core::Replica;
 use site_journal::JournalFault;
 use site_ledger::{Keeps, NoJournal};
 use site_net::Stop;
-use site_serve::{ServeFault, Served, Setup, Turn, serve_keeping};
+use site_serve::{Prints, ServeFault, Served, Setup, Turn, serve_keeping};
 use std::alloc::Global;
 use std::fs::File;
 use std::io;
@@ -43,6 +44,8 @@ pub enum Ended<'n> {
     Site(ServeFault),
     /// Its port or its files, or a start that another process has.
     Program(ProgramFault),
+    /// Its output failed while it ran, which was said then.
+    Unprinted,
 }
 
 /// Nothing is done before and after a session.
@@ -195,6 +198,7 @@ fn setup_of(serving: ServeWords<'_>, start: u32, gate: Gate, replica: Replica) -
     ensures peers { (result.peers ≡ serving.entry.peers) × (result.pause_ms ≡ serving.entry.pause_ms) }
     ensures sessions { (result.workers ≡ serving.entry.workers) × (result.sessions ≡ serving.entry.sessions)
         × (result.idle_ms ≡ serving.entry.idle_ms) × (result.connections ≡ serving.entry.connections) }
+    ensures prints { result.prints ≡ prints_of serving.entry.prints }
 {
     let ServeWords {
         peers,
@@ -204,6 +208,7 @@ fn setup_of(serving: ServeWords<'_>, start: u32, gate: Gate, replica: Replica) -
         sessions,
         idle_ms,
         connections,
+        prints,
         ..
     } = serving;
     Setup {
@@ -217,6 +222,18 @@ fn setup_of(serving: ServeWords<'_>, start: u32, gate: Gate, replica: Replica) -
         sessions,
         idle_ms,
         connections,
+        prints: prints_of(prints),
+    }
+}
+
+/// What a site prints, as the words say.
+fn prints_of(printing: Printing) -> Prints
+    ensures { result ≡ prints_of printing }
+{
+    match printing {
+        Printing::Report => Prints::Report,
+        Printing::Changes => Prints::Changes,
+        Printing::Nothing => Prints::Nothing,
     }
 }
 
@@ -295,7 +312,7 @@ fn say_port<R: Print>(rt: &R, alloc: Global, listener: &TcpListener) -> Result<(
     }
 }
 
-/// Saves what a site has left, where a file is named, also where a report couldn't be written, or where the site ended
+/// Saves what a site has left, where a file is named, also where the output failed, or where the site ended
 /// because its start is taken.
 fn keep<R: Files>(
     rt: &R,
@@ -311,7 +328,7 @@ fn keep<R: Files>(
     ending_of(served.is_start_taken, served.written)
 }
 
-/// How a site ends whose start is taken or not, and whose reports were all written or not.
+/// How a site ends whose start is taken or not, and whose output took all that was printed or failed.
 fn ending_of(is_start_taken: bool, written: bool) -> Result<(), Ended<'static>>
     ensures { EndsAs is_start_taken written result }
 {
@@ -320,6 +337,6 @@ fn ending_of(is_start_taken: bool, written: bool) -> Result<(), Ended<'static>>
     } else if written {
         Ok(())
     } else {
-        Err(Ended::Refused(Refusal::Output))
+        Err(Ended::Unprinted)
     }
 }

@@ -60,6 +60,13 @@ impl<E: Drain> Errors<E> {
         }
     }
 
+    /// Writes that the output didn't take what was printed.
+    pub fn not_printed(&self, rt: &impl Wait, alloc: Global) {
+        if let Ok(line) = refusal_line(alloc, Part::Output, 1, "WriteFault") {
+            self.write(rt, line.as_str());
+        }
+    }
+
     /// Writes a line, unless the end doesn't take it.
     fn write(&self, rt: &impl Wait, line: &str) {
         let mut drain = self.drain.lock(rt);

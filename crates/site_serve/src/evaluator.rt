@@ -1,17 +1,26 @@
-//! Prints the report of a site whenever it changes.
+//! Prints what a site has to say of its verdicts whenever they change.
 
-ghost use Rattle.std.specs.Prelude.{◌≡◌, IfOk};
+ghost use Rattle.std.specs.Prelude.{◌≡◌, [], IfOk};
+ghost use Rattle.std.specs.List.Sorted.{IsStrictlySortedBy};
 ghost use Rattle.std.specs.Option.{ForSome};
+ghost use Rattle.ready_core.specs.Verdicts.{items_out};
+ghost use Rattle.report_changes.specs.Lines.{changes_text};
+ghost use Rattle.report_changes.specs.Listing.{listed_of};
+ghost use Rattle.report_text.specs.Report.{report_of};
 ghost use Rattle.site_serve.specs.Fault.{after_window};
-ghost use Rattle.site_serve.specs.Reports.{IsReportOf};
+ghost use Rattle.site_serve.specs.Reports.{IsShown};
 ghost use Rattle.site_shared.specs.Accounts.{GoesOn};
+ghost use Rattle.state_core.specs.Items.{item_cmp};
 
+use super::errors::Errors;
 use super::kept::brought_up;
 use super::news::News;
 use super::opening::{OwnWatch, OwnWindow};
-use super::setup::ServeFault;
+use super::setup::{Prints, ServeFault};
 use byte_ends::{Drain, Ends, write_all};
 use gate_rules::Gate;
+use ready_core::Verdicts;
+use report_changes::{Listed, write_changes};
 use report_text::write_report;
 use site_shared::{Naming, WindowFault};
 use std::alloc::Global;
@@ -36,21 +45,33 @@ const LONGEST_REST_S: u64 = 60;
 #[derive(Drop)]
 pub struct Printed<J: Naming> {
     pub window: OwnWindow<J>,
-    /// Whether every report was written.
+    /// Whether all that was to be printed was written.
     pub written: bool,
     pub fault: Option<ServeFault>,
 }
 
-/// Prints the report of what the window shows, and each one that differs from the last, until nothing new comes any
-/// more. After each it rests. The verdicts are kept from one report to the next, and brought up to date with what the
-/// window shows.
-pub fn print_reports<R: Wait + Clock, W: Drain + Drop, J: Naming>(
+/// What is shown of a look.
+#[derive(Drop)]
+struct Shown {
+    /// What is to be printed.
+    text: Vec<u8>,
+    /// What is listed, where changes are printed.
+    listed: Listed,
+}
+
+/// Prints the report of what the window shows, and each one that differs from the last, or what changed from one to the
+/// next, until nothing new comes any more. After each it rests. The verdicts are kept from one look to the next, and
+/// brought up to date with what the window shows. Once the output has failed nothing more is printed, which is said on
+/// the error output.
+pub fn print_reports<R: Wait + Clock, W: Drain + Drop, E: Drain, J: Naming>(
     rt: &R,
     alloc: Global,
     gate: &Gate,
+    prints: Prints,
     news: &News<J>,
     window: OwnWindow<J>,
     output: W,
+    errors: &Errors<E>,
 ) -> Printed<J> {
     let mut printed = Printed {
         window,
@@ -58,19 +79,26 @@ pub fn print_reports<R: Wait + Clock, W: Drain + Drop, J: Naming>(
         fault: None,
     };
     let mut output = output;
-    let mut last = Vec::new(alloc);
+    let mut last = nothing_shown(alloc);
     let mut kept = None;
     let mut is_over = false;
     for _ in rt.forever() {
         let begun = Instant::now(rt);
-        let text = report_text(alloc, gate, &mut printed.window, &mut kept);
+        let shown = next_shown(
+            alloc,
+            gate,
+            prints,
+            &mut printed.window,
+            &mut kept,
+            &last.listed,
+        );
         let rest = rest_since(rt, begun);
-        match text {
-            Ok(text) => {
-                if text != last {
-                    printed.written &= write_all(&mut output, text.as_slice()).is_ok();
-                    last = text;
+        match shown {
+            Ok(shown) => {
+                if printed.written && is_news(prints, &shown, &last) {
+                    printed.written = is_printed(rt, alloc, &shown, &mut output, errors);
                 }
+                last = shown;
             }
             Err(fault) => printed.fault = Some(fault),
         }
@@ -88,6 +116,30 @@ pub fn print_reports<R: Wait + Clock, W: Drain + Drop, J: Naming>(
     unreachable!()
 }
 
+/// Whether a text is printed after the last one: a report where it differs, and what changed where anything did.
+fn is_news(prints: Prints, shown: &Shown, last: &Shown) -> bool {
+    match prints {
+        Prints::Report => shown.text != last.text,
+        Prints::Changes => !shown.text.is_empty(),
+        Prints::Nothing => false,
+    }
+}
+
+/// Writes what is to be printed. Answers whether the output took it; where it didn't that is said on the error output.
+fn is_printed<R: Wait, W: Drain, E: Drain>(
+    rt: &R,
+    alloc: Global,
+    shown: &Shown,
+    output: &mut W,
+    errors: &Errors<E>,
+) -> bool {
+    let is_written = write_all(output, shown.text.as_slice()).is_ok();
+    if !is_written {
+        errors.not_printed(rt, alloc);
+    }
+    is_written
+}
+
 /// How long to rest after a report that was begun then; not at all where the clock can't be read.
 fn rest_since<R: Clock>(rt: &R, begun: io::Result<Instant>) -> Duration {
     match begun.and_then(|begun| begun.elapsed(rt)) {
@@ -100,37 +152,92 @@ fn rest_since<R: Clock>(rt: &R, begun: io::Result<Instant>) -> Duration {
     }
 }
 
-/// The text of the report of what a window shows, by the verdicts that are kept.
-fn report_text<J: Naming>(
+/// What is shown of what a window shows, by the verdicts that are kept, after what was listed before.
+fn next_shown<J: Naming>(
     alloc: Global,
     gate: &Gate,
+    prints: Prints,
     window: &mut OwnWindow<J>,
     kept: &mut Option<OwnWatch<J>>,
-) -> Result<Vec<u8>, ServeFault>
+    before: &Listed,
+) -> Result<Shown, ServeFault>
     requires { ForSome kept.old (λ watch. watch.watch.gate ≡ gate.now) }
     ensures gate { ForSome kept.new (λ watch. watch.watch.gate ≡ gate.now) }
     ensures later { GoesOn window.old.window window.new.window }
-    ensures text { IfOk result (λ text. IsReportOf gate.now window.new.window.seen text.items) }
+    ensures shown { IfOk result (λ shown. IsShown prints gate.now window.new.window.seen before.now shown.text.items
+        shown.listed) }
 {
+    if prints == Prints::Nothing {
+        return Ok(nothing_shown(alloc));
+    }
     let watch = match brought_up(gate, window, kept.take()) {
         Ok(watch) => watch,
         Err(fault) => return Err(serve_fault(fault)),
     };
-    let text = text_of(alloc, &watch);
+    let shown = shown_of(alloc, prints, &watch, before);
     *kept = Some(watch);
-    text
+    shown
 }
 
-/// The text of the report of what a watch saw. It has no verdicts only where memory was refused.
-fn text_of<J: Naming>(alloc: Global, watch: &OwnWatch<J>) -> Result<Vec<u8>, ServeFault>
-    ensures { IfOk result (λ text. IsReportOf watch.now.watch.gate watch.now.watch.seen text.items) }
+/// Nothing is printed.
+fn nothing_shown(alloc: Global) -> Shown
+    ensures { result.text.items ≡ [] }
+{
+    Shown {
+        text: Vec::new(alloc),
+        listed: Listed::new(alloc),
+    }
+}
+
+/// What is shown of what a watch saw. It has no verdicts only where memory was refused.
+fn shown_of<J: Naming>(
+    alloc: Global,
+    prints: Prints,
+    watch: &OwnWatch<J>,
+    before: &Listed,
+) -> Result<Shown, ServeFault>
+    ensures { IfOk result (λ shown. IsShown prints watch.now.watch.gate watch.now.watch.seen before.now shown.text.items
+        shown.listed) }
 {
     let Some(verdicts) = watch.verdicts() else {
         return Err(ServeFault::NoMemory);
     };
+    match prints {
+        Prints::Report => report_shown(alloc, verdicts),
+        Prints::Changes => changes_shown(alloc, verdicts, before),
+        Prints::Nothing => Ok(nothing_shown(alloc)),
+    }
+}
+
+/// The report of verdicts.
+fn report_shown(alloc: Global, verdicts: &Verdicts) -> Result<Shown, ServeFault>
+    ensures { IfOk result (λ shown. shown.text.items ≡ report_of verdicts.now) }
+{
     let mut text = Ends::new(Vec::new(alloc));
     match write_report(verdicts, &mut text) {
-        Ok(()) => Ok(text.into_inner()),
+        Ok(()) => Ok(Shown {
+            text: text.into_inner(),
+            listed: Listed::new(alloc),
+        }),
+        Err(_) => Err(ServeFault::NoMemory),
+    }
+}
+
+/// What changed in verdicts, after what was listed before, and what is listed of them.
+fn changes_shown(alloc: Global, verdicts: &Verdicts, before: &Listed) -> Result<Shown, ServeFault>
+    requires { IsStrictlySortedBy item_cmp (items_out verdicts.now.out) }
+    ensures text { IfOk result (λ shown. shown.text.items ≡ changes_text before.now (listed_of verdicts.now)) }
+    ensures listed { IfOk result (λ shown. shown.listed ≡ listed_of verdicts.now) }
+{
+    let Ok(listed) = Listed::of(alloc, verdicts) else {
+        return Err(ServeFault::NoMemory);
+    };
+    let mut text = Ends::new(Vec::new(alloc));
+    match write_changes(alloc, before, &listed, &mut text) {
+        Ok(()) => Ok(Shown {
+            text: text.into_inner(),
+            listed,
+        }),
         Err(_) => Err(ServeFault::NoMemory),
     }
 }

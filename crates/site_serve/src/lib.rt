@@ -61,4 +61,4 @@ mod session;
 mod setup;
 
 pub use run::{serve_keeping, serve_run};
-pub use setup::{ServeFault, Served, Setup, Turn};
+pub use setup::{Prints, ServeFault, Served, Setup, Turn};

@@ -19,7 +19,7 @@ use super::news::News;
 use super::opening::{OwnLedger, OwnWindow};
 use super::port::PullPort;
 use super::seats::{Lines, Seats, seated};
-use super::setup::{ServeFault, Served, Setup, Turn};
+use super::setup::{Prints, ServeFault, Served, Setup, Turn};
 use byte_ends::Drain;
 use gate_rules::Gate;
 use mio::net::TcpListener as Listener;
@@ -56,6 +56,7 @@ const PULL_PATIENCE_MS: u64 = 10_000;
 struct Common<'a, E: Drain, T: Turn> {
     alloc: Global,
     gate: Gate,
+    prints: Prints,
     pause: Duration,
     patience: Patience,
     errors: Errors<E>,
@@ -90,7 +91,8 @@ where
 
 /// Runs a site until it is asked to stop, or until all its sessions have ended: its sessions, its pulls and its reports
 /// in threads of their own, and its desk in this one. The report of what it has is printed first, then each one that
-/// differs from the last. What ended with a fault, and which peer can't be reached, is written to `errors`. Refusals: 2
+/// differs from the last, or what changed from one to the next, as the setup has it. What ended with a fault, which peer
+/// can't be reached, and that the output failed is written to `errors`. Refusals: 2
 /// `StartUsed`, the replica has a stamp of the site under this start or a later one; 3 `NoMemory`; 4 `NoPlace`, the
 /// system refused a thread or a place for one; 6 `NoJournal`, what was taken in couldn't be kept, and was neither shown
 /// nor acknowledged. Whatever the site takes in is kept first, then shown, then acknowledged. The keeper has to be one
@@ -126,6 +128,7 @@ where
         sessions,
         idle_ms,
         connections,
+        prints,
     } = setup;
     let workers = workers.max(1).min(MOST_WORKERS);
     let Ok((poll, listener)) = polled(rt, listener) else {
@@ -141,6 +144,7 @@ where
     let common = Common {
         alloc,
         gate,
+        prints,
         pause: Duration::from_millis(pause_ms),
         patience: patience_of(idle_ms),
         errors: Errors::new(errors),
@@ -419,7 +423,7 @@ where
     )
 }
 
-/// Prints the reports.
+/// Prints what the site has to say of its verdicts.
 fn print_all<R: Wait + Clock, W: Drain + Drop, E: Drain, T: Turn, J: Naming>(
     rt: &R,
     common: &Common<'_, E, T>,
@@ -427,7 +431,16 @@ fn print_all<R: Wait + Clock, W: Drain + Drop, E: Drain, T: Turn, J: Naming>(
     window: OwnWindow<J>,
     output: W,
 ) -> Printed<J> {
-    print_reports(rt, common.alloc, &common.gate, news, window, output)
+    print_reports(
+        rt,
+        common.alloc,
+        &common.gate,
+        common.prints,
+        news,
+        window,
+        output,
+        &common.errors,
+    )
 }
 
 /// Pulls from its share of the peers. It notes whether another process takes in as this site.

@@ -7,6 +7,17 @@ use gate_rules::Gate;
 use replica_core::Replica;
 use thiserror::Error;
 
+/// What a site prints of its verdicts.
+#[derive(Clone, Copy, Debug, PartialEq, Eq)]
+pub enum Prints {
+    /// The whole report, whenever it changes.
+    Report,
+    /// What changed from one report to the next.
+    Changes,
+    /// Nothing.
+    Nothing,
+}
+
 /// What a site is run with.
 #[derive(Drop)]
 pub struct Setup {
@@ -30,6 +41,8 @@ pub struct Setup {
     pub idle_ms: u64,
     /// How many connections may be open at once, from 1 to 65,535: none is as 1, and more are as 65,535.
     pub connections: usize,
+    /// What it prints.
+    pub prints: Prints,
 }
 
 /// What a site that ended leaves.
@@ -37,7 +50,7 @@ pub struct Setup {
 pub struct Served {
     /// All that it had.
     pub replica: Replica,
-    /// Whether every report was written.
+    /// Whether all that it was to print was written. Where it wasn't, that was said on the error output.
     pub written: bool,
     /// Whether it ended because another process runs as this site, under this start or a later one.
     pub is_start_taken: bool,
