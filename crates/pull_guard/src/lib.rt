@@ -3,6 +3,9 @@
 //!
 //! Its tests are in the crate `site_tests`.
 //!
+//! It is a crate of its own so that the rule is one for every sink, and known to who counts starts. Not taken: a limit by
+//! the time of day (times are counters), and a list of trusted operations, which would have to be signed.
+//!
 //! | Bar | Of the first operation that isn't allowed |
 //! |---|---|
 //! | 11 `NotListed` | its site is neither the own one nor in the list |
@@ -11,9 +14,13 @@
 //! An example of its use:
 //!
 //! ```
-//! let guard = Guard { own: 1, sites: vec![in alloc; 2, 3]? };
-//! let op = Op::new(stamp, body);
-//! assert_eq!(rt; guard.admit(latest_time(&replica), &[op]), Ok(()));
+//! let mut sites = Vec::new(alloc);
+//! sites.push(2u16)?;
+//! let guard = Guard { own: 1, sites };
+//! let stamp = Stamp::new(7, 3, 1, 1).ok_or("a stamp")?;
+//! let op = Op::new(stamp, Body::checked(Draft::Merged { change: 101 })?);
+//! let latest = latest_time(&Replica::new(alloc));
+//! assert_eq!(rt; guard.admit(latest, &[op]), Err(Bar::NotListed));
 //! ```
 #![tactic(auto)]
 

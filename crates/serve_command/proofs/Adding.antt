@@ -12,9 +12,6 @@ use Rattle.site_journal.specs.Tape.{Changes, Image, IsSettled}
 use Rattle.site_journal.specs.Text.{SaysJournal}
 use Rattle.serve_command.specs.Beginning.{IsAdded, lacking_of}
 
-pub none_added : (book : Book) (gathered : List Operation) → IsAdded book gathered book gathered
-none_added book gathered = ([], refl, λ before holds. subst (IsHolding book) (sym (append-nil before)) holds)
-
 -- what was gathered more is added, or left
 pub added_more : (old mid new : Book) (gathered left more rest : List Operation) → IsAdded old gathered mid left
     → IsAdded mid (left ++ more) new rest → IsAdded old (gathered ++ more) new rest
@@ -32,11 +29,6 @@ added_rest old mid new gathered left rest first second =
     subst (λ ops. IsAdded old ops new rest) (append-nil gathered)
     (added_more old mid new gathered left [] rest first
     (subst (λ ops. IsAdded mid ops new rest) (sym (append-nil left)) second))
-
-pub all_added : (old new : Book) (gathered before : List Operation) → IsAdded old gathered new [] → IsHolding old before
-    → IsHolding new (before ++ gathered)
-all_added old new gathered before added holds =
-    subst (λ ops. IsHolding new (before ++ ops)) (sym (append-nil added.0) ∙ added.1) (added.2 before holds)
 
 -- ---- one operation further
 

@@ -30,6 +30,7 @@
 //!     sessions: 0,
 //!     idle_ms: 0,
 //!     connections: 1024,
+//!     prints: Prints::Report,
 //! };
 //! let stop = Stop::new();
 //! stop.ask(&rt);
