@@ -70,7 +70,8 @@ pub fn pull_run<S: Source, D: Drain, K: Sink>(
     pull_rounds(alloc, LINE_LIMIT, ROUNDS, source, drain, sink)
 }
 
-/// Takes in rounds, at most so many, and by lines of at most so many bytes.
+/// Takes from a session what the sink lacks, as `pull_run` does, in at most so many rounds, and by lines of at most so
+/// many bytes.
 pub fn pull_rounds<S: Source, D: Drain, K: Sink>(
     alloc: Global,
     limit: usize,
