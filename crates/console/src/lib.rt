@@ -4,19 +4,24 @@
 //! Its tests are in the crate `command_tests`.
 //!
 //! The name `-` is that of the input, which is read once: a second `-` is empty. Each kind of input has its limit. A
-//! script, a gate file or a message is judged once it is read, and a snapshot as it is read, in blocks.
+//! script, a gate file or a message is judged once it is read, and a snapshot as it is read, in blocks. The name `@PORT`
+//! of a record is that of a running site, from which the record is pulled.
 #![tactic(auto)]
 
 mod files;
 mod inputs;
+mod ports;
+mod pulls;
 mod refusals;
 mod showing;
 mod streams;
 
-pub use files::{Named, SystemFiles};
+pub use files::Named;
 pub use inputs::{
-    GateFile, read_any_gate, read_gate, read_gate_file, read_message, read_script, read_snapshot,
+    GateFile, read_any_gate, read_gate, read_gate_file, read_message, read_record, read_script,
+    read_snapshot,
 };
+pub use pulls::PullFault;
 pub use refusals::Refusal;
 pub use showing::{show, show_line, show_refusal, show_torn};
 pub use streams::{Console, Streams};
