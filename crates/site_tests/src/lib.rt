@@ -11,6 +11,8 @@ mod lines;
 #[cfg(test)]
 mod ports;
 #[cfg(test)]
+mod records;
+#[cfg(test)]
 mod recoveries;
 #[cfg(test)]
 mod refused;
