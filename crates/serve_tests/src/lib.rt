@@ -13,6 +13,8 @@ mod gossip;
 #[cfg(test)]
 mod programs;
 #[cfg(test)]
+mod records;
+#[cfg(test)]
 mod restarts;
 #[cfg(test)]
 mod site_feeds;
