@@ -10,7 +10,7 @@ _reviewgate() {
             footers) words="--change --help" ;;
             graph) words="--around --help" ;;
             serve)
-                words="--site --start --port --workers --pause --sessions --idle --connections --until-input-ends --load --save --journal --help"
+                words="--site --start --port --workers --pause --sessions --idle --connections --until-input-ends --print --load --save --journal --help"
                 ;;
             *) words="--help" ;;
         esac

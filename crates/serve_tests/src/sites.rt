@@ -5,7 +5,7 @@ use gate_rules::Gate;
 use op_text::read_op;
 use replica_core::Replica;
 use site_net::Stop;
-use site_serve::{ServeFault, Served, Setup, Turn, serve_run};
+use site_serve::{Prints, ServeFault, Served, Setup, Turn, serve_run};
 use std::alloc::Global;
 use std::io::{Read, Write};
 use std::net::{Net, Shutdown, TcpListener, TcpStream};
@@ -56,6 +56,7 @@ pub fn one_session(alloc: Global, site: u16) -> Result<Setup, Fail> {
         sessions: 1,
         idle_ms: 0,
         connections: 1024,
+        prints: Prints::Report,
     })
 }
 
