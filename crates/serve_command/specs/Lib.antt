@@ -1,3 +1,4 @@
 pub mod Fault
 pub mod Beginning
 pub mod Endings
+pub mod LateClock

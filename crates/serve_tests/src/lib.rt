@@ -11,6 +11,8 @@ mod feeds;
 #[cfg(test)]
 mod gossip;
 #[cfg(test)]
+mod guards;
+#[cfg(test)]
 mod programs;
 #[cfg(test)]
 mod restarts;

@@ -36,6 +36,7 @@ pub fn site_words<'a>(alloc: Global) -> ServeWords<'a> {
     ServeWords {
         gate: "-",
         peers: Vec::new(alloc),
+        sites: Vec::new(alloc),
         site: 1,
         start: Some(1),
         port: 0,
@@ -56,6 +57,7 @@ fn journal_words<'a>(alloc: Global, name: &'a str) -> ServeWords<'a> {
     ServeWords {
         gate: "-",
         peers: Vec::new(alloc),
+        sites: Vec::new(alloc),
         site: 1,
         start: None,
         port: 0,

@@ -39,6 +39,7 @@ where
         site: 1,
         start: 1,
         peers: Vec::new(alloc),
+        sites: Vec::new(alloc),
         workers: 2,
         pause_ms: 50,
         sessions,

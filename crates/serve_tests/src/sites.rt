@@ -51,6 +51,7 @@ pub fn one_session(alloc: Global, site: u16) -> Result<Setup, Fail> {
         site,
         start: 1,
         peers: Vec::new(alloc),
+        sites: Vec::new(alloc),
         workers: 1,
         pause_ms: 50,
         sessions: 1,

@@ -24,8 +24,10 @@ use byte_ends::Drain;
 use gate_rules::Gate;
 use mio::net::TcpListener as Listener;
 use mio::{Interest, Poll, Waker};
+use pull_guard::Guard;
 use site_ledger::{Keeps, Ledger, NoJournal};
 use site_net::{Patience, Stop};
+use site_port::Guarded;
 use site_shared::{Desk, Naming, OpenFault, Window, open_site};
 use std::alloc::{AllocError, Global};
 use std::marker::Brand;
@@ -56,6 +58,7 @@ const PULL_PATIENCE_MS: u64 = 10_000;
 struct Common<'a, E: Drain, T: Turn> {
     alloc: Global,
     gate: Gate,
+    guard: Guard,
     pause: Duration,
     patience: Patience,
     errors: Errors<E>,
@@ -121,6 +124,7 @@ where
         site,
         start,
         peers,
+        sites,
         workers,
         pause_ms,
         sessions,
@@ -141,6 +145,7 @@ where
     let common = Common {
         alloc,
         gate,
+        guard: Guard { own: site, sites },
         pause: Duration::from_millis(pause_ms),
         patience: patience_of(idle_ms),
         errors: Errors::new(errors),
@@ -453,9 +458,12 @@ where
         },
         stop: common.stop,
     };
-    let mut port = PullPort::new(rt, waker, place);
+    let mut port = Guarded {
+        guard: &common.guard,
+        sink: PullPort::new(rt, waker, place),
+    };
     pull_from_peers(rt, pulling, peers, &common.errors, &mut port);
-    if port.is_start_taken() {
+    if port.sink.is_start_taken() {
         common.is_start_taken.store(true, Ordering::SeqCst);
     }
 }
