@@ -12,8 +12,10 @@
 //!
 //! ```
 //! let guard = Guard { own: 1, sites: vec![in alloc; 2, 3]? };
-//! let op = Op::new(stamp, body);
-//! assert_eq!(rt; guard.admit(latest_time(&replica), &[op]), Ok(()));
+//! let stamp = Replica::new(alloc).next_stamp(2, 1)?;
+//! let op = Op::new(stamp, Body::checked(Draft::Merged { change: 101 })?);
+//! let latest = latest_time(&Replica::new(alloc));
+//! assert_eq!(rt; guard.admit(latest, &[op]), Ok(()));
 //! ```
 #![tactic(auto)]
 
