@@ -9,8 +9,9 @@ _reviewgate() {
             events) words="--to --query --complete --project --projects --gate --help" ;;
             footers) words="--change --help" ;;
             graph) words="--around --help" ;;
+            recover) words="--without --until --help" ;;
             serve)
-                words="--site --start --port --workers --pause --sessions --idle --connections --until-input-ends --load --save --journal --help"
+                words="--site --start --port --sites --workers --pause --sessions --idle --connections --until-input-ends --print --load --save --journal --help"
                 ;;
             *) words="--help" ;;
         esac

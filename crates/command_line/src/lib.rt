@@ -21,7 +21,5 @@ mod numbers;
 mod sites;
 mod words;
 
-pub use asked::{
-    Answer, Asked, Command, EventWords, Printing, RecoverWords, ServeWords,
-};
+pub use asked::{Answer, Asked, Command, EventWords, Printing, RecoverWords, ServeWords};
 pub use words::read_words;

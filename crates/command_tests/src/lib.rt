@@ -16,6 +16,8 @@ mod program;
 #[cfg(test)]
 mod reasons;
 #[cfg(test)]
+mod records;
+#[cfg(test)]
 mod reports;
 #[cfg(test)]
 mod scripts;

@@ -1,9 +1,10 @@
-//! Files for tests.
+//! Files and running sites for tests.
 
-ghost use Rattle.std.specs.Prelude.{[]};
+ghost use Rattle.std.specs.Prelude.{[], ◌∷◌};
 
 use byte_ends::{Broken, BytesFault, Ends};
-use console::Named;
+use console::{Named, PullFault};
+use gossip_line::LineFault;
 use replica_core::Replica;
 use snapshot_text::{SnapFault, read_onto};
 use std::alloc::Global;
@@ -19,6 +20,8 @@ pub struct OneFile<'a> {
 
 impl Named for OneFile<'_> {
     ghost files = { λ files. [] };
+
+    ghost sites = { λ files. [] };
 
     ghost failed = { λ files. files.failures };
 
@@ -48,6 +51,10 @@ impl Named for OneFile<'_> {
         answer
     }
 
+    fn pull(&mut self, _replica: Replica, _port: u16) -> Result<Replica, PullFault> {
+        Err(PullFault::Unreachable)
+    }
+
     fn failures(&self) -> u64 {
         self.failures
     }
@@ -64,6 +71,8 @@ pub struct BrokenFile<'a> {
 impl Named for BrokenFile<'_> {
     ghost files = { λ files. [] };
 
+    ghost sites = { λ files. [] };
+
     ghost failed = { λ files. files.failures };
 
     fn read(&mut self, _name: &str, _limit: usize) -> Result<Vec<u8>, BytesFault> {
@@ -78,6 +87,50 @@ impl Named for BrokenFile<'_> {
             self.failures = self.failures.saturating_add(1);
         }
         answer
+    }
+
+    fn pull(&mut self, _replica: Replica, _port: u16) -> Result<Replica, PullFault> {
+        Err(PullFault::Unreachable)
+    }
+
+    fn failures(&self) -> u64 {
+        self.failures
+    }
+}
+
+/// A running site: its port, and its record as a snapshot's text. No file is there, also none of the site's name.
+#[derive(Drop)]
+pub struct OneSite<'a> {
+    pub port: u16,
+    pub record: &'a [u8],
+    pub failures: u64,
+}
+
+impl Named for OneSite<'_> {
+    ghost files = { λ site. [] };
+
+    ghost sites = { λ site. (site.port, site.record.now) ∷ [] };
+
+    ghost failed = { λ site. site.failures };
+
+    fn read(&mut self, _name: &str, _limit: usize) -> Result<Vec<u8>, BytesFault> {
+        self.failures = self.failures.saturating_add(1);
+        Err(BytesFault::ReadFault)
+    }
+
+    fn read_snapshot(&mut self, _replica: Replica, _name: &str) -> Result<Replica, SnapFault> {
+        self.failures = self.failures.saturating_add(1);
+        Err(SnapFault::ReadFault)
+    }
+
+    fn pull(&mut self, replica: Replica, port: u16) -> Result<Replica, PullFault> {
+        if port != self.port {
+            return Err(PullFault::Unreachable);
+        }
+        match read_onto(replica, &mut Ends::new(self.record)) {
+            Ok(both) => Ok(both),
+            Err(_) => Err(PullFault::Failed(LineFault::BadAnswer)),
+        }
     }
 
     fn failures(&self) -> u64 {

@@ -4,7 +4,7 @@ ghost use Rattle.std.specs.Prelude.{[]};
 
 use super::program::run_words;
 use byte_ends::{Broken, BytesFault, Ends};
-use console::Named;
+use console::{Named, PullFault};
 use replica_core::Replica;
 use snapshot_text::SnapFault;
 use std::alloc::Global;
@@ -20,6 +20,8 @@ struct NoFiles {
 impl Named for NoFiles {
     ghost files = { λ files. [] };
 
+    ghost sites = { λ files. [] };
+
     ghost failed = { λ files. files.failures };
 
     fn read(&mut self, _name: &str, _limit: usize) -> Result<Vec<u8>, BytesFault> {
@@ -30,6 +32,10 @@ impl Named for NoFiles {
     fn read_snapshot(&mut self, _replica: Replica, _name: &str) -> Result<Replica, SnapFault> {
         self.failures = self.failures.saturating_add(1);
         Err(SnapFault::ReadFault)
+    }
+
+    fn pull(&mut self, _replica: Replica, _port: u16) -> Result<Replica, PullFault> {
+        Err(PullFault::Unreachable)
     }
 
     fn failures(&self) -> u64 {

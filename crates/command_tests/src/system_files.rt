@@ -3,7 +3,8 @@
 use super::merges::snapshot_of;
 use super::program::run_words;
 use byte_ends::Ends;
-use console::{Named, SystemFiles};
+use console::Named;
+use record_pull::SystemFiles;
 use std::alloc::Global;
 use std::fs;
 use std::process::Abort;

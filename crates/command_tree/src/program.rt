@@ -18,7 +18,8 @@ const VERSION: &str = "0.2.0 (logic dac8208d650f15bf)";
 pub const GATE_HELP: &str = "The gate file, or - for standard input";
 
 /// What a snapshot is.
-const SNAPSHOT_HELP: &str = "The snapshot's file, or - for standard input";
+const SNAPSHOT_HELP: &str =
+    "The snapshot's file, - for standard input, or @PORT for a running site";
 
 /// The program.
 pub fn program<'a>(alloc: Global) -> Result<Command<'a>, AllocError>
@@ -114,12 +115,12 @@ fn merge_command<'a>(alloc: Global) -> Result<Command<'a>, AllocError>
     let first = file(
         alloc,
         "FIRST",
-        "The first snapshot's file, or - for standard input",
+        "The first snapshot's file, - for standard input, or @PORT for a running site",
     );
     let second = file(
         alloc,
         "SECOND",
-        "The second snapshot's file, or - for standard input",
+        "The second snapshot's file, - for standard input, or @PORT for a running site",
     );
     Command::new(alloc, "merge")
         .about("Prints the snapshot of two together")
@@ -155,7 +156,7 @@ fn check_command<'a>(alloc: Global) -> Result<Command<'a>, AllocError>
     ensures { IfOk result (IsApp check_app) }
 {
     let snapshot = Arg::new(alloc, "SNAPSHOT").help(
-        "The snapshot whose votes the gate is compared with, or - for standard input",
+        "The snapshot whose votes the gate is compared with, - for standard input, or @PORT for a running site",
     );
     let strict = flag(alloc, "strict", "Ends with status 1 if there is a warning");
     Command::new(alloc, "check")

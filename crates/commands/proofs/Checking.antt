@@ -10,11 +10,12 @@ use Rattle.review_ops.specs.Operation.{Operation}
 use Rattle.snapshot_text.specs.Snapshot.{SaysOperations}
 use Rattle.state_core.specs.State.{State, state_of}
 use Rattle.console.specs.Console.{ConsoleState}
-use Rattle.console.specs.Inputs.{IsFirstRefused, IsHad, IsRefused, gate_file, input, snapshot_file}
+use Rattle.console.specs.Inputs.{IsFirstRefused, IsHad, IsRefused, gate_file, input, record_input}
 use Rattle.console.specs.Printing.{Ended, Prints}
 use Rattle.console.specs.declared.refusals.Refusal.{Refusal}
 use Rattle.commands.specs.Answers.{IsCheckText, IsRecordHad, SaysRecord}
 use Rattle.commands.specs.Ending.{Ends, Finishes, inputs_of}
+use Rattle.commands.proofs.OfRecord.{record_sound}
 use Rattle.commands.proofs.Simulated.{finishes_so}
 
 pub gate_refused : (gate : Bor (List ℕ)) (is_strict : Bool) (snapshot : Option (Bor (List ℕ)))
@@ -27,7 +28,7 @@ gate_refused gate is_strict (Some snapshot) old new refusal refused = inl refuse
 module _ (gate : Bor (List ℕ)) (is_strict : Bool) (rules : GateRules) where
   pub record_refused : (snapshot : Option (Bor (List ℕ))) (old mid new : ConsoleState) (refusal : Refusal)
       → IsHad (input gate_file gate.now) (λ text. SpellsGate text rules) old mid
-      → IsSomeAnd snapshot (λ name. IsRefused (input snapshot_file name.now) mid new refusal)
+      → IsSomeAnd snapshot (λ name. IsRefused (record_input name.now) mid new refusal)
       → IsFirstRefused (inputs_of (Check gate snapshot is_strict)) old new refusal
   record_refused None old mid new refusal had refused = absurd refused
   record_refused (Some snapshot) old mid new refusal had refused =
@@ -50,7 +51,7 @@ module _ (gate : Bor (List ℕ)) (is_strict : Bool) (rules : GateRules) where
       inr (
         had.0 ∷ too.0 ∷ [],
         now,
-        (mid, had.1, (rules, had.2), (now, too.1, (too.2.0, too.2.1), refl)),
+        (mid, had.1, (rules, had.2), (now, too.1, record_sound snapshot.now too.0 too.2.0 too.2.1, refl)),
         finishes_so (IsCheckText rules (Some state) is_strict) _
             (λ answer end is. (rules, had.2, Some state, too.2, is)) now new ended finished,
       )
@@ -58,8 +59,8 @@ module _ (gate : Bor (List ℕ)) (is_strict : Bool) (rules : GateRules) where
 -- the record that came into an empty one
 pub record_had : (name : List ℕ) (both : List Operation) (empty : List Operation) (old new : ConsoleState) → empty ≡ []
     → (ops : List Operation) × (both ≡ all_arrived empty ops)
-    × IsHad (input snapshot_file name) (λ text. SaysOperations (lines_of text) ops) old new
-    → IsHad (input snapshot_file name) (SaysRecord (state_of both)) old new
+    × IsHad (record_input name) (λ text. SaysOperations (lines_of text) ops) old new
+    → IsHad (record_input name) (SaysRecord (state_of both)) old new
 record_had name both empty old new none had = (
   had.2.0,
   had.2.1,

@@ -7,7 +7,8 @@ use Rattle.command_line.specs.declared.asked.Command.{Command}
 use Rattle.console.specs.Printing.{Ended}
 use Rattle.console.specs.Console.{ConsoleState, IsUnread, is_input, once_failed, once_read, one_more}
 use Rattle.commands.specs.Ending.{Ends, Finishes, IsAnswer, inputs_of}
-use Rattle.console.specs.Inputs.{AreHad, Input, IsFirstRefused, limit_of}
+use Rattle.console.specs.Inputs.{AreHad, Input, IsFirstRefused, IsRefusedAs, IsTextOf, Kind, gate_file, limit_of}
+use Rattle.console.specs.Inputs.{message_file, pulled, script_file, snapshot_file}
 use Rattle.console.specs.declared.refusals.Refusal.{Refusal}
 
 kept-read : (name : List ℕ) (console : ConsoleState) → (once_read name console).ends ≡ console.ends
@@ -30,16 +31,37 @@ kept-unread name limit old new TooLong unread = kept old new (once_read name old
 kept-unread name limit old new ReadFault unread = kept old new (once_failed name old) (kept-failed name old) unread
 kept-unread name limit old new NoMemory unread = kept old new (once_read name old) (kept-read name old) unread
 
+kept-text : (kind : Kind) (name : List ℕ) (old new : ConsoleState) (text : List ℕ)
+    → IsTextOf kind name old new text → new.ends ≡ old.ends
+kept-text gate_file name old new text read = kept old new (once_read name old) (kept-read name old) read.after
+kept-text message_file name old new text read = kept old new (once_read name old) (kept-read name old) read.after
+kept-text script_file name old new text read = kept old new (once_read name old) (kept-read name old) read.after
+kept-text snapshot_file name old new text read = kept old new (once_read name old) (kept-read name old) read.after
+kept-text pulled name old new text read = ap (λ (console : ConsoleState). console.ends) read.after
+
+kept-one : (kind : Kind) (name : List ℕ) (old new : ConsoleState) (refusal : Refusal)
+    → IsRefusedAs kind name old new refusal → new.ends ≡ old.ends
+kept-one gate_file name old new refusal (inl unread) =
+    kept-unread name (limit_of gate_file) old new unread.0 unread.2
+kept-one gate_file name old new refusal (inr flawed) = kept-text gate_file name old new flawed.0 flawed.1
+kept-one message_file name old new refusal (inl unread) =
+    kept-unread name (limit_of message_file) old new unread.0 unread.2
+kept-one message_file name old new refusal (inr flawed) = kept-text message_file name old new flawed.0 flawed.1
+kept-one script_file name old new refusal (inl unread) =
+    kept-unread name (limit_of script_file) old new unread.0 unread.2
+kept-one script_file name old new refusal (inr flawed) = kept-text script_file name old new flawed.0 flawed.1
+kept-one snapshot_file name old new refusal (inl unread) =
+    kept-unread name (limit_of snapshot_file) old new unread.0 unread.2
+kept-one snapshot_file name old new refusal (inr flawed) = kept-text snapshot_file name old new flawed.0 flawed.1
+kept-one pulled name old new refusal refused = ap (λ (console : ConsoleState). console.ends) refused.1
+
 kept-refused : (inputs : List Input) (old new : ConsoleState) (refusal : Refusal)
     → IsFirstRefused inputs old new refusal → new.ends ≡ old.ends
 kept-refused [] old new refusal refused = absurd refused
-kept-refused (one ∷ inputs) old new refusal (inl (inl unread)) =
-    kept-unread one.name (limit_of one.kind) old new unread.0 unread.2
-kept-refused (one ∷ inputs) old new refusal (inl (inr flawed)) =
-    kept old new (once_read one.name old) (kept-read one.name old) flawed.1.after
+kept-refused (one ∷ inputs) old new refusal (inl refused) = kept-one one.kind one.name old new refusal refused
 kept-refused (one ∷ inputs) old new refusal (inr later) =
     kept-refused inputs later.0 new refusal later.2
-    ∙ kept old later.0 (once_read one.name old) (kept-read one.name old) later.1.1.after
+    ∙ kept-text one.kind one.name old later.0 later.1.0 later.1.1
 
 kept-had : (inputs : List Input) (old new : ConsoleState) (texts : List (List ℕ)) → AreHad inputs old texts new
     → new.ends ≡ old.ends
@@ -47,7 +69,7 @@ kept-had [] old new [] had = ap (λ (console : ConsoleState). console.ends) had
 kept-had [] old new (text ∷ texts) had = absurd had
 kept-had (one ∷ inputs) old new [] had = absurd had
 kept-had (one ∷ inputs) old new (text ∷ texts) had =
-    kept-had inputs had.0 new texts had.3 ∙ kept old had.0 (once_read one.name old) (kept-read one.name old) had.1.after
+    kept-had inputs had.0 new texts had.3 ∙ kept-text one.kind one.name old had.0 text had.1
 
 kept-finished : (IsTheAnswer : List ℕ → Ended → Type 0) (old new : ConsoleState) (ended : Ended)
     → Finishes IsTheAnswer old new ended → new.ends ≡ old.ends

@@ -26,7 +26,7 @@ use Rattle.why_text.specs.Asked.{IsItemAsked}
 use Rattle.why_text.specs.Why.{IsWhy}
 use Rattle.world_core.specs.World.{new_world}
 use Rattle.console.specs.Console.{ConsoleState}
-use Rattle.console.specs.Inputs.{IsHad, input, snapshot_file}
+use Rattle.console.specs.Inputs.{IsHad, record_input}
 use Rattle.console.specs.Printing.{Ended}
 use Rattle.console.specs.declared.refusals.Refusal.{Refusal}
 use Rattle.console.specs.declared.refusals.Refusal.TheVariants.{Memory, NoItem, Script, Warnings}
@@ -144,10 +144,10 @@ GivesRecord (snapshot ∷ []) None = ⊥
 GivesRecord (snapshot ∷ []) (Some state) = SaysRecord state snapshot
 GivesRecord (snapshot ∷ other ∷ texts) state = ⊥
 
--- a snapshot is had, where one is named
+-- a record is had, where one is named
 abbrev pub IsRecordHad : Option (List ℕ) → Option State → ConsoleState → ConsoleState → Type 0
 IsRecordHad None None old new = new ≡ old
-IsRecordHad (Some name) (Some state) old new = IsHad (input snapshot_file name) (SaysRecord state) old new
+IsRecordHad (Some name) (Some state) old new = IsHad (record_input name) (SaysRecord state) old new
 IsRecordHad name state old new = ⊥
 
 -- how a check ends that has so many warnings

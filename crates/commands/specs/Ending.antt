@@ -8,20 +8,20 @@ use Rattle.commands.specs.Answers.{AreFooterLines, HasAround, HasItem, IsMergedT
 use Rattle.commands.specs.Answers.{IsAround, IsChecked, IsItemText, IsSimulated, IsWhole, Misses, MissesNone}
 use Rattle.console.specs.Console.{ConsoleState, IsCutShort, IsPrinted}
 use Rattle.console.specs.Inputs.{AreHad, Input, IsFirstRefused, input}
-use Rattle.console.specs.Inputs.{gate_file, message_file, script_file, snapshot_file}
+use Rattle.console.specs.Inputs.{gate_file, message_file, record_input, script_file}
 use Rattle.console.specs.declared.refusals.Refusal.TheVariants.{Output}
 
 abbrev pub inputs_of : Command → List Input
 inputs_of (Simulate script None) = input script_file script.now ∷ []
 inputs_of (Simulate script (Some gate)) = input script_file script.now ∷ input gate_file gate.now ∷ []
-inputs_of (Ready gate snapshot) = input gate_file gate.now ∷ input snapshot_file snapshot.now ∷ []
-inputs_of (Merge first second) = input snapshot_file first.now ∷ input snapshot_file second.now ∷ []
+inputs_of (Ready gate snapshot) = input gate_file gate.now ∷ record_input snapshot.now ∷ []
+inputs_of (Merge first second) = record_input first.now ∷ record_input second.now ∷ []
 inputs_of (Footers gate message change) = input gate_file gate.now ∷ input message_file message.now ∷ []
-inputs_of (Why gate snapshot change set) = input gate_file gate.now ∷ input snapshot_file snapshot.now ∷ []
-inputs_of (Graph gate snapshot around) = input gate_file gate.now ∷ input snapshot_file snapshot.now ∷ []
+inputs_of (Why gate snapshot change set) = input gate_file gate.now ∷ record_input snapshot.now ∷ []
+inputs_of (Graph gate snapshot around) = input gate_file gate.now ∷ record_input snapshot.now ∷ []
 inputs_of (Check gate None is_strict) = input gate_file gate.now ∷ []
 inputs_of (Check gate (Some snapshot) is_strict) =
-    input gate_file gate.now ∷ input snapshot_file snapshot.now ∷ []
+    input gate_file gate.now ∷ record_input snapshot.now ∷ []
 
 -- of these texts the command prints this answer, and ends so once it is printed
 abbrev pub IsAnswer : Command → List (List ℕ) → List ℕ → Ended → Type 0

@@ -4,7 +4,7 @@ use Rattle.std.specs.Io.KnownBytes.{Appends}
 use Rattle.byte_ends.specs.Failures.{OneFailed}
 use Rattle.command_line.specs.declared.asked.Command.{Command}
 use Rattle.console.specs.Printing.{Ended}
-use Rattle.console.specs.Console.{ConsoleState, Contents}
+use Rattle.console.specs.Console.{ConsoleState, Contents, Records}
 use Rattle.commands.specs.Ending.{Ends}
 use Rattle.console.specs.Refusals.{refusal_line}
 use Rattle.console.specs.Showing.{ErrorOutput, ShowsLine}
@@ -17,13 +17,15 @@ pub data Counts : Type 0 where
 abbrev pub counts_of : ConsoleState → Counts
 counts_of console = counts console.printed console.input_failed console.files_failed console.output_failed
 
--- the command ends so over a console of this input and these files
-pub record Runs (command : Command) (left : Option (List ℕ)) (files : Contents) (old new : Counts) (ended : Ended)
+-- the command ends so over a console of this input, these files and these running sites
+pub record Runs (command : Command) (left : Option (List ℕ)) (files : Contents) (sites : Records) (old new : Counts)
+    (ended : Ended)
     : Type 0 where
   pub before : ConsoleState
   pub after : ConsoleState
   pub input : before.left ≡ left
   pub named : before.files ≡ files
+  pub running : before.sites ≡ sites
   pub begins : counts_of before ≡ old
   pub ends : Ends command before after ended
   pub leaves : counts_of after ≡ new

@@ -1,13 +1,13 @@
 //! Prints what a gate file asks for, with warnings of what looks mistaken in it.
 
 ghost use Rattle.std.specs.Prelude.{◌≡◌, IfErr, IfOk, IsSomeAnd, option_map};
-ghost use Rattle.console.specs.Inputs.{IsRefused, input, snapshot_file};
+ghost use Rattle.console.specs.Inputs.{IsRefused, record_input};
 ghost use Rattle.state_core.specs.State.{state_of};
 ghost use Rattle.commands.specs.Answers.{EndsChecked, IsCheckText, IsRecordHad};
 ghost use Rattle.commands.specs.Ending.{Ends, Finishes};
 
 use command_line::Command;
-use console::{Console, Refusal, read_gate, read_snapshot};
+use console::{Console, Refusal, read_gate, read_record};
 use gate_check::check_gate;
 use gate_rules::Gate;
 use replica_core::Replica;
@@ -30,7 +30,7 @@ pub fn check<'n, C: Console>(
         (C.state console.new) result }
 {
     let rules = read_gate(alloc, gate, console)?;
-    let record = read_record(alloc, snapshot, console)?;
+    let record = read_any_record(alloc, snapshot, console)?;
     let ended = print_check(alloc, &rules, state_in(&record), is_strict, console);
     // The program ends now, and the record's memory goes with it.
     let _kept = ManuallyDrop::new(record);
@@ -38,7 +38,7 @@ pub fn check<'n, C: Console>(
 }
 
 /// The record of the snapshot of a name, where one is named.
-fn read_record<'n, C: Console>(
+fn read_any_record<'n, C: Console>(
     alloc: Global,
     name: Option<&'n str>,
     console: &mut C,
@@ -46,12 +46,12 @@ fn read_record<'n, C: Console>(
     ensures had { IfOk result (λ read. IsRecordHad (option_map (λ snapshot. snapshot.now) name.entry)
         (option_map state_of read) (C.state console.old) (C.state console.new)) }
     ensures refused { IfErr result (λ refusal. IsSomeAnd name.entry (λ snapshot.
-        IsRefused (input snapshot_file snapshot.now) (C.state console.old) (C.state console.new) refusal)) }
+        IsRefused (record_input snapshot.now) (C.state console.old) (C.state console.new) refusal)) }
 {
     let Some(name) = name else {
         return Ok(None);
     };
-    let record = read_snapshot(Replica::new(alloc), name, console)?;
+    let record = read_record(Replica::new(alloc), name, console)?;
     Ok(Some(record))
 }
 

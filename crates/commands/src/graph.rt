@@ -6,7 +6,7 @@ ghost use Rattle.commands.specs.Answers.{HasAround, IsRefusedAround};
 ghost use Rattle.commands.specs.Ending.{Ends};
 
 use command_line::Command;
-use console::{Console, Refusal, read_gate, read_snapshot};
+use console::{Console, Refusal, read_gate, read_record};
 use gate_rules::Gate;
 use graph_text::graph_text;
 use replica_core::Replica;
@@ -29,7 +29,7 @@ pub fn graph<'n, C: Console>(
         (C.state console.old) (C.state console.new) result }
 {
     let rules = read_gate(alloc, gate, console)?;
-    let replica = read_snapshot(Replica::new(alloc), snapshot, console)?;
+    let replica = read_record(Replica::new(alloc), snapshot, console)?;
     let picture = picture_of(alloc, &rules, replica.state(), around);
     // The program ends now, and the record's memory goes with it.
     let _kept = ManuallyDrop::new(replica);

@@ -12,16 +12,12 @@
 //! An example of its use:
 //!
 //! ```
-//! let text = br#"{"bases":["https://r/"],"require":{"gerrit":{"open":true}}}"#.as_slice();
-//! let command = Command::Check { gate: "-", snapshot: None, is_strict: false };
-//! let mut input = Ends::new(text);
 //! let mut output = Ends::new(Vec::new(alloc));
 //! let mut errors = Ends::new(Vec::new(alloc));
-//! let mut files = SystemFiles::new(&rt);
-//! let status = run_command(alloc, &command, &mut input, &mut output, &mut errors, &mut files);
-//! assert_eq!(rt; status, 0);
-//! let printed = b"require /require/gerrit/open open\nend 1 0\n".as_slice();
-//! assert_eq!(rt; output.get_ref().as_slice(), printed);
+//! assert_eq!(rt; print_text(alloc, "reviewgate 0.2.0\n", &mut output, &mut errors), 0);
+//! assert_eq!(rt; report(alloc, &Err(Refusal::NoItem(103, None)), &mut errors), 1);
+//! let line = b"reviewgate: item 1 NoItem 103\n".as_slice();
+//! assert_eq!(rt; errors.get_ref().as_slice(), line);
 //! ```
 #![tactic(auto)]
 

@@ -3,7 +3,7 @@
 ghost use Rattle.commands.specs.Ending.{Ends};
 
 use command_line::Command;
-use console::{Console, Refusal, read_snapshot};
+use console::{Console, Refusal, read_record};
 use replica_core::{Replica, operations_arrive_as_a_set};
 use std::alloc::Global;
 use std::mem::ManuallyDrop;
@@ -21,8 +21,8 @@ pub fn merge<'n, C: Console>(
     ensures { Ends (Command.Merge first.entry second.entry) (C.state console.old) (C.state console.new) result }
 {
     operations_arrive_as_a_set();
-    let replica = read_snapshot(Replica::new(alloc), first, console)?;
-    let both = read_snapshot(replica, second, console)?;
+    let replica = read_record(Replica::new(alloc), first, console)?;
+    let both = read_record(replica, second, console)?;
     let printed = console.print_snapshot(alloc, &both);
     // The program ends now, and the record's memory goes with it.
     let _kept = ManuallyDrop::new(both);

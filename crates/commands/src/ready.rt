@@ -3,7 +3,7 @@
 ghost use Rattle.commands.specs.Ending.{Ends};
 
 use command_line::Command;
-use console::{Console, Refusal, read_gate, read_snapshot};
+use console::{Console, Refusal, read_gate, read_record};
 use ready_core::evaluate;
 use replica_core::Replica;
 use std::alloc::Global;
@@ -21,7 +21,7 @@ pub fn ready<'n, C: Console>(
     ensures { Ends (Command.Ready gate.entry snapshot.entry) (C.state console.old) (C.state console.new) result }
 {
     let rules = read_gate(alloc, gate, console)?;
-    let replica = read_snapshot(Replica::new(alloc), snapshot, console)?;
+    let replica = read_record(Replica::new(alloc), snapshot, console)?;
     let Ok(verdicts) = evaluate(alloc, replica.state(), &rules) else {
         return Err(Refusal::Memory);
     };

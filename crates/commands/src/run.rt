@@ -38,7 +38,7 @@ pub fn run_command<I: Source, O: Drain, E: Drain, N: Named>(
     errors: &mut E,
     files: &mut N,
 ) -> u8
-    ensures { (ended : Ended) × Runs command.now (I.left input.old) (N.files files.old)
+    ensures { (ended : Ended) × Runs command.now (I.left input.old) (N.files files.old) (N.sites files.old)
         (counts (O.taken output.old) (I.failed input.old) (N.failed files.old) (O.failed output.old))
         (counts (O.taken output.new) (I.failed input.new) (N.failed files.new) (O.failed output.new)) ended
         × Reports (error_output (E.taken errors.old) (E.failed errors.old))
@@ -56,7 +56,7 @@ fn run_over<'n, I: Source, O: Drain, N: Named>(
     output: &mut O,
     files: &mut N,
 ) -> Result<(), Refusal<'n>>
-    ensures { Runs command.now (I.left input.old) (N.files files.old)
+    ensures { Runs command.now (I.left input.old) (N.files files.old) (N.sites files.old)
         (counts (O.taken output.old) (I.failed input.old) (N.failed files.old) (O.failed output.old))
         (counts (O.taken output.new) (I.failed input.new) (N.failed files.new) (O.failed output.new)) result }
 {

@@ -8,7 +8,7 @@ ghost use Rattle.commands.specs.Answers.{IsReason};
 ghost use Rattle.commands.specs.Ending.{Ends};
 
 use command_line::Command;
-use console::{Console, GateFile, Refusal, read_gate_file, read_snapshot};
+use console::{Console, GateFile, Refusal, read_gate_file, read_record};
 use ready_core::evaluate;
 use replica_core::Replica;
 use state_core::State;
@@ -32,7 +32,7 @@ pub fn why<'n, C: Console>(
         (C.state console.old) (C.state console.new) result }
 {
     let file = read_gate_file(alloc, gate, console)?;
-    let replica = read_snapshot(Replica::new(alloc), snapshot, console)?;
+    let replica = read_record(Replica::new(alloc), snapshot, console)?;
     let reason = reason_of(alloc, &file, replica.state(), change, set);
     // The program ends now, and the record's memory goes with it.
     let _kept = ManuallyDrop::new(replica);

@@ -1,5 +1,5 @@
 -- A console: the input, the output and the files of a command, as one value. The name `-` is that of the input (POSIX).
-use Rattle.std.specs.Prelude.{◌≡◌, ◌≤◌, ◌<◌, ◌+◌, ℕ, Bool, List, [], ◌∷◌, Option, None, Some, IfSome, if◌then◌else◌}
+use Rattle.std.specs.Prelude.{◌≡◌, ◌≤◌, ◌<◌, ◌+◌, ◌==◌, ℕ, Bool, List, [], ◌∷◌, Option, None, Some, IfSome, if◌then◌else◌}
 use Rattle.std.specs.Prelude.{codes, length, min, nat_eq, take}
 use Rattle.std.specs.Cmp.Lexicographic.{pointwise}
 use Rattle.std.specs.Io.KnownBytes.{Appends}
@@ -16,10 +16,20 @@ abbrev pub file_of : Contents → List ℕ → Option (List ℕ)
 file_of [] name = None
 file_of (file ∷ files) name = if pointwise nat_eq file.0 name then Some file.1 else file_of files name
 
+-- the records of running sites, by port, each as the text of a snapshot
+abbrev pub Records : Type 0
+Records = List (ℕ × List ℕ)
+
+-- the record of the first site of a port, where it is known
+abbrev pub record_at : Records → ℕ → Option (List ℕ)
+record_at [] port = None
+record_at (site ∷ sites) port = if site.0 == port then Some site.1 else record_at sites port
+
 -- what the input has left and what was printed, where that is known; how many calls of each end failed; and which ends
 pub record ConsoleState : Type 0 where
   pub left : Option (List ℕ)
   pub files : Contents
+  pub sites : Records
   pub printed : Option (List ℕ)
   pub input_failed : ℕ
   pub files_failed : ℕ

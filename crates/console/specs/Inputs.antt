@@ -1,5 +1,5 @@
 -- The inputs of a command, read and judged one after the other: each kind's limit, what it has to be, and its refusals.
-use Rattle.std.specs.Prelude.{◌≡◌, ◌⊎◌, ℕ, List, [], ◌∷◌, IsUtf8, Option, None, Some}
+use Rattle.std.specs.Prelude.{◌≡◌, ◌⊎◌, ℕ, List, [], ◌∷◌, IfSome, IsUtf8, Option, None, Some, if◌then◌else◌}
 use Rattle.std.specs.Borrow.{Bor}
 use Rattle.byte_ends.specs.Lines.{lines_of}
 use Rattle.byte_ends.specs.declared.faults.BytesFault.{BytesFault}
@@ -10,15 +10,18 @@ use Rattle.snapshot_text.specs.Fault.{snap_fault_of}
 use Rattle.snapshot_text.specs.Snapshot.{IsOfText, IsRefusal, SaysOperations, most_bytes}
 use Rattle.snapshot_text.specs.declared.fault.SnapFault.{SnapFault}
 use Rattle.review_ops.specs.Operation.{Operation}
-use Rattle.console.specs.Console.{ConsoleState, IsRead, IsUnread}
+use Rattle.console.specs.Console.{ConsoleState, IsRead, IsUnread, record_at}
+use Rattle.console.specs.Pulls.{IsPullFault, NamesPort, is_site_name}
 use Rattle.console.specs.declared.refusals.Refusal.{Refusal}
-use Rattle.console.specs.declared.refusals.Refusal.TheVariants.{File, Gate, NotText, Snapshot}
+use Rattle.console.specs.declared.refusals.Refusal.TheVariants.{File, Gate, NoPort, NotText, Peer, Snapshot}
 
 pub data Kind : Type 0 where
   gate_file : Kind
   message_file : Kind
   script_file : Kind
   snapshot_file : Kind
+  -- the record of a running site
+  pulled : Kind
 
 pub record Input : Type 0 where
   pub kind : Kind
@@ -27,7 +30,11 @@ pub record Input : Type 0 where
 abbrev pub input : Kind → List ℕ → Input
 input kind name = record { kind = kind; name = name }
 
--- the most bytes: 1 MiB, and 1 GiB of a snapshot
+-- a record is that of a running site or of a snapshot, by its name
+abbrev pub record_input : List ℕ → Input
+record_input name = input (if is_site_name name then pulled else snapshot_file) name
+
+-- the most bytes of a file: 1 MiB, and 1 GiB of a snapshot
 abbrev pub limit_of : Kind → ℕ
 limit_of snapshot_file = most_bytes
 limit_of kind = 1048576
@@ -45,12 +52,25 @@ abbrev pub IsUnreadOf : Kind → List ℕ → BytesFault → Refusal → Type 0
 IsUnreadOf snapshot_file name fault refusal = refusal ≡ Snapshot (snap_fault_of fault)
 IsUnreadOf kind name fault refusal = IsUnreadAs name fault refusal
 
+-- a pull reads and prints nothing, and its text is that of the site's record, where that is known
+pub record IsPulled (name : List ℕ) (old new : ConsoleState) (text : List ℕ) : Type 0 where
+  pub port : ℕ
+  pub named : NamesPort name port
+  pub whole : IfSome (record_at old.sites port) (λ known. text ≡ known)
+  pub after : new ≡ old
+
+-- the text of an input of this name is had
+abbrev pub IsTextOf : Kind → List ℕ → ConsoleState → ConsoleState → List ℕ → Type 0
+IsTextOf pulled name old new text = IsPulled name old new text
+IsTextOf kind name old new text = IsRead name (limit_of kind) old new text
+
 -- what an input has to be. A script is judged as it is played
 abbrev pub IsSound : Kind → List ℕ → Type 0
 IsSound gate_file text = (rules : GateRules) × SpellsGate text rules
 IsSound message_file text = IsUtf8 text
 IsSound script_file text = Unit {0}
 IsSound snapshot_file text = (ops : List Operation) × SaysOperations (lines_of text) ops
+IsSound pulled text = (ops : List Operation) × SaysOperations (lines_of text) ops
 
 -- how an input is refused that isn't so, or for which memory was refused
 abbrev pub IsFlawed : Kind → List ℕ → List ℕ → Refusal → Type 0
@@ -59,10 +79,17 @@ IsFlawed message_file name text refusal = IsNoText name refusal × (¬ IsUtf8 te
 IsFlawed script_file name text refusal = ⊥
 IsFlawed snapshot_file name text refusal =
     (fault : SnapFault) × (refusal ≡ Snapshot fault) × IsRefusal text fault × IsOfText fault
+IsFlawed pulled name text refusal = ⊥
 
--- the input is had: it is read, and its text is so
+-- how a record is refused that isn't pulled: its name has no port, or a pull from that fails
+abbrev pub IsUnpulled : List ℕ → Refusal → Type 0
+IsUnpulled name (NoPort named) = (named.now ≡ name) × ((port : ℕ) → ¬ NamesPort name port)
+IsUnpulled name (Peer fault port) = NamesPort name port × IsPullFault fault
+IsUnpulled name refusal = ⊥
+
+-- the input is had, and its text is so
 abbrev pub IsHad : Input → (List ℕ → Type 0) → ConsoleState → ConsoleState → Type 0
-IsHad input IsSo old new = (text : List ℕ) × IsRead input.name (limit_of input.kind) old new text × IsSo text
+IsHad input IsSo old new = (text : List ℕ) × IsTextOf input.kind input.name old new text × IsSo text
 
 -- the gate file is had, where one is named
 abbrev pub IsGateHad : Option (List ℕ) → Option GateRules → ConsoleState → ConsoleState → Type 0
@@ -70,18 +97,21 @@ IsGateHad None None old new = new ≡ old
 IsGateHad (Some name) (Some rules) old new = IsHad (input gate_file name) (λ text. SpellsGate text rules) old new
 IsGateHad name rules old new = ⊥
 
--- the input is refused: its bytes can't be had, or aren't what they have to be
+-- an input of this name is refused: its bytes can't be had, or aren't what they have to be; or it isn't pulled
+abbrev pub IsRefusedAs : Kind → List ℕ → ConsoleState → ConsoleState → Refusal → Type 0
+IsRefusedAs pulled name old new refusal = IsUnpulled name refusal × (new ≡ old)
+IsRefusedAs kind name old new refusal =
+    ((fault : BytesFault) × IsUnreadOf kind name fault refusal × IsUnread name (limit_of kind) old new fault)
+    ⊎ IsHad (input kind name) (λ text. IsFlawed kind name text refusal) old new
+
 abbrev pub IsRefused : Input → ConsoleState → ConsoleState → Refusal → Type 0
-IsRefused input old new refusal =
-    ((fault : BytesFault) × IsUnreadOf input.kind input.name fault refusal
-    × IsUnread input.name (limit_of input.kind) old new fault)
-    ⊎ IsHad input (λ text. IsFlawed input.kind input.name text refusal) old new
+IsRefused input old new refusal = IsRefusedAs input.kind input.name old new refusal
 
 -- all inputs are had, one after the other, and these are their texts
 abbrev pub AreHad : List Input → ConsoleState → List (List ℕ) → ConsoleState → Type 0
 AreHad [] old [] new = new ≡ old
 AreHad (input ∷ inputs) old (text ∷ texts) new =
-    (mid : ConsoleState) × IsRead input.name (limit_of input.kind) old mid text × IsSound input.kind text
+    (mid : ConsoleState) × IsTextOf input.kind input.name old mid text × IsSound input.kind text
     × AreHad inputs mid texts new
 AreHad inputs old texts new = ⊥
 

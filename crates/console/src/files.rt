@@ -1,23 +1,24 @@
-//! The files that a command names.
+//! The files and the running sites that a command names.
 
-ghost use Rattle.std.specs.Prelude.{◌≡◌, ◌<◌, ◌≤◌, ℕ, List, [], length, vec_len, IfErr, IfOk, IfSome, IsErrOf};
+ghost use Rattle.std.specs.Prelude.{◌≡◌, ◌<◌, ◌≤◌, ℕ, List, length, vec_len, IfErr, IfOk, IfSome, IsErrOf};
 ghost use Rattle.std.specs.Prelude.{MatchResult};
-ghost use Rattle.byte_ends.specs.Failures.{OneFailed};
 ghost use Rattle.byte_ends.specs.ReadAll.{CountsRead};
 ghost use Rattle.snapshot_text.specs.Snapshot.{Brings, CountsSnapFault, IsRefusedBy};
-ghost use Rattle.console.specs.Console.{Contents, file_of};
+ghost use Rattle.console.specs.Console.{Contents, Records, file_of, record_at};
+ghost use Rattle.console.specs.Pulls.{BringsRecord, IsPullFault};
 
-use byte_ends::{BytesFault, Ends, read_all};
+use super::pulls::PullFault;
+use byte_ends::BytesFault;
 use replica_core::Replica;
-use snapshot_text::{SnapFault, read_onto};
-use std::alloc::Global;
-use std::fs;
-use std::rt::Files;
+use snapshot_text::SnapFault;
 
-/// Files by their names.
+/// Files by their names, and running sites by their ports.
 pub trait Named {
     /// The files whose contents are known. No reading changes them.
     ghost files: { Self → Contents };
+
+    /// The running sites whose records are known. No reading changes them.
+    ghost sites: { Self → Records };
 
     /// How many calls answered `ReadFault`. The count stays at `u64::MAX`.
     ghost failed: { Self → ℕ };
@@ -32,6 +33,7 @@ pub trait Named {
         ensures too_long { IsErrOf result BytesFault.TooLong
             → IfSome (file_of (files self.old) name.now) (λ contents. limit < length contents) }
         ensures kept { files self.new ≡ files self.old }
+        ensures sites { sites self.new ≡ sites self.old }
         ensures counted { CountsRead (failed self.old) (failed self.new) result };
 
     /// The replica to which the operations of the snapshot in the file of a name came, after those that it has. The
@@ -41,67 +43,22 @@ pub trait Named {
         ensures ok { IfOk result (λ both. Brings (file_of (files self.old) name.now) replica both) }
         ensures err { IfErr result (λ fault. IsRefusedBy (file_of (files self.old) name.now) fault) }
         ensures kept { files self.new ≡ files self.old }
+        ensures sites { sites self.new ≡ sites self.old }
         ensures counted { MatchResult result
             (λ _. failed self.new ≡ failed self.old)
             (CountsSnapFault (failed self.old) (failed self.new)) };
 
+    /// The replica to which the operations of the record of the running site at a port of this machine came, after
+    /// those that it has. Refusals: those of a pull, but for `Closed`; 8 `Unreachable`; 10 `NoEnd`, the site says again
+    /// and again that more is left. It is no call of a file.
+    fn pull(&mut self, replica: Replica, port: u16) -> Result<Replica, PullFault>
+        ensures ok { IfOk result (λ both. BringsRecord (record_at (sites self.old) port) replica both) }
+        ensures err { IfErr result IsPullFault }
+        ensures kept { files self.new ≡ files self.old }
+        ensures sites { sites self.new ≡ sites self.old }
+        ensures counted { failed self.new ≡ failed self.old };
+
     /// How many calls answered `ReadFault`. The count stays at `u64::MAX`.
     fn failures(&self) -> u64
         ensures { result ≡ failed self.now };
-}
-
-/// The files of the system. No contract can say what they contain.
-#[derive(Drop)]
-pub struct SystemFiles<R: Drop> {
-    rt: R,
-    failures: u64,
-}
-
-impl<R: Files + AllocGlobal + Drop> SystemFiles<R> {
-    /// The files that `rt` opens, with no failure counted.
-    pub fn new(rt: R) -> SystemFiles<R>
-        ensures { result.failures ≡ 0 }
-    {
-        SystemFiles { rt, failures: 0 }
-    }
-
-    /// Counts a file that can't be opened or read.
-    fn count_failure(&mut self)
-        ensures { OneFailed self.old.failures self.new.failures }
-    {
-        self.failures = self.failures.saturating_add(1);
-    }
-}
-
-impl<R: Files + AllocGlobal + Drop> Named for SystemFiles<R> {
-    ghost files = { λ files. [] };
-
-    ghost failed = { λ files. files.failures };
-
-    fn read(&mut self, name: &str, limit: usize) -> Result<Vec<u8>, BytesFault> {
-        let alloc: Global = self.rt.alloc();
-        let answer = match fs::open(&self.rt, name) {
-            Ok(file) => read_all(alloc, &mut Ends::new(file), limit),
-            Err(_) => Err(BytesFault::ReadFault),
-        };
-        if matches!(&answer, Err(BytesFault::ReadFault)) {
-            self.count_failure();
-        }
-        answer
-    }
-
-    fn read_snapshot(&mut self, replica: Replica, name: &str) -> Result<Replica, SnapFault> {
-        let answer = match fs::open(&self.rt, name) {
-            Ok(file) => read_onto(replica, &mut Ends::new(file)),
-            Err(_) => Err(SnapFault::ReadFault),
-        };
-        if matches!(&answer, Err(SnapFault::ReadFault)) {
-            self.count_failure();
-        }
-        answer
-    }
-
-    fn failures(&self) -> u64 {
-        self.failures
-    }
 }

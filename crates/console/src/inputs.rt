@@ -9,8 +9,9 @@ ghost use Rattle.review_ops.specs.Operation.{Operation};
 ghost use Rattle.byte_ends.specs.declared.faults.BytesFault.{BytesFault};
 ghost use Rattle.console.specs.Console.{IsRead, IsUnread};
 ghost use Rattle.console.specs.Inputs.{IsGateHad, IsHad, IsRefused, IsUnreadAs, gate_file, input, message_file};
-ghost use Rattle.console.specs.Inputs.{script_file, snapshot_file};
+ghost use Rattle.console.specs.Inputs.{pulled, record_input, script_file, snapshot_file};
 
+use super::ports::{is_site_name, port_of};
 use super::refusals::Refusal;
 use super::streams::Console;
 use gate_rules::Gate;
@@ -138,5 +139,47 @@ pub fn read_snapshot<'n, C: Console>(
     match console.read_snapshot(replica, name) {
         Ok(both) => Ok(both),
         Err(fault) => Err(Refusal::Snapshot(fault)),
+    }
+}
+
+/// The replica to which the operations of the record of a name came, after those that it has: for `@PORT` the record of
+/// the running site at that port of this machine, for any other name that of a snapshot. Refusals: those of
+/// `read_snapshot`; `NoPort`, there is no port behind the `@`; `Peer`, the record isn't pulled.
+pub fn read_record<'n, C: Console>(
+    replica: Replica,
+    name: &'n str,
+    console: &mut C,
+) -> Result<Replica, Refusal<'n>>
+    ensures had { IfOk result (λ both. (ops : List Operation) × (both ≡ all_arrived replica ops)
+        × IsHad (record_input name.now) (λ text. SaysOperations (lines_of text) ops) (C.state console.old)
+        (C.state console.new)) }
+    ensures refused { IfErr result
+        (IsRefused (record_input name.now) (C.state console.old) (C.state console.new)) }
+{
+    if is_site_name(name) {
+        pull_record(replica, name, console)
+    } else {
+        read_snapshot(replica, name, console)
+    }
+}
+
+/// The same of a name that begins with `@`.
+fn pull_record<'n, C: Console>(
+    replica: Replica,
+    name: &'n str,
+    console: &mut C,
+) -> Result<Replica, Refusal<'n>>
+    ensures had { IfOk result (λ both. (ops : List Operation) × (both ≡ all_arrived replica ops)
+        × IsHad (input pulled name.now) (λ text. SaysOperations (lines_of text) ops) (C.state console.old)
+        (C.state console.new)) }
+    ensures refused { IfErr result
+        (IsRefused (input pulled name.now) (C.state console.old) (C.state console.new)) }
+{
+    let Some(port) = port_of(name) else {
+        return Err(Refusal::NoPort(name));
+    };
+    match console.pull(replica, port) {
+        Ok(both) => Ok(both),
+        Err(fault) => Err(Refusal::Peer(fault, port)),
     }
 }

@@ -7,30 +7,32 @@
 //! `std`'s streams in the hands of each command, of which no contract could say that one was read before the other.
 //!
 //! The name `-` is that of the input, which is read once: a second `-` is empty. Each kind of input has its limit. A
-//! script, a gate file or a message is judged once it is read, and a snapshot as it is read, in blocks.
+//! script, a gate file or a message is judged once it is read, and a snapshot as it is read, in blocks. The name `@PORT`
+//! of a record is that of a running site, from which the record is pulled.
 //!
 //! An example of its use:
 //!
 //! ```
-//! let mut input = Ends::new(br#"{"bases":["https://r/"]}"#.as_slice());
-//! let mut output = Ends::new(Vec::new(alloc));
-//! let mut files = SystemFiles::new(&rt);
-//! let mut console = Streams { input: &mut input, output: &mut output, files: &mut files, is_spent: false };
-//! assert!(rt; read_gate(alloc, "-", &mut console).is_ok());
-//! assert!(rt; matches!(read_message(alloc, "nowhere/message", &mut console), Err(Refusal::File(_, _))));
+//! let refusal = Refusal::NoItem(103, Some(2));
+//! let line = refusal.line(alloc)?;
+//! assert_eq!(rt; line.as_str(), "reviewgate: item 1 NoItem 103,2\n");
 //! ```
 #![tactic(auto)]
 
 mod files;
 mod inputs;
+mod ports;
+mod pulls;
 mod refusals;
 mod showing;
 mod streams;
 
-pub use files::{Named, SystemFiles};
+pub use files::Named;
 pub use inputs::{
-    GateFile, read_any_gate, read_gate, read_gate_file, read_message, read_script, read_snapshot,
+    GateFile, read_any_gate, read_gate, read_gate_file, read_message, read_record, read_script,
+    read_snapshot,
 };
+pub use pulls::PullFault;
 pub use refusals::Refusal;
 pub use showing::{show, show_line, show_refusal, show_torn};
 pub use streams::{Console, Streams};

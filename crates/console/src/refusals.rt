@@ -1,9 +1,10 @@
 //! Why a command ended with status 1.
 
-ghost use Rattle.std.specs.Prelude.{◌≡◌, ◌++◌, IfOk, OnOk, string_bytes};
+ghost use Rattle.std.specs.Prelude.{◌≡◌, ◌++◌, IfOk, OnOk, codes, decimal, string_bytes};
 ghost use Rattle.console.specs.declared.refusals.Refusal.TheVariants.{Script as BadScript, Gate as BadGate};
 ghost use Rattle.console.specs.Refusals.{file_words, item_words, number_of, part_of, refusal_line, words_of};
 
+use super::pulls::PullFault;
 use super::streams::is_input;
 use byte_ends::BytesFault;
 use gate_rules::GateFault;
@@ -22,6 +23,10 @@ pub enum Refusal<'n> {
     File(&'n str, BytesFault),
     /// The message of this name isn't UTF-8.
     NotText(&'n str),
+    /// The record of the site at this port isn't pulled.
+    Peer(PullFault, u16),
+    /// This name begins as that of a running site, but has no port.
+    NoPort(&'n str),
     /// What is asked for isn't known: this patch set of the change, or, where none is named, the change's items.
     NoItem(u32, Option<u32>),
     /// There are this many warnings, of which none is let pass.
@@ -51,6 +56,7 @@ impl<'n> Refusal<'n> {
             Refusal::Snapshot(_) => Part::Snapshot,
             Refusal::Gate(_) => Part::Gate,
             Refusal::File(_, _) | Refusal::NotText(_) => Part::File,
+            Refusal::Peer(_, _) | Refusal::NoPort(_) => Part::Peer,
             Refusal::NoItem(_, _) => Part::Item,
             Refusal::Warnings(_) => Part::Check,
             Refusal::Output => Part::Output,
@@ -67,7 +73,8 @@ impl<'n> Refusal<'n> {
             Refusal::Snapshot(fault) => fault.number(),
             Refusal::Gate(fault) => fault.number(),
             Refusal::File(_, fault) => fault.number(),
-            Refusal::NotText(_) => 9,
+            Refusal::NotText(_) | Refusal::NoPort(_) => 9,
+            Refusal::Peer(fault, _) => fault.number(),
             Refusal::NoItem(_, _) | Refusal::Warnings(_) | Refusal::Output | Refusal::Memory => 1,
         }
     }
@@ -82,6 +89,8 @@ impl<'n> Refusal<'n> {
             Refusal::Gate(fault) => fault.write_words(words),
             Refusal::File(name, fault) => write_file(words, fault.name(), name),
             Refusal::NotText(name) => write_file(words, "NotText", name),
+            Refusal::Peer(fault, port) => write_peer(words, fault.name(), *port),
+            Refusal::NoPort(name) => write!(words, "NoPort {name}"),
             Refusal::NoItem(change, set) => write_item(words, *change, *set),
             Refusal::Warnings(count) => write!(words, "Warnings {count}"),
             Refusal::Output => words.push_str("WriteFault"),
@@ -100,6 +109,14 @@ fn write_file(words: &mut String, fault: &str, name: &str) -> Result<(), AllocEr
     }
     words.push_str(" ")?;
     words.push_str(name)
+}
+
+/// Writes the words of a pull's fault, and the port.
+fn write_peer(words: &mut String, fault: &str, port: u16) -> Result<(), AllocError>
+    ensures { OnOk result
+        (string_bytes words.new ≡ string_bytes words.old ++ fault.now ++ codes " " ++ decimal port) }
+{
+    write!(words, "{fault} {port}")
 }
 
 /// Writes the words of an item that isn't known.

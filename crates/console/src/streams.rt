@@ -8,11 +8,13 @@ ghost use Rattle.report_text.specs.Report.{report_of};
 ghost use Rattle.snapshot_text.specs.Snapshot.{SaysOperations, snapshot_text};
 ghost use Rattle.review_ops.specs.Operation.{Operation};
 ghost use Rattle.std.specs.Prelude.{List};
-ghost use Rattle.console.specs.Console.{ConsoleState, IsRead, IsUnread, is_input};
+ghost use Rattle.console.specs.Console.{ConsoleState, IsRead, IsUnread, is_input, record_at};
 ghost use Rattle.console.specs.Inputs.{IsHad, IsRefused, input, snapshot_file};
 ghost use Rattle.console.specs.Printing.{Prints, PrintsSnapshot};
+ghost use Rattle.console.specs.Pulls.{BringsRecord, IsPullFault};
 
 use super::files::Named;
+use super::pulls::PullFault;
 use super::refusals::Refusal;
 use byte_ends::{BytesFault, Drain, Source, read_all, write_all};
 use ready_core::Verdicts;
@@ -43,6 +45,13 @@ pub trait Console {
             (state self.old) (state self.new)) }
         ensures refused { IfErr result (λ fault. IsRefused (input snapshot_file name.now)
             (state self.old) (state self.new) (Refusal.Snapshot fault)) };
+
+    /// The replica to which the operations of the record of the running site at a port of this machine came, after
+    /// those that it has. Refusals: those of `Named::pull`.
+    fn pull(&mut self, replica: Replica, port: u16) -> Result<Replica, PullFault>
+        ensures pulled { IfOk result (λ both. BringsRecord (record_at (state self.old).sites port) replica both) }
+        ensures unpulled { IfErr result IsPullFault }
+        ensures kept { state self.new ≡ state self.old };
 
     /// Prints a text. Refusal: `Output`, the output failed.
     fn print(&mut self, text: &[u8]) -> Result<(), Refusal<'static>>
@@ -78,6 +87,7 @@ impl<'i, 'o, 'f, I: Source, O: Drain, N: Named> Console for Streams<'i, 'o, 'f, 
     ghost state = { λ c. record {
       left = if c.is_spent then Some [] else I.left c.input.now;
       files = N.files c.files.now;
+      sites = N.sites c.files.now;
       printed = O.taken c.output.now;
       input_failed = I.failed c.input.now;
       files_failed = N.failed c.files.now;
@@ -105,6 +115,10 @@ impl<'i, 'o, 'f, I: Source, O: Drain, N: Named> Console for Streams<'i, 'o, 'f, 
         }
         self.is_spent = true;
         read_onto(replica, self.input)
+    }
+
+    fn pull(&mut self, replica: Replica, port: u16) -> Result<Replica, PullFault> {
+        self.files.pull(replica, port)
     }
 
     fn print(&mut self, text: &[u8]) -> Result<(), Refusal<'static>> {

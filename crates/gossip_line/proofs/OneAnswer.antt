@@ -64,6 +64,8 @@ module _ (limit count : ℕ) (rest : List ℕ) (left : Option (List ℕ)) (unrea
   counts_broken line.BadVersion is h same = absurd is
   counts_broken line.WriteFault is h same = absurd is
   counts_broken line.Closed is h same = absurd is
+  counts_broken line.NotListed is h same = absurd is
+  counts_broken line.FarAhead is h same = absurd is
   counts_broken fault is h same = (h, same)
 
 module _ (limit : ℕ) (old new : Reading) (came : List ℕ) (left : Option (List ℕ)) where

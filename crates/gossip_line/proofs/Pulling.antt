@@ -142,6 +142,10 @@ module _ {K : Type 0} (sinks : K → Offer → Uptake → K → Type 0) where
       (λ f. IsRoundFailed limit mid held f after) (sym is) (record { leaves = inr (inr h); counts = (reads, writes) })
   declined_failed limit mid after held sink.Closed fault is h reads writes =
       subst (λ f. IsRoundFailed limit mid held f after) (sym is) (record { leaves = h; counts = (reads, writes) })
+  declined_failed limit mid after held sink.NotListed fault is h reads writes =
+      subst (λ f. IsRoundFailed limit mid held f after) (sym is) (record { leaves = h; counts = (reads, writes) })
+  declined_failed limit mid after held sink.FarAhead fault is h reads writes =
+      subst (λ f. IsRoundFailed limit mid held f after) (sym is) (record { leaves = h; counts = (reads, writes) })
 
   -- a round whose answer isn't read whole
   pub not_read : (mid after : Moment K) (front : Reaches) (old : Reading) (came : List ℕ) (fault : LineFault)

@@ -11,7 +11,8 @@ use Rattle.gossip_line.specs.Session.{IsPiece, Moment}
 use Rattle.gossip_line.specs.Texts.{hello}
 use Rattle.gossip_line.specs.declared.fault.LineFault.{LineFault}
 use Rattle.gossip_line.specs.declared.fault.LineFault.TheVariants.{LongLine, BadVersion, ReadFault, WriteFault}
-use Rattle.gossip_line.specs.declared.fault.LineFault.TheVariants.{NoMemory, BadAnswer, Closed}
+use Rattle.gossip_line.specs.declared.fault.LineFault.TheVariants.{NoMemory, BadAnswer, Closed, NotListed}
+use Rattle.gossip_line.specs.declared.fault.LineFault.TheVariants.{FarAhead}
 use Rattle.gossip_line.specs.declared.pull.Handed.{Handed}
 use Rattle.gossip_line.specs.declared.pull.Pulled.{Pulled}
 use Rattle.line_reader.specs.Lines.{BeginsWithLine, IsTooLong, IsUnfinished, Reading}
@@ -90,6 +91,8 @@ CountsEnds unread reads unwritten writes fault = (reads ≡ unread) × (writes �
 abbrev pub fault_of : SinkFault → LineFault
 fault_of sink.NoMemory = NoMemory
 fault_of sink.Closed = Closed
+fault_of sink.NotListed = NotListed
+fault_of sink.FarAhead = FarAhead
 
 -- ---- reading
 
@@ -176,6 +179,8 @@ IsUngreeted limit bytes left BadVersion =
 IsUngreeted limit bytes left BadAnswer =
     (IsUnfinished limit bytes × IsAtEnd left) ⊎ ((piece : List ℕ) × (later : List ℕ) × BeginsWithLine limit bytes piece later × (¬ BeginsLine version_word (without_cr piece)))
 IsUngreeted limit bytes left Closed = ⊥
+IsUngreeted limit bytes left NotListed = ⊥
+IsUngreeted limit bytes left FarAhead = ⊥
 IsUngreeted limit bytes left fault = Unit {0}
 
 -- what was written of the version where it isn't named back: all of its line; where writing failed, a proper prefix;
@@ -244,6 +249,8 @@ module _ {K : Type 0} (sinks : K → Offer → Uptake → K → Type 0) where
   -- what is left of the sink, and what was written, where a round isn't whole
   abbrev pub Leaves : ℕ → Moment K → List ℕ → LineFault → Moment K → Type 0
   Leaves limit mid held Closed after = IsDeclined limit mid held sink.Closed after
+  Leaves limit mid held NotListed after = IsDeclined limit mid held sink.NotListed after
+  Leaves limit mid held FarAhead after = IsDeclined limit mid held sink.FarAhead after
   Leaves limit mid held NoMemory after =
       IsUnasked mid after ⊎ (IsCutOff limit mid held NoMemory after ⊎ IsDeclined limit mid held sink.NoMemory after)
   Leaves limit mid held WriteFault after = IsUnwritten mid after

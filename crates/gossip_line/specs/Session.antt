@@ -12,7 +12,8 @@ use Rattle.gossip_line.specs.Answers.{Answers, AnswerIsCutShort, IsWritten, Send
 use Rattle.gossip_line.specs.Texts.{SessionAnswer, bad_version, farewell, answer_text, long_line, next_of}
 use Rattle.gossip_line.specs.declared.fault.LineFault.{LineFault}
 use Rattle.gossip_line.specs.declared.fault.LineFault.TheVariants.{LongLine, BadVersion, ReadFault, WriteFault}
-use Rattle.gossip_line.specs.declared.fault.LineFault.TheVariants.{NoMemory, BadAnswer, Closed}
+use Rattle.gossip_line.specs.declared.fault.LineFault.TheVariants.{NoMemory, BadAnswer, Closed, NotListed}
+use Rattle.gossip_line.specs.declared.fault.LineFault.TheVariants.{FarAhead}
 use Rattle.site_port.specs.Ports.{Call, Reply}
 
 -- a line as it came, without its LF, and its answer
@@ -103,6 +104,8 @@ module _ {P : Type 0} (gives : P → Call → Reply → P → Type 0) where
   Ends limit most turns mid rest after (Err NoMemory) = IsQuiet mid after
   Ends limit most turns mid rest after (Err BadAnswer) = ⊥
   Ends limit most turns mid rest after (Err Closed) = ⊥
+  Ends limit most turns mid rest after (Err NotListed) = ⊥
+  Ends limit most turns mid rest after (Err FarAhead) = ⊥
 
   -- a read failed only where that ends the session
   abbrev pub CountsReads : Moment P → Moment P → Result (Unit {0}) LineFault → Type 0

@@ -5,7 +5,8 @@ ghost use Rattle.gossip_line.specs.Fault.{number_of, name_of};
 
 use thiserror::Error;
 
-/// Why a session or a pull ended early. `BadAnswer` and `Closed` are of pulls alone.
+/// Why a session or a pull ended early. The last four are of pulls alone. 8 to 10 are left
+/// out: they are what `serve` and `events` say beside these.
 #[derive(Clone, Copy, Debug, PartialEq, Eq, Error)]
 pub enum LineFault {
     /// 1: a line is longer than 524,288 bytes.
@@ -29,6 +30,12 @@ pub enum LineFault {
     /// 7: the sink has ended.
     #[error("the sink has ended")]
     Closed,
+    /// 11: an operation is of a site that isn't listed.
+    #[error("an operation of a site that isn't listed")]
+    NotListed,
+    /// 12: an operation has a time or a start that is far ahead of the record.
+    #[error("an operation that is far ahead")]
+    FarAhead,
 }
 
 impl LineFault {
@@ -44,6 +51,8 @@ impl LineFault {
             LineFault::NoMemory => 5,
             LineFault::BadAnswer => 6,
             LineFault::Closed => 7,
+            LineFault::NotListed => 11,
+            LineFault::FarAhead => 12,
         }
     }
 
@@ -59,6 +68,8 @@ impl LineFault {
             LineFault::NoMemory => "NoMemory",
             LineFault::BadAnswer => "BadAnswer",
             LineFault::Closed => "Closed",
+            LineFault::NotListed => "NotListed",
+            LineFault::FarAhead => "FarAhead",
         }
     }
 }

@@ -53,6 +53,6 @@ mod step;
 
 pub use fault::LineFault;
 pub use laws::pulls_pass_on_all;
-pub use pull::{Pulled, greet, pull_run, read_round, send_front};
+pub use pull::{Pulled, greet, pull_rounds, pull_run, read_round, send_front};
 pub use session::{answer_lines, session_run};
 pub use step::{Look, Saying, Step, is_take, say, say_taken, say_too_long, show, step_of};

@@ -52,10 +52,10 @@ pub struct Handed {
 /// whole its operations are handed over, in their order. After an answer that says that nothing is left, or after 4,096
 /// rounds, `quit` is written and nothing more is read. Refusals: 1 `LongLine`, a line has more than 524,288 bytes; 2
 /// `BadVersion`, the first line names another version; 3 `ReadFault`, the source failed; 4 `WriteFault`, the drain
-/// failed; 5 `NoMemory`, memory was refused, here or in the sink; 6 `BadAnswer`, a line can't be part of an answer,
-/// an operation is invalid, a 257th one came, or the input ended where a line is awaited; 7 `Closed`, the sink has ended.
-/// Of an answer that isn't whole nothing is handed over. It costs what the sink costs, and O(n) for n bytes that are
-/// read and written.
+/// failed; 5 `NoMemory`, memory was refused, here or in the sink; 6 `BadAnswer`, a line can't be part of an answer, an
+/// operation is invalid, a 257th one came, or the input ended where a line is awaited; 7 `Closed`, the sink has ended;
+/// 11 `NotListed` and 12 `FarAhead`, a guarded sink was handed an operation that it doesn't let in. Of an answer that
+/// isn't whole nothing is handed over. It costs what the sink costs, and O(n) for n bytes that are read and written.
 pub fn pull_run<S: Source, D: Drain, K: Sink>(
     alloc: Global,
     source: &mut S,
@@ -70,7 +70,8 @@ pub fn pull_run<S: Source, D: Drain, K: Sink>(
     pull_rounds(alloc, LINE_LIMIT, ROUNDS, source, drain, sink)
 }
 
-/// Takes in rounds, at most so many, and by lines of at most so many bytes.
+/// Takes from a session what the sink lacks, as `pull_run` does, in at most so many rounds, and by lines of at most so
+/// many bytes.
 pub fn pull_rounds<S: Source, D: Drain, K: Sink>(
     alloc: Global,
     limit: usize,
@@ -170,6 +171,8 @@ fn declined(fault: SinkFault) -> LineFault
     match fault {
         SinkFault::NoMemory => LineFault::NoMemory,
         SinkFault::Closed => LineFault::Closed,
+        SinkFault::NotListed => LineFault::NotListed,
+        SinkFault::FarAhead => LineFault::FarAhead,
     }
 }
 
@@ -197,10 +200,10 @@ fn line_of(alloc: Global, front: &Front) -> Result<String, NoMemory>
     Ok(line)
 }
 
-/// Reads the answer of a session to a front, whole: its operations, at most 256, and whether others are left. Refusals: 1
-/// `LongLine`, a line is longer than the reader's limit; 3 `ReadFault`, the source failed; 5 `NoMemory`; 6 `BadAnswer`,
-/// a line can't be part of an answer, an operation is invalid, a 257th one came, or the source ended before the answer.
-/// It costs O(n) for n bytes.
+/// Reads the answer of a session to a front, whole: its operations, at most 256, and whether others are left. Refusals:
+/// 1 `LongLine`, a line is longer than the reader's limit; 3 `ReadFault`, the source failed; 5 `NoMemory`; 6
+/// `BadAnswer`, a line can't be part of an answer, an operation is invalid, a 257th one came, or the source ended
+/// before the answer. It costs O(n) for n bytes.
 pub fn read_round<S: Source>(
     alloc: Global,
     reader: &mut LineReader,

@@ -7,14 +7,13 @@ ghost use Rattle.refusal_line.specs.declared.part.Part.TheVariants.{Events};
 use byte_ends::{Drain, Source};
 use command_line::{Answer, EventWords};
 use commands::report;
-use console::{
-    Console, Named, Refusal, Streams, SystemFiles, read_any_gate, read_message, show_line,
-};
+use console::{Console, Named, Refusal, Streams, read_any_gate, read_message, show_line};
 use event_feed::{EventWriter, FeedFault, Input, events_run};
 use feed_client::{FeedOrder, Feeds, feed_to};
 use footer_text::Bases;
 use gerrit_events::Projects;
 use lattice_core::NoMemory;
+use record_pull::SystemFiles;
 use refusal_line::{Part, refusal_line};
 use std::alloc::{AllocError, Global};
 use std::net::{Net, TcpStream};

@@ -2,3 +2,4 @@ pub mod Fault
 pub mod Beginning
 pub mod Endings
 pub mod Printing
+pub mod LateClock

@@ -9,13 +9,15 @@ ghost use Rattle.serve_command.specs.Printing.{prints_of};
 use super::fault::ProgramFault;
 use super::input_end::stop_with_input;
 use super::journal::open_journal;
+use super::late_clock::show_late_clock;
 use super::output::PatientOutput;
 use super::save::save;
 use super::start::start_of;
 use byte_ends::{Drain, Ends, Source, write_all};
 use command_line::{Printing, ServeWords};
-use console::{Console, Named, Refusal, Streams, SystemFiles, read_gate, read_snapshot};
+use console::{Console, Named, Refusal, Streams, read_gate, read_snapshot};
 use gate_rules::Gate;
+use record_pull::SystemFiles;
 use replica_core::Replica;
 use site_journal::JournalFault;
 use site_ledger::{Keeps, NoJournal};
@@ -155,6 +157,8 @@ where
         gate,
         replica,
     } = site;
+    let mut errors = errors;
+    show_late_clock(alloc, &replica, &mut errors);
     let Some(start) = start_of(&rt, serving.start, &replica, serving.site) else {
         return Err(Ended::Site(ServeFault::StartUsed));
     };
@@ -195,13 +199,15 @@ fn output_of<R: Print + Threads + Wait + Clock + Copy + Send + 'static>(
 fn setup_of(serving: ServeWords<'_>, start: u32, gate: Gate, replica: Replica) -> Setup
     ensures held { (result.gate ≡ gate) × (result.replica ≡ replica) }
     ensures stamps { (result.site ≡ serving.entry.site) × (result.start ≡ start) }
-    ensures peers { (result.peers ≡ serving.entry.peers) × (result.pause_ms ≡ serving.entry.pause_ms) }
+    ensures peers { (result.peers ≡ serving.entry.peers) × (result.pause_ms ≡ serving.entry.pause_ms)
+        × (result.sites ≡ serving.entry.sites) }
     ensures sessions { (result.workers ≡ serving.entry.workers) × (result.sessions ≡ serving.entry.sessions)
         × (result.idle_ms ≡ serving.entry.idle_ms) × (result.connections ≡ serving.entry.connections) }
     ensures prints { result.prints ≡ prints_of serving.entry.prints }
 {
     let ServeWords {
         peers,
+        sites,
         site,
         workers,
         pause_ms,
@@ -217,6 +223,7 @@ fn setup_of(serving: ServeWords<'_>, start: u32, gate: Gate, replica: Replica) -
         site,
         start,
         peers,
+        sites,
         workers,
         pause_ms,
         sessions,

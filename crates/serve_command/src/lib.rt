@@ -22,6 +22,7 @@ mod command;
 mod fault;
 mod input_end;
 mod journal;
+mod late_clock;
 mod output;
 mod save;
 mod start;

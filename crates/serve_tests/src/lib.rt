@@ -3,6 +3,8 @@
 #![tactic(auto)]
 
 #[cfg(test)]
+mod changes;
+#[cfg(test)]
 mod connections;
 #[cfg(test)]
 mod crowds;
@@ -11,7 +13,11 @@ mod feeds;
 #[cfg(test)]
 mod gossip;
 #[cfg(test)]
+mod guards;
+#[cfg(test)]
 mod programs;
+#[cfg(test)]
+mod records;
 #[cfg(test)]
 mod restarts;
 #[cfg(test)]

@@ -2,7 +2,7 @@
 
 use super::sites::listening;
 use byte_ends::Ends;
-use command_line::ServeWords;
+use command_line::{Printing, ServeWords};
 use serve_command::{Ended, ProgramFault, serve};
 use site_journal::JournalFault;
 use std::alloc::Global;
@@ -36,6 +36,7 @@ pub fn site_words<'a>(alloc: Global) -> ServeWords<'a> {
     ServeWords {
         gate: "-",
         peers: Vec::new(alloc),
+        sites: Vec::new(alloc),
         site: 1,
         start: Some(1),
         port: 0,
@@ -45,6 +46,7 @@ pub fn site_words<'a>(alloc: Global) -> ServeWords<'a> {
         idle_ms: 0,
         connections: 1024,
         until_input_ends: false,
+        prints: Printing::Report,
         load: None,
         save: None,
         journal: None,
@@ -56,6 +58,7 @@ fn journal_words<'a>(alloc: Global, name: &'a str) -> ServeWords<'a> {
     ServeWords {
         gate: "-",
         peers: Vec::new(alloc),
+        sites: Vec::new(alloc),
         site: 1,
         start: None,
         port: 0,
@@ -65,6 +68,7 @@ fn journal_words<'a>(alloc: Global, name: &'a str) -> ServeWords<'a> {
         idle_ms: 0,
         connections: 1024,
         until_input_ends: true,
+        prints: Printing::Report,
         load: None,
         save: None,
         journal: Some(name),

@@ -21,10 +21,10 @@ use std::time::{Clock, Duration, Instant};
 use std::{fs, io, thread};
 
 /// What the client is answered that takes in a merge.
-const TAKEN: &str = "hello 2\nok 1,1,1,1\nbye\n";
+pub const TAKEN: &str = "hello 2\nok 1,1,1,1\nbye\n";
 
 /// What a site answers to these lines once it listens, which is awaited for ten seconds at most.
-fn talk_once_up<R>(rt: &R, alloc: Global, port: u16, lines: &str) -> io::Result<String>
+pub fn talk_once_up<R>(rt: &R, alloc: Global, port: u16, lines: &str) -> io::Result<String>
 where
     R: Net<Listener = TcpListener, Stream = TcpStream> + Wait + Clock,
 {

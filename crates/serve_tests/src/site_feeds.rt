@@ -8,7 +8,7 @@ use gate_rules::Gate;
 use op_text::read_op;
 use replica_core::Replica;
 use site_net::Stop;
-use site_serve::{Setup, serve_run};
+use site_serve::{Prints, Setup, serve_run};
 use std::alloc::Global;
 use std::io::Write;
 use std::net::{Net, TcpListener, TcpStream};
@@ -39,11 +39,13 @@ where
         site: 1,
         start: 1,
         peers: Vec::new(alloc),
+        sites: Vec::new(alloc),
         workers: 2,
         pause_ms: 50,
         sessions,
         idle_ms: 0,
         connections: 1024,
+        prints: Prints::Report,
     };
     let (output, errors) = (Ends::new(Vec::new(alloc)), Ends::new(Vec::new(alloc)));
     let stop = Stop::new();

@@ -5,7 +5,7 @@ use gate_rules::Gate;
 use op_text::read_op;
 use replica_core::Replica;
 use site_net::Stop;
-use site_serve::{ServeFault, Served, Setup, Turn, serve_run};
+use site_serve::{Prints, ServeFault, Served, Setup, Turn, serve_run};
 use std::alloc::Global;
 use std::io::{Read, Write};
 use std::net::{Net, Shutdown, TcpListener, TcpStream};
@@ -51,11 +51,13 @@ pub fn one_session(alloc: Global, site: u16) -> Result<Setup, Fail> {
         site,
         start: 1,
         peers: Vec::new(alloc),
+        sites: Vec::new(alloc),
         workers: 1,
         pause_ms: 50,
         sessions: 1,
         idle_ms: 0,
         connections: 1024,
+        prints: Prints::Report,
     })
 }
 

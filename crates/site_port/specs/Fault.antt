@@ -20,7 +20,11 @@ port_name_of port.Closed = codes "Closed"
 abbrev pub sink_number_of : SinkFault → ℕ
 sink_number_of sink.NoMemory = 3
 sink_number_of sink.Closed = 4
+sink_number_of sink.NotListed = 11
+sink_number_of sink.FarAhead = 12
 
 abbrev pub sink_name_of : SinkFault → List ℕ
 sink_name_of sink.NoMemory = codes "NoMemory"
 sink_name_of sink.Closed = codes "Closed"
+sink_name_of sink.NotListed = codes "NotListed"
+sink_name_of sink.FarAhead = codes "FarAhead"

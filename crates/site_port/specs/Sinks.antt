@@ -1,5 +1,5 @@
 -- What a site is offered in a pull, and how it takes that up.
-use Rattle.std.specs.Prelude.{List, Result, Ok, Err}
+use Rattle.std.specs.Prelude.{ℕ, List, Result, Ok, Err}
 use Rattle.replica_core.specs.Front.{Reaches}
 use Rattle.review_ops.specs.Operation.{Operation}
 use Rattle.site_port.specs.declared.fault.SinkFault.{SinkFault}
@@ -7,11 +7,14 @@ use Rattle.site_port.specs.declared.fault.SinkFault.{SinkFault}
 pub data Offer : Type 0 where
   -- to say how far the record goes
   fronts : Offer
+  -- to say the greatest time of the record, or 0
+  clocks : Offer
   -- to take these operations
   hands : (ops : List Operation) → Offer
 
 pub data Uptake : Type 0 where
   reached : (front : Reaches) → Uptake
+  at_time : (latest : ℕ) → Uptake
   took : Uptake
   declined : (fault : SinkFault) → Uptake
 

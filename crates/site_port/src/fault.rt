@@ -23,7 +23,8 @@ pub enum PortFault {
     Closed,
 }
 
-/// Why a sink doesn't take what it is handed, or say how far it goes. The numbers are those of `PortFault`.
+/// Why a sink doesn't take what it is handed, or say how far it goes. The numbers are those of `PortFault`, and those
+/// of `pull_guard::Bar`.
 #[derive(Clone, Copy, Debug, PartialEq, Eq, Error)]
 pub enum SinkFault {
     /// 3: memory was refused.
@@ -32,6 +33,12 @@ pub enum SinkFault {
     /// 4: the site has ended.
     #[error("the site has ended")]
     Closed,
+    /// 11: an operation is of a site that isn't listed.
+    #[error("an operation of a site that isn't listed")]
+    NotListed,
+    /// 12: an operation has a time or a start that is far ahead of the record.
+    #[error("an operation that is far ahead")]
+    FarAhead,
 }
 
 impl PortFault {
@@ -68,6 +75,8 @@ impl SinkFault {
         match self {
             SinkFault::NoMemory => 3,
             SinkFault::Closed => 4,
+            SinkFault::NotListed => 11,
+            SinkFault::FarAhead => 12,
         }
     }
 
@@ -78,6 +87,8 @@ impl SinkFault {
         match self {
             SinkFault::NoMemory => "NoMemory",
             SinkFault::Closed => "Closed",
+            SinkFault::NotListed => "NotListed",
+            SinkFault::FarAhead => "FarAhead",
         }
     }
 }

@@ -10,6 +10,7 @@
 //! | 1 `ClockSpent`, 2 `BadBody` | of an intake alone |
 //! | 3 `NoMemory` | memory was refused |
 //! | 4 `Closed` | the site has ended |
+//! | 11 `NotListed`, 12 `FarAhead` | of a guarded sink alone: it is handed an operation that isn't allowed |
 //!
 //! An example of its use:
 //!
@@ -23,11 +24,13 @@
 #![tactic(auto)]
 
 mod fault;
+mod guarded;
 mod laws;
 mod own;
 mod port;
 
 pub use fault::{PortFault, SinkFault};
+pub use guarded::Guarded;
 pub use laws::{last_answers_pass_on_all, own_replies_are_one};
 pub use own::{OwnPort, take_each};
 pub use port::{Port, Sink};

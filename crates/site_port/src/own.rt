@@ -7,6 +7,7 @@ use super::fault::{PortFault, SinkFault};
 use super::port::{Port, Sink};
 use gate_rules::Gate;
 use lattice_core::NoMemory;
+use pull_guard::latest_time;
 use ready_core::{Verdicts, evaluate};
 use replica_core::{Front, Missing, Replica};
 use review_ops::{Body, Draft, Op, Stamp};
@@ -113,6 +114,10 @@ impl Sink for OwnPort {
             Ok(front) => Ok(front),
             Err(_) => Err(SinkFault::NoMemory),
         }
+    }
+
+    fn latest_time(&mut self) -> Result<u64, SinkFault> {
+        Ok(latest_time(&self.replica))
     }
 
     fn take_all(&mut self, ops: Vec<Op>) -> Result<(), SinkFault> {

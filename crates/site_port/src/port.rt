@@ -4,7 +4,8 @@ ghost use Rattle.std.specs.Prelude.{◌≤◌, IfErr, IfOk, vec_len};
 ghost use Rattle.review_ops.specs.Draft.{deed_of};
 ghost use Rattle.site_port.specs.Ports.{Call, Reply, takes_in, lacks, reports, looks, stamped, lacked, judged, looked};
 ghost use Rattle.site_port.specs.Ports.{reply_by, IsLookingFault};
-ghost use Rattle.site_port.specs.Sinks.{Offer, Uptake, fronts, hands, reached, took, uptake_by, taken_by};
+ghost use Rattle.site_port.specs.Sinks.{Offer, Uptake, at_time, clocks, fronts, hands, reached, took, uptake_by};
+ghost use Rattle.site_port.specs.Sinks.{taken_by};
 
 use super::fault::{PortFault, SinkFault};
 use ready_core::Verdicts;
@@ -47,6 +48,10 @@ pub trait Sink {
     /// How far the record goes without a gap.
     fn front(&mut self) -> Result<Front, SinkFault>
         ensures { sinks self.old fronts (uptake_by reached result) self.new };
+
+    /// The greatest time of the record's operations, or 0 where it has none.
+    fn latest_time(&mut self) -> Result<u64, SinkFault>
+        ensures { sinks self.old clocks (uptake_by at_time result) self.new };
 
     /// Takes these operations, in their order. Where it is refused, some of them may have been taken.
     fn take_all(&mut self, ops: Vec<Op>) -> Result<(), SinkFault>

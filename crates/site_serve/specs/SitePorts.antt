@@ -3,6 +3,7 @@
 use Rattle.std.specs.Prelude.{◌≡◌, true, List, length, nat_lt, take}
 use Rattle.gate_rules.specs.Rules.{GateRules}
 use Rattle.ready_core.specs.Verdicts.{AreVerdicts}
+use Rattle.replica_core.specs.Clock.{greatest, times}
 use Rattle.replica_core.specs.Front.{IsFront}
 use Rattle.replica_core.specs.Journal.{has_stamp}
 use Rattle.replica_core.specs.Missing.{IsMissing}
@@ -11,7 +12,7 @@ use Rattle.site_port.specs.Ports.{Call, Reply, IsLookingFault, takes_in, lacks, 
 use Rattle.site_port.specs.Ports.{looked, refused}
 use Rattle.site_port.specs.declared.fault.PortFault.{PortFault}
 use Rattle.site_port.specs.declared.fault.PortFault.TheVariants as port
-use Rattle.site_port.specs.Sinks.{Offer, Uptake, fronts, reached}
+use Rattle.site_port.specs.Sinks.{Offer, Uptake, at_time, clocks, fronts, reached}
 use Rattle.site_shared.specs.Accounts.{GoesOn, Outlook}
 use Rattle.site_shared.specs.Publishes.{arrive}
 use Rattle.site_shared.specs.declared.fault.DeskFault.{DeskFault}
@@ -39,8 +40,9 @@ SaysAtMoment gate seen call reply = ⊥
 abbrev pub SiteGives : GateRules → Outlook → Call → Reply → Outlook → Type 0
 SiteGives gate old call reply new = GoesOn old new × SaysAtMoment gate new.seen call reply
 
--- how a pull's offers are taken up: the front is that of a moment; what is handed over is published, or only held, by
--- the desk
+-- how a pull's offers are taken up: the front and the greatest time are those of a moment; what is handed over is
+-- published, or only held, by the desk
 abbrev pub SiteSinks : Outlook → Offer → Uptake → Outlook → Type 0
 SiteSinks old fronts (reached front) new = GoesOn old new × IsFront (arrive new.seen) front
+SiteSinks old clocks (at_time latest) new = GoesOn old new × (latest ≡ greatest (times (arrive new.seen)))
 SiteSinks old offer uptake new = GoesOn old new

@@ -5,6 +5,7 @@ use super::port::PullPort;
 use byte_ends::{Drain, Ends};
 use gossip_line::{LineFault, pull_run};
 use site_net::{Patience, PatientReader, PatientWriter, Stop, connected};
+use site_port::Guarded;
 use site_shared::Naming;
 use std::alloc::Global;
 use std::io;
@@ -47,7 +48,7 @@ pub fn pull_from_peers<R: Wait + Clock + Net<Stream = TcpStream>, E: Drain, J: N
     pulling: Pulling<'_>,
     peers: Vec<Peer>,
     errors: &Errors<E>,
-    port: &mut PullPort<'_, R, J>,
+    port: &mut Guarded<'_, PullPort<'_, R, J>>,
 ) {
     let mut peers = peers;
     let mut rest = pulling.pause;
@@ -77,13 +78,13 @@ fn pull_round<R: Wait + Clock + Net<Stream = TcpStream>, E: Drain, J: Naming>(
     pulling: Pulling<'_>,
     peers: &mut [Peer],
     errors: &Errors<E>,
-    port: &mut PullPort<'_, R, J>,
+    port: &mut Guarded<'_, PullPort<'_, R, J>>,
 ) -> bool {
     let mut is_well = false;
     for peer in peers {
         let condition = pull_from(rt, pulling, peer.port, port);
         is_well |= condition == Condition::Well;
-        if port.is_start_taken() {
+        if port.sink.is_start_taken() {
             pulling.stop.ask(rt);
         }
         if pulling.stop.is_asked() {
@@ -111,7 +112,7 @@ fn pull_from<R: Wait + Clock + Net<Stream = TcpStream>, J: Naming>(
     rt: &R,
     pulling: Pulling<'_>,
     peer: u16,
-    port: &mut PullPort<'_, R, J>,
+    port: &mut Guarded<'_, PullPort<'_, R, J>>,
 ) -> Condition {
     let Ok(stream) = connected(rt, peer, pulling.patience) else {
         return Condition::Unreachable;
@@ -128,7 +129,7 @@ fn pull_over<R: Wait + Clock, J: Naming>(
     rt: &R,
     pulling: Pulling<'_>,
     stream: &TcpStream,
-    port: &mut PullPort<'_, R, J>,
+    port: &mut Guarded<'_, PullPort<'_, R, J>>,
 ) -> io::Result<Result<(), LineFault>> {
     let mut source = Ends::new(PatientReader::new(rt, stream, pulling.stop, pulling.patience)?);
     let mut drain = Ends::new(PatientWriter::new(rt, stream, pulling.patience)?);

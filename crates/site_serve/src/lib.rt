@@ -31,6 +31,7 @@
 //!     idle_ms: 0,
 //!     connections: 1024,
 //!     prints: Prints::Report,
+//!     sites: Vec::new(alloc),
 //! };
 //! let stop = Stop::new();
 //! stop.ask(&rt);

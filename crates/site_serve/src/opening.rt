@@ -6,6 +6,7 @@ ghost use Rattle.std.specs.Prelude.{None, OnErr, OnOk, false, if◌then◌else�
 ghost use Rattle.std.specs.List.{list_any};
 ghost use Rattle.std.specs.Option.{option_copied};
 ghost use Rattle.ready_core.specs.Verdicts.{AreVerdicts};
+ghost use Rattle.replica_core.specs.Clock.{greatest, times};
 ghost use Rattle.replica_core.specs.Front.{IsFront};
 ghost use Rattle.replica_core.specs.Journal.{has, has_stamp};
 ghost use Rattle.replica_core.specs.JournalLaws.{IsPartOf};
@@ -119,6 +120,15 @@ impl<J: Naming> OwnWindow<J> {
         ensures closed { IfErr result (λ fault. (fault ≡ Closed) × (self.new.window ≡ self.old.window)) }
     {
         self.window.has_foreign(ops)
+    }
+
+    /// The greatest time of the record's operations, or 0 where it has none.
+    pub fn latest_time(&mut self) -> Result<u64, WindowFault>
+        ensures later { GoesOn self.old.window self.new.window }
+        ensures ok { IfOk result (λ latest. latest ≡ greatest (times (arrive self.new.window.seen))) }
+        ensures closed { IfErr result (λ fault. (fault ≡ Closed) × (self.new.window ≡ self.old.window)) }
+    {
+        self.window.latest_time()
     }
 
     /// A copy of the record.

@@ -157,6 +157,13 @@ impl<'a, R: Wait, J: Naming> Sink for PullPort<'a, R, J> {
         }
     }
 
+    fn latest_time(&mut self) -> Result<u64, SinkFault> {
+        match self.window.latest_time() {
+            Ok(latest) => Ok(latest),
+            Err(fault) => Err(sink_fault(fault)),
+        }
+    }
+
     fn take_all(&mut self, ops: Vec<Op>) -> Result<(), SinkFault> {
         match self.window.has_foreign(ops.as_slice()) {
             Ok(false) => {}

@@ -24,8 +24,10 @@ use byte_ends::Drain;
 use gate_rules::Gate;
 use mio::net::TcpListener as Listener;
 use mio::{Interest, Poll, Waker};
+use pull_guard::Guard;
 use site_ledger::{Keeps, Ledger, NoJournal};
 use site_net::{Patience, Stop};
+use site_port::Guarded;
 use site_shared::{Desk, Naming, OpenFault, Window, open_site};
 use std::alloc::{AllocError, Global};
 use std::marker::Brand;
@@ -57,6 +59,7 @@ struct Common<'a, E: Drain, T: Turn> {
     alloc: Global,
     gate: Gate,
     prints: Prints,
+    guard: Guard,
     pause: Duration,
     patience: Patience,
     errors: Errors<E>,
@@ -123,6 +126,7 @@ where
         site,
         start,
         peers,
+        sites,
         workers,
         pause_ms,
         sessions,
@@ -145,6 +149,7 @@ where
         alloc,
         gate,
         prints,
+        guard: Guard { own: site, sites },
         pause: Duration::from_millis(pause_ms),
         patience: patience_of(idle_ms),
         errors: Errors::new(errors),
@@ -466,9 +471,12 @@ where
         },
         stop: common.stop,
     };
-    let mut port = PullPort::new(rt, waker, place);
+    let mut port = Guarded {
+        guard: &common.guard,
+        sink: PullPort::new(rt, waker, place),
+    };
     pull_from_peers(rt, pulling, peers, &common.errors, &mut port);
-    if port.is_start_taken() {
+    if port.sink.is_start_taken() {
         common.is_start_taken.store(true, Ordering::SeqCst);
     }
 }

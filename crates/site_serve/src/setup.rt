@@ -31,6 +31,8 @@ pub struct Setup {
     pub start: u32,
     /// The ports of its peers on this machine.
     pub peers: Vec<u16>,
+    /// The numbers of the sites whose operations it takes from its peers, beside its own; none stands for all.
+    pub sites: Vec<u16>,
     /// How many threads look at its record for sessions, from 1 to 6: none is as 1, and more are as 6.
     pub workers: usize,
     /// How many milliseconds pass between two rounds of pulls.

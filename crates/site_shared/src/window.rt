@@ -7,6 +7,7 @@ ghost use Rattle.std.specs.List.{list_any};
 ghost use mathlib.Core.List.{IsPrefix};
 ghost use Rattle.left_right.specs.Sides.{view};
 ghost use Rattle.ready_core.specs.Verdicts.{AreVerdicts};
+ghost use Rattle.replica_core.specs.Clock.{greatest, times};
 ghost use Rattle.replica_core.specs.Front.{IsFront};
 ghost use Rattle.replica_core.specs.Journal.{has_stamp};
 ghost use Rattle.replica_core.specs.Missing.{IsMissing};
@@ -23,6 +24,7 @@ use crate::showing::{Glass, Look, Sees, Show, TakesIn, Tells};
 use crate::sight::Sight;
 use crate::watch::Watch;
 use gate_rules::Gate;
+use pull_guard::latest_time;
 use ready_core::{Verdicts, evaluate};
 use replica_core::{Front, Missing, Replica};
 use review_ops::{Op, Stamp};
@@ -217,6 +219,21 @@ impl Window {
         let found = is_any_foreign(&look.get().replica, ops, site, start);
         self.leave(look);
         Ok(found)
+    }
+
+    /// The greatest time of the journal's operations, or 0 where it has none. It takes no memory, and costs what
+    /// `pull_guard::latest_time` does.
+    pub fn latest_time(&mut self) -> Result<u64, WindowFault>
+        ensures later { GoesOn self.old self.new }
+        ensures ok { IfOk result (λ latest. latest ≡ greatest (times (arrive self.new.seen))) }
+        ensures closed { IfErr result (λ fault. (fault ≡ Closed) × (self.new ≡ self.old)) }
+    {
+        let Some(look) = self.enter() else {
+            return Err(WindowFault::Closed);
+        };
+        let latest = latest_time(&look.get().replica);
+        self.leave(look);
+        Ok(latest)
     }
 
     /// How far the journal goes without a gap. It costs O(n log n) for n pairs of a site and a start.

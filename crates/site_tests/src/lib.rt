@@ -1,7 +1,9 @@
-//! Tests of what a running site is made of (desks and windows, ledgers, journals, ports, lines) and of the recovery of
-//! journals, through the public functions of their crates. A crate of tests alone, as `record_tests` is.
+//! Tests of what a running site is made of (desks and windows, ledgers, journals, ports, guards, lines) and of the
+//! recovery of journals, through the public functions of their crates. A crate of tests alone, as `record_tests` is.
 #![tactic(auto)]
 
+#[cfg(test)]
+mod guards;
 #[cfg(test)]
 mod journals;
 #[cfg(test)]
@@ -10,6 +12,8 @@ mod ledgers;
 mod lines;
 #[cfg(test)]
 mod ports;
+#[cfg(test)]
+mod records;
 #[cfg(test)]
 mod recoveries;
 #[cfg(test)]

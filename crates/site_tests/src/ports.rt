@@ -15,8 +15,12 @@ fn faults_have_numbers_and_names(rt: HostRuntime) {
     ] {
         assert_eq!(rt; (fault.number(), fault.name()), (number, name));
     }
-    assert_eq!(rt;
-        (SinkFault::NoMemory.number(), SinkFault::Closed.name()),
-        (3, "Closed")
-    );
+    for (fault, number, name) in [
+        (SinkFault::NoMemory, 3, "NoMemory"),
+        (SinkFault::Closed, 4, "Closed"),
+        (SinkFault::NotListed, 11, "NotListed"),
+        (SinkFault::FarAhead, 12, "FarAhead"),
+    ] {
+        assert_eq!(rt; (fault.number(), fault.name()), (number, name));
+    }
 }

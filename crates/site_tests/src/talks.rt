@@ -26,7 +26,7 @@ pub const MERGE_5: &[u8] = br#"{"change":5,"op":"merged","seq":1,"site":1,"start
 pub const MERGE_6: &[u8] = br#"{"change":6,"op":"merged","seq":2,"site":1,"start":1,"time":2}"#;
 
 /// A replica that holds these operations.
-fn replica_of(alloc: Global, ops: &[&[u8]]) -> Result<Replica, Fail> {
+pub fn replica_of(alloc: Global, ops: &[&[u8]]) -> Result<Replica, Fail> {
     let mut replica = Replica::new(alloc);
     for op in ops {
         let _taken = replica.take(read_op(alloc, op)?)?;
@@ -344,6 +344,10 @@ impl Sink for Ended {
         Err(SinkFault::Closed)
     }
 
+    fn latest_time(&mut self) -> Result<u64, SinkFault> {
+        Err(SinkFault::Closed)
+    }
+
     fn take_all(&mut self, _ops: Vec<Op>) -> Result<(), SinkFault> {
         Err(SinkFault::Closed)
     }
@@ -398,6 +402,10 @@ impl Sink for Full {
     ghost sinks = { λ _ _ uptake _. uptake ≡ declined NoMemory };
 
     fn front(&mut self) -> Result<Front, SinkFault> {
+        Err(SinkFault::NoMemory)
+    }
+
+    fn latest_time(&mut self) -> Result<u64, SinkFault> {
         Err(SinkFault::NoMemory)
     }
 
@@ -545,6 +553,8 @@ fn faults_have_numbers_and_names(rt: HostRuntime) {
         (LineFault::NoMemory, 5, "NoMemory"),
         (LineFault::BadAnswer, 6, "BadAnswer"),
         (LineFault::Closed, 7, "Closed"),
+        (LineFault::NotListed, 11, "NotListed"),
+        (LineFault::FarAhead, 12, "FarAhead"),
     ] {
         assert_eq!(rt; (fault.number(), fault.name()), (number, name));
     }

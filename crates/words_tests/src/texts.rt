@@ -73,7 +73,7 @@ Usage: reviewgate ready <GATE> <SNAPSHOT>
 
 Arguments:
   <GATE>      The gate file, or - for standard input
-  <SNAPSHOT>  The snapshot's file, or - for standard input
+  <SNAPSHOT>  The snapshot's file, - for standard input, or @PORT for a running site
 
 Options:
   -h, --help  Print help
@@ -87,7 +87,7 @@ Usage: reviewgate why <GATE> <SNAPSHOT> <CHANGE[,SET]>
 
 Arguments:
   <GATE>          The gate file, or - for standard input
-  <SNAPSHOT>      The snapshot's file, or - for standard input
+  <SNAPSHOT>      The snapshot's file, - for standard input, or @PORT for a running site
   <CHANGE[,SET]>  The change's number, and that of a patch set if not the current one
 
 Options:
@@ -102,7 +102,7 @@ Usage: reviewgate graph [OPTIONS] <GATE> <SNAPSHOT>
 
 Arguments:
   <GATE>      The gate file, or - for standard input
-  <SNAPSHOT>  The snapshot's file, or - for standard input
+  <SNAPSHOT>  The snapshot's file, - for standard input, or @PORT for a running site
 
 Options:
       --around <CHANGE>  The change around which items are drawn: what it leads to, and what leads to it
@@ -116,8 +116,8 @@ Options:
 Usage: reviewgate merge <FIRST> <SECOND>
 
 Arguments:
-  <FIRST>   The first snapshot's file, or - for standard input
-  <SECOND>  The second snapshot's file, or - for standard input
+  <FIRST>   The first snapshot's file, - for standard input, or @PORT for a running site
+  <SECOND>  The second snapshot's file, - for standard input, or @PORT for a running site
 
 Options:
   -h, --help  Print help
@@ -146,7 +146,7 @@ Usage: reviewgate check [OPTIONS] <GATE> [SNAPSHOT]
 
 Arguments:
   <GATE>      The gate file, or - for standard input
-  [SNAPSHOT]  The snapshot whose votes the gate is compared with, or - for standard input
+  [SNAPSHOT]  The snapshot whose votes the gate is compared with, - for standard input, or @PORT for a running site
 
 Options:
       --strict  Ends with status 1 if there is a warning

@@ -21,4 +21,4 @@ returns-in_err-record g c =
 pub returns : goal.returns
 returns g c =
     checked c.args.gate c.args.is_strict c.in_ok-rules.rules c.args.snapshot (option_map state_of c.in_ok-record.record) _ _ _ _ c.print_check-ended.result c.in_ok-rules.ensures.had c.in_ok-record.ensures.had
-    (subst (λ (state : Option State). Finishes (IsCheckText c.in_ok-rules.rules state c.args.is_strict) (g.C.Console.state c.read_record.new.console) (g.C.Console.state c.print_check-ended.new.console) c.print_check-ended.result) c.state_in.ensures c.print_check-ended.ensures)
+    (subst (λ (state : Option State). Finishes (IsCheckText c.in_ok-rules.rules state c.args.is_strict) (g.C.Console.state c.read_any_record.new.console) (g.C.Console.state c.print_check-ended.new.console) c.print_check-ended.result) c.state_in.ensures c.print_check-ended.ensures)

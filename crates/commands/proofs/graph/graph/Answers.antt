@@ -24,7 +24,7 @@ returns-in-Ok g c =
     let state = c.state.ensures ∙ ap state_of (second.1 ∙ ap (λ j. all_arrived j second.0) c.new.ensures) in
     inr (
       first.0 ∷ second.2.0 ∷ [],
-      g.C.Console.state c.read_snapshot.new.console,
+      g.C.Console.state c.read_record.new.console,
       record_had c.args.gate.now c.args.snapshot.now rules (λ text. SpellsGate text rules)
           (λ text spells. spells) second.0 _ _ _ first second.2,
       finishes (IsWhole (IsOf first.0 second.2.0 (IsPicture c.args.around)) (Misses (IsAround c.args.around) second.2.0 (HasAround c.args.around))) c.as_bytes.result.now _ _ c.print.result
@@ -51,12 +51,12 @@ returns g c =
     let state = c.state.ensures ∙ ap state_of (second.1 ∙ ap (λ j. all_arrived j second.0) c.new.ensures) in
     inr (
       first.0 ∷ second.2.0 ∷ [],
-      g.C.Console.state c.read_snapshot.new.console,
+      g.C.Console.state c.read_record.new.console,
       record_had c.args.gate.now c.args.snapshot.now rules (λ text. SpellsGate text rules)
           (λ text spells. spells) second.0 _ _ _ first second.2,
       inl (
         [],
         not_there (IsOf first.0 second.2.0 (IsPicture c.args.around)) (IsAround c.args.around) second.2.0 (HasAround c.args.around) c.in-Err.refusal second.0 c.state.result.now second.2.2 state c.in-Err.ensures.refused,
-        nothing_printed (g.C.Console.state c.read_snapshot.new.console),
+        nothing_printed (g.C.Console.state c.read_record.new.console),
       ),
     )

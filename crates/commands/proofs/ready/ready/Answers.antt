@@ -23,7 +23,7 @@ returns-in_default g c =
     let second = c.in_ok-replica.ensures.had in
     inr (
       first.0 ∷ second.2.0 ∷ [],
-      g.C.Console.state c.read_snapshot.new.console,
+      g.C.Console.state c.read_record.new.console,
       record_had c.args.gate.now c.args.snapshot.now rules (λ text. SpellsGate text rules)
           (λ text spells. spells) second.0 _ _ _ first second.2,
       stops (IsOf first.0 second.2.0 IsReport) _,
@@ -37,7 +37,7 @@ returns g c =
     let state = c.state.ensures ∙ ap state_of (second.1 ∙ ap (λ j. all_arrived j second.0) c.new.ensures) in
     inr (
       first.0 ∷ second.2.0 ∷ [],
-      g.C.Console.state c.read_snapshot.new.console,
+      g.C.Console.state c.read_record.new.console,
       record_had c.args.gate.now c.args.snapshot.now rules (λ text. SpellsGate text rules)
           (λ text spells. spells) second.0 _ _ _ first second.2,
       finishes (IsWhole (IsOf first.0 second.2.0 IsReport) MissesNone)

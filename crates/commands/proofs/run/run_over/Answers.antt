@@ -22,6 +22,7 @@ returns g c =
       after = _;
       input = refl;
       named = refl;
+      running = refl;
       begins = refl;
       ends = c.do_command.ensures;
       leaves = same_counts _ _ _ _ _ _ _ _ (search (rules, of_output)) (search (rules, of_input))

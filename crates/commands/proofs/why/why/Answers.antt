@@ -28,7 +28,7 @@ returns-in-Ok g c =
     let state = c.state.ensures ∙ ap state_of (second.1 ∙ ap (λ j. all_arrived j second.0) c.new.ensures) in
     inr (
       first.0 ∷ second.2.0 ∷ [],
-      g.C.Console.state c.read_snapshot.new.console,
+      g.C.Console.state c.read_record.new.console,
       record_had c.args.gate.now c.args.snapshot.now file.rules
           (λ text. SpellsGate text file.rules × (text ≡ file.text.items))
           (λ text is. is.0) second.0 _ _ _ first second.2,
@@ -64,7 +64,7 @@ returns g c =
     let state = c.state.ensures ∙ ap state_of (second.1 ∙ ap (λ j. all_arrived j second.0) c.new.ensures) in
     inr (
       first.0 ∷ second.2.0 ∷ [],
-      g.C.Console.state c.read_snapshot.new.console,
+      g.C.Console.state c.read_record.new.console,
       record_had c.args.gate.now c.args.snapshot.now file.rules
           (λ text. SpellsGate text file.rules × (text ≡ file.text.items))
           (λ text is. is.0) second.0 _ _ _ first second.2,
@@ -74,6 +74,6 @@ returns g c =
             (IsItemText c.args.change c.args.set) second.2.0
             (HasItem c.args.change c.args.set) c.in-Err.refusal second.0 c.state.result.now second.2.2 state
             (no_item c.args.change c.args.set c.state.result.now c.in-Err.refusal c.in-Err.ensures.refused),
-        nothing_printed (g.C.Console.state c.read_snapshot.new.console),
+        nothing_printed (g.C.Console.state c.read_record.new.console),
       ),
     )

@@ -11,6 +11,7 @@ returns-clause-refused g c =
     let old : ConsoleState = record {
       left = if c.args.self.now.is_spent then Some [] else left;
       files = g.N.Named.files c.args.self.now.files.now;
+      sites = g.N.Named.sites c.args.self.now.files.now;
       printed = g.O.Drain.taken c.args.self.now.output.now;
       input_failed = g.I.Source.failed c.args.self.now.input.now;
       files_failed = g.N.Named.failed c.args.self.now.files.now;

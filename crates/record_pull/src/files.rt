@@ -1,0 +1,79 @@
+//! The files of the system, and the sites that run on this machine.
+
+ghost use Rattle.std.specs.Prelude.{◌≡◌, []};
+ghost use Rattle.byte_ends.specs.Failures.{OneFailed};
+
+use super::connection::pull_from;
+use super::joining::joined;
+use byte_ends::{BytesFault, Ends, read_all};
+use console::{Named, PullFault};
+use replica_core::Replica;
+use snapshot_text::{SnapFault, read_onto};
+use std::alloc::Global;
+use std::fs;
+use std::net::{Net, TcpStream};
+use std::rt::Files;
+use std::time::Clock;
+
+/// The files of the system, and the sites that run on this machine. No contract can say what they contain.
+#[derive(Drop)]
+pub struct SystemFiles<R: Drop> {
+    rt: R,
+    failures: u64,
+}
+
+impl<R: Files + Net<Stream = TcpStream> + Clock + AllocGlobal + Drop> SystemFiles<R> {
+    /// The files that `rt` opens and the sites that it connects to, with no failure counted.
+    pub fn new(rt: R) -> SystemFiles<R>
+        ensures { result.failures ≡ 0 }
+    {
+        SystemFiles { rt, failures: 0 }
+    }
+
+    /// Counts a file that can't be opened or read.
+    fn count_failure(&mut self)
+        ensures { OneFailed self.old.failures self.new.failures }
+    {
+        self.failures = self.failures.saturating_add(1);
+    }
+}
+
+impl<R: Files + Net<Stream = TcpStream> + Clock + AllocGlobal + Drop> Named for SystemFiles<R> {
+    ghost files = { λ files. [] };
+
+    ghost sites = { λ files. [] };
+
+    ghost failed = { λ files. files.failures };
+
+    fn read(&mut self, name: &str, limit: usize) -> Result<Vec<u8>, BytesFault> {
+        let alloc: Global = self.rt.alloc();
+        let answer = match fs::open(&self.rt, name) {
+            Ok(file) => read_all(alloc, &mut Ends::new(file), limit),
+            Err(_) => Err(BytesFault::ReadFault),
+        };
+        if matches!(&answer, Err(BytesFault::ReadFault)) {
+            self.count_failure();
+        }
+        answer
+    }
+
+    fn read_snapshot(&mut self, replica: Replica, name: &str) -> Result<Replica, SnapFault> {
+        let answer = match fs::open(&self.rt, name) {
+            Ok(file) => read_onto(replica, &mut Ends::new(file)),
+            Err(_) => Err(SnapFault::ReadFault),
+        };
+        if matches!(&answer, Err(SnapFault::ReadFault)) {
+            self.count_failure();
+        }
+        answer
+    }
+
+    fn pull(&mut self, replica: Replica, port: u16) -> Result<Replica, PullFault> {
+        let pulled = pull_from(&self.rt, self.rt.alloc(), port)?;
+        joined(replica, pulled)
+    }
+
+    fn failures(&self) -> u64 {
+        self.failures
+    }
+}

@@ -1,0 +1,31 @@
+//! The files of the system and the running sites of this machine, as the commands name them; and the pull of a record
+//! from a running site.
+//!
+//! Its tests are in the crate `site_tests`.
+//!
+//! Those over sockets are in the crate `serve_tests`.
+//!
+//! It is a crate of its own so that `console`, and all commands with it, know no sockets. Not taken: a command of a
+//! session that sends a snapshot (a pull does, and any site answers it), and a pull onto the record that is there,
+//! whose front would hide operations that have a stamp of it and another body.
+//!
+//! An example of its use:
+//!
+//! ```
+//! let mut source = Ends::new(b"hello 2\ndone\n".as_slice());
+//! let mut asked = Ends::new(Vec::new(alloc));
+//! let pulled = pull_record(alloc, &mut source, &mut asked);
+//! assert!(rt; matches!(&pulled, Ok(replica) if replica.len() == 0));
+//! assert_eq!(rt; asked.get_ref().as_slice(), b"hello 2\nfront []\nquit\n".as_slice());
+//! ```
+#![tactic(auto)]
+
+mod connection;
+mod files;
+mod joining;
+mod pull;
+mod record;
+
+pub use connection::pull_from;
+pub use files::SystemFiles;
+pub use pull::pull_record;
