@@ -60,6 +60,50 @@ have verified ann 1
     );
 }
 
+/// Each condition, as change 101 meets it and 98 doesn't.
+const ALL: &str = r#"101,1 dependency 98
+98,3 require approval 1
+want {"Verified":[1,2],"username":"zuul"}
+have verified ann 1
+meets require open
+want true
+have NEW
+meets require approval 1
+want {"Verified":[1,2],"username":"zuul"}
+have verified zuul 1
+"#;
+
+const ALL_BROKEN: &str = r#"98,3 require approval 1
+want {"Verified":[1,2],"username":"zuul"}
+have verified ann 1
+meets require open
+want true
+have NEW
+breaks require approval 1
+want {"Verified":[1,2],"username":"zuul"}
+have verified ann 1
+"#;
+
+#[test]
+fn each_condition_is_printed(rt: HostRuntime) {
+    let cases = [
+        (["why", "gate", "-", "101", "--all"], ALL),
+        (["why", "--all", "gate", "-", "98,3"], ALL_BROKEN),
+    ];
+    for (words, lines) in cases {
+        assert_prints(
+            &rt,
+            rt.alloc(),
+            words.as_slice(),
+            GATE,
+            RECORD,
+            0,
+            lines,
+            "",
+        );
+    }
+}
+
 #[test]
 fn an_item_that_is_not_known(rt: HostRuntime) {
     let cases = [

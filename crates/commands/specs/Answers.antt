@@ -1,5 +1,5 @@
 -- What each command prints: its text as a relation to the texts of its inputs.
-use Rattle.std.specs.Prelude.{◌≡◌, ◌⊎◌, ◌<◌, ℕ, Bool, true, List, [], ◌∷◌, ◌++◌, Option, None, Some, Ok, Err}
+use Rattle.std.specs.Prelude.{◌≡◌, ◌⊎◌, ◌<◌, ℕ, Bool, false, true, List, [], ◌∷◌, ◌++◌, Option, None, Some, Ok, Err}
 use Rattle.std.specs.Prelude.{codes, decimal, flat_map, length}
 use Rattle.byte_ends.specs.Lines.{lines_of}
 use Rattle.footer_text.specs.Footers.{AreFooters}
@@ -22,6 +22,7 @@ use Rattle.script_text.specs.Script.{IsUnreadScript, SaysScript}
 use Rattle.script_text.specs.declared.fault.ScriptFault.{ScriptFault}
 use Rattle.script_text.specs.declared.fault.ScriptFault.TheVariants.{BadLine, NoMemory}
 use Rattle.script_text.specs.declared.script.Step.{Step}
+use Rattle.why_text.specs.All.{TellsConditions}
 use Rattle.why_text.specs.Asked.{IsItemAsked}
 use Rattle.why_text.specs.Why.{IsWhy}
 use Rattle.world_core.specs.World.{new_world}
@@ -73,10 +74,20 @@ HasItem change set state = (item : Item) × IsItemAsked state change set item
 abbrev pub IsItemText : ℕ → Option ℕ → ℕ → Option ℕ → Type 0
 IsItemText change set number other = (number ≡ change) × (other ≡ set)
 
-abbrev pub IsReason : List ℕ → ℕ → Option ℕ → GateRules → State → List ℕ → Type 0
-IsReason gate change set rules state answer =
-    (item : Item) × (verdicts : Judged) × IsItemAsked state change set item × AreVerdicts rules state verdicts
-    × IsWhy gate rules state verdicts item answer
+-- each condition of the gate after the reason, where that is asked for
+abbrev pub TellsMore : Bool → List ℕ → GateRules → State → Item → List ℕ → Type 0
+TellsMore false gate rules state item more = more ≡ []
+TellsMore true gate rules state item more = TellsConditions gate rules state item more
+
+abbrev pub IsReasonFor : List ℕ → Bool → GateRules → State → Item → List ℕ → Type 0
+IsReasonFor gate is_all rules state item answer =
+    (verdicts : Judged) × (reason more : List ℕ) × AreVerdicts rules state verdicts
+    × IsWhy gate rules state verdicts item reason × TellsMore is_all gate rules state item more
+    × (answer ≡ reason ++ more)
+
+abbrev pub IsReason : List ℕ → ℕ → Option ℕ → Bool → GateRules → State → List ℕ → Type 0
+IsReason gate change set is_all rules state answer =
+    (item : Item) × IsItemAsked state change set item × IsReasonFor gate is_all rules state item answer
 
 -- ---- `graph`: the items and what they wait for, around a change of which a patch set is known, where one is named
 

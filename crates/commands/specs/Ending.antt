@@ -17,7 +17,7 @@ inputs_of (Simulate script (Some gate)) = input script_file script.now ∷ input
 inputs_of (Ready gate snapshot) = input gate_file gate.now ∷ record_input snapshot.now ∷ []
 inputs_of (Merge first second) = record_input first.now ∷ record_input second.now ∷ []
 inputs_of (Footers gate message change) = input gate_file gate.now ∷ input message_file message.now ∷ []
-inputs_of (Why gate snapshot change set) = input gate_file gate.now ∷ record_input snapshot.now ∷ []
+inputs_of (Why gate snapshot change set is_all) = input gate_file gate.now ∷ record_input snapshot.now ∷ []
 inputs_of (Graph gate snapshot around) = input gate_file gate.now ∷ record_input snapshot.now ∷ []
 inputs_of (Check gate None is_strict) = input gate_file gate.now ∷ []
 inputs_of (Check gate (Some snapshot) is_strict) =
@@ -31,8 +31,8 @@ IsAnswer (Ready gate snapshot) (one ∷ other ∷ []) answer ended =
 IsAnswer (Merge first second) (one ∷ other ∷ []) answer ended = IsWhole (IsMergedText one other) MissesNone answer ended
 IsAnswer (Footers gate message change) (one ∷ other ∷ []) answer ended =
     IsWhole (AreFooterLines one other change) MissesNone answer ended
-IsAnswer (Why gate snapshot change set) (one ∷ other ∷ []) answer ended =
-    IsWhole (IsOf one other (IsReason one change set)) (Misses (IsItemText change set) other (HasItem change set))
+IsAnswer (Why gate snapshot change set is_all) (one ∷ other ∷ []) answer ended =
+    IsWhole (IsOf one other (IsReason one change set is_all)) (Misses (IsItemText change set) other (HasItem change set))
     answer ended
 IsAnswer (Graph gate snapshot around) (one ∷ other ∷ []) answer ended =
     IsWhole (IsOf one other (IsPicture around)) (Misses (IsAround around) other (HasAround around)) answer ended

@@ -91,7 +91,8 @@ fn do_command<'n, C: Console>(
             snapshot,
             change,
             set,
-        } => why(alloc, gate, snapshot, *change, *set, console),
+            is_all,
+        } => why(alloc, gate, snapshot, *change, *set, *is_all, console),
         Command::Graph {
             gate,
             snapshot,

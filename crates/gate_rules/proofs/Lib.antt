@@ -3,3 +3,4 @@ pub mod Found
 pub mod Lists
 pub mod Spelled
 pub mod Votes
+pub mod Trials

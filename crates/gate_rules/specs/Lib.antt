@@ -8,3 +8,4 @@ pub mod Words
 pub mod Wanted
 pub mod WantedLaws
 pub mod FirstFaults
+pub mod Tried

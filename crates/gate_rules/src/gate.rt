@@ -283,7 +283,7 @@ impl Clauses {
 
 impl Clauses {
     /// Whether a condition holds, where the side has it.
-    fn compare(&self, clause: Clause, standing: &Standing<'_>) -> Option<bool>
+    pub(crate) fn compare(&self, clause: Clause, standing: &Standing<'_>) -> Option<bool>
         ensures { result ≡ compared self.now standing.now clause }
     {
         match clause {

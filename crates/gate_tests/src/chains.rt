@@ -8,7 +8,7 @@ use state_core::{Item, State};
 use std::alloc::Global;
 use std::process::Abort;
 use std::test::Fail;
-use why_text::{item_asked, why_text};
+use why_text::{conditions_text, item_asked, why_text};
 
 /// A gate that wants two approvals on the current patch set of an open change.
 const GATE: &str = r#"{"bases":["https://r/"],
@@ -160,6 +160,50 @@ have code-review cat -2
 have verified zuul 2
 have workflow ann 1
 "#;
+
+/// Each condition of the gate, as change 3 meets or breaks it.
+const ALL: &str = r#"meets require open
+want true
+have NEW
+meets require current-patchset
+want true
+have 1
+meets require status
+want ["NEW","MERGED"]
+have NEW
+meets require approval 1
+want {"Workflow":1}
+have code-review cat -2
+have verified zuul 2
+have workflow ann 1
+meets require approval 2
+want {"Verified":[1,2],"username":"zuul"}
+have code-review cat -2
+have verified zuul 2
+have workflow ann 1
+meets reject status
+want "HELD"
+have NEW
+breaks reject approval 1
+want {"Code-Review":[-2]}
+have code-review cat -2
+have verified zuul 2
+have workflow ann 1
+"#;
+
+#[test]
+fn each_condition_is_met_or_broken(rt: HostRuntime) -> Result<(), Fail> {
+    let alloc = rt.alloc();
+    let gate = Gate::read(alloc, GATE.as_bytes())?;
+    let state = state_of(alloc, RECORD.as_slice())?;
+    let item = item_asked(&state, 3, None).ok_or("an item")?;
+    let text = conditions_text(alloc, GATE.as_bytes(), &gate, &state, item)?;
+    let tried = gate.conditions(alloc, &state, item)?;
+    let broken = tried.iter().filter(|tried| tried.is_broken).count();
+    assert_eq!(rt; text.as_str(), ALL);
+    assert_eq!(rt; (tried.len(), broken), (7, 1));
+    Ok(())
+}
 
 #[test]
 fn each_cause_has_its_lines(rt: HostRuntime) -> Result<(), Fail> {

@@ -65,7 +65,7 @@ fn add_with(text: &mut String, other: Item) -> Result<(), NoMemory>
 }
 
 /// What the gate file asks, and what the change has.
-fn condition_text(
+pub(super) fn condition_text(
     alloc: Global,
     file: &[u8],
     gate: &Gate,

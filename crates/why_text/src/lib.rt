@@ -23,6 +23,7 @@
 //! ```
 #![tactic(auto)]
 
+mod all;
 mod asked;
 mod chain;
 mod cycle;
@@ -31,6 +32,7 @@ mod laws;
 mod why;
 mod words;
 
+pub use all::conditions_text;
 pub use asked::item_asked;
 pub use laws::broken_conditions_are_wanted;
 pub use why::why_text;
