@@ -87,6 +87,13 @@ impl<K: Keeps> Ledger<K> {
         self.desk.hold_new(op)
     }
 
+    /// How many operations are held.
+    pub fn held_count(&self) -> usize
+        ensures { result ≡ length self.now.account.held }
+    {
+        self.desk.held().len()
+    }
+
     /// Has all that is held kept, whoever asked for it, and then publishes it. Where it isn't kept nothing is
     /// published, now and later. Waits and costs as `Desk::flush`, and as the keeper.
     pub fn publish<R: Wait>(&mut self, rt: &R) -> Result<Receipt, LedgerFault>

@@ -78,3 +78,10 @@ abbrev pub RefusesRefresh : Outlook → Watched → RefreshFault → Outlook →
 RefusesRefresh before old Stranger after new = (¬ IsOwnWatch before old) × (after ≡ before) × (new ≡ old)
 RefusesRefresh before old NoMemory after new = LacksMemory before old after new
 RefusesRefresh before old Closed after new = IsOwnWatch before old × (after ≡ before) × (new ≡ old)
+
+-- a viewer went from one state to the next by a look at a journal and at the verdicts that the watch has on just that
+pub record IsShownTo {V : Type 0} (views : List Operation → Judged → V → Type 0) (journal : List Operation) (watch : Watched) (after : V) : Type 0 where
+  pub judged : Judged
+  pub there : watch.verdicts ≡ Some judged
+  pub verdicts : AreVerdicts watch.gate (state_of journal) judged
+  pub viewed : views journal judged after

@@ -9,7 +9,7 @@
 //! What was published is one list, which begins with the journal that the site was opened with and only grows. The
 //! desk's account is that list and what is held; each look of a window is at one prefix of the list, which goes on from
 //! all that the window has seen and learnt. A watch keeps the verdicts on what a window saw, and a window brings it up
-//! to date.
+//! to date. A viewer is shown a record and the verdicts on it, both of one moment.
 //!
 //! | Fault | Where |
 //! |---|---|
@@ -18,8 +18,8 @@
 //! | `DeskFault` 3 `NoMemory` | of a call of the desk: the first so many of its operations are held |
 //! | `Stranger` 1 | of `Window::learn`: a receipt of another site or start |
 //! | `WindowFault` 2 `NoMemory`, 3 `Closed` | of a look |
-//! | `RefreshFault` 1 `Stranger`, 3 `Closed` | of `Window::refresh`: nothing changes |
-//! | `RefreshFault` 2 `NoMemory` | of `Window::refresh`: the watch has no verdicts until a refresh succeeds |
+//! | `RefreshFault` 1 `Stranger`, 3 `Closed` | of `Window::refresh` and `Window::show`: nothing changes |
+//! | `RefreshFault` 2 `NoMemory` | of the same: the watch has no verdicts until one of the two succeeds |
 //!
 //! An example of its use:
 //!
@@ -47,6 +47,7 @@ mod shown;
 mod sight;
 mod spares;
 mod stage;
+mod viewer;
 mod watch;
 mod window;
 
@@ -57,5 +58,6 @@ pub use laws::{later_journals_go_on, publishes_are_steps, stamps_are_above_all};
 pub use open::open_site;
 pub use pause::Pause;
 pub use receipt::Receipt;
+pub use viewer::Viewer;
 pub use watch::Watch;
 pub use window::Window;

@@ -1,6 +1,6 @@
 //! Verdicts that follow what a window sees.
 
-ghost use Rattle.std.specs.Prelude.{◌≡◌, IfSome, OnErr, OnOk};
+ghost use Rattle.std.specs.Prelude.{◌≡◌, IfSome, IsSome, OnErr, OnOk};
 ghost use Rattle.std.specs.Option.{option_copied};
 ghost use mathlib.Core.List.{IsPrefix};
 ghost use Rattle.ready_core.specs.Verdicts.{AreVerdicts};
@@ -9,6 +9,7 @@ ghost use Rattle.site_shared.specs.Publishes.{arrive};
 ghost use Rattle.watch_core.specs.Watching.{FollowsJournal};
 
 use crate::sight::Sight;
+use crate::viewer::Viewer;
 use lattice_core::NoMemory;
 use ready_core::Verdicts;
 use replica_core::Replica;
@@ -45,7 +46,7 @@ impl Model for Watch {
 }
 
 impl Watch {
-    ghost use Rattle.site_shared.specs.Watches.{HasVerdictsOf, IsBehind, IsSameWatch, without_verdicts};
+    ghost use Rattle.site_shared.specs.Watches.{HasVerdictsOf, IsBehind, IsSameWatch, IsShownTo, without_verdicts};
 
     /// The watch of an evaluator that follows what was seen.
     pub(crate) fn new(evaluator: Evaluator, sight: Sight, site: u16, start: u32) -> Watch
@@ -103,5 +104,18 @@ impl Watch {
         self.evaluator.update(replica)?;
         self.sight = sight.again();
         Ok(())
+    }
+
+    /// Shows a replica that has what was seen, with the verdicts on it, to a viewer.
+    pub(crate) fn show_to<V: Viewer>(&self, replica: &Replica, viewer: &mut V)
+        requires gate { self.now.gate ≡ V.judged_by viewer.old }
+        requires replica { replica.now ≡ arrive self.now.seen }
+        requires there { IsSome self.now.verdicts }
+        ensures { IsShownTo (V.views viewer.old) replica.now self.now viewer.new }
+    {
+        let Some(verdicts) = self.verdicts() else {
+            unreachable!()
+        };
+        viewer.view(replica, verdicts);
     }
 }

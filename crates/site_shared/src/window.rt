@@ -22,6 +22,7 @@ use crate::pause::{AtOnce, Pause, hold};
 use crate::receipt::Receipt;
 use crate::showing::{Glass, Look, Sees, Show, TakesIn, Tells};
 use crate::sight::Sight;
+use crate::viewer::Viewer;
 use crate::watch::Watch;
 use gate_rules::Gate;
 use pull_guard::latest_time;
@@ -59,7 +60,8 @@ impl Model for Window {
 impl Window {
     ghost use Rattle.site_shared.specs.Accounts.{GoesOn, BearsOwn, Outlook};
     ghost use Rattle.site_shared.specs.Showing.{Knows};
-    ghost use Rattle.site_shared.specs.Watches.{IsOwnWatch, IsSameWatch, IsWatchOf, Refreshes, RefusesRefresh};
+    ghost use Rattle.site_shared.specs.Watches.{IsOwnWatch, IsSameWatch, IsShownTo, IsWatchOf, Refreshes};
+    ghost use Rattle.site_shared.specs.Watches.{RefusesRefresh};
     ghost use Rattle.site_shared.specs.declared.fault.WindowFault.TheVariants.{Closed};
 
     /// A window that has seen what the desk has seen.
@@ -181,6 +183,35 @@ impl Window {
             return Err(RefreshFault::Closed);
         };
         let followed = watch.follow(&look.get().replica, &self.sight);
+        self.leave(look);
+        match followed {
+            Ok(()) => Ok(()),
+            Err(_) => Err(RefreshFault::NoMemory),
+        }
+    }
+
+    /// Brings a watch up to date as `refresh` does, and shows what the window sees, with the verdicts on just that, to a
+    /// viewer, within the same look. Where it is refused nothing is shown.
+    pub fn show<V: Viewer>(&mut self, watch: &mut Watch, viewer: &mut V) -> Result<(), RefreshFault>
+        requires own { IsOwnWatch self.old watch.old → watch.old.book ≡ self.old.book }
+        requires gate { watch.old.gate ≡ V.judged_by viewer.old }
+        ensures later { GoesOn self.old self.new }
+        ensures same { IsSameWatch watch.old watch.new }
+        ensures refreshed { MatchResult result (λ _. Refreshes self.old watch.old self.new watch.new)
+            (λ fault. RefusesRefresh self.old watch.old fault self.new watch.new) }
+        ensures shown { OnOk result (IsShownTo (V.views viewer.old) (arrive self.new.seen) watch.new viewer.new) }
+        ensures unseen { OnErr result (viewer.new ≡ viewer.old) }
+    {
+        if watch.origin() != (self.site, self.start) {
+            return Err(RefreshFault::Stranger);
+        }
+        let Some(look) = self.enter_from(watch.sight()) else {
+            return Err(RefreshFault::Closed);
+        };
+        let followed = watch.follow(&look.get().replica, &self.sight);
+        if followed.is_ok() {
+            watch.show_to(&look.get().replica, viewer);
+        }
         self.leave(look);
         match followed {
             Ok(()) => Ok(()),
