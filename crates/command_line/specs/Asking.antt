@@ -42,6 +42,7 @@ pub record AreOptions (rows : List Row) (words : ServeWords) : Type 0 where
   pub connections : GivesNumber rows (codes "connections") 1 65535 words.connections
   pub ending : IsTrue words.until_input_ends ↔ HasFlag rows (codes "until-input-ends")
   pub prints : GivesPrinting rows words.prints
+  pub http : GivesAny rows (codes "http") 0 65535 words.http
   pub load : first_of (codes "load") rows ≡ option_map (λ name. name.now) words.load
   pub save : first_of (codes "save") rows ≡ option_map (λ name. name.now) words.save
   pub journal : first_of (codes "journal") rows ≡ option_map (λ name. name.now) words.journal
@@ -53,7 +54,8 @@ HasStart rows = first_of (codes "start") rows ≡ None → ¬ (first_of (codes "
 -- the arguments ask for this site
 abbrev pub IsSite : List Row → ServeWords → Type 0
 IsSite rows words = AreOptions rows words × GivesNumbers rows (codes "PEER") 1 65535 words.peers.items
-    × GivesNumbers rows (codes "sites") 1 65535 words.sites.items × HasStart rows
+    × GivesNumbers rows (codes "sites") 1 65535 words.sites.items
+    × GivesTexts rows (codes "http-host") (map string_bytes words.http_hosts.items) × HasStart rows
 
 -- the arguments ask for this recovery
 pub record IsRecovery (rows : List Row) (words : RecoverWords) : Type 0 where
@@ -113,8 +115,9 @@ text_of events = codes "events"
 abbrev pub ArgumentsSay : Name → List Row → Asked → Type 0
 ArgumentsSay ready rows (Run (Ready gate snapshot)) =
     HasArgument rows (codes "GATE") gate.now × HasArgument rows (codes "SNAPSHOT") snapshot.now
-ArgumentsSay why rows (Run (Why gate snapshot change set)) =
+ArgumentsSay why rows (Run (Why gate snapshot change set is_all)) =
     HasArgument rows (codes "GATE") gate.now × HasArgument rows (codes "SNAPSHOT") snapshot.now × GivesItem rows change set
+    × (IsTrue is_all ↔ HasFlag rows (codes "all"))
 ArgumentsSay graph rows (Run (Graph gate snapshot around)) =
     HasArgument rows (codes "GATE") gate.now × HasArgument rows (codes "SNAPSHOT") snapshot.now
     × GivesAny rows (codes "around") 0 4294967295 around

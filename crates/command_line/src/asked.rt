@@ -30,12 +30,13 @@ pub enum Command<'a> {
         snapshot: &'a str,
     },
     /// To print why an item of a snapshot waits under a gate file: the patch set `set` of the change, or its current
-    /// one.
+    /// one; and each condition of the gate where `is_all`.
     Why {
         gate: &'a str,
         snapshot: &'a str,
         change: u32,
         set: Option<u32>,
+        is_all: bool,
     },
     /// To draw the items of a snapshot with what they wait for under a gate file: all of them, or those around a
     /// change.
@@ -98,6 +99,10 @@ pub struct ServeWords<'a> {
     pub until_input_ends: bool,
     /// What it prints of its verdicts.
     pub prints: Printing,
+    /// The port at which it shows itself to browsers, if it does; 0 for one that is free.
+    pub http: Option<u16>,
+    /// The names by which browsers may call this machine, beside `localhost` and the addresses of the loopback.
+    pub http_hosts: Vec<String>,
     /// The name of the snapshot to begin with.
     pub load: Option<&'a str>,
     /// The name of the snapshot that is written at the end.

@@ -64,7 +64,7 @@ pub fn lacks_port(values: &Values<'_>) -> bool
 }
 
 /// The texts of an option that may be there more than once.
-fn names_in(alloc: Global, values: &Values<'_>, option: &str) -> Result<Vec<String>, AllocError>
+pub fn names_in(alloc: Global, values: &Values<'_>, option: &str) -> Result<Vec<String>, AllocError>
     ensures { IfOk result (λ names. GivesTexts (rows_in values.now) option.now (map string_bytes names.items)) }
 {
     match values.texts(option) {

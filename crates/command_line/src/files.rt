@@ -20,7 +20,7 @@ pub fn ready_in<'a>(values: &Values<'a>) -> Option<Asked<'a>>
     Some(Asked::Run(Command::Ready { gate, snapshot }))
 }
 
-/// `why GATE SNAPSHOT CHANGE[,SET]`
+/// `why GATE SNAPSHOT CHANGE[,SET] [--all]`
 pub fn why_in<'a>(values: &Values<'a>) -> Option<Asked<'a>>
     ensures { Finds (ArgumentsSay why (rows_in values.now)) result }
 {
@@ -32,6 +32,7 @@ pub fn why_in<'a>(values: &Values<'a>) -> Option<Asked<'a>>
         snapshot,
         change,
         set,
+        is_all: values.flag("all"),
     }))
 }
 

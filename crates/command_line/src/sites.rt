@@ -7,9 +7,10 @@ ghost use Rattle.command_line.specs.Values.{Finds};
 ghost use Rattle.command_line.specs.declared.asked.ServeWords.{ServeWords};
 
 use super::asked::{Asked, Printing, ServeWords};
-use super::numbers::{any_long_in, number_in, short_in, shorts_in};
+use super::feeds::names_in;
+use super::numbers::{any_long_in, any_short_in, number_in, short_in, shorts_in};
 use command_tree::{
-    CONNECTIONS, IDLE, PAUSE, PEER, PORT, SESSIONS, SITE, SITES, START, Values, WORKERS,
+    CONNECTIONS, HTTP, IDLE, PAUSE, PEER, PORT, SESSIONS, SITE, SITES, START, Values, WORKERS,
 };
 use std::alloc::{AllocError, Global};
 
@@ -26,16 +27,23 @@ pub fn serve_in<'a>(alloc: Global, values: &Values<'a>) -> Result<Option<Asked<'
     if lacks_start(values) {
         return Ok(None);
     }
-    match serving_in(values, peers, sites) {
+    let http_hosts = names_in(alloc, values, "http-host")?;
+    match serving_in(values, peers, sites, http_hosts) {
         Some(words) => Ok(Some(Asked::Serve(words))),
         None => Ok(None),
     }
 }
 
-/// What a site with these peers is run with, which takes in operations of these sites.
-fn serving_in<'a>(values: &Values<'a>, peers: Vec<u16>, sites: Vec<u16>) -> Option<ServeWords<'a>>
+/// What a site with these peers is run with, which takes in operations of these sites, and which browsers may call by
+/// these names.
+fn serving_in<'a>(
+    values: &Values<'a>,
+    peers: Vec<u16>,
+    sites: Vec<u16>,
+    http_hosts: Vec<String>,
+) -> Option<ServeWords<'a>>
     ensures some { IfSome result (λ words. AreOptions (rows_in values.now) words × (words.peers ≡ peers)
-        × (words.sites ≡ sites)) }
+        × (words.sites ≡ sites) × (words.http_hosts ≡ http_hosts)) }
     ensures none { IfNone result ((words : ServeWords) → ¬ AreOptions (rows_in values.now) words) }
 {
     Some(ServeWords {
@@ -52,6 +60,8 @@ fn serving_in<'a>(values: &Values<'a>, peers: Vec<u16>, sites: Vec<u16>) -> Opti
         connections: number_in(values, CONNECTIONS)? as usize,
         until_input_ends: values.flag("until-input-ends"),
         prints: printing_in(values)?,
+        http: any_short_in(values, HTTP)?,
+        http_hosts,
         load: values.text("load"),
         save: values.text("save"),
         journal: values.text("journal"),

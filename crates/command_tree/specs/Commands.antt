@@ -10,11 +10,13 @@ use Rattle.command_tree.specs.Rules.{option_rule, option_with, several_numbers, 
 abbrev pub ready_app : App
 ready_app = with_rule (with_rule (new_app (codes "ready")) (needed (codes "GATE"))) (needed (codes "SNAPSHOT"))
 
--- `why GATE SNAPSHOT CHANGE[,SET]`
+-- `why GATE SNAPSHOT CHANGE[,SET] [--all]`
 abbrev pub why_app : App
 why_app =
-    with_rule (with_rule (with_rule (new_app (codes "why")) (needed (codes "GATE"))) (needed (codes "SNAPSHOT")))
-    (needed (codes "CHANGE[,SET]"))
+    with_rule
+    (with_rule (with_rule (with_rule (new_app (codes "why")) (needed (codes "GATE"))) (needed (codes "SNAPSHOT")))
+    (needed (codes "CHANGE[,SET]")))
+    (flag_rule (codes "all"))
 
 -- `graph GATE SNAPSHOT [--around CHANGE]`
 abbrev pub graph_app : App
@@ -79,10 +81,14 @@ ending_app =
 abbrev pub printing_app : App
 printing_app = with_rule ending_app (option_with (codes "print") (codes "report"))
 
+-- with where it shows itself to browsers
+abbrev pub shown_app : App
+shown_app = with_rule (with_rule printing_app (number_rule (codes "http") 0 65535)) (several_rule (codes "http-host"))
+
 -- with the files that keep its record
 abbrev pub serve_app : App
 serve_app =
-    with_rule (with_rule (with_rule printing_app (option_rule (codes "load"))) (option_rule (codes "save")))
+    with_rule (with_rule (with_rule shown_app (option_rule (codes "load"))) (option_rule (codes "save")))
     (option_rule (codes "journal"))
 
 -- ---- the others, and the program

@@ -44,6 +44,13 @@ pub const PORT: Number = Number {
     most: 65_535,
 };
 
+/// The port at which a site shows itself to browsers.
+pub const HTTP: Number = Number {
+    name: "http",
+    least: 0,
+    most: 65_535,
+};
+
 /// The port of a peer.
 pub const PEER: Number = Number {
     name: "PEER",

@@ -26,7 +26,7 @@ mod site_options;
 mod values;
 
 pub use arguments::{
-    AROUND, CHANGE, CONNECTIONS, IDLE, Number, PAUSE, PEER, PORT, SESSIONS, SITE, SITES, START, TO,
+    AROUND, CHANGE, CONNECTIONS, HTTP, IDLE, Number, PAUSE, PEER, PORT, SESSIONS, SITE, SITES, START, TO,
     UNTIL, WORKERS,
 };
 pub use parsing::{Parsed, parse};

@@ -75,7 +75,7 @@ fn ready_command<'a>(alloc: Global) -> Result<Command<'a>, AllocError>
         .arg(file(alloc, "SNAPSHOT", SNAPSHOT_HELP))
 }
 
-/// `why GATE SNAPSHOT CHANGE[,SET]`
+/// `why GATE SNAPSHOT CHANGE[,SET] [--all]`
 fn why_command<'a>(alloc: Global) -> Result<Command<'a>, AllocError>
     ensures { IfOk result (IsApp why_app) }
 {
@@ -84,11 +84,17 @@ fn why_command<'a>(alloc: Global) -> Result<Command<'a>, AllocError>
         "CHANGE[,SET]",
         "The change's number, and that of a patch set if not the current one",
     );
+    let all = flag(
+        alloc,
+        "all",
+        "Prints each condition of the gate, too, and whether the item meets it",
+    );
     Command::new(alloc, "why")
         .about("Prints why an item waits, down to the cause")
         .arg(file(alloc, "GATE", GATE_HELP))?
         .arg(file(alloc, "SNAPSHOT", SNAPSHOT_HELP))?
-        .arg(item)
+        .arg(item)?
+        .arg(all)
 }
 
 /// `graph GATE SNAPSHOT [--around CHANGE]`

@@ -2,12 +2,12 @@
 
 ghost use Rattle.std.specs.Prelude.{IfOk, codes};
 ghost use Rattle.command_tree.specs.Commands.{IsApp, ending_app, guarded_app, paced_app, peered_app, placed_app};
-ghost use Rattle.command_tree.specs.Commands.{printing_app, serve_app};
+ghost use Rattle.command_tree.specs.Commands.{printing_app, serve_app, shown_app};
 ghost use Rattle.command_tree.specs.Rules.{IsRule, needed_number};
 
 use super::arguments::{
-    CONNECTIONS, IDLE, PAUSE, PEER, PORT, SESSIONS, SITE, SITES, START, WORKERS, default_option,
-    default_text, file, flag, number_option, numbers, option, several_of,
+    CONNECTIONS, HTTP, IDLE, PAUSE, PEER, PORT, SESSIONS, SITE, SITES, START, WORKERS,
+    default_option, default_text, file, flag, number_option, numbers, option, several, several_of,
 };
 use super::program::GATE_HELP;
 use clap::{Arg, Command};
@@ -30,11 +30,30 @@ pub fn serve_command<'a>(alloc: Global) -> Result<Command<'a>, AllocError>
         "FILE",
         "The journal that keeps what is taken in",
     );
-    let printing = printing_command(alloc)?;
-    printing.arg(load)?.arg(save)?.arg(journal)
+    let shown = shown_command(alloc)?;
+    shown.arg(load)?.arg(save)?.arg(journal)
 }
 
 /// The command with all but the names of files.
+fn shown_command<'a>(alloc: Global) -> Result<Command<'a>, AllocError>
+    ensures { IfOk result (IsApp shown_app) }
+{
+    let http = number_option(
+        alloc,
+        HTTP,
+        "PORT",
+        "Shows itself to browsers at this port on 127.0.0.1; 0 has the system choose one",
+    );
+    let host = several(
+        alloc,
+        "http-host",
+        "NAME",
+        "A host name that browsers may use for it, once for each, beside localhost",
+    );
+    printing_command(alloc)?.arg(http)?.arg(host)
+}
+
+/// The command with all but the names of files and where it shows itself.
 fn printing_command<'a>(alloc: Global) -> Result<Command<'a>, AllocError>
     ensures { IfOk result (IsApp printing_app) }
 {

@@ -17,17 +17,20 @@ use byte_ends::{Drain, Ends, Source, write_all};
 use command_line::{Printing, ServeWords};
 use console::{Console, Named, Refusal, Streams, read_gate, read_snapshot};
 use gate_rules::Gate;
+use mio::Waker;
+use page_server::{Door, open_door};
 use record_pull::SystemFiles;
 use replica_core::Replica;
 use site_journal::JournalFault;
 use site_ledger::{Keeps, NoJournal};
 use site_net::Stop;
-use site_serve::{Prints, ServeFault, Served, Setup, Turn, serve_keeping};
+use site_serve::{Doorstep, Prints, ServeFault, Served, Setup, Turn, serve_keeping};
 use std::alloc::Global;
 use std::fs::File;
 use std::io;
 use std::io::Print;
 use std::net::{Net, TcpListener, TcpStream};
+use std::random::RandomSource;
 use std::rt::Files;
 use std::sync::{Arc, Wait};
 use std::thread::Threads;
@@ -61,8 +64,8 @@ impl Turn for NoTurn {
 }
 
 /// Runs the site that words ask for. It reads and judges the gate file and then the snapshot, if one
-/// is named, opens the journal, asks whether the start was used, binds, prints `listening P`, runs the site and saves
-/// what it has. What is wrong while it runs is written to `errors`.
+/// is named, opens the journal, asks whether the start was used, binds, prints `listening P` and, where it shows itself to
+/// browsers, `listening http P`, runs the site and saves what it has. What is wrong while it runs is written to `errors`.
 pub fn serve<'n, R, I, E>(
     rt: R,
     alloc: Global,
@@ -71,7 +74,7 @@ pub fn serve<'n, R, I, E>(
     errors: E,
 ) -> Ended<'n>
 where
-    R: Net<Listener = TcpListener, Stream = TcpStream>,
+    R: Net<Listener = TcpListener, Stream = TcpStream> + RandomSource,
     R: Files<File = File> + Print + Threads + Wait + Clock + AllocGlobal,
     R: Copy + Send + Sync + 'static,
     I: Source + Send + Drop + 'static,
@@ -92,7 +95,7 @@ fn run_site<'n, R, I, E>(
     errors: E,
 ) -> Result<(), Ended<'n>>
 where
-    R: Net<Listener = TcpListener, Stream = TcpStream>,
+    R: Net<Listener = TcpListener, Stream = TcpStream> + RandomSource,
     R: Files<File = File> + Print + Threads + Wait + Clock + AllocGlobal,
     R: Copy + Send + Sync + 'static,
     I: Source + Send + Drop + 'static,
@@ -144,7 +147,7 @@ fn run_kept<R, I, E, K>(
     keeper: K,
 ) -> Result<(), Ended<'static>>
 where
-    R: Net<Listener = TcpListener, Stream = TcpStream>,
+    R: Net<Listener = TcpListener, Stream = TcpStream> + RandomSource,
     R: Files<File = File> + Print + Threads + Wait + Clock + AllocGlobal,
     R: Copy + Send + Sync + 'static,
     I: Source + Send + Drop + 'static,
@@ -165,11 +168,12 @@ where
     let Ok(listener) = TcpListener::bind(&rt, ("127.0.0.1", serving.port)) else {
         return Err(Ended::Program(ProgramFault::NoBind));
     };
-    say_port(&rt, alloc, &listener)?;
+    say_port(&rt, alloc, "", &listener)?;
+    let page = page_of(&rt, alloc, serving.http)?;
     let ending = serving.until_input_ends.then_some(input);
     let stop = stop_of(rt, alloc, ending)?;
     let name = serving.save;
-    let setup = setup_of(serving, start, gate, replica);
+    let setup = setup_of(serving, start, gate, replica, page);
     let output = output_of(rt, alloc, &stop)?;
     match serve_keeping(
         &rt, alloc, listener, setup, &stop, output, errors, &NoTurn, keeper,
@@ -195,8 +199,36 @@ fn output_of<R: Print + Threads + Wait + Clock + Copy + Send + 'static>(
     }
 }
 
+/// Where the site shows itself to browsers, if it does; its port is printed.
+fn page_of<R>(
+    rt: &R,
+    alloc: Global,
+    http: Option<u16>,
+) -> Result<Option<(Door, Waker)>, Ended<'static>>
+where
+    R: Net<Listener = TcpListener, Stream = TcpStream> + RandomSource + Print,
+{
+    let Some(port) = http else {
+        return Ok(None);
+    };
+    let Ok(listener) = TcpListener::bind(rt, ("127.0.0.1", port)) else {
+        return Err(Ended::Program(ProgramFault::NoBind));
+    };
+    say_port(rt, alloc, "http ", &listener)?;
+    match open_door(rt, listener) {
+        Ok(page) => Ok(Some(page)),
+        Err(_) => Err(Ended::Program(ProgramFault::NoBind)),
+    }
+}
+
 /// What a site is run with.
-fn setup_of(serving: ServeWords<'_>, start: u32, gate: Gate, replica: Replica) -> Setup
+fn setup_of(
+    serving: ServeWords<'_>,
+    start: u32,
+    gate: Gate,
+    replica: Replica,
+    page: Option<(Door, Waker)>,
+) -> Setup
     ensures held { (result.gate ≡ gate) × (result.replica ≡ replica) }
     ensures stamps { (result.site ≡ serving.entry.site) × (result.start ≡ start) }
     ensures peers { (result.peers ≡ serving.entry.peers) × (result.pause_ms ≡ serving.entry.pause_ms)
@@ -204,6 +236,8 @@ fn setup_of(serving: ServeWords<'_>, start: u32, gate: Gate, replica: Replica) -
     ensures sessions { (result.workers ≡ serving.entry.workers) × (result.sessions ≡ serving.entry.sessions)
         × (result.idle_ms ≡ serving.entry.idle_ms) × (result.connections ≡ serving.entry.connections) }
     ensures prints { result.prints ≡ prints_of serving.entry.prints }
+    ensures page { result.page ≡ option_map
+        (λ opened. record { door = opened.0; waker = opened.1; hosts = serving.entry.http_hosts }) page }
 {
     let ServeWords {
         peers,
@@ -215,6 +249,7 @@ fn setup_of(serving: ServeWords<'_>, start: u32, gate: Gate, replica: Replica) -
         idle_ms,
         connections,
         prints,
+        http_hosts,
         ..
     } = serving;
     Setup {
@@ -230,6 +265,18 @@ fn setup_of(serving: ServeWords<'_>, start: u32, gate: Gate, replica: Replica) -
         idle_ms,
         connections,
         prints: prints_of(prints),
+        page: doorstep(page, http_hosts),
+    }
+}
+
+/// Where browsers connect to, with the names by which they may call this machine.
+fn doorstep(page: Option<(Door, Waker)>, hosts: Vec<String>) -> Option<Doorstep>
+    ensures { result
+        ≡ option_map (λ opened. record { door = opened.0; waker = opened.1; hosts = hosts }) page }
+{
+    match page {
+        Some((door, waker)) => Some(Doorstep { door, waker, hosts }),
+        None => None,
     }
 }
 
@@ -304,13 +351,18 @@ fn read_inputs<'n, C: Console>(
     Ok((rules, replica))
 }
 
-/// Prints the port at which the site listens.
-fn say_port<R: Print>(rt: &R, alloc: Global, listener: &TcpListener) -> Result<(), Ended<'static>> {
+/// Prints the port at which the site listens, after what it is for.
+fn say_port<R: Print>(
+    rt: &R,
+    alloc: Global,
+    what: &str,
+    listener: &TcpListener,
+) -> Result<(), Ended<'static>> {
     let Ok(address) = listener.local_addr() else {
         return Err(Ended::Program(ProgramFault::NoBind));
     };
     let port = address.port();
-    let Ok(line) = format!(in alloc; "listening {port}\n") else {
+    let Ok(line) = format!(in alloc; "listening {what}{port}\n") else {
         return Err(Ended::Refused(Refusal::Memory));
     };
     match write_all(&mut Ends::new(io::writer(rt)), line.as_bytes()) {

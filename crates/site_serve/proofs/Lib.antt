@@ -1,3 +1,4 @@
 pub mod Boxes
 pub mod Held
 pub mod Waiting
+pub mod Shown

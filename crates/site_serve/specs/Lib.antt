@@ -6,3 +6,5 @@ pub mod Inboxes
 pub mod Outboxes
 pub mod Doing
 pub mod Looks
+pub mod Pages
+pub mod Answered

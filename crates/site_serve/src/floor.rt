@@ -6,6 +6,7 @@ ghost use Rattle.std.specs.Arc.{arc_value};
 ghost use Rattle.site_serve.specs.Acknowledged.{IsHeldBy};
 ghost use Rattle.site_shared.specs.Accounts.{receipt_of};
 
+use super::board::Board;
 use super::desk::{
     BATCH, NotKept, Published, Replies, Waiter, hold_more, publish_and_answer, publish_held,
 };
@@ -25,7 +26,7 @@ use site_net::{Patience, Stop};
 use site_shared::{DeskFault, Naming};
 use std::alloc::{AllocError, Global};
 use std::sync::Wait;
-use std::time::{Clock, Duration, Instant};
+use std::time::{Clock, Duration};
 
 /// The token of the listener, and that of who has done something for the loop.
 pub(super) const DOOR: Token = Token(usize::MAX);
@@ -142,13 +143,12 @@ impl Floor {
         }
     }
 
-    /// Notes what time it is.
-    fn note_time<R: Clock>(&mut self, rt: &R, begun: &Option<Instant>) {
-        if let Some(begun) = begun {
-            if let Ok(now) = begun.elapsed(rt) {
-                self.now = now;
-            }
+    /// Notes what time it is, and that the loop takes a turn.
+    fn note_turn<R: Clock>(&mut self, rt: &R, board: &Board) {
+        if let Some(now) = board.now(rt) {
+            self.now = now;
         }
+        board.note_turn(self.now, self.accepted.wrapping_sub(self.ended));
     }
 
     /// Accepts the connections that wait.
@@ -358,12 +358,13 @@ fn hold_pulled<R: Wait, J: Naming, K: Keeps>(
     }
 }
 
-/// Publishes what is held where somebody waits for that, and answers all who wait.
-fn publish<R: Wait, J: Naming, K: Keeps>(
+/// Publishes what is held where somebody waits for that, and answers all who wait. It brings news where anything was
+/// held: a pull that handed over nothing new brings none.
+fn publish<R: Wait, J: Naming, K: Keeps, E: Drain>(
     rt: &R,
-    alloc: Global,
+    site: &Site<'_, E, J>,
+    floor: &Floor,
     ledger: &mut OwnLedger<J, K>,
-    news: &News<J>,
     replies: &mut Replies<'_, J>,
     waiters: &[Waiter],
 ) -> Result<(), NotKept>
@@ -373,9 +374,13 @@ fn publish<R: Wait, J: Naming, K: Keeps>(
     if waiters.is_empty() {
         return Ok(());
     }
-    let published = publish_and_answer(rt, alloc, ledger, replies, waiters)?;
-    if let Ok(receipt) = &published {
-        news.bring(rt, receipt);
+    let is_new = ledger.held_count() > 0;
+    let published = publish_and_answer(rt, floor.alloc, ledger, replies, waiters)?;
+    if let Ok(receipt) = &published
+        && is_new
+    {
+        site.board.note_news(floor.now);
+        site.news.bring(rt, receipt);
     }
     Ok(())
 }
@@ -383,6 +388,7 @@ fn publish<R: Wait, J: Naming, K: Keeps>(
 /// What the loop works for.
 #[derive(Drop)]
 pub(super) struct Site<'a, E: Drain, J: Naming> {
+    pub board: &'a Board,
     pub news: &'a News<J>,
     pub errors: &'a Errors<E>,
     pub stop: &'a Stop,
@@ -417,14 +423,7 @@ fn turn<R: Wait + Clock, J: Naming, K: Keeps, E: Drain>(
         places,
         pullers: lines.answers.as_slice(),
     };
-    let published = publish(
-        rt,
-        floor.alloc,
-        ledger,
-        site.news,
-        &mut replies,
-        waiters.as_slice(),
-    );
+    let published = publish(rt, site, floor, ledger, &mut replies, waiters.as_slice());
     waiters.clear();
     published?;
     floor.write_all(rt, replies.places, lines);
@@ -446,7 +445,6 @@ pub(super) fn serve_floor<R: Wait + Clock, J: Naming, K: Keeps, E: Drain>(
 {
     let mut floor = floor;
     let alloc = floor.alloc;
-    let begun = Instant::now(rt).ok();
     let (Ok(mut places), Ok(mut waiters)) = (
         Places::new(alloc, floor.connections),
         Vec::with_capacity(alloc, BATCH),
@@ -455,7 +453,7 @@ pub(super) fn serve_floor<R: Wait + Clock, J: Naming, K: Keeps, E: Drain>(
     };
     for _ in rt.forever() {
         floor.wait(&mut places);
-        floor.note_time(rt, &begun);
+        floor.note_turn(rt, site.board);
         let turned = turn(
             rt,
             &site,

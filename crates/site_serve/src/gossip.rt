@@ -1,5 +1,6 @@
 //! Pulls from peers, round after round.
 
+use super::board::Board;
 use super::errors::Errors;
 use super::port::PullPort;
 use byte_ends::{Drain, Ends};
@@ -20,6 +21,16 @@ pub struct Peer {
     pub condition: Condition,
 }
 
+impl Peer {
+    /// A peer of which nothing is known yet.
+    pub fn at(port: u16) -> Peer {
+        Peer {
+            port,
+            condition: Condition::Well,
+        }
+    }
+}
+
 /// How a pull from a peer ended.
 #[derive(Clone, Copy, PartialEq, Eq)]
 pub enum Condition {
@@ -36,6 +47,7 @@ pub struct Pulling<'a> {
     pub pause: Duration,
     pub patience: Patience,
     pub stop: &'a Stop,
+    pub board: &'a Board,
 }
 
 /// The longest pause in seconds between two rounds of pulls from peers that can't be pulled from.
@@ -84,6 +96,9 @@ fn pull_round<R: Wait + Clock + Net<Stream = TcpStream>, E: Drain, J: Naming>(
     for peer in peers {
         let condition = pull_from(rt, pulling, peer.port, port);
         is_well |= condition == Condition::Well;
+        pulling
+            .board
+            .note_pull(rt, peer.port, condition == Condition::Well);
         if port.sink.is_start_taken() {
             pulling.stop.ask(rt);
         }

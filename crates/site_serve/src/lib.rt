@@ -32,6 +32,7 @@
 //!     connections: 1024,
 //!     prints: Prints::Report,
 //!     sites: Vec::new(alloc),
+//!     page: None,
 //! };
 //! let stop = Stop::new();
 //! stop.ask(&rt);
@@ -42,6 +43,7 @@
 #![tactic(auto)]
 
 mod ask;
+mod board;
 mod desk;
 mod errors;
 mod evaluator;
@@ -55,6 +57,7 @@ mod looks;
 mod news;
 mod opening;
 mod outbox;
+mod pages;
 mod places;
 mod port;
 mod run;
@@ -63,4 +66,4 @@ mod session;
 mod setup;
 
 pub use run::{serve_keeping, serve_run};
-pub use setup::{Prints, ServeFault, Served, Setup, Turn};
+pub use setup::{Doorstep, Prints, ServeFault, Served, Setup, Turn};

@@ -184,7 +184,7 @@ fn do_line<R: Wait, J: Naming, K: Keeps>(
     }
 }
 
-/// Has a worker look for a session, and goes on past the line of this size, which asks for that.
+/// Goes on past the line of this size, and has a worker look for the session as that line asks.
 fn begin_look<R: Wait, J: Naming>(
     rt: &R,
     means: &Means<'_, J>,
@@ -198,17 +198,7 @@ fn begin_look<R: Wait, J: Naming>(
     ensures inbox { session.new.inbox ≡ drop (size + 1) session.old.inbox }
     ensures waits { session.new.waiting ≡ session.old.waiting }
 {
-    look_for(rt, means, session, look);
     session.pass(size);
-}
-
-/// Has a worker look for a session.
-fn look_for<R: Wait, J: Naming>(rt: &R, means: &Means<'_, J>, session: &mut Session<J>, look: Look)
-    ensures says { (session.new.outbox ≡ session.old.outbox)
-        ⊎ ((result : Result Bool LineFault) × Adds no_memory_line (Ok true) session.old.outbox session.new.outbox result) }
-    ensures inbox { session.new.inbox ≡ session.old.inbox }
-    ensures waits { session.new.waiting ≡ session.old.waiting }
-{
     let Ok(receipt) = session.receipt_again() else {
         session.say(means.alloc, Saying::NoMemory);
         return;

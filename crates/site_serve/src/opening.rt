@@ -18,7 +18,7 @@ ghost use Rattle.site_ledger.specs.Keeping.{IsSameKeeping, is_over_after};
 ghost use Rattle.site_shared.specs.Accounts.{GoesOn, HasStamp, BearsOwn, RefusesIntake, flushing, holding, is_foreign};
 ghost use Rattle.site_shared.specs.Accounts.{next_operation, receipt_of, record_of};
 ghost use Rattle.site_shared.specs.Publishes.{arrive};
-ghost use Rattle.site_shared.specs.Watches.{IsSameWatch, IsWatchOf, Refreshes, RefusesRefresh};
+ghost use Rattle.site_shared.specs.Watches.{IsSameWatch, IsShownTo, IsWatchOf, Refreshes, RefusesRefresh};
 ghost use Rattle.site_shared.specs.declared.fault.WindowFault.TheVariants.{Closed};
 ghost use Rattle.state_core.specs.State.{state_of};
 
@@ -29,7 +29,7 @@ use replica_core::{Front, Missing, Replica};
 use review_ops::{Draft, Op, Stamp};
 use site_ledger::{Keeps, Ledger, LedgerFault};
 use site_shared::{
-    BrandedReceipt, DeskFault, Naming, RefreshFault, Stranger, Watch, Window, WindowFault,
+    BrandedReceipt, DeskFault, Naming, RefreshFault, Stranger, Viewer, Watch, Window, WindowFault,
     later_journals_go_on,
 };
 use std::marker::PhantomData;
@@ -90,6 +90,26 @@ impl<J: Naming> OwnWindow<J> {
             (λ fault. RefusesRefresh self.old.window watch.old.watch fault self.new.window watch.new.watch) }
     {
         self.window.refresh(&mut watch.watch)
+    }
+
+    /// Brings a watch up to date with what the window sees, and shows that, with the verdicts on it, to a viewer within
+    /// the same look.
+    pub fn show<V: Viewer>(
+        &mut self,
+        watch: &mut OwnWatch<J>,
+        viewer: &mut V,
+    ) -> Result<(), RefreshFault>
+        requires { watch.old.watch.gate ≡ V.judged_by viewer.old }
+        ensures later { GoesOn self.old.window self.new.window }
+        ensures same { IsSameWatch watch.old.watch watch.new.watch }
+        ensures refreshed { MatchResult result
+            (λ _. Refreshes self.old.window watch.old.watch self.new.window watch.new.watch)
+            (λ fault. RefusesRefresh self.old.window watch.old.watch fault self.new.window watch.new.watch) }
+        ensures shown { OnOk result
+            (IsShownTo (V.views viewer.old) (arrive self.new.window.seen) watch.new.watch viewer.new) }
+        ensures unseen { OnErr result (viewer.new ≡ viewer.old) }
+    {
+        self.window.show(&mut watch.watch, viewer)
     }
 
     /// How far the record goes without a gap.
@@ -207,6 +227,13 @@ impl<J: Naming, K: Keeps> OwnLedger<J, K> {
         ensures same { IsSameKeeping self.old.ledger self.new.ledger }
     {
         self.ledger.hold_new(op)
+    }
+
+    /// How many operations are held.
+    pub fn held_count(&self) -> usize
+        ensures { result ≡ length self.now.ledger.account.held }
+    {
+        self.ledger.held_count()
     }
 
     /// Has what is held kept, and then publishes it, as `Ledger::publish` does: all of it is in what the receipt has

@@ -1,5 +1,8 @@
 //! The sessions that are open, each at its place.
 
+ghost use Rattle.std.specs.Prelude.{◌≡◌, ◌≢◌, ℕ, IfErr, IfOk, Some, slice_get};
+ghost use Rattle.site_serve.specs.Answered.{SaysFault, SaysStamp};
+
 use super::ask::Answer;
 use super::jobs::{Reply, Work};
 use super::session::Session;
@@ -131,21 +134,28 @@ impl<J: Naming> Places<J> {
         }
     }
 
-    /// Answers a session by what the desk did, unless it has gone.
+    /// Answers the session of a number at a place by what the desk did, unless it has gone. No other session is
+    /// answered.
     pub(super) fn take_answer(
         &mut self,
         alloc: Global,
         place: usize,
         number: u64,
         answer: Answer<J>,
-    ) {
-        let Some(Some(session)) = self.sessions.get_mut(place) else {
+    )
+        ensures others { (other : ℕ) → other ≢ place
+            → slice_get self.new.sessions.items other ≡ slice_get self.old.sessions.items other }
+        ensures strangers { (session : _) → slice_get self.old.sessions.items place ≡ Some (Some session)
+            → session.number ≢ number → slice_get self.new.sessions.items place ≡ Some (Some session) }
+        ensures own { (session : _) → slice_get self.old.sessions.items place ≡ Some (Some session)
+            → session.number ≡ number → (after : _) × (slice_get self.new.sessions.items place ≡ Some (Some after))
+            × IfOk answer (λ done. SaysStamp done.stamp session.outbox after.outbox)
+            × IfErr answer (λ fault. SaysFault fault session.outbox after.outbox) }
+    {
+        let Some(seat) = self.sessions.get_mut(place) else {
             return;
         };
-        if session.number == number {
-            session.take_answer(alloc, answer);
-            enlist(session, &mut self.listed, place);
-        }
+        answer_seat(alloc, seat, &mut self.listed, place, number, answer);
     }
 
     /// Answers each session whose `take`s wait that the site has ended, as far as its connection takes that at once.
@@ -221,8 +231,34 @@ impl<J: Naming> Places<J> {
     }
 }
 
+/// Answers the session of a number that has a seat, unless it has gone.
+fn answer_seat<J: Naming>(
+    alloc: Global,
+    seat: &mut Option<Session<J>>,
+    listed: &mut Vec<usize>,
+    place: usize,
+    number: u64,
+    answer: Answer<J>,
+)
+    ensures strangers { (session : _) → seat.old ≡ Some session → session.number ≢ number → seat.new ≡ Some session }
+    ensures own { (session : _) → seat.old ≡ Some session → session.number ≡ number
+        → (after : _) × (seat.new ≡ Some after)
+        × IfOk answer (λ done. SaysStamp done.stamp session.outbox after.outbox)
+        × IfErr answer (λ fault. SaysFault fault session.outbox after.outbox) }
+{
+    let Some(session) = seat else {
+        return;
+    };
+    if session.number == number {
+        session.take_answer(alloc, answer);
+        enlist(session, listed, place);
+    }
+}
+
 /// Has a session looked at in the next turn. There is room for each place.
-fn enlist<J: Naming>(session: &mut Session<J>, listed: &mut Vec<usize>, place: usize) {
+fn enlist<J: Naming>(session: &mut Session<J>, listed: &mut Vec<usize>, place: usize)
+    ensures { session.new.outbox ≡ session.old.outbox }
+{
     if session.is_listed {
         return;
     }

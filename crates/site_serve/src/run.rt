@@ -8,22 +8,25 @@ ghost use Rattle.site_serve.specs.Fault.{after_opening};
 ghost use Rattle.site_shared.specs.Accounts.{is_used};
 
 use super::ask::Place;
+use super::board::Board;
 use super::desk::{NotKept, Published};
 use super::errors::Errors;
 use super::evaluator::{Printed, print_reports, serve_fault};
 use super::floor::{BELL, DOOR, Floor, House, Site, serve_floor};
-use super::gossip::{Condition, Peer, Pulling, pull_from_peers};
+use super::gossip::{Peer, Pulling, pull_from_peers};
 use super::jobs::Worker;
 use super::looks::do_jobs;
 use super::news::News;
 use super::opening::{OwnLedger, OwnWindow};
+use super::pages::{Shower, show_pages};
 use super::port::PullPort;
 use super::seats::{Lines, Seats, seated};
-use super::setup::{Prints, ServeFault, Served, Setup, Turn};
+use super::setup::{Doorstep, Prints, ServeFault, Served, Setup, Turn};
 use byte_ends::Drain;
 use gate_rules::Gate;
 use mio::net::TcpListener as Listener;
 use mio::{Interest, Poll, Waker};
+use page_server::Door;
 use pull_guard::Guard;
 use site_ledger::{Keeps, Ledger, NoJournal};
 use site_net::{Patience, Stop};
@@ -60,9 +63,11 @@ struct Common<'a, E: Drain, T: Turn> {
     gate: Gate,
     prints: Prints,
     guard: Guard,
+    start: u32,
     pause: Duration,
     patience: Patience,
     errors: Errors<E>,
+    board: Board,
     stop: &'a Stop,
     turn: &'a T,
     /// Whether another process takes in as this site.
@@ -133,16 +138,17 @@ where
         idle_ms,
         connections,
         prints,
+        page,
     } = setup;
     let workers = workers.max(1).min(MOST_WORKERS);
+    let pullers = peers.len().max(1).min(WINDOWS - 2 - workers);
     let Ok((poll, listener)) = polled(rt, listener) else {
         return Err(ServeFault::NoPlace);
     };
-    let Ok(peers) = peers_of(alloc, peers.as_slice()) else {
-        return Err(ServeFault::NoMemory);
-    };
-    let pullers = peers.len().max(1).min(WINDOWS - 1 - workers);
-    let Ok(shares) = shares_of(alloc, peers, pullers) else {
+    let (Ok(shares), Ok(board)) = (
+        shares_of(alloc, peers.as_slice(), pullers),
+        Board::new(rt, alloc, peers.as_slice()),
+    ) else {
         return Err(ServeFault::NoMemory);
     };
     let common = Common {
@@ -150,9 +156,11 @@ where
         gate,
         prints,
         guard: Guard { own: site, sites },
+        start,
         pause: Duration::from_millis(pause_ms),
         patience: patience_of(idle_ms),
         errors: Errors::new(errors),
+        board,
         stop,
         turn,
         is_start_taken: AtomicBool::new(false),
@@ -160,11 +168,12 @@ where
     let loft = Loft {
         poll,
         listener,
+        page,
         most: sessions,
         workers,
         connections: connections.max(1).min(MOST_CONNECTIONS),
     };
-    match open_site(rt, site, start, workers + 1 + pullers, replica) {
+    match open_site(rt, site, start, workers + 2 + pullers, replica) {
         Ok((desk, windows)) => run_opened::<Brand, R, W, E, T, K>(
             rt, &common, loft, shares, desk, windows, output, keeper,
         ),
@@ -172,32 +181,16 @@ where
     }
 }
 
-/// Peers of which nothing is known yet.
-fn peers_of(alloc: Global, ports: &[u16]) -> Result<Vec<Peer>, AllocError> {
-    let mut peers = Vec::with_capacity(alloc, ports.len())?;
-    for port in ports {
-        peers.push(Peer {
-            port: *port,
-            condition: Condition::Well,
-        })?;
-    }
-    Ok(peers)
-}
-
-/// Peers in as many shares as there are threads that pull.
-fn shares_of(
-    alloc: Global,
-    peers: Vec<Peer>,
-    pullers: usize,
-) -> Result<Vec<Vec<Peer>>, AllocError> {
+/// Peers of which nothing is known yet, in as many shares as there are threads that pull.
+fn shares_of(alloc: Global, ports: &[u16], pullers: usize) -> Result<Vec<Vec<Peer>>, AllocError> {
     let mut shares = Vec::with_capacity(alloc, pullers)?;
     for _ in 0..pullers {
         shares.push(Vec::new(alloc))?;
     }
     let mut next = 0;
-    for peer in peers {
+    for port in ports {
         if let Some(share) = shares.get_mut(next) {
-            share.push(peer)?;
+            share.push(Peer::at(*port))?;
         }
         next = next.wrapping_add(1);
         if next >= pullers {
@@ -207,11 +200,12 @@ fn shares_of(
     Ok(shares)
 }
 
-/// What the loop is made of.
+/// What the loop is made of, and the page.
 #[derive(Drop)]
 struct Loft {
     poll: Poll,
     listener: Listener,
+    page: Option<Doorstep>,
     most: u64,
     workers: usize,
     connections: usize,
@@ -305,6 +299,7 @@ where
     let news = News::new();
     let Seats {
         reports,
+        pages,
         pullers,
         workers,
         lines,
@@ -312,6 +307,7 @@ where
     let Loft {
         poll,
         listener,
+        page,
         most,
         workers: _,
         connections,
@@ -332,6 +328,8 @@ where
     };
     let hands = Hands {
         reports,
+        pages,
+        page,
         pullers,
         workers,
         waker: &waker,
@@ -346,6 +344,8 @@ where
 #[derive(Drop)]
 struct Hands<'a, J: Naming> {
     reports: OwnWindow<J>,
+    pages: OwnWindow<J>,
+    page: Option<Doorstep>,
     pullers: Vec<Place<J>>,
     workers: Vec<Worker<J>>,
     waker: &'a Waker,
@@ -384,10 +384,13 @@ where
 {
     let Hands {
         reports,
+        pages,
+        page,
         pullers,
         workers,
         waker,
     } = hands;
+    let (door, bell) = parted(page);
     thread::scope(
         thread::scope_env(),
         rt,
@@ -396,6 +399,10 @@ where
         {
             let reports = scope.spawn(move || print_all(rt, common, news, reports, output));
             let mut is_refused = false;
+            if let Some(door) = door {
+                let shower = scope.spawn(move || show(rt, common, door, pages));
+                is_refused |= shower.is_err();
+            }
             for (peers, place) in shares.into_iter().zip(pullers) {
                 let puller = scope.spawn(move || pull(rt, common, waker, peers, place));
                 is_refused |= puller.is_err();
@@ -408,12 +415,16 @@ where
                 common.stop.ask(rt);
             }
             let site = Site {
+                board: &common.board,
                 news,
                 errors: &common.errors,
                 stop: common.stop,
             };
             let flushed = serve_floor(rt, site, floor, lines, ledger);
             common.stop.ask(rt);
+            if let Some(bell) = &bell {
+                let _woken = bell.wake();
+            }
             close(rt, news, &flushed);
             let printed = match reports {
                 Ok(reports) => Some(reports.join(rt)),
@@ -448,6 +459,39 @@ fn print_all<R: Wait + Clock, W: Drain + Drop, E: Drain, T: Turn, J: Naming>(
     )
 }
 
+/// Where browsers connect to with the names by which they may call this machine, and what wakes who serves there.
+fn parted(page: Option<Doorstep>) -> (Option<(Door, Vec<String>)>, Option<Waker>) {
+    match page {
+        Some(Doorstep { door, waker, hosts }) => (Some((door, hosts)), Some(waker)),
+        None => (None, None),
+    }
+}
+
+/// Shows the site to browsers.
+fn show<R, E, T, J>(
+    rt: &R,
+    common: &Common<'_, E, T>,
+    door: (Door, Vec<String>),
+    window: OwnWindow<J>,
+)
+where
+    R: Wait + Clock,
+    E: Drain,
+    T: Turn,
+    J: Naming,
+{
+    let (door, hosts) = door;
+    let shower = Shower {
+        rt,
+        alloc: common.alloc,
+        gate: &common.gate,
+        board: &common.board,
+        site: common.guard.own,
+        start: common.start,
+    };
+    show_pages(shower, door, hosts.as_slice(), common.stop, window);
+}
+
 /// Pulls from its share of the peers. It notes whether another process takes in as this site.
 fn pull<R, E, T, J>(
     rt: &R,
@@ -470,6 +514,7 @@ where
             idle: Some(Duration::from_millis(PULL_PATIENCE_MS)),
         },
         stop: common.stop,
+        board: &common.board,
     };
     let mut port = Guarded {
         guard: &common.guard,

@@ -17,6 +17,8 @@ const WAITING_ASKS: usize = 8;
 pub struct Seats<J: Naming> {
     /// The window of the thread that prints the reports.
     pub reports: OwnWindow<J>,
+    /// The window of the one that shows the site to browsers.
+    pub pages: OwnWindow<J>,
     /// The places of those that pull from the peers.
     pub pullers: Vec<Place<J>>,
     /// Those that look for sessions.
@@ -35,7 +37,7 @@ pub struct Lines<J: Naming> {
 }
 
 /// A seat for each thread: so many workers, and a puller at each window that is left. None where there are fewer windows
-/// than workers and one.
+/// than workers and two.
 pub fn seated<J: Naming>(
     alloc: Global,
     windows: Vec<Window>,
@@ -45,7 +47,7 @@ pub fn seated<J: Naming>(
     requires { All (λ window. window.book ≡ J.book) windows.items }
 {
     let mut windows = windows;
-    let Some(own) = windows.pop() else {
+    let (Some(reports), Some(pages)) = (windows.pop(), windows.pop()) else {
         return Ok(None);
     };
     let (given, taken) = bounded(alloc, jobs)?;
@@ -56,7 +58,8 @@ pub fn seated<J: Naming>(
     let (asks, asked) = bounded(alloc, WAITING_ASKS)?;
     let (pullers, answers) = wired(alloc, windows, &asks)?;
     Ok(Some(Seats {
-        reports: OwnWindow::new(own),
+        reports: OwnWindow::new(reports),
+        pages: OwnWindow::new(pages),
         pullers,
         workers: hired,
         lines: Lines {

@@ -6,6 +6,7 @@ ghost use Rattle.gossip_line.specs.Steps.{answer_of};
 ghost use Rattle.gossip_line.specs.Texts.{answer_text, long_line, next_of, refusal_line, reply_text, stamp_line};
 ghost use Rattle.gossip_line.specs.declared.fault.LineFault.{LineFault};
 ghost use Rattle.site_port.specs.Ports.{reply_by, stamped};
+ghost use Rattle.site_serve.specs.Answered.{SaysFault, SaysStamp};
 ghost use Rattle.site_serve.specs.Outboxes.{Adds};
 ghost use Rattle.site_serve.specs.SitePorts.{fault_of};
 
@@ -155,10 +156,8 @@ impl<J: Naming> Session<J> {
 
     /// Is answered by what the desk did, and has seen from then on what it published.
     pub(super) fn take_answer(&mut self, alloc: Global, answer: Answer<J>)
-        ensures stamp { IfOk answer (λ done. IfSome done.stamp (λ stamp. (result : Result Bool LineFault)
-            × Adds (stamp_line stamp) (Ok true) self.old.outbox self.new.outbox result)) }
-        ensures fault { IfErr answer (λ fault. (result : Result Bool LineFault)
-            × Adds (refusal_line (fault_of fault)) (Ok true) self.old.outbox self.new.outbox result) }
+        ensures stamp { IfOk answer (λ done. SaysStamp done.stamp self.old.outbox self.new.outbox) }
+        ensures fault { IfErr answer (λ fault. SaysFault fault self.old.outbox self.new.outbox) }
         ensures receipt { IfOk answer (λ done. self.new.receipt ≡ Some done.receipt) }
         ensures inbox { self.new.inbox ≡ self.old.inbox }
         ensures waits { self.new.waiting ≡ self.old.waiting - 1 }

@@ -4,6 +4,8 @@ ghost use Rattle.std.specs.Prelude.{◌≡◌};
 ghost use Rattle.site_serve.specs.Fault.{name_of, number_of};
 
 use gate_rules::Gate;
+use mio::Waker;
+use page_server::Door;
 use replica_core::Replica;
 use thiserror::Error;
 
@@ -16,6 +18,17 @@ pub enum Prints {
     Changes,
     /// Nothing.
     Nothing,
+}
+
+/// Where a site shows itself to browsers.
+#[derive(Drop)]
+pub struct Doorstep {
+    /// Where browsers connect to.
+    pub door: Door,
+    /// What wakes who serves there.
+    pub waker: Waker,
+    /// The names by which they may call this machine, beside `localhost` and the addresses of the loopback.
+    pub hosts: Vec<String>,
 }
 
 /// What a site is run with.
@@ -45,6 +58,8 @@ pub struct Setup {
     pub connections: usize,
     /// What it prints.
     pub prints: Prints,
+    /// Where it shows itself to browsers, if it does.
+    pub page: Option<Doorstep>,
 }
 
 /// What a site that ended leaves.

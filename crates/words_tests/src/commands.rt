@@ -124,6 +124,22 @@ fn a_check_is_strict_where_it_is_asked(rt: HostRuntime) {
     assert_asks(&rt, alloc, ["check", "g", "s", "t"].as_slice(), "", "", 0);
 }
 
+/// Whether words ask for each condition.
+fn asks_for_all(alloc: Global, words: &[&str]) -> bool {
+    match command_of(alloc, words) {
+        Some(Command::Why { is_all, .. }) => is_all,
+        _ => false,
+    }
+}
+
+#[test]
+fn each_condition_is_told_where_that_is_asked(rt: HostRuntime) {
+    let alloc = rt.alloc();
+    assert!(rt; asks_for_all(alloc, ["why", "g", "s", "101", "--all"].as_slice()));
+    assert!(rt; asks_for_all(alloc, ["why", "--all", "g", "s", "101,2"].as_slice()));
+    assert!(rt; !asks_for_all(alloc, ["why", "g", "s", "101"].as_slice()));
+}
+
 /// The patch set that is asked about, and 7 where none is.
 fn set_of(command: &Command<'_>) -> u32 {
     match command {

@@ -52,6 +52,8 @@ fn assert_serves(rt: &impl Abort, serving: &ServeWords<'_>, wanted: &ServeWords<
     assert_eq!(rt; files_of(serving), files_of(wanted));
     assert_eq!(rt; serving.peers.as_slice(), wanted.peers.as_slice());
     assert_eq!(rt; serving.sites.as_slice(), wanted.sites.as_slice());
+    assert_eq!(rt; serving.http, wanted.http);
+    assert_eq!(rt; serving.http_hosts.as_slice(), wanted.http_hosts.as_slice());
 }
 
 /// A site with what options are left out for.
@@ -70,6 +72,8 @@ fn with_defaults(alloc: Global) -> ServeWords<'static> {
         connections: 1024,
         until_input_ends: false,
         prints: Printing::Report,
+        http: None,
+        http_hosts: Vec::new(alloc),
         load: None,
         save: None,
         journal: None,
@@ -85,7 +89,7 @@ fn options_have_defaults(rt: HostRuntime) -> Result<(), Fail> {
 }
 
 /// Words with each option.
-const ALL: [&str; 33] = [
+const ALL: [&str; 39] = [
     "serve",
     "-",
     "8001",
@@ -112,6 +116,12 @@ const ALL: [&str; 33] = [
     "9",
     "--print",
     "changes",
+    "--http",
+    "65535",
+    "--http-host",
+    "gate.example.org",
+    "--http-host",
+    "gate",
     "--load",
     "a",
     "--save",
@@ -122,7 +132,7 @@ const ALL: [&str; 33] = [
 ];
 
 /// The site that they ask for.
-fn with_all(peers: Vec<u16>, sites: Vec<u16>) -> ServeWords<'static> {
+fn with_all(peers: Vec<u16>, sites: Vec<u16>, http_hosts: Vec<String>) -> ServeWords<'static> {
     ServeWords {
         gate: "-",
         peers,
@@ -137,6 +147,8 @@ fn with_all(peers: Vec<u16>, sites: Vec<u16>) -> ServeWords<'static> {
         connections: 9,
         until_input_ends: true,
         prints: Printing::Changes,
+        http: Some(65_535),
+        http_hosts,
         load: Some("a"),
         save: Some("b"),
         journal: Some("c"),
@@ -146,14 +158,17 @@ fn with_all(peers: Vec<u16>, sites: Vec<u16>) -> ServeWords<'static> {
 #[test]
 fn all_options_are_read(rt: HostRuntime) -> Result<(), Fail> {
     let peers = [8001, 8002].to_vec(rt.alloc())?;
-    let wanted = with_all(peers, [65535, 1].to_vec(rt.alloc())?);
+    let mut hosts = Vec::new(rt.alloc());
+    hosts.push(String::from_str(rt.alloc(), "gate.example.org")?)?;
+    hosts.push(String::from_str(rt.alloc(), "gate")?)?;
+    let wanted = with_all(peers, [65535, 1].to_vec(rt.alloc())?, hosts);
     let serving = serving_of(rt.alloc(), ALL.as_slice()).ok_or("a site")?;
     assert_serves(&rt, &serving, &wanted);
     Ok(())
 }
 
 /// The least and the greatest number of each option that has limits.
-const LIMITS: [(&str, &str, u64); 15] = [
+const LIMITS: [(&str, &str, u64); 17] = [
     ("--site", "1", 1),
     ("--site", "65535", 65_535),
     ("--start", "1", 1),
@@ -173,6 +188,8 @@ const LIMITS: [(&str, &str, u64); 15] = [
     ("--idle", "18446744073709551615", 18_446_744_073_709_551_615),
     ("--connections", "1", 1),
     ("--connections", "65535", 65_535),
+    ("--http", "0", 0),
+    ("--http", "65535", 65_535),
 ];
 
 /// The numbers of a site, in the order of the options above.
@@ -185,6 +202,7 @@ fn number_of(serving: &ServeWords<'_>, option: &str) -> u64 {
         "--pause" => serving.pause_ms,
         "--sessions" => serving.sessions,
         "--connections" => serving.connections as u64,
+        "--http" => u64::from(serving.http.unwrap_or(7)),
         _ => serving.idle_ms,
     }
 }

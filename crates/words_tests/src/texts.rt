@@ -83,7 +83,7 @@ Options:
         "why",
         "Prints why an item waits, down to the cause
 
-Usage: reviewgate why <GATE> <SNAPSHOT> <CHANGE[,SET]>
+Usage: reviewgate why [OPTIONS] <GATE> <SNAPSHOT> <CHANGE[,SET]>
 
 Arguments:
   <GATE>          The gate file, or - for standard input
@@ -91,6 +91,7 @@ Arguments:
   <CHANGE[,SET]>  The change's number, and that of a patch set if not the current one
 
 Options:
+      --all   Prints each condition of the gate, too, and whether the item meets it
   -h, --help  Print help
 ",
     ),
@@ -189,6 +190,8 @@ Options:
       --connections <N>   How many connections may be open at once, 1 to 65535 [default: 1024]
       --until-input-ends  Ends in order when standard input ends, or at its line stop
       --print <WHAT>      What it prints: report, changes or none [default: report]
+      --http <PORT>       Shows itself to browsers at this port on 127.0.0.1; 0 has the system choose one
+      --http-host <NAME>  A host name that browsers may use for it, once for each, beside localhost
       --load <FILE>       The snapshot to begin with
       --save <FILE>       The snapshot that is written at the end
       --journal <FILE>    The journal that keeps what is taken in
@@ -399,7 +402,7 @@ const OPTIONS: [(&str, &str); 14] = [
 ];
 
 /// Numbers one beyond their limits, and what is no number, or no word of an option.
-const NUMBERS: [(&str, &str); 34] = [
+const NUMBERS: [(&str, &str); 35] = [
     (
         "why g s x",
         "error: invalid value 'x' for '<CHANGE[,SET]>': CHANGE and SET are numbers from 0 to 4294967295",
@@ -507,6 +510,10 @@ const NUMBERS: [(&str, &str); 34] = [
     (
         "serve g --site 1 --start 1 --connections 65536",
         "error: invalid value '65536' for '--connections <N>': 65536 is not in 1..=65535",
+    ),
+    (
+        "serve g --site 1 --start 1 --http 65536",
+        "error: invalid value '65536' for '--http <PORT>': 65536 is not in 0..=65535",
     ),
     (
         "serve g 0 --site 1 --start 1",

@@ -1,0 +1,275 @@
+//! Shows a site to browsers, through a window of its own.
+
+ghost use Rattle.std.specs.Prelude.{◌≡◌, IfOk, IfSome, OnOk};
+ghost use Rattle.std.specs.Option.{ForSome};
+ghost use Rattle.ready_core.specs.Verdicts.{AreVerdicts, items_out};
+ghost use Rattle.site_serve.specs.Pages.{IsPageOf, ShowsMoment};
+ghost use Rattle.site_shared.specs.Accounts.{GoesOn};
+ghost use Rattle.site_shared.specs.Publishes.{arrive};
+ghost use Rattle.state_core.specs.State.{state_of};
+ghost use Rattle.page_routes.specs.declared.page.Status.TheVariants.{Unavailable};
+
+use super::board::{Board, PeerNote};
+use super::kept::brought_up;
+use super::opening::{OwnWatch, OwnWindow};
+use gate_rules::Gate;
+use page_routes::{Kind, Page, Route, Status};
+use page_server::{Door, Pages, serve_pages};
+use page_text::{Facts, PeerFacts, page_of};
+use ready_core::Verdicts;
+use replica_core::Replica;
+use site_net::Stop;
+use site_shared::{Naming, RefreshFault, Viewer, WindowFault};
+use std::alloc::{AllocError, Global};
+use std::io;
+use std::sync::Wait;
+use std::time::{Clock, Duration, Instant};
+
+/// For how many milliseconds the desk may take no turn before the site isn't well.
+const ASLEEP_MS: u64 = 1_000;
+
+/// What a site is shown by.
+#[derive(Clone, Copy)]
+pub(super) struct Shower<'a, R> {
+    pub rt: &'a R,
+    pub alloc: Global,
+    pub gate: &'a Gate,
+    pub board: &'a Board,
+    pub site: u16,
+    pub start: u32,
+}
+
+/// Shows a site at a door, to this machine and to hosts of these names, until the stop is asked. Where memory is refused
+/// for that nothing is shown.
+pub(super) fn show_pages<R: Wait + Clock, J: Naming>(
+    shower: Shower<'_, R>,
+    door: Door,
+    hosts: &[String],
+    stop: &Stop,
+    window: OwnWindow<J>,
+) {
+    let (rt, alloc) = (shower.rt, shower.alloc);
+    let pages = SitePages {
+        shower,
+        window,
+        kept: None,
+        requests: 0,
+        refused_hosts: 0,
+        update_us: 0,
+    };
+    let _unserved = serve_pages(rt, alloc, door, hosts, stop, pages);
+}
+
+/// Makes the pages of a site.
+#[derive(Drop)]
+struct SitePages<'a, R: Wait + Clock, J: Naming> {
+    shower: Shower<'a, R>,
+    window: OwnWindow<J>,
+    kept: Option<OwnWatch<J>>,
+    requests: u64,
+    refused_hosts: u64,
+    update_us: u64,
+    ghost same_gate: { ForSome kept (λ watch. watch.watch.gate ≡ shower.gate.now) },
+}
+
+impl<R: Wait + Clock, J: Naming> Pages for SitePages<'_, R, J> {
+    ghost use Rattle.site_serve.specs.Pages.{ShowsSite};
+
+    ghost pages = { λ old route page new. GoesOn old.window.window new.window.window
+        × ShowsSite old.shower.gate.now new.window.window.seen route page };
+
+    ghost moves = { λ old new. GoesOn old.window.window new.window.window };
+
+    fn page(&mut self, route: &Route) -> Result<Page, AllocError> {
+        self.requests = self.requests.saturating_add(1);
+        let now = self.now();
+        if matches!(route, Route::Health) && self.is_asleep(now) {
+            let page = unwell(self.shower.alloc, "the desk takes no turn\n")?;
+            return Ok(page);
+        }
+        let facts = self.facts(now)?;
+        let page = self.show(route, &facts)?;
+        Ok(page)
+    }
+
+    fn refused_host(&mut self) {
+        self.refused_hosts = self.refused_hosts.saturating_add(1);
+    }
+}
+
+impl<R: Wait + Clock, J: Naming> SitePages<'_, R, J> {
+    /// The page of what the window sees.
+    fn show(&mut self, route: &Route, facts: &Facts) -> Result<Page, AllocError>
+        ensures later { GoesOn self.old.window.window self.new.window.window }
+        ensures page { IfOk result
+            (λ page. ShowsMoment self.old.shower.gate.now facts.now self.new.window.window.seen route.now page) }
+    {
+        let begun = Instant::now(self.shower.rt);
+        match brought_up(self.shower.gate, &mut self.window, self.kept.take()) {
+            Ok(watch) => {
+                self.update_us = micros_since(self.shower.rt, begun, self.update_us);
+                self.show_watched(route, facts, watch)
+            }
+            Err(fault) => no_page(self.shower.alloc, fault),
+        }
+    }
+
+    /// The page of what the window sees, by a watch that is kept from now on.
+    fn show_watched(
+        &mut self,
+        route: &Route,
+        facts: &Facts,
+        watch: OwnWatch<J>,
+    ) -> Result<Page, AllocError>
+        requires { watch.watch.gate ≡ self.old.shower.gate.now }
+        ensures later { GoesOn self.old.window.window self.new.window.window }
+        ensures page { IfOk result
+            (λ page. ShowsMoment self.old.shower.gate.now facts.now self.new.window.window.seen route.now page) }
+    {
+        let mut watch = watch;
+        let mut viewing = Viewing {
+            alloc: self.shower.alloc,
+            route,
+            gate: self.shower.gate,
+            facts,
+            page: None,
+        };
+        let shown = self.window.show(&mut watch, &mut viewing);
+        self.kept = Some(watch);
+        match shown {
+            Ok(()) => viewing.page.ok_or(AllocError),
+            Err(RefreshFault::NoMemory) => Err(AllocError),
+            Err(RefreshFault::Stranger | RefreshFault::Closed) => {
+                no_page(self.shower.alloc, WindowFault::Closed)
+            }
+        }
+    }
+
+    /// How long the site has run.
+    fn now(&self) -> Duration {
+        self.shower
+            .board
+            .now(self.shower.rt)
+            .unwrap_or(Duration::ZERO)
+    }
+
+    /// Whether the desk has taken no turn for a second.
+    fn is_asleep(&self, now: Duration) -> bool {
+        self.shower.board.since_turn(now) > Duration::from_millis(ASLEEP_MS)
+    }
+
+    /// What is known of the site beside its record.
+    fn facts(&self, now: Duration) -> Result<Facts, AllocError> {
+        let Shower {
+            rt,
+            alloc,
+            board,
+            site,
+            start,
+            ..
+        } = self.shower;
+        Ok(Facts {
+            site,
+            start,
+            age_ms: 0,
+            news_ms: since(board.since_news(now)),
+            peers: peers_of(alloc, &board.peers(rt, alloc)?, now)?,
+            sessions: board.sessions(),
+            publishes: board.publishes(),
+            requests: self.requests,
+            refused_hosts: self.refused_hosts,
+            update_us: self.update_us,
+        })
+    }
+}
+
+/// A look at a record, and the page that is made of it.
+#[derive(Drop)]
+struct Viewing<'a> {
+    alloc: Global,
+    route: &'a Route,
+    gate: &'a Gate,
+    facts: &'a Facts,
+    page: Option<Page>,
+}
+
+impl Viewer for Viewing<'_> {
+    ghost judged_by = { λ viewing. viewing.gate.now };
+
+    ghost views = { λ old journal judged new.
+        IfSome new.page (IsPageOf old.gate.now old.facts.now journal judged old.route.now) };
+
+    fn view(&mut self, replica: &Replica, verdicts: &Verdicts) {
+        let page = page_of(
+            self.alloc, self.route, self.gate, replica, verdicts, self.facts,
+        );
+        self.page = match page {
+            Ok(page) => Some(page),
+            Err(_) => None,
+        };
+    }
+}
+
+/// How many microseconds have passed since then; the other number where the clock can't be read.
+fn micros_since<R: Clock>(rt: &R, begun: io::Result<Instant>, other: u64) -> u64 {
+    match begun.and_then(|begun| begun.elapsed(rt)) {
+        Ok(passed) => u64::try_from(passed.as_micros()).unwrap_or(u64::MAX),
+        Err(_) => other,
+    }
+}
+
+/// What is answered where the window shows nothing.
+fn no_page(alloc: Global, fault: WindowFault) -> Result<Page, AllocError>
+    ensures { IfOk result (λ page. page.status ≡ Unavailable) }
+{
+    match fault {
+        WindowFault::NoMemory => Err(AllocError),
+        WindowFault::Closed => unwell(alloc, "the site has ended\n"),
+    }
+}
+
+/// A page that says why the site can't show itself.
+fn unwell(alloc: Global, why: &str) -> Result<Page, AllocError>
+    ensures { IfOk result (λ page. page.status ≡ Unavailable) }
+{
+    let body = String::from_str(alloc, why)?;
+    Ok(Page {
+        status: Status::Unavailable,
+        kind: Kind::Plain,
+        body: body.into_bytes(),
+    })
+}
+
+/// What is known of the peers now.
+fn peers_of(
+    alloc: Global,
+    notes: &[PeerNote],
+    now: Duration,
+) -> Result<Vec<PeerFacts>, AllocError> {
+    let mut peers = Vec::with_capacity(alloc, notes.len())?;
+    for note in notes {
+        let last_well = note.last_well.map(|then| now.saturating_sub(then));
+        peers.push(PeerFacts {
+            port: note.port,
+            is_reachable: note.is_well,
+            condition_ms: millis(now.saturating_sub(note.since)),
+            good_ms: since(last_well),
+            pulls: note.pulls,
+            failures: note.failures,
+        })?;
+    }
+    Ok(peers)
+}
+
+/// How long ago something was in milliseconds, if it was.
+fn since(passed: Option<Duration>) -> Option<u64> {
+    match passed {
+        Some(passed) => Some(millis(passed)),
+        None => None,
+    }
+}
+
+/// A duration in whole milliseconds, as far as they can be counted.
+fn millis(duration: Duration) -> u64 {
+    u64::try_from(duration.as_millis()).unwrap_or(u64::MAX)
+}
