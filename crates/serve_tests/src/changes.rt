@@ -1,14 +1,15 @@
 //! Sites that print what changed, and sites whose output fails.
 
 use super::sites::{NoTurn, ending, listening, one_session, talk};
+use super::watched::{Shared, Written, watched_end};
 use byte_ends::Ends;
 use gate_rules::Gate;
 use site_net::Stop;
 use site_serve::{Prints, Setup, Turn, serve_run};
-use std::alloc::{AllocError, Global};
+use std::alloc::Global;
 use std::io::{ErrorKind, Write};
 use std::net::{Net, TcpListener, TcpStream};
-use std::sync::{Arc, Mutex, Wait};
+use std::sync::{Arc, Wait};
 use std::test::Fail;
 use std::thread::Threads;
 use std::time::{Clock, Duration};
@@ -34,28 +35,6 @@ const CLIENTS: [(&str, &str); 3] = [
         "-ready 101,1\ngone 101,1\nend 0 0\n",
     ),
 ];
-
-/// What a site wrote, as others look at it.
-type Written = Arc<Mutex<Vec<u8>>, Global>;
-
-/// An end that another thread looks at.
-#[derive(Drop)]
-struct Shared<R: Wait + Copy> {
-    rt: R,
-    written: Written,
-}
-
-impl<R: Wait + Copy> Write for Shared<R> {
-    fn write(&mut self, bytes: &[u8]) -> io::Result<usize> {
-        let mut written = self.written.lock(&self.rt);
-        written.extend_from_slice(bytes)?;
-        Ok(bytes.len())
-    }
-
-    fn flush(&mut self) -> io::Result<()> {
-        Ok(())
-    }
-}
 
 /// An output that is closed.
 #[derive(Drop)]
@@ -102,19 +81,6 @@ impl<R: Wait + Clock + Copy> Turn for AfterGroup<R> {
     }
 
     fn left(&self, _session: u64) {}
-}
-
-/// An end of which another thread sees what is written, and that.
-fn watched_end<R: Wait + Copy>(
-    rt: R,
-    alloc: Global,
-) -> Result<(Ends<Shared<R>>, Written), AllocError> {
-    let written = Arc::new(alloc, Mutex::new(Vec::new(alloc)))?;
-    let end = Ends::new(Shared {
-        rt,
-        written: Arc::try_clone(&written)?,
-    });
-    Ok((end, written))
 }
 
 /// Each client in turn: whether all were answered.

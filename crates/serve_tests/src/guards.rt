@@ -15,6 +15,7 @@ use std::fs::File;
 use std::io::{Print, Write};
 use std::net::{Net, TcpListener, TcpStream};
 use std::process::Abort;
+use std::random::RandomSource;
 use std::rt::Files;
 use std::sync::Wait;
 use std::test::Fail;
@@ -161,7 +162,7 @@ fn kept_words(alloc: Global, port: u16) -> ServeWords<'static> {
 /// Runs a site under a gate file on the input: how it ended, and what it reported.
 fn serve_reporting<R>(rt: R, words: ServeWords<'_>) -> (Ended<'_>, Vec<u8>)
 where
-    R: Net<Listener = TcpListener, Stream = TcpStream>,
+    R: Net<Listener = TcpListener, Stream = TcpStream> + RandomSource,
     R: Files<File = File> + Print + Threads + Wait + Clock + AllocGlobal,
     R: Copy + Send + Sync + 'static,
 {
@@ -185,7 +186,7 @@ const MORE_SPENT: &[u8] =
 /// Runs a site that ends with its input, over a snapshot.
 fn serve_loaded<R>(rt: R, snapshot: &[u8], start: u32) -> Result<(Ended<'static>, Vec<u8>), Fail>
 where
-    R: Net<Listener = TcpListener, Stream = TcpStream>,
+    R: Net<Listener = TcpListener, Stream = TcpStream> + RandomSource,
     R: Files<File = File> + Print + Threads + Wait + Clock + AllocGlobal,
     R: Copy + Send + Sync + 'static,
 {

@@ -21,6 +21,10 @@ mod records;
 #[cfg(test)]
 mod restarts;
 #[cfg(test)]
+mod shown;
+#[cfg(test)]
 mod site_feeds;
 #[cfg(test)]
 mod sites;
+#[cfg(test)]
+mod watched;

@@ -10,6 +10,7 @@ use std::fs::{File, OpenOptions};
 use std::io::Print;
 use std::net::{Net, TcpListener, TcpStream};
 use std::process::Abort;
+use std::random::RandomSource;
 use std::rt::Files;
 use std::sync::Wait;
 use std::test::Fail;
@@ -47,6 +48,8 @@ pub fn site_words<'a>(alloc: Global) -> ServeWords<'a> {
         connections: 1024,
         until_input_ends: false,
         prints: Printing::Report,
+        http: None,
+        http_hosts: Vec::new(alloc),
         load: None,
         save: None,
         journal: None,
@@ -69,6 +72,8 @@ fn journal_words<'a>(alloc: Global, name: &'a str) -> ServeWords<'a> {
         connections: 1024,
         until_input_ends: true,
         prints: Printing::Report,
+        http: None,
+        http_hosts: Vec::new(alloc),
         load: None,
         save: None,
         journal: Some(name),
@@ -78,7 +83,7 @@ fn journal_words<'a>(alloc: Global, name: &'a str) -> ServeWords<'a> {
 /// Runs such a site, under a gate file on the input, which ends after it.
 pub fn serve_input<R>(rt: R, words: ServeWords<'_>) -> Ended<'_>
 where
-    R: Net<Listener = TcpListener, Stream = TcpStream>,
+    R: Net<Listener = TcpListener, Stream = TcpStream> + RandomSource,
     R: Files<File = File> + Print + Threads + Wait + Clock + AllocGlobal,
     R: Copy + Send + Sync + 'static,
 {
@@ -132,7 +137,7 @@ fn a_record_that_cannot_be_saved_is_a_fault(rt: HostRuntime) {
 /// Whether a site ends well with its input that keeps a journal and is given a snapshot.
 fn adds_to_journal<'a, R>(rt: R, journal: &'a str, snapshot: &'a str) -> bool
 where
-    R: Net<Listener = TcpListener, Stream = TcpStream>,
+    R: Net<Listener = TcpListener, Stream = TcpStream> + RandomSource,
     R: Files<File = File> + Print + Threads + Wait + Clock + AllocGlobal,
     R: Copy + Send + Sync + 'static,
 {

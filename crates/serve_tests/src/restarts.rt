@@ -13,6 +13,7 @@ use std::fs::File;
 use std::io::{Print, Read};
 use std::net::{Net, TcpListener, TcpStream};
 use std::process::Abort;
+use std::random::RandomSource;
 use std::rt::Files;
 use std::sync::Wait;
 use std::test::Fail;
@@ -46,7 +47,7 @@ fn answers_once<R>(
     wanted: &str,
 ) -> io::Result<bool>
 where
-    R: Net<Listener = TcpListener, Stream = TcpStream>,
+    R: Net<Listener = TcpListener, Stream = TcpStream> + RandomSource,
     R: Files<File = File> + Print + Threads + Wait + Clock + AllocGlobal,
     R: Copy + Send + Sync + 'static,
 {

@@ -46,6 +46,7 @@ where
         idle_ms: 0,
         connections: 1024,
         prints: Prints::Report,
+        page: None,
     };
     let (output, errors) = (Ends::new(Vec::new(alloc)), Ends::new(Vec::new(alloc)));
     let stop = Stop::new();

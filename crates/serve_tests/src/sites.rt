@@ -1,5 +1,6 @@
 //! Sites that run, over sockets of this machine.
 
+use super::watched::{Shared, Written, watched_end};
 use byte_ends::Ends;
 use gate_rules::Gate;
 use op_text::read_op;
@@ -11,7 +12,7 @@ use std::io::{Read, Write};
 use std::net::{Net, Shutdown, TcpListener, TcpStream};
 use std::process::Abort;
 use std::sync::atomic::{AtomicBool, Ordering};
-use std::sync::{Arc, Mutex, Wait};
+use std::sync::Wait;
 use std::test::Fail;
 use std::thread::Threads;
 use std::time::{Clock, Duration, Instant};
@@ -58,6 +59,7 @@ pub fn one_session(alloc: Global, site: u16) -> Result<Setup, Fail> {
         idle_ms: 0,
         connections: 1024,
         prints: Prints::Report,
+        page: None,
     })
 }
 
@@ -453,33 +455,11 @@ fn clients_that_stall_hold_no_other_and_no_end(rt: HostRuntime) -> Result<(), Fa
     Ok(())
 }
 
-/// What a site printed, as others look at it.
-type Printed = Arc<Mutex<Vec<u8>>, Global>;
-
-/// An output that another thread looks at.
-#[derive(Drop)]
-struct Shared<R: Wait + Copy> {
-    rt: R,
-    printed: Printed,
-}
-
-impl<R: Wait + Copy> Write for Shared<R> {
-    fn write(&mut self, bytes: &[u8]) -> io::Result<usize> {
-        let mut printed = self.printed.lock(&self.rt);
-        printed.extend_from_slice(bytes)?;
-        Ok(bytes.len())
-    }
-
-    fn flush(&mut self) -> io::Result<()> {
-        Ok(())
-    }
-}
-
 /// Holds a session until a report was printed, and its end until more than that is.
 #[derive(Drop)]
 struct AfterReport<R: Wait + Clock + Copy> {
     rt: R,
-    printed: Printed,
+    printed: Written,
     is_printed: AtomicBool,
 }
 
@@ -547,11 +527,7 @@ where
 /// A report is printed before anything comes, and the next one once that changes it.
 #[test]
 fn each_report_is_printed(rt: HostRuntime) -> Result<(), Fail> {
-    let printed = Arc::new(rt.alloc(), Mutex::new(Vec::new(rt.alloc())))?;
-    let output = Ends::new(Shared {
-        rt,
-        printed: Arc::try_clone(&printed)?,
-    });
+    let (output, printed) = watched_end(rt, rt.alloc())?;
     let turn = AfterReport {
         rt,
         printed,

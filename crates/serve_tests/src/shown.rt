@@ -1,0 +1,86 @@
+//! Sites that show themselves to browsers.
+
+use super::sites::{NoTurn, ending, listening, one_session, run_one, talk, text_of};
+use page_server::open_door;
+use site_net::Stop;
+use site_serve::{Doorstep, Setup};
+use std::alloc::Global;
+use std::io;
+use std::net::{Net, TcpListener, TcpStream};
+use std::random::RandomSource;
+use std::sync::Wait;
+use std::test::Fail;
+use std::thread;
+
+/// A client that takes in a patch set, whose subject has markup.
+const TAKE_PATCH: &str =
+    "hello 2\ntake {\"change\":101,\"message\":\"<b>&\",\"op\":\"patchset\",\"set\":1}\nquit\n";
+
+/// A request for all items, as data and as a page, and one for how the site is.
+const ITEMS: &str = "GET /api/v1/items?show=all HTTP/1.1\r\nHost: localhost\r\n\r\n";
+
+const LIST: &str = "GET / HTTP/1.1\r\nHost: gate.example.org\r\n\r\n";
+
+const HEALTH: &str = "GET /healthz HTTP/1.1\r\nHost: 127.0.0.1\r\n\r\n";
+
+/// The items of a site that took it.
+const SHOWN: &str = r#"{"total":1,"page":1,"items":[{"change":101,"set":1,"subject":"<b>&","ready":false,"refusal":"require approval 1"}]}"#;
+
+/// A site without a limit of sessions that shows itself, also by another name, and the port of its page.
+fn shown<R>(rt: &R, alloc: Global) -> Result<(Setup, u16), Fail>
+where
+    R: Net<Listener = TcpListener, Stream = TcpStream> + RandomSource,
+{
+    let (listener, port) = listening(rt)?;
+    let (door, waker) = open_door(rt, listener)?;
+    let mut hosts = Vec::new(alloc);
+    hosts.push(String::from_str(alloc, "gate.example.org")?)?;
+    let mut setup = one_session(alloc, 1)?;
+    setup.sessions = 0;
+    setup.page = Some(Doorstep {
+        door,
+        waker,
+        hosts,
+    });
+    Ok((setup, port))
+}
+
+/// What a site's page answers once the site took a patch set in; then the site is asked to stop.
+fn looked_at<R>(
+    rt: &R,
+    alloc: Global,
+    ports: (u16, u16),
+    stop: &Stop,
+) -> (io::Result<String>, io::Result<String>, io::Result<String>)
+where
+    R: Net<Listener = TcpListener, Stream = TcpStream> + Wait,
+{
+    let (port, page) = ports;
+    let _taken = talk(rt, alloc, port, TAKE_PATCH);
+    let items = talk(rt, alloc, page, ITEMS);
+    let list = talk(rt, alloc, page, LIST);
+    let health = talk(rt, alloc, page, HEALTH);
+    stop.ask(rt);
+    (items, list, health)
+}
+
+/// A site shows what it took in, as data and escaped on a page, and ends when it is asked to.
+#[test]
+fn a_site_shows_what_it_took(rt: HostRuntime) -> Result<(), Fail> {
+    let alloc = rt.alloc();
+    let (setup, page) = shown(&rt, alloc)?;
+    let (listener, port) = listening(&rt)?;
+    let stop = Stop::new();
+    let (ended, (items, list, health)) = thread::join(
+        &rt,
+        || ending(run_one(&rt, alloc, listener, setup, &stop, &NoTurn)),
+        || looked_at(&rt, alloc, (port, page), &stop),
+    );
+    assert_eq!(rt; ended, Some((1, true, false)));
+    assert!(rt; text_of(&items).starts_with("HTTP/1.1 200 OK\r\n"));
+    assert!(rt; text_of(&items).ends_with(SHOWN));
+    assert!(rt; text_of(&list).contains("&lt;b&gt;&amp;"));
+    assert!(rt; !text_of(&list).contains("<b>"));
+    assert!(rt; text_of(&health).ends_with("\r\n\r\nok\n"));
+    Ok(())
+}
