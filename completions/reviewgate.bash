@@ -11,8 +11,9 @@ _reviewgate() {
             graph) words="--around --help" ;;
             recover) words="--without --until --help" ;;
             serve)
-                words="--site --start --port --sites --workers --pause --sessions --idle --connections --until-input-ends --print --load --save --journal --help"
+                words="--site --start --port --sites --workers --pause --sessions --idle --connections --until-input-ends --print --http --http-host --load --save --journal --help"
                 ;;
+            why) words="--all --help" ;;
             *) words="--help" ;;
         esac
     fi
