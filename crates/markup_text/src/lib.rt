@@ -8,9 +8,7 @@
 //!
 //! ```
 //! let mut page = Markup::new(alloc);
-//! page.add_markup("<p>")?;
-//! page.add_text("1 < 2")?;
-//! page.add_markup("</p>")?;
+//! page.add(&[Piece::Markup("<p>"), Piece::Text("1 < 2"), Piece::Markup("</p>")])?;
 //! assert_eq!(rt; page.into_bytes().as_slice(), b"<p>1 &lt; 2</p>".as_slice());
 //! ```
 #![tactic(auto)]
@@ -18,6 +16,7 @@
 mod laws;
 mod letters;
 mod markup;
+mod piece;
 mod writing;
 
 pub use laws::{
@@ -25,3 +24,4 @@ pub use laws::{
 };
 pub use letters::is_hidden;
 pub use markup::Markup;
+pub use piece::Piece;

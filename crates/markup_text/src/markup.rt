@@ -1,16 +1,18 @@
 //! HTML that is being written.
 
-ghost use Rattle.std.specs.Prelude.{◌≡◌, ◌++◌, [], OnOk, decimal};
-ghost use Rattle.percent_encoding.specs.Percent.{percent_encode};
-ghost use Rattle.markup_text.specs.Html.{html_of};
+ghost use Rattle.std.specs.Prelude.{◌≡◌, ◌++◌, [], OnOk, flat_map, string_bytes};
+ghost use Rattle.markup_text.specs.Pieces.{piece_html};
 
+use super::piece::Piece;
 use super::writing::push_text;
-use percent_encoding::{NON_ALPHANUMERIC, utf8_percent_encode};
+use percent_encoding::{AsciiSet, NON_ALPHANUMERIC, utf8_percent_encode};
 use std::alloc::{AllocError, Global};
 use std::marker::Model;
 
-/// HTML that is being written. Contracts see its bytes. It begins empty, and each method adds at its end; where memory
-/// is refused some first part of what a method adds may stand there.
+/// The bytes of ASCII that are percent-encoded in a query: all but letters and digits.
+pub const ENCODED: AsciiSet = NON_ALPHANUMERIC;
+
+/// HTML that is being written. Contracts see its bytes. It begins empty, and is added to at its end.
 #[derive(Debug, Drop)]
 pub struct Markup {
     text: String,
@@ -34,34 +36,12 @@ impl Markup {
         }
     }
 
-    /// Adds markup as it is. It stands in the program, so that no text from outside passes for markup. It costs O(n)
-    /// for n bytes, as the next two.
-    pub fn add_markup(&mut self, markup: &'static str) -> Result<(), AllocError>
-        ensures { OnOk result (self.new ≡ self.old ++ markup.now) }
+    /// Adds pieces, one after the other. Where memory is refused a first part of them may stand there. It costs O(n)
+    /// for n bytes.
+    pub fn add(&mut self, pieces: &[Piece<'_>]) -> Result<(), AllocError>
+        ensures { OnOk result (self.new ≡ self.old ++ flat_map piece_html pieces.now) }
     {
-        self.text.push_str(markup)
-    }
-
-    /// Adds a text, which a reader sees as it is, but for hidden characters, which are shown by their codes. It is good
-    /// in an element and in the value of an attribute in quotes.
-    pub fn add_text(&mut self, text: &str) -> Result<(), AllocError>
-        ensures { OnOk result (self.new ≡ self.old ++ html_of text.now) }
-    {
-        push_text(&mut self.text, text)
-    }
-
-    /// Adds a text as a value in the query of a URL: each byte that isn't an ASCII letter or digit is percent-encoded.
-    pub fn add_query(&mut self, text: &str) -> Result<(), AllocError>
-        ensures { OnOk result (self.new ≡ self.old ++ percent_encode NON_ALPHANUMERIC text.now) }
-    {
-        utf8_percent_encode(text, NON_ALPHANUMERIC).append_to(&mut self.text)
-    }
-
-    /// Adds a number in decimal, in O(1).
-    pub fn add_number(&mut self, number: u64) -> Result<(), AllocError>
-        ensures { OnOk result (self.new ≡ self.old ++ decimal number) }
-    {
-        write!(self.text, "{number}")
+        push_pieces(&mut self.text, pieces)
     }
 
     /// The bytes of the HTML, which are UTF-8.
@@ -69,5 +49,28 @@ impl Markup {
         ensures { result.items ≡ self }
     {
         self.text.into_bytes()
+    }
+}
+
+/// Adds pieces.
+fn push_pieces(html: &mut String, pieces: &[Piece<'_>]) -> Result<(), AllocError>
+    ensures { OnOk result (string_bytes html.new ≡ string_bytes html.old ++ flat_map piece_html pieces.now) }
+{
+    for piece in pieces {
+        push_piece(html, *piece)?;
+    }
+    Ok(())
+}
+
+/// Adds a piece.
+fn push_piece(html: &mut String, piece: Piece<'_>) -> Result<(), AllocError>
+    ensures { OnOk result (string_bytes html.new ≡ string_bytes html.old ++ piece_html piece.entry) }
+{
+    match piece {
+        Piece::Markup(markup) => html.push_str(markup),
+        Piece::Text(text) => push_text(html, text),
+        Piece::Query(text) => utf8_percent_encode(text, ENCODED).append_to(html),
+        Piece::Number(number) => write!(html, "{number}"),
+        Piece::Signed(number) => write!(html, "{number}"),
     }
 }
