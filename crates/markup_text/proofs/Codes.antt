@@ -1,5 +1,6 @@
 -- The digits of a code.
-use Rattle.std.proofs.Common.{◌≡◌, ◌∙◌, ℕ, ◌<◌, ◌≤◌, ◌/◌, ◌%◌, suc, zero, List, [], ◌∷◌, ◌++◌, Bool, true, false, flat_map, refl, ap, arith}
+use Rattle.std.proofs.Common.{◌≡◌, ◌∙◌, ℕ, ◌<◌, ◌≤◌, ◌/◌, ◌%◌, suc, zero, List, [], ◌∷◌, ◌++◌, Bool, true, false}
+use Rattle.std.proofs.Common.{flat_map, refl, ap, arith}
 use Rattle.std.specs.Prelude.{◌==◌, ◌⊎◌, if◌then◌else◌}
 use Rattle.std.specs.Fmt.{digit_glyph, digits, digits_onto}
 use Rattle.std.specs.List.{list_any}
@@ -16,7 +17,8 @@ pub record IsDigit (x : ℕ) : Type 0 where
   pub greatest : x < 71
 
 glyph_is : (d : ℕ) → d < 16 → IsDigit (digit_glyph true d)
-glyph_is d small = record { least = grind (arith, nat_tests); apart = grind (arith, nat_tests); greatest = grind (arith, nat_tests) }
+glyph_is d small =
+    record { least = grind (arith, nat_tests); apart = grind (arith, nat_tests); greatest = grind (arith, nat_tests) }
 
 pub plain : (x : ℕ) → IsDigit x → escaped x ≡ x ∷ []
 plain x is = grind (arith, nat_tests, encode_ascii)

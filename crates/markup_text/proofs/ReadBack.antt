@@ -1,5 +1,6 @@
 -- What a browser reads from a text in HTML.
-use Rattle.std.proofs.Common.{◌≡◌, ◌∙◌, ℕ, ◌<◌, ◌≤◌, ◌+◌, ◌/◌, ◌%◌, List, [], ◌∷◌, ◌++◌, Bool, true, false, flat_map, refl, ap, sym, arith}
+use Rattle.std.proofs.Common.{◌≡◌, ◌∙◌, ℕ, ◌<◌, ◌≤◌, ◌+◌, ◌/◌, ◌%◌, List, [], ◌∷◌, ◌++◌, Bool, true, false, flat_map}
+use Rattle.std.proofs.Common.{refl, ap, sym, arith}
 use Rattle.std.specs.Prelude.{◌==◌, codes, if◌then◌else◌, encode_utf8_all, Some, nat_lt}
 use Rattle.std.specs.Char.{encode_utf8}
 use Rattle.std.specs.List.{list_any}
@@ -15,7 +16,8 @@ abbrev next : ℕ → ℕ
 next bits = 128 + bits % 64
 
 -- a test that a character fails, and each byte from 128 on, fails at each byte of the character
-encode_cases : (test : ℕ → Bool) → ((x : ℕ) → 128 ≤ x → test x ≡ false) → (c : ℕ) → test c ≡ false → (one two three : Bool)
+encode_cases : (test : ℕ → Bool) → ((x : ℕ) → 128 ≤ x → test x ≡ false) → (c : ℕ) → test c ≡ false
+    → (one two three : Bool)
     → list_any test (if one then c ∷ [] else (if two then (192 + c / 64) ∷ next c ∷ []
     else (if three then (224 + c / 4096) ∷ next (c / 64) ∷ next c ∷ []
     else (240 + c / 262144) ∷ next (c / 4096) ∷ next (c / 64) ∷ next c ∷ []))) ≡ false
@@ -67,7 +69,8 @@ pub all_clean : (letters : List ℕ) → list_any is_markup (flat_map escaped le
 all_clean [] = refl
 all_clean (c ∷ letters) =
     list_any-append is_markup (escaped c) (flat_map escaped letters)
-    ∙ or_from _ _ (letter_clean c (c == 38) (c == 60) (c == 62) (c == 34) (c == 39) refl refl refl refl) (all_clean letters)
+    ∙ or_from _ _ (letter_clean c (c == 38) (c == 60) (c == 62) (c == 34) (c == 39) refl refl refl refl)
+    (all_clean letters)
 
 -- bytes that begin no reference are read as they are
 byte_over : (b : ℕ) (bs : List ℕ) (starts : Bool) → starts ≡ false

@@ -12,7 +12,8 @@ is_control letter = nat_lt letter 32 || (nat_le 127 letter && nat_le letter 159)
 -- the marks, embeddings, overrides and isolates
 abbrev pub is_direction : ℕ → Bool
 is_direction letter =
-    (letter == 0x61c) || (nat_le 0x200e letter && nat_le letter 0x200f) || (nat_le 0x202a letter && nat_le letter 0x202e)
+    (letter == 0x61c) || (nat_le 0x200e letter && nat_le letter 0x200f) ||
+    (nat_le 0x202a letter && nat_le letter 0x202e)
     || (nat_le 0x2066 letter && nat_le letter 0x2069)
 
 abbrev pub is_hidden : ℕ → Bool
