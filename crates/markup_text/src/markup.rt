@@ -44,6 +44,13 @@ impl Markup {
         push_pieces(&mut self.text, pieces)
     }
 
+    /// Adds what another one has. It costs O(n) for its n bytes.
+    pub fn append(&mut self, other: &Markup) -> Result<(), AllocError>
+        ensures { OnOk result (self.new ≡ self.old ++ other.now) }
+    {
+        self.text.push_str(other.text.as_str())
+    }
+
     /// The bytes of the HTML, which are UTF-8.
     pub fn into_bytes(self) -> Vec<u8>
         ensures { result.items ≡ self }

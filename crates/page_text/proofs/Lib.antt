@@ -6,3 +6,4 @@ mod OutSteps
 mod HeldSteps
 mod Adding
 mod Counting
+mod TableRows

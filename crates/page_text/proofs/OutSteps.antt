@@ -69,4 +69,4 @@ ready_has verdicts place item e =
 pub out_has : (verdicts : Judged) (left : Left) → Contains verdicts.out left → Contains (all_rows verdicts) (Waits left)
 out_has verdicts left there =
     Contains-append_right (entering 1 verdicts.ready) (map Waits verdicts.out) _
-        (Contains-to_map Waits verdicts.out left there)
+    (Contains-to_map Waits verdicts.out left there)

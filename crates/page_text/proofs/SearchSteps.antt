@@ -32,14 +32,14 @@ further words text i inside unlike so_far =
     ap (λ n. contains (low words) (low (drop n text))) next
     ∙ past_byte (low words) (to_ascii_lowercase (get_or text i 0)) (low (drop (suc i) text)) (low text)
     (sym (ap (begins (low words)) here) ∙ sym (ap (begins (low words)) (ap low (rest_is text i))) ∙ sym unlike)
-        (sym (ap (contains (low words)) here) ∙ so_far)
+    (sym (ap (contains (low words)) here) ∙ so_far)
 
 pub begun : (result : Bool) (words text : List ℕ) → (IsTrue result ↔ (low (take (length words) text) ≡ low words))
     → result ≡ begins (low words) (low text)
 begun result words text tells =
     let same : take (length (low words)) (low text) ≡ low (take (length words) text)
     = ap (λ n. take n (low text)) (length-map words to_ascii_lowercase)
-        ∙ take-map to_ascii_lowercase (length words) text in
+    ∙ take-map to_ascii_lowercase (length words) text in
     let tested : Decides (begins (low words) (low text)) (low (take (length words) text) ≡ low words)
     = subst (λ l. Decides (begins (low words) (low text)) (l ≡ low words)) same
     (bytes_eq-Decides (take (length (low words)) (low text)) (low words)) in

@@ -18,7 +18,9 @@ use Rattle.page_text.specs.declared.facts.Facts.{Facts}
 use Rattle.page_text.specs.Items.{items_tokens}
 use Rattle.page_text.specs.Metrics.{metrics_of}
 use Rattle.page_text.specs.Problem.{problem_tokens}
-use Rattle.page_text.specs.Rows.{chosen_rows}
+use Rattle.page_text.specs.Rows.{chosen_rows, rows_on}
+use Rattle.page_text.specs.Table.{HasRows}
+use Rattle.page_text.specs.declared.rows.Row.{Row}
 
 pub record IsPage (status : Status) (kind : Kind) (page : Page) : Type 0 where
   pub status_is : page.status ≡ status
@@ -28,6 +30,11 @@ pub record IsPage (status : Status) (kind : Kind) (page : Page) : Type 0 where
 pub record IsText (status : Status) (kind : Kind) (text : List ℕ) (page : Page) : Type 0 where
   pub is : IsPage status kind page
   pub text_is : page.body.items ≡ text
+
+-- the page for people with a table of these rows
+pub record IsList (state : State) (rows : List Row) (page : Page) : Type 0 where
+  pub is : IsPage Found kind.Html page
+  pub rows_are : HasRows state rows page.body.items
 
 -- the item that is asked for is known, and its page is there; or there is no such item
 pub data IsOfItem (state : State) (place : Place) (found missing : Page → Type 0) (page : Page) : Type 0 where
@@ -45,7 +52,8 @@ event_text ready out operations =
 
 -- the answer under a gate, to a record of so many operations with this state and these verdicts
 abbrev pub IsAnswer : GateRules → State → ℕ → Judged → Facts → Route → Page → Type 0
-IsAnswer gate state operations verdicts facts (route.List choice) page = IsPage Found kind.Html page
+IsAnswer gate state operations verdicts facts (route.List choice) page =
+    IsList state (rows_on choice.page (chosen_rows state choice verdicts)) page
 IsAnswer gate state operations verdicts facts (route.Change place) page =
     IsOfItem state place (IsPage Found kind.Html) (IsPage NotFound kind.Html) page
 IsAnswer gate state operations verdicts facts route.Status page = IsPage Found kind.Json page

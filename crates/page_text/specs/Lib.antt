@@ -10,4 +10,5 @@ pub mod Held
 pub mod Statuses
 pub mod Samples
 pub mod Metrics
+pub mod Table
 pub mod Answer

@@ -6,11 +6,11 @@ ghost use Rattle.json.specs.Print.{print};
 ghost use Rattle.state_core.specs.Items.{item_cmp};
 ghost use Rattle.state_core.specs.State.{state_of};
 ghost use Rattle.ready_core.specs.Verdicts.{items_out};
-ghost use Rattle.page_text.specs.Answer.{IsAnswer, IsOfItem, IsPage, IsText, event_text};
+ghost use Rattle.page_text.specs.Answer.{IsAnswer, IsList, IsOfItem, IsPage, IsText, event_text};
 ghost use Rattle.page_text.specs.Items.{items_tokens};
 ghost use Rattle.page_text.specs.Metrics.{metrics_of};
 ghost use Rattle.page_text.specs.Problem.{problem_tokens};
-ghost use Rattle.page_text.specs.Rows.{chosen_rows};
+ghost use Rattle.page_text.specs.Rows.{chosen_rows, rows_on};
 
 use super::change::change_page;
 use super::facts::Facts;
@@ -66,10 +66,7 @@ fn answer(
         (IsAnswer gate.now (state_of replica.now) (length replica.now) verdicts.now facts.now route.now) }
 {
     match route {
-        Route::List(choice) => {
-            let body = list_page(alloc, choice, gate, replica, verdicts, facts)?;
-            Ok(found(Kind::Html, body))
-        }
+        Route::List(choice) => list_answer(alloc, choice, gate, replica, verdicts, facts),
         Route::Change(place) => change_answer(alloc, *place, gate, replica, verdicts, facts),
         Route::Status => {
             let body = status_text(alloc, replica, verdicts, facts)?;
@@ -83,6 +80,23 @@ fn answer(
         Route::Style => fixed(alloc, Kind::Style, STYLE),
         Route::Script => fixed(alloc, Kind::Script, SCRIPT),
     }
+}
+
+/// The items that are asked for, as a page for people.
+fn list_answer(
+    alloc: Global,
+    choice: &Choice,
+    gate: &Gate,
+    replica: &Replica,
+    verdicts: &Verdicts,
+    facts: &Facts,
+) -> Result<Page, NoMemory>
+    requires { IsStrictlySortedBy item_cmp (items_out verdicts.now.out) }
+    ensures { IfOk result (IsList (state_of replica.now)
+        (rows_on choice.now.page (chosen_rows (state_of replica.now) choice.now verdicts.now))) }
+{
+    let body = list_page(alloc, choice, gate, replica, verdicts, facts)?;
+    Ok(found(Kind::Html, body))
 }
 
 /// The items that are asked for, as JSON.

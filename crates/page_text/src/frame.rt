@@ -1,5 +1,7 @@
 //! What all pages for people have in common.
 
+ghost use Rattle.std.specs.Prelude.{◌≡◌, ◌++◌, IfOk, codes};
+
 use lattice_core::NoMemory;
 use markup_text::{Markup, Piece};
 use std::alloc::Global;
@@ -34,7 +36,9 @@ pub fn begin(alloc: Global, title: &'static str, site: u16) -> Result<Markup, No
 }
 
 /// The bytes of a page whose own part ends here.
-pub fn end(page: Markup) -> Result<Vec<u8>, NoMemory> {
+pub fn end(page: Markup) -> Result<Vec<u8>, NoMemory>
+    ensures { IfOk result (λ text. text.items ≡ page ++ codes "</main>\n</body>\n</html>\n") }
+{
     let mut page = page;
     page.add(&[Piece::Markup("</main>\n</body>\n</html>\n")])?;
     Ok(page.into_bytes())

@@ -1,5 +1,8 @@
 //! Links from one page to another.
 
+ghost use Rattle.std.specs.Prelude.{◌≡◌, ◌++◌, OnOk};
+ghost use Rattle.page_text.specs.Table.{link_html};
+
 use super::names::{reason_name, shown_name};
 use super::words::refusal_words;
 use lattice_core::NoMemory;
@@ -10,7 +13,9 @@ use state_core::Item;
 use std::alloc::Global;
 
 /// Adds an item, as `101,2`, with a link to its page.
-pub fn add_item_link(page: &mut Markup, item: Item) -> Result<(), NoMemory> {
+pub fn add_item_link(page: &mut Markup, item: Item) -> Result<(), NoMemory>
+    ensures { OnOk result (page.new ≡ page.old ++ link_html item) }
+{
     let change = Piece::Number(u64::from(item.change));
     let set = Piece::Number(u64::from(item.set));
     let comma = Piece::Markup(",");

@@ -1,8 +1,12 @@
 //! The list of the items, as a page for people.
 
+ghost use Rattle.std.specs.Prelude.{IfOk};
 ghost use Rattle.std.specs.List.Sorted.{IsStrictlySortedBy};
 ghost use Rattle.state_core.specs.Items.{item_cmp};
+ghost use Rattle.state_core.specs.State.{state_of};
 ghost use Rattle.ready_core.specs.Verdicts.{items_out};
+ghost use Rattle.page_text.specs.Rows.{chosen_rows, rows_on};
+ghost use Rattle.page_text.specs.Table.{HasRows};
 
 use super::counts::{open_count, reason_count};
 use super::durations::in_unit;
@@ -39,14 +43,18 @@ pub fn list_page(
     facts: &Facts,
 ) -> Result<Vec<u8>, NoMemory>
     requires { IsStrictlySortedBy item_cmp (items_out verdicts.now.out) }
+    ensures { IfOk result (λ text. HasRows (state_of replica.now)
+        (rows_on choice.now.page (chosen_rows (state_of replica.now) choice.now verdicts.now)) text.items) }
 {
     let chosen = chosen_rows(alloc, replica.state(), verdicts, choice)?;
     let rows = rows_of(chosen.as_slice(), choice.page);
     let mut page = begin(alloc, "Items", facts.site)?;
     add_top(&mut page, choice, verdicts, facts, chosen.len())?;
+    let bottom = bottom_of(alloc, choice, chosen.len())?;
     add_rows(alloc, &mut page, gate, replica.state(), verdicts, rows)?;
-    add_bottom(&mut page, choice, chosen.len())?;
-    end(page)
+    page.append(&bottom)?;
+    let text = end(page)?;
+    Ok(text)
 }
 
 /// Adds what comes before the rows.
@@ -169,18 +177,19 @@ fn pages_of(rows: usize) -> u64 {
     (rows.saturating_sub(1) / ROWS) as u64 + 1
 }
 
-/// Adds what comes after the rows: links to the page before and to the one after, where there are any.
-fn add_bottom(page: &mut Markup, choice: &Choice, rows: usize) -> Result<(), NoMemory> {
+/// What comes after the rows: links to the page before and to the one after, where there are any.
+fn bottom_of(alloc: Global, choice: &Choice, rows: usize) -> Result<Markup, NoMemory> {
     let number = u64::from(choice.page.max(1));
-    page.add(&[Piece::Markup("</tbody>\n</table>\n<nav aria-label=\"Pages\">\n")])?;
+    let mut bottom = Markup::new(alloc);
+    bottom.add(&[Piece::Markup("</tbody>\n</table>\n<nav aria-label=\"Pages\">\n")])?;
     if number > 1 {
-        add_link(page, choice, "prev\">Previous page", number - 1)?;
+        add_link(&mut bottom, choice, "prev\">Previous page", number - 1)?;
     }
     if number < pages_of(rows) {
-        add_link(page, choice, "next\">Next page", number + 1)?;
+        add_link(&mut bottom, choice, "next\">Next page", number + 1)?;
     }
-    page.add(&[Piece::Markup("</nav>\n</div>\n")])?;
-    Ok(())
+    bottom.add(&[Piece::Markup("</nav>\n</div>\n")])?;
+    Ok(bottom)
 }
 
 /// Adds a link to another page of the list.

@@ -1,8 +1,10 @@
 //! The rows of the table of a list.
 
+ghost use Rattle.std.specs.Prelude.{◌≡◌, ◌++◌, OnOk};
 ghost use Rattle.std.specs.List.Sorted.{IsStrictlySortedBy};
 ghost use Rattle.state_core.specs.Items.{item_cmp};
 ghost use Rattle.ready_core.specs.Verdicts.{items_out};
+ghost use Rattle.page_text.specs.Table.{AddsRow, AddsRows, about_html};
 
 use super::chain::cause_of;
 use super::links::{add_item_link, add_left};
@@ -26,6 +28,7 @@ pub fn add_rows(
     rows: &[Row],
 ) -> Result<(), NoMemory>
     requires { IsStrictlySortedBy item_cmp (items_out verdicts.now.out) }
+    ensures { OnOk result (AddsRows state.now rows.now page.old page.new) }
 {
     for row in rows {
         add_row(alloc, page, gate, state, verdicts, *row)?;
@@ -43,6 +46,7 @@ fn add_row(
     row: Row,
 ) -> Result<(), NoMemory>
     requires { IsStrictlySortedBy item_cmp (items_out verdicts.now.out) }
+    ensures { OnOk result (AddsRow state.now row page.old page.new) }
 {
     match row {
         Row::Enters(item, place) => add_ready(page, state, item, place),
@@ -51,7 +55,9 @@ fn add_row(
 }
 
 /// Adds the row of an item that is ready.
-fn add_ready(page: &mut Markup, state: &State, item: Item, place: usize) -> Result<(), NoMemory> {
+fn add_ready(page: &mut Markup, state: &State, item: Item, place: usize) -> Result<(), NoMemory>
+    ensures { OnOk result (AddsRow state.now (Row.Enters item place) page.old page.new) }
+{
     page.add(&[
         Piece::Markup("<tr><td>"),
         Piece::Number(place as u64),
@@ -72,15 +78,19 @@ fn add_waiting(
     left: Left,
 ) -> Result<(), NoMemory>
     requires { IsStrictlySortedBy item_cmp (items_out verdicts.now.out) }
+    ensures { OnOk result (AddsRow state.now (Row.Waits left) page.old page.new) }
 {
+    let cells = waiting_cells(alloc, gate, state, verdicts, left)?;
     page.add(&[Piece::Markup("<tr><td></td>")])?;
     add_about(page, state, left.item)?;
-    add_why(alloc, page, gate, left.refusal)?;
-    add_cause(alloc, page, state, verdicts, left)
+    page.append(&cells)?;
+    Ok(())
 }
 
 /// Adds the cells of an item and its subject.
-fn add_about(page: &mut Markup, state: &State, item: Item) -> Result<(), NoMemory> {
+fn add_about(page: &mut Markup, state: &State, item: Item) -> Result<(), NoMemory>
+    ensures { OnOk result (page.new ≡ page.old ++ about_html state.now item) }
+{
     page.add(&[Piece::Markup("<th scope=\"row\">")])?;
     add_item_link(page, item)?;
     page.add(&[
@@ -91,40 +101,42 @@ fn add_about(page: &mut Markup, state: &State, item: Item) -> Result<(), NoMemor
     Ok(())
 }
 
+/// The cells of why an item waits, and of the item at the end of those that it waits for, if it waits for one.
+fn waiting_cells(
+    alloc: Global,
+    gate: &Gate,
+    state: &State,
+    verdicts: &Verdicts,
+    left: Left,
+) -> Result<Markup, NoMemory>
+    requires { IsStrictlySortedBy item_cmp (items_out verdicts.now.out) }
+{
+    let mut cells = Markup::new(alloc);
+    add_why(alloc, &mut cells, gate, left.refusal)?;
+    cells.add(&[Piece::Markup("<td>")])?;
+    if let Refusal::Dependency(_) = left.refusal {
+        add_left(alloc, &mut cells, cause_of(state, verdicts, left))?;
+    }
+    cells.add(&[Piece::Markup("</td></tr>\n")])?;
+    Ok(cells)
+}
+
 /// Adds the cell of a refusal, with what the gate asks there.
 fn add_why(
     alloc: Global,
-    page: &mut Markup,
+    cells: &mut Markup,
     gate: &Gate,
     refusal: Refusal,
 ) -> Result<(), NoMemory> {
     let words = refusal_words(alloc, refusal)?;
-    page.add(&[
+    cells.add(&[
         Piece::Markup("<td class=\"waits\">"),
         Piece::Text(words.as_str()),
     ])?;
     if let Refusal::Own(condition) = refusal {
-        page.add(&[Piece::Markup(": ")])?;
-        add_wanted(page, gate, condition)?;
+        cells.add(&[Piece::Markup(": ")])?;
+        add_wanted(cells, gate, condition)?;
     }
-    page.add(&[Piece::Markup("</td>")])?;
-    Ok(())
-}
-
-/// Adds the cell of the item at the end of those that an item waits for, if it waits for one.
-fn add_cause(
-    alloc: Global,
-    page: &mut Markup,
-    state: &State,
-    verdicts: &Verdicts,
-    left: Left,
-) -> Result<(), NoMemory>
-    requires { IsStrictlySortedBy item_cmp (items_out verdicts.now.out) }
-{
-    page.add(&[Piece::Markup("<td>")])?;
-    if let Refusal::Dependency(_) = left.refusal {
-        add_left(alloc, page, cause_of(state, verdicts, left))?;
-    }
-    page.add(&[Piece::Markup("</td></tr>\n")])?;
+    cells.add(&[Piece::Markup("</td>")])?;
     Ok(())
 }

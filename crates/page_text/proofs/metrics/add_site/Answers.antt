@@ -8,7 +8,7 @@ pub returns : goal.returns
 returns c =
     let facts = c.args.facts.now in
     then3 (string_bytes c.args.text.now) (string_bytes c.add_info.new.text) (string_bytes c.add_family.new.text)
-        (string_bytes c.add_age.new.text)
+    (string_bytes c.add_age.new.text)
     (metrics.info_text facts.site facts.start)
     (samples.family (codes "reviewgate_last_operation_age_seconds") (codes "gauge")
     (codes "Seconds since the last operation came."))

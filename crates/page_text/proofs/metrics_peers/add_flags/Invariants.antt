@@ -7,4 +7,4 @@ use Rattle.page_text.proofs.metrics_peers.add_flags.Given as goal
 abbrev pub invariant-loop-peer : goal.invariant-loop-peer
 invariant-loop-peer l =
     string_bytes l.text ≡ string_bytes l.initial.text ++ flat_map
-        (λ peer. port_sample l.name peer.port (flag peer.is_reachable)) (take l.peer-index l.peers)
+    (λ peer. port_sample l.name peer.port (flag peer.is_reachable)) (take l.peer-index l.peers)

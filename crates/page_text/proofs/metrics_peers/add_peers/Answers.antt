@@ -8,7 +8,7 @@ pub returns : goal.returns
 returns c =
     let peers = c.args.peers.now in
     then4 (string_bytes c.args.text.now) (string_bytes c.add_up.new.text) (string_bytes c.add_ages.new.text)
-        (string_bytes c.add_pulls.new.text)
+    (string_bytes c.add_pulls.new.text)
     (string_bytes c.add_failures.new.text) (metrics.up_text peers) (metrics.ages_text peers) (metrics.pulls_text peers)
     (metrics.failures_text peers) c.in_ok-add_up.ensures c.in_ok-add_ages.ensures c.in_ok-add_pulls.ensures
     c.in_ok-add_failures.ensures

@@ -7,4 +7,4 @@ use Rattle.page_text.proofs.metrics_peers.add_port_ages.Given as goal
 abbrev pub invariant-loop-peer : goal.invariant-loop-peer
 invariant-loop-peer l =
     string_bytes l.text ≡ string_bytes l.initial.text ++ flat_map (λ peer. port_age_text l.name peer.port peer.good_ms)
-        (take l.peer-index l.peers)
+    (take l.peer-index l.peers)

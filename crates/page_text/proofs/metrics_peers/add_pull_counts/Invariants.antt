@@ -7,4 +7,4 @@ use Rattle.page_text.proofs.metrics_peers.add_pull_counts.Given as goal
 abbrev pub invariant-loop-peer : goal.invariant-loop-peer
 invariant-loop-peer l =
     string_bytes l.text ≡ string_bytes l.initial.text ++ flat_map (λ peer. port_sample l.name peer.port peer.pulls)
-        (take l.peer-index l.peers)
+    (take l.peer-index l.peers)
