@@ -12,6 +12,18 @@
 //! let gate = Gate::read(alloc, br#"{"bases":["https://r/"]}"#)?;
 //! let replica = Replica::new(alloc);
 //! let verdicts = evaluate(alloc, replica.state(), &gate)?;
+//! let facts = Facts {
+//!     site: 1,
+//!     start: 1,
+//!     age_ms: 0,
+//!     news_ms: None,
+//!     peers: Vec::new(alloc),
+//!     sessions: 0,
+//!     publishes: 0,
+//!     requests: 1,
+//!     refused_hosts: 0,
+//!     update_us: 0,
+//! };
 //! let page = page_of(alloc, &Route::Health, &gate, &replica, &verdicts, &facts)?;
 //! assert_eq!(rt; page.body.as_slice(), b"ok\n".as_slice());
 //! ```
