@@ -1,5 +1,5 @@
 -- Tokens and texts that are added one after another.
-use Rattle.std.proofs.Common.{◌≡◌, ◌∙◌, ◌+◌, ◌<◌, ℕ, List, [], ◌∷◌, ◌++◌, flat_map, length, take, get_or, refl, ap, sym, subst, append_assoc, append-nil}
+use Rattle.std.proofs.Common.{◌≡◌, ◌∙◌, ◌+◌, ◌<◌, ℕ, List, [], ◌∷◌, ◌++◌, flat_map, length, take, get_or, ap, sym, subst, append_assoc, append-nil}
 use Rattle.std.specs.Prelude.{decimal}
 use Rattle.std.proofs.lemmas.List.{take_more}
 use Rattle.std.proofs.lemmas.List.Concat.{flat_map-append}
@@ -7,9 +7,6 @@ use Rattle.json.specs.Print.{print}
 use Rattle.json.specs.Token.{Token, key, number, string}
 use Rattle.json.specs.Written.{Written}
 use Rattle.page_text.specs.Tokens.{Adds}
-
-pub adds_nothing : (a : Written) → Adds a a []
-adds_nothing a = record { before = refl; tokens = sym (append-nil a.tokens) }
 
 pub adds_then : {a b c : Written} {xs ys : List Token} → Adds a b xs → Adds b c ys → Adds a c (xs ++ ys)
 adds_then {a} {b} {c} {xs} {ys} p q = record {

@@ -1,5 +1,5 @@
 -- Approvals one after another.
-use Rattle.std.proofs.Common.{◌≡◌, ◌∙◌, ◌+◌, ◌-◌, ◌<◌, ℕ, zero, suc, List, [], ◌∷◌, ◌++◌, ap, sym, append_assoc, arith}
+use Rattle.std.proofs.Common.{◌≡◌, ◌∙◌, ◌+◌, ◌-◌, ◌<◌, ℕ, suc, List, [], ◌∷◌, ◌++◌, ap, sym, append_assoc, arith}
 use Rattle.gate_rules.specs.declared.condition.Side.{Side}
 use Rattle.page_text.specs.declared.held.Held.{Held}
 use Rattle.page_text.specs.declared.held.Held.TheVariants.{Approval}

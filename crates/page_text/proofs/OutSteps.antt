@@ -1,6 +1,6 @@
 -- Items that are left out.
-use Rattle.std.proofs.Common.{◌≡◌, ◌∙◌, ℕ, ◌+◌, zero, suc, List, [], ◌∷◌, ◌++◌, Contains, Option, None, Some, map}
-use Rattle.std.proofs.Common.{subst, sym, ap, refl, arith}
+use Rattle.std.proofs.Common.{◌≡◌, ℕ, ◌+◌, zero, suc, List, [], ◌∷◌, Contains, Option, None, Some, map}
+use Rattle.std.proofs.Common.{subst, sym, ap, arith}
 use Rattle.std.specs.Prelude.{MatchOption, IfSome, slice_get}
 use Rattle.std.specs.FinMap as finite
 use Rattle.std.proofs.lemmas.List.Elements.{Contains-append_left, Contains-append_right}
@@ -12,7 +12,6 @@ use Rattle.state_core.specs.Items.{IsCurrentItem}
 use Rattle.state_core.specs.declared.item.Item.{Item}
 use Rattle.ready_core.specs.declared.verdicts.Left.{Left}
 use Rattle.ready_core.specs.Verdicts.{Judged, items_out}
-use Rattle.page_text.specs.declared.rows.Row.{Row}
 use Rattle.page_text.specs.declared.rows.Row.TheVariants.{Enters, Waits}
 use Rattle.page_text.specs.Rows.{all_rows, entering}
 use Rattle.page_text.specs.Walk.{IsCurrentOut, IsLeftOf}

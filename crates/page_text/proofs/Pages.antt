@@ -1,5 +1,5 @@
 -- The pages of a list, and the report.
-use Rattle.std.proofs.Common.{◌≡◌, ◌∙◌, ◌+◌, ◌*◌, ◌-◌, ℕ, zero, suc, List, [], ◌∷◌, ◌++◌, Bool, true, false, Option, None, Some, map, flat_map, length, take, drop, refl, ap, sym, arith}
+use Rattle.std.proofs.Common.{◌≡◌, ◌∙◌, ◌+◌, ◌*◌, ◌-◌, ℕ, zero, suc, List, [], ◌∷◌, ◌++◌, Bool, true, None, map, flat_map, length, take, drop, refl, ap, sym, arith}
 use Rattle.std.specs.Prelude.{filter, ◌&&◌, string_bytes, option_map, if◌then◌else◌}
 use Rattle.std.proofs.Math.Seq.{take-add}
 use Rattle.std.proofs.lemmas.List.Concat.{flat_map-append}
@@ -7,9 +7,8 @@ use Rattle.std.proofs.lemmas.List.Folds.{flat_map-map}
 use Rattle.state_core.specs.State.{State}
 use Rattle.state_core.specs.declared.item.Item.{Item}
 use Rattle.ready_core.specs.Verdicts.{Judged}
-use Rattle.report_text.specs.Report.{end_line, out_line, ready_line, report_of}
+use Rattle.report_text.specs.Report.{end_line, ready_line, report_of}
 use Rattle.page_routes.specs.declared.route.Choice.{Choice}
-use Rattle.page_routes.specs.declared.route.Shown.{Shown}
 use Rattle.page_routes.specs.declared.route.Shown.TheVariants.{All}
 use Rattle.page_text.specs.declared.rows.Row.{Row}
 use Rattle.page_text.specs.declared.rows.Row.TheVariants.{Enters, Waits}

@@ -1,6 +1,6 @@
 -- Rows that are added one after another.
 use Rattle.std.proofs.Common.{◌≡◌, ◌∙◌, ◌+◌, ◌<◌, ℕ, List, [], ◌∷◌, ◌++◌, Bool, true, false, length, take, drop, get_or}
-use Rattle.std.proofs.Common.{refl, ap, sym, append_assoc, append-nil, arith}
+use Rattle.std.proofs.Common.{refl, ap, sym, append_assoc, arith}
 use Rattle.std.specs.Prelude.{filter, if◌then◌else◌, ◌≤◌}
 use Rattle.std.proofs.Math.Seq.{drop-cons}
 use Rattle.std.proofs.Common.{suc, zero}

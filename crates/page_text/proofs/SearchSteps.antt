@@ -1,7 +1,7 @@
 -- Words in a text, byte by byte.
-use Rattle.std.proofs.Common.{◌≡◌, ◌∙◌, ◌+◌, ◌<◌, ◌≤◌, ℕ, List, [], ◌∷◌, Bool, true, false, length, map, take, drop}
-use Rattle.std.proofs.Common.{get_or, refl, ap, sym, add-one, suc, arith, length-drop, subst}
-use Rattle.std.specs.Prelude.{◌||◌, ◌↔◌, ◌-◌, IsTrue, bytes_eq}
+use Rattle.std.proofs.Common.{◌≡◌, ◌∙◌, ◌+◌, ◌<◌, ℕ, List, ◌∷◌, Bool, false, length, map, take, drop}
+use Rattle.std.proofs.Common.{get_or, ap, sym, suc, arith, length-drop, subst}
+use Rattle.std.specs.Prelude.{◌||◌, ◌↔◌, ◌-◌, IsTrue}
 use Rattle.std.specs.Bool.{Decides}
 use Rattle.std.specs.Char.{to_ascii_lowercase}
 use Rattle.std.proofs.Math.Seq.{drop-cons}

@@ -1,11 +1,11 @@
 -- Walks that grow at their end.
-use Rattle.std.proofs.Common.{◌≡◌, ◌∙◌, List, [], ◌∷◌, ◌++◌, refl, ap, subst, sym, Some}
+use Rattle.std.proofs.Common.{◌≡◌, ◌∙◌, List, [], ◌∷◌, ◌++◌, refl}
 use Rattle.std.specs.Prelude.{slice_get}
 use Rattle.state_core.specs.State.{State}
 use Rattle.ready_core.specs.Verdicts.{Judged}
 use Rattle.ready_core.specs.declared.verdicts.Left.{Left}
 use Rattle.why_text.specs.Chain.{Path, WaitsFor}
-use Rattle.page_text.specs.Walk.{IsEndOfWalk, IsWalk}
+use Rattle.page_text.specs.Walk.{IsWalk}
 
 Path-push : {X : Type 0} (R : X → X → Type 0) (xs : List X) (x y : X) → Path R (xs ++ x ∷ []) → R x y
     → Path R ((xs ++ x ∷ []) ++ y ∷ [])
@@ -17,10 +17,6 @@ first-push : {X : Type 0} (xs : List X) (x y : X)
     → slice_get ((xs ++ x ∷ []) ++ y ∷ []) 0 ≡ slice_get (xs ++ x ∷ []) 0
 first-push [] x y = refl
 first-push (a ∷ xs) x y = refl
-
--- the walk of one item
-pub walk_begun : (state : State) (verdicts : Judged) (first : Left) → IsWalk state verdicts first (first ∷ [])
-walk_begun state verdicts first = record { begins = refl; path = tt }
 
 -- a walk goes on to an item that its last one waits for
 pub walk_on : (state : State) (verdicts : Judged) (first last next : Left) (waiting : List Left)

@@ -5,7 +5,7 @@ use Rattle.state_core.specs.State.{State}
 use Rattle.page_text.specs.declared.rows.Row.{Row}
 use Rattle.page_text.specs.Table.{AddsRow, AddsRows, AreRows, about_html, front_html, place_html}
 use Rattle.page_text.specs.Rows.{item_of}
-use Rattle.page_text.proofs.Adding.{then2, then3}
+use Rattle.page_text.proofs.Adding.{then2}
 
 -- a row that was added in three parts
 pub row_added : (state : State) (row : Row) (a b c d more : List ℕ) → b ≡ a ++ place_html row
@@ -14,9 +14,6 @@ row_added state row a b c d more p q r = record {
   more = more;
   is = then2 a c d (front_html state row) more (then2 a b c (place_html row) (about_html state (item_of row)) p q) r;
 }
-
-pub no_rows_added : (state : State) (a : List ℕ) → AddsRows state [] a a
-no_rows_added state a = record { table = []; is = sym (append-nil a); each = refl }
 
 are_more : (state : State) (rows : List Row) (row : Row) (html more : List ℕ) → AreRows state rows html
     → AreRows state (rows ++ row ∷ []) (html ++ (front_html state row ++ more))

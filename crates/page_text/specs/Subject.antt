@@ -1,5 +1,5 @@
 -- The subject of an item (Gerrit, "Changes": the subject of a change is the first line of its commit message).
-use Rattle.std.specs.Prelude.{ℕ, List, [], Option, None, Some, ◌==◌, option_and_then, unwrap_or, option_map}
+use Rattle.std.specs.Prelude.{ℕ, List, [], ◌==◌, option_and_then, unwrap_or, option_map}
 use Rattle.std.specs.List.{before_first}
 use Rattle.std.specs.FinMap as finite
 use Rattle.change_core.specs.Views.{message_of}

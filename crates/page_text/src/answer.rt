@@ -1,6 +1,6 @@
 //! What is answered to a route.
 
-ghost use Rattle.std.specs.Prelude.{◌≡◌, IfOk, length};
+ghost use Rattle.std.specs.Prelude.{IfOk, length};
 ghost use Rattle.std.specs.List.Sorted.{IsStrictlySortedBy};
 ghost use Rattle.json.specs.Print.{print};
 ghost use Rattle.state_core.specs.Items.{item_cmp};

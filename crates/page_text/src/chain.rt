@@ -1,6 +1,6 @@
 //! From an item that waits down to the cause.
 
-ghost use Rattle.std.specs.Prelude.{◌≡◌, Contains, IfOk, IfSome, MatchOption};
+ghost use Rattle.std.specs.Prelude.{Contains, IfOk, IfSome, MatchOption};
 ghost use Rattle.std.specs.List.Sorted.{IsStrictlySortedBy};
 ghost use Rattle.state_core.specs.Items.{item_cmp};
 ghost use Rattle.ready_core.specs.Verdicts.{items_out};

@@ -1,6 +1,5 @@
 //! A change, as JSON.
 
-ghost use Rattle.std.specs.Prelude.{◌≡◌, IfOk, OnOk, flat_map};
 ghost use Rattle.std.specs.List.Sorted.{IsStrictlySortedBy};
 ghost use Rattle.state_core.specs.Items.{item_cmp};
 ghost use Rattle.ready_core.specs.Verdicts.{items_out};

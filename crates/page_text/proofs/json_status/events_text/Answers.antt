@@ -1,4 +1,4 @@
-use Rattle.std.proofs.Common.{◌≡◌, ◌∙◌, ap, append_assoc, string_bytes}
+use Rattle.std.proofs.Common.{◌≡◌, ap, append_assoc, string_bytes}
 use Rattle.page_text.proofs.json_status.events_text.Goals as goal
 
 pub returns : goal.returns

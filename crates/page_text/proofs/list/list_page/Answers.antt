@@ -1,5 +1,5 @@
-use Rattle.std.proofs.Common.{◌≡◌, ◌++◌, ◌∙◌, List, ap, append_assoc, codes, subst, sym}
-use Rattle.state_core.specs.State.{State, state_of}
+use Rattle.std.proofs.Common.{◌++◌, ◌∙◌, List, ap, append_assoc, codes, subst}
+use Rattle.state_core.specs.State.{state_of}
 use Rattle.page_text.specs.Rows.{chosen_rows, rows_on}
 use Rattle.page_text.specs.declared.rows.Row.{Row}
 use Rattle.page_text.specs.Table.{AddsRows}

@@ -1,4 +1,4 @@
-use Rattle.std.proofs.Common.{◌≡◌, ◌++◌, ◌∙◌, ap, codes, string_bytes}
+use Rattle.std.proofs.Common.{◌++◌, ◌∙◌, ap, codes, string_bytes}
 use Rattle.page_text.specs.Held.{held_words}
 use Rattle.page_text.specs.Samples.{labelled}
 use Rattle.page_text.proofs.metrics.add_held_by.Goals as goal

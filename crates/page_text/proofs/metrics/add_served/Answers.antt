@@ -1,5 +1,4 @@
-use Rattle.std.proofs.Common.{codes, decimal, flat_map, length, string_bytes}
-use Rattle.page_text.specs.Metrics as metrics
+use Rattle.std.proofs.Common.{codes, string_bytes}
 use Rattle.page_text.specs.Samples as samples
 use Rattle.page_text.proofs.Adding.{then4}
 use Rattle.page_text.proofs.metrics.add_served.Goals as goal

@@ -1,5 +1,4 @@
-use Rattle.std.proofs.Common.{codes, flat_map, string_bytes}
-use Rattle.page_text.specs.Metrics as metrics
+use Rattle.std.proofs.Common.{codes, string_bytes}
 use Rattle.page_text.specs.Samples as samples
 use Rattle.page_text.proofs.Adding.{then2}
 use Rattle.page_text.proofs.metrics.add_update.Goals as goal

@@ -1,6 +1,5 @@
-use Rattle.std.proofs.Common.{codes, flat_map, string_bytes}
+use Rattle.std.proofs.Common.{string_bytes}
 use Rattle.page_text.specs.Metrics as metrics
-use Rattle.page_text.specs.Samples as samples
 use Rattle.page_text.proofs.Adding.{then2, then4}
 use Rattle.std.proofs.Common.{◌++◌, ◌∙◌, ap, length}
 use Rattle.state_core.specs.State.{state_of}

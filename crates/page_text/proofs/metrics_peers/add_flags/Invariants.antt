@@ -1,5 +1,5 @@
 use Rattle.std.proofs.Common.{◌≡◌, ◌++◌, flat_map, string_bytes, take}
-use Rattle.page_text.specs.Metrics.{flag, port_age_text}
+use Rattle.page_text.specs.Metrics.{flag}
 use Rattle.page_text.specs.Samples.{port_sample}
 use Rattle.page_text.proofs.metrics_peers.add_flags.Given as goal
 

@@ -1,6 +1,5 @@
-use Rattle.std.proofs.Common.{codes, decimal, flat_map, length, string_bytes}
+use Rattle.std.proofs.Common.{string_bytes}
 use Rattle.page_text.specs.Metrics as metrics
-use Rattle.page_text.specs.Samples as samples
 use Rattle.page_text.proofs.Adding.{then4}
 use Rattle.page_text.proofs.metrics_peers.add_peers.Goals as goal
 

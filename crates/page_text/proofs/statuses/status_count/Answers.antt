@@ -1,4 +1,4 @@
-use Rattle.std.proofs.Common.{◌≡◌, ◌∙◌, ap, sym}
+use Rattle.std.proofs.Common.{◌∙◌}
 use Rattle.page_text.proofs.Counting.{counted_so}
 use Rattle.page_text.proofs.statuses.status_count.Goals as goal
 

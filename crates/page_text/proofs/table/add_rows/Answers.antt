@@ -1,4 +1,4 @@
-use Rattle.page_text.proofs.TableRows.{no_rows_added, rows_more}
+use Rattle.page_text.proofs.TableRows.{rows_more}
 use Rattle.page_text.proofs.table.add_rows.Goals as goal
 
 pub loop-row-preserved : goal.loop-row-preserved
