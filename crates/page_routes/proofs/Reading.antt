@@ -1,8 +1,7 @@
 -- What is read of numbers and places: a text that isn't read as one names none.
-use Rattle.std.proofs.Common.{◌≡◌, ◌≢◌, ◌<◌, ◌≤◌, ◌^◌, ◌+◌, ◌++◌, ◌==◌, ◌∷◌, ◌⊎◌, [], ℕ, Bool, true, false, List, Option, None, Some, Result, Ok, length, take, drop, get_or, IfSome, sym, ◌∙◌, ap, subst, refl, arith, rules, lit<, length-append, append_assoc, inl, inr}
+use Rattle.std.proofs.Common.{◌≡◌, ◌≢◌, ◌<◌, ◌^◌, ◌∷◌, [], ℕ, true, List, Result, Ok, sym, ◌∙◌, refl, arith, lit<, inl, inr}
 use Rattle.std.specs.Fmt.{decimal}
 use Rattle.std.specs.Str.{bytes_eq}
-use Rattle.std.specs.List.{position_or_len, before_first, after_first}
 use Rattle.std.specs.Str.Parse.{ParsesUnsigned}
 use Rattle.std.proofs.lemmas.Fmt.{parse-decimal, decimal_injective}
 use Rattle.page_routes.specs.Numbers.{IsNumber}
@@ -18,12 +17,12 @@ is_read text read number parses is =
 -- 0 is no page
 pub no_page : (text : List ℕ) → text ≢ [] → text ≡ decimal 0 → (page : ℕ) → ¬ IsPageNumber text page
 no_page text some zero page is = elim is [
-    inl number ↦
-        let small : page < 2 ^ 64 = omega (arith, number.0) in
-        let same : 0 ≡ page = decimal_injective 0 page (lit< tt) small (sym zero ∙ number.0.1) in
-        omega (arith, same, number.1)
+  | inl number ↦
+      let small : page < 2 ^ 64 = omega (arith, number.0) in
+      let same : 0 ≡ page = decimal_injective 0 page (lit< tt) small (sym zero ∙ number.0.1) in
+      omega (arith, same, number.1)
   | inr none ↦ absurd (some none.0)
-  ]
+]
 
 -- the first pair has the name
 pub first_found : (name key value : List ℕ) (pairs rest : List (List ℕ × List ℕ)) → pairs ≡ (key, value) ∷ rest

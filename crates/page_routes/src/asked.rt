@@ -1,13 +1,13 @@
 //! Which request asks for what.
 
-ghost use Rattle.std.specs.Prelude.{◌≡◌, IfOk, ℕ, List, Option, MatchOption};
+ghost use Rattle.std.specs.Prelude.{◌≡◌, ◌≢◌, ◌++◌, IfOk, ℕ, List, MatchOption, option_map};
 ghost use Rattle.std.specs.Option.{option_copied};
 ghost use Rattle.page_routes.specs.Numbers.{Finds};
 ghost use Rattle.page_routes.specs.Routes.{IsPlace, IsPlain, IsRoute};
 
 use super::choice::choice_of;
 use super::number::{is_text, number_of};
-use super::route::{Place, Route};
+use super::route::{Choice, Place, Route};
 use std::alloc::{AllocError, Global};
 
 /// What a request with this path and this query, without the `?`, asks for; nothing where there is no such page, which
@@ -38,18 +38,39 @@ pub fn route_of(alloc: Global, path: &str, query: Option<&str>) -> Result<Option
     ensures { IfOk result (Finds (IsRoute path.now (option_copied query.entry))) }
 {
     if is_text(path, "/") {
-        return Ok(choice_of(alloc, query)?.map(Route::List));
+        return Ok(listed(choice_of(alloc, query)?));
     }
     if is_text(path, "/api/v1/items") {
-        return Ok(choice_of(alloc, query)?.map(Route::Items));
+        return Ok(items(choice_of(alloc, query)?));
     }
-    if let Some(place) = path.strip_prefix("/change/") {
+    if let Some(place) = after(path, "/change/") {
         return Ok(place_of(place).map(Route::Change));
     }
-    if let Some(place) = path.strip_prefix("/api/v1/changes/") {
+    if let Some(place) = after(path, "/api/v1/changes/") {
         return Ok(place_of(place).map(Route::ChangeData));
     }
     Ok(plain_route(path))
+}
+
+/// The page of these items.
+fn listed(choice: Option<Choice>) -> Option<Route>
+    ensures { result ≡ option_map Route.List choice }
+{
+    choice.map(Route::List)
+}
+
+/// The data of these items.
+fn items(choice: Option<Choice>) -> Option<Route>
+    ensures { result ≡ option_map Route.Items choice }
+{
+    choice.map(Route::Items)
+}
+
+/// What a path says after its first part.
+fn after<'a>(path: &'a str, front: &str) -> Option<&'a str>
+    ensures { MatchOption result ((rest : List ℕ) → path.now ≢ front.now ++ rest) (λ rest. path.now ≡ front.now ++ rest.now) }
+{
+    path.strip_prefix(front)
 }
 
 /// The route of a path that says all of it.

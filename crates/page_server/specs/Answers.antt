@@ -41,6 +41,11 @@ IsRefusal refusal for_programs date =
 abbrev pub is_for_programs : Parts → Bool
 is_for_programs head = starts_with (uri_path head.uri) (codes "/api/")
 
+-- the response is 503, with its text unless there is no memory even for that
+abbrev pub IsFailure : Bool → Option FieldValue → Response → Type 0
+IsFailure for_programs date response =
+    IsRefusal NoMemory for_programs date response ⊎ IsResponse 503 [] [] response
+
 -- who makes the pages: which page answers a route, and what a refused host leaves
 module _ {P : Type 0} (pages : P → Route → Page → P → Type 0) (refuses : P → P → Type 0) where
   -- what a refusal leaves: only one for another host is noted
@@ -51,30 +56,25 @@ module _ {P : Type 0} (pages : P → Route → Page → P → Type 0) (refuses :
   Leaves NoPage old new = new ≡ old
   Leaves NoMemory old new = new ≡ old
 
+  -- a page that is there is sent, or what could be made of it wasn't to be sent, or it couldn't be made
+  abbrev pub Shows : Option FieldValue → P → Route → Bool → Response → P → Type 0
+  Shows date old route for_programs response new =
+      ((page : Page) × pages old route page new
+          × (IsPage page date response ⊎ IsFailure for_programs date response))
+      ⊎ ((new ≡ old) × IsFailure for_programs date response)
+
   -- the request asks for no page, and is answered why
   abbrev pub Refuses : List (List ℕ) → Option FieldValue → P → Parts → Response → P → Type 0
   Refuses hosts date old head response new =
       (refusal : Refusal) × IsAsked hosts head (asked.Refused refusal)
       × IsRefusal refusal (is_for_programs head) date response × Leaves refusal old new
 
-  -- the request asks for a page, and is answered by it
-  abbrev pub Sends : List (List ℕ) → Option FieldValue → P → Parts → Response → P → Type 0
-  Sends hosts date old head response new =
-      (route : Route) × (page : Page) × IsAsked hosts head (asked.Page route) × pages old route page new
-      × IsPage page date response
-
-  -- the response is 503, with its text unless there is no memory even for that
-  abbrev pub IsFailure : Bool → Option FieldValue → Response → Type 0
-  IsFailure for_programs date response =
-      IsRefusal NoMemory for_programs date response ⊎ IsResponse 503 [] [] response
-
-  -- the request asks for a page, for which there was no memory: nothing has changed, or the page was made
-  abbrev pub Fails : List (List ℕ) → Option FieldValue → P → Parts → Response → P → Type 0
-  Fails hosts date old head response new =
-      (route : Route) × IsAsked hosts head (asked.Page route) × IsFailure (is_for_programs head) date response
-      × ((new ≡ old) ⊎ ((page : Page) × pages old route page new))
+  -- the request asks for a page: that is sent, or 503
+  abbrev pub Answers : List (List ℕ) → Option FieldValue → P → Parts → Response → P → Type 0
+  Answers hosts date old head response new =
+      (route : Route) × IsAsked hosts head (asked.Page route)
+      × Shows date old route (is_for_programs head) response new
 
   abbrev pub IsAnswered : List (List ℕ) → Option FieldValue → P → Parts → Response → P → Type 0
   IsAnswered hosts date old head response new =
-      Refuses hosts date old head response new ⊎ Sends hosts date old head response new
-      ⊎ Fails hosts date old head response new
+      Refuses hosts date old head response new ⊎ Answers hosts date old head response new

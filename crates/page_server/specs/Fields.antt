@@ -19,7 +19,9 @@ kind_text Plain = codes "text/plain; charset=utf-8"
 
 -- where the parts of a page may come from: this server alone
 abbrev pub policy : List ℕ
-policy = codes "default-src 'none'; style-src 'self'; script-src 'self'; connect-src 'self'; img-src 'self'; form-action 'self'; base-uri 'none'; frame-ancestors 'none'"
+policy =
+    codes "default-src 'none'; style-src 'self'; script-src 'self'; connect-src 'self'; img-src 'self'; "
+    ++ codes "form-action 'self'; base-uri 'none'; frame-ancestors 'none'"
 
 -- a browser keeps the page from others, and doesn't keep it itself
 abbrev pub guard_fields : List Header
