@@ -1,5 +1,6 @@
 -- How a request is answered.
-use Rattle.std.specs.Prelude.{◌≡◌, ◌⊎◌, ℕ, Bool, true, false, List, [], ◌∷◌, ◌++◌, Option, codes, map, string_bytes, starts_with, if◌then◌else◌}
+use Rattle.std.specs.Prelude.{◌≡◌, ◌⊎◌, ℕ, Bool, List, [], ◌∷◌, ◌++◌, Option, codes, take}
+use Rattle.std.specs.Str.{bytes_eq}
 use Rattle.http_header.specs.FieldValue.{FieldValue}
 use Rattle.http_uri.specs.Uri.{uri_path}
 use Rattle.http.specs.declared.request.Parts.{Parts}
@@ -39,7 +40,7 @@ IsRefusal refusal for_programs date =
 
 -- whether the request is one of a program
 abbrev pub is_for_programs : Parts → Bool
-is_for_programs head = starts_with (uri_path head.uri) (codes "/api/")
+is_for_programs head = bytes_eq (codes "/api/") (take 5 (uri_path head.uri))
 
 -- the response is 503, with its text unless there is no memory even for that
 abbrev pub IsFailure : Bool → Option FieldValue → Response → Type 0
@@ -60,7 +61,7 @@ module _ {P : Type 0} (pages : P → Route → Page → P → Type 0) (refuses :
   abbrev pub Shows : Option FieldValue → P → Route → Bool → Response → P → Type 0
   Shows date old route for_programs response new =
       ((page : Page) × pages old route page new
-          × (IsPage page date response ⊎ IsFailure for_programs date response))
+      × (IsPage page date response ⊎ IsFailure for_programs date response))
       ⊎ ((new ≡ old) × IsFailure for_programs date response)
 
   -- the request asks for no page, and is answered why

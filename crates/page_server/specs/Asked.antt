@@ -31,17 +31,17 @@ is_own_target hosts uri = option_map_or (is_own hosts) (uri_authority uri) true
 abbrev pub is_read : List ℕ → Bool
 is_read method = bytes_eq method (codes "GET") || bytes_eq method (codes "HEAD")
 
+-- a host and a target are both of this machine or of these hosts
+abbrev pub are_own : List (List ℕ) → List ℕ → Uri → Bool
+are_own hosts host uri = is_own hosts host && is_own_target hosts uri
+
 -- the request names one host, which is this machine or one of these, and so is that of its target
 abbrev pub IsOwn : List (List ℕ) → Parts → Type 0
-IsOwn hosts head =
-    (host : List ℕ) × (host_field head.headers ≡ Some host) × (is_own hosts host ≡ true)
-    × (is_own_target hosts head.uri ≡ true)
+IsOwn hosts head = (host : List ℕ) × (host_field head.headers ≡ Some host) × (are_own hosts host head.uri ≡ true)
 
 -- the request names one host, and that or its target's isn't this machine or one of these
 abbrev pub IsOthers : List (List ℕ) → Parts → Type 0
-IsOthers hosts head =
-    (host : List ℕ) × (host_field head.headers ≡ Some host)
-    × (is_own hosts host && is_own_target hosts head.uri ≡ false)
+IsOthers hosts head = (host : List ℕ) × (host_field head.headers ≡ Some host) × (are_own hosts host head.uri ≡ false)
 
 -- the route is what the target names
 abbrev pub IsTarget : Parts → Route → Type 0

@@ -1,11 +1,11 @@
 //! What a request asks for.
 
-ghost use Rattle.std.specs.Prelude.{◌≡◌, IfOk, map, string_bytes};
+ghost use Rattle.std.specs.Prelude.{◌≡◌, IfErr, IfOk, OnOk, map, string_bytes};
 ghost use Rattle.std.specs.Option.{option_copied};
 ghost use Rattle.http.specs.Request.{head_of};
 ghost use Rattle.page_routes.specs.Numbers.{Finds};
 ghost use Rattle.page_routes.specs.Routes.{IsRoute};
-ghost use Rattle.page_server.specs.Asked.{IsAsked, host_field, is_own_target, is_read};
+ghost use Rattle.page_server.specs.Asked.{IsAsked, IsOwn, are_own, host_field, is_own_target, is_read};
 
 use super::hosts::is_own;
 use super::refusal::Refusal;
@@ -28,14 +28,15 @@ pub enum Asked {
 /// these, and so has the target's host where that is in absolute form: else it is refused by 400 and 421. Then its
 /// method has to be `GET` or `HEAD`, else it is refused by 405; and its target has to name a page, else by 404. Its body
 /// doesn't matter.
-pub fn asked_for(alloc: Global, hosts: &[String], request: &Request<Bytes>) -> Result<Asked, AllocError>
+pub fn asked_for(
+    alloc: Global,
+    hosts: &[String],
+    request: &Request<Bytes>,
+) -> Result<Asked, AllocError>
     ensures { IfOk result (IsAsked (map string_bytes hosts.now) (head_of request.now)) }
 {
-    let Some(host) = host_field(request.headers()) else {
-        return Ok(Asked::Refused(Refusal::NoHost));
-    };
-    if !is_own(hosts, host) || !is_own_target(hosts, request.uri()) {
-        return Ok(Asked::Refused(Refusal::OtherHost));
+    if let Err(refusal) = trust(hosts, request) {
+        return Ok(Asked::Refused(refusal));
     }
     if !is_read(request.method()) {
         return Ok(Asked::Refused(Refusal::OtherMethod));
@@ -45,6 +46,29 @@ pub fn asked_for(alloc: Global, hosts: &[String], request: &Request<Bytes>) -> R
         Some(route) => Ok(Asked::Page(route)),
         None => Ok(Asked::Refused(Refusal::NoPage)),
     }
+}
+
+/// Refuses a request that doesn't name one host, or names another host than this machine or these.
+fn trust(hosts: &[String], request: &Request<Bytes>) -> Result<(), Refusal>
+    ensures own { OnOk result (IsOwn (map string_bytes hosts.now) (head_of request.now)) }
+    ensures others { IfErr result
+        (λ refusal. IsAsked (map string_bytes hosts.now) (head_of request.now) (Asked.Refused refusal)) }
+{
+    let Some(host) = host_field(request.headers()) else {
+        return Err(Refusal::NoHost);
+    };
+    if are_own(hosts, host, request.uri()) {
+        Ok(())
+    } else {
+        Err(Refusal::OtherHost)
+    }
+}
+
+/// Whether a host and a target are both of this machine or of these hosts.
+fn are_own(hosts: &[String], host: &[u8], uri: &Uri) -> bool
+    ensures { result ≡ are_own (map string_bytes hosts.now) host.now uri.now }
+{
+    is_own(hosts, host) && is_own_target(hosts, uri)
 }
 
 /// The value of the field `Host`, if there is just one.

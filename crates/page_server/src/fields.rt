@@ -2,7 +2,7 @@
 
 ghost use Rattle.std.specs.Prelude.{◌≡◌, ◌∷◌, ◌++◌, [], IsTrue, OnOk};
 ghost use Rattle.http_header.specs.FieldValue.{is_visible_text};
-ghost use Rattle.http_header.specs.HeaderName.{is_header_name};
+ghost use Rattle.http_header.specs.FieldName.{is_header_name};
 ghost use Rattle.http_server.specs.Response.{fields_of};
 ghost use Rattle.page_server.specs.Fields.{date_fields, guard_fields, kind_text, response_fields};
 
@@ -36,11 +36,13 @@ fn add_guards(response: &mut Response) -> Result<(), AllocError>
     add(response, "x-content-type-options", "nosniff")?;
     add(response, "referrer-policy", "no-referrer")?;
     add(response, "cross-origin-resource-policy", "same-origin")?;
-    add(response, "content-security-policy", POLICY)
+    add(response, "content-security-policy", POLICY)?;
+    Ok(())
 }
 
 /// Where the parts of a page may come from (Content Security Policy).
-const POLICY: &str = "default-src 'none'; style-src 'self'; script-src 'self'; connect-src 'self'; img-src 'self'; \
+const POLICY: &str =
+    "default-src 'none'; style-src 'self'; script-src 'self'; connect-src 'self'; img-src 'self'; \
     form-action 'self'; base-uri 'none'; frame-ancestors 'none'";
 
 /// Adds a field.
@@ -55,7 +57,10 @@ pub(crate) fn add(
     ensures status { response.new.status ≡ response.old.status }
     ensures body { response.new.body ≡ response.old.body }
 {
-    response.add_header(HeaderName::from_static(name), HeaderValue::from_static(value))
+    response.add_header(
+        HeaderName::from_static(name),
+        HeaderValue::from_static(value),
+    )
 }
 
 /// Adds the date, where it is known.

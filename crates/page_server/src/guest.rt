@@ -182,8 +182,5 @@ fn is_interrupted(error: &io::Error) -> bool {
 
 /// Whether a call has to wait, or was interrupted.
 fn is_waiting(error: &io::Error) -> bool {
-    matches!(
-        error.kind(),
-        ErrorKind::WouldBlock | ErrorKind::Interrupted
-    )
+    matches!(error.kind(), ErrorKind::WouldBlock | ErrorKind::Interrupted)
 }

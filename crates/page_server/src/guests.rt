@@ -14,14 +14,14 @@ pub(crate) const MOST: usize = 200;
 #[derive(Drop)]
 pub(crate) struct Guests {
     places: Vec<Option<Guest>>,
-    ghost few: { vec_len places ≤ MOST },
+    ghost few: { vec_len places ≤ 200 },
 }
 
 impl Guests {
     /// No connection is open.
     pub(crate) fn new(alloc: Global) -> Result<Guests, AllocError> {
         let mut places = Vec::with_capacity(alloc, MOST)?;
-        for _ in 0..MOST {
+        for _count in 0..MOST {
             places.push(None)?;
         }
         Ok(Guests { places })
@@ -29,8 +29,8 @@ impl Guests {
 
     /// Notes that the socket at a place has something to read, or takes more.
     pub(crate) fn note_ready(&mut self, place: usize) {
-        if let Some(Some(guest)) = self.places.get_mut(place) {
-            guest.note_ready();
+        if let Some(seat) = self.places.get_mut(place) {
+            note_ready(seat);
         }
     }
 
@@ -76,6 +76,13 @@ impl Guests {
         if let Some(seat) = self.places.get_mut(place) {
             *seat = Some(guest);
         }
+    }
+}
+
+/// Notes that the socket at a place has something to read, or takes more.
+fn note_ready(place: &mut Option<Guest>) {
+    if let Some(guest) = place {
+        guest.note_ready();
     }
 }
 

@@ -73,8 +73,7 @@ impl Refusal {
     }
 }
 
-const BAD_REQUEST: &[u8] =
-    b"{\"type\":\"about:blank\",\"title\":\"Bad Request\",\"status\":400}\n";
+const BAD_REQUEST: &[u8] = b"{\"type\":\"about:blank\",\"title\":\"Bad Request\",\"status\":400}\n";
 
 const MISDIRECTED: &[u8] =
     b"{\"type\":\"about:blank\",\"title\":\"Misdirected Request\",\"status\":421}\n";

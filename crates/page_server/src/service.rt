@@ -57,7 +57,7 @@ impl<P: Pages> Service for PageService<'_, P> {
 fn is_for_programs(request: &Request<Bytes>) -> bool
     ensures { result ≡ is_for_programs (head_of request.now) }
 {
-    request.uri().path().starts_with("/api/")
+    request.uri().path().as_bytes().starts_with(b"/api/")
 }
 
 impl<P: Pages> PageService<'_, P> {
@@ -70,7 +70,7 @@ impl<P: Pages> PageService<'_, P> {
     /// Answers by a page, or by 503 where memory is refused.
     fn show(&mut self, route: &Route, for_programs: bool, response: &mut Response)
         requires { IsBlank response.old }
-        ensures shows { Shows P.pages self.old.date self.old.pages route.now for_programs response.new self.new.pages }
+        ensures shows { Shows P.pages P.refuses self.old.date self.old.pages route.now for_programs response.new self.new.pages }
         ensures hosts { self.new.hosts ≡ self.old.hosts }
         ensures date { self.new.date ≡ self.old.date }
     {
