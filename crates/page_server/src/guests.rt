@@ -1,6 +1,6 @@
 //! The connections that are open, each at its place.
 
-ghost use Rattle.std.specs.Prelude.{◌≡◌, ◌≤◌, ◌<◌, ℕ, IfOk, IfSome, length, vec_len};
+ghost use Rattle.std.specs.Prelude.{◌≡◌, ◌<◌, Some, slice_set, vec_len};
 
 use super::guest::Guest;
 use http_server::Service;
@@ -10,11 +10,11 @@ use std::time::Duration;
 /// How many connections may be open at once.
 pub(crate) const MOST: usize = 200;
 
-/// The connections that are open, each at its place, of which there are at most 200.
+/// The connections that are open, each at its place, of which there are 200.
 #[derive(Drop)]
 pub(crate) struct Guests {
     places: Vec<Option<Guest>>,
-    ghost few: { vec_len places ≤ 200 },
+    ghost few: { vec_len places ≡ 200 },
 }
 
 impl Guests {
@@ -58,7 +58,9 @@ impl Guests {
     }
 
     /// A place for a new connection: a free one, or else that of the connection that has been silent longest.
-    pub(crate) fn place(&self) -> usize {
+    pub(crate) fn place(&self) -> usize
+        ensures { result < 200 }
+    {
         let mut best = 0;
         let mut since = Duration::MAX;
         for (at, place) in self.places.iter().enumerate() {
@@ -71,11 +73,12 @@ impl Guests {
         best
     }
 
-    /// Puts a connection at a place. What was there is closed.
-    pub(crate) fn seat(&mut self, place: usize, guest: Guest) {
-        if let Some(seat) = self.places.get_mut(place) {
-            *seat = Some(guest);
-        }
+    /// Puts a connection at a place, which is below 200. What was there is closed, and the others stay.
+    pub(crate) fn seat(&mut self, place: usize, guest: Guest)
+        requires { place < 200 }
+        ensures { self.new.places.items ≡ slice_set self.old.places.items place (Some guest) }
+    {
+        self.places[place] = Some(guest);
     }
 }
 

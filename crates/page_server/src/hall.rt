@@ -101,10 +101,10 @@ impl Hall {
     ) {
         self.wait(rt, stop);
         self.note_time(rt, service);
-        self.guests.close(self.now);
         self.accept();
         self.guests
             .work(service, self.scratch.as_mut_slice(), self.now);
+        self.guests.close(self.now);
     }
 
     /// Waits until there is something to do, for a second at most.
