@@ -1,6 +1,6 @@
 //! Where the connections come in.
 
-ghost use Rattle.http_server.specs.declared.state.Config.{Config};
+ghost use Rattle.std.specs.Prelude.{◌≡◌};
 
 use http_server::Config;
 use http1::Limits;
@@ -58,7 +58,11 @@ pub fn open_door<R: Net + RandomSource>(
 
 /// The limits of a connection: a head of 8,192 bytes (414 where a request line is longer, else 431), a body of 1,024
 /// bytes (413), and 65,536 bytes of answers that wait before the next request is read.
-pub fn limits() -> Config {
+pub fn limits() -> Config
+    ensures head { result.limits.max_head_len ≡ 8192 }
+    ensures body { result.max_body_len ≡ 1024 }
+    ensures pending { result.max_pending ≡ 65536 }
+{
     Config {
         limits: Limits {
             max_head_len: 8_192,

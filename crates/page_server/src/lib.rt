@@ -5,16 +5,20 @@
 //! It is a crate of its own so that what is answered is proved apart from sockets: `PageService` is a service of
 //! `http_server`, over requests and responses as values, and `serve_pages` only moves bytes. Not taken: a thread for
 //! each connection, which would need a lock around the pages; `hyper`, whose futures would need an executor; TLS and
-//! passwords, since only this machine is served.
+//! passwords, since only this machine is served; entity tags, since the style and the script are short and every page
+//! is made anew; streams of events, since a whole answer that says when to ask again does.
+//!
+//! A site gives its pages by `Pages`, opens a door over a listener, and serves there in a thread of its own until it is
+//! asked to stop.
 //!
 //! An example of its use:
 //!
 //! ```
-//! let mut service = PageService { alloc, hosts: &[], date: None, pages };
-//! let mut connection = Connection::new(alloc, RandomState::new(&rt)?, limits());
-//! connection.read_from(&mut b"GET /healthz HTTP/1.1\r\nHost: localhost\r\n\r\n".as_slice())?;
-//! connection.advance(&mut service);
-//! assert!(rt; connection.output().starts_with(b"HTTP/1.1 200 OK\r\n"));
+//! let hosts = [String::from_str(alloc, "gate.example.org")?];
+//! assert!(rt; is_own(hosts.as_slice(), b"Gate.Example.org:8443"));
+//! assert!(rt; is_own(hosts.as_slice(), b"127.0.0.1"));
+//! assert!(rt; !is_own(hosts.as_slice(), b"127.0.0.1.example.org"));
+//! assert_eq!(rt; Refusal::OtherHost.text(false), b"421 Misdirected Request\n".as_slice());
 //! ```
 #![tactic(auto)]
 

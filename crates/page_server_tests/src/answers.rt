@@ -2,7 +2,7 @@
 
 use super::shelf::Shelf;
 use http_server::{Connection, State};
-use page_server::{PageService, limits};
+use page_server::{PageService, Refusal, is_own, limits};
 use std::alloc::Global;
 use std::hash::RandomState;
 use std::io;
@@ -306,5 +306,19 @@ fn requests_may_come_at_once(rt: HostRuntime) -> Result<(), Fail> {
     let is_three = reply.taken == 3 && !reply.is_open;
     let is_last = reply.text.ends_with(b"\r\nconnection: close\r\n\r\nok\n");
     assert!(rt; is_three && is_last);
+    Ok(())
+}
+
+#[test]
+fn own_hosts(rt: HostRuntime) -> Result<(), Fail> {
+    let hosts = [String::from_str(rt.alloc(), "gate.example.org")?];
+    let hosts = hosts.as_slice();
+    let are_own = is_own(hosts, b"Gate.Example.org:8443") && is_own(hosts, b"127.0.0.1");
+    let is_other = is_own(hosts, b"127.0.0.1.example.org") || is_own(hosts, b"localhost:80x");
+    assert!(rt; are_own && !is_other);
+    assert_eq!(rt;
+        Refusal::OtherHost.text(false),
+        b"421 Misdirected Request\n".as_slice()
+    );
     Ok(())
 }
