@@ -1,0 +1,8 @@
+mod Members
+mod Words
+mod Once
+mod Numbers
+mod Begins
+mod Braces
+mod Rows
+mod Adding
