@@ -6,3 +6,5 @@ mod Begins
 mod Braces
 mod Rows
 mod Adding
+mod Stream
+mod HandingOver
