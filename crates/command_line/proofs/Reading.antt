@@ -7,13 +7,12 @@ use Rattle.std.proofs.lemmas.Option.{slice_get-get_or}
 use Rattle.lattice_core.specs.ZipLaws.{AllZip-at}
 use Rattle.command_tree.specs.Matching.{Row, Text, first_of}
 use Rattle.command_line.specs.declared.asked.Asked.{Asked}
-use Rattle.command_line.specs.declared.asked.Asked.TheVariants.{Enqueue, Events, Recover, Run, Serve}
+use Rattle.command_line.specs.declared.asked.Asked.TheVariants.{Events, Recover, Run, Serve}
 use Rattle.command_line.specs.declared.asked.Command.TheVariants.{Footers, Graph, Ready, ReadyItem, Why}
-use Rattle.command_line.specs.declared.asked.EnqueueWords.{EnqueueWords}
 use Rattle.command_line.specs.declared.asked.EventWords.{EventWords}
 use Rattle.command_line.specs.declared.asked.RecoverWords.{RecoverWords}
 use Rattle.command_line.specs.declared.asked.ServeWords.{ServeWords}
-use Rattle.command_line.specs.Asking.{AreFeedOptions, AreOptions, ArgumentsSay, IsHanding, IsRecovery, enqueue, events, footers}
+use Rattle.command_line.specs.Asking.{AreFeedOptions, AreOptions, ArgumentsSay, IsRecovery, events, footers}
 use Rattle.command_line.specs.Asking.{graph, ready, recover, serve, why}
 use Rattle.command_line.specs.Values.{Finds, HasArgument, GivesAny, GivesItem, GivesNumber, NamesItem, NamesRow}
 use Rattle.command_line.specs.Values.{GivesAnyItem, GivesItemAt, Writes, is_comma}
@@ -140,8 +139,3 @@ pub no_events : (rows : List Row) → ((words : EventWords) → ¬ AreFeedOption
     → ¬ ArgumentsSay events rows asked
 no_events rows none (Events words) says = none words says.0
 no_events rows none asked says = says
-
-pub no_enqueue : (rows : List Row) → ((words : EnqueueWords) → ¬ IsHanding rows words) → (asked : Asked)
-    → ¬ ArgumentsSay enqueue rows asked
-no_enqueue rows none (Enqueue words) says = none words says
-no_enqueue rows none asked says = says

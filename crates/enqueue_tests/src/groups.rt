@@ -129,7 +129,7 @@ struct Order {
 }
 
 /// The order of all rows.
-fn order(alloc: Global) -> Result<Order, Fail> {
+fn make_order(alloc: Global) -> Result<Order, Fail> {
     Ok(Order {
         template: Template::read(alloc, "{project} {branch} {change},{set}")?,
         projects: Projects::all(),
@@ -174,7 +174,7 @@ fn is_so(alloc: Global, order: &Order, row: &Row) -> Result<bool, Fail> {
 #[test]
 fn groups_are_handed_over(rt: HostRuntime) -> Result<(), Fail> {
     ready_items_are_handed_over_once();
-    let order = order(rt.alloc())?;
+    let order = make_order(rt.alloc())?;
     for row in ROWS {
         let so = is_so(rt.alloc(), &order, row)?;
         assert!(rt; so, "{}", row.input);
@@ -184,7 +184,7 @@ fn groups_are_handed_over(rt: HostRuntime) -> Result<(), Fail> {
 
 /// The first report of the rows, over an output that fails before a byte, and how much that has taken.
 fn written_before(alloc: Global, byte: u64) -> Result<(Result<(), EnqueueFault>, usize), Fail> {
-    let order = order(alloc)?;
+    let order = make_order(alloc)?;
     let mut input = Ends::new(b"ready 101,1\nready 102,1\nend 2 0\n".as_slice());
     let mut lines = Broken::before_byte(Ends::new(Vec::new(alloc)), byte);
     let mut reports = Ends::new(Vec::new(alloc));
@@ -210,7 +210,7 @@ fn a_failing_output_has_taken_what_came_before(rt: HostRuntime) -> Result<(), Fa
 
 /// A report over an input that fails at its second call.
 fn read_broken(alloc: Global) -> Result<(Result<(), EnqueueFault>, usize), Fail> {
-    let order = order(alloc)?;
+    let order = make_order(alloc)?;
     let mut input = Broken::at_call(Ends::new(b"ready 101,1\nend 1 0\nready".as_slice()), 2);
     let mut lines = Ends::new(Vec::new(alloc));
     let mut reports = Ends::new(Vec::new(alloc));

@@ -1,0 +1,50 @@
+-- How the command ends that is asked for one item.
+use Rattle.std.proofs.Common.{◌≡◌, ◌⊎◌, inl, inr, ℕ, Bool, true, false, List, [], Option, Ok, Err, refl, sym, subst}
+use Rattle.gate_rules.specs.Rules.{GateRules}
+use Rattle.state_core.specs.State.{State}
+use Rattle.state_core.specs.declared.item.Item.{Item}
+use Rattle.why_text.specs.Asked.{IsItemAsked}
+use Rattle.console.specs.Printing.{Ended}
+use Rattle.console.specs.Showing.{ErrorOutput, ShowsLine}
+use Rattle.console.specs.Refusals.{refusal_line}
+use Rattle.console.specs.declared.refusals.Refusal.{Refusal}
+use Rattle.console.specs.declared.refusals.Refusal.TheVariants.{Script, Snapshot, Gate, File, NotText, NoItem, Output}
+use Rattle.console.specs.declared.refusals.Refusal.TheVariants.{Memory, NoPort, Peer, Waits, Warnings}
+use Rattle.commands.specs.Answers.{EndsItem, IsItemPrinted, IsStanding}
+use Rattle.commands.specs.Running.{Reports}
+
+-- a refusal other than that an item waits is reported
+pub refused_so : (refusal : Refusal) (old new : ErrorOutput) → ¬ (refusal ≡ Waits)
+    → ShowsLine (refusal_line refusal) old new → Reports old new (Err refusal) 1
+refused_so (Script fault) old new other shows = (shows, refl)
+refused_so (Snapshot fault) old new other shows = (shows, refl)
+refused_so (Gate fault) old new other shows = (shows, refl)
+refused_so (File name fault) old new other shows = (shows, refl)
+refused_so (NotText name) old new other shows = (shows, refl)
+refused_so (Peer fault port) old new other shows = (shows, refl)
+refused_so (NoPort name) old new other shows = (shows, refl)
+refused_so (NoItem change set) old new other shows = (shows, refl)
+refused_so Waits old new other shows = absurd (other refl)
+refused_so (Warnings count) old new other shows = (shows, refl)
+refused_so Output old new other shows = (shows, refl)
+refused_so Memory old new other shows = (shows, refl)
+
+module _ (change : ℕ) (set : Option ℕ) (rules : GateRules) (state : State) where
+  -- an item that stands so ends the command
+  pub standing_ends : (answer : List ℕ) (is_ready : Bool) (ended : Ended) → IsStanding change set is_ready rules state answer
+      → EndsItem is_ready ended → IsItemPrinted change set rules state answer ended
+  standing_ends answer is_ready (Ok done) stands is =
+      subst (λ (b : Bool). IsStanding change set b rules state answer) is stands
+  standing_ends answer is_ready (Err Waits) stands is =
+      subst (λ (b : Bool). IsStanding change set b rules state answer) is stands
+  standing_ends answer is_ready (Err refusal) stands is = absurd is
+
+  -- there is no such item, or memory was refused
+  pub none_ends : (refusal : Refusal)
+      → ((refusal ≡ NoItem change set) × ((item : Item) → ¬ IsItemAsked state change set item)) ⊎ (refusal ≡ Memory)
+      → IsItemPrinted change set rules state [] (Err refusal)
+  none_ends refusal (inl none) =
+      subst (λ (r : Refusal). IsItemPrinted change set rules state [] (Err r)) (sym none.0)
+      ((refl, refl), λ has. none.1 has.0 has.1, refl)
+  none_ends refusal (inr memory) =
+      subst (λ (r : Refusal). IsItemPrinted change set rules state [] (Err r)) (sym memory) (refl, refl)
