@@ -76,7 +76,11 @@ fn print_item<C: Console>(
 fn end_of(is_ready: bool) -> Result<(), Refusal<'static>>
     ensures { EndsItem is_ready result }
 {
-    if is_ready { Ok(()) } else { Err(Refusal::Waits) }
+    if is_ready {
+        Ok(())
+    } else {
+        Err(Refusal::Waits)
+    }
 }
 
 /// How the item stands that is asked for.
@@ -108,9 +112,17 @@ fn standing_in(verdicts: &Verdicts, item: Item) -> Standing
     requires there { ¬ Contains verdicts.now.ready item → Contains (items_out verdicts.now.out) item }
     ensures { StandsSo verdicts.now item result.is_ready result.page.bytes }
 {
-    if !verdicts.ready().contains(&item) {
-        return left_in(verdicts.out(), item);
+    if verdicts.ready().contains(&item) {
+        return ready_so(item);
     }
+    left_in(verdicts.out(), item)
+}
+
+/// How an item stands that is ready.
+fn ready_so(item: Item) -> Standing
+    ensures ready { result.is_ready ≡ true }
+    ensures line { result.page.bytes ≡ ready_line item }
+{
     let mut page = Page::new();
     add_ready(&mut page, item);
     Standing {
