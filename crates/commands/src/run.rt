@@ -1,6 +1,6 @@
 //! Runs a command over any readers, writers and files, and prints what is asked for in place of one.
 
-ghost use Rattle.std.specs.Prelude.{◌≡◌};
+ghost use Rattle.std.specs.Prelude.{◌≡◌, Err, MatchBool};
 ghost use Rattle.command_line.specs.declared.asked.Command.{Command};
 ghost use Rattle.console.specs.Printing.{Ended};
 ghost use Rattle.commands.specs.Ending.{Ends};
@@ -162,10 +162,28 @@ pub fn report<E: Drain>(alloc: Global, ended: &Result<(), Refusal<'_>>, errors: 
 {
     match ended {
         Ok(()) => DONE,
-        Err(Refusal::Waits) => WAITING,
-        Err(refusal) => {
-            show_refusal(alloc, refusal, errors);
-            REFUSED
-        }
+        Err(refusal) => report_refusal(alloc, refusal, errors),
+    }
+}
+
+/// The same of a command that was refused, or whose item waits.
+fn report_refusal<E: Drain>(alloc: Global, refusal: &Refusal<'_>, errors: &mut E) -> u8
+    ensures { Reports (error_output (E.taken errors.old) (E.failed errors.old))
+        (error_output (E.taken errors.new) (E.failed errors.new)) (Err refusal.now) result }
+{
+    if is_waiting(refusal) {
+        return WAITING;
+    }
+    show_refusal(alloc, refusal, errors);
+    REFUSED
+}
+
+/// Whether it is that the item waits that is asked for.
+fn is_waiting(refusal: &Refusal<'_>) -> bool
+    ensures { MatchBool result (refusal.now ≡ Refusal.Waits) (¬ (refusal.now ≡ Refusal.Waits)) }
+{
+    match refusal {
+        Refusal::Waits => true,
+        _ => false,
     }
 }
