@@ -282,7 +282,7 @@ fn the_version_names_the_toolchain(rt: HostRuntime) -> Result<(), Fail> {
 }
 
 /// Words that name no command, or lack a file or have too many.
-const COMMANDS: [(&str, &str); 19] = [
+const COMMANDS: [(&str, &str); 20] = [
     (
         "",
         "error: 'reviewgate' requires a subcommand but one was not provided\n  [subcommands: ready, why, graph, merge, footers, check, simulate, serve, recover, events, enqueue, help]\n\nUsage: reviewgate <COMMAND>",
@@ -309,7 +309,7 @@ const COMMANDS: [(&str, &str); 19] = [
     ),
     (
         "ready g s t",
-        "error: unexpected argument 't' found\n\nUsage: reviewgate ready <GATE> <SNAPSHOT>",
+        "error: unexpected argument 't' found\n\nUsage: reviewgate ready [OPTIONS] <GATE> <SNAPSHOT>",
     ),
     (
         "ready g s --item 1,2,3",
