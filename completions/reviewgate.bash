@@ -2,13 +2,15 @@
 _reviewgate() {
     local word=${COMP_WORDS[COMP_CWORD]} command=${COMP_WORDS[1]} words=""
     if [ "$COMP_CWORD" -eq 1 ]; then
-        words="ready why graph merge footers check simulate serve recover events help --help --version"
+        words="ready why graph merge footers check simulate serve recover events enqueue help --help --version"
     else
         case $command in
             check) words="--strict --help" ;;
+            enqueue) words="--tenant --pipeline --template --projects --handed --help" ;;
             events) words="--to --query --complete --project --projects --gate --help" ;;
             footers) words="--change --help" ;;
             graph) words="--around --help" ;;
+            ready) words="--item --help" ;;
             recover) words="--without --until --help" ;;
             serve)
                 words="--site --start --port --sites --workers --pause --sessions --idle --connections --until-input-ends --print --http --http-host --load --save --journal --help"

@@ -3,9 +3,9 @@ use Rattle.std.proofs.Common.{◌≡◌, ◌∙◌, ap, sym, subst, inr, List, O
 use Rattle.std.specs.Str.{bytes_eq}
 use Rattle.command_tree.specs.Matching.{AreFaultlessWords, Matched, Row, Text, matched_of}
 use Rattle.command_line.specs.declared.asked.Asked.{Asked}
-use Rattle.command_line.specs.declared.asked.Asked.TheVariants.{Events, Help, NoMemory, Recover, Run, Serve, Usage}
-use Rattle.command_line.specs.declared.asked.Asked.TheVariants.{Version}
-use Rattle.command_line.specs.Asking.{WordsAsk, IsAskedByWords, Means, Name, ArgumentsSay, check, events, footers, graph, merge}
+use Rattle.command_line.specs.declared.asked.Asked.TheVariants.{Enqueue, Events, Help, NoMemory, Recover, Run, Serve}
+use Rattle.command_line.specs.declared.asked.Asked.TheVariants.{Usage, Version}
+use Rattle.command_line.specs.Asking.{WordsAsk, IsAskedByWords, Means, Name, ArgumentsSay, check, enqueue, events, footers, graph, merge}
 use Rattle.command_line.specs.Asking.{ready, recover, serve, simulate, text_of, why}
 use Rattle.command_line.specs.Values.{Finds}
 
@@ -19,7 +19,8 @@ command_of text =
     else if bytes_eq text (codes "footers") then Some footers else if bytes_eq text (codes "check") then Some check
     else if bytes_eq text (codes "simulate") then Some simulate
     else if bytes_eq text (codes "serve") then Some serve else if bytes_eq text (codes "recover") then Some recover
-    else if bytes_eq text (codes "events") then Some events else None
+    else if bytes_eq text (codes "events") then Some events
+    else if bytes_eq text (codes "enqueue") then Some enqueue else None
 
 command_of_text : (name : Name) → command_of (text_of name) ≡ Some name
 command_of_text ready = refl
@@ -32,6 +33,7 @@ command_of_text simulate = refl
 command_of_text serve = refl
 command_of_text recover = refl
 command_of_text events = refl
+command_of_text enqueue = refl
 
 same_name : (one other : Name) → text_of one ≡ text_of other → one ≡ other
 same_name one other same =
@@ -68,6 +70,8 @@ asks_meant words matched (Recover journal) faultless same means =
     (faultless, subst (λ m. IsAskedByWords m (Recover journal)) (sym same) means)
 asks_meant words matched (Events feed) faultless same means =
     (faultless, subst (λ m. IsAskedByWords m (Events feed)) (sym same) means)
+asks_meant words matched (Enqueue handing) faultless same means =
+    (faultless, subst (λ m. IsAskedByWords m (Enqueue handing)) (sym same) means)
 asks_meant words matched (Help text) faultless same means = absurd means
 asks_meant words matched (Version text) faultless same means = absurd means
 asks_meant words matched (Usage text) faultless same means =

@@ -8,14 +8,14 @@ use Rattle.lattice_core.specs.ZipLaws.{AllZip-at}
 use Rattle.command_tree.specs.Matching.{Row, Text, first_of}
 use Rattle.command_line.specs.declared.asked.Asked.{Asked}
 use Rattle.command_line.specs.declared.asked.Asked.TheVariants.{Events, Recover, Run, Serve}
-use Rattle.command_line.specs.declared.asked.Command.TheVariants.{Footers, Graph, Why}
+use Rattle.command_line.specs.declared.asked.Command.TheVariants.{Footers, Graph, Ready, ReadyItem, Why}
 use Rattle.command_line.specs.declared.asked.EventWords.{EventWords}
 use Rattle.command_line.specs.declared.asked.RecoverWords.{RecoverWords}
 use Rattle.command_line.specs.declared.asked.ServeWords.{ServeWords}
 use Rattle.command_line.specs.Asking.{AreFeedOptions, AreOptions, ArgumentsSay, IsRecovery, events, footers}
-use Rattle.command_line.specs.Asking.{graph, recover, serve, why}
+use Rattle.command_line.specs.Asking.{graph, ready, recover, serve, why}
 use Rattle.command_line.specs.Values.{Finds, HasArgument, GivesAny, GivesItem, GivesNumber, NamesItem, NamesRow}
-use Rattle.command_line.specs.Values.{Writes, is_comma}
+use Rattle.command_line.specs.Values.{GivesAnyItem, GivesItemAt, Writes, is_comma}
 
 same_text : (rows : List Row) (argument text other : Text) → HasArgument rows argument text
     → HasArgument rows argument other
@@ -85,14 +85,30 @@ pub no_row_before : (text : Text) → ((number : ℕ) → ¬ Writes 0 65535 (bef
     → (row : ℕ × ℕ) → ¬ NamesRow text row
 no_row_before text none (site, start) names = none site names.1
 
-pub item_found : (rows : List Row) (text : Text) (result : Option (ℕ × Option ℕ))
-    → HasArgument rows (codes "CHANGE[,SET]") text → Finds (λ item. NamesItem text item.0 item.1) result
-    → Finds (λ item. GivesItem rows item.0 item.1) result
-item_found rows text (Some item) given names = (text, given, names)
-item_found rows text None given none = λ item gives.
-    none item (subst (λ t. NamesItem t item.0 item.1) (same_text rows (codes "CHANGE[,SET]") gives.0 text gives.1 given) gives.2)
+pub item_found : (rows : List Row) (argument text : Text) (result : Option (ℕ × Option ℕ))
+    → HasArgument rows argument text → Finds (λ item. NamesItem text item.0 item.1) result
+    → Finds (λ item. GivesItemAt rows argument item.0 item.1) result
+item_found rows argument text (Some item) given names = (text, given, names)
+item_found rows argument text None given none = λ item gives.
+    none item (subst (λ t. NamesItem t item.0 item.1) (same_text rows argument gives.0 text gives.1 given) gives.2)
+
+pub any_item_unread : (rows : List Row) (text : Option (Bor Text)) (absent : Bool)
+    → first_of (codes "item") rows ≡ option_map (λ t. t.now) text → is_some text ≡ not absent → absent ≡ false
+    → ((item : ℕ × Option ℕ) → ¬ GivesItemAt rows (codes "item") item.0 item.1) → (given : Option (ℕ × Option ℕ))
+    → ¬ GivesAnyItem rows given
+any_item_unread rows text absent is there present none (Some item) gives = none item gives
+any_item_unread rows None absent is there present none None gives =
+    let bad : false ≡ true = there ∙ ap not present in cc
+any_item_unread rows (Some text) absent is there present none None gives =
+    let bad : None ≡ Some text.now = sym gives ∙ is in cc
 
 -- ---- commands
+
+pub no_ready : (rows : List Row) → ((given : Option (ℕ × Option ℕ)) → ¬ GivesAnyItem rows given) → (asked : Asked)
+    → ¬ ArgumentsSay ready rows asked
+no_ready rows none (Run (Ready gate snapshot)) says = none None says.2
+no_ready rows none (Run (ReadyItem gate snapshot change set)) says = none (Some (change, set)) says.2
+no_ready rows none asked says = says
 
 pub no_why : (rows : List Row) → ((item : ℕ × Option ℕ) → ¬ GivesItem rows item.0 item.1) → (asked : Asked)
     → ¬ ArgumentsSay why rows asked

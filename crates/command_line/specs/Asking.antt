@@ -6,17 +6,18 @@ use Rattle.command_tree.specs.Matching.{Text, first_of, matched_of}
 use Rattle.command_line.specs.declared.asked.Answer.{Answer}
 use Rattle.command_line.specs.declared.asked.Answer.TheVariants.{Complete, Query, Stream}
 use Rattle.command_line.specs.declared.asked.Asked.{Asked}
-use Rattle.command_line.specs.declared.asked.Asked.TheVariants.{Events, Help, NoMemory, Recover, Run, Serve, Usage}
-use Rattle.command_line.specs.declared.asked.Asked.TheVariants.{Version}
+use Rattle.command_line.specs.declared.asked.Asked.TheVariants.{Enqueue, Events, Help, NoMemory, Recover, Run, Serve}
+use Rattle.command_line.specs.declared.asked.Asked.TheVariants.{Usage, Version}
 use Rattle.command_line.specs.declared.asked.Command.TheVariants.{Check, Footers, Graph, Merge, Ready, Simulate}
-use Rattle.command_line.specs.declared.asked.Command.TheVariants.{Why}
+use Rattle.command_line.specs.declared.asked.Command.TheVariants.{ReadyItem, Why}
+use Rattle.command_line.specs.declared.asked.EnqueueWords.{EnqueueWords}
 use Rattle.command_line.specs.declared.asked.EventWords.{EventWords}
 use Rattle.command_line.specs.declared.asked.Printing.{Printing}
 use Rattle.command_line.specs.declared.asked.Printing.TheVariants.{Report, Changes, Nothing}
 use Rattle.command_line.specs.declared.asked.RecoverWords.{RecoverWords}
 use Rattle.command_line.specs.declared.asked.ServeWords.{ServeWords}
 use Rattle.command_line.specs.Values.{HasArgument, GivesAny, GivesItem, GivesNumber, GivesNumbers, GivesRows}
-use Rattle.command_line.specs.Values.{GivesTexts}
+use Rattle.command_line.specs.Values.{GivesAnyItem, GivesTexts}
 
 -- ---- what the arguments of each command say
 
@@ -86,6 +87,15 @@ abbrev pub IsFeed : List Row → EventWords → Type 0
 IsFeed rows words = AreFeedOptions rows words
     × GivesTexts rows (codes "project") (map string_bytes words.projects.items) × HasPort rows
 
+-- the arguments ask for items to be handed over so
+pub record IsHanding (rows : List Row) (words : EnqueueWords) : Type 0 where
+  pub query : HasArgument rows (codes "QUERY") words.query.now
+  pub tenant : first_of (codes "tenant") rows ≡ option_map (λ text. text.now) words.tenant
+  pub pipeline : first_of (codes "pipeline") rows ≡ option_map (λ text. text.now) words.pipeline
+  pub template : HasArgument rows (codes "template") words.template.now
+  pub projects : first_of (codes "projects") rows ≡ option_map (λ name. name.now) words.projects
+  pub handed : first_of (codes "handed") rows ≡ option_map (λ name. name.now) words.handed
+
 -- the commands
 pub data Name : Type 0 where
   ready : Name
@@ -98,6 +108,7 @@ pub data Name : Type 0 where
   serve : Name
   recover : Name
   events : Name
+  enqueue : Name
 
 abbrev pub text_of : Name → Text
 text_of ready = codes "ready"
@@ -110,11 +121,16 @@ text_of simulate = codes "simulate"
 text_of serve = codes "serve"
 text_of recover = codes "recover"
 text_of events = codes "events"
+text_of enqueue = codes "enqueue"
 
 -- the arguments of the command say that this is asked
 abbrev pub ArgumentsSay : Name → List Row → Asked → Type 0
 ArgumentsSay ready rows (Run (Ready gate snapshot)) =
     HasArgument rows (codes "GATE") gate.now × HasArgument rows (codes "SNAPSHOT") snapshot.now
+    × GivesAnyItem rows None
+ArgumentsSay ready rows (Run (ReadyItem gate snapshot change set)) =
+    HasArgument rows (codes "GATE") gate.now × HasArgument rows (codes "SNAPSHOT") snapshot.now
+    × GivesAnyItem rows (Some (change, set))
 ArgumentsSay why rows (Run (Why gate snapshot change set is_all)) =
     HasArgument rows (codes "GATE") gate.now × HasArgument rows (codes "SNAPSHOT") snapshot.now × GivesItem rows change set
     × (IsTrue is_all ↔ HasFlag rows (codes "all"))
@@ -135,6 +151,7 @@ ArgumentsSay simulate rows (Run (Simulate script gate)) =
 ArgumentsSay serve rows (Serve words) = IsSite rows words
 ArgumentsSay recover rows (Recover words) = IsRecovery rows words
 ArgumentsSay events rows (Events words) = IsFeed rows words
+ArgumentsSay enqueue rows (Enqueue words) = IsHanding rows words
 ArgumentsSay name rows asked = ⊥
 
 -- ---- what words ask for

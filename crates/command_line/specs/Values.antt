@@ -59,5 +59,13 @@ abbrev pub GivesRows : List Row → List ℕ → List (ℕ × ℕ) → Type 0
 GivesRows rows option = AllZip NamesRow (unwrap_or (all_of option rows) [])
 
 -- the argument names this item
+abbrev pub GivesItemAt : List Row → List ℕ → ℕ → Option ℕ → Type 0
+GivesItemAt rows argument change set = (text : List ℕ) × HasArgument rows argument text × NamesItem text change set
+
 abbrev pub GivesItem : List Row → ℕ → Option ℕ → Type 0
-GivesItem rows change set = (text : List ℕ) × HasArgument rows (codes "CHANGE[,SET]") text × NamesItem text change set
+GivesItem rows change set = GivesItemAt rows (codes "CHANGE[,SET]") change set
+
+-- the same of an option that may be left out
+abbrev pub GivesAnyItem : List Row → Option (ℕ × Option ℕ) → Type 0
+GivesAnyItem rows None = first_of (codes "item") rows ≡ None
+GivesAnyItem rows (Some item) = GivesItemAt rows (codes "item") item.0 item.1

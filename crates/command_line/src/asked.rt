@@ -11,6 +11,8 @@ pub enum Asked<'a> {
     Recover(RecoverWords<'a>),
     /// To feed what Gerrit writes.
     Events(EventWords<'a>),
+    /// To hand items to Zuul.
+    Enqueue(EnqueueWords<'a>),
     /// The help text, for the output.
     Help(String),
     /// The program's name and version, for the output.
@@ -28,6 +30,14 @@ pub enum Command<'a> {
     Ready {
         gate: &'a str,
         snapshot: &'a str,
+    },
+    /// To print the line of an item of a snapshot in the report under a gate file: of the patch set `set` of the change,
+    /// or its current one.
+    ReadyItem {
+        gate: &'a str,
+        snapshot: &'a str,
+        change: u32,
+        set: Option<u32>,
     },
     /// To print why an item of a snapshot waits under a gate file: the patch set `set` of the change, or its current
     /// one; and each condition of the gate where `is_all`.
@@ -157,4 +167,21 @@ pub struct EventWords<'a> {
     pub projects_file: Option<&'a str>,
     /// The name of the gate file by which unknown changes are asked for; only where a port is named.
     pub gate: Option<&'a str>,
+}
+
+/// What items are handed over with.
+#[derive(Drop)]
+pub struct EnqueueWords<'a> {
+    /// The name of the answer of a query.
+    pub query: &'a str,
+    /// Zuul's tenant, where it is named.
+    pub tenant: Option<&'a str>,
+    /// The pipeline's name, where it is named.
+    pub pipeline: Option<&'a str>,
+    /// What is written for an item.
+    pub template: &'a str,
+    /// The name of a file of the pipeline's projects; without one it has all.
+    pub projects: Option<&'a str>,
+    /// The name of a file of the items that were handed over before.
+    pub handed: Option<&'a str>,
 }

@@ -7,17 +7,25 @@ ghost use Rattle.command_line.specs.Asking.{simulate, why};
 ghost use Rattle.command_line.specs.Values.{Finds, GivesRows};
 
 use super::asked::{Asked, Command, RecoverWords};
-use super::numbers::{any_in, any_long_in, item_in, long_in, rows_of_sites};
+use super::numbers::{any_in, any_item_in, any_long_in, item_in, long_in, rows_of_sites};
 use command_tree::{AROUND, CHANGE, UNTIL, Values};
 use std::alloc::{AllocError, Global};
 
-/// `ready GATE SNAPSHOT`
+/// `ready GATE SNAPSHOT [--item CHANGE[,SET]]`
 pub fn ready_in<'a>(values: &Values<'a>) -> Option<Asked<'a>>
     ensures { Finds (ArgumentsSay ready (rows_in values.now)) result }
 {
     let gate = values.text("GATE")?;
     let snapshot = values.text("SNAPSHOT")?;
-    Some(Asked::Run(Command::Ready { gate, snapshot }))
+    match any_item_in(values)? {
+        None => Some(Asked::Run(Command::Ready { gate, snapshot })),
+        Some((change, set)) => Some(Asked::Run(Command::ReadyItem {
+            gate,
+            snapshot,
+            change,
+            set,
+        })),
+    }
 }
 
 /// `why GATE SNAPSHOT CHANGE[,SET] [--all]`

@@ -15,11 +15,14 @@
 #![tactic(auto)]
 
 mod asked;
+mod enqueues;
 mod feeds;
 mod files;
 mod numbers;
 mod sites;
 mod words;
 
-pub use asked::{Answer, Asked, Command, EventWords, Printing, RecoverWords, ServeWords};
+pub use asked::{
+    Answer, Asked, Command, EnqueueWords, EventWords, Printing, RecoverWords, ServeWords,
+};
 pub use words::read_words;

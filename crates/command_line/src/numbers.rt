@@ -3,8 +3,8 @@
 ghost use Rattle.std.specs.Prelude.{◌≡◌, ◌<◌, ◌≤◌, ◌^◌, IfOk, IfSome, ℕ, List, MatchOption, map, option_map};
 ghost use Rattle.std.specs.List.{AllZip};
 ghost use Rattle.command_tree.specs.Rows.{rows_in};
-ghost use Rattle.command_line.specs.Values.{Finds, GivesAny, GivesItem, GivesNumber, GivesNumbers, GivesRows};
-ghost use Rattle.command_line.specs.Values.{NamesItem, NamesRow, Writes};
+ghost use Rattle.command_line.specs.Values.{Finds, GivesAny, GivesAnyItem, GivesItem, GivesItemAt, GivesNumber};
+ghost use Rattle.command_line.specs.Values.{GivesNumbers, GivesRows, NamesItem, NamesRow, Writes};
 
 use command_tree::{Number, Values};
 use std::alloc::{AllocError, Global};
@@ -163,7 +163,25 @@ fn row_of(text: &str) -> Option<(u16, u32)>
 pub fn item_in(values: &Values<'_>) -> Option<(u32, Option<u32>)>
     ensures { Finds (λ item. GivesItem (rows_in values.now) item.0 item.1) result }
 {
-    item_of(values.text("CHANGE[,SET]")?)
+    item_at(values, "CHANGE[,SET]")
+}
+
+/// The item that `--item` names, where it isn't left out.
+pub fn any_item_in(values: &Values<'_>) -> Option<Option<(u32, Option<u32>)>>
+    ensures { Finds (GivesAnyItem (rows_in values.now)) result }
+{
+    if values.text("item").is_none() {
+        return Some(None);
+    }
+    let item = item_at(values, "item")?;
+    Some(Some(item))
+}
+
+/// The item that an argument names.
+fn item_at(values: &Values<'_>, argument: &str) -> Option<(u32, Option<u32>)>
+    ensures { Finds (λ item. GivesItemAt (rows_in values.now) argument.now item.0 item.1) result }
+{
+    item_of(values.text(argument)?)
 }
 
 /// The item that a text names.

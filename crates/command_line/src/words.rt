@@ -6,6 +6,7 @@ ghost use Rattle.command_line.specs.Values.{Finds};
 ghost use Rattle.command_tree.specs.Rows.{rows_in};
 
 use super::asked::Asked;
+use super::enqueues::enqueue_in;
 use super::feeds::{events_in, lacks_port};
 use super::files::{
     check_in, footers_in, graph_in, merge_in, ready_in, recover_in, simulate_in, why_in,
@@ -86,6 +87,7 @@ fn named<'a>(
         "serve" => serve_in(alloc, values),
         "recover" => recover_in(alloc, values),
         "events" => events_in(alloc, values),
+        "enqueue" => Ok(enqueue_in(values)),
         _ => Ok(None),
     }
 }
@@ -96,7 +98,10 @@ fn misused<'a>(alloc: Global, name: &str, values: &Values<'_>) -> Asked<'a>
     ensures { IsUsage result }
 {
     if let Some(item) = values.text("CHANGE[,SET]") {
-        return usage(no_item(alloc, item));
+        return usage(no_item(alloc, "<CHANGE[,SET]>", item));
+    }
+    if let Some(item) = values.text("item") {
+        return usage(no_item(alloc, "--item <CHANGE[,SET]>", item));
     }
     if let Some(word) = values.text("print")
         && printing_in(values).is_none()
@@ -112,9 +117,9 @@ fn misused<'a>(alloc: Global, name: &str, values: &Values<'_>) -> Asked<'a>
     usage(String::from_str(alloc, text))
 }
 
-/// The usage error of an invalid item.
-fn no_item(alloc: Global, item: &str) -> Result<String, AllocError> {
-    format!(in alloc; "error: invalid value '{item}' for '<CHANGE[,SET]>': {ITEM_LIMITS}")
+/// The usage error of an invalid item, which this argument names.
+fn no_item(alloc: Global, argument: &str, item: &str) -> Result<String, AllocError> {
+    format!(in alloc; "error: invalid value '{item}' for '{argument}': {ITEM_LIMITS}")
 }
 
 /// The usage error of a word that says nothing of what is printed.

@@ -104,6 +104,58 @@ fn each_condition_is_printed(rt: HostRuntime) {
     }
 }
 
+/// What `ready --item` prints of an item, and the status.
+fn assert_stands(
+    rt: &impl Abort,
+    alloc: Global,
+    item: &str,
+    status: u8,
+    output: &str,
+    errors: &str,
+) {
+    let words = ["ready", "gate", "-", "--item", item];
+    assert_prints(
+        rt,
+        alloc,
+        words.as_slice(),
+        GATE,
+        RECORD,
+        status,
+        output,
+        errors,
+    );
+}
+
+#[test]
+fn one_item_stands(rt: HostRuntime) {
+    let cases = [
+        ("98", 3, "out 98,3 require approval 1\n", ""),
+        ("98,3", 3, "out 98,3 require approval 1\n", ""),
+        ("101,1", 3, "out 101,1 dependency 98\n", ""),
+        ("98,1", 1, "", "reviewgate: item 1 NoItem 98,1\n"),
+        ("97", 1, "", "reviewgate: item 1 NoItem 97\n"),
+    ];
+    for (item, status, output, errors) in cases {
+        assert_stands(&rt, rt.alloc(), item, status, output, errors);
+    }
+}
+
+#[test]
+fn an_item_is_ready(rt: HostRuntime) {
+    let words = ["ready", "gate", "-", "--item", "101"];
+    let gate = r#"{"bases":["https://r/"]}"#;
+    assert_prints(
+        &rt,
+        rt.alloc(),
+        words.as_slice(),
+        gate,
+        RECORD,
+        0,
+        "ready 101,1\n",
+        "",
+    );
+}
+
 #[test]
 fn an_item_that_is_not_known(rt: HostRuntime) {
     let cases = [

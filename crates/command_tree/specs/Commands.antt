@@ -6,9 +6,11 @@ use Rattle.clap.specs.declared.builder.command.Command.TheViews.{out-Command}
 use Rattle.command_tree.specs.Rules.{flag_rule, needed, needed_number, number_rule, number_with, numbers_rule}
 use Rattle.command_tree.specs.Rules.{option_rule, option_with, several_numbers, several_rule}
 
--- `ready GATE SNAPSHOT`
+-- `ready GATE SNAPSHOT [--item CHANGE[,SET]]`
 abbrev pub ready_app : App
-ready_app = with_rule (with_rule (new_app (codes "ready")) (needed (codes "GATE"))) (needed (codes "SNAPSHOT"))
+ready_app =
+    with_rule (with_rule (with_rule (new_app (codes "ready")) (needed (codes "GATE"))) (needed (codes "SNAPSHOT")))
+    (option_rule (codes "item"))
 
 -- `why GATE SNAPSHOT CHANGE[,SET] [--all]`
 abbrev pub why_app : App
@@ -114,6 +116,20 @@ events_app =
     (with_rule (with_rule feeding_app (several_rule (codes "project"))) (option_rule (codes "projects")))
     (option_rule (codes "gate"))
 
+-- `enqueue QUERY [--tenant TENANT] [--pipeline NAME] [--template TEXT] ..`: what is written for an item
+abbrev pub templated_app : App
+templated_app =
+    with_rule
+    (with_rule
+    (with_rule (with_rule (new_app (codes "enqueue")) (needed (codes "QUERY"))) (option_rule (codes "tenant")))
+    (option_rule (codes "pipeline")))
+    (option_with (codes "template")
+    (codes "zuul-client enqueue --tenant {tenant} --pipeline {pipeline} --project {project} --change {change},{set}"))
+
+-- with which items it is written for
+abbrev pub enqueue_app : App
+enqueue_app = with_rule (with_rule templated_app (option_rule (codes "projects"))) (option_rule (codes "handed"))
+
 -- the program, before it has its commands: its name isn't among the words, it has a version, and a command has to be
 abbrev pub bare_app : App
 bare_app = let app = new_app (codes "reviewgate") in
@@ -133,7 +149,9 @@ reading_app =
 -- the program
 abbrev pub program : App
 program =
-    with_subcommand (with_subcommand (with_subcommand reading_app serve_app.top) recover_app.top) events_app.top
+    with_subcommand
+    (with_subcommand (with_subcommand (with_subcommand reading_app serve_app.top) recover_app.top) events_app.top)
+    enqueue_app.top
 
 -- a command that clap reads so, with no argument that its subcommands take
 abbrev pub IsApp : App → Command → Type 0

@@ -19,6 +19,7 @@
 #![tactic(auto)]
 
 mod arguments;
+mod enqueue_options;
 mod feed_options;
 mod parsing;
 mod program;
@@ -26,8 +27,8 @@ mod site_options;
 mod values;
 
 pub use arguments::{
-    AROUND, CHANGE, CONNECTIONS, HTTP, IDLE, Number, PAUSE, PEER, PORT, SESSIONS, SITE, SITES, START, TO,
-    UNTIL, WORKERS,
+    AROUND, CHANGE, CONNECTIONS, HTTP, IDLE, Number, PAUSE, PEER, PORT, SESSIONS, SITE, SITES,
+    START, TO, UNTIL, WORKERS,
 };
 pub use parsing::{Parsed, parse};
 pub use values::Values;

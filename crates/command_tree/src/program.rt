@@ -5,7 +5,10 @@ ghost use Rattle.command_tree.specs.Commands.{IsApp, bare_app, check_app, events
 ghost use Rattle.command_tree.specs.Commands.{judging_app, merge_app, program, reading_app, ready_app, recover_app};
 ghost use Rattle.command_tree.specs.Commands.{simulate_app, why_app};
 
-use super::arguments::{AROUND, CHANGE, UNTIL, default_option, file, flag, number_option, several};
+use super::arguments::{
+    AROUND, CHANGE, UNTIL, default_option, file, flag, number_option, option, several,
+};
+use super::enqueue_options::enqueue_command;
 use super::feed_options::events_command;
 use super::site_options::serve_command;
 use clap::{Arg, Command};
@@ -28,7 +31,8 @@ pub fn program<'a>(alloc: Global) -> Result<Command<'a>, AllocError>
     let reading = reading_commands(alloc)?;
     let serving = reading.subcommand(serve_command(alloc)?)?;
     let recovering = serving.subcommand(recover_command(alloc)?)?;
-    recovering.subcommand(events_command(alloc)?)
+    let feeding = recovering.subcommand(events_command(alloc)?)?;
+    feeding.subcommand(enqueue_command(alloc)?)
 }
 
 /// The program with the commands that read files alone.
@@ -65,14 +69,21 @@ fn bare_program<'a>(alloc: Global) -> Result<Command<'a>, AllocError>
     Ok(program)
 }
 
-/// `ready GATE SNAPSHOT`
+/// `ready GATE SNAPSHOT [--item CHANGE[,SET]]`
 fn ready_command<'a>(alloc: Global) -> Result<Command<'a>, AllocError>
     ensures { IfOk result (IsApp ready_app) }
 {
+    let item = option(
+        alloc,
+        "item",
+        "CHANGE[,SET]",
+        "Prints the line of this item alone, and ends with status 3 if it waits",
+    );
     Command::new(alloc, "ready")
         .about("Prints which items may be enqueued, and why each other one waits")
         .arg(file(alloc, "GATE", GATE_HELP))?
-        .arg(file(alloc, "SNAPSHOT", SNAPSHOT_HELP))
+        .arg(file(alloc, "SNAPSHOT", SNAPSHOT_HELP))?
+        .arg(item)
 }
 
 /// `why GATE SNAPSHOT CHANGE[,SET] [--all]`

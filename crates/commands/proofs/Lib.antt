@@ -6,3 +6,4 @@ mod Played
 mod Simulated
 mod SameEnds
 pub mod Checking
+mod ItemEnds

@@ -1,5 +1,5 @@
 -- What each command prints: its text as a relation to the texts of its inputs.
-use Rattle.std.specs.Prelude.{◌≡◌, ◌⊎◌, ◌<◌, ℕ, Bool, false, true, List, [], ◌∷◌, ◌++◌, Option, None, Some, Ok, Err}
+use Rattle.std.specs.Prelude.{◌≡◌, ◌⊎◌, ◌<◌, ℕ, Bool, true, false, Contains, List, [], ◌∷◌, ◌++◌, Option, None, Some, Ok, Err}
 use Rattle.std.specs.Prelude.{codes, decimal, flat_map, length}
 use Rattle.byte_ends.specs.Lines.{lines_of}
 use Rattle.footer_text.specs.Footers.{AreFooters}
@@ -8,12 +8,13 @@ use Rattle.gate_rules.specs.Rules.{GateRules}
 use Rattle.gate_rules.specs.Spelling.{SpellsGate}
 use Rattle.graph_text.specs.Drawing.{IsGraphText}
 use Rattle.ready_core.specs.Verdicts.{AreVerdicts, Judged}
+use Rattle.ready_core.specs.declared.verdicts.Left.{Left}
 use Rattle.replica_core.specs.InOrder.{IsInOrderOf}
 use Rattle.replica_core.specs.Journal.{all_arrived}
 use Rattle.state_core.specs.Known.{IsKnown}
 use Rattle.state_core.specs.State.{State, state_of}
 use Rattle.state_core.specs.declared.item.Item.{Item}
-use Rattle.report_text.specs.Report.{report_of}
+use Rattle.report_text.specs.Report.{out_line, ready_line, report_of}
 use Rattle.byte_ends.specs.Lines.{as_line}
 use Rattle.snapshot_text.specs.Snapshot.{SaysOperations, snapshot_text}
 use Rattle.review_ops.specs.Operation.{Operation}
@@ -30,7 +31,7 @@ use Rattle.console.specs.Console.{ConsoleState}
 use Rattle.console.specs.Inputs.{IsHad, record_input}
 use Rattle.console.specs.Printing.{Ended}
 use Rattle.console.specs.declared.refusals.Refusal.{Refusal}
-use Rattle.console.specs.declared.refusals.Refusal.TheVariants.{Memory, NoItem, Script, Warnings}
+use Rattle.console.specs.declared.refusals.Refusal.TheVariants.{Memory, NoItem, Script, Waits, Warnings}
 
 -- the answer is printed; or the change or the patch set that is asked for isn't there, or memory was refused, before
 -- anything was printed
@@ -66,13 +67,50 @@ MissesNone change set = ⊥
 abbrev pub IsReport : GateRules → State → List ℕ → Type 0
 IsReport rules state answer = (verdicts : Judged) × AreVerdicts rules state verdicts × (answer ≡ report_of verdicts)
 
--- ---- `why`: why an item waits, for which the text of the gate file is looked at, too
+-- ---- `ready --item`: the line of an item in the report
 
+-- the state has the item that is asked for
 abbrev pub HasItem : ℕ → Option ℕ → State → Type 0
 HasItem change set state = (item : Item) × IsItemAsked state change set item
 
 abbrev pub IsItemText : ℕ → Option ℕ → ℕ → Option ℕ → Type 0
 IsItemText change set number other = (number ≡ change) × (other ≡ set)
+
+abbrev pub IsLeftSo : List Left → Item → Bool → List ℕ → Type 0
+IsLeftSo out item is_ready answer =
+    (is_ready ≡ false) × (left : Left) × Contains out left × (left.item ≡ item) × (answer ≡ out_line left)
+
+-- so the item stands by these verdicts, and its line says so
+abbrev pub StandsSo : Judged → Item → Bool → List ℕ → Type 0
+StandsSo verdicts item is_ready answer =
+    ((is_ready ≡ true) × Contains verdicts.ready item × (answer ≡ ready_line item))
+    ⊎ IsLeftSo verdicts.out item is_ready answer
+
+abbrev pub IsStanding : ℕ → Option ℕ → Bool → GateRules → State → List ℕ → Type 0
+IsStanding change set is_ready rules state answer =
+    (item : Item) × (verdicts : Judged) × IsItemAsked state change set item × AreVerdicts rules state verdicts
+    × StandsSo verdicts item is_ready answer
+
+-- how the command ends of an item that is ready, or waits
+abbrev pub EndsItem : Bool → Ended → Type 0
+EndsItem is_ready (Ok done) = is_ready ≡ true
+EndsItem is_ready (Err Waits) = is_ready ≡ false
+EndsItem is_ready (Err refusal) = ⊥
+
+-- the line of the item is printed, and the command ends by that; or there is no such item, or memory was refused
+abbrev pub IsItemPrinted : ℕ → Option ℕ → GateRules → State → List ℕ → Ended → Type 0
+IsItemPrinted change set rules state answer (Ok done) = IsStanding change set true rules state answer
+IsItemPrinted change set rules state answer (Err Waits) = IsStanding change set false rules state answer
+IsItemPrinted change set rules state answer (Err (NoItem number other)) =
+    IsItemText change set number other × (¬ HasItem change set state) × (answer ≡ [])
+IsItemPrinted change set rules state answer (Err refusal) = (refusal ≡ Memory) × (answer ≡ [])
+
+abbrev pub IsItemAnswer : List ℕ → List ℕ → ℕ → Option ℕ → List ℕ → Ended → Type 0
+IsItemAnswer gate snapshot change set answer ended =
+    (rules : GateRules) × SpellsGate gate rules × (ops : List Operation) × SaysOperations (lines_of snapshot) ops
+    × IsItemPrinted change set rules (state_of (all_arrived [] ops)) answer ended
+
+-- ---- `why`: why an item waits, for which the text of the gate file is looked at, too
 
 -- each condition of the gate after the reason, where that is asked for
 abbrev pub TellsMore : Bool → List ℕ → GateRules → State → Item → List ℕ → Type 0

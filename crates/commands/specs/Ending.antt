@@ -2,10 +2,11 @@
 -- and judged, and the answer that it prints where all are had.
 use Rattle.std.specs.Prelude.{◌⊎◌, ℕ, List, [], ◌∷◌, IsErrAnd, IsErrOf, None, Some}
 use Rattle.command_line.specs.declared.asked.Command.{Command}
-use Rattle.command_line.specs.declared.asked.Command.TheVariants.{Check, Footers, Graph, Merge, Ready, Simulate, Why}
+use Rattle.command_line.specs.declared.asked.Command.TheVariants.{Check, Footers, Graph, Merge, Ready, ReadyItem}
+use Rattle.command_line.specs.declared.asked.Command.TheVariants.{Simulate, Why}
 use Rattle.console.specs.Printing.{Ended}
 use Rattle.commands.specs.Answers.{AreFooterLines, HasAround, HasItem, IsMergedText, IsOf, IsPicture, IsReason, IsReport}
-use Rattle.commands.specs.Answers.{IsAround, IsChecked, IsItemText, IsSimulated, IsWhole, Misses, MissesNone}
+use Rattle.commands.specs.Answers.{IsAround, IsChecked, IsItemAnswer, IsItemText, IsSimulated, IsWhole, Misses, MissesNone}
 use Rattle.console.specs.Console.{ConsoleState, IsCutShort, IsPrinted}
 use Rattle.console.specs.Inputs.{AreHad, Input, IsFirstRefused, input}
 use Rattle.console.specs.Inputs.{gate_file, message_file, record_input, script_file}
@@ -15,6 +16,7 @@ abbrev pub inputs_of : Command → List Input
 inputs_of (Simulate script None) = input script_file script.now ∷ []
 inputs_of (Simulate script (Some gate)) = input script_file script.now ∷ input gate_file gate.now ∷ []
 inputs_of (Ready gate snapshot) = input gate_file gate.now ∷ record_input snapshot.now ∷ []
+inputs_of (ReadyItem gate snapshot change set) = input gate_file gate.now ∷ record_input snapshot.now ∷ []
 inputs_of (Merge first second) = record_input first.now ∷ record_input second.now ∷ []
 inputs_of (Footers gate message change) = input gate_file gate.now ∷ input message_file message.now ∷ []
 inputs_of (Why gate snapshot change set is_all) = input gate_file gate.now ∷ record_input snapshot.now ∷ []
@@ -28,6 +30,8 @@ abbrev pub IsAnswer : Command → List (List ℕ) → List ℕ → Ended → Typ
 IsAnswer (Simulate script gate) (text ∷ gates) answer ended = IsSimulated text gates answer ended
 IsAnswer (Ready gate snapshot) (one ∷ other ∷ []) answer ended =
     IsWhole (IsOf one other IsReport) MissesNone answer ended
+IsAnswer (ReadyItem gate snapshot change set) (one ∷ other ∷ []) answer ended =
+    IsItemAnswer one other change set answer ended
 IsAnswer (Merge first second) (one ∷ other ∷ []) answer ended = IsWhole (IsMergedText one other) MissesNone answer ended
 IsAnswer (Footers gate message change) (one ∷ other ∷ []) answer ended =
     IsWhole (AreFooterLines one other change) MissesNone answer ended

@@ -8,7 +8,7 @@ use Rattle.console.specs.Console.{ConsoleState, Contents, Records}
 use Rattle.commands.specs.Ending.{Ends}
 use Rattle.console.specs.Refusals.{refusal_line}
 use Rattle.console.specs.Showing.{ErrorOutput, ShowsLine}
-use Rattle.console.specs.declared.refusals.Refusal.TheVariants.{Output}
+use Rattle.console.specs.declared.refusals.Refusal.TheVariants.{Output, Waits}
 
 -- what was printed, where that is known, and how many calls of the input, the files and the output failed
 pub data Counts : Type 0 where
@@ -30,10 +30,12 @@ pub record Runs (command : Command) (left : Option (List ℕ)) (files : Contents
   pub ends : Ends command before after ended
   pub leaves : counts_of after ≡ new
 
--- what is written, and the status: nothing and 0 of a command that was done; its line and 1 of one that was refused,
--- or, where memory is refused for the line, the line of that
+-- what is written, and the status: nothing and 0 of a command that was done, nothing and 3 where the item that is
+-- asked for waits; its line and 1 of a command that was refused, or, where memory is refused for the line, the line of
+-- that
 abbrev pub Reports : ErrorOutput → ErrorOutput → Ended → ℕ → Type 0
 Reports old new (Ok done) status = (new ≡ old) × (status ≡ 0)
+Reports old new (Err Waits) status = (new ≡ old) × (status ≡ 3)
 Reports old new (Err refusal) status = ShowsLine (refusal_line refusal) old new × (status ≡ 1)
 
 -- a text was printed; or the output failed, and a proper prefix of it was

@@ -24,6 +24,7 @@
 mod check;
 mod footers;
 mod graph;
+mod item;
 mod merge;
 mod ready;
 mod run;

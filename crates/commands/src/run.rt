@@ -1,6 +1,6 @@
 //! Runs a command over any readers, writers and files, and prints what is asked for in place of one.
 
-ghost use Rattle.std.specs.Prelude.{◌≡◌};
+ghost use Rattle.std.specs.Prelude.{◌≡◌, Err, MatchBool};
 ghost use Rattle.command_line.specs.declared.asked.Command.{Command};
 ghost use Rattle.console.specs.Printing.{Ended};
 ghost use Rattle.commands.specs.Ending.{Ends};
@@ -10,6 +10,7 @@ ghost use Rattle.commands.specs.Running.{PrintsText, Reports, Runs, counts};
 use super::check::check;
 use super::footers::footers;
 use super::graph::graph;
+use super::item::ready_item;
 use super::merge::merge;
 use super::ready::ready;
 use super::simulate::simulate;
@@ -28,8 +29,12 @@ const REFUSED: u8 = 1;
 /// The status of a usage error.
 const MISUSED: u8 = 2;
 
+/// The status where the item that is asked for waits.
+const WAITING: u8 = 3;
+
 /// Runs a command. The file name `-` reads `input`. The answer is the exit status: 0 for success, 1 for a refusal, of
-/// which one line is written to `errors`. What the error output can't take is lost.
+/// which one line is written to `errors`, 3 where the item that is asked for waits. What the error output can't take is
+/// lost.
 pub fn run_command<I: Source, O: Drain, E: Drain, N: Named>(
     alloc: Global,
     command: &Command<'_>,
@@ -80,6 +85,12 @@ fn do_command<'n, C: Console>(
     match command {
         Command::Simulate { script, gate } => simulate(alloc, script, *gate, console),
         Command::Ready { gate, snapshot } => ready(alloc, gate, snapshot, console),
+        Command::ReadyItem {
+            gate,
+            snapshot,
+            change,
+            set,
+        } => ready_item(alloc, gate, snapshot, *change, *set, console),
         Command::Merge { first, second } => merge(alloc, first, second, console),
         Command::Footers {
             gate,
@@ -144,17 +155,36 @@ pub fn report_usage<E: Drain>(text: &str, errors: &mut E) -> u8
     MISUSED
 }
 
-/// Writes to the error output why a command wasn't done, and answers the status. What the error output can't take is
-/// lost.
+/// Writes to the error output why a command wasn't done, and answers the status; of an item that waits nothing is
+/// written, and the status is 3. What the error output can't take is lost.
 pub fn report<E: Drain>(alloc: Global, ended: &Result<(), Refusal<'_>>, errors: &mut E) -> u8
     ensures { Reports (error_output (E.taken errors.old) (E.failed errors.old))
         (error_output (E.taken errors.new) (E.failed errors.new)) ended.now result }
 {
     match ended {
         Ok(()) => DONE,
-        Err(refusal) => {
-            show_refusal(alloc, refusal, errors);
-            REFUSED
-        }
+        Err(refusal) => report_refusal(alloc, refusal, errors),
+    }
+}
+
+/// The same of a command that was refused, or whose item waits.
+fn report_refusal<E: Drain>(alloc: Global, refusal: &Refusal<'_>, errors: &mut E) -> u8
+    ensures { Reports (error_output (E.taken errors.old) (E.failed errors.old))
+        (error_output (E.taken errors.new) (E.failed errors.new)) (Err refusal.now) result }
+{
+    if is_waiting(refusal) {
+        return WAITING;
+    }
+    show_refusal(alloc, refusal, errors);
+    REFUSED
+}
+
+/// Whether it is that the item waits that is asked for.
+fn is_waiting(refusal: &Refusal<'_>) -> bool
+    ensures { MatchBool result (refusal.now ≡ Refusal.Waits) (¬ (refusal.now ≡ Refusal.Waits)) }
+{
+    match refusal {
+        Refusal::Waits => true,
+        _ => false,
     }
 }

@@ -11,7 +11,7 @@ use Rattle.console.specs.Console.{is_input}
 use Rattle.console.specs.Pulls as pull
 use Rattle.console.specs.declared.refusals.Refusal.{Refusal}
 use Rattle.console.specs.declared.refusals.Refusal.TheVariants.{Script, Snapshot, Gate, File, NotText, NoItem, Output}
-use Rattle.console.specs.declared.refusals.Refusal.TheVariants.{Memory, NoPort, Peer, Warnings}
+use Rattle.console.specs.declared.refusals.Refusal.TheVariants.{Memory, NoPort, Peer, Waits, Warnings}
 
 abbrev pub part_of : Refusal → Part
 part_of (Script fault) = part.Script
@@ -22,6 +22,7 @@ part_of (NotText name) = part.File
 part_of (Peer fault port) = part.Peer
 part_of (NoPort name) = part.Peer
 part_of (NoItem change set) = part.Item
+part_of Waits = part.Item
 part_of (Warnings count) = part.Check
 part_of Output = part.Output
 part_of Memory = part.Memory
@@ -35,6 +36,7 @@ number_of (NotText name) = 9
 number_of (Peer fault port) = pull.number_of fault
 number_of (NoPort name) = 9
 number_of (NoItem change set) = 1
+number_of Waits = 2
 number_of (Warnings count) = 1
 number_of Output = 1
 number_of Memory = 1
@@ -57,6 +59,7 @@ words_of (NotText name) = file_words (codes "NotText") name.now
 words_of (Peer fault port) = pull.name_of fault ++ codes " " ++ decimal port
 words_of (NoPort name) = codes "NoPort " ++ name.now
 words_of (NoItem change set) = item_words change set
+words_of Waits = codes "Waits"
 words_of (Warnings count) = codes "Warnings " ++ decimal count
 words_of Output = codes "WriteFault"
 words_of Memory = codes "NoMemory"

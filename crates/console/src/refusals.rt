@@ -29,6 +29,8 @@ pub enum Refusal<'n> {
     NoPort(&'n str),
     /// What is asked for isn't known: this patch set of the change, or, where none is named, the change's items.
     NoItem(u32, Option<u32>),
+    /// The item that is asked for waits; its line was printed, which says why.
+    Waits,
     /// There are this many warnings, of which none is let pass.
     Warnings(usize),
     /// The output failed.
@@ -57,7 +59,7 @@ impl<'n> Refusal<'n> {
             Refusal::Gate(_) => Part::Gate,
             Refusal::File(_, _) | Refusal::NotText(_) => Part::File,
             Refusal::Peer(_, _) | Refusal::NoPort(_) => Part::Peer,
-            Refusal::NoItem(_, _) => Part::Item,
+            Refusal::NoItem(_, _) | Refusal::Waits => Part::Item,
             Refusal::Warnings(_) => Part::Check,
             Refusal::Output => Part::Output,
             Refusal::Memory => Part::Memory,
@@ -75,6 +77,7 @@ impl<'n> Refusal<'n> {
             Refusal::File(_, fault) => fault.number(),
             Refusal::NotText(_) | Refusal::NoPort(_) => 9,
             Refusal::Peer(fault, _) => fault.number(),
+            Refusal::Waits => 2,
             Refusal::NoItem(_, _) | Refusal::Warnings(_) | Refusal::Output | Refusal::Memory => 1,
         }
     }
@@ -92,6 +95,7 @@ impl<'n> Refusal<'n> {
             Refusal::Peer(fault, port) => write_peer(words, fault.name(), *port),
             Refusal::NoPort(name) => write!(words, "NoPort {name}"),
             Refusal::NoItem(change, set) => write_item(words, *change, *set),
+            Refusal::Waits => words.push_str("Waits"),
             Refusal::Warnings(count) => write!(words, "Warnings {count}"),
             Refusal::Output => words.push_str("WriteFault"),
             Refusal::Memory => words.push_str("NoMemory"),

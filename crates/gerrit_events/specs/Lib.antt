@@ -13,4 +13,5 @@ pub mod Parts
 pub mod Claims
 pub mod ClaimShown
 pub mod Reading
+pub mod Rows
 pub mod Tests

@@ -77,7 +77,7 @@ fn read_text(
 }
 
 /// The JSON object that a text is, where it is one.
-fn object_of<'a>(
+pub fn object_of<'a>(
     alloc: Global,
     room: &'a mut Scratch,
     text: &'a str,

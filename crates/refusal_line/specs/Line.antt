@@ -1,8 +1,8 @@
 -- The line of a refusal.
 use Rattle.std.specs.Prelude.{ℕ, List, ◌++◌, codes, decimal}
 use Rattle.refusal_line.specs.declared.part.Part.{Part}
-use Rattle.refusal_line.specs.declared.part.Part.TheVariants.{Check, Events, File, Gate, Item, Journal, Memory, Output}
-use Rattle.refusal_line.specs.declared.part.Part.TheVariants.{Peer, Script, Serve, Session, Snapshot}
+use Rattle.refusal_line.specs.declared.part.Part.TheVariants.{Check, Enqueue, Events, File, Gate, Item, Journal, Memory}
+use Rattle.refusal_line.specs.declared.part.Part.TheVariants.{Output, Peer, Script, Serve, Session, Snapshot}
 
 -- the part's name
 abbrev pub name_of : Part → List ℕ
@@ -19,6 +19,7 @@ name_of Serve = codes "serve"
 name_of Session = codes "session"
 name_of Peer = codes "peer"
 name_of Events = codes "events"
+name_of Enqueue = codes "enqueue"
 
 -- a name and a number, with a blank after each
 abbrev pub numbered : List ℕ → ℕ → List ℕ

@@ -31,6 +31,8 @@ pub enum Part {
     Peer,
     /// A feed.
     Events,
+    /// Handing items to Zuul.
+    Enqueue,
 }
 
 impl Part {
@@ -54,6 +56,7 @@ impl Part {
             Part::Session => "session",
             Part::Peer => "peer",
             Part::Events => "events",
+            Part::Enqueue => "enqueue",
         }
     }
 }

@@ -4,15 +4,15 @@ ghost use Rattle.std.specs.Prelude.{◌≡◌, ◌++◌, IfOk, codes, decimal, s
 ghost use Rattle.refusal_line.specs.Line.{line_of};
 ghost use Rattle.refusal_line.specs.declared.part.Part.TheVariants.{Events};
 
+use super::projects::read_projects;
 use byte_ends::{Drain, Source};
 use command_line::{Answer, EventWords};
 use commands::report;
-use console::{Console, Named, Refusal, Streams, read_any_gate, read_message, show_line};
+use console::{Console, Named, Refusal, Streams, read_any_gate, show_line};
 use event_feed::{EventWriter, FeedFault, Input, events_run};
 use feed_client::{FeedOrder, Feeds, feed_to};
 use footer_text::Bases;
 use gerrit_events::Projects;
-use lattice_core::NoMemory;
 use record_pull::SystemFiles;
 use refusal_line::{Part, refusal_line};
 use std::alloc::{AllocError, Global};
@@ -76,23 +76,12 @@ fn read_choice<'n, I: Source, O: Drain, N: Named>(
     let EventWords {
         to,
         answer,
-        mut projects,
+        projects,
         projects_file,
         gate,
     } = words;
-    let is_all = projects.is_empty() && projects_file.is_none();
-    if let Some(name) = projects_file {
-        let text = read_message(alloc, name, &mut console)?;
-        let Ok(()) = add_names(alloc, &mut projects, text.as_str()) else {
-            return Err(Refusal::Memory);
-        };
-    }
+    let projects = read_projects(alloc, projects, projects_file, &mut console)?;
     let bases = read_bases(alloc, gate, &mut console)?;
-    let projects = if is_all {
-        Projects::all()
-    } else {
-        Projects::named(projects)
-    };
     Ok(Choice {
         to,
         answer,
@@ -114,17 +103,6 @@ fn read_bases<'n, C: Console>(
         Ok(bases) => Ok(Some(bases)),
         Err(_) => Err(Refusal::Memory),
     }
-}
-
-/// Adds the names of a text, one a line. Empty lines and lines that begin with `#` are passed over.
-fn add_names(alloc: Global, names: &mut Vec<String>, text: &str) -> Result<(), NoMemory> {
-    for line in text.split('\n') {
-        let name = line.strip_suffix('\r').unwrap_or(line);
-        if !name.is_empty() && !name.starts_with('#') {
-            names.push(String::from_str(alloc, name)?)?;
-        }
-    }
-    Ok(())
 }
 
 /// Reads Gerrit's lines from the input, and writes what a client of a session says of them to the output, and what is

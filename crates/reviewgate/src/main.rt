@@ -1,12 +1,15 @@
 //! `reviewgate`: the review record of Gerrit changes, kept at several sites.
 #![tactic(auto)]
 
+mod enqueue;
 mod events;
+mod projects;
 
 use byte_ends::{Drain, Ends};
 use command_line::{Asked, RecoverWords, read_words};
 use commands::{print_text, report, report_usage, run_command};
 use console::{Refusal, show_line};
+use enqueue::enqueue;
 use events::feed;
 use record_pull::SystemFiles;
 use recover_command::{recover_named, show_journal_fault};
@@ -62,6 +65,14 @@ fn main(rt: HostRuntime) -> ExitCode {
             )
         }
         Asked::Events(words) => feed(rt, alloc, words, input, &mut output, &mut errors),
+        Asked::Enqueue(words) => enqueue(
+            alloc,
+            words,
+            &mut input,
+            &mut output,
+            &mut errors,
+            &mut SystemFiles::new(&rt),
+        ),
         Asked::Help(text) | Asked::Version(text) => {
             print_text(alloc, text.as_str(), &mut output, &mut errors)
         }

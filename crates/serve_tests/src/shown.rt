@@ -5,12 +5,11 @@ use page_server::open_door;
 use site_net::Stop;
 use site_serve::{Doorstep, Setup};
 use std::alloc::Global;
-use std::io;
 use std::net::{Net, TcpListener, TcpStream};
 use std::random::RandomSource;
 use std::sync::Wait;
 use std::test::Fail;
-use std::thread;
+use std::{io, thread};
 
 /// A client that takes in a patch set, whose subject has markup.
 const TAKE_PATCH: &str =
@@ -24,7 +23,8 @@ const LIST: &str = "GET / HTTP/1.1\r\nHost: gate.example.org\r\n\r\n";
 const HEALTH: &str = "GET /healthz HTTP/1.1\r\nHost: 127.0.0.1\r\n\r\n";
 
 /// The items of a site that took it.
-const SHOWN: &str = r#"{"total":1,"page":1,"items":[{"change":101,"set":1,"subject":"<b>&","ready":false,"refusal":"require approval 1"}]}"#;
+const SHOWN: &str =
+    r#"{"total":1,"page":1,"items":[{"change":101,"set":1,"subject":"<b>&","ready":false,"refusal":"require approval 1"}]}"#;
 
 /// A site without a limit of sessions that shows itself, also by another name, and the port of its page.
 fn shown<R>(rt: &R, alloc: Global) -> Result<(Setup, u16), Fail>
@@ -37,11 +37,7 @@ where
     hosts.push(String::from_str(alloc, "gate.example.org")?)?;
     let mut setup = one_session(alloc, 1)?;
     setup.sessions = 0;
-    setup.page = Some(Doorstep {
-        door,
-        waker,
-        hosts,
-    });
+    setup.page = Some(Doorstep { door, waker, hosts });
     Ok((setup, port))
 }
 

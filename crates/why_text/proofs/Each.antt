@@ -10,9 +10,13 @@ module _ {X : Type 0} (Tells : X → List ℕ → Type 0) where
   each_push [] text x more none tells = (more, [], tells, refl, ap (λ (l : List ℕ). l ++ more) none ∙ sym (append-nil more))
   each_push (y ∷ xs) text x more told tells =
       let first = told.0 in
-      let rest = told.1 in
-      (first, rest ++ more, told.2, each_push xs rest x more told.3 tells,
-      ap (λ (l : List ℕ). l ++ more) told.4 ∙ append_assoc first rest more)
+      let rest = told.1 in (
+        first,
+        rest ++ more,
+        told.2,
+        each_push xs rest x more told.3 tells,
+        ap (λ (l : List ℕ). l ++ more) told.4 ∙ append_assoc first rest more,
+      )
 
   -- one more of a list
   pub each_more : (xs : List X) (i : ℕ) (x : X) (text more new : List ℕ) → i < length xs → x ≡ get_or xs i x

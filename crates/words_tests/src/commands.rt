@@ -19,6 +19,7 @@ fn first_name<'a>(command: &Command<'a>) -> &'a str {
         Command::Simulate { script, .. } => script,
         Command::Merge { first, .. } => first,
         Command::Ready { gate, .. }
+        | Command::ReadyItem { gate, .. }
         | Command::Footers { gate, .. }
         | Command::Check { gate, .. }
         | Command::Why { gate, .. }
@@ -34,6 +35,7 @@ fn second_name<'a>(command: &Command<'a>) -> &'a str {
         Command::Merge { second, .. } => second,
         Command::Footers { message, .. } => message,
         Command::Ready { snapshot, .. }
+        | Command::ReadyItem { snapshot, .. }
         | Command::Why { snapshot, .. }
         | Command::Graph { snapshot, .. } => snapshot,
     }
@@ -42,7 +44,9 @@ fn second_name<'a>(command: &Command<'a>) -> &'a str {
 /// The change that is asked about, and 7 where none is.
 fn change_of(command: &Command<'_>) -> u32 {
     match command {
-        Command::Footers { change, .. } | Command::Why { change, .. } => *change,
+        Command::Footers { change, .. }
+        | Command::ReadyItem { change, .. }
+        | Command::Why { change, .. } => *change,
         Command::Graph { around, .. } => around.unwrap_or(7),
         _ => 7,
     }
@@ -236,5 +240,29 @@ fn a_journal_is_named_as_any_file_is(rt: HostRuntime) {
     ];
     for (words, name) in cases {
         assert_eq!(rt; journal_of(rt.alloc(), words), Some(name));
+    }
+}
+
+/// The patch set of an item that is asked for.
+fn item_of(alloc: Global, words: &[&str]) -> Option<(u32, Option<u32>)> {
+    match command_of(alloc, words) {
+        Some(Command::ReadyItem { change, set, .. }) => Some((change, set)),
+        _ => None,
+    }
+}
+
+#[test]
+fn one_item_may_be_asked_for(rt: HostRuntime) {
+    let cases: [(&[&str], Option<(u32, Option<u32>)>); 4] = [
+        (&["ready", "g", "s"], None),
+        (&["ready", "g", "s", "--item", "101"], Some((101, None))),
+        (
+            &["ready", "--item=4294967295,0", "g", "s"],
+            Some((4294967295, Some(0))),
+        ),
+        (&["ready", "g", "s", "--item", "a"], None),
+    ];
+    for (words, item) in cases {
+        assert_eq!(rt; item_of(rt.alloc(), words), item);
     }
 }

@@ -5,6 +5,8 @@
 #[cfg(test)]
 mod commands;
 #[cfg(test)]
+mod enqueues;
+#[cfg(test)]
 mod feeds;
 #[cfg(test)]
 mod sites;

@@ -56,6 +56,7 @@ Commands:
   serve     Runs a site: answers sessions, pulls from peers, prints the report whenever it changes
   recover   Prints the snapshot of a journal, without a line that a crash tore
   events    Feeds what Gerrit writes to a session of a site
+  enqueue   Writes a command for each item that became ready in reports on standard input
   help      Print this message or the help of the given subcommand(s)
 
 Options:
@@ -64,19 +65,20 @@ Options:
 ";
 
 /// Help of each command.
-const HELP: [(&str, &str); 10] = [
+const HELP: [(&str, &str); 11] = [
     (
         "ready",
         "Prints which items may be enqueued, and why each other one waits
 
-Usage: reviewgate ready <GATE> <SNAPSHOT>
+Usage: reviewgate ready [OPTIONS] <GATE> <SNAPSHOT>
 
 Arguments:
   <GATE>      The gate file, or - for standard input
   <SNAPSHOT>  The snapshot's file, - for standard input, or @PORT for a running site
 
 Options:
-  -h, --help  Print help
+      --item <CHANGE[,SET]>  Prints the line of this item alone, and ends with status 3 if it waits
+  -h, --help                 Print help
 ",
     ),
     (
@@ -229,6 +231,24 @@ Options:
   -h, --help             Print help
 ",
     ),
+    (
+        "enqueue",
+        "Writes a command for each item that became ready in reports on standard input
+
+Usage: reviewgate enqueue [OPTIONS] <QUERY>
+
+Arguments:
+  <QUERY>  The answer of gerrit query --format=JSON with the changes' projects
+
+Options:
+      --tenant <TENANT>  Zuul's tenant, for {tenant}
+      --pipeline <NAME>  The pipeline's name, for {pipeline}
+      --template <TEXT>  What is written for an item, with {tenant} {pipeline} {project} {branch} {change} {set} [default: \"zuul-client enqueue --tenant {tenant} --pipeline {pipeline} --project {project} --change {change},{set}\"]
+      --projects <FILE>  The file of the pipeline's projects, one a line, or - for standard input; # begins a remark
+      --handed <FILE>    The file of the items that were handed over before, as CHANGE,SET, one a line
+  -h, --help             Print help
+",
+    ),
 ];
 
 #[test]
@@ -265,10 +285,10 @@ fn the_version_names_the_toolchain(rt: HostRuntime) -> Result<(), Fail> {
 }
 
 /// Words that name no command, or lack a file or have too many.
-const COMMANDS: [(&str, &str); 19] = [
+const COMMANDS: [(&str, &str); 20] = [
     (
         "",
-        "error: 'reviewgate' requires a subcommand but one was not provided\n  [subcommands: ready, why, graph, merge, footers, check, simulate, serve, recover, events, help]\n\nUsage: reviewgate <COMMAND>",
+        "error: 'reviewgate' requires a subcommand but one was not provided\n  [subcommands: ready, why, graph, merge, footers, check, simulate, serve, recover, events, enqueue, help]\n\nUsage: reviewgate <COMMAND>",
     ),
     (
         "help nothing",
@@ -292,7 +312,11 @@ const COMMANDS: [(&str, &str); 19] = [
     ),
     (
         "ready g s t",
-        "error: unexpected argument 't' found\n\nUsage: reviewgate ready <GATE> <SNAPSHOT>",
+        "error: unexpected argument 't' found\n\nUsage: reviewgate ready [OPTIONS] <GATE> <SNAPSHOT>",
+    ),
+    (
+        "ready g s --item 1,2,3",
+        "error: invalid value '1,2,3' for '--item <CHANGE[,SET]>': CHANGE and SET are numbers from 0 to 4294967295",
     ),
     (
         "why g s",

@@ -6,6 +6,9 @@ returns-in-Simulate g c = rw c.in-Simulate.is c.simulate.ensures
 pub returns-in-Ready : goal.returns-in-Ready
 returns-in-Ready g c = rw c.in-Ready.is c.ready.ensures
 
+pub returns-in-ReadyItem : goal.returns-in-ReadyItem
+returns-in-ReadyItem g c = rw c.in-ReadyItem.is c.ready_item.ensures
+
 pub returns-in-Merge : goal.returns-in-Merge
 returns-in-Merge g c = rw c.in-Merge.is c.merge.ensures
 

@@ -1,0 +1,94 @@
+-- How the command ends that is asked for one item.
+use Rattle.std.proofs.Common.{◌≡◌, ◌⊎◌, inl, inr, ℕ, Bool, true, false, List, [], Option, Ok, Err, refl, sym, subst}
+use Rattle.std.proofs.Common.{◌∙◌, ◌<◌, ◌≤◌, ◌++◌, arith, ap, get_or, length}
+use Rattle.std.specs.Prelude.{◌==◌, ◌&&◌, Contains}
+use Rattle.std.specs.List.{list_any}
+use Rattle.std.proofs.lemmas.Bool.{eq-eqb, eqb-true, false≢true}
+use Rattle.std.proofs.lemmas.List.Folds.{Any-from_list_any}
+use Rattle.std.proofs.lemmas.Option.{get_or_from_slice_get}
+use Rattle.lattice_core.specs.PlaceLaws.{Contains-at}
+use Rattle.gate_rules.specs.Rules.{GateRules}
+use Rattle.ready_core.specs.Verdicts.{IsOutAt}
+use Rattle.ready_core.specs.declared.verdicts.Left.{Left}
+use Rattle.report_text.specs.Report.{out_line}
+use Rattle.state_core.specs.State.{State}
+use Rattle.state_core.specs.declared.item.Item.{Item}
+use Rattle.why_text.specs.Asked.{IsItemAsked}
+use Rattle.console.specs.Printing.{Ended}
+use Rattle.console.specs.Showing.{ErrorOutput, ShowsLine}
+use Rattle.console.specs.Refusals.{refusal_line}
+use Rattle.console.specs.declared.refusals.Refusal.{Refusal}
+use Rattle.console.specs.declared.refusals.Refusal.TheVariants.{Script, Snapshot, Gate, File, NotText, NoItem, Output}
+use Rattle.console.specs.declared.refusals.Refusal.TheVariants.{Memory, NoPort, Peer, Waits, Warnings}
+use Rattle.commands.specs.Answers.{EndsItem, IsItemPrinted, IsLeftSo, IsStanding}
+use Rattle.commands.specs.Running.{Reports}
+
+-- a refusal other than that an item waits is reported
+pub refused_so : (refusal : Refusal) (old new : ErrorOutput) → ¬ (refusal ≡ Waits)
+    → ShowsLine (refusal_line refusal) old new → Reports old new (Err refusal) 1
+refused_so (Script fault) old new other shows = (shows, refl)
+refused_so (Snapshot fault) old new other shows = (shows, refl)
+refused_so (Gate fault) old new other shows = (shows, refl)
+refused_so (File name fault) old new other shows = (shows, refl)
+refused_so (NotText name) old new other shows = (shows, refl)
+refused_so (Peer fault port) old new other shows = (shows, refl)
+refused_so (NoPort name) old new other shows = (shows, refl)
+refused_so (NoItem change set) old new other shows = (shows, refl)
+refused_so Waits old new other shows = absurd (other refl)
+refused_so (Warnings count) old new other shows = (shows, refl)
+refused_so Output old new other shows = (shows, refl)
+refused_so Memory old new other shows = (shows, refl)
+
+module _ (change : ℕ) (set : Option ℕ) (rules : GateRules) (state : State) where
+  -- an item that stands so ends the command
+  pub standing_ends : (answer : List ℕ) (is_ready : Bool) (ended : Ended) → IsStanding change set is_ready rules state answer
+      → EndsItem is_ready ended → IsItemPrinted change set rules state answer ended
+  standing_ends answer is_ready (Ok done) stands is =
+      subst (λ (b : Bool). IsStanding change set b rules state answer) is stands
+  standing_ends answer is_ready (Err Waits) stands is =
+      subst (λ (b : Bool). IsStanding change set b rules state answer) is stands
+  standing_ends answer is_ready (Err refusal) stands is = absurd is
+
+  -- there is no such item, or memory was refused
+  pub none_ends : (refusal : Refusal)
+      → ((refusal ≡ NoItem change set) × ((item : Item) → ¬ IsItemAsked state change set item)) ⊎ (refusal ≡ Memory)
+      → IsItemPrinted change set rules state [] (Err refusal)
+  none_ends refusal (inl none) =
+      subst (λ (r : Refusal). IsItemPrinted change set rules state [] (Err r)) (sym none.0)
+      ((refl, refl), λ has. none.1 has.0 has.1, refl)
+  none_ends refusal (inr memory) =
+      subst (λ (r : Refusal). IsItemPrinted change set rules state [] (Err r)) (sym memory) (refl, refl)
+
+-- ---- how an item stands
+
+both_hold : (p q : Bool) → p ≡ true → q ≡ true → (p && q) ≡ true
+both_hold true q p r = r
+both_hold false q p r = p
+
+both_true : (p q : Bool) → (p && q) ≡ true → (p ≡ true) × (q ≡ true)
+both_true true q e = (refl, e)
+both_true false q e = absurd (false≢true e)
+
+pub not_ready : (ready : List Item) (item : Item) → ((k : ℕ) (d : Item) → 0 ≤ k → k < length ready
+    → ((get_or ready k d).change == item.change) && ((get_or ready k d).set == item.set) ≡ false) → ¬ Contains ready item
+not_ready ready item none has =
+    let test : Item → Bool = λ other. (other.change == item.change) && (other.set == item.set) in
+    let itself : test item ≡ true = both_hold (item.change == item.change) (item.set == item.set) (eq-eqb item.change item.change refl) (eq-eqb item.set item.set refl) in
+    false≢true (sym (subst (λ (i : Item). test i ≡ false) has.2 (none has.0 item (omega arith) has.1)) ∙ itself)
+
+pub ready_found : (ready : List Item) (item : Item)
+    → list_any (λ other. (other.change == item.change) && (other.set == item.set)) ready ≡ true → Contains ready item
+ready_found ready item any =
+    let test : Item → Bool = λ other. (other.change == item.change) && (other.set == item.set) in
+    let there = Any-from_list_any test ready any in
+    let both = both_true (there.1.change == item.change) (there.1.set == item.set) there.4 in
+    let change : there.1.change ≡ item.change = eqb-true there.1.change item.change both.0 in
+    let set : there.1.set ≡ item.set = eqb-true there.1.set item.set both.1 in
+    let same : there.1 ≡ item = ap (λ n. record { change = n; set = there.1.set }) change ∙ ap (λ n. record { change = item.change; set = n }) set in
+    subst (Contains ready) same (there.0, there.2, there.3)
+
+pub out_written : (out : List Left) (item : Item) (place : ℕ) (d : Left) (old new : List ℕ) → IsOutAt out item place
+    → old ≡ [] → new ≡ old ++ out_line (get_or out place d) → IsLeftSo out item false new
+out_written out item place d old new at none written =
+    let read : get_or out place d ≡ at.left = get_or_from_slice_get out place at.left d at.here in
+    (refl, at.left, Contains-at out place at.left at.here, at.of, written ∙ ap (λ l. l ++ out_line (get_or out place d)) none ∙ ap out_line read)

@@ -1,0 +1,10 @@
+mod Members
+mod Words
+mod Once
+mod Numbers
+mod Begins
+mod Braces
+mod Rows
+mod Adding
+mod Stream
+mod HandingOver

@@ -1,0 +1,8 @@
+use Rattle.std.proofs.Common.{◌≡◌, ◌++◌, take, not, flat_map, map, ◌||◌}
+use Rattle.std.specs.Prelude.{filter}
+use Rattle.enqueue_lines.specs.Groups.{listed_by}
+use Rattle.enqueue_lines.proofs.handing.listed_in.Given as goal
+
+-- those of the lines so far
+abbrev pub invariant-loop-said : goal.invariant-loop-said
+invariant-loop-said l = l.items.items ≡ flat_map listed_by (take l.said-index l.lines)

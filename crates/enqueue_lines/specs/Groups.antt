@@ -1,0 +1,97 @@
+-- What is ready after a group of lines, which is a whole report or says what changed. The lines of both are the
+-- project's own (`report_text`, `report_changes`).
+use Rattle.std.specs.Prelude.{◌≡◌, ◌==◌, ◌&&◌, ◌||◌, ℕ, Bool, true, List, [], ◌∷◌, ◌++◌, filter, flat_map, length, not}
+use Rattle.std.specs.Prelude.{if◌then◌else◌, Contains}
+use Rattle.std.specs.List.{IsDistinct, list_any}
+use Rattle.std.specs.Ordering.{eq_by_cmp}
+use Rattle.state_core.specs.declared.item.Item.{Item}
+use Rattle.state_core.specs.Items.{item_cmp}
+use Rattle.enqueue_lines.specs.declared.said.Said.{Said}
+use Rattle.enqueue_lines.specs.declared.said.Said.TheVariants.{Ready, NowReady, NotReady, End, Nothing}
+use Rattle.report_changes.specs.Listing.{same_item}
+
+-- whether an item is among these
+abbrev pub has : List Item → Item → Bool
+has items item = list_any (same_item item) items
+
+-- no two of these are one
+abbrev pub AreApart : List Item → Type 0
+AreApart items = IsDistinct (eq_by_cmp item_cmp) items
+
+-- ---- a group: the items that its lines list as ready, say to be ready now, and say not to be any more
+
+pub record Told : Type 0 where
+  pub listed : List Item
+  pub added : List Item
+  pub removed : List Item
+
+abbrev pub listed_by : Said → List Item
+listed_by (Ready item) = item ∷ []
+listed_by said = []
+
+abbrev pub added_by : Said → List Item
+added_by (NowReady item) = item ∷ []
+added_by said = []
+
+abbrev pub removed_by : Said → List Item
+removed_by (NotReady item) = item ∷ []
+removed_by said = []
+
+abbrev pub told_by : List Said → Told
+told_by lines = record {
+  listed = flat_map listed_by lines;
+  added = flat_map added_by lines;
+  removed = flat_map removed_by lines;
+}
+
+-- ---- what is ready after a group that ends with how many are
+
+-- a group that lists items, or after which none is ready, is a whole report: what it lists is ready. Any other takes
+-- away from what was ready before, and adds to it
+abbrev pub is_none : List Item → Bool
+is_none items = length items == 0
+
+abbrev pub is_report : Told → ℕ → Bool
+is_report told count = (count == 0) || not (is_none told.listed)
+
+abbrev pub changed : List Item → Told → List Item
+changed before told = filter (λ item. not (has told.removed item)) before ++ told.added
+
+abbrev pub ready_after : List Item → Told → ℕ → List Item
+ready_after before told count = if is_report told count then told.listed else changed before told
+
+-- a report doesn't say what changed: it adds nothing, and takes nothing away from what it lists
+abbrev pub is_one_kind : Told → ℕ → Bool
+is_one_kind told count =
+    not (is_report told count) || (is_none told.added && (is_none told.listed || is_none told.removed))
+
+-- the end line fits the lines before it: they are of one kind, and make so many items ready, each once
+pub record Fits (before : List Item) (told : Told) (count : ℕ) : Type 0 where
+  pub one_kind : is_one_kind told count ≡ true
+  pub counted : length (ready_after before told count) ≡ count
+  pub apart : AreApart (ready_after before told count)
+
+-- ---- what is handed over
+
+-- what is ready, by the lines so far, and what was handed over before the first of them
+pub record Held : Type 0 where
+  pub ready : List Item
+  pub earlier : List Item
+
+-- the items that are ready and weren't before, in their order
+abbrev pub fresh : Held → List Item → List Item
+fresh held now = filter (λ item. not (has held.ready item || has held.earlier item)) now
+
+abbrev pub holding : List Item → Held
+holding now = record { ready = now; earlier = [] }
+
+-- ---- over groups, by what is ready after each
+
+abbrev pub handed_over : Held → List (List Item) → List Item
+handed_over held [] = []
+handed_over held (now ∷ later) = fresh held now ++ handed_over (holding now) later
+
+-- an item that is ready stays so
+abbrev pub StaysReady : Item → List (List Item) → Type 0
+StaysReady item [] = Unit {0}
+StaysReady item (now ∷ later) = Contains now item × StaysReady item later

@@ -1,0 +1,12 @@
+pub mod Texts
+pub mod Fault
+pub mod Quoting
+pub mod Template
+pub mod Lines
+pub mod Groups
+pub mod Telling
+pub mod Keeping
+pub mod Places
+pub mod Handed
+pub mod Printing
+pub mod Running

@@ -1,0 +1,166 @@
+-- What is handed over of lines as they come: the lines are those of whole groups, one after the other, and then some of
+-- the next group. A group is handed over once its end line has come.
+use Rattle.std.specs.Prelude.{◌≡◌, ℕ, Bool, true, false, List, [], ◌∷◌, ◌++◌, Option, None, Some, All, flat_map}
+use Rattle.std.specs.Io.KnownBytes.{Appends, Consumes, IsAtEnd}
+use Rattle.std.specs.List.{AllZip}
+use Rattle.byte_ends.specs.Lines.{as_line, without_cr}
+use Rattle.state_core.specs.declared.item.Item.{Item}
+use Rattle.enqueue_lines.specs.Groups.{Fits, Held, fresh, handed_over, holding, ready_after, told_by}
+use Rattle.enqueue_lines.specs.Lines.{SaysLine}
+use Rattle.enqueue_lines.specs.Printing.{Pipe, item_lines, report_lines}
+use Rattle.enqueue_lines.specs.declared.run.Step.{Step}
+use Rattle.enqueue_lines.specs.declared.run.Step.TheVariants.{GoesOn, EndsWith, Stops}
+use Rattle.enqueue_lines.specs.declared.said.Said.{Said}
+use Rattle.enqueue_lines.specs.declared.said.Said.TheVariants.{Ready, NowReady, NotReady, End, Nothing}
+
+-- ---- groups
+
+-- what the lines of a group say before its end line, and what that says
+pub record Group : Type 0 where
+  pub lines : List Said
+  pub ready : ℕ
+  pub out : ℕ
+
+abbrev pub group_says : Group → List Said
+group_says group = group.lines ++ End group.ready group.out ∷ []
+
+abbrev pub all_say : List Group → List Said
+all_say groups = flat_map group_says groups
+
+-- no line but the last ends the group
+abbrev pub IsNoEnd : Said → Type 0
+IsNoEnd (Ready item) = Unit {0}
+IsNoEnd (NowReady item) = Unit {0}
+IsNoEnd (NotReady item) = Unit {0}
+IsNoEnd (End ready out) = ⊥
+IsNoEnd Nothing = Unit {0}
+
+abbrev pub AreWhole : List Group → Type 0
+AreWhole groups = All (λ group. All IsNoEnd group.lines) groups
+
+-- ---- what is handed over of groups
+
+-- what is ready after a group, where this was ready before
+abbrev pub ready_then : List Item → Group → List Item
+ready_then before group = ready_after before (told_by group.lines) group.ready
+
+abbrev pub ready_in_turn : List Item → List Group → List (List Item)
+ready_in_turn before [] = []
+ready_in_turn before (group ∷ later) = ready_then before group ∷ ready_in_turn (ready_then before group) later
+
+-- each group's end line fits its lines
+abbrev pub AllFit : List Item → List Group → Type 0
+AllFit before [] = Unit {0}
+AllFit before (group ∷ later) =
+    Fits before (told_by group.lines) group.ready × AllFit (ready_then before group) later
+
+-- what is held after these groups
+abbrev pub held_after : Held → List Group → Held
+held_after held [] = held
+held_after held (group ∷ later) = held_after (holding (ready_then held.ready group)) later
+
+-- the items that groups hand over
+abbrev pub handed_by : Held → List Group → List Item
+handed_by held groups = handed_over held (ready_in_turn held.ready groups)
+
+-- before the first line
+abbrev pub starting : List Item → Held
+starting earlier = record { ready = []; earlier = earlier }
+
+-- ---- lines in bytes
+
+abbrev pub SaysPiece : List ℕ → Said → Type 0
+SaysPiece piece said = SaysLine (without_cr piece) said
+
+-- the bytes are lines that say this, and then a rest
+pub record Says (bytes rest : List ℕ) (lines : List Said) : Type 0 where
+  pub pieces : List (List ℕ)
+  pub whole : bytes ≡ flat_map as_line pieces ++ rest
+  pub each : AllZip SaysPiece pieces lines
+
+-- ---- the law of handing over
+
+-- of bytes that are whole groups and then a rest, these lines and these reports are written
+pub record Prints (pipe : Pipe) (earlier : List Item) (bytes rest lines reports : List ℕ) : Type 0 where
+  pub groups : List Group
+  pub whole : AreWhole groups
+  pub fit : AllFit [] groups
+  pub says : Says bytes rest (all_say groups)
+  pub lines_are : lines ≡ item_lines pipe (handed_by (starting earlier) groups)
+  pub reports_are : reports ≡ report_lines pipe (handed_by (starting earlier) groups)
+
+-- what is known of an input's rest, and of what both outputs took
+pub record Ends : Type 0 where
+  pub left : Option (List ℕ)
+  pub printed : Option (List ℕ)
+  pub reported : Option (List ℕ)
+
+-- these bytes came in between, whose groups were handed over, and after which there is this rest
+pub record HandsOver (pipe : Pipe) (earlier : List Item) (old new : Ends) (rest : List ℕ) : Type 0 where
+  pub came : List ℕ
+  pub lines : List ℕ
+  pub reports : List ℕ
+  pub prints : Prints pipe earlier came rest lines reports
+  pub consumed : Consumes old.left new.left came
+  pub printed : Appends old.printed new.printed lines
+  pub reported : Appends old.reported new.reported reports
+
+-- ---- the parts of a step
+
+-- a line that came says this; or there is no more, and the rest is held
+abbrev pub line_says : Option Said → List Said
+line_says None = []
+line_says (Some said) = said ∷ []
+
+abbrev pub IsSaid : List ℕ → Option Said → Type 0
+IsSaid line None = ⊥
+IsSaid line (Some said) = SaysLine line said
+
+-- what a line does to the lines of a group that are kept: its end is told, and of any other what it tells is kept
+abbrev pub KeepsSaid : Said → List Said → List Said → Step → Type 0
+KeepsSaid (End ready out) old new step = (step ≡ EndsWith ready) × (new ≡ old)
+KeepsSaid (Ready item) old new step = (step ≡ GoesOn) × (told_by new ≡ told_by (old ++ Ready item ∷ []))
+KeepsSaid (NowReady item) old new step = (step ≡ GoesOn) × (told_by new ≡ told_by (old ++ NowReady item ∷ []))
+KeepsSaid (NotReady item) old new step = (step ≡ GoesOn) × (told_by new ≡ told_by (old ++ NotReady item ∷ []))
+KeepsSaid Nothing old new step = (step ≡ GoesOn) × (told_by new ≡ told_by (old ++ Nothing ∷ []))
+
+-- so the next line is read, of these bytes, after which this is held
+abbrev pub StepsOn : List ℕ → List ℕ → List Said → List Said → Step → Type 0
+StepsOn bytes rest old new GoesOn = (said : Said) × Says bytes rest (said ∷ []) × IsNoEnd said
+    × (told_by new ≡ told_by (old ++ said ∷ []))
+StepsOn bytes rest old new (EndsWith ready) = (out : ℕ) × Says bytes rest (End ready out ∷ []) × (new ≡ old)
+StepsOn bytes rest old new Stops = Says bytes rest [] × (new ≡ old)
+
+-- what has come of a group: all its lines, or some
+abbrev pub with_end : List Said → Option ℕ → ℕ → List Said
+with_end lines None out = lines
+with_end lines (Some ready) out = lines ++ End ready out ∷ []
+
+-- these lines came, of which those that tell something are kept; none did where none were counted
+pub record GroupComes (bytes rest : List ℕ) (kept : List Said) (count : ℕ) (ended : Option ℕ) : Type 0 where
+  pub lines : List Said
+  pub out : ℕ
+  pub whole : All IsNoEnd lines
+  pub says : Says bytes rest (with_end lines ended out)
+  pub kept_is : told_by kept ≡ told_by lines
+  pub begun : count ≡ 0 → lines ≡ []
+
+-- a group was handed over: these bytes say it, its end line fits, and what it makes ready was written
+pub record GroupIsHanded (pipe : Pipe) (bytes rest : List ℕ) (old new : Held) (before after : Ends) : Type 0 where
+  pub group : Group
+  pub whole : All IsNoEnd group.lines
+  pub says : Says bytes rest (group_says group)
+  pub fits : Fits old.ready (told_by group.lines) group.ready
+  pub held : new ≡ holding (ready_then old.ready group)
+  pub printed : Appends before.printed after.printed (item_lines pipe (fresh old (ready_then old.ready group)))
+  pub reported : Appends before.reported after.reported (report_lines pipe (fresh old (ready_then old.ready group)))
+
+-- nothing was written
+abbrev pub IsQuiet : Ends → Ends → Type 0
+IsQuiet before after = (after.printed ≡ before.printed) × (after.reported ≡ before.reported)
+
+-- the next group was handed over; or there is none, nor any line or part of one
+abbrev pub HandsGroup : Pipe → List ℕ → List ℕ → Held → Held → Ends → Ends → Bool → Type 0
+HandsGroup pipe bytes rest old new before after true = GroupIsHanded pipe bytes rest old new before after
+HandsGroup pipe bytes rest old new before after false =
+    Says bytes [] [] × IsAtEnd after.left × IsQuiet before after

@@ -1,0 +1,93 @@
+-- The template of a line: text as it is, and the names of fields in braces, for which values are put in. The form is
+-- the project's own.
+use Rattle.std.specs.Prelude.{◌≡◌, ◌⊎◌, ℕ, List, ◌++◌, codes, decimal, flat_map, string_bytes}
+use Rattle.enqueue_lines.specs.Quoting.{quoted}
+use Rattle.enqueue_lines.specs.Texts.{Lacks}
+use Rattle.enqueue_lines.specs.declared.fault.TemplateFault.{TemplateFault}
+use Rattle.enqueue_lines.specs.declared.fault.TemplateFault.TheVariants.{UnknownField, OpenBrace, NoMemory}
+use Rattle.enqueue_lines.specs.declared.template.Field.{Field}
+use Rattle.enqueue_lines.specs.declared.template.Field.TheVariants.{Tenant, Pipeline, Project, Branch, Change, Set}
+use Rattle.enqueue_lines.specs.declared.template.Piece.{Piece}
+use Rattle.enqueue_lines.specs.declared.template.Piece.TheVariants.{Plain, Value}
+use Rattle.enqueue_lines.specs.declared.template.Values.{Values}
+
+abbrev pub name_of : Field → List ℕ
+name_of Tenant = codes "tenant"
+name_of Pipeline = codes "pipeline"
+name_of Project = codes "project"
+name_of Branch = codes "branch"
+name_of Change = codes "change"
+name_of Set = codes "set"
+
+-- ---- how a template is written
+
+-- a piece: a text, or a field
+pub data Part : Type 0 where
+  text : List ℕ → Part
+  field : Field → Part
+
+abbrev pub part_of : Piece → Part
+part_of (Plain plain) = text (string_bytes plain)
+part_of (Value named) = field named
+
+abbrev pub field_spelling : Field → List ℕ
+field_spelling named = codes "{" ++ name_of named ++ codes "}"
+
+abbrev pub spelling : Part → List ℕ
+spelling (text plain) = plain
+spelling (field named) = field_spelling named
+
+abbrev pub spells : List Part → List ℕ
+spells parts = flat_map spelling parts
+
+-- ---- what is put in: each value as a word of a shell
+
+pub record Given : Type 0 where
+  pub tenant : List ℕ
+  pub pipeline : List ℕ
+  pub project : List ℕ
+  pub branch : List ℕ
+  pub change : ℕ
+  pub set : ℕ
+
+abbrev pub given : Values → Given
+given values = record {
+  tenant = values.tenant.now;
+  pipeline = values.pipeline.now;
+  project = values.project.now;
+  branch = values.branch.now;
+  change = values.change;
+  set = values.set;
+}
+
+abbrev pub value_of : Given → Field → List ℕ
+value_of values Tenant = values.tenant
+value_of values Pipeline = values.pipeline
+value_of values Project = values.project
+value_of values Branch = values.branch
+value_of values Change = decimal values.change
+value_of values Set = decimal values.set
+
+abbrev pub filled_part : Given → Part → List ℕ
+filled_part values (text plain) = plain
+filled_part values (field named) = quoted (value_of values named)
+
+-- the pieces with their values, one after the other
+abbrev pub filled : List Part → Given → List ℕ
+filled parts values = flat_map (filled_part values) parts
+
+-- ---- what is refused
+
+-- what follows an open brace has no closing one; or there is one, and what is before the first is no field's name
+abbrev pub IsWrongBrace : List ℕ → TemplateFault → Type 0
+IsWrongBrace after OpenBrace = Lacks 125 after
+IsWrongBrace after (UnknownField name) =
+    (next : List ℕ) × (after ≡ name.now ++ codes "}" ++ next) × Lacks 125 name.now
+    × ((named : Field) → ¬ (name.now ≡ name_of named))
+IsWrongBrace after NoMemory = ⊥
+
+-- the text begins with pieces, after which comes a brace that isn't right; or memory was refused
+abbrev pub IsRefusedTemplate : List ℕ → TemplateFault → Type 0
+IsRefusedTemplate whole fault =
+    ((parts : List Part) × (after : List ℕ) × (whole ≡ spells parts ++ codes "{" ++ after) × IsWrongBrace after fault)
+    ⊎ (fault ≡ NoMemory)

@@ -1,0 +1,251 @@
+//! What is ready by the groups so far, and what each group makes ready.
+
+ghost use Rattle.std.specs.Prelude.{◌≡◌, ◌++◌, ◌||◌, [], ℕ, List, Contains, IfOk, MatchOption, OnErr, OnOk};
+ghost use Rattle.std.specs.Prelude.{filter, flat_map, length, not};
+ghost use Rattle.enqueue_lines.specs.Groups.{Fits, Held, StaysReady, Told, added_by, changed, fresh, handed_over, has};
+ghost use Rattle.enqueue_lines.specs.Groups.{holding, is_one_kind, is_report, listed_by, ready_after, removed_by};
+ghost use Rattle.enqueue_lines.specs.Groups.{told_by};
+ghost use Rattle.enqueue_lines.specs.Telling.{told_shown};
+ghost use Rattle.std.specs.List.Sorted.{IsSorted};
+ghost use Rattle.state_core.specs.declared.item.Item.{Item};
+ghost use Rattle.state_core.specs.Items.{item_cmp};
+
+use super::items::{ItemSet, has_item, in_order};
+use super::said::Said;
+use state_core::Item;
+use std::alloc::{AllocError, Global};
+use std::marker::Model;
+
+/// What is ready by the lines so far. Contracts see it as a list, with that of the items that were handed over before
+/// the first line.
+#[derive(Debug, Drop)]
+pub struct Handing {
+    ready: ItemSet,
+    earlier: ItemSet,
+}
+
+impl Model for Handing {
+    ghost use Rattle.enqueue_lines.specs.Groups.{Held};
+
+    ghost Value = { Held };
+
+    ghost view = { λ handing. record { ready = handing.ready; earlier = handing.earlier } };
+}
+
+impl Handing {
+    /// No line has come, and these items were handed over before.
+    pub fn new(alloc: Global, earlier: ItemSet) -> Handing
+        ensures { result ≡ record { ready = []; earlier = earlier } }
+    {
+        Handing {
+            ready: ItemSet::new(alloc),
+            earlier,
+        }
+    }
+
+    /// Takes a group, of these lines before its end line, which says how many items are ready. Answers the items that
+    /// are ready now and weren't before, in gate order; or none, where the end line doesn't fit the lines: they are
+    /// both of a report and of changes, another number of items is ready by them, or one item twice. Then nothing
+    /// changes, and neither does it where memory is refused. It costs O(n log n) for n items.
+    pub fn take(
+        &mut self,
+        alloc: Global,
+        lines: &[Said],
+        count: u64,
+    ) -> Result<Option<Vec<Item>>, AllocError>
+        ensures taken { IfOk result (λ made. MatchOption made
+            ((¬ Fits self.old.ready (told_by lines.now) count) × (self.new ≡ self.old))
+            (λ items. Fits self.old.ready (told_by lines.now) count
+            × (items.items ≡ fresh self.old (ready_after self.old.ready (told_by lines.now) count))
+            × (self.new ≡ holding (ready_after self.old.ready (told_by lines.now) count)))) }
+        ensures kept { OnErr result (self.new ≡ self.old) }
+    {
+        let told = Group::of(alloc, lines)?;
+        let Some(ready) = self.ready_after(alloc, told, count)? else {
+            return Ok(None);
+        };
+        let items = self.fresh(alloc, ready.as_slice())?;
+        self.ready = ready;
+        self.earlier = ItemSet::new(alloc);
+        Ok(Some(items))
+    }
+
+    /// The items that are ready after a group, where its end fits.
+    fn ready_after(
+        &self,
+        alloc: Global,
+        told: Group,
+        count: u64,
+    ) -> Result<Option<ItemSet>, AllocError>
+        ensures { IfOk result (λ made. MatchOption made
+            (¬ Fits self.now.ready (told_shown told) count)
+            (λ ready. Fits self.now.ready (told_shown told) count
+            × (ready ≡ ready_after self.now.ready (told_shown told) count))) }
+    {
+        if !told.is_one_kind(count) {
+            return Ok(None);
+        }
+        let ready = told.ready_after(alloc, &self.ready, count)?;
+        if ready.len() as u64 != count {
+            return Ok(None);
+        }
+        ItemSet::of(alloc, ready)
+    }
+
+    /// Those of some items that weren't ready before.
+    fn fresh(&self, alloc: Global, now: &[Item]) -> Result<Vec<Item>, AllocError>
+        ensures { IfOk result (λ items. items.items ≡ fresh self.now now.now) }
+    {
+        fresh_of(alloc, &self.ready, &self.earlier, now)
+    }
+}
+
+/// Those of some items that are neither of these.
+fn fresh_of(
+    alloc: Global,
+    ready: &ItemSet,
+    earlier: &ItemSet,
+    now: &[Item],
+) -> Result<Vec<Item>, AllocError>
+    ensures { IfOk result (λ items. items.items
+        ≡ filter (λ item. not (has ready.now item || has earlier.now item)) now.now) }
+{
+    let mut items = Vec::new(alloc);
+    for item in now {
+        if !(ready.has(*item) || earlier.has(*item)) {
+            items.push(*item)?;
+        }
+    }
+    Ok(items)
+}
+
+/// What the lines of a group say: the items that they list as ready, say to be ready now, and say not to be any more.
+#[derive(Debug, Drop)]
+struct Group {
+    listed: Vec<Item>,
+    added: Vec<Item>,
+    removed: Vec<Item>,
+}
+
+impl Group {
+    /// What these lines say.
+    fn of(alloc: Global, lines: &[Said]) -> Result<Group, AllocError>
+        ensures { IfOk result (λ told. told_shown told ≡ told_by lines.now) }
+    {
+        Ok(Group {
+            listed: listed_in(alloc, lines)?,
+            added: added_in(alloc, lines)?,
+            removed: removed_in(alloc, lines)?,
+        })
+    }
+
+    /// Whether the lines are those of a whole report, where so many items are ready after them.
+    fn is_report(&self, count: u64) -> bool
+        ensures { result ≡ is_report (told_shown self.now) count }
+    {
+        count == 0 || !self.listed.is_empty()
+    }
+
+    /// Whether the lines are of one kind.
+    fn is_one_kind(&self, count: u64) -> bool
+        ensures { result ≡ is_one_kind (told_shown self.now) count }
+    {
+        !self.is_report(count)
+            || (self.added.is_empty() && (self.listed.is_empty() || self.removed.is_empty()))
+    }
+
+    /// The items that are ready after the group, where these were before.
+    fn ready_after(
+        self,
+        alloc: Global,
+        before: &ItemSet,
+        count: u64,
+    ) -> Result<Vec<Item>, AllocError>
+        ensures { IfOk result (λ ready. ready.items ≡ ready_after before.now (told_shown self) count) }
+    {
+        if self.is_report(count) {
+            return Ok(self.listed);
+        }
+        changed(
+            alloc,
+            before.as_slice(),
+            self.removed.as_slice(),
+            self.added.as_slice(),
+        )
+    }
+}
+
+/// Some items without those that are removed, and then those that are added.
+fn changed(
+    alloc: Global,
+    before: &[Item],
+    removed: &[Item],
+    added: &[Item],
+) -> Result<Vec<Item>, AllocError>
+    ensures { IfOk result (λ now. now.items
+        ≡ filter (λ item. not (has removed.now item)) before.now ++ added.now) }
+{
+    let ordered = in_order(alloc, removed)?;
+    let mut now = without(alloc, before, ordered.as_slice())?;
+    now.extend_from_slice(added)?;
+    Ok(now)
+}
+
+/// Some items without those in order.
+fn without(alloc: Global, before: &[Item], ordered: &[Item]) -> Result<Vec<Item>, AllocError>
+    requires { IsSorted item_cmp ordered.now }
+    ensures { IfOk result (λ now. now.items ≡ filter (λ item. not (has ordered.now item)) before.now) }
+{
+    let mut now = Vec::new(alloc);
+    for item in before {
+        if !has_item(ordered, *item) {
+            now.push(*item)?;
+        }
+    }
+    Ok(now)
+}
+
+/// The items that lines list as ready.
+fn listed_in(alloc: Global, lines: &[Said]) -> Result<Vec<Item>, AllocError>
+    ensures { IfOk result (λ items. items.items ≡ flat_map listed_by lines.now) }
+{
+    let mut items = Vec::new(alloc);
+    for said in lines {
+        if let Said::Ready(item) = said {
+            items.push(*item)?;
+        }
+    }
+    Ok(items)
+}
+
+/// The items that lines say to be ready now.
+fn added_in(alloc: Global, lines: &[Said]) -> Result<Vec<Item>, AllocError>
+    ensures { IfOk result (λ items. items.items ≡ flat_map added_by lines.now) }
+{
+    let mut items = Vec::new(alloc);
+    for said in lines {
+        if let Said::NowReady(item) = said {
+            items.push(*item)?;
+        }
+    }
+    Ok(items)
+}
+
+/// The items that lines say not to be ready any more.
+fn removed_in(alloc: Global, lines: &[Said]) -> Result<Vec<Item>, AllocError>
+    ensures { IfOk result (λ items. items.items ≡ flat_map removed_by lines.now) }
+{
+    let mut items = Vec::new(alloc);
+    for said in lines {
+        if let Said::NotReady(item) = said {
+            items.push(*item)?;
+        }
+    }
+    Ok(items)
+}
+
+/// A law: an item that is ready is handed over no more while it stays so, however many groups come.
+pub fn ready_items_are_handed_over_once()
+    ensures { (item : Item) → (held : Held) → (later : List (List Item)) → Contains held.ready item
+        → StaysReady item later → ¬ Contains (handed_over held later) item }
+{}

@@ -1,0 +1,351 @@
+//! Hands over the items of lines as they come.
+
+ghost use Rattle.std.specs.Prelude.{◌≡◌, ◌⊎◌, ◌++◌, ◌<◌, ◌∷◌, ℕ, List, [], IfErr, IfOk, Ok, OnErr, OnOk, None};
+ghost use Rattle.std.specs.Prelude.{false, true};
+ghost use Rattle.std.specs.Io.KnownBytes.{Appends, Consumes, IsAtEnd};
+ghost use Rattle.enqueue_lines.specs.Groups.{Fits, Held, fresh, holding, ready_after, told_by};
+ghost use Rattle.enqueue_lines.specs.Lines.{IsShort, SaysLine};
+ghost use Rattle.enqueue_lines.specs.Printing.{item_lines, pipe_shown, report_lines};
+ghost use Rattle.enqueue_lines.specs.Running.{GroupComes, HandsGroup, HandsOver, IsSaid, KeepsSaid, Says, StepsOn, line_says};
+ghost use Rattle.enqueue_lines.specs.declared.said.Said.{Said};
+
+use super::fault::EnqueueFault;
+use super::handing::Handing;
+use super::items::ItemSet;
+use super::pipeline::Pipeline;
+use super::said::{Said, read_line};
+use byte_ends::{BytesFault, Drain, Source, write_all};
+use line_reader::LineReader;
+use state_core::Item;
+use std::alloc::Global;
+
+/// How many bytes a line may have: one that a site prints has at most 96.
+const LINE_LIMIT: usize = 4096;
+
+/// A group whose lines come: what they say, and how many came.
+#[derive(Drop)]
+struct Coming {
+    lines: Vec<Said>,
+    count: u64,
+}
+
+/// How the lines of a group go on.
+#[derive(Clone, Copy, Debug, PartialEq, Eq)]
+enum Step {
+    /// There may be more of them.
+    GoesOn,
+    /// The end line came, which says how many items are ready.
+    EndsWith(u64),
+    /// The source ended.
+    Stops,
+}
+
+/// Reads what a site prints, reports or groups of changes, and writes a line for each item that became ready, in gate
+/// order, as `Pipeline::texts_of` says; the reports go to the error output. A group of lines counts once its end line
+/// has come: then the items that are ready after it, and weren't before or in `earlier`, are written at once, before
+/// more is read. Ends well at the end of the source, after an end line. Refusals: 1 `BadLine`, the line of this number
+/// is none that a site prints; 2 `BadEnd`, the end line of this number doesn't fit the lines before it; 3 `NoEnd`, the
+/// source ended after another line, or within one; 4 `ReadFault`, the source failed; 5 `NoMemory`; 6 `WriteFault`, an
+/// output failed. All groups before were handed over, and nothing of the group that is refused, but after `WriteFault`.
+/// It costs O(n log n) for a group after which n items are ready, and O(n) for n bytes that are read or written.
+pub fn hand_over<S: Source, O: Drain, E: Drain>(
+    alloc: Global,
+    pipeline: &Pipeline<'_>,
+    earlier: ItemSet,
+    source: &mut S,
+    output: &mut O,
+    errors: &mut E,
+) -> Result<(), EnqueueFault>
+    ensures ok { OnOk result (HandsOver (pipe_shown pipeline.now) earlier
+        (record { left = S.left source.old; printed = O.taken output.old; reported = E.taken errors.old })
+        (record { left = S.left source.new; printed = O.taken output.new; reported = E.taken errors.new }) []
+        × IsAtEnd (S.left source.new)) }
+    // The groups before were handed over, and nothing else, unless an output failed.
+    ensures refused { IfErr result (λ fault. (fault ≡ EnqueueFault.WriteFault) ⊎ ((rest : List ℕ)
+        × HandsOver (pipe_shown pipeline.now) earlier
+        (record { left = S.left source.old; printed = O.taken output.old; reported = E.taken errors.old })
+        (record { left = S.left source.new; printed = O.taken output.new; reported = E.taken errors.new }) rest)) }
+{
+    let Ok(mut reader) = LineReader::new(alloc, LINE_LIMIT) else {
+        return Err(EnqueueFault::NoMemory);
+    };
+    let mut handing = Handing::new(alloc, earlier);
+    let mut number = 0u64;
+    for _group in 0..u64::MAX {
+        match hand_group(
+            alloc,
+            pipeline,
+            &mut number,
+            &mut reader,
+            &mut handing,
+            source,
+            output,
+            errors,
+        ) {
+            Ok(true) => {}
+            Ok(false) => return Ok(()),
+            Err(fault) => return Err(fault),
+        }
+    }
+    Err(EnqueueFault::ReadFault)
+}
+
+/// Hands over the next group, and says whether there was one. So many lines came before it.
+fn hand_group<S: Source, O: Drain, E: Drain>(
+    alloc: Global,
+    pipeline: &Pipeline<'_>,
+    number: &mut u64,
+    reader: &mut LineReader,
+    handing: &mut Handing,
+    source: &mut S,
+    output: &mut O,
+    errors: &mut E,
+) -> Result<bool, EnqueueFault>
+    ensures ok { IfOk result (λ more. (came : List ℕ) × Consumes (S.left source.old) (S.left source.new) came
+        × HandsGroup (pipe_shown pipeline.now) (reader.old.held ++ came) reader.new.held handing.old handing.new
+        (record { left = S.left source.old; printed = O.taken output.old; reported = E.taken errors.old })
+        (record { left = S.left source.new; printed = O.taken output.new; reported = E.taken errors.new }) more) }
+    ensures refused { IfErr result (λ fault. (fault ≡ EnqueueFault.WriteFault)
+        ⊎ ((came : List ℕ) × Consumes (S.left source.old) (S.left source.new) came
+        × (O.taken output.new ≡ O.taken output.old) × (E.taken errors.new ≡ E.taken errors.old))) }
+{
+    let mut coming = Coming {
+        lines: Vec::new(alloc),
+        count: 0,
+    };
+    match read_group(alloc, *number, reader, &mut coming, source) {
+        Ok(Some(ready)) => {
+            *number = number.saturating_add(coming.count);
+            give(
+                alloc, pipeline, *number, handing, &coming, ready, output, errors,
+            )
+        }
+        Ok(None) => end_of(coming.count, reader.held()),
+        Err(fault) => Err(fault),
+    }
+}
+
+/// That there is no more group, where so many lines of one came, and this is held without a line end.
+fn end_of(count: u64, held: &[u8]) -> Result<bool, EnqueueFault>
+    ensures ok { IfOk result (λ more. (more ≡ false) × (count ≡ 0) × (held.now ≡ [])) }
+    ensures refused { IfErr result (λ fault. fault ≡ EnqueueFault.NoEnd) }
+{
+    if count == 0 && held.is_empty() {
+        Ok(false)
+    } else {
+        Err(EnqueueFault::NoEnd)
+    }
+}
+
+/// Hands over a group, whose end line has this number, and says so.
+fn give<O: Drain, E: Drain>(
+    alloc: Global,
+    pipeline: &Pipeline<'_>,
+    number: u64,
+    handing: &mut Handing,
+    coming: &Coming,
+    ready: u64,
+    output: &mut O,
+    errors: &mut E,
+) -> Result<bool, EnqueueFault>
+    ensures ok { IfOk result (λ more. let told = told_by coming.now.lines.items in
+        let now = ready_after handing.old.ready told ready in
+        (more ≡ true) × Fits handing.old.ready told ready × (handing.new ≡ holding now)
+        × Appends (O.taken output.old) (O.taken output.new) (item_lines (pipe_shown pipeline.now) (fresh handing.old now))
+        × Appends (E.taken errors.old) (E.taken errors.new)
+        (report_lines (pipe_shown pipeline.now) (fresh handing.old now))) }
+    ensures refused { IfErr result (λ fault. (fault ≡ EnqueueFault.WriteFault)
+        ⊎ ((O.taken output.new ≡ O.taken output.old) × (E.taken errors.new ≡ E.taken errors.old))) }
+{
+    match taken(alloc, handing, coming, number, ready) {
+        Ok(items) => match write_items(alloc, pipeline, items.as_slice(), output, errors) {
+            Ok(()) => Ok(true),
+            Err(fault) => Err(fault),
+        },
+        Err(fault) => Err(fault),
+    }
+}
+
+/// Reads the lines of a group, after so many lines. Answers how many items its end line says to be ready; or none where
+/// the source ended before that.
+fn read_group<S: Source>(
+    alloc: Global,
+    before: u64,
+    reader: &mut LineReader,
+    coming: &mut Coming,
+    source: &mut S,
+) -> Result<Option<u64>, EnqueueFault>
+    requires { coming.old.lines.items ≡ [] }
+    ensures comes { (came : List ℕ) × Consumes (S.left source.old) (S.left source.new) came
+        × IfOk result (GroupComes (reader.old.held ++ came) reader.new.held coming.new.lines.items coming.new.count) }
+    ensures end { result ≡ Ok None → IsAtEnd (S.left source.new) }
+    ensures fault { IfErr result (λ fault. ¬ (fault ≡ EnqueueFault.WriteFault)) }
+{
+    for _line in 0..u64::MAX {
+        let number = before.saturating_add(coming.count).saturating_add(1);
+        match read_on(alloc, number, reader, coming, source) {
+            Ok(Step::GoesOn) => {}
+            Ok(Step::EndsWith(ready)) => return Ok(Some(ready)),
+            Ok(Step::Stops) => return Ok(None),
+            Err(fault) => return Err(fault),
+        }
+    }
+    Err(EnqueueFault::ReadFault)
+}
+
+/// Reads the next line of a group, which has this number.
+fn read_on<S: Source>(
+    alloc: Global,
+    number: u64,
+    reader: &mut LineReader,
+    coming: &mut Coming,
+    source: &mut S,
+) -> Result<Step, EnqueueFault>
+    ensures moves { (came : List ℕ) × Consumes (S.left source.old) (S.left source.new) came
+        × IfOk result (StepsOn (reader.old.held ++ came) reader.new.held coming.old.lines.items coming.new.lines.items) }
+    ensures counts { IfOk result (λ step. step ≡ Step.Stops ⊎ (0 < coming.new.count)) }
+    ensures end { result ≡ Ok Step.Stops → IsAtEnd (S.left source.new) × (coming.new.count ≡ coming.old.count) }
+    ensures fault { IfErr result (λ fault. ¬ (fault ≡ EnqueueFault.WriteFault)) }
+{
+    match next_said(alloc, number, reader, source) {
+        Ok(Some(said)) => keep(coming, said),
+        Ok(None) => Ok(Step::Stops),
+        Err(fault) => Err(fault),
+    }
+}
+
+/// Keeps what a line says, and says how the group goes on.
+fn keep(coming: &mut Coming, said: Said) -> Result<Step, EnqueueFault>
+    ensures kept { IfOk result (KeepsSaid said coming.old.lines.items coming.new.lines.items) }
+    ensures counted { OnOk result (0 < coming.new.count) }
+    ensures fault { IfErr result (λ fault. fault ≡ EnqueueFault.NoMemory) }
+{
+    coming.count = coming.count.saturating_add(1);
+    match said {
+        Said::End(ready, _) => Ok(Step::EndsWith(ready)),
+        Said::Nothing => Ok(Step::GoesOn),
+        Said::Ready(_) | Said::NowReady(_) | Said::NotReady(_) => push_said(
+            &mut coming.lines,
+            said,
+        ),
+    }
+}
+
+/// Keeps what a line tells.
+fn push_said(lines: &mut Vec<Said>, said: Said) -> Result<Step, EnqueueFault>
+    ensures kept { IfOk result (λ step. (step ≡ Step.GoesOn) × (lines.new.items ≡ lines.old.items ++ said ∷ [])) }
+    ensures fault { IfErr result (λ fault. fault ≡ EnqueueFault.NoMemory) }
+{
+    match lines.push(said) {
+        Ok(()) => Ok(Step::GoesOn),
+        Err(_) => Err(EnqueueFault::NoMemory),
+    }
+}
+
+/// What the next line says, which has this number; none at the end of the source.
+fn next_said<S: Source>(
+    alloc: Global,
+    number: u64,
+    reader: &mut LineReader,
+    source: &mut S,
+) -> Result<Option<Said>, EnqueueFault>
+    ensures moves { (came : List ℕ) × Consumes (S.left source.old) (S.left source.new) came
+        × IfOk result (λ read. Says (reader.old.held ++ came) reader.new.held (line_says read)) }
+    ensures end { result ≡ Ok None → IsAtEnd (S.left source.new) }
+    ensures fault { IfErr result (λ fault. ¬ (fault ≡ EnqueueFault.WriteFault)) }
+{
+    match reader.next_line(source) {
+        Ok(true) => said_in(alloc, number, reader.line()),
+        Ok(false) => Ok(None),
+        Err(BytesFault::TooLong) => Err(EnqueueFault::BadLine(number)),
+        Err(BytesFault::ReadFault) => Err(EnqueueFault::ReadFault),
+        Err(BytesFault::NoMemory) => Err(EnqueueFault::NoMemory),
+    }
+}
+
+/// What the line of this number says.
+fn said_in(alloc: Global, number: u64, line: &[u8]) -> Result<Option<Said>, EnqueueFault>
+    ensures said { IfOk result (IsSaid line.now) }
+    ensures refused { IfErr result (λ fault. ((fault ≡ EnqueueFault.BadLine number)
+        × ((said : Said) → IsShort said → ¬ SaysLine line.now said)) ⊎ (fault ≡ EnqueueFault.NoMemory)) }
+{
+    match read_line(alloc, line) {
+        Ok(Some(said)) => Ok(Some(said)),
+        Ok(None) => Err(EnqueueFault::BadLine(number)),
+        Err(_) => Err(EnqueueFault::NoMemory),
+    }
+}
+
+/// The items that a group makes ready, whose end line has this number.
+fn taken(
+    alloc: Global,
+    handing: &mut Handing,
+    coming: &Coming,
+    number: u64,
+    ready: u64,
+) -> Result<Vec<Item>, EnqueueFault>
+    ensures taken { IfOk result (λ items. let told = told_by coming.now.lines.items in
+        let now = ready_after handing.old.ready told ready in
+        Fits handing.old.ready told ready × (items.items ≡ fresh handing.old now) × (handing.new ≡ holding now)) }
+    ensures refused { IfErr result (λ fault. ((fault ≡ EnqueueFault.BadEnd number)
+        × ¬ Fits handing.old.ready (told_by coming.now.lines.items) ready) ⊎ (fault ≡ EnqueueFault.NoMemory)) }
+{
+    match handing.take(alloc, coming.lines.as_slice(), ready) {
+        Ok(Some(items)) => Ok(items),
+        Ok(None) => Err(EnqueueFault::BadEnd(number)),
+        Err(_) => Err(EnqueueFault::NoMemory),
+    }
+}
+
+/// Writes what there is to write of items.
+fn write_items<O: Drain, E: Drain>(
+    alloc: Global,
+    pipeline: &Pipeline<'_>,
+    items: &[Item],
+    output: &mut O,
+    errors: &mut E,
+) -> Result<(), EnqueueFault>
+    ensures ok { OnOk result
+        (Appends (O.taken output.old) (O.taken output.new) (item_lines (pipe_shown pipeline.now) items.now)
+        × Appends (E.taken errors.old) (E.taken errors.new) (report_lines (pipe_shown pipeline.now) items.now)) }
+    ensures refused { IfErr result (λ fault. (fault ≡ EnqueueFault.WriteFault)
+        ⊎ ((O.taken output.new ≡ O.taken output.old) × (E.taken errors.new ≡ E.taken errors.old))) }
+{
+    match pipeline.texts_of(alloc, items) {
+        Ok(texts) => send_both(
+            texts.lines.as_slice(),
+            texts.reports.as_slice(),
+            output,
+            errors,
+        ),
+        Err(_) => Err(EnqueueFault::NoMemory),
+    }
+}
+
+/// Writes a text to the output, and then another one to the error output.
+fn send_both<O: Drain, E: Drain>(
+    lines: &[u8],
+    reports: &[u8],
+    output: &mut O,
+    errors: &mut E,
+) -> Result<(), EnqueueFault>
+    ensures ok { OnOk result (Appends (O.taken output.old) (O.taken output.new) lines.now
+        × Appends (E.taken errors.old) (E.taken errors.new) reports.now) }
+    ensures refused { IfErr result (λ fault. fault ≡ EnqueueFault.WriteFault) }
+{
+    match send(output, lines) {
+        Ok(()) => send(errors, reports),
+        Err(fault) => Err(fault),
+    }
+}
+
+/// Writes a text.
+fn send<D: Drain>(drain: &mut D, text: &[u8]) -> Result<(), EnqueueFault>
+    ensures ok { OnOk result (Appends (D.taken drain.old) (D.taken drain.new) text.now) }
+    ensures refused { IfErr result (λ fault. fault ≡ EnqueueFault.WriteFault) }
+{
+    match write_all(drain, text) {
+        Ok(()) => Ok(()),
+        Err(_) => Err(EnqueueFault::WriteFault),
+    }
+}

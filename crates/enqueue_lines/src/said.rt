@@ -1,0 +1,229 @@
+//! What a line that a site prints says of which items are ready.
+
+ghost use Rattle.std.specs.Prelude.{◌≡◌, ◌<◌, ◌^◌, ◌++◌, ℕ, IfOk, IfSome, MatchBool, MatchOption, OnOk, Some, codes};
+ghost use Rattle.std.specs.Prelude.{◌∷◌, IsSomeAnd, List, decimal, string_bytes};
+ghost use Rattle.enqueue_lines.specs.Texts.{Lacks};
+ghost use Rattle.enqueue_lines.specs.Lines.{Begins, IsPassedOver, IsShort, IsShortItem, SaysLine, counts_text, rest_of};
+ghost use Rattle.enqueue_lines.specs.Lines.{said_text, word_of};
+ghost use Rattle.enqueue_lines.specs.declared.said.Said.{Said};
+ghost use Rattle.report_text.specs.Report.{item_text};
+ghost use Rattle.state_core.specs.declared.item.Item.{Item};
+
+use state_core::Item;
+use std::alloc::{AllocError, Global};
+use std::str;
+
+/// What a line that a site prints says of which items are ready.
+#[derive(Clone, Copy, Debug, PartialEq, Eq)]
+pub enum Said {
+    /// `ready N,P`: the item is ready.
+    Ready(Item),
+    /// `+ready N,P`: the item is ready, and wasn't.
+    NowReady(Item),
+    /// `-ready N,P`: the item was ready, and isn't any more.
+    NotReady(Item),
+    /// `end R O`: these were all lines; so many items are ready, and so many are left out.
+    End(u64, u64),
+    /// `out ..`, `gone ..` or `listening ..`: nothing of which items are ready.
+    Nothing,
+}
+
+/// What a line says, without its line end; none where it is none that a site prints. Of a line `out ..`, `gone ..` or
+/// `listening ..` the first word is looked at alone. It costs O(n) for n bytes.
+pub fn read_line(alloc: Global, line: &[u8]) -> Result<Option<Said>, AllocError>
+    ensures { IfOk result (λ read. MatchOption read
+        ((said : Said) → IsShort said → ¬ SaysLine line.now said) (SaysLine line.now)) }
+{
+    if is_passed_over(line) {
+        return Ok(Some(Said::Nothing));
+    }
+    match likely_said(line) {
+        None => Ok(None),
+        Some(said) => confirmed(alloc, line, said),
+    }
+}
+
+/// What a line says, where it says this.
+fn confirmed(alloc: Global, line: &[u8], said: Said) -> Result<Option<Said>, AllocError>
+    requires { ¬ (said ≡ Said.Nothing) }
+    ensures { IfOk result (λ read. MatchOption read
+        (¬ SaysLine line.now said) (λ other. (other ≡ said) × SaysLine line.now other)) }
+{
+    let written = text_of(alloc, said)?;
+    if written.as_bytes() == line {
+        Ok(Some(said))
+    } else {
+        Ok(None)
+    }
+}
+
+/// The text of a line, without its line end.
+fn text_of(alloc: Global, said: Said) -> Result<String, AllocError>
+    requires { ¬ (said ≡ Said.Nothing) }
+    ensures { IfOk result (λ text. string_bytes text ≡ said_text said) }
+{
+    match said {
+        Said::Ready(item) => item_line(alloc, "ready ", item),
+        Said::NowReady(item) => item_line(alloc, "+ready ", item),
+        Said::NotReady(item) => item_line(alloc, "-ready ", item),
+        Said::End(ready, out) => end_line(alloc, ready, out),
+        Said::Nothing => unreachable!(),
+    }
+}
+
+/// A word and an item.
+fn item_line(alloc: Global, word: &str, item: Item) -> Result<String, AllocError>
+    ensures { IfOk result (λ text. string_bytes text ≡ word.now ++ item_text item) }
+{
+    let mut text = String::from_str(alloc, word)?;
+    add_item(&mut text, item)?;
+    Ok(text)
+}
+
+/// The end of a group.
+fn end_line(alloc: Global, ready: u64, out: u64) -> Result<String, AllocError>
+    ensures { IfOk result (λ text. string_bytes text ≡ codes "end " ++ counts_text ready out) }
+{
+    let mut text = String::from_str(alloc, "end ")?;
+    add_counts(&mut text, ready, out)?;
+    Ok(text)
+}
+
+/// Adds an item, as `101,2`.
+pub fn add_item(text: &mut String, item: Item) -> Result<(), AllocError>
+    ensures { OnOk result (string_bytes text.new ≡ string_bytes text.old ++ item_text item) }
+{
+    let change = item.change;
+    let set = item.set;
+    write!(text, "{change},{set}")
+}
+
+/// Adds how many items are ready, and how many are left out.
+fn add_counts(text: &mut String, ready: u64, out: u64) -> Result<(), AllocError>
+    ensures { OnOk result (string_bytes text.new ≡ string_bytes text.old ++ counts_text ready out) }
+{
+    write!(text, "{ready} {out}")
+}
+
+/// Whether a line says nothing of which items are ready.
+fn is_passed_over(line: &[u8]) -> bool
+    ensures { MatchBool result (IsPassedOver line.now) (¬ IsPassedOver line.now) }
+{
+    begins(line, b"out ") || begins(line, b"gone ") || begins(line, b"listening ")
+}
+
+/// Whether a line begins with this.
+fn begins(line: &[u8], word: &[u8]) -> bool
+    ensures { MatchBool result (Begins word.now line.now) (¬ Begins word.now line.now) }
+{
+    line.starts_with(word)
+}
+
+/// What a line says, where its text is that of what it says.
+fn likely_said(line: &[u8]) -> Option<Said>
+    ensures likely { (said : Said) → IsShort said → ¬ (said ≡ Said.Nothing) → line.now ≡ said_text said
+        → result ≡ Some said }
+    ensures something { IfSome result (λ said. ¬ (said ≡ Said.Nothing)) }
+{
+    let Ok(text) = str::from_utf8(line) else {
+        return None;
+    };
+    let (word, rest) = cut_at_blank(text)?;
+    said_by(word, rest)
+}
+
+/// What a word and what follows it say.
+fn said_by(word: &str, rest: &str) -> Option<Said>
+    ensures likely { (said : Said) → IsShort said → word.now ≡ word_of said → rest.now ≡ rest_of said
+        → ¬ (said ≡ Said.Nothing) → result ≡ Some said }
+    ensures something { IfSome result (λ said. ¬ (said ≡ Said.Nothing)) }
+{
+    match word {
+        "ready" => Some(Said::Ready(likely_item(rest)?)),
+        "+ready" => Some(Said::NowReady(likely_item(rest)?)),
+        "-ready" => Some(Said::NotReady(likely_item(rest)?)),
+        "end" => {
+            let (ready, out) = likely_end(rest)?;
+            Some(Said::End(ready, out))
+        }
+        _ => None,
+    }
+}
+
+/// The item that a text is, where it is one's.
+fn likely_item(text: &str) -> Option<Item>
+    ensures { (item : Item) → IsShortItem item → text.now ≡ item_text item → result ≡ Some item }
+{
+    let (change, set) = cut_at_comma(text)?;
+    let change = short_number(change)?;
+    let set = short_number(set)?;
+    Some(Item { change, set })
+}
+
+/// The two counts that a text is, where it is theirs.
+fn likely_end(text: &str) -> Option<(u64, u64)>
+    ensures { (ready out : ℕ) → ready < 2 ^ 64 → out < 2 ^ 64 → text.now ≡ counts_text ready out
+        → result ≡ Some (ready, out) }
+{
+    let (ready, out) = cut_at_blank(text)?;
+    let ready = long_number(ready)?;
+    let out = long_number(out)?;
+    Some((ready, out))
+}
+
+/// The item that a text is, as `101,2`; none where it is none's. It costs O(n) for n bytes.
+pub fn read_item(alloc: Global, text: &[u8]) -> Result<Option<Item>, AllocError>
+    ensures { IfOk result (λ read. MatchOption read
+        ((item : Item) → IsShortItem item → ¬ (text.now ≡ item_text item)) (λ item. text.now ≡ item_text item)) }
+{
+    let Ok(written) = str::from_utf8(text) else {
+        return Ok(None);
+    };
+    match likely_item(written) {
+        None => Ok(None),
+        Some(item) => confirmed_item(alloc, text, item),
+    }
+}
+
+/// An item, where this is its text.
+fn confirmed_item(alloc: Global, text: &[u8], item: Item) -> Result<Option<Item>, AllocError>
+    ensures { IfOk result (λ read. MatchOption read
+        (¬ (text.now ≡ item_text item)) (λ other. (other ≡ item) × (text.now ≡ item_text item))) }
+{
+    let written = item_line(alloc, "", item)?;
+    if written.as_bytes() == text {
+        Ok(Some(item))
+    } else {
+        Ok(None)
+    }
+}
+
+/// What comes before the first blank of a text, and what comes after it.
+fn cut_at_blank(text: &str) -> Option<(&str, &str)>
+    ensures { (front rest : List ℕ) → Lacks 32 front → text.entry.now ≡ front ++ 32 ∷ rest
+        → IsSomeAnd result (λ parts. (parts.0.now ≡ front) × (parts.1.now ≡ rest)) }
+{
+    text.split_once(' ')
+}
+
+/// What comes before the first comma of a text, and what comes after it.
+fn cut_at_comma(text: &str) -> Option<(&str, &str)>
+    ensures { (front rest : List ℕ) → Lacks 44 front → text.entry.now ≡ front ++ 44 ∷ rest
+        → IsSomeAnd result (λ parts. (parts.0.now ≡ front) × (parts.1.now ≡ rest)) }
+{
+    text.split_once(',')
+}
+
+/// The number of 32 bits that digits write.
+fn short_number(digits: &str) -> Option<u32>
+    ensures { (number : ℕ) → number < 2 ^ 32 → digits.now ≡ decimal number → result ≡ Some number }
+{
+    digits.parse::<u32>().ok()
+}
+
+/// The number of 64 bits that digits write.
+fn long_number(digits: &str) -> Option<u64>
+    ensures { (number : ℕ) → number < 2 ^ 64 → digits.now ≡ decimal number → result ≡ Some number }
+{
+    digits.parse::<u64>().ok()
+}

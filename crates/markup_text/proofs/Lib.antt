@@ -1,0 +1,4 @@
+mod LetterSteps
+mod Codes
+mod Plain
+mod ReadBack

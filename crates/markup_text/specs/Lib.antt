@@ -1,0 +1,4 @@
+pub mod Shown
+pub mod Html
+pub mod Reading
+pub mod Pieces

@@ -1,0 +1,4 @@
+pub mod Numbers
+pub mod Form
+pub mod Choices
+pub mod Routes

@@ -1,0 +1,2 @@
+mod OwnHosts
+mod Appended

@@ -1,0 +1,81 @@
+-- How a request is answered.
+use Rattle.std.specs.Prelude.{◌≡◌, ◌⊎◌, ℕ, Bool, List, [], ◌∷◌, ◌++◌, Option, codes, take}
+use Rattle.std.specs.Str.{bytes_eq}
+use Rattle.http_header.specs.FieldValue.{FieldValue}
+use Rattle.http_uri.specs.Uri.{uri_path}
+use Rattle.http.specs.declared.request.Parts.{Parts}
+use Rattle.http1.specs.Fields.{Header}
+use Rattle.http_server.specs.Response.{IsResponse}
+use Rattle.http_server.specs.declared.response.Response.{Response}
+use Rattle.page_routes.specs.declared.page.Page.{Page}
+use Rattle.page_routes.specs.declared.page.Status.{Status}
+use Rattle.page_routes.specs.declared.page.Status.TheVariants.{Found, NotFound, Unavailable}
+use Rattle.page_routes.specs.declared.route.Route.{Route}
+use Rattle.page_server.specs.Asked.{IsAsked}
+use Rattle.page_server.specs.Fields.{response_fields}
+use Rattle.page_server.specs.Refusals.{code_of, problem_kind, refusal_text}
+use Rattle.page_server.specs.declared.asked.Asked.TheVariants as asked
+use Rattle.page_server.specs.declared.refusal.Refusal.{Refusal}
+use Rattle.page_server.specs.declared.refusal.Refusal.TheVariants.{NoHost, OtherHost, OtherMethod, NoPage, NoMemory}
+
+abbrev pub status_of : Status → ℕ
+status_of Found = 200
+status_of NotFound = 404
+status_of Unavailable = 503
+
+-- the response is the page, at this date
+abbrev pub IsPage : Page → Option FieldValue → Response → Type 0
+IsPage page date = IsResponse (status_of page.status) (response_fields page.kind date) page.body.items
+
+-- a refused method is told which methods there are
+abbrev pub allow_fields : Refusal → List Header
+allow_fields OtherMethod = (codes "allow", codes "GET, HEAD") ∷ []
+allow_fields other = []
+
+-- the response is the refusal, for programs or for people, at this date
+abbrev pub IsRefusal : Refusal → Bool → Option FieldValue → Response → Type 0
+IsRefusal refusal for_programs date =
+    IsResponse (code_of refusal) (response_fields (problem_kind for_programs) date ++ allow_fields refusal)
+    (refusal_text for_programs refusal)
+
+-- whether the request is one of a program
+abbrev pub is_for_programs : Parts → Bool
+is_for_programs head = bytes_eq (codes "/api/") (take 5 (uri_path head.uri))
+
+-- the response is 503, with its text unless there is no memory even for that
+abbrev pub IsFailure : Bool → Option FieldValue → Response → Type 0
+IsFailure for_programs date response =
+    IsRefusal NoMemory for_programs date response ⊎ IsResponse 503 [] [] response
+
+-- who makes the pages: which page answers a route, and what a request leaves for which none is made
+module _ {P : Type 0} (pages : P → Route → Page → P → Type 0) (moves : P → P → Type 0) where
+  -- what a refusal leaves: only one for another host is noted
+  abbrev pub Leaves : Refusal → P → P → Type 0
+  Leaves OtherHost old new = moves old new
+  Leaves NoHost old new = new ≡ old
+  Leaves OtherMethod old new = new ≡ old
+  Leaves NoPage old new = new ≡ old
+  Leaves NoMemory old new = new ≡ old
+
+  -- a page that is there is sent, or what could be made of it wasn't to be sent, or it couldn't be made
+  abbrev pub Shows : Option FieldValue → P → Route → Bool → Response → P → Type 0
+  Shows date old route for_programs response new =
+      ((page : Page) × pages old route page new
+      × (IsPage page date response ⊎ IsFailure for_programs date response))
+      ⊎ (moves old new × IsFailure for_programs date response)
+
+  -- the request asks for no page, and is answered why
+  abbrev pub Refuses : List (List ℕ) → Option FieldValue → P → Parts → Response → P → Type 0
+  Refuses hosts date old head response new =
+      (refusal : Refusal) × IsAsked hosts head (asked.Refused refusal)
+      × IsRefusal refusal (is_for_programs head) date response × Leaves refusal old new
+
+  -- the request asks for a page: that is sent, or 503
+  abbrev pub Answers : List (List ℕ) → Option FieldValue → P → Parts → Response → P → Type 0
+  Answers hosts date old head response new =
+      (route : Route) × IsAsked hosts head (asked.Page route)
+      × Shows date old route (is_for_programs head) response new
+
+  abbrev pub IsAnswered : List (List ℕ) → Option FieldValue → P → Parts → Response → P → Type 0
+  IsAnswered hosts date old head response new =
+      Refuses hosts date old head response new ⊎ Answers hosts date old head response new

@@ -1,0 +1,5 @@
+pub mod Hosts
+pub mod Refusals
+pub mod Asked
+pub mod Fields
+pub mod Answers

@@ -1,0 +1,76 @@
+//! Where the connections come in.
+
+ghost use Rattle.std.specs.Prelude.{◌≡◌};
+
+use http_server::Config;
+use http1::Limits;
+use mio::net::TcpListener as Listener;
+use mio::{Interest, Poll, Token, Waker};
+use std::hash::RandomState;
+use std::io;
+use std::net::{Net, TcpListener};
+use std::random::RandomSource;
+use thiserror::Error;
+
+/// The token of the listener, and that of who wakes the server.
+pub(crate) const DOOR: Token = Token(usize::MAX);
+
+const BELL: Token = Token(usize::MAX - 1);
+
+/// Why pages can't be served.
+#[derive(Clone, Copy, Debug, PartialEq, Eq, Drop, Error)]
+pub enum PageFault {
+    /// 1: memory was refused before the first request.
+    #[error("NoMemory")]
+    NoMemory,
+}
+
+/// Where the connections come in: a listener that is polled, and the keys of the maps of header fields.
+#[derive(Drop)]
+pub struct Door {
+    pub(crate) poll: Poll,
+    pub(crate) listener: Listener,
+    pub(crate) keys: RandomState,
+}
+
+/// A door over a listener, and what wakes who serves there: `Waker::wake`, after the stop was asked, ends the wait at
+/// once. It fails where the system refuses a poll or has no random bytes.
+pub fn open_door<R: Net + RandomSource>(
+    rt: &R,
+    listener: TcpListener,
+) -> io::Result<(Door, Waker)> {
+    listener.set_nonblocking(true)?;
+    let poll = Poll::new(rt)?;
+    let mut listener = Listener::from_std(listener);
+    poll.registry()
+        .register(&mut listener, DOOR, Interest::READABLE)?;
+    let waker = Waker::new(poll.registry(), BELL)?;
+    let keys = RandomState::new(rt)?;
+    Ok((
+        Door {
+            poll,
+            listener,
+            keys,
+        },
+        waker,
+    ))
+}
+
+/// The limits of a connection: a head of 8,192 bytes (414 where a request line is longer, else 431), a body of 1,024
+/// bytes (413), and 65,536 bytes of answers that wait before the next request is read.
+pub fn limits() -> Config
+    ensures head { result.limits.max_head_len ≡ 8192 }
+    ensures body { result.max_body_len ≡ 1024 }
+    ensures pending { result.max_pending ≡ 65536 }
+{
+    Config {
+        limits: Limits {
+            max_head_len: 8_192,
+            max_extensions_len: 1_024,
+            max_trailers_len: 1_024,
+        },
+        max_body_len: 1_024,
+        max_pending: 65_536,
+        read_size: 4_096,
+    }
+}

@@ -1,0 +1,186 @@
+//! A connection that is open.
+
+use super::door::limits;
+use http_server::{Connection, Service};
+use mio::net::TcpStream;
+use std::alloc::Global;
+use std::hash::RandomState;
+use std::io;
+use std::io::{ErrorKind, Read};
+use std::net::Shutdown;
+use std::time::Duration;
+
+/// For how many seconds a request may come, from its first byte on.
+const REQUEST_LIMIT: u64 = 10;
+
+/// For how many seconds a connection may be silent: nothing comes, and nothing of what is sent is taken.
+const SILENCE_LIMIT: u64 = 60;
+
+/// For how many seconds what still comes is dropped once all is sent. A connection that is closed before would lose what
+/// was sent last (RFC 9112, section 9.6).
+const LEAVE_LIMIT: u64 = 1;
+
+/// How many reads and writes are done in a turn.
+const MOVES: usize = 16;
+
+/// A connection that is open, with its socket.
+#[derive(Drop)]
+pub(crate) struct Guest {
+    stream: TcpStream,
+    connection: Connection,
+    /// Whether the socket may have more to read, and whether it may take more.
+    may_read: bool,
+    may_write: bool,
+    /// When something last came or went.
+    heard: Duration,
+    /// When a request began to come that isn't answered yet.
+    begun: Option<Duration>,
+    /// When all was sent.
+    left: Option<Duration>,
+    is_over: bool,
+}
+
+impl Guest {
+    /// A connection of which nothing was read.
+    pub(crate) fn new(alloc: Global, keys: RandomState, stream: TcpStream, now: Duration) -> Guest {
+        Guest {
+            stream,
+            connection: Connection::new(alloc, keys, limits()),
+            may_read: true,
+            may_write: true,
+            heard: now,
+            begun: None,
+            left: None,
+            is_over: false,
+        }
+    }
+
+    /// Notes that the socket has something to read, or takes more, or has failed.
+    pub(crate) fn note_ready(&mut self) {
+        self.may_read = true;
+        self.may_write = true;
+    }
+
+    /// When something last came or went.
+    pub(crate) fn heard(&self) -> Duration {
+        self.heard
+    }
+
+    /// Whether there is something to do that doesn't wait for the other side.
+    pub(crate) fn has_more(&self) -> bool {
+        if self.left.is_some() {
+            return self.may_read;
+        }
+        (self.may_write && self.connection.wants_write())
+            || (self.may_read && self.connection.wants_read())
+    }
+
+    /// Whether the connection is to be closed: it failed, all is sent and the other side has seen that, or there is no
+    /// patience left with the other side.
+    pub(crate) fn is_over(&self, now: Duration) -> bool {
+        self.is_over
+            || is_past(self.begun, REQUEST_LIMIT, now)
+            || is_past(self.left, LEAVE_LIMIT, now)
+            || is_past(Some(self.heard), SILENCE_LIMIT, now)
+    }
+
+    /// Reads, answers and writes what can be done now, up to a few times.
+    pub(crate) fn work<S: Service>(&mut self, service: &mut S, scratch: &mut [u8], now: Duration) {
+        for _ in 0..MOVES {
+            if self.is_over || !self.has_more() {
+                return;
+            }
+            if self.left.is_some() {
+                self.drop_what_comes(scratch);
+            } else {
+                self.go_on(service, now);
+            }
+        }
+    }
+
+    /// Writes what waits, or else reads, and answers.
+    fn go_on<S: Service>(&mut self, service: &mut S, now: Duration) {
+        if self.may_write && self.connection.wants_write() {
+            self.write(now);
+        } else {
+            self.read(now);
+        }
+        self.connection.advance(service);
+        if self.connection.wants_write() {
+            self.begun = None;
+        }
+        if self.connection.is_done() {
+            self.leave(now);
+        }
+    }
+
+    /// Reads once.
+    fn read(&mut self, now: Duration) {
+        match self.connection.read_from(&mut self.stream) {
+            Ok(0) => self.may_read = false,
+            Ok(_) => {
+                self.heard = now;
+                if self.begun.is_none() {
+                    self.begun = Some(now);
+                }
+            }
+            Err(error) => {
+                self.may_read = is_interrupted(&error);
+                self.note(&error);
+            }
+        }
+    }
+
+    /// Writes once.
+    fn write(&mut self, now: Duration) {
+        match self.connection.write_to(&mut self.stream) {
+            Ok(0) => self.is_over = true,
+            Ok(_) => self.heard = now,
+            Err(error) => {
+                self.may_write = is_interrupted(&error);
+                self.note(&error);
+            }
+        }
+    }
+
+    /// Ends the connection where an error isn't one of waiting.
+    fn note(&mut self, error: &io::Error) {
+        self.is_over = !is_waiting(error);
+    }
+
+    /// Says that nothing more is sent.
+    fn leave(&mut self, now: Duration) {
+        self.left = Some(now);
+        self.is_over = self.stream.shutdown(Shutdown::Write).is_err();
+    }
+
+    /// Drops what still comes.
+    fn drop_what_comes(&mut self, scratch: &mut [u8]) {
+        match self.stream.read(scratch) {
+            Ok(0) => self.is_over = true,
+            Ok(_) => {}
+            Err(error) => {
+                self.may_read = is_interrupted(&error);
+                self.note(&error);
+            }
+        }
+    }
+}
+
+/// Whether a time is so many seconds ago.
+fn is_past(since: Option<Duration>, limit: u64, now: Duration) -> bool {
+    match since {
+        Some(since) => now.saturating_sub(since) >= Duration::from_secs(limit),
+        None => false,
+    }
+}
+
+/// Whether a call was interrupted by a signal.
+fn is_interrupted(error: &io::Error) -> bool {
+    error.kind() == ErrorKind::Interrupted
+}
+
+/// Whether a call has to wait, or was interrupted.
+fn is_waiting(error: &io::Error) -> bool {
+    matches!(error.kind(), ErrorKind::WouldBlock | ErrorKind::Interrupted)
+}

@@ -1,0 +1,42 @@
+//! Serves the page of a site over HTTP/1.1, to browsers and programs of this machine.
+//!
+//! Its tests are in the crate `page_server_tests`.
+//!
+//! It is a crate of its own so that what is answered is proved apart from sockets: `PageService` is a service of
+//! `http_server`, over requests and responses as values, and `serve_pages` only moves bytes. Not taken: a thread for
+//! each connection, which would need a lock around the pages; `hyper`, whose futures would need an executor; TLS and
+//! passwords, since only this machine is served; entity tags, since the style and the script are short and every page
+//! is made anew; streams of events, since a whole answer that says when to ask again does.
+//!
+//! A site gives its pages by `Pages`, opens a door over a listener, and serves there in a thread of its own until it is
+//! asked to stop.
+//!
+//! An example of its use:
+//!
+//! ```
+//! let hosts = [String::from_str(alloc, "gate.example.org")?];
+//! assert!(rt; is_own(hosts.as_slice(), b"Gate.Example.org:8443"));
+//! assert!(rt; is_own(hosts.as_slice(), b"127.0.0.1"));
+//! assert!(rt; !is_own(hosts.as_slice(), b"127.0.0.1.example.org"));
+//! assert_eq!(rt; Refusal::OtherHost.text(false), b"421 Misdirected Request\n".as_slice());
+//! ```
+#![tactic(auto)]
+
+mod asked;
+mod door;
+mod fields;
+mod guest;
+mod guests;
+mod hall;
+mod hosts;
+mod pages;
+mod refusal;
+mod service;
+
+pub use asked::{Asked, asked_for};
+pub use door::{Door, PageFault, limits, open_door};
+pub use hall::serve_pages;
+pub use hosts::is_own;
+pub use pages::Pages;
+pub use refusal::Refusal;
+pub use service::PageService;

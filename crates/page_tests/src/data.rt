@@ -1,0 +1,179 @@
+//! What is answered to programs, as whole texts.
+
+use super::record::shows;
+use page_routes::{Choice, Kind, Place, Route, Shown, Status};
+use page_text::{SCRIPT, STYLE};
+use std::test::Fail;
+
+/// How the site is.
+const STATUS: &str =
+    r#"{"site":1,"start":5,"operations":10,"ready":1,"out":3,"open_out":2,"age_ms":1500,"news_ms":61000,"sessions":3,"peers":[{"port":8102,"reachable":false,"condition_ms":200000,"good_ms":12005,"pulls":7,"failures":2}]}"#;
+
+/// A problem.
+const PROBLEM: &str = r#"{"type":"about:blank","title":"Not Found","status":404}"#;
+
+#[test]
+fn the_status_has_the_sites_figures(rt: HostRuntime) -> Result<(), Fail> {
+    let is_shown = shows(
+        rt.alloc(),
+        &Route::Status,
+        Status::Found,
+        Kind::Json,
+        STATUS,
+    )?;
+    assert!(rt; is_shown);
+    Ok(())
+}
+
+/// All items.
+const ITEMS: &str =
+    "{\"total\":4,\"page\":1,\"items\":[{\"change\":101,\"set\":1,\"subject\":\"Fix the door\",\"ready\":true,\"place\":1},{\"change\":102,\"set\":1,\"subject\":\"Open\",\"ready\":false,\"refusal\":\"dependency 103\"},{\"change\":103,\"set\":2,\"subject\":\"<script>alert(\\\"x\\\")&'\u{202e}abc\",\"ready\":false,\"refusal\":\"require approval 2\"},{\"change\":104,\"set\":2,\"subject\":\"Gone\",\"ready\":false,\"refusal\":\"require open\"}]}";
+
+#[test]
+fn items_are_rows_with_their_refusals(rt: HostRuntime) -> Result<(), Fail> {
+    let route = Route::Items(Choice {
+        shown: Shown::All,
+        reason: None,
+        words: None,
+        page: 1,
+    });
+    let is_shown = shows(rt.alloc(), &route, Status::Found, Kind::Json, ITEMS)?;
+    assert!(rt; is_shown);
+    Ok(())
+}
+
+/// The change that waits for another one.
+const WAITING: &str =
+    "{\"change\":102,\"set\":1,\"status\":\"NEW\",\"current\":1,\"patchsets\":[{\"set\":1,\"subject\":\"Open\"}],\"votes\":[{\"label\":\"verified\",\"voter\":\"zuul\",\"value\":2},{\"label\":\"workflow\",\"voter\":\"ann\",\"value\":1}],\"why\":[{\"change\":102,\"set\":1,\"subject\":\"Open\",\"ready\":false,\"refusal\":\"dependency 103\"},{\"change\":103,\"set\":2,\"subject\":\"<script>alert(\\\"x\\\")&'\u{202e}abc\",\"ready\":false,\"refusal\":\"require approval 2\"}],\"conditions\":[{\"condition\":\"require open\",\"met\":true},{\"condition\":\"require current-patchset\",\"met\":true},{\"condition\":\"require status\",\"met\":true},{\"condition\":\"require approval 1\",\"met\":true},{\"condition\":\"require approval 2\",\"met\":true},{\"condition\":\"reject status\",\"met\":true},{\"condition\":\"reject approval 1\",\"met\":true}],\"depends_on\":[101,103]}";
+
+#[test]
+fn a_change_has_the_items_down_to_the_cause(rt: HostRuntime) -> Result<(), Fail> {
+    let route = Route::ChangeData(Place {
+        change: 102,
+        set: None,
+    });
+    let is_shown = shows(rt.alloc(), &route, Status::Found, Kind::Json, WAITING)?;
+    assert!(rt; is_shown);
+    Ok(())
+}
+
+#[test]
+fn an_unknown_change_is_a_problem(rt: HostRuntime) -> Result<(), Fail> {
+    let route = Route::ChangeData(Place {
+        change: 101,
+        set: Some(2),
+    });
+    let is_shown = shows(rt.alloc(), &route, Status::NotFound, Kind::Problem, PROBLEM)?;
+    assert!(rt; is_shown);
+    Ok(())
+}
+
+/// The event.
+const EVENT: &str = r#"retry: 2000
+data: {"ready":1,"out":3,"operations":10}
+
+"#;
+
+#[test]
+fn the_event_has_the_numbers_of_items(rt: HostRuntime) -> Result<(), Fail> {
+    let is_shown = shows(
+        rt.alloc(),
+        &Route::Events,
+        Status::Found,
+        Kind::Events,
+        EVENT,
+    )?;
+    assert!(rt; is_shown);
+    Ok(())
+}
+
+/// The figures.
+const METRICS: &str = r#"# HELP reviewgate_operations Operations of the record.
+# TYPE reviewgate_operations gauge
+reviewgate_operations 10
+# HELP reviewgate_changes Changes of the record by status.
+# TYPE reviewgate_changes gauge
+reviewgate_changes{status="NEW"} 3
+reviewgate_changes{status="ABANDONED"} 1
+reviewgate_changes{status="MERGED"} 0
+# HELP reviewgate_ready_items Items that may enter the pipeline.
+# TYPE reviewgate_ready_items gauge
+reviewgate_ready_items 1
+# HELP reviewgate_held_items Open items that may not enter the pipeline, by reason.
+# TYPE reviewgate_held_items gauge
+reviewgate_held_items{reason="require approval 1"} 0
+reviewgate_held_items{reason="require approval 2"} 1
+reviewgate_held_items{reason="reject approval 1"} 0
+reviewgate_held_items{reason="cycle"} 0
+reviewgate_held_items{reason="unknown"} 0
+reviewgate_held_items{reason="dependency"} 1
+# HELP reviewgate_site_info The site and its start.
+# TYPE reviewgate_site_info gauge
+reviewgate_site_info{site="1",start="5"} 1
+# HELP reviewgate_last_operation_age_seconds Seconds since the last operation came.
+# TYPE reviewgate_last_operation_age_seconds gauge
+reviewgate_last_operation_age_seconds 61.000
+# HELP reviewgate_peer_up Whether the last pull reached the peer.
+# TYPE reviewgate_peer_up gauge
+reviewgate_peer_up{port="8102"} 0
+# HELP reviewgate_peer_last_pull_age_seconds Seconds since the last whole pull ended.
+# TYPE reviewgate_peer_last_pull_age_seconds gauge
+reviewgate_peer_last_pull_age_seconds{port="8102"} 12.005
+# HELP reviewgate_peer_pulls_total Whole pulls since the start.
+# TYPE reviewgate_peer_pulls_total counter
+reviewgate_peer_pulls_total{port="8102"} 7
+# HELP reviewgate_peer_pull_failures_total Pulls that failed since the start.
+# TYPE reviewgate_peer_pull_failures_total counter
+reviewgate_peer_pull_failures_total{port="8102"} 2
+# HELP reviewgate_open_sessions Sessions that are open.
+# TYPE reviewgate_open_sessions gauge
+reviewgate_open_sessions 3
+# HELP reviewgate_publishes_total Publishes since the start.
+# TYPE reviewgate_publishes_total counter
+reviewgate_publishes_total 4
+# HELP reviewgate_page_requests_total Requests of pages since the start.
+# TYPE reviewgate_page_requests_total counter
+reviewgate_page_requests_total 9
+# HELP reviewgate_refused_hosts_total Requests that named a host that is not the site's own since the start.
+# TYPE reviewgate_refused_hosts_total counter
+reviewgate_refused_hosts_total 1
+# HELP reviewgate_update_duration_seconds Seconds that the last update of the verdicts took.
+# TYPE reviewgate_update_duration_seconds gauge
+reviewgate_update_duration_seconds 0.001234
+"#;
+
+#[test]
+fn metrics_have_their_lines(rt: HostRuntime) -> Result<(), Fail> {
+    let is_shown = shows(
+        rt.alloc(),
+        &Route::Metrics,
+        Status::Found,
+        Kind::Metrics,
+        METRICS,
+    )?;
+    assert!(rt; is_shown);
+    Ok(())
+}
+
+#[test]
+fn what_never_changes_is_answered(rt: HostRuntime) -> Result<(), Fail> {
+    let is_well = shows(
+        rt.alloc(),
+        &Route::Health,
+        Status::Found,
+        Kind::Plain,
+        "ok\n",
+    )?;
+    let has_style = shows(rt.alloc(), &Route::Style, Status::Found, Kind::Style, STYLE)?;
+    let has_script = shows(
+        rt.alloc(),
+        &Route::Script,
+        Status::Found,
+        Kind::Script,
+        SCRIPT,
+    )?;
+    assert!(rt; is_well);
+    assert!(rt; has_style);
+    assert!(rt; has_script);
+    Ok(())
+}

@@ -1,0 +1,110 @@
+//! Which rows a list has, and which of them a page has.
+
+use super::record::{gate, replica};
+use page_routes::{Choice, Reason, Shown};
+use page_text::{ROWS, Row, chosen_rows, pages_are_the_report, rows_of};
+use ready_core::{Verdicts, evaluate};
+use state_core::{Item, State};
+use std::alloc::Global;
+use std::test::Fail;
+
+/// Verdicts that so many changes are ready.
+fn many(alloc: Global, items: u32) -> Result<Verdicts, Fail> {
+    let mut ready = Vec::new(alloc);
+    for change in 0..items {
+        ready.push(Item { change, set: 1 })?;
+    }
+    Ok(Verdicts::new(ready, Vec::new(alloc)))
+}
+
+/// How many rows this page of the list of so many items has, and the place of its first one.
+fn page(alloc: Global, items: u32, number: u32) -> Result<(usize, usize), Fail> {
+    let choice = Choice {
+        shown: Shown::Open,
+        reason: None,
+        words: None,
+        page: number,
+    };
+    let verdicts = many(alloc, items)?;
+    let rows = chosen_rows(alloc, &State::new(alloc), &verdicts, &choice)?;
+    let shown = rows_of(rows.as_slice(), number);
+    let first = match shown.first() {
+        Some(Row::Enters(_, place)) => *place,
+        Some(Row::Waits(_)) | None => 0,
+    };
+    Ok((shown.len(), first))
+}
+
+/// The pages of 250 items: the number of each, how many rows it has, and the place of the first one.
+const PAGES: [(u32, usize, usize); 6] = [
+    (0, 100, 1),
+    (1, 100, 1),
+    (2, 100, 101),
+    (3, 50, 201),
+    (4, 0, 0),
+    (u32::MAX, 0, 0),
+];
+
+#[test]
+fn a_page_has_a_hundred_rows(rt: HostRuntime) -> Result<(), Fail> {
+    let mut are_so = ROWS == 100;
+    for (number, rows, first) in PAGES {
+        are_so = page(rt.alloc(), 250, number)? == (rows, first) && are_so;
+    }
+    assert!(rt; are_so);
+    pages_are_the_report();
+    Ok(())
+}
+
+/// The numbers of the changes that a choice has, one after the other, with a blank behind each.
+fn chosen(
+    alloc: Global,
+    shown: Shown,
+    reason: Option<Reason>,
+    words: Option<&str>,
+) -> Result<String, Fail> {
+    let words = match words {
+        Some(words) => Some(String::from_str(alloc, words)?),
+        None => None,
+    };
+    let choice = Choice {
+        shown,
+        reason,
+        words,
+        page: 1,
+    };
+    let replica = replica(alloc)?;
+    let verdicts = evaluate(alloc, replica.state(), &gate(alloc)?)?;
+    let mut text = String::new(alloc);
+    for row in &chosen_rows(alloc, replica.state(), &verdicts, &choice)? {
+        let change = row.item().change;
+        write!(text, "{change} ")?;
+    }
+    Ok(text)
+}
+
+/// Choices, with the changes that they have.
+const CHOICES: [(Shown, Option<Reason>, Option<&str>, &str); 11] = [
+    (Shown::Open, None, None, "101 102 103 "),
+    (Shown::Ready, None, None, "101 "),
+    (Shown::All, None, None, "101 102 103 104 "),
+    (Shown::Open, Some(Reason::Require), None, "103 "),
+    (Shown::All, Some(Reason::Require), None, "103 104 "),
+    (Shown::All, Some(Reason::Dependency), None, "102 "),
+    (Shown::All, Some(Reason::Cycle), None, ""),
+    (Shown::Open, None, Some("THE d"), "101 "),
+    (Shown::All, None, Some("04"), "104 "),
+    (Shown::All, None, Some("10"), "101 102 103 104 "),
+    (Shown::All, None, Some("squeaks"), ""),
+];
+
+#[test]
+fn lists_have_what_is_asked_for(rt: HostRuntime) -> Result<(), Fail> {
+    let mut are_so = true;
+    for (shown, reason, words, changes) in CHOICES {
+        let found = chosen(rt.alloc(), shown, reason, words)?;
+        are_so = found.as_str() == changes && are_so;
+    }
+    assert!(rt; are_so);
+    Ok(())
+}

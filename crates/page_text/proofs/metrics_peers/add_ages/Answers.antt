@@ -1,0 +1,13 @@
+use Rattle.std.proofs.Common.{codes, flat_map, string_bytes}
+use Rattle.page_text.specs.Metrics as metrics
+use Rattle.page_text.specs.Samples as samples
+use Rattle.page_text.proofs.Adding.{then2}
+use Rattle.page_text.specs.declared.facts.PeerFacts.{PeerFacts}
+use Rattle.page_text.proofs.metrics_peers.add_ages.Goals as goal
+
+pub returns : goal.returns
+returns c =
+    then2 (string_bytes c.args.text.now) (string_bytes c.add_family.new.text) (string_bytes c.add_port_ages.new.text)
+    (samples.family (codes "reviewgate_peer_last_pull_age_seconds") (codes "gauge") (codes "Seconds since the last whole pull ended."))
+    (flat_map (λ (peer : PeerFacts). metrics.port_age_text (codes "reviewgate_peer_last_pull_age_seconds") peer.port peer.good_ms) c.args.peers.now)
+    c.in_ok-add_family.ensures c.in_ok-add_port_ages.ensures

@@ -1,0 +1,7 @@
+use Rattle.std.proofs.Common.{take}
+use Rattle.page_text.specs.Table.{AddsRows}
+use Rattle.page_text.proofs.table.add_rows.Given as goal
+
+-- the rows so far are added
+abbrev pub invariant-loop-row : goal.invariant-loop-row
+invariant-loop-row l = AddsRows l.state (take l.row-index l.rows) l.initial.page l.page

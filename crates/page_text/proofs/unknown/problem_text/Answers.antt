@@ -1,0 +1,10 @@
+use Rattle.std.proofs.Common.{◌∙◌}
+use Rattle.page_text.proofs.Adding.{adds_then, finished}
+use Rattle.page_text.proofs.unknown.problem_text.Goals as goal
+
+pub returns : goal.returns
+returns c =
+    finished (c.new-out.ensures.before ∙ c.new.ensures.items) c.new-out.ensures.tokens
+    (adds_then (adds_then (adds_then (adds_then c.in_ok-open_object.ensures c.in_ok-put_text.ensures)
+    c.in_ok-put_text-2.ensures) c.in_ok-put_number.ensures) c.in_ok-close_object.ensures)
+    c.into_inner.ensures.items

@@ -1,0 +1,71 @@
+-- What is answered to each route (RFC 9110, section 15.3.1 "200 OK" and section 15.5.5 "404 Not Found").
+use Rattle.std.specs.Prelude.{◌≡◌, ℕ, List, ◌++◌, codes, decimal, length}
+use Rattle.json.specs.Print.{print}
+use Rattle.gate_rules.specs.Rules.{GateRules}
+use Rattle.state_core.specs.State.{State}
+use Rattle.state_core.specs.declared.item.Item.{Item}
+use Rattle.ready_core.specs.Verdicts.{Judged}
+use Rattle.why_text.specs.Asked.{IsItemAsked}
+use Rattle.page_routes.specs.declared.page.Kind.{Kind}
+use Rattle.page_routes.specs.declared.page.Kind.TheVariants as kind
+use Rattle.page_routes.specs.declared.page.Page.{Page}
+use Rattle.page_routes.specs.declared.page.Status.{Status}
+use Rattle.page_routes.specs.declared.page.Status.TheVariants.{Found, NotFound}
+use Rattle.page_routes.specs.declared.route.Place.{Place}
+use Rattle.page_routes.specs.declared.route.Route.{Route}
+use Rattle.page_routes.specs.declared.route.Route.TheVariants as route
+use Rattle.page_text.specs.declared.facts.Facts.{Facts}
+use Rattle.page_text.specs.Items.{items_tokens}
+use Rattle.page_text.specs.Metrics.{metrics_of}
+use Rattle.page_text.specs.Problem.{problem_tokens}
+use Rattle.page_text.specs.Rows.{chosen_rows, rows_on}
+use Rattle.page_text.specs.Table.{HasRows}
+use Rattle.page_text.specs.declared.rows.Row.{Row}
+
+pub record IsPage (status : Status) (kind : Kind) (page : Page) : Type 0 where
+  pub status_is : page.status ≡ status
+  pub kind_is : page.kind ≡ kind
+
+-- the page with this text
+pub record IsText (status : Status) (kind : Kind) (text : List ℕ) (page : Page) : Type 0 where
+  pub is : IsPage status kind page
+  pub text_is : page.body.items ≡ text
+
+-- the page for people with a table of these rows
+pub record IsList (state : State) (rows : List Row) (page : Page) : Type 0 where
+  pub is : IsPage Found kind.Html page
+  pub rows_are : HasRows state rows page.body.items
+
+-- the item that is asked for is known, and its page is there; or there is no such item
+pub data IsOfItem (state : State) (place : Place) (found missing : Page → Type 0) (page : Page) : Type 0 where
+  There : (item : Item) → IsItemAsked state place.change place.set item → found page
+      → IsOfItem state place found missing page
+  NotThere : ((item : Item) → ¬ IsItemAsked state place.change place.set item) → missing page
+      → IsOfItem state place found missing page
+
+-- the event of how many items are ready, how many aren't, and how many operations there are (WHATWG, HTML Living
+-- Standard, section 9.2.6 "Interpreting an event stream")
+abbrev pub event_text : ℕ → ℕ → ℕ → List ℕ
+event_text ready out operations =
+    codes "retry: 2000\ndata: {\"ready\":" ++ decimal ready ++ codes ",\"out\":" ++ decimal out
+    ++ codes ",\"operations\":" ++ decimal operations ++ codes "}\n\n"
+
+-- the answer under a gate, to a record of so many operations with this state and these verdicts
+abbrev pub IsAnswer : GateRules → State → ℕ → Judged → Facts → Route → Page → Type 0
+IsAnswer gate state operations verdicts facts (route.List choice) page =
+    IsList state (rows_on choice.page (chosen_rows state choice verdicts)) page
+IsAnswer gate state operations verdicts facts (route.Change place) page =
+    IsOfItem state place (IsPage Found kind.Html) (IsPage NotFound kind.Html) page
+IsAnswer gate state operations verdicts facts route.Status page = IsPage Found kind.Json page
+IsAnswer gate state operations verdicts facts (route.Items choice) page =
+    IsText Found kind.Json (print (items_tokens state choice.page (chosen_rows state choice verdicts))) page
+IsAnswer gate state operations verdicts facts (route.ChangeData place) page =
+    IsOfItem state place (IsPage Found kind.Json) (IsText NotFound kind.Problem (print problem_tokens)) page
+IsAnswer gate state operations verdicts facts route.Events page =
+    IsText Found kind.Events (event_text (length verdicts.ready) (length verdicts.out) operations) page
+IsAnswer gate state operations verdicts facts route.Metrics page =
+    IsText Found kind.Metrics (metrics_of gate state operations verdicts facts) page
+IsAnswer gate state operations verdicts facts route.Health page = IsText Found kind.Plain (codes "ok\n") page
+IsAnswer gate state operations verdicts facts route.Style page = IsPage Found kind.Style page
+IsAnswer gate state operations verdicts facts route.Script page = IsPage Found kind.Script page
+IsAnswer gate state operations verdicts facts route.Icon page = IsPage Found kind.Icon page

@@ -1,0 +1,41 @@
+-- A list of items as JSON, by its tokens. The keys are the project's own.
+use Rattle.std.specs.Prelude.{ℕ, List, [], ◌∷◌, ◌++◌, codes, decimal, flat_map, length, true, false}
+use Rattle.json.specs.Token.{Token, begin_array, begin_object, boolean, end_array, end_object, key, number, string}
+use Rattle.state_core.specs.State.{State}
+use Rattle.state_core.specs.declared.item.Item.{Item}
+use Rattle.ready_core.specs.Words.{refusal_text}
+use Rattle.page_text.specs.declared.rows.Row.{Row}
+use Rattle.page_text.specs.declared.rows.Row.TheVariants.{Enters, Waits}
+use Rattle.page_text.specs.Rows.{rows_on}
+use Rattle.page_text.specs.Subject.{subject_of}
+
+-- a number under a key, and a text
+abbrev pub numbered : List ℕ → ℕ → List Token
+numbered name value = key name ∷ number (decimal value) ∷ []
+
+abbrev pub worded : List ℕ → List ℕ → List Token
+worded name value = key name ∷ string value ∷ []
+
+-- what is said of each item: {"change":101,"set":2,"subject":"Fix"
+abbrev pub about_tokens : State → Item → List Token
+about_tokens state item =
+    begin_object ∷ [] ++ numbered (codes "change") item.change ++ numbered (codes "set") item.set
+    ++ worded (codes "subject") (subject_of state item)
+
+-- ,"ready":true,"place":1} or ,"ready":false,"refusal":"require approval 2"}
+abbrev pub row_tokens : State → Row → List Token
+row_tokens state (Enters item place) =
+    about_tokens state item ++ (key (codes "ready") ∷ boolean true ∷ []) ++ numbered (codes "place") place
+    ++ end_object ∷ []
+row_tokens state (Waits left) =
+    about_tokens state left.item ++ (key (codes "ready") ∷ boolean false ∷ [])
+    ++ worded (codes "refusal") (refusal_text left.refusal) ++ end_object ∷ []
+
+abbrev pub list_tokens : State → List Row → List Token
+list_tokens state rows = key (codes "items") ∷ begin_array ∷ [] ++ flat_map (row_tokens state) rows ++ end_array ∷ []
+
+-- how many are asked for, the page, and the rows on it: {"total":2,"page":1,"items":[..]}
+abbrev pub items_tokens : State → ℕ → List Row → List Token
+items_tokens state page rows =
+    begin_object ∷ [] ++ numbered (codes "total") (length rows) ++ numbered (codes "page") page
+    ++ list_tokens state (rows_on page rows) ++ end_object ∷ []

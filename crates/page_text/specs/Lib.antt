@@ -1,0 +1,14 @@
+pub mod Subject
+pub mod Search
+pub mod Rows
+pub mod Names
+pub mod Walk
+pub mod Tokens
+pub mod Items
+pub mod Problem
+pub mod Held
+pub mod Statuses
+pub mod Samples
+pub mod Metrics
+pub mod Table
+pub mod Answer

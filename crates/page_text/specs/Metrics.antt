@@ -1,0 +1,146 @@
+-- The figures of a site as metrics. The names follow Prometheus's rules ("Metric and label naming"); what is counted is
+-- the project's own.
+use Rattle.std.specs.Prelude.{ℕ, zero, suc, Bool, true, false, List, [], ◌∷◌, ◌++◌, Option, None, Some, codes}
+use Rattle.std.specs.Prelude.{count_by, decimal, flat_map, length}
+use Rattle.change_core.specs.Status.{status_name}
+use Rattle.change_core.specs.declared.life.Status.{Status}
+use Rattle.change_core.specs.declared.life.Status.TheVariants.{New, Abandoned, Merged}
+use Rattle.gate_rules.specs.Rules.{GateRules}
+use Rattle.gate_rules.specs.declared.condition.Side.{Side}
+use Rattle.gate_rules.specs.declared.condition.Side.TheVariants.{Require, Reject}
+use Rattle.state_core.specs.State.{State}
+use Rattle.ready_core.specs.Verdicts.{Judged}
+use Rattle.ready_core.specs.declared.verdicts.Left.{Left}
+use Rattle.page_text.specs.declared.facts.Facts.{Facts}
+use Rattle.page_text.specs.declared.facts.PeerFacts.{PeerFacts}
+use Rattle.page_text.specs.declared.held.Held.{Held}
+use Rattle.page_text.specs.declared.held.Held.TheVariants.{Approval, Cycle, Unknown, Dependency}
+use Rattle.page_text.specs.Held.{held_words, is_held}
+use Rattle.page_text.specs.Samples.{counter, family, gauge, labelled, micro_sample, milli_sample, port_milli_sample}
+use Rattle.page_text.specs.Samples.{port_sample}
+use Rattle.page_text.specs.Statuses.{status_count}
+
+-- how many changes have a status
+abbrev pub status_text : State → Status → List ℕ
+status_text state status =
+    labelled (codes "reviewgate_changes") (codes "status") (status_name status) (status_count state status)
+
+-- how many changes have each status
+abbrev pub changes_text : State → List ℕ
+changes_text state =
+    family (codes "reviewgate_changes") (codes "gauge") (codes "Changes of the record by status.")
+    ++ status_text state New ++ status_text state Abandoned ++ status_text state Merged
+
+-- the figures of the record: its operations, its changes, and the items that are ready
+abbrev pub record_text : ℕ → State → ℕ → List ℕ
+record_text operations state ready =
+    gauge (codes "reviewgate_operations") (codes "Operations of the record.") operations ++ changes_text state
+    ++ gauge (codes "reviewgate_ready_items") (codes "Items that may enter the pipeline.") ready
+
+-- how many items are held so
+abbrev pub held_text : List Left → Held → List ℕ
+held_text out held =
+    labelled (codes "reviewgate_held_items") (codes "reason") (held_words held)
+    (count_by (λ left. is_held held left.refusal) out)
+
+-- how long ago it was, where it was
+abbrev pub age_text : List ℕ → Option ℕ → List ℕ
+age_text name None = []
+age_text name (Some age) = milli_sample name age
+
+-- the sample of the site, whose value says nothing
+abbrev pub labels_text : List ℕ → ℕ → ℕ → List ℕ
+labels_text name site start =
+    name ++ codes "{site=\"" ++ decimal site ++ codes "\",start=\"" ++ decimal start ++ codes "\"} 1\n"
+
+-- the site with its start
+abbrev pub info_text : ℕ → ℕ → List ℕ
+info_text site start =
+    family (codes "reviewgate_site_info") (codes "gauge") (codes "The site and its start.")
+    ++ labels_text (codes "reviewgate_site_info") site start
+
+-- the site, and when the last operation came
+abbrev pub site_text : ℕ → ℕ → Option ℕ → List ℕ
+site_text site start news =
+    info_text site start ++ family (codes "reviewgate_last_operation_age_seconds") (codes "gauge")
+    (codes "Seconds since the last operation came.")
+    ++ age_text (codes "reviewgate_last_operation_age_seconds") news
+
+-- ---- peers
+
+abbrev pub flag : Bool → ℕ
+flag true = 1
+flag false = 0
+
+-- of the peer at a port, how long ago it was, where it was
+abbrev pub port_age_text : List ℕ → ℕ → Option ℕ → List ℕ
+port_age_text name port None = []
+port_age_text name port (Some age) = port_milli_sample name port age
+
+abbrev pub up_text : List PeerFacts → List ℕ
+up_text peers =
+    family (codes "reviewgate_peer_up") (codes "gauge") (codes "Whether the last pull reached the peer.")
+    ++ flat_map (λ peer. port_sample (codes "reviewgate_peer_up") peer.port (flag peer.is_reachable)) peers
+
+abbrev pub ages_text : List PeerFacts → List ℕ
+ages_text peers =
+    family (codes "reviewgate_peer_last_pull_age_seconds") (codes "gauge")
+    (codes "Seconds since the last whole pull ended.")
+    ++ flat_map (λ peer. port_age_text (codes "reviewgate_peer_last_pull_age_seconds") peer.port peer.good_ms) peers
+
+abbrev pub pulls_text : List PeerFacts → List ℕ
+pulls_text peers =
+    family (codes "reviewgate_peer_pulls_total") (codes "counter") (codes "Whole pulls since the start.")
+    ++ flat_map (λ peer. port_sample (codes "reviewgate_peer_pulls_total") peer.port peer.pulls) peers
+
+abbrev pub failures_text : List PeerFacts → List ℕ
+failures_text peers =
+    family (codes "reviewgate_peer_pull_failures_total") (codes "counter") (codes "Pulls that failed since the start.")
+    ++ flat_map (λ peer. port_sample (codes "reviewgate_peer_pull_failures_total") peer.port peer.failures) peers
+
+-- the sites that it pulls from, each with its port
+abbrev pub peers_text : List PeerFacts → List ℕ
+peers_text peers = up_text peers ++ ages_text peers ++ pulls_text peers ++ failures_text peers
+
+-- ---- what open items are held by
+
+-- so many approvals of a side, from this number on
+abbrev pub approvals_from : Side → ℕ → ℕ → List Held
+approvals_from side first zero = []
+approvals_from side first (suc count) = Approval side first ∷ approvals_from side (suc first) count
+
+-- the approvals of both sides, and the other three
+abbrev pub all_held : GateRules → List Held
+all_held gate =
+    approvals_from Require 1 (length gate.require.approvals) ++ approvals_from Reject 1 (length gate.reject.approvals)
+    ++ Cycle ∷ Unknown ∷ Dependency ∷ []
+
+-- how many open items are held by what
+abbrev pub all_held_text : GateRules → List Left → List ℕ
+all_held_text gate out =
+    family (codes "reviewgate_held_items") (codes "gauge")
+    (codes "Open items that may not enter the pipeline, by reason.")
+    ++ flat_map (held_text out) (all_held gate)
+
+-- ---- what the site served
+
+abbrev pub served_text : ℕ → ℕ → ℕ → ℕ → List ℕ
+served_text sessions publishes requests refused_hosts =
+    gauge (codes "reviewgate_open_sessions") (codes "Sessions that are open.") sessions
+    ++ counter (codes "reviewgate_publishes_total") (codes "Publishes since the start.") publishes
+    ++ counter (codes "reviewgate_page_requests_total") (codes "Requests of pages since the start.") requests
+    ++ counter (codes "reviewgate_refused_hosts_total")
+    (codes "Requests that named a host that is not the site's own since the start.") refused_hosts
+
+abbrev pub update_text : ℕ → List ℕ
+update_text update_us =
+    family (codes "reviewgate_update_duration_seconds") (codes "gauge")
+    (codes "Seconds that the last update of the verdicts took.")
+    ++ micro_sample (codes "reviewgate_update_duration_seconds") update_us
+
+-- all figures: of the record, of what open items are held by, of the site, of its peers, and of what it served
+abbrev pub metrics_of : GateRules → State → ℕ → Judged → Facts → List ℕ
+metrics_of gate state operations verdicts facts =
+    record_text operations state (length verdicts.ready) ++ all_held_text gate verdicts.out
+    ++ site_text facts.site facts.start facts.news_ms ++ peers_text facts.peers.items
+    ++ served_text facts.sessions facts.publishes facts.requests facts.refused_hosts ++ update_text facts.update_us

@@ -1,0 +1,218 @@
+//! What is answered to a route.
+
+ghost use Rattle.std.specs.Prelude.{IfOk, length};
+ghost use Rattle.std.specs.List.Sorted.{IsStrictlySortedBy};
+ghost use Rattle.json.specs.Print.{print};
+ghost use Rattle.state_core.specs.Items.{item_cmp};
+ghost use Rattle.state_core.specs.State.{state_of};
+ghost use Rattle.ready_core.specs.Verdicts.{items_out};
+ghost use Rattle.page_text.specs.Answer.{IsAnswer, IsList, IsOfItem, IsPage, IsText, event_text};
+ghost use Rattle.page_text.specs.Items.{items_tokens};
+ghost use Rattle.page_text.specs.Metrics.{metrics_of};
+ghost use Rattle.page_text.specs.Problem.{problem_tokens};
+ghost use Rattle.page_text.specs.Rows.{chosen_rows, rows_on};
+
+use super::change::change_page;
+use super::facts::Facts;
+use super::json_change::change_text;
+use super::json_items::items_text;
+use super::json_status::{events_text, status_text};
+use super::list::list_page;
+use super::metrics::metrics_text;
+use super::style::{ICON, SCRIPT, STYLE};
+use super::unknown::{problem_text, unknown_page};
+use gate_rules::Gate;
+use lattice_core::NoMemory;
+use page_routes::{Choice, Kind, Page, Place, Route, Status};
+use ready_core::Verdicts;
+use replica_core::Replica;
+use state_core::State;
+use std::alloc::{AllocError, Global};
+use why_text::item_asked;
+
+/// What is answered to a route: of a change that isn't known, or of which that patch set isn't, a page that says so,
+/// with the status `NotFound`, and else what is asked for, with the status `Found`. The verdicts are those of the
+/// replica's state under the gate, and those that are left out are in item order. Refusal: memory was refused. It costs
+/// O(n) for n items, for metrics O(n k) under a gate with k approvals, and where words are searched for O(n log n) and
+/// the product of their length with that of all subjects.
+pub fn page_of(
+    alloc: Global,
+    route: &Route,
+    gate: &Gate,
+    replica: &Replica,
+    verdicts: &Verdicts,
+    facts: &Facts,
+) -> Result<Page, AllocError>
+    requires { IsStrictlySortedBy item_cmp (items_out verdicts.now.out) }
+    ensures { IfOk result
+        (IsAnswer gate.now (state_of replica.now) (length replica.now) verdicts.now facts.now route.now) }
+{
+    match answer(alloc, route, gate, replica, verdicts, facts) {
+        Ok(page) => Ok(page),
+        Err(NoMemory) => Err(AllocError),
+    }
+}
+
+/// The answer to a route.
+fn answer(
+    alloc: Global,
+    route: &Route,
+    gate: &Gate,
+    replica: &Replica,
+    verdicts: &Verdicts,
+    facts: &Facts,
+) -> Result<Page, NoMemory>
+    requires { IsStrictlySortedBy item_cmp (items_out verdicts.now.out) }
+    ensures { IfOk result
+        (IsAnswer gate.now (state_of replica.now) (length replica.now) verdicts.now facts.now route.now) }
+{
+    match route {
+        Route::List(choice) => list_answer(alloc, choice, gate, replica, verdicts, facts),
+        Route::Change(place) => change_answer(
+            alloc,
+            *place,
+            gate,
+            replica.state(),
+            verdicts,
+            facts,
+        ),
+        Route::Status => {
+            let body = status_text(alloc, replica, verdicts, facts)?;
+            Ok(found(Kind::Json, body))
+        }
+        Route::Items(choice) => items_answer(alloc, choice, replica, verdicts),
+        Route::ChangeData(place) => change_data(alloc, *place, gate, replica.state(), verdicts),
+        Route::Events => events_answer(alloc, replica, verdicts),
+        Route::Metrics => metrics_answer(alloc, gate, replica, verdicts, facts),
+        Route::Health => fixed(alloc, Kind::Plain, "ok\n"),
+        Route::Style => fixed(alloc, Kind::Style, STYLE),
+        Route::Script => fixed(alloc, Kind::Script, SCRIPT),
+        Route::Icon => fixed(alloc, Kind::Icon, ICON),
+    }
+}
+
+/// The items that are asked for, as a page for people.
+fn list_answer(
+    alloc: Global,
+    choice: &Choice,
+    gate: &Gate,
+    replica: &Replica,
+    verdicts: &Verdicts,
+    facts: &Facts,
+) -> Result<Page, NoMemory>
+    requires { IsStrictlySortedBy item_cmp (items_out verdicts.now.out) }
+    ensures { IfOk result (IsList (state_of replica.now)
+        (rows_on choice.now.page (chosen_rows (state_of replica.now) choice.now verdicts.now))) }
+{
+    let body = list_page(alloc, choice, gate, replica, verdicts, facts)?;
+    Ok(found(Kind::Html, body))
+}
+
+/// The items that are asked for, as JSON.
+fn items_answer(
+    alloc: Global,
+    choice: &Choice,
+    replica: &Replica,
+    verdicts: &Verdicts,
+) -> Result<Page, NoMemory>
+    ensures { IfOk result (IsText Status.Found Kind.Json (print (items_tokens (state_of replica.now) choice.now.page
+        (chosen_rows (state_of replica.now) choice.now verdicts.now)))) }
+{
+    let body = items_text(alloc, choice, replica.state(), verdicts)?;
+    Ok(found(Kind::Json, body))
+}
+
+/// How many items and operations there are, as an event.
+fn events_answer(alloc: Global, replica: &Replica, verdicts: &Verdicts) -> Result<Page, NoMemory>
+    ensures { IfOk result (IsText Status.Found Kind.Events
+        (event_text (length verdicts.now.ready) (length verdicts.now.out) (length replica.now))) }
+{
+    let body = events_text(alloc, replica, verdicts)?;
+    Ok(found(Kind::Events, body))
+}
+
+/// The site's figures.
+fn metrics_answer(
+    alloc: Global,
+    gate: &Gate,
+    replica: &Replica,
+    verdicts: &Verdicts,
+    facts: &Facts,
+) -> Result<Page, NoMemory>
+    ensures { IfOk result (IsText Status.Found Kind.Metrics
+        (metrics_of gate.now (state_of replica.now) (length replica.now) verdicts.now facts.now)) }
+{
+    let body = metrics_text(alloc, gate, replica, verdicts, facts)?;
+    Ok(found(Kind::Metrics, body))
+}
+
+/// The page of a change, or one that says that it isn't known.
+fn change_answer(
+    alloc: Global,
+    place: Place,
+    gate: &Gate,
+    state: &State,
+    verdicts: &Verdicts,
+    facts: &Facts,
+) -> Result<Page, NoMemory>
+    requires { IsStrictlySortedBy item_cmp (items_out verdicts.now.out) }
+    ensures { IfOk result (IsOfItem state.now place
+        (IsPage Status.Found Kind.Html) (IsPage Status.NotFound Kind.Html)) }
+{
+    let Some(item) = item_asked(state, place.change, place.set) else {
+        let body = unknown_page(alloc, place, facts.site)?;
+        return Ok(missing(Kind::Html, body));
+    };
+    let body = change_page(alloc, item, gate, state, verdicts, facts)?;
+    Ok(found(Kind::Html, body))
+}
+
+/// A change as JSON, or a problem that says that it isn't known.
+fn change_data(
+    alloc: Global,
+    place: Place,
+    gate: &Gate,
+    state: &State,
+    verdicts: &Verdicts,
+) -> Result<Page, NoMemory>
+    requires { IsStrictlySortedBy item_cmp (items_out verdicts.now.out) }
+    ensures { IfOk result (IsOfItem state.now place
+        (IsPage Status.Found Kind.Json) (IsText Status.NotFound Kind.Problem (print problem_tokens))) }
+{
+    let Some(item) = item_asked(state, place.change, place.set) else {
+        let body = problem_text(alloc)?;
+        return Ok(missing(Kind::Problem, body));
+    };
+    let body = change_text(alloc, item, gate, state, verdicts)?;
+    Ok(found(Kind::Json, body))
+}
+
+/// A text that never changes.
+fn fixed(alloc: Global, kind: Kind, text: &str) -> Result<Page, NoMemory>
+    ensures { IfOk result (IsText Status.Found kind text.now) }
+{
+    let body = String::from_str(alloc, text)?;
+    Ok(found(kind, body.into_bytes()))
+}
+
+/// A page of what is there.
+fn found(kind: Kind, body: Vec<u8>) -> Page
+    ensures { IsText Status.Found kind body.items result }
+{
+    Page {
+        status: Status::Found,
+        kind,
+        body,
+    }
+}
+
+/// A page that says that something isn't there.
+fn missing(kind: Kind, body: Vec<u8>) -> Page
+    ensures { IsText Status.NotFound kind body.items result }
+{
+    Page {
+        status: Status::NotFound,
+        kind,
+        body,
+    }
+}

@@ -1,0 +1,223 @@
+//! The page of a change, for people.
+
+ghost use Rattle.std.specs.List.Sorted.{IsStrictlySortedBy};
+ghost use Rattle.state_core.specs.Items.{IsItem, item_cmp};
+ghost use Rattle.ready_core.specs.Verdicts.{items_out};
+
+use super::chain::walk_from;
+use super::conditions::add_conditions;
+use super::facts::Facts;
+use super::frame::{begin, end};
+use super::links::{add_item_link, add_left};
+use super::needs::needs_of;
+use super::rows::Row;
+use super::subject::{first_line, subject_of};
+use super::verdict::verdict_on;
+use super::words::add_wanted;
+use change_core::ChangeState;
+use gate_rules::Gate;
+use lattice_core::NoMemory;
+use markup_text::{Markup, Piece};
+use ready_core::{Left, Refusal, Verdicts};
+use state_core::{Item, State};
+use std::alloc::Global;
+
+/// What comes between the number of a table's caption and the rows of votes.
+const VOTES_HEAD: &str = r#"</caption>
+<thead><tr><th scope="col">Label</th><th scope="col">Voter</th><th scope="col">Value</th></tr></thead>
+<tbody>
+"#;
+
+/// The page of an item of the record: its verdict, and what is known of its change.
+pub fn change_page(
+    alloc: Global,
+    item: Item,
+    gate: &Gate,
+    state: &State,
+    verdicts: &Verdicts,
+    facts: &Facts,
+) -> Result<Vec<u8>, NoMemory>
+    requires rising { IsStrictlySortedBy item_cmp (items_out verdicts.now.out) }
+    requires there { IsItem state.now item }
+{
+    let mut page = begin(alloc, "Change", facts.site)?;
+    add_head(&mut page, state, item)?;
+    add_verdict(alloc, &mut page, gate, state, verdicts, item)?;
+    add_conditions(alloc, &mut page, gate, state, item)?;
+    if let Some(change) = state.change(item.change) {
+        add_change(&mut page, item.change, change)?;
+    }
+    let needs = needs_of(alloc, gate, state, item)?;
+    add_needs(&mut page, state, needs.as_slice())?;
+    page.add(&[Piece::Markup("</div>\n")])?;
+    end(page)
+}
+
+/// Adds the item and its subject.
+fn add_head(page: &mut Markup, state: &State, item: Item) -> Result<(), NoMemory> {
+    page.add(&[
+        Piece::Markup("<h1>Change "),
+        Piece::Number(u64::from(item.change)),
+        Piece::Markup(", patch set "),
+        Piece::Number(u64::from(item.set)),
+        Piece::Markup("</h1>\n<p>"),
+        Piece::Text(subject_of(state, item)),
+        Piece::Markup("</p>\n<div id=\"live\">\n"),
+    ])?;
+    Ok(())
+}
+
+/// Adds whether the item may enter, and if not, why.
+fn add_verdict(
+    alloc: Global,
+    page: &mut Markup,
+    gate: &Gate,
+    state: &State,
+    verdicts: &Verdicts,
+    item: Item,
+) -> Result<(), NoMemory>
+    requires { IsStrictlySortedBy item_cmp (items_out verdicts.now.out) }
+{
+    match verdict_on(verdicts, item) {
+        None => Ok(()),
+        Some(Row::Enters(_, place)) => add_ready(page, place),
+        Some(Row::Waits(left)) => {
+            let steps = walk_from(alloc, state, verdicts, left)?;
+            add_steps(alloc, page, gate, steps.as_slice())
+        }
+    }
+}
+
+/// Adds that the item is ready.
+fn add_ready(page: &mut Markup, place: usize) -> Result<(), NoMemory> {
+    page.add(&[
+        Piece::Markup("<p class=\"ready\">It is ready, at place "),
+        Piece::Number(place as u64),
+        Piece::Markup(" in gate order.</p>\n"),
+    ])?;
+    Ok(())
+}
+
+/// Adds the items that wait for each other, down to the cause, and what the gate asks there.
+fn add_steps(
+    alloc: Global,
+    page: &mut Markup,
+    gate: &Gate,
+    steps: &[Left],
+) -> Result<(), NoMemory> {
+    page.add(&[Piece::Markup("<h2>Why it waits</h2>\n<ol>\n")])?;
+    for step in steps {
+        page.add(&[Piece::Markup("<li class=\"waits\">")])?;
+        add_left(alloc, page, *step)?;
+        page.add(&[Piece::Markup("</li>\n")])?;
+    }
+    page.add(&[Piece::Markup("</ol>\n")])?;
+    match steps.last() {
+        Some(cause) => add_cause(page, gate, cause.refusal),
+        None => Ok(()),
+    }
+}
+
+/// Adds what the gate asks at the place of a condition that is broken.
+fn add_cause(page: &mut Markup, gate: &Gate, refusal: Refusal) -> Result<(), NoMemory> {
+    let Refusal::Own(condition) = refusal else {
+        return Ok(());
+    };
+    page.add(&[
+        Piece::Markup("<p>The gate has there: "),
+        Piece::Markup(condition.side.name()),
+        Piece::Markup(" "),
+    ])?;
+    add_wanted(page, gate, condition)?;
+    page.add(&[Piece::Markup(".</p>\n")])?;
+    Ok(())
+}
+
+/// Adds what is known of a change: its status, its votes and its patch sets.
+fn add_change(page: &mut Markup, number: u32, change: &ChangeState) -> Result<(), NoMemory> {
+    page.add(&[
+        Piece::Markup("<p>The status of the change is "),
+        Piece::Markup(change.status().name()),
+        Piece::Markup(".</p>\n"),
+    ])?;
+    if let Some(current) = change.current() {
+        add_votes(page, change, current)?;
+    }
+    add_sets(page, number, change)
+}
+
+/// Adds the approvals of the current patch set.
+fn add_votes(page: &mut Markup, change: &ChangeState, current: u32) -> Result<(), NoMemory> {
+    page.add(&[
+        Piece::Markup("<table>\n<caption>Votes on the current patch set, "),
+        Piece::Number(u64::from(current)),
+        Piece::Markup(VOTES_HEAD),
+    ])?;
+    for approval in change.approvals(current) {
+        page.add(&[
+            Piece::Markup("<tr><td>"),
+            Piece::Text(approval.label),
+            Piece::Markup("</td><td>"),
+            Piece::Text(approval.voter),
+            Piece::Markup("</td><td>"),
+            Piece::Signed(i64::from(approval.value)),
+            Piece::Markup("</td></tr>\n"),
+        ])?;
+    }
+    page.add(&[Piece::Markup("</tbody>\n</table>\n")])?;
+    Ok(())
+}
+
+/// Adds the patch sets of a change with their subjects.
+fn add_sets(page: &mut Markup, number: u32, change: &ChangeState) -> Result<(), NoMemory> {
+    page.add(&[Piece::Markup("<h2>Patch sets</h2>\n<ul>\n")])?;
+    for (set, register) in change.sets() {
+        let subject = first_line(register.value().message.as_str());
+        let item = Item {
+            change: number,
+            set: *set,
+        };
+        add_set(page, item, subject)?;
+    }
+    page.add(&[Piece::Markup("</ul>\n")])?;
+    Ok(())
+}
+
+/// Adds a patch set with its subject.
+fn add_set(page: &mut Markup, item: Item, subject: &str) -> Result<(), NoMemory> {
+    page.add(&[Piece::Markup("<li>")])?;
+    add_item_link(page, item)?;
+    page.add(&[
+        Piece::Markup(": "),
+        Piece::Text(subject),
+        Piece::Markup("</li>\n"),
+    ])?;
+    Ok(())
+}
+
+/// Adds the changes that the item names as its dependencies, with their statuses.
+fn add_needs(page: &mut Markup, state: &State, needs: &[u32]) -> Result<(), NoMemory> {
+    page.add(&[Piece::Markup("<h2>Depends on</h2>\n<ul>\n")])?;
+    for need in needs {
+        let number = Piece::Number(u64::from(*need));
+        page.add(&[
+            Piece::Markup("<li><a href=\"/change/"),
+            number,
+            Piece::Markup("\">"),
+            number,
+            Piece::Markup("</a> "),
+            Piece::Markup(status_of(state, *need)),
+            Piece::Markup("</li>\n"),
+        ])?;
+    }
+    page.add(&[Piece::Markup("</ul>\n")])?;
+    Ok(())
+}
+
+/// The status of a change in a word.
+fn status_of(state: &State, number: u32) -> &'static str {
+    match state.change(number) {
+        Some(change) => change.status().name(),
+        None => "unknown",
+    }
+}

@@ -1,0 +1,106 @@
+//! What open items can be held by, as the metrics count it.
+
+ghost use Rattle.std.specs.Prelude.{◌≡◌, ◌++◌, IfOk, OnOk, count_by, string_bytes};
+ghost use Rattle.page_text.specs.Metrics.{all_held, approvals_from};
+ghost use Rattle.page_text.specs.Held.{held_words, is_held, is_held_by};
+
+use gate_rules::{Clause, Condition, Gate, Side};
+use lattice_core::NoMemory;
+use ready_core::{Left, Refusal};
+use std::alloc::Global;
+
+/// What an open item is held by.
+#[derive(Clone, Copy, Debug, PartialEq, Eq)]
+pub enum Held {
+    /// The approval of this number, from 1, on a side.
+    Approval(Side, usize),
+    /// A cycle.
+    Cycle,
+    /// A change that isn't known.
+    Unknown,
+    /// An item that isn't ready.
+    Dependency,
+}
+
+/// All that open items can be held by under a gate: the approvals that it requires and that it rejects, in their order,
+/// and then the other three.
+pub fn all_held(alloc: Global, gate: &Gate) -> Result<Vec<Held>, NoMemory>
+    ensures { IfOk result (λ all. all.items ≡ all_held gate.now) }
+{
+    let mut all = Vec::new(alloc);
+    add_approvals(
+        &mut all,
+        Side::Require,
+        gate.clauses(Side::Require).approvals().len(),
+    )?;
+    add_approvals(
+        &mut all,
+        Side::Reject,
+        gate.clauses(Side::Reject).approvals().len(),
+    )?;
+    all.push(Held::Cycle)?;
+    all.push(Held::Unknown)?;
+    all.push(Held::Dependency)?;
+    Ok(all)
+}
+
+/// Adds so many approvals of a side.
+fn add_approvals(all: &mut Vec<Held>, side: Side, count: usize) -> Result<(), NoMemory>
+    ensures { OnOk result (all.new.items ≡ all.old.items ++ approvals_from side 1 count) }
+{
+    for place in 0..count {
+        all.push(Held::Approval(side, place + 1))?;
+    }
+    Ok(())
+}
+
+/// How many items that are left out are held so. It costs O(n) for n items.
+pub fn held_count(out: &[Left], held: Held) -> usize
+    ensures { result ≡ count_by (λ left. is_held held left.refusal) out.now }
+{
+    out.iter()
+        .filter(|left| is_held(held, left.refusal))
+        .count()
+}
+
+/// Whether a refusal says that an item is held so.
+fn is_held(held: Held, refusal: Refusal) -> bool
+    ensures { result ≡ is_held held refusal }
+{
+    match refusal {
+        Refusal::Own(condition) => is_held_by(held, condition),
+        Refusal::Cycle => matches!(held, Held::Cycle),
+        Refusal::Unknown(_) => matches!(held, Held::Unknown),
+        Refusal::Dependency(_) => matches!(held, Held::Dependency),
+    }
+}
+
+/// Whether a condition holds an item so.
+fn is_held_by(held: Held, condition: Condition) -> bool
+    ensures { result ≡ is_held_by held condition }
+{
+    match condition.clause {
+        Clause::Approval(number) => held == Held::Approval(condition.side, number),
+        Clause::OpenState | Clause::CurrentSet | Clause::StatusIn => false,
+    }
+}
+
+/// The words of what holds an item: of an approval those of its refusal, else the refusal's first word.
+pub fn held_words(alloc: Global, held: Held) -> Result<String, NoMemory>
+    ensures { IfOk result (λ words. string_bytes words ≡ held_words held) }
+{
+    match held {
+        Held::Approval(side, number) => approval_words(alloc, side, number),
+        Held::Cycle => Ok(String::from_str(alloc, "cycle")?),
+        Held::Unknown => Ok(String::from_str(alloc, "unknown")?),
+        Held::Dependency => Ok(String::from_str(alloc, "dependency")?),
+    }
+}
+
+/// The words of an approval.
+fn approval_words(alloc: Global, side: Side, number: usize) -> Result<String, NoMemory>
+    ensures { IfOk result (λ words. string_bytes words ≡ held_words (Held.Approval side number)) }
+{
+    let side = side.name();
+    Ok(format!(in alloc; "{side} approval {number}")?)
+}

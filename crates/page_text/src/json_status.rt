@@ -1,0 +1,88 @@
+//! How a site is, as JSON, and the events that say that something changed.
+
+ghost use Rattle.std.specs.Prelude.{◌≡◌, IfOk, length};
+ghost use Rattle.page_text.specs.Answer.{event_text};
+
+use super::counts::open_count;
+use super::facts::{Facts, PeerFacts};
+use super::members::{
+    close_list, close_object, open_list, open_object, put_flag, put_number, put_option,
+};
+use json::Writer;
+use lattice_core::NoMemory;
+use ready_core::Verdicts;
+use replica_core::Replica;
+use std::alloc::Global;
+
+/// The JSON text of how a site is.
+pub fn status_text(
+    alloc: Global,
+    replica: &Replica,
+    verdicts: &Verdicts,
+    facts: &Facts,
+) -> Result<Vec<u8>, NoMemory> {
+    let mut out = Writer::new(Vec::new(alloc));
+    open_object(&mut out)?;
+    put_number(&mut out, "site", u64::from(facts.site))?;
+    put_number(&mut out, "start", u64::from(facts.start))?;
+    add_counts(&mut out, replica, verdicts)?;
+    put_number(&mut out, "age_ms", facts.age_ms)?;
+    put_option(&mut out, "news_ms", facts.news_ms)?;
+    put_number(&mut out, "sessions", facts.sessions)?;
+    open_list(&mut out, "peers")?;
+    add_peers(&mut out, facts)?;
+    close_list(&mut out)?;
+    close_object(&mut out)?;
+    Ok(out.into_inner())
+}
+
+/// Adds how many operations, ready items, other items and open ones of these there are.
+fn add_counts(
+    out: &mut Writer<Global>,
+    replica: &Replica,
+    verdicts: &Verdicts,
+) -> Result<(), NoMemory> {
+    put_number(out, "operations", replica.len() as u64)?;
+    put_number(out, "ready", verdicts.ready().len() as u64)?;
+    put_number(out, "out", verdicts.out().len() as u64)?;
+    put_number(out, "open_out", open_count(verdicts.out()) as u64)
+}
+
+/// Adds an object for each peer.
+fn add_peers(out: &mut Writer<Global>, facts: &Facts) -> Result<(), NoMemory> {
+    for peer in &facts.peers {
+        add_peer(out, peer)?;
+    }
+    Ok(())
+}
+
+/// Adds the object of a peer.
+fn add_peer(out: &mut Writer<Global>, peer: &PeerFacts) -> Result<(), NoMemory> {
+    open_object(out)?;
+    put_number(out, "port", u64::from(peer.port))?;
+    put_flag(out, "reachable", peer.is_reachable)?;
+    put_number(out, "condition_ms", peer.condition_ms)?;
+    put_option(out, "good_ms", peer.good_ms)?;
+    put_number(out, "pulls", peer.pulls)?;
+    put_number(out, "failures", peer.failures)?;
+    close_object(out)
+}
+
+/// The event of how many items are ready, how many aren't, and how many operations there are. A browser asks for the
+/// next one after 2 seconds.
+pub fn events_text(
+    alloc: Global,
+    replica: &Replica,
+    verdicts: &Verdicts,
+) -> Result<Vec<u8>, NoMemory>
+    ensures { IfOk result (λ text. text.items
+        ≡ event_text (length verdicts.now.ready) (length verdicts.now.out) (length replica.now)) }
+{
+    let ready = verdicts.ready().len();
+    let out = verdicts.out().len();
+    let operations = replica.len();
+    let text = format!(in alloc;
+        "retry: 2000\ndata: {{\"ready\":{ready},\"out\":{out},\"operations\":{operations}}}\n\n"
+    )?;
+    Ok(text.into_bytes())
+}

@@ -1,0 +1,75 @@
+//! Links from one page to another.
+
+ghost use Rattle.std.specs.Prelude.{◌≡◌, ◌++◌, OnOk};
+ghost use Rattle.page_text.specs.Table.{link_html};
+
+use super::names::{reason_name, shown_name};
+use super::words::refusal_words;
+use lattice_core::NoMemory;
+use markup_text::{Markup, Piece};
+use page_routes::{Choice, Reason};
+use ready_core::Left;
+use state_core::Item;
+use std::alloc::Global;
+
+/// Adds an item, as `101,2`, with a link to its page.
+pub fn add_item_link(page: &mut Markup, item: Item) -> Result<(), NoMemory>
+    ensures { OnOk result (page.new ≡ page.old ++ link_html item) }
+{
+    let change = Piece::Number(u64::from(item.change));
+    let set = Piece::Number(u64::from(item.set));
+    let comma = Piece::Markup(",");
+    page.add(&[
+        Piece::Markup("<a href=\"/change/"),
+        change,
+        comma,
+        set,
+        Piece::Markup("\">"),
+        change,
+        comma,
+        set,
+        Piece::Markup("</a>"),
+    ])?;
+    Ok(())
+}
+
+/// Adds an item that is left out, with a link to its page, and its refusal.
+pub fn add_left(alloc: Global, page: &mut Markup, left: Left) -> Result<(), NoMemory> {
+    let words = refusal_words(alloc, left.refusal)?;
+    add_item_link(page, left.item)?;
+    page.add(&[Piece::Markup(" "), Piece::Text(words.as_str())])?;
+    Ok(())
+}
+
+/// Adds the address of a page of a list.
+pub fn add_address(page: &mut Markup, choice: &Choice, number: u64) -> Result<(), NoMemory> {
+    page.add(&[
+        Piece::Markup("/?show="),
+        Piece::Markup(shown_name(choice.shown)),
+        Piece::Markup("&amp;page="),
+        Piece::Number(number),
+    ])?;
+    add_reason(page, choice.reason)?;
+    add_words(page, choice)
+}
+
+/// Adds the reason that is asked for, if one is.
+fn add_reason(page: &mut Markup, reason: Option<Reason>) -> Result<(), NoMemory> {
+    let Some(reason) = reason else {
+        return Ok(());
+    };
+    page.add(&[
+        Piece::Markup("&amp;reason="),
+        Piece::Markup(reason_name(reason)),
+    ])?;
+    Ok(())
+}
+
+/// Adds the words that are searched for, if some are.
+fn add_words(page: &mut Markup, choice: &Choice) -> Result<(), NoMemory> {
+    let Some(words) = &choice.words else {
+        return Ok(());
+    };
+    page.add(&[Piece::Markup("&amp;q="), Piece::Query(words.as_str())])?;
+    Ok(())
+}

@@ -1,0 +1,137 @@
+//! The figures of the sites that a site pulls from.
+
+ghost use Rattle.std.specs.Prelude.{◌≡◌, ◌++◌, OnOk, flat_map, string_bytes};
+ghost use Rattle.page_text.specs.Metrics.{ages_text, failures_text, flag, peers_text, port_age_text};
+ghost use Rattle.page_text.specs.Metrics.{pulls_text, up_text};
+ghost use Rattle.page_text.specs.Samples.{port_sample};
+
+use super::facts::PeerFacts;
+use super::samples::{add_family, add_port, add_port_milliseconds};
+use lattice_core::NoMemory;
+
+/// Adds the figures of the peers, each with its port.
+pub fn add_peers(text: &mut String, peers: &[PeerFacts]) -> Result<(), NoMemory>
+    ensures { OnOk result (string_bytes text.new ≡ string_bytes text.old ++ peers_text peers.now) }
+{
+    add_up(text, peers)?;
+    add_ages(text, peers)?;
+    add_pulls(text, peers)?;
+    add_failures(text, peers)?;
+    Ok(())
+}
+
+/// Adds which peers were reached by the last pull.
+fn add_up(text: &mut String, peers: &[PeerFacts]) -> Result<(), NoMemory>
+    ensures { OnOk result (string_bytes text.new ≡ string_bytes text.old ++ up_text peers.now) }
+{
+    let name = "reviewgate_peer_up";
+    add_family(
+        text,
+        name,
+        "gauge",
+        "Whether the last pull reached the peer.",
+    )?;
+    add_flags(text, name, peers)?;
+    Ok(())
+}
+
+/// Adds 1 of each peer that was reached, and 0 of each other one.
+fn add_flags(text: &mut String, name: &str, peers: &[PeerFacts]) -> Result<(), NoMemory>
+    ensures { OnOk result (string_bytes text.new ≡ string_bytes text.old
+        ++ flat_map (λ peer. port_sample name.now peer.port (flag peer.is_reachable)) peers.now) }
+{
+    for peer in peers {
+        add_port(text, name, peer.port, flag(peer.is_reachable))?;
+    }
+    Ok(())
+}
+
+/// 1 where it holds.
+fn flag(holds: bool) -> u64
+    ensures { result ≡ flag holds }
+{
+    if holds { 1 } else { 0 }
+}
+
+/// Adds how long ago the last whole pull of each peer ended, if one did.
+fn add_ages(text: &mut String, peers: &[PeerFacts]) -> Result<(), NoMemory>
+    ensures { OnOk result (string_bytes text.new ≡ string_bytes text.old ++ ages_text peers.now) }
+{
+    let name = "reviewgate_peer_last_pull_age_seconds";
+    add_family(
+        text,
+        name,
+        "gauge",
+        "Seconds since the last whole pull ended.",
+    )?;
+    add_port_ages(text, name, peers)?;
+    Ok(())
+}
+
+/// Adds how long ago it was of each peer, where it was.
+fn add_port_ages(text: &mut String, name: &str, peers: &[PeerFacts]) -> Result<(), NoMemory>
+    ensures { OnOk result (string_bytes text.new ≡ string_bytes text.old
+        ++ flat_map (λ peer. port_age_text name.now peer.port peer.good_ms) peers.now) }
+{
+    for peer in peers {
+        add_port_age(text, name, peer.port, peer.good_ms)?;
+    }
+    Ok(())
+}
+
+/// Adds how long ago something was of the peer at a port, where it was.
+fn add_port_age(
+    text: &mut String,
+    name: &str,
+    port: u16,
+    age_ms: Option<u64>,
+) -> Result<(), NoMemory>
+    ensures { OnOk result (string_bytes text.new ≡ string_bytes text.old ++ port_age_text name.now port age_ms) }
+{
+    match age_ms {
+        Some(age_ms) => add_port_milliseconds(text, name, port, age_ms),
+        None => Ok(()),
+    }
+}
+
+/// Adds how many pulls of each peer were whole.
+fn add_pulls(text: &mut String, peers: &[PeerFacts]) -> Result<(), NoMemory>
+    ensures { OnOk result (string_bytes text.new ≡ string_bytes text.old ++ pulls_text peers.now) }
+{
+    let name = "reviewgate_peer_pulls_total";
+    add_family(text, name, "counter", "Whole pulls since the start.")?;
+    add_pull_counts(text, name, peers)?;
+    Ok(())
+}
+
+/// Adds the number of each peer.
+fn add_pull_counts(text: &mut String, name: &str, peers: &[PeerFacts]) -> Result<(), NoMemory>
+    ensures { OnOk result (string_bytes text.new ≡ string_bytes text.old
+        ++ flat_map (λ peer. port_sample name.now peer.port peer.pulls) peers.now) }
+{
+    for peer in peers {
+        add_port(text, name, peer.port, peer.pulls)?;
+    }
+    Ok(())
+}
+
+/// Adds how many pulls of each peer failed.
+fn add_failures(text: &mut String, peers: &[PeerFacts]) -> Result<(), NoMemory>
+    ensures { OnOk result (string_bytes text.new ≡ string_bytes text.old ++ failures_text peers.now) }
+{
+    let name = "reviewgate_peer_pull_failures_total";
+    add_family(text, name, "counter", "Pulls that failed since the start.")?;
+    add_failure_counts(text, name, peers)?;
+    Ok(())
+}
+
+/// Adds the number of each peer.
+fn add_failure_counts(text: &mut String, name: &str, peers: &[PeerFacts]) -> Result<(), NoMemory>
+    ensures { OnOk result (string_bytes text.new ≡ string_bytes text.old
+        ++ flat_map (λ peer. port_sample name.now peer.port peer.failures) peers.now) }
+{
+    for peer in peers {
+        add_port(text, name, peer.port, peer.failures)?;
+    }
+    Ok(())
+}

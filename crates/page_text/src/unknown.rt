@@ -1,0 +1,43 @@
+//! What is answered of a change that isn't known.
+
+ghost use Rattle.std.specs.Prelude.{◌≡◌, IfOk};
+ghost use Rattle.json.specs.Print.{print};
+ghost use Rattle.page_text.specs.Problem.{problem_tokens};
+
+use super::frame::{begin, end};
+use super::members::{close_object, open_object, put_number, put_text};
+use json::Writer;
+use lattice_core::NoMemory;
+use markup_text::Piece;
+use page_routes::Place;
+use std::alloc::Global;
+
+/// The page that says that a change, or one of its patch sets, isn't known.
+pub fn unknown_page(alloc: Global, place: Place, site: u16) -> Result<Vec<u8>, NoMemory> {
+    let mut page = begin(alloc, "Not found", site)?;
+    page.add(&[
+        Piece::Markup("<h1>Not found</h1>\n<p>The record has no change "),
+        Piece::Number(u64::from(place.change)),
+    ])?;
+    if let Some(set) = place.set {
+        page.add(&[
+            Piece::Markup(" with a patch set "),
+            Piece::Number(u64::from(set)),
+        ])?;
+    }
+    page.add(&[Piece::Markup(".</p>\n")])?;
+    end(page)
+}
+
+/// The same as a problem of RFC 9457.
+pub fn problem_text(alloc: Global) -> Result<Vec<u8>, NoMemory>
+    ensures { IfOk result (λ text. text.items ≡ print problem_tokens) }
+{
+    let mut out = Writer::new(Vec::new(alloc));
+    open_object(&mut out)?;
+    put_text(&mut out, "type", "about:blank")?;
+    put_text(&mut out, "title", "Not Found")?;
+    put_number(&mut out, "status", 404)?;
+    close_object(&mut out)?;
+    Ok(out.into_inner())
+}
