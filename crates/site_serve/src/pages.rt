@@ -21,12 +21,19 @@ use replica_core::Replica;
 use site_net::Stop;
 use site_shared::{Naming, RefreshFault, Viewer, WindowFault};
 use std::alloc::{AllocError, Global};
-use std::io;
 use std::sync::Wait;
 use std::time::{Clock, Duration, Instant};
+use std::{io, thread};
 
 /// For how many milliseconds the desk may take no turn before the site isn't well.
 const ASLEEP_MS: u64 = 1_000;
+
+/// How many times as long as a page took to make its thread looks at nothing before the next one. A publish may have to
+/// wait for a window that is looked through, so that pages hold up takes for a tenth of the time.
+const REST: u32 = 9;
+
+/// The longest such rest in milliseconds.
+const LONGEST_REST_MS: u64 = 1_000;
 
 /// What a site is shown by.
 #[derive(Clone, Copy)]
@@ -53,6 +60,7 @@ pub(super) fn show_pages<R: Wait + Clock, J: Naming>(
         shower,
         window,
         kept: None,
+        next: Duration::ZERO,
         requests: 0,
         refused_hosts: 0,
         update_us: 0,
@@ -66,6 +74,8 @@ struct SitePages<'a, R: Wait + Clock, J: Naming> {
     shower: Shower<'a, R>,
     window: OwnWindow<J>,
     kept: Option<OwnWatch<J>>,
+    /// When the next look may begin, from the beginning of the site.
+    next: Duration,
     requests: u64,
     refused_hosts: u64,
     update_us: u64,
@@ -82,13 +92,15 @@ impl<R: Wait + Clock, J: Naming> Pages for SitePages<'_, R, J> {
 
     fn page(&mut self, route: &Route) -> Result<Page, AllocError> {
         self.requests = self.requests.saturating_add(1);
-        let now = self.now();
+        let now = awaited(self.shower.rt, self.shower.board, self.next);
         if matches!(route, Route::Health) && self.is_asleep(now) {
             let page = unwell(self.shower.alloc, "the desk takes no turn\n")?;
             return Ok(page);
         }
         let facts = self.facts(now)?;
-        let page = self.show(route, &facts)?;
+        let shown = self.show(route, &facts);
+        self.next = next_look(self.shower.rt, self.shower.board, now);
+        let page = shown?;
         Ok(page)
     }
 
@@ -143,14 +155,6 @@ impl<R: Wait + Clock, J: Naming> SitePages<'_, R, J> {
                 no_page(self.shower.alloc, WindowFault::Closed)
             }
         }
-    }
-
-    /// How long the site has run.
-    fn now(&self) -> Duration {
-        self.shower
-            .board
-            .now(self.shower.rt)
-            .unwrap_or(Duration::ZERO)
     }
 
     /// Whether the desk has taken no turn for a second.
@@ -208,6 +212,26 @@ impl Viewer for Viewing<'_> {
             Err(_) => None,
         };
     }
+}
+
+/// How long the site has run, once it has run so long as the next look waits for.
+fn awaited<R: Clock>(rt: &R, board: &Board, next: Duration) -> Duration {
+    let now = board.now(rt).unwrap_or(next);
+    if now >= next {
+        return now;
+    }
+    thread::sleep(rt, next.saturating_sub(now));
+    next
+}
+
+/// When the next look may begin after one that was begun then.
+fn next_look<R: Clock>(rt: &R, board: &Board, begun: Duration) -> Duration {
+    let now = board.now(rt).unwrap_or(begun);
+    let rest = now
+        .saturating_sub(begun)
+        .saturating_mul(REST)
+        .min(Duration::from_millis(LONGEST_REST_MS));
+    now.saturating_add(rest)
 }
 
 /// How many microseconds have passed since then; the other number where the clock can't be read.

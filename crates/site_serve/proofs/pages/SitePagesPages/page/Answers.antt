@@ -4,7 +4,7 @@ use Rattle.site_serve.proofs.pages.SitePagesPages.page.Goals as goal
 
 pub returns-clause-ok : goal.returns-clause-ok
 returns-clause-ok g c = (
-  c.show.ensures.later,
-  with_some_figures c.args.self.now.shower.gate.now c.in_ok-facts.facts c.show.new.self.window.window.seen
+  c.show-shown.ensures.later,
+  with_some_figures c.args.self.now.shower.gate.now c.in_ok-facts.facts c.show-shown.new.self.window.window.seen
       c.args.route.now c.in_ok-page-2.page c.in_ok-page-2.ensures.page,
 )
