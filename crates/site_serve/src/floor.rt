@@ -70,6 +70,8 @@ pub(super) struct Floor {
     /// Whether there was room for the answers of more looks when the clock was looked at.
     has_room: bool,
     is_rung: bool,
+    /// Whether something was published, or is to be, of which no news was brought yet.
+    is_news_due: bool,
     /// How long the loop has run, when it last looked at the clock for its sessions, when it last said that all places
     /// are taken, and when it was stopped.
     now: Duration,
@@ -116,6 +118,7 @@ impl Floor {
             may_accept: true,
             has_room: true,
             is_rung: false,
+            is_news_due: false,
             now: Duration::ZERO,
             looked: Duration::ZERO,
             refused: None,
@@ -359,11 +362,11 @@ fn hold_pulled<R: Wait, J: Naming, K: Keeps>(
 }
 
 /// Publishes what is held where somebody waits for that, and answers all who wait. It brings news where anything was
-/// held: a pull that handed over nothing new brings none.
+/// held since news was brought: a pull that handed over nothing new brings none.
 fn publish<R: Wait, J: Naming, K: Keeps, E: Drain>(
     rt: &R,
     site: &Site<'_, E, J>,
-    floor: &Floor,
+    floor: &mut Floor,
     ledger: &mut OwnLedger<J, K>,
     replies: &mut Replies<'_, J>,
     waiters: &[Waiter],
@@ -374,11 +377,12 @@ fn publish<R: Wait, J: Naming, K: Keeps, E: Drain>(
     if waiters.is_empty() {
         return Ok(());
     }
-    let is_new = ledger.held_count() > 0;
+    floor.is_news_due |= ledger.held_count() > 0;
     let published = publish_and_answer(rt, floor.alloc, ledger, replies, waiters)?;
     if let Ok(receipt) = &published
-        && is_new
+        && floor.is_news_due
     {
+        floor.is_news_due = false;
         site.board.note_news(floor.now);
         site.news.bring(rt, receipt);
     }
