@@ -1,5 +1,5 @@
-//! The commands but `serve`, `events` and `recover`, under one law: their inputs are read and judged one after the
-//! other, and the answer is printed whole, or a proper prefix of it where the output failed.
+//! The commands but `serve`, `events`, `enqueue` and `recover`, under one law: their inputs are read and judged one
+//! after the other, and the answer is printed whole, or a proper prefix of it where the output failed.
 //!
 //! Its tests are in the crate `command_tests`.
 //!
