@@ -40,7 +40,8 @@ const LIST: &str = r#"<!DOCTYPE html>
 <p><strong class="ready">1</strong> may enter, <strong class="waits">2</strong> open ones may not.</p>
 <p>As it was 1 s ago.</p>
 <p>The last operation came 1 min ago.</p>
-<p class="waits">The site at port 8102 has not been reached for 3 min.</p>
+<p>A feed last heard from Gerrit 7 s ago.</p>
+<p class="waits">The peer /run/&quot;a\&lt;b&gt;&amp;\u{A}&#39; has not been reached for 3 min.</p>
 <h2>Why open items wait</h2>
 <ul>
 <li><a href="/?reason=require">require</a>: 1</li>
@@ -116,7 +117,8 @@ const SECOND: &str = r#"<!DOCTYPE html>
 <p><strong class="ready">1</strong> may enter, <strong class="waits">2</strong> open ones may not.</p>
 <p>As it was 1 s ago.</p>
 <p>The last operation came 1 min ago.</p>
-<p class="waits">The site at port 8102 has not been reached for 3 min.</p>
+<p>A feed last heard from Gerrit 7 s ago.</p>
+<p class="waits">The peer /run/&quot;a\&lt;b&gt;&amp;\u{A}&#39; has not been reached for 3 min.</p>
 <h2>Why open items wait</h2>
 <ul>
 <li><a href="/?reason=require">require</a>: 1</li>

@@ -8,6 +8,7 @@ pub mod Items
 pub mod Problem
 pub mod Held
 pub mod Statuses
+pub mod Labels
 pub mod Samples
 pub mod Metrics
 pub mod Table

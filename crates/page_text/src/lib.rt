@@ -23,6 +23,12 @@
 //!     requests: 1,
 //!     refused_hosts: 0,
 //!     update_us: 0,
+//!     workers: 1,
+//!     busy_workers: 0,
+//!     session_faults: 0,
+//!     refused_connections: 0,
+//!     journal: None,
+//!     heard_ms: None,
 //! };
 //! let page = page_of(alloc, &Route::Health, &gate, &replica, &verdicts, &facts)?;
 //! assert_eq!(rt; page.body.as_slice(), b"ok\n".as_slice());
@@ -42,12 +48,14 @@ mod held;
 mod json_change;
 mod json_items;
 mod json_status;
+mod labels;
 mod laws;
 mod links;
 mod list;
 mod members;
 mod metrics;
 mod metrics_peers;
+mod metrics_work;
 mod names;
 mod needs;
 mod rows;
@@ -62,7 +70,7 @@ mod verdict;
 mod words;
 
 pub use answer::page_of;
-pub use facts::{Facts, PeerFacts};
+pub use facts::{Facts, JournalFacts, PeerFacts};
 pub use laws::pages_are_the_report;
 pub use rows::{ROWS, Row, chosen_rows, rows_of};
 pub use style::{SCRIPT, STYLE};

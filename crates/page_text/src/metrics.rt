@@ -9,6 +9,7 @@ ghost use Rattle.page_text.specs.Metrics.{site_text, status_text, update_text};
 use super::facts::Facts;
 use super::held::{Held, all_held, held_count, held_words};
 use super::metrics_peers::add_peers;
+use super::metrics_work::{add_heard, add_journal, add_work};
 use super::samples::{
     add_counter, add_family, add_gauge, add_labelled, add_microseconds, add_milliseconds,
 };
@@ -21,8 +22,8 @@ use replica_core::Replica;
 use state_core::State;
 use std::alloc::Global;
 
-/// The text of the figures: of the record, of the items that open ones are held by, of the site, of its peers, and of
-/// what it served. It costs O(n k) for n items and k approvals of the gate.
+/// The text of the figures: of the record, of the items that open ones are held by, of the site, of its peers, of what
+/// it served, of its threads, of its journal, and of what its feeds heard. It costs O(n k) for n items and k approvals of the gate.
 pub fn metrics_text(
     alloc: Global,
     gate: &Gate,
@@ -40,6 +41,9 @@ pub fn metrics_text(
     add_peers(&mut text, facts.peers.as_slice())?;
     add_served(&mut text, facts)?;
     add_update(&mut text, facts.update_us)?;
+    add_work(&mut text, facts)?;
+    add_journal(&mut text, facts.journal)?;
+    add_heard(&mut text, facts.heard_ms)?;
     Ok(text.into_bytes())
 }
 
