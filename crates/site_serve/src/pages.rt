@@ -183,6 +183,12 @@ impl<R: Wait + Clock, J: Naming> SitePages<'_, R, J> {
             requests: self.requests,
             refused_hosts: self.refused_hosts,
             update_us: self.update_us,
+            workers: 0,
+            busy_workers: 0,
+            session_faults: 0,
+            refused_connections: 0,
+            journal: None,
+            heard_ms: None,
         })
     }
 }
@@ -274,7 +280,7 @@ fn peers_of(
     for note in notes {
         let last_well = note.last_well.map(|then| now.saturating_sub(then));
         peers.push(PeerFacts {
-            port: note.port,
+            peer: format!(in alloc; "{}", note.port)?,
             is_reachable: note.is_well,
             condition_ms: millis(now.saturating_sub(note.since)),
             good_ms: since(last_well),
