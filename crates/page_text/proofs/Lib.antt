@@ -5,5 +5,6 @@ mod SearchSteps
 mod OutSteps
 mod HeldSteps
 mod Adding
+mod LabelSteps
 mod Counting
 mod TableRows

@@ -178,11 +178,13 @@ now_text facts =
     work_text facts.workers facts.busy_workers facts.session_faults facts.refused_connections
     ++ journal_text facts.journal ++ heard_text facts.heard_ms
 
--- all figures: of the record, of what open items are held by, of the site, of its peers, of what it served, and of
--- what it does just now
-abbrev pub metrics_of : GateRules → State → ℕ → Judged → Facts → List ℕ
-metrics_of gate state operations verdicts facts =
+-- the figures of the record, of what open items are held by, of the site, of its peers, and of what it served
+abbrev pub figures_text : GateRules → State → ℕ → Judged → Facts → List ℕ
+figures_text gate state operations verdicts facts =
     record_text operations state (length verdicts.ready) ++ all_held_text gate verdicts.out
     ++ site_text facts.site facts.start facts.news_ms ++ peers_text facts.peers.items
     ++ served_text facts.sessions facts.publishes facts.requests facts.refused_hosts ++ update_text facts.update_us
-    ++ now_text facts
+
+-- all figures: these, and those of what it does just now
+abbrev pub metrics_of : GateRules → State → ℕ → Judged → Facts → List ℕ
+metrics_of gate state operations verdicts facts = figures_text gate state operations verdicts facts ++ now_text facts

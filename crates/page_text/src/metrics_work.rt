@@ -1,14 +1,25 @@
 //! The figures of what a site does just now: its threads, its journal, and what its feeds hear.
 
 ghost use Rattle.std.specs.Prelude.{◌≡◌, ◌++◌, OnOk, string_bytes};
-ghost use Rattle.page_text.specs.Metrics.{heard_age_text, heard_text, journal_text, one_journal_text, work_text};
+ghost use Rattle.page_text.specs.Metrics.{heard_age_text, heard_text, journal_text, now_text, one_journal_text};
+ghost use Rattle.page_text.specs.Metrics.{work_text};
 
 use super::facts::{Facts, JournalFacts};
 use super::samples::{add_counter, add_family, add_gauge, add_milliseconds};
 use lattice_core::NoMemory;
 
+/// Adds the figures of what a site does just now.
+pub fn add_now(text: &mut String, facts: &Facts) -> Result<(), NoMemory>
+    ensures { OnOk result (string_bytes text.new ≡ string_bytes text.old ++ now_text facts.now) }
+{
+    add_work(text, facts)?;
+    add_journal(text, facts.journal)?;
+    add_heard(text, facts.heard_ms)?;
+    Ok(())
+}
+
 /// Adds how many threads look for sessions, and what went wrong since the start.
-pub fn add_work(text: &mut String, facts: &Facts) -> Result<(), NoMemory>
+fn add_work(text: &mut String, facts: &Facts) -> Result<(), NoMemory>
     ensures { OnOk result (string_bytes text.new ≡ string_bytes text.old ++ work_text facts.now.workers
         facts.now.busy_workers facts.now.session_faults facts.now.refused_connections) }
 {
@@ -40,7 +51,7 @@ pub fn add_work(text: &mut String, facts: &Facts) -> Result<(), NoMemory>
 }
 
 /// Adds what the journal has, where there is one.
-pub fn add_journal(text: &mut String, journal: Option<JournalFacts>) -> Result<(), NoMemory>
+fn add_journal(text: &mut String, journal: Option<JournalFacts>) -> Result<(), NoMemory>
     ensures { OnOk result (string_bytes text.new ≡ string_bytes text.old ++ journal_text journal) }
 {
     match journal {
@@ -69,7 +80,7 @@ fn add_one_journal(text: &mut String, bytes: u64, syncs: u64) -> Result<(), NoMe
 }
 
 /// Adds how long ago a feed last said that it heard from Gerrit, where one did.
-pub fn add_heard(text: &mut String, heard_ms: Option<u64>) -> Result<(), NoMemory>
+fn add_heard(text: &mut String, heard_ms: Option<u64>) -> Result<(), NoMemory>
     ensures { OnOk result (string_bytes text.new ≡ string_bytes text.old ++ heard_text heard_ms) }
 {
     match heard_ms {
