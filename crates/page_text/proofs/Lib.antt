@@ -6,5 +6,8 @@ mod OutSteps
 mod HeldSteps
 mod Adding
 mod LabelSteps
+mod NamedChanges
+mod ReachedSteps
+mod WaitingSteps
 mod Counting
 mod TableRows

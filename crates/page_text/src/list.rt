@@ -48,7 +48,7 @@ pub fn list_page(
 {
     let chosen = chosen_rows(alloc, replica.state(), verdicts, choice)?;
     let rows = rows_of(chosen.as_slice(), choice.page);
-    let mut page = begin(alloc, "Items", facts.site)?;
+    let mut page = begin(alloc, &[Piece::Markup("Items")], facts.site)?;
     add_top(&mut page, choice, verdicts, facts, chosen.len())?;
     let bottom = bottom_of(alloc, choice, chosen.len())?;
     add_rows(alloc, &mut page, gate, replica.state(), verdicts, rows)?;
