@@ -1,6 +1,6 @@
 -- What an item names.
-use Rattle.std.proofs.Common.{◌≡◌, ◌≢◌, ◌↔◌, ◌∙◌, ℕ, List, [], ◌∷◌, ◌++◌, Contains, Option, None, Some, option_map, option_and_then}
-use Rattle.std.proofs.Common.{eqb, sym, subst, inl, inr, arith}
+use Rattle.std.proofs.Common.{◌≡◌, ◌≢◌, ◌↔◌, ℕ, List, [], ◌∷◌, ◌++◌, Contains, Some}
+use Rattle.std.proofs.Common.{eqb, sym, subst, inl, inr}
 use Rattle.std.specs.FinMap as finite
 use Rattle.std.specs.Ordering.{nat_cmp}
 use Rattle.std.specs.List.Retain.{IsFiltered, DiffersFromLast}
@@ -18,45 +18,6 @@ use Rattle.state_core.specs.declared.item.Item.{Item}
 use Rattle.state_core.specs.State.{State}
 use Rattle.graph_core.specs.Dependencies.{IsNeeded, IsParent, Names}
 use Rattle.page_text.specs.Reached.{AreNames}
-
-nothing : {X : Type 0} (x : X) → ¬ Contains [] x
-nothing x c = let less = c.1 in absurd (omega arith)
-
-differs : {X : Type 0} (x : X) → ¬ (None ≡ Some x)
-differs x e = cc
-
--- ---- what an item names that isn't known
-pub names_unknown : (gate : GateRules) (state : State) (item : Item) → finite.get state item.change ≡ None → (number : ℕ)
-    → Contains [] number ↔ Names gate state item number
-names_unknown gate state item none number = (
-  λ c. absurd (nothing number c),
-  λ names. elim names [
-    | inl need ↦ absurd (differs need.change (sym none ∙ need.stands))
-    | inr parent ↦ absurd (differs parent.change (sym none ∙ parent.stands))
-  ],
-)
-
-unparented : {X Y Z : Type 0} (o : Option X) (f : X → Y) (g : X → Option Z) (z : Z) → option_map f o ≡ None
-    → ¬ (option_and_then g o ≡ Some z)
-unparented None f g z none is = differs z is
-unparented (Some x) f g z none is = differs (f x) (sym none)
-
-no_parent : (change : Change) (set : ℕ) → message_of change set ≡ None → (number : ℕ) → ¬ (parent_of change set ≡ Some number)
-no_parent change set none number is =
-    unparented (finite.get change.sets set) (λ register. register.1.message) (λ register. register.1.parent) number none is
-
-pub names_unsaid : (gate : GateRules) (state : State) (item : Item) (change : Change)
-    → finite.get state item.change ≡ Some change → message_of change item.set ≡ None → (number : ℕ)
-    → Contains [] number ↔ Names gate state item number
-names_unsaid gate state item change stands none number = (
-  λ c. absurd (nothing number c),
-  λ names. elim names [
-    | inl need ↦ absurd (differs need.message (sym (unsaid need.change need.stands) ∙ need.said))
-    | inr parent ↦ absurd (no_parent parent.change item.set (unsaid parent.change parent.stands) number parent.parent)
-  ],
-) where
-  unsaid : (other : Change) → finite.get state item.change ≡ Some other → message_of other item.set ≡ None
-  unsaid other e = let same : other ≡ change = cc in subst (λ c. message_of c item.set ≡ None) (sym same) none
 
 -- ---- what an item names
 module _ (gate : GateRules) (state : State) (item : Item) (change : Change) (message needs : List ℕ)

@@ -32,15 +32,6 @@ distinct_push (x ∷ xs) y once new = (
 
 -- ---- one number is added, or is there
 
-pub one_there : (old : List ℕ) (number : ℕ) → Contains old number → AddsAll (λ other. other ≡ number) old old
-one_there old number there = record {
-  added = [];
-  is = sym (append-nil old);
-  from = λ other c. absurd (nothing other c);
-  all = λ other same. subst (Contains old) (sym same) there;
-  once = λ once. once;
-}
-
 pub one_added : (old : List ℕ) (number : ℕ) → ¬ Contains old number
     → AddsAll (λ other. other ≡ number) old (old ++ number ∷ [])
 one_added old number new = record {
@@ -115,17 +106,6 @@ names_added gate state item number from needs old new asked named adds = record 
   all = λ other names. adds.all other ((named.each other).1
       (subst (λ i. Names gate state i other) (one_item state item number names.0 from names.1 asked) names.2));
   once = adds.once;
-}
-
-pub no_names : (gate : GateRules) (state : State) (item : Item) (number : ℕ) (old : List ℕ)
-    → ((from : Item) → ¬ IsItemAsked state number (set_seen item number) from)
-    → AddsAll (NamesFrom gate state item number) old old
-no_names gate state item number old none = record {
-  added = [];
-  is = sym (append-nil old);
-  from = λ other c. absurd (nothing other c);
-  all = λ other names. absurd (none names.0 names.1);
-  once = λ once. once;
 }
 
 -- ---- the search
