@@ -104,7 +104,7 @@ fn refusals_of_a_running_site_are_printed(rt: HostRuntime) {
 #[test]
 fn the_gate_is_judged_before_the_site(rt: HostRuntime) {
     let words = ["ready", "-", "@8102"];
-    let refused = "reviewgate: gate 1 NotJson\n";
+    let refused = "reviewgate: gate 1 NotJson 1 1\n";
     assert_answers(&rt, rt.alloc(), words.as_slice(), "x", 1, "", refused);
     let words = ["ready", "@8101", "-"];
     let unread = "reviewgate: file 7 ReadFault @8101\n";
