@@ -1,6 +1,6 @@
 -- What the words of a command line ask for: each command's arguments, with the limits of their numbers, and what they
 -- say.
-use Rattle.std.specs.Prelude.{◌≡◌, ◌⊎◌, ◌↔◌, IsTrue, List, None, Some, codes, map, option_map, string_bytes}
+use Rattle.std.specs.Prelude.{◌≡◌, ◌⊎◌, ◌↔◌, Bool, IsTrue, List, None, Some, codes, map, option_map, string_bytes}
 use Rattle.command_tree.specs.Matching.{AreFaulty, AskForHelp, AskForVersion, HasFlag, AreFaultlessWords, Matched, Row}
 use Rattle.command_tree.specs.Matching.{Text, first_of, matched_of}
 use Rattle.command_line.specs.declared.asked.Answer.{Answer}
@@ -123,14 +123,18 @@ text_of recover = codes "recover"
 text_of events = codes "events"
 text_of enqueue = codes "enqueue"
 
+-- whether the answer is to be JSON
+abbrev pub AsksForJson : List Row → Bool → Type 0
+AsksForJson rows is_json = IsTrue is_json ↔ HasFlag rows (codes "json")
+
 -- the arguments of the command say that this is asked
 abbrev pub ArgumentsSay : Name → List Row → Asked → Type 0
-ArgumentsSay ready rows (Run (Ready gate snapshot)) =
+ArgumentsSay ready rows (Run (Ready gate snapshot is_json)) =
     HasArgument rows (codes "GATE") gate.now × HasArgument rows (codes "SNAPSHOT") snapshot.now
-    × GivesAnyItem rows None
-ArgumentsSay ready rows (Run (ReadyItem gate snapshot change set)) =
+    × GivesAnyItem rows None × AsksForJson rows is_json
+ArgumentsSay ready rows (Run (ReadyItem gate snapshot change set is_json)) =
     HasArgument rows (codes "GATE") gate.now × HasArgument rows (codes "SNAPSHOT") snapshot.now
-    × GivesAnyItem rows (Some (change, set))
+    × GivesAnyItem rows (Some (change, set)) × AsksForJson rows is_json
 ArgumentsSay why rows (Run (Why gate snapshot change set is_all)) =
     HasArgument rows (codes "GATE") gate.now × HasArgument rows (codes "SNAPSHOT") snapshot.now × GivesItem rows change set
     × (IsTrue is_all ↔ HasFlag rows (codes "all"))
@@ -139,13 +143,13 @@ ArgumentsSay graph rows (Run (Graph gate snapshot around)) =
     × GivesAny rows (codes "around") 0 4294967295 around
 ArgumentsSay merge rows (Run (Merge first second)) =
     HasArgument rows (codes "FIRST") first.now × HasArgument rows (codes "SECOND") second.now
-ArgumentsSay footers rows (Run (Footers gate message change)) =
+ArgumentsSay footers rows (Run (Footers gate message change is_json)) =
     HasArgument rows (codes "GATE") gate.now × HasArgument rows (codes "FILE") message.now
-    × GivesNumber rows (codes "change") 0 4294967295 change
-ArgumentsSay check rows (Run (Check gate snapshot is_strict)) =
+    × GivesNumber rows (codes "change") 0 4294967295 change × AsksForJson rows is_json
+ArgumentsSay check rows (Run (Check gate snapshot is_strict is_json)) =
     HasArgument rows (codes "GATE") gate.now
     × (first_of (codes "SNAPSHOT") rows ≡ option_map (λ name. name.now) snapshot)
-    × (IsTrue is_strict ↔ HasFlag rows (codes "strict"))
+    × (IsTrue is_strict ↔ HasFlag rows (codes "strict")) × AsksForJson rows is_json
 ArgumentsSay simulate rows (Run (Simulate script gate)) =
     HasArgument rows (codes "SCRIPT") script.now × (first_of (codes "GATE") rows ≡ option_map (λ name. name.now) gate)
 ArgumentsSay serve rows (Serve words) = IsSite rows words

@@ -26,18 +26,20 @@ pub enum Asked<'a> {
 /// A command over files, which it reads before it prints its answer.
 #[derive(Drop)]
 pub enum Command<'a> {
-    /// To print the report of a snapshot under a gate file.
+    /// To print the report of a snapshot under a gate file, as JSON where `is_json`.
     Ready {
         gate: &'a str,
         snapshot: &'a str,
+        is_json: bool,
     },
     /// To print the line of an item of a snapshot in the report under a gate file: of the patch set `set` of the change,
-    /// or its current one.
+    /// or its current one; as JSON where `is_json`.
     ReadyItem {
         gate: &'a str,
         snapshot: &'a str,
         change: u32,
         set: Option<u32>,
+        is_json: bool,
     },
     /// To print why an item of a snapshot waits under a gate file: the patch set `set` of the change, or its current
     /// one; and each condition of the gate where `is_all`.
@@ -60,18 +62,21 @@ pub enum Command<'a> {
         first: &'a str,
         second: &'a str,
     },
-    /// To print what the footers of a message ask for under a gate file's bases; `change` is the message's own, or 0.
+    /// To print what the footers of a message ask for under a gate file's bases, as JSON where `is_json`; `change` is the
+    /// message's own, or 0.
     Footers {
         gate: &'a str,
         message: &'a str,
         change: u32,
+        is_json: bool,
     },
     /// To print what a gate file asks for, with warnings; of the record, too, where a snapshot is named; a warning is a
-    /// refusal where `is_strict`.
+    /// refusal where `is_strict`, and all is JSON where `is_json`.
     Check {
         gate: &'a str,
         snapshot: Option<&'a str>,
         is_strict: bool,
+        is_json: bool,
     },
     /// To play the script of this name, with reports under a gate file where one is named.
     Simulate {

@@ -6,11 +6,13 @@ use Rattle.clap.specs.declared.builder.command.Command.TheViews.{out-Command}
 use Rattle.command_tree.specs.Rules.{flag_rule, needed, needed_number, number_rule, number_with, numbers_rule}
 use Rattle.command_tree.specs.Rules.{option_rule, option_with, several_numbers, several_rule}
 
--- `ready GATE SNAPSHOT [--item CHANGE[,SET]]`
+-- `ready GATE SNAPSHOT [--item CHANGE[,SET]] [--json]`
 abbrev pub ready_app : App
 ready_app =
-    with_rule (with_rule (with_rule (new_app (codes "ready")) (needed (codes "GATE"))) (needed (codes "SNAPSHOT")))
-    (option_rule (codes "item"))
+    with_rule
+    (with_rule (with_rule (with_rule (new_app (codes "ready")) (needed (codes "GATE"))) (needed (codes "SNAPSHOT")))
+    (option_rule (codes "item")))
+    (flag_rule (codes "json"))
 
 -- `why GATE SNAPSHOT CHANGE[,SET] [--all]`
 abbrev pub why_app : App
@@ -30,17 +32,21 @@ graph_app =
 abbrev pub merge_app : App
 merge_app = with_rule (with_rule (new_app (codes "merge")) (needed (codes "FIRST"))) (needed (codes "SECOND"))
 
--- `footers GATE FILE [--change N]`
+-- `footers GATE FILE [--change N] [--json]`
 abbrev pub footers_app : App
 footers_app =
-    with_rule (with_rule (with_rule (new_app (codes "footers")) (needed (codes "GATE"))) (needed (codes "FILE")))
-    (number_with (codes "change") (codes "0") 0 4294967295)
+    with_rule
+    (with_rule (with_rule (with_rule (new_app (codes "footers")) (needed (codes "GATE"))) (needed (codes "FILE")))
+    (number_with (codes "change") (codes "0") 0 4294967295))
+    (flag_rule (codes "json"))
 
--- `check GATE [SNAPSHOT] [--strict]`
+-- `check GATE [SNAPSHOT] [--strict] [--json]`
 abbrev pub check_app : App
 check_app =
-    with_rule (with_rule (with_rule (new_app (codes "check")) (needed (codes "GATE"))) (new_rule (codes "SNAPSHOT")))
-    (flag_rule (codes "strict"))
+    with_rule
+    (with_rule (with_rule (with_rule (new_app (codes "check")) (needed (codes "GATE"))) (new_rule (codes "SNAPSHOT")))
+    (flag_rule (codes "strict")))
+    (flag_rule (codes "json"))
 
 -- `simulate SCRIPT [GATE]`
 abbrev pub simulate_app : App

@@ -78,6 +78,7 @@ Arguments:
 
 Options:
       --item <CHANGE[,SET]>  Prints the line of this item alone, and ends with status 3 if it waits
+      --json                 Prints one JSON object on one line in place of the text
   -h, --help                 Print help
 ",
     ),
@@ -138,6 +139,7 @@ Arguments:
 
 Options:
       --change <N>  The number of the message's own change; 0 means none [default: 0]
+      --json        Prints one JSON object on one line in place of the text
   -h, --help        Print help
 ",
     ),
@@ -153,6 +155,7 @@ Arguments:
 
 Options:
       --strict  Ends with status 1 if there is a warning
+      --json    Prints one JSON object on one line in place of the text
   -h, --help    Print help
 ",
     ),
