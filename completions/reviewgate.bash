@@ -5,15 +5,15 @@ _reviewgate() {
         words="ready why graph merge footers check simulate serve recover events enqueue help --help --version"
     else
         case $command in
-            check) words="--strict --help" ;;
+            check) words="--strict --json --help" ;;
             enqueue) words="--tenant --pipeline --template --projects --handed --help" ;;
             events) words="--to --query --complete --project --projects --gate --help" ;;
-            footers) words="--change --help" ;;
+            footers) words="--change --json --help" ;;
             graph) words="--around --help" ;;
-            ready) words="--item --help" ;;
+            ready) words="--item --json --help" ;;
             recover) words="--without --until --help" ;;
             serve)
-                words="--site --start --port --sites --workers --pause --sessions --idle --connections --until-input-ends --print --http --http-host --load --save --journal --help"
+                words="--site --start --port --listen --mode --sites --workers --pause --sessions --idle --connections --until-input-ends --print --http --http-host --load --save --journal --help"
                 ;;
             why) words="--all --help" ;;
             *) words="--help" ;;

@@ -15,7 +15,9 @@ use Rattle.command_line.specs.declared.asked.ServeWords.{ServeWords}
 use Rattle.command_line.specs.Asking.{AreFeedOptions, AreOptions, ArgumentsSay, IsRecovery, events, footers}
 use Rattle.command_line.specs.Asking.{graph, ready, recover, serve, why}
 use Rattle.command_line.specs.Values.{Finds, HasArgument, GivesAny, GivesItem, GivesNumber, NamesItem, NamesRow}
-use Rattle.command_line.specs.Values.{GivesAnyItem, GivesItemAt, Writes, is_comma}
+use Rattle.command_line.specs.Values.{GivesAnyAddress, GivesAnyItem, GivesItemAt, NamesPath, Writes, is_comma}
+use Rattle.site_address.specs.Address.{NamesAddress, has_slash}
+use Rattle.site_address.specs.declared.address.Address.{Address}
 
 same_text : (rows : List Row) (argument text other : Text) → HasArgument rows argument text
     → HasArgument rows argument other
@@ -106,8 +108,8 @@ any_item_unread rows (Some text) absent is there present none None gives =
 
 pub no_ready : (rows : List Row) → ((given : Option (ℕ × Option ℕ)) → ¬ GivesAnyItem rows given) → (asked : Asked)
     → ¬ ArgumentsSay ready rows asked
-no_ready rows none (Run (Ready gate snapshot)) says = none None says.2
-no_ready rows none (Run (ReadyItem gate snapshot change set)) says = none (Some (change, set)) says.2
+no_ready rows none (Run (Ready gate snapshot is_json)) says = none None says.2
+no_ready rows none (Run (ReadyItem gate snapshot change set is_json)) says = none (Some (change, set)) says.2
 no_ready rows none asked says = says
 
 pub no_why : (rows : List Row) → ((item : ℕ × Option ℕ) → ¬ GivesItem rows item.0 item.1) → (asked : Asked)
@@ -122,7 +124,7 @@ no_graph rows none asked says = says
 
 pub no_footers : (rows : List Row) → ((change : ℕ) → ¬ GivesNumber rows (codes "change") 0 4294967295 change)
     → (asked : Asked) → ¬ ArgumentsSay footers rows asked
-no_footers rows none (Run (Footers gate message change)) says = none change says.2
+no_footers rows none (Run (Footers gate message change is_json)) says = none change says.2
 no_footers rows none asked says = says
 
 pub no_serve : (rows : List Row) → ((words : ServeWords) → ¬ AreOptions rows words) → (asked : Asked)
@@ -139,3 +141,22 @@ pub no_events : (rows : List Row) → ((words : EventWords) → ¬ AreFeedOption
     → ¬ ArgumentsSay events rows asked
 no_events rows none (Events words) says = none words says.0
 no_events rows none asked says = says
+
+-- ---- addresses
+
+pub no_address_in : (rows : List Row) (option text : Text) → HasArgument rows option text
+    → ((address : Address) → ¬ NamesAddress text address) → (given : Option Address)
+    → ¬ GivesAnyAddress rows option given
+no_address_in rows option text is none None gives = let bad : None ≡ Some text = sym gives ∙ is in cc
+no_address_in rows option text is none (Some address) gives =
+    none address (subst (λ t. NamesAddress t address) (same_text rows option gives.0 text gives.1 is) gives.2)
+
+pub address_found : (rows : List Row) (option text : Text) (address : Address) → HasArgument rows option text
+    → NamesAddress text address → GivesAnyAddress rows option (Some address)
+address_found rows option text address is names = (text, is, names)
+
+pub no_path_at : (texts : List (Bor Text)) (index : ℕ) (d : Bor Text) → index < length texts
+    → has_slash (get_or texts index d).now ≡ false → (paths : List (Bor Text))
+    → ¬ AllZip NamesPath (map (λ text. text.now) texts) paths
+no_path_at texts index d within lacks paths all =
+    none_said NamesPath texts index d within (λ path is. let bad : false ≡ true = sym lacks ∙ is.0 in cc) paths all

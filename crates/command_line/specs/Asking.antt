@@ -1,6 +1,6 @@
 -- What the words of a command line ask for: each command's arguments, with the limits of their numbers, and what they
 -- say.
-use Rattle.std.specs.Prelude.{◌≡◌, ◌⊎◌, ◌↔◌, IsTrue, List, None, Some, codes, map, option_map, string_bytes}
+use Rattle.std.specs.Prelude.{◌≡◌, ◌⊎◌, ◌↔◌, Bool, IsTrue, List, None, Some, codes, map, option_map, string_bytes}
 use Rattle.command_tree.specs.Matching.{AreFaulty, AskForHelp, AskForVersion, HasFlag, AreFaultlessWords, Matched, Row}
 use Rattle.command_tree.specs.Matching.{Text, first_of, matched_of}
 use Rattle.command_line.specs.declared.asked.Answer.{Answer}
@@ -14,10 +14,12 @@ use Rattle.command_line.specs.declared.asked.EnqueueWords.{EnqueueWords}
 use Rattle.command_line.specs.declared.asked.EventWords.{EventWords}
 use Rattle.command_line.specs.declared.asked.Printing.{Printing}
 use Rattle.command_line.specs.declared.asked.Printing.TheVariants.{Report, Changes, Nothing}
+use Rattle.command_line.specs.declared.asked.SocketMode.{SocketMode}
+use Rattle.command_line.specs.declared.asked.SocketMode.TheVariants.{Group, Owner}
 use Rattle.command_line.specs.declared.asked.RecoverWords.{RecoverWords}
 use Rattle.command_line.specs.declared.asked.ServeWords.{ServeWords}
 use Rattle.command_line.specs.Values.{HasArgument, GivesAny, GivesItem, GivesNumber, GivesNumbers, GivesRows}
-use Rattle.command_line.specs.Values.{GivesAnyItem, GivesTexts}
+use Rattle.command_line.specs.Values.{GivesAddresses, GivesAnyAddress, GivesAnyItem, GivesPaths, GivesTexts}
 
 -- ---- what the arguments of each command say
 
@@ -30,12 +32,21 @@ printing_word Nothing = codes "none"
 abbrev pub GivesPrinting : List Row → Printing → Type 0
 GivesPrinting rows prints = HasArgument rows (codes "print") (printing_word prints)
 
+-- who may connect to a site's sockets, by the word of an option
+abbrev pub mode_word : SocketMode → Text
+mode_word Owner = codes "600"
+mode_word Group = codes "660"
+
+abbrev pub GivesMode : List Row → SocketMode → Type 0
+GivesMode rows mode = HasArgument rows (codes "mode") (mode_word mode)
+
 -- what a site is run with, but for its peers, is what the arguments give
 pub record AreOptions (rows : List Row) (words : ServeWords) : Type 0 where
   pub gate : HasArgument rows (codes "GATE") words.gate.now
   pub site : GivesNumber rows (codes "site") 1 65535 words.site
   pub start : GivesAny rows (codes "start") 1 4294967294 words.start
-  pub port : GivesNumber rows (codes "port") 0 65535 words.port
+  pub port : GivesAny rows (codes "port") 0 65535 words.port
+  pub mode : GivesMode rows words.mode
   pub workers : GivesNumber rows (codes "workers") 1 6 words.workers
   pub pause : GivesNumber rows (codes "pause") 1 600000 words.pause_ms
   pub sessions : GivesNumber rows (codes "sessions") 0 18446744073709551615 words.sessions
@@ -54,7 +65,8 @@ HasStart rows = first_of (codes "start") rows ≡ None → ¬ (first_of (codes "
 
 -- the arguments ask for this site
 abbrev pub IsSite : List Row → ServeWords → Type 0
-IsSite rows words = AreOptions rows words × GivesNumbers rows (codes "PEER") 1 65535 words.peers.items
+IsSite rows words = AreOptions rows words × GivesAddresses rows (codes "PEER") words.peers.items
+    × GivesPaths rows (codes "listen") words.sockets.items
     × GivesNumbers rows (codes "sites") 1 65535 words.sites.items
     × GivesTexts rows (codes "http-host") (map string_bytes words.http_hosts.items) × HasStart rows
 
@@ -72,20 +84,20 @@ GivesAnswer rows Complete = (¬ HasFlag rows (codes "query")) × HasFlag rows (c
 
 -- what a feed is run with, but for its projects, is what the arguments give
 pub record AreFeedOptions (rows : List Row) (words : EventWords) : Type 0 where
-  pub to : GivesAny rows (codes "to") 1 65535 words.to
+  pub to : GivesAnyAddress rows (codes "to") words.to
   pub answer : GivesAnswer rows words.answer
   pub projects_file : first_of (codes "projects") rows ≡ option_map (λ name. name.now) words.projects_file
   pub gate : first_of (codes "gate") rows ≡ option_map (λ name. name.now) words.gate
 
--- a port is named, or nothing that wants one
-abbrev pub HasPort : List Row → Type 0
-HasPort rows = first_of (codes "to") rows ≡ None
+-- a site is named, or nothing that wants one
+abbrev pub HasTarget : List Row → Type 0
+HasTarget rows = first_of (codes "to") rows ≡ None
     → (¬ HasFlag rows (codes "complete")) × (first_of (codes "gate") rows ≡ None)
 
 -- the arguments ask for this feed
 abbrev pub IsFeed : List Row → EventWords → Type 0
 IsFeed rows words = AreFeedOptions rows words
-    × GivesTexts rows (codes "project") (map string_bytes words.projects.items) × HasPort rows
+    × GivesTexts rows (codes "project") (map string_bytes words.projects.items) × HasTarget rows
 
 -- the arguments ask for items to be handed over so
 pub record IsHanding (rows : List Row) (words : EnqueueWords) : Type 0 where
@@ -123,14 +135,18 @@ text_of recover = codes "recover"
 text_of events = codes "events"
 text_of enqueue = codes "enqueue"
 
+-- whether the answer is to be JSON
+abbrev pub AsksForJson : List Row → Bool → Type 0
+AsksForJson rows is_json = IsTrue is_json ↔ HasFlag rows (codes "json")
+
 -- the arguments of the command say that this is asked
 abbrev pub ArgumentsSay : Name → List Row → Asked → Type 0
-ArgumentsSay ready rows (Run (Ready gate snapshot)) =
+ArgumentsSay ready rows (Run (Ready gate snapshot is_json)) =
     HasArgument rows (codes "GATE") gate.now × HasArgument rows (codes "SNAPSHOT") snapshot.now
-    × GivesAnyItem rows None
-ArgumentsSay ready rows (Run (ReadyItem gate snapshot change set)) =
+    × GivesAnyItem rows None × AsksForJson rows is_json
+ArgumentsSay ready rows (Run (ReadyItem gate snapshot change set is_json)) =
     HasArgument rows (codes "GATE") gate.now × HasArgument rows (codes "SNAPSHOT") snapshot.now
-    × GivesAnyItem rows (Some (change, set))
+    × GivesAnyItem rows (Some (change, set)) × AsksForJson rows is_json
 ArgumentsSay why rows (Run (Why gate snapshot change set is_all)) =
     HasArgument rows (codes "GATE") gate.now × HasArgument rows (codes "SNAPSHOT") snapshot.now × GivesItem rows change set
     × (IsTrue is_all ↔ HasFlag rows (codes "all"))
@@ -139,13 +155,13 @@ ArgumentsSay graph rows (Run (Graph gate snapshot around)) =
     × GivesAny rows (codes "around") 0 4294967295 around
 ArgumentsSay merge rows (Run (Merge first second)) =
     HasArgument rows (codes "FIRST") first.now × HasArgument rows (codes "SECOND") second.now
-ArgumentsSay footers rows (Run (Footers gate message change)) =
+ArgumentsSay footers rows (Run (Footers gate message change is_json)) =
     HasArgument rows (codes "GATE") gate.now × HasArgument rows (codes "FILE") message.now
-    × GivesNumber rows (codes "change") 0 4294967295 change
-ArgumentsSay check rows (Run (Check gate snapshot is_strict)) =
+    × GivesNumber rows (codes "change") 0 4294967295 change × AsksForJson rows is_json
+ArgumentsSay check rows (Run (Check gate snapshot is_strict is_json)) =
     HasArgument rows (codes "GATE") gate.now
     × (first_of (codes "SNAPSHOT") rows ≡ option_map (λ name. name.now) snapshot)
-    × (IsTrue is_strict ↔ HasFlag rows (codes "strict"))
+    × (IsTrue is_strict ↔ HasFlag rows (codes "strict")) × AsksForJson rows is_json
 ArgumentsSay simulate rows (Run (Simulate script gate)) =
     HasArgument rows (codes "SCRIPT") script.now × (first_of (codes "GATE") rows ≡ option_map (λ name. name.now) gate)
 ArgumentsSay serve rows (Serve words) = IsSite rows words
@@ -161,8 +177,8 @@ abbrev pub IsAskedByWords : Matched → Asked → Type 0
 IsAskedByWords matched asked =
     (name : Name) × (rows : List Row) × (matched ≡ Some (text_of name, rows)) × ArgumentsSay name rows asked
 
--- it is none, or they say nothing: a start or a port is missing, an item, a word, or a site with a start is none, or
--- two options differ
+-- it is none, or they say nothing: a start or a site is missing, an item, an address, a word, or a site with a start is
+-- none, or two options differ
 abbrev pub IsNothing : Matched → Type 0
 IsNothing matched = (asked : Asked) → ¬ IsAskedByWords matched asked
 

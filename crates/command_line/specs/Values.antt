@@ -1,9 +1,12 @@
 -- What the values of a command's arguments say, over the rows that clap matched.
-use Rattle.std.specs.Prelude.{◌≡◌, ◌≤◌, ◌<◌, ◌==◌, ℕ, Bool, List, [], Option, None, Some, codes, length}
+use Rattle.std.specs.Prelude.{◌≡◌, ◌≤◌, ◌<◌, ◌==◌, ℕ, Bool, true, List, [], Option, None, Some, codes, length}
 use Rattle.std.specs.Prelude.{unwrap_or}
+use Rattle.std.specs.Borrow.{Bor}
 use Rattle.std.specs.List.{AllZip, position_or_len, before_first, after_first}
 use Rattle.std.specs.Str.Parse.{IsNumeral, digits_value, without_leading_plus}
 use Rattle.command_tree.specs.Matching.{Row, all_of, first_of}
+use Rattle.site_address.specs.Address.{NamesAddress, has_slash}
+use Rattle.site_address.specs.declared.address.Address.{Address}
 
 -- an answer that is so, or none where nothing is
 abbrev pub Finds : {X : Type 0} → (X → Type 0) → Option X → Type 0
@@ -37,6 +40,24 @@ GivesNumbers rows argument least most = AllZip (Writes least most) (unwrap_or (a
 -- the argument's values are these texts, one after the other
 abbrev pub GivesTexts : List Row → List ℕ → List (List ℕ) → Type 0
 GivesTexts rows argument texts = texts ≡ unwrap_or (all_of argument rows) []
+
+-- the argument's values name these addresses, one after the other
+abbrev pub GivesAddresses : List Row → List ℕ → List Address → Type 0
+GivesAddresses rows argument = AllZip NamesAddress (unwrap_or (all_of argument rows) [])
+
+-- the option's value names this address, if it isn't left out
+abbrev pub GivesAnyAddress : List Row → List ℕ → Option Address → Type 0
+GivesAnyAddress rows option None = first_of option rows ≡ None
+GivesAnyAddress rows option (Some address) =
+    (word : List ℕ) × HasArgument rows option word × NamesAddress word address
+
+-- the word is a path: it has a slash
+abbrev pub NamesPath : List ℕ → Bor (List ℕ) → Type 0
+NamesPath word path = (has_slash word ≡ true) × (path.now ≡ word)
+
+-- the option's values are these paths, one after the other
+abbrev pub GivesPaths : List Row → List ℕ → List (Bor (List ℕ)) → Type 0
+GivesPaths rows option = AllZip NamesPath (unwrap_or (all_of option rows) [])
 
 -- a text names an item: the number of a change; or that, a comma and the number of a patch set
 abbrev pub is_comma : ℕ → Bool

@@ -1,5 +1,7 @@
 //! What the words of a command line may ask for.
 
+use site_address::Address;
+
 /// What the words of a command line ask for.
 #[derive(Drop)]
 pub enum Asked<'a> {
@@ -26,18 +28,20 @@ pub enum Asked<'a> {
 /// A command over files, which it reads before it prints its answer.
 #[derive(Drop)]
 pub enum Command<'a> {
-    /// To print the report of a snapshot under a gate file.
+    /// To print the report of a snapshot under a gate file, as JSON where `is_json`.
     Ready {
         gate: &'a str,
         snapshot: &'a str,
+        is_json: bool,
     },
     /// To print the line of an item of a snapshot in the report under a gate file: of the patch set `set` of the change,
-    /// or its current one.
+    /// or its current one; as JSON where `is_json`.
     ReadyItem {
         gate: &'a str,
         snapshot: &'a str,
         change: u32,
         set: Option<u32>,
+        is_json: bool,
     },
     /// To print why an item of a snapshot waits under a gate file: the patch set `set` of the change, or its current
     /// one; and each condition of the gate where `is_all`.
@@ -60,18 +64,21 @@ pub enum Command<'a> {
         first: &'a str,
         second: &'a str,
     },
-    /// To print what the footers of a message ask for under a gate file's bases; `change` is the message's own, or 0.
+    /// To print what the footers of a message ask for under a gate file's bases, as JSON where `is_json`; `change` is the
+    /// message's own, or 0.
     Footers {
         gate: &'a str,
         message: &'a str,
         change: u32,
+        is_json: bool,
     },
     /// To print what a gate file asks for, with warnings; of the record, too, where a snapshot is named; a warning is a
-    /// refusal where `is_strict`.
+    /// refusal where `is_strict`, and all is JSON where `is_json`.
     Check {
         gate: &'a str,
         snapshot: Option<&'a str>,
         is_strict: bool,
+        is_json: bool,
     },
     /// To play the script of this name, with reports under a gate file where one is named.
     Simulate {
@@ -85,16 +92,20 @@ pub enum Command<'a> {
 pub struct ServeWords<'a> {
     /// The gate file's name.
     pub gate: &'a str,
-    /// The ports of the peers.
-    pub peers: Vec<u16>,
+    /// The addresses of the peers.
+    pub peers: Vec<Address<'a>>,
     /// The numbers of the sites whose operations it takes from its peers, beside its own; none stands for all.
     pub sites: Vec<u16>,
     /// The site's number.
     pub site: u16,
     /// The start of what it takes in, from 1 to 4,294,967,294; none is only where a journal is named.
     pub start: Option<u32>,
-    /// The port that it listens at; 0 for one that is free.
-    pub port: u16,
+    /// The port that it listens at, where one is named; 0 for one that is free.
+    pub port: Option<u16>,
+    /// The paths of the Unix sockets that it listens at.
+    pub sockets: Vec<&'a str>,
+    /// Who may connect to these.
+    pub mode: SocketMode,
     /// How many threads look at its record for sessions, from 1 to 6.
     pub workers: usize,
     /// How many milliseconds pass between two rounds of pulls, from 1 to 600,000.
@@ -119,6 +130,15 @@ pub struct ServeWords<'a> {
     pub save: Option<&'a str>,
     /// The name of the journal.
     pub journal: Option<&'a str>,
+}
+
+/// Who may connect to the Unix sockets of a site.
+#[derive(Clone, Copy, Debug, PartialEq, Eq)]
+pub enum SocketMode {
+    /// Its user alone: mode 600.
+    Owner,
+    /// Its user and its group: mode 660.
+    Group,
 }
 
 /// What a site prints of its verdicts.
@@ -157,15 +177,15 @@ pub enum Answer {
 /// What a feed is run with.
 #[derive(Drop)]
 pub struct EventWords<'a> {
-    /// The port of the site that is fed; without one the lines of a session are printed.
-    pub to: Option<u16>,
-    /// What the lines are; `Complete` is only where a port is named.
+    /// The address of the site that is fed; without one the lines of a session are printed.
+    pub to: Option<Address<'a>>,
+    /// What the lines are; `Complete` is only where a site is named.
     pub answer: Answer,
     /// The names of the projects whose changes alone are fed; with none here and in the file, those of all.
     pub projects: Vec<String>,
     /// The name of a file of such names.
     pub projects_file: Option<&'a str>,
-    /// The name of the gate file by which unknown changes are asked for; only where a port is named.
+    /// The name of the gate file by which unknown changes are asked for; only where a site is named.
     pub gate: Option<&'a str>,
 }
 

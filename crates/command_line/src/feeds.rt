@@ -1,21 +1,21 @@
 //! What the arguments of `events` say.
 
 ghost use Rattle.std.specs.Prelude.{◌≡◌, IfNone, IfOk, IfSome, MatchBool, map, string_bytes};
-ghost use Rattle.command_line.specs.Asking.{AreFeedOptions, GivesAnswer, HasPort, ArgumentsSay, events};
+ghost use Rattle.command_line.specs.Asking.{AreFeedOptions, GivesAnswer, HasTarget, ArgumentsSay, events};
 ghost use Rattle.command_line.specs.Values.{Finds, GivesTexts};
 ghost use Rattle.command_line.specs.declared.asked.EventWords.{EventWords};
 ghost use Rattle.command_tree.specs.Rows.{rows_in};
 
+use super::addresses::any_address_in;
 use super::asked::{Answer, Asked, EventWords};
-use super::numbers::any_short_in;
-use command_tree::{TO, Values};
+use command_tree::Values;
 use std::alloc::{AllocError, Global};
 
-/// `events [--to PORT] [--query | --complete] [--project NAME].. [--projects FILE] [--gate GATE]`
+/// `events [--to ADDRESS] [--query | --complete] [--project NAME].. [--projects FILE] [--gate GATE]`
 pub fn events_in<'a>(alloc: Global, values: &Values<'a>) -> Result<Option<Asked<'a>>, AllocError>
     ensures { IfOk result (Finds (ArgumentsSay events (rows_in values.now))) }
 {
-    if lacks_port(values) {
+    if lacks_target(values) {
         return Ok(None);
     }
     let projects = names_in(alloc, values, "project")?;
@@ -30,7 +30,7 @@ fn fed_in<'a>(values: &Values<'a>, projects: Vec<String>) -> Option<EventWords<'
     ensures some { IfSome result (λ words. AreFeedOptions (rows_in values.now) words × (words.projects ≡ projects)) }
     ensures none { IfNone result ((words : EventWords) → ¬ AreFeedOptions (rows_in values.now) words) }
 {
-    let to = any_short_in(values, TO)?;
+    let to = any_address_in(values, "to")?;
     let answer = answer_in(values)?;
     Some(EventWords {
         to,
@@ -53,9 +53,9 @@ fn answer_in(values: &Values<'_>) -> Option<Answer>
     }
 }
 
-/// Whether an option is there that wants a port, and no port is.
-pub fn lacks_port(values: &Values<'_>) -> bool
-    ensures { MatchBool result (¬ HasPort (rows_in values.now)) (HasPort (rows_in values.now)) }
+/// Whether an option is there that wants a site, and no site is.
+pub fn lacks_target(values: &Values<'_>) -> bool
+    ensures { MatchBool result (¬ HasTarget (rows_in values.now)) (HasTarget (rows_in values.now)) }
 {
     if values.text("to").is_some() {
         return false;

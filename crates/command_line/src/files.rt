@@ -11,19 +11,25 @@ use super::numbers::{any_in, any_item_in, any_long_in, item_in, long_in, rows_of
 use command_tree::{AROUND, CHANGE, UNTIL, Values};
 use std::alloc::{AllocError, Global};
 
-/// `ready GATE SNAPSHOT [--item CHANGE[,SET]]`
+/// `ready GATE SNAPSHOT [--item CHANGE[,SET]] [--json]`
 pub fn ready_in<'a>(values: &Values<'a>) -> Option<Asked<'a>>
     ensures { Finds (ArgumentsSay ready (rows_in values.now)) result }
 {
     let gate = values.text("GATE")?;
     let snapshot = values.text("SNAPSHOT")?;
+    let is_json = values.flag("json");
     match any_item_in(values)? {
-        None => Some(Asked::Run(Command::Ready { gate, snapshot })),
+        None => Some(Asked::Run(Command::Ready {
+            gate,
+            snapshot,
+            is_json,
+        })),
         Some((change, set)) => Some(Asked::Run(Command::ReadyItem {
             gate,
             snapshot,
             change,
             set,
+            is_json,
         })),
     }
 }
@@ -67,7 +73,7 @@ pub fn merge_in<'a>(values: &Values<'a>) -> Option<Asked<'a>>
     Some(Asked::Run(Command::Merge { first, second }))
 }
 
-/// `footers GATE FILE [--change N]`
+/// `footers GATE FILE [--change N] [--json]`
 pub fn footers_in<'a>(values: &Values<'a>) -> Option<Asked<'a>>
     ensures { Finds (ArgumentsSay footers (rows_in values.now)) result }
 {
@@ -78,20 +84,23 @@ pub fn footers_in<'a>(values: &Values<'a>) -> Option<Asked<'a>>
         gate,
         message,
         change,
+        is_json: values.flag("json"),
     }))
 }
 
-/// `check GATE [SNAPSHOT] [--strict]`
+/// `check GATE [SNAPSHOT] [--strict] [--json]`
 pub fn check_in<'a>(values: &Values<'a>) -> Option<Asked<'a>>
     ensures { Finds (ArgumentsSay check (rows_in values.now)) result }
 {
     let gate = values.text("GATE")?;
     let snapshot = values.text("SNAPSHOT");
     let is_strict = values.flag("strict");
+    let is_json = values.flag("json");
     Some(Asked::Run(Command::Check {
         gate,
         snapshot,
         is_strict,
+        is_json,
     }))
 }
 

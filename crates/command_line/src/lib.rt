@@ -14,6 +14,7 @@
 //! ```
 #![tactic(auto)]
 
+mod addresses;
 mod asked;
 mod enqueues;
 mod feeds;
@@ -24,5 +25,6 @@ mod words;
 
 pub use asked::{
     Answer, Asked, Command, EnqueueWords, EventWords, Printing, RecoverWords, ServeWords,
+    SocketMode,
 };
 pub use words::read_words;

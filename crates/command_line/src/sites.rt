@@ -2,23 +2,28 @@
 
 ghost use Rattle.std.specs.Prelude.{◌≡◌, IfNone, IfOk, IfSome, MatchBool};
 ghost use Rattle.command_tree.specs.Rows.{rows_in};
-ghost use Rattle.command_line.specs.Asking.{AreOptions, GivesPrinting, HasStart, ArgumentsSay, serve};
+ghost use Rattle.command_line.specs.Asking.{AreOptions, GivesMode, GivesPrinting, HasStart, ArgumentsSay, serve};
 ghost use Rattle.command_line.specs.Values.{Finds};
 ghost use Rattle.command_line.specs.declared.asked.ServeWords.{ServeWords};
 
-use super::asked::{Asked, Printing, ServeWords};
+use super::addresses::{addresses_in, paths_in};
+use super::asked::{Asked, Printing, ServeWords, SocketMode};
 use super::feeds::names_in;
 use super::numbers::{any_long_in, any_short_in, number_in, short_in, shorts_in};
 use command_tree::{
-    CONNECTIONS, HTTP, IDLE, PAUSE, PEER, PORT, SESSIONS, SITE, SITES, START, Values, WORKERS,
+    CONNECTIONS, HTTP, IDLE, PAUSE, PORT, SESSIONS, SITE, SITES, START, Values, WORKERS,
 };
+use site_address::Address;
 use std::alloc::{AllocError, Global};
 
 /// `serve GATE [PEER].. --site N [option]..`
 pub fn serve_in<'a>(alloc: Global, values: &Values<'a>) -> Result<Option<Asked<'a>>, AllocError>
     ensures { IfOk result (Finds (ArgumentsSay serve (rows_in values.now))) }
 {
-    let Some(peers) = shorts_in(alloc, values, PEER)? else {
+    let Some(peers) = addresses_in(alloc, values, "PEER")? else {
+        return Ok(None);
+    };
+    let Some(sockets) = paths_in(alloc, values, "listen")? else {
         return Ok(None);
     };
     let Some(sites) = shorts_in(alloc, values, SITES)? else {
@@ -28,22 +33,23 @@ pub fn serve_in<'a>(alloc: Global, values: &Values<'a>) -> Result<Option<Asked<'
         return Ok(None);
     }
     let http_hosts = names_in(alloc, values, "http-host")?;
-    match serving_in(values, peers, sites, http_hosts) {
+    match serving_in(values, peers, sockets, sites, http_hosts) {
         Some(words) => Ok(Some(Asked::Serve(words))),
         None => Ok(None),
     }
 }
 
-/// What a site with these peers is run with, which takes in operations of these sites, and which browsers may call by
-/// these names.
+/// What a site with these peers is run with, which listens at these sockets and takes in operations of these sites, and
+/// which browsers may call by these names.
 fn serving_in<'a>(
     values: &Values<'a>,
-    peers: Vec<u16>,
+    peers: Vec<Address<'a>>,
+    sockets: Vec<&'a str>,
     sites: Vec<u16>,
     http_hosts: Vec<String>,
 ) -> Option<ServeWords<'a>>
-    ensures some { IfSome result (λ words. AreOptions (rows_in values.now) words × (words.peers ≡ peers)
-        × (words.sites ≡ sites) × (words.http_hosts ≡ http_hosts)) }
+    ensures some { IfSome result (λ words. AreOptions (rows_in values.now) words × (words.peers ≡ peers.entry)
+        × (words.sockets ≡ sockets.entry) × (words.sites ≡ sites) × (words.http_hosts ≡ http_hosts)) }
     ensures none { IfNone result ((words : ServeWords) → ¬ AreOptions (rows_in values.now) words) }
 {
     Some(ServeWords {
@@ -52,7 +58,9 @@ fn serving_in<'a>(
         sites,
         site: short_in(values, SITE)?,
         start: any_long_in(values, START)?,
-        port: short_in(values, PORT)?,
+        port: any_short_in(values, PORT)?,
+        sockets,
+        mode: mode_in(values)?,
         workers: number_in(values, WORKERS)? as usize,
         pause_ms: number_in(values, PAUSE)?,
         sessions: number_in(values, SESSIONS)?,
@@ -76,6 +84,17 @@ pub fn printing_in(values: &Values<'_>) -> Option<Printing>
         "report" => Some(Printing::Report),
         "changes" => Some(Printing::Changes),
         "none" => Some(Printing::Nothing),
+        _ => None,
+    }
+}
+
+/// Who may connect to a site's sockets; none where the word says nothing of it.
+pub fn mode_in(values: &Values<'_>) -> Option<SocketMode>
+    ensures { Finds (GivesMode (rows_in values.now)) result }
+{
+    match values.text("mode")? {
+        "600" => Some(SocketMode::Owner),
+        "660" => Some(SocketMode::Group),
         _ => None,
     }
 }

@@ -183,7 +183,7 @@ fn a_strict_check_refuses_warnings(rt: HostRuntime) -> Result<(), Fail> {
 #[test]
 fn a_check_refuses_bad_inputs(rt: HostRuntime) {
     let alloc = rt.alloc();
-    assert_check(&rt, alloc, "[", 1, "", "reviewgate: gate 1 NotJson\n");
+    assert_check(&rt, alloc, "[", 1, "", "reviewgate: gate 1 NotJson 1 2\n");
     let strict = ["check", "gate", "-", "--strict"];
     let errors = "reviewgate: snapshot 1 BadHeader\n";
     assert_with_record(&rt, alloc, strict.as_slice(), "", 1, "", errors);

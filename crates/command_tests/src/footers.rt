@@ -105,7 +105,7 @@ fn what_is_wrong_is_printed(rt: HostRuntime) {
         message,
         1,
         "",
-        "reviewgate: gate 1 NotJson\n",
+        "reviewgate: gate 1 NotJson 1 2\n",
     );
     assert_footers(
         &rt,

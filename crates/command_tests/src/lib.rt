@@ -6,6 +6,8 @@ mod checks;
 #[cfg(test)]
 mod footers;
 #[cfg(test)]
+mod json_answers;
+#[cfg(test)]
 mod merges;
 #[cfg(test)]
 mod one_file;

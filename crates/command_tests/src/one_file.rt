@@ -1,11 +1,12 @@
 //! Files and running sites for tests.
 
-ghost use Rattle.std.specs.Prelude.{[], ◌∷◌};
+ghost use Rattle.std.specs.Prelude.{[], ◌∷◌, decimal};
 
 use byte_ends::{Broken, BytesFault, Ends};
 use console::{Named, PullFault};
 use gossip_line::LineFault;
 use replica_core::Replica;
+use site_address::Address;
 use snapshot_text::{SnapFault, read_onto};
 use std::alloc::Global;
 
@@ -51,7 +52,7 @@ impl Named for OneFile<'_> {
         answer
     }
 
-    fn pull(&mut self, _replica: Replica, _port: u16) -> Result<Replica, PullFault> {
+    fn pull(&mut self, _replica: Replica, _address: Address<'_>) -> Result<Replica, PullFault> {
         Err(PullFault::Unreachable)
     }
 
@@ -89,7 +90,7 @@ impl Named for BrokenFile<'_> {
         answer
     }
 
-    fn pull(&mut self, _replica: Replica, _port: u16) -> Result<Replica, PullFault> {
+    fn pull(&mut self, _replica: Replica, _address: Address<'_>) -> Result<Replica, PullFault> {
         Err(PullFault::Unreachable)
     }
 
@@ -98,7 +99,8 @@ impl Named for BrokenFile<'_> {
     }
 }
 
-/// A running site: its port, and its record as a snapshot's text. No file is there, also none of the site's name.
+/// A running site: its port of this machine, and its record as a snapshot's text. No file is there, also none of the
+/// site's name.
 #[derive(Drop)]
 pub struct OneSite<'a> {
     pub port: u16,
@@ -109,7 +111,7 @@ pub struct OneSite<'a> {
 impl Named for OneSite<'_> {
     ghost files = { λ site. [] };
 
-    ghost sites = { λ site. (site.port, site.record.now) ∷ [] };
+    ghost sites = { λ site. (decimal site.port, site.record.now) ∷ [] };
 
     ghost failed = { λ site. site.failures };
 
@@ -123,8 +125,8 @@ impl Named for OneSite<'_> {
         Err(SnapFault::ReadFault)
     }
 
-    fn pull(&mut self, replica: Replica, port: u16) -> Result<Replica, PullFault> {
-        if port != self.port {
+    fn pull(&mut self, replica: Replica, address: Address<'_>) -> Result<Replica, PullFault> {
+        if address != Address::Port(self.port) {
             return Err(PullFault::Unreachable);
         }
         match read_onto(replica, &mut Ends::new(self.record)) {

@@ -172,7 +172,7 @@ fn an_item_that_is_not_known(rt: HostRuntime) {
 #[test]
 fn the_gate_is_judged_first(rt: HostRuntime) {
     let words = ["why", "gate", "-", "97"];
-    let refused = "reviewgate: gate 1 NotJson\n";
+    let refused = "reviewgate: gate 1 NotJson 1 1\n";
     assert_prints(&rt, rt.alloc(), words.as_slice(), "x", "x", 1, "", refused);
     let refused = "reviewgate: snapshot 1 BadHeader\n";
     assert_prints(&rt, rt.alloc(), words.as_slice(), GATE, "x", 1, "", refused);

@@ -85,12 +85,12 @@ fn a_running_site_is_merged(rt: HostRuntime) {
 fn refusals_of_a_running_site_are_printed(rt: HostRuntime) {
     let cases = [
         ("@8102", "reviewgate: peer 8 Unreachable 8102\n"),
-        ("@", "reviewgate: peer 9 NoPort @\n"),
-        ("@0", "reviewgate: peer 9 NoPort @0\n"),
-        ("@65536", "reviewgate: peer 9 NoPort @65536\n"),
-        ("@-1", "reviewgate: peer 9 NoPort @-1\n"),
-        ("@@8101", "reviewgate: peer 9 NoPort @@8101\n"),
-        ("@8101 ", "reviewgate: peer 9 NoPort @8101 \n"),
+        ("@", "reviewgate: peer 9 NoAddress @\n"),
+        ("@0", "reviewgate: peer 9 NoAddress @0\n"),
+        ("@65536", "reviewgate: peer 9 NoAddress @65536\n"),
+        ("@-1", "reviewgate: peer 9 NoAddress @-1\n"),
+        ("@@8101", "reviewgate: peer 9 NoAddress @@8101\n"),
+        ("@8101 ", "reviewgate: peer 9 NoAddress @8101 \n"),
         ("./@8101", "reviewgate: snapshot 7 ReadFault\n"),
         ("8101", "reviewgate: snapshot 7 ReadFault\n"),
     ];
@@ -104,7 +104,7 @@ fn refusals_of_a_running_site_are_printed(rt: HostRuntime) {
 #[test]
 fn the_gate_is_judged_before_the_site(rt: HostRuntime) {
     let words = ["ready", "-", "@8102"];
-    let refused = "reviewgate: gate 1 NotJson\n";
+    let refused = "reviewgate: gate 1 NotJson 1 1\n";
     assert_answers(&rt, rt.alloc(), words.as_slice(), "x", 1, "", refused);
     let words = ["ready", "@8101", "-"];
     let unread = "reviewgate: file 7 ReadFault @8101\n";

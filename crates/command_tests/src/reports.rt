@@ -157,7 +157,7 @@ fn a_report_needs_a_gate_and_a_site(rt: HostRuntime) {
         "no 1 NoSite\nend 0 0\n",
     );
     let words = ["simulate", "-", "gate"];
-    let line = "reviewgate: gate 1 NotJson\n";
+    let line = "reviewgate: gate 1 NotJson 1 2\n";
     assert_prints(&rt, alloc, words.as_slice(), "[", "sites 0\n", 1, "", line);
     let line = "reviewgate: script 1 BadSites\n";
     assert_prints(&rt, alloc, words.as_slice(), GATE, "sites 0\n", 1, "", line);

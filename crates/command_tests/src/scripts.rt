@@ -6,6 +6,7 @@ use super::program::run_words;
 use byte_ends::{Broken, BytesFault, Ends};
 use console::{Named, PullFault};
 use replica_core::Replica;
+use site_address::Address;
 use snapshot_text::SnapFault;
 use std::alloc::Global;
 use std::process::Abort;
@@ -34,7 +35,7 @@ impl Named for NoFiles {
         Err(SnapFault::ReadFault)
     }
 
-    fn pull(&mut self, _replica: Replica, _port: u16) -> Result<Replica, PullFault> {
+    fn pull(&mut self, _replica: Replica, _address: Address<'_>) -> Result<Replica, PullFault> {
         Err(PullFault::Unreachable)
     }
 

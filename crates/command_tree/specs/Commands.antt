@@ -3,14 +3,16 @@ use Rattle.std.specs.Prelude.{◌≡◌, true, false, codes}
 use Rattle.clap.specs.Words.{App, app_of, new_app, new_rule, with_rule, with_subcommand}
 use Rattle.clap.specs.declared.builder.command.Command.{Command}
 use Rattle.clap.specs.declared.builder.command.Command.TheViews.{out-Command}
-use Rattle.command_tree.specs.Rules.{flag_rule, needed, needed_number, number_rule, number_with, numbers_rule}
+use Rattle.command_tree.specs.Rules.{flag_rule, needed, needed_number, number_rule, number_with, words_rule}
 use Rattle.command_tree.specs.Rules.{option_rule, option_with, several_numbers, several_rule}
 
--- `ready GATE SNAPSHOT [--item CHANGE[,SET]]`
+-- `ready GATE SNAPSHOT [--item CHANGE[,SET]] [--json]`
 abbrev pub ready_app : App
 ready_app =
-    with_rule (with_rule (with_rule (new_app (codes "ready")) (needed (codes "GATE"))) (needed (codes "SNAPSHOT")))
-    (option_rule (codes "item"))
+    with_rule
+    (with_rule (with_rule (with_rule (new_app (codes "ready")) (needed (codes "GATE"))) (needed (codes "SNAPSHOT")))
+    (option_rule (codes "item")))
+    (flag_rule (codes "json"))
 
 -- `why GATE SNAPSHOT CHANGE[,SET] [--all]`
 abbrev pub why_app : App
@@ -30,17 +32,21 @@ graph_app =
 abbrev pub merge_app : App
 merge_app = with_rule (with_rule (new_app (codes "merge")) (needed (codes "FIRST"))) (needed (codes "SECOND"))
 
--- `footers GATE FILE [--change N]`
+-- `footers GATE FILE [--change N] [--json]`
 abbrev pub footers_app : App
 footers_app =
-    with_rule (with_rule (with_rule (new_app (codes "footers")) (needed (codes "GATE"))) (needed (codes "FILE")))
-    (number_with (codes "change") (codes "0") 0 4294967295)
+    with_rule
+    (with_rule (with_rule (with_rule (new_app (codes "footers")) (needed (codes "GATE"))) (needed (codes "FILE")))
+    (number_with (codes "change") (codes "0") 0 4294967295))
+    (flag_rule (codes "json"))
 
--- `check GATE [SNAPSHOT] [--strict]`
+-- `check GATE [SNAPSHOT] [--strict] [--json]`
 abbrev pub check_app : App
 check_app =
-    with_rule (with_rule (with_rule (new_app (codes "check")) (needed (codes "GATE"))) (new_rule (codes "SNAPSHOT")))
-    (flag_rule (codes "strict"))
+    with_rule
+    (with_rule (with_rule (with_rule (new_app (codes "check")) (needed (codes "GATE"))) (new_rule (codes "SNAPSHOT")))
+    (flag_rule (codes "strict")))
+    (flag_rule (codes "json"))
 
 -- `simulate SCRIPT [GATE]`
 abbrev pub simulate_app : App
@@ -50,18 +56,22 @@ simulate_app = with_rule (with_rule (new_app (codes "simulate")) (needed (codes 
 
 abbrev pub peered_app : App
 peered_app =
-    with_rule (with_rule (new_app (codes "serve")) (needed (codes "GATE"))) (numbers_rule (codes "PEER") 1 65535)
+    with_rule (with_rule (new_app (codes "serve")) (needed (codes "GATE"))) (words_rule (codes "PEER"))
 
 -- with what the site is, and where it is reached
 abbrev pub placed_app : App
 placed_app =
     with_rule
     (with_rule (with_rule peered_app (needed_number (codes "site") 1 65535)) (number_rule (codes "start") 1 4294967294))
-    (number_with (codes "port") (codes "0") 0 65535)
+    (number_rule (codes "port") 0 65535)
+
+-- with the Unix sockets at which it is reached
+abbrev pub listening_app : App
+listening_app = with_rule (with_rule placed_app (several_rule (codes "listen"))) (option_with (codes "mode") (codes "600"))
 
 -- with whose operations it takes in
 abbrev pub guarded_app : App
-guarded_app = with_rule placed_app (several_numbers (codes "sites") 1 65535)
+guarded_app = with_rule listening_app (several_numbers (codes "sites") 1 65535)
 
 -- with how it works
 abbrev pub paced_app : App
@@ -102,11 +112,11 @@ recover_app =
     (with_rule (with_rule (new_app (codes "recover")) (needed (codes "JOURNAL"))) (several_rule (codes "without")))
     (number_rule (codes "until") 0 18446744073709551615)
 
--- `events [--to PORT] [--query | --complete] ..`: where Gerrit's lines go to, and what they are
+-- `events [--to ADDRESS] [--query | --complete] ..`: where Gerrit's lines go to, and what they are
 abbrev pub feeding_app : App
 feeding_app =
     with_rule
-    (with_rule (with_rule (new_app (codes "events")) (number_rule (codes "to") 1 65535)) (flag_rule (codes "query")))
+    (with_rule (with_rule (new_app (codes "events")) (option_rule (codes "to"))) (flag_rule (codes "query")))
     (flag_rule (codes "complete"))
 
 -- with whose changes are fed, and the gate

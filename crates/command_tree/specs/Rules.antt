@@ -41,10 +41,9 @@ number_with name default least most = record (number_rule name least most) { def
 abbrev pub several_numbers : List ℕ → ℕ → ℕ → Rule
 several_numbers name least most = record (number_rule name least most) { action = Some Append }
 
--- as many numbers without a dash as there are, each from the least to the greatest
-abbrev pub numbers_rule : List ℕ → ℕ → ℕ → Rule
-numbers_rule name least most =
-    record (new_rule name) { action = Some Append; parser = Some (Unsigned least most) }
+-- as many words without a dash as there are
+abbrev pub words_rule : List ℕ → Rule
+words_rule name = record (new_rule name) { action = Some Append }
 
 -- an argument that clap reads by this rule, at its own command alone
 abbrev pub IsRule : Rule → Arg → Type 0

@@ -2,7 +2,7 @@
 
 ghost use Rattle.std.specs.Prelude.{◌≡◌};
 ghost use Rattle.command_tree.specs.Rules.{IsRule, flag_rule, needed, number_rule, number_with};
-ghost use Rattle.command_tree.specs.Rules.{numbers_rule, option_rule, option_with, several_numbers, several_rule};
+ghost use Rattle.command_tree.specs.Rules.{option_rule, option_with, several_numbers, several_rule, words_rule};
 
 use clap::builder::ValueParser;
 use clap::{Arg, ArgAction};
@@ -51,13 +51,6 @@ pub const HTTP: Number = Number {
     most: 65_535,
 };
 
-/// The port of a peer.
-pub const PEER: Number = Number {
-    name: "PEER",
-    least: 1,
-    most: 65_535,
-};
-
 /// How many threads look at a site's record for its sessions.
 pub const WORKERS: Number = Number {
     name: "workers",
@@ -91,13 +84,6 @@ pub const IDLE: Number = Number {
     name: "idle",
     least: 0,
     most: u64::MAX,
-};
-
-/// The port of the site that is fed.
-pub const TO: Number = Number {
-    name: "to",
-    least: 1,
-    most: 65_535,
 };
 
 /// The greatest time of an operation that is recovered.
@@ -196,11 +182,9 @@ pub fn default_option<'a>(
     number_option(alloc, number, value, help).default_value(default)
 }
 
-/// An argument without a dash that is as many numbers as there are.
-pub fn numbers<'a>(alloc: Global, number: Number, help: &'a str) -> Arg<'a>
-    ensures { IsRule (numbers_rule number.name.now number.least number.most) result }
+/// An argument without a dash that is as many words as there are.
+pub fn words<'a>(alloc: Global, name: &'a str, help: &'a str) -> Arg<'a>
+    ensures { IsRule (words_rule name.entry.now) result }
 {
-    let limits = ValueParser::unsigned(number.least, number.most);
-    let several = Arg::new(alloc, number.name).action(ArgAction::Append);
-    several.help(help).value_parser(limits)
+    Arg::new(alloc, name).action(ArgAction::Append).help(help)
 }

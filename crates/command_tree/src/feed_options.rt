@@ -3,11 +3,11 @@
 ghost use Rattle.std.specs.Prelude.{IfOk};
 ghost use Rattle.command_tree.specs.Commands.{IsApp, events_app, feeding_app};
 
-use super::arguments::{TO, flag, number_option, option, several};
+use super::arguments::{flag, option, several};
 use clap::Command;
 use std::alloc::{AllocError, Global};
 
-/// `events [--to PORT] [--query | --complete] [--project NAME].. [--projects FILE] [--gate GATE]`
+/// `events [--to ADDRESS] [--query | --complete] [--project NAME].. [--projects FILE] [--gate GATE]`
 pub fn events_command<'a>(alloc: Global) -> Result<Command<'a>, AllocError>
     ensures { IfOk result (IsApp events_app) }
 {
@@ -37,11 +37,11 @@ pub fn events_command<'a>(alloc: Global) -> Result<Command<'a>, AllocError>
 fn feeding_command<'a>(alloc: Global) -> Result<Command<'a>, AllocError>
     ensures { IfOk result (IsApp feeding_app) }
 {
-    let to = number_option(
+    let to = option(
         alloc,
-        TO,
-        "PORT",
-        "The port on 127.0.0.1 of the site that is fed; without it the lines of a session are printed",
+        "to",
+        "ADDRESS",
+        "The site that is fed: a port on 127.0.0.1, or the path of a Unix socket; without it the lines of a session are printed",
     );
     let query = flag(
         alloc,

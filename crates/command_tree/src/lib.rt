@@ -27,8 +27,8 @@ mod site_options;
 mod values;
 
 pub use arguments::{
-    AROUND, CHANGE, CONNECTIONS, HTTP, IDLE, Number, PAUSE, PEER, PORT, SESSIONS, SITE, SITES,
-    START, TO, UNTIL, WORKERS,
+    AROUND, CHANGE, CONNECTIONS, HTTP, IDLE, Number, PAUSE, PORT, SESSIONS, SITE, SITES, START,
+    UNTIL, WORKERS,
 };
 pub use parsing::{Parsed, parse};
 pub use values::Values;

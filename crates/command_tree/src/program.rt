@@ -1,9 +1,11 @@
 //! The program's commands and their arguments.
 
-ghost use Rattle.std.specs.Prelude.{IfOk};
+ghost use Rattle.std.specs.Prelude.{IfOk, codes};
 ghost use Rattle.command_tree.specs.Commands.{IsApp, bare_app, check_app, events_app, footers_app, graph_app};
 ghost use Rattle.command_tree.specs.Commands.{judging_app, merge_app, program, reading_app, ready_app, recover_app};
 ghost use Rattle.command_tree.specs.Commands.{simulate_app, why_app};
+ghost use Rattle.clap.specs.Words.{new_rule};
+ghost use Rattle.command_tree.specs.Rules.{IsRule, flag_rule};
 
 use super::arguments::{
     AROUND, CHANGE, UNTIL, default_option, file, flag, number_option, option, several,
@@ -22,7 +24,18 @@ pub const GATE_HELP: &str = "The gate file, or - for standard input";
 
 /// What a snapshot is.
 const SNAPSHOT_HELP: &str =
-    "The snapshot's file, - for standard input, or @PORT for a running site";
+    "The snapshot's file, - for standard input, or @ADDRESS for a running site";
+
+/// The flag of commands whose answer can be JSON.
+fn json_flag<'a>(alloc: Global) -> Arg<'a>
+    ensures { IsRule (flag_rule (codes "json")) result }
+{
+    flag(
+        alloc,
+        "json",
+        "Prints one JSON object on one line in place of the text",
+    )
+}
 
 /// The program.
 pub fn program<'a>(alloc: Global) -> Result<Command<'a>, AllocError>
@@ -69,7 +82,7 @@ fn bare_program<'a>(alloc: Global) -> Result<Command<'a>, AllocError>
     Ok(program)
 }
 
-/// `ready GATE SNAPSHOT [--item CHANGE[,SET]]`
+/// `ready GATE SNAPSHOT [--item CHANGE[,SET]] [--json]`
 fn ready_command<'a>(alloc: Global) -> Result<Command<'a>, AllocError>
     ensures { IfOk result (IsApp ready_app) }
 {
@@ -83,7 +96,8 @@ fn ready_command<'a>(alloc: Global) -> Result<Command<'a>, AllocError>
         .about("Prints which items may be enqueued, and why each other one waits")
         .arg(file(alloc, "GATE", GATE_HELP))?
         .arg(file(alloc, "SNAPSHOT", SNAPSHOT_HELP))?
-        .arg(item)
+        .arg(item)?
+        .arg(json_flag(alloc))
 }
 
 /// `why GATE SNAPSHOT CHANGE[,SET] [--all]`
@@ -132,12 +146,12 @@ fn merge_command<'a>(alloc: Global) -> Result<Command<'a>, AllocError>
     let first = file(
         alloc,
         "FIRST",
-        "The first snapshot's file, - for standard input, or @PORT for a running site",
+        "The first snapshot's file, - for standard input, or @ADDRESS for a running site",
     );
     let second = file(
         alloc,
         "SECOND",
-        "The second snapshot's file, - for standard input, or @PORT for a running site",
+        "The second snapshot's file, - for standard input, or @ADDRESS for a running site",
     );
     Command::new(alloc, "merge")
         .about("Prints the snapshot of two together")
@@ -145,7 +159,7 @@ fn merge_command<'a>(alloc: Global) -> Result<Command<'a>, AllocError>
         .arg(second)
 }
 
-/// `footers GATE FILE [--change N]`
+/// `footers GATE FILE [--change N] [--json]`
 fn footers_command<'a>(alloc: Global) -> Result<Command<'a>, AllocError>
     ensures { IfOk result (IsApp footers_app) }
 {
@@ -165,22 +179,31 @@ fn footers_command<'a>(alloc: Global) -> Result<Command<'a>, AllocError>
         .about("Prints the changes that a commit message depends on")
         .arg(file(alloc, "GATE", GATE_HELP))?
         .arg(message)?
-        .arg(change)
+        .arg(change)?
+        .arg(json_flag(alloc))
 }
 
-/// `check GATE [SNAPSHOT] [--strict]`
+/// The snapshot that a gate is compared with, which may be left out.
+fn compared_snapshot<'a>(alloc: Global) -> Arg<'a>
+    ensures { IsRule (new_rule (codes "SNAPSHOT")) result }
+{
+    Arg::new(alloc, "SNAPSHOT").help(
+        "The snapshot whose votes the gate is compared with, - for standard input, or @ADDRESS for a running site",
+    )
+}
+
+/// `check GATE [SNAPSHOT] [--strict] [--json]`
 fn check_command<'a>(alloc: Global) -> Result<Command<'a>, AllocError>
     ensures { IfOk result (IsApp check_app) }
 {
-    let snapshot = Arg::new(alloc, "SNAPSHOT").help(
-        "The snapshot whose votes the gate is compared with, - for standard input, or @PORT for a running site",
-    );
+    let snapshot = compared_snapshot(alloc);
     let strict = flag(alloc, "strict", "Ends with status 1 if there is a warning");
     Command::new(alloc, "check")
         .about("Prints what a gate file asks for, and warns of what looks mistaken")
         .arg(file(alloc, "GATE", GATE_HELP))?
         .arg(snapshot)?
-        .arg(strict)
+        .arg(strict)?
+        .arg(json_flag(alloc))
 }
 
 /// `simulate SCRIPT [GATE]`

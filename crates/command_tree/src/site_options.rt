@@ -1,13 +1,13 @@
 //! The arguments of `serve`.
 
 ghost use Rattle.std.specs.Prelude.{IfOk, codes};
-ghost use Rattle.command_tree.specs.Commands.{IsApp, ending_app, guarded_app, paced_app, peered_app, placed_app};
-ghost use Rattle.command_tree.specs.Commands.{printing_app, serve_app, shown_app};
+ghost use Rattle.command_tree.specs.Commands.{IsApp, ending_app, guarded_app, listening_app, paced_app};
+ghost use Rattle.command_tree.specs.Commands.{peered_app, placed_app, printing_app, serve_app, shown_app};
 ghost use Rattle.command_tree.specs.Rules.{IsRule, needed_number};
 
 use super::arguments::{
-    CONNECTIONS, HTTP, IDLE, PAUSE, PEER, PORT, SESSIONS, SITE, SITES, START, WORKERS,
-    default_option, default_text, file, flag, number_option, numbers, option, several, several_of,
+    CONNECTIONS, HTTP, IDLE, PAUSE, PORT, SESSIONS, SITE, SITES, START, WORKERS, default_option,
+    default_text, file, flag, number_option, option, several, several_of, words,
 };
 use super::program::GATE_HELP;
 use clap::{Arg, Command};
@@ -133,10 +133,30 @@ fn guarded_command<'a>(alloc: Global) -> Result<Command<'a>, AllocError>
         "N",
         "A site whose operations it takes from peers, once for each; without it those of all",
     );
-    placed_command(alloc)?.arg(sites)
+    listening_command(alloc)?.arg(sites)
 }
 
 /// The command with what the site is, and where it is reached.
+fn listening_command<'a>(alloc: Global) -> Result<Command<'a>, AllocError>
+    ensures { IfOk result (IsApp listening_app) }
+{
+    let listen = several(
+        alloc,
+        "listen",
+        "PATH",
+        "A Unix socket for its sessions, once for each; the path has a slash",
+    );
+    let mode = default_text(
+        alloc,
+        "mode",
+        "600",
+        "MODE",
+        "Who may connect to them: 600, its user, or 660, its group too",
+    );
+    placed_command(alloc)?.arg(listen)?.arg(mode)
+}
+
+/// The command with what the site is, and its port.
 fn placed_command<'a>(alloc: Global) -> Result<Command<'a>, AllocError>
     ensures { IfOk result (IsApp placed_app) }
 {
@@ -146,12 +166,11 @@ fn placed_command<'a>(alloc: Global) -> Result<Command<'a>, AllocError>
         "N",
         "The start, greater than every start the site has used; optional with --journal",
     );
-    let port = default_option(
+    let port = number_option(
         alloc,
         PORT,
-        "0",
         "P",
-        "The port on 127.0.0.1; 0 has the system choose one",
+        "The port on 127.0.0.1; 0, the default without --listen, has the system choose one",
     );
     let peered = peered_command(alloc)?;
     peered.arg(site_option(alloc))?.arg(start)?.arg(port)
@@ -161,7 +180,11 @@ fn placed_command<'a>(alloc: Global) -> Result<Command<'a>, AllocError>
 fn peered_command<'a>(alloc: Global) -> Result<Command<'a>, AllocError>
     ensures { IfOk result (IsApp peered_app) }
 {
-    let peers = numbers(alloc, PEER, "The ports on 127.0.0.1 that it pulls from");
+    let peers = words(
+        alloc,
+        "PEER",
+        "The sites that it pulls from: ports on 127.0.0.1, or paths of Unix sockets",
+    );
     Command::new(alloc, "serve")
         .about(
             "Runs a site: answers sessions, pulls from peers, prints the report whenever it changes",

@@ -18,18 +18,18 @@ use Rattle.commands.specs.Ending.{Ends, Finishes, inputs_of}
 use Rattle.commands.proofs.OfRecord.{record_sound}
 use Rattle.commands.proofs.Simulated.{finishes_so}
 
-pub gate_refused : (gate : Bor (List ℕ)) (is_strict : Bool) (snapshot : Option (Bor (List ℕ)))
+pub gate_refused : (gate : Bor (List ℕ)) (is_strict is_json : Bool) (snapshot : Option (Bor (List ℕ)))
     (old new : ConsoleState) (refusal : Refusal)
     → IsRefused (input gate_file gate.now) old new refusal
-    → IsFirstRefused (inputs_of (Check gate snapshot is_strict)) old new refusal
-gate_refused gate is_strict None old new refusal refused = inl refused
-gate_refused gate is_strict (Some snapshot) old new refusal refused = inl refused
+    → IsFirstRefused (inputs_of (Check gate snapshot is_strict is_json)) old new refusal
+gate_refused gate is_strict is_json None old new refusal refused = inl refused
+gate_refused gate is_strict is_json (Some snapshot) old new refusal refused = inl refused
 
-module _ (gate : Bor (List ℕ)) (is_strict : Bool) (rules : GateRules) where
+module _ (gate : Bor (List ℕ)) (is_strict is_json : Bool) (rules : GateRules) where
   pub record_refused : (snapshot : Option (Bor (List ℕ))) (old mid new : ConsoleState) (refusal : Refusal)
       → IsHad (input gate_file gate.now) (λ text. SpellsGate text rules) old mid
       → IsSomeAnd snapshot (λ name. IsRefused (record_input name.now) mid new refusal)
-      → IsFirstRefused (inputs_of (Check gate snapshot is_strict)) old new refusal
+      → IsFirstRefused (inputs_of (Check gate snapshot is_strict is_json)) old new refusal
   record_refused None old mid new refusal had refused = absurd refused
   record_refused (Some snapshot) old mid new refusal had refused =
       inr (mid, (had.0, had.1, (rules, had.2)), inl refused)
@@ -37,13 +37,14 @@ module _ (gate : Bor (List ℕ)) (is_strict : Bool) (rules : GateRules) where
   pub checked : (snapshot : Option (Bor (List ℕ))) (state : Option State) (old mid now new : ConsoleState) (ended : Ended)
       → IsHad (input gate_file gate.now) (λ text. SpellsGate text rules) old mid
       → IsRecordHad (option_map (λ (name : Bor (List ℕ)). name.now) snapshot) state mid now
-      → Finishes (IsCheckText rules state is_strict) now new ended → Ends (Check gate snapshot is_strict) old new ended
+      → Finishes (IsCheckText rules state is_strict is_json) now new ended
+      → Ends (Check gate snapshot is_strict is_json) old new ended
   checked None None old mid now new ended had same finished =
       inr (
         had.0 ∷ [],
         now,
         (mid, had.1, (rules, had.2), same),
-        finishes_so (IsCheckText rules None is_strict) _ (λ answer end is. (rules, had.2, None, refl, is)) now new ended finished,
+        finishes_so (IsCheckText rules None is_strict is_json) _ (λ answer end is. (rules, had.2, None, refl, is)) now new ended finished,
       )
   checked None (Some state) old mid now new ended had not finished = absurd not
   checked (Some snapshot) None old mid now new ended had not finished = absurd not
@@ -52,7 +53,7 @@ module _ (gate : Bor (List ℕ)) (is_strict : Bool) (rules : GateRules) where
         had.0 ∷ too.0 ∷ [],
         now,
         (mid, had.1, (rules, had.2), (now, too.1, record_sound snapshot.now too.0 too.2.0 too.2.1, refl)),
-        finishes_so (IsCheckText rules (Some state) is_strict) _
+        finishes_so (IsCheckText rules (Some state) is_strict is_json) _
             (λ answer end is. (rules, had.2, Some state, too.2, is)) now new ended finished,
       )
 

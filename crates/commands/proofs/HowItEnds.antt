@@ -12,7 +12,7 @@ use Rattle.console.specs.Printing.{Prints, PrintsSnapshot}
 use Rattle.commands.specs.Ending.{Finishes}
 use Rattle.console.specs.Inputs.{AreHad, Input, IsFirstRefused, IsHad, IsRefused, IsSound}
 use Rattle.console.specs.declared.refusals.Refusal.{Refusal}
-use Rattle.console.specs.declared.refusals.Refusal.TheVariants.{Memory}
+use Rattle.console.specs.declared.refusals.Refusal.TheVariants.{Memory, NoItem}
 
 -- ---- what was printed
 
@@ -26,6 +26,14 @@ nothing_printed old = record { whole = appends_nothing old.printed; after = refl
 -- memory was refused before anything was printed
 pub stops : (IsSo : List ℕ → Type 0) (old : ConsoleState) → Finishes (IsWhole IsSo MissesNone) old old (Err Memory)
 stops IsSo old = inl ([], (refl, refl), nothing_printed old)
+
+-- an answer that is so is so in another way
+pub whole_so : (IsOne IsOther : List ℕ → Type 0) (IsMissing : ℕ → Option ℕ → Type 0)
+    → ((answer : List ℕ) → IsOne answer → IsOther answer) → (answer : List ℕ) (ended : Ended)
+    → IsWhole IsOne IsMissing answer ended → IsWhole IsOther IsMissing answer ended
+whole_so IsOne IsOther IsMissing so answer (Ok done) is = so answer is
+whole_so IsOne IsOther IsMissing so answer (Err (NoItem change set)) is = is
+whole_so IsOne IsOther IsMissing so answer (Err refusal) is = is
 
 -- the answer was printed, or cut short
 pub finishes : (IsTheAnswer : List ℕ → Ended → Type 0) (answer : List ℕ) (old new : ConsoleState) (ended : Ended)

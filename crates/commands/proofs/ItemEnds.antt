@@ -10,7 +10,6 @@ use Rattle.lattice_core.specs.PlaceLaws.{Contains-at}
 use Rattle.gate_rules.specs.Rules.{GateRules}
 use Rattle.ready_core.specs.Verdicts.{IsOutAt}
 use Rattle.ready_core.specs.declared.verdicts.Left.{Left}
-use Rattle.report_text.specs.Report.{out_line}
 use Rattle.state_core.specs.State.{State}
 use Rattle.state_core.specs.declared.item.Item.{Item}
 use Rattle.why_text.specs.Asked.{IsItemAsked}
@@ -19,8 +18,8 @@ use Rattle.console.specs.Showing.{ErrorOutput, ShowsLine}
 use Rattle.console.specs.Refusals.{refusal_line}
 use Rattle.console.specs.declared.refusals.Refusal.{Refusal}
 use Rattle.console.specs.declared.refusals.Refusal.TheVariants.{Script, Snapshot, Gate, File, NotText, NoItem, Output}
-use Rattle.console.specs.declared.refusals.Refusal.TheVariants.{Memory, NoPort, Peer, Waits, Warnings}
-use Rattle.commands.specs.Answers.{EndsItem, IsItemPrinted, IsLeftSo, IsStanding}
+use Rattle.console.specs.declared.refusals.Refusal.TheVariants.{Memory, NoAddress, Peer, Waits, Warnings}
+use Rattle.commands.specs.Answers.{EndsItem, IsItemPrinted, IsLeftSo, IsStanding, out_as}
 use Rattle.commands.specs.Running.{Reports}
 
 -- a refusal other than that an item waits is reported
@@ -32,32 +31,32 @@ refused_so (Gate fault) old new other shows = (shows, refl)
 refused_so (File name fault) old new other shows = (shows, refl)
 refused_so (NotText name) old new other shows = (shows, refl)
 refused_so (Peer fault port) old new other shows = (shows, refl)
-refused_so (NoPort name) old new other shows = (shows, refl)
+refused_so (NoAddress name) old new other shows = (shows, refl)
 refused_so (NoItem change set) old new other shows = (shows, refl)
 refused_so Waits old new other shows = absurd (other refl)
 refused_so (Warnings count) old new other shows = (shows, refl)
 refused_so Output old new other shows = (shows, refl)
 refused_so Memory old new other shows = (shows, refl)
 
-module _ (change : ℕ) (set : Option ℕ) (rules : GateRules) (state : State) where
+module _ (change : ℕ) (set : Option ℕ) (is_json : Bool) (rules : GateRules) (state : State) where
   -- an item that stands so ends the command
-  pub standing_ends : (answer : List ℕ) (is_ready : Bool) (ended : Ended) → IsStanding change set is_ready rules state answer
-      → EndsItem is_ready ended → IsItemPrinted change set rules state answer ended
+  pub standing_ends : (answer : List ℕ) (is_ready : Bool) (ended : Ended) → IsStanding change set is_json is_ready rules state answer
+      → EndsItem is_ready ended → IsItemPrinted change set is_json rules state answer ended
   standing_ends answer is_ready (Ok done) stands is =
-      subst (λ (b : Bool). IsStanding change set b rules state answer) is stands
+      subst (λ (b : Bool). IsStanding change set is_json b rules state answer) is stands
   standing_ends answer is_ready (Err Waits) stands is =
-      subst (λ (b : Bool). IsStanding change set b rules state answer) is stands
+      subst (λ (b : Bool). IsStanding change set is_json b rules state answer) is stands
   standing_ends answer is_ready (Err refusal) stands is = absurd is
 
   -- there is no such item, or memory was refused
   pub none_ends : (refusal : Refusal)
       → ((refusal ≡ NoItem change set) × ((item : Item) → ¬ IsItemAsked state change set item)) ⊎ (refusal ≡ Memory)
-      → IsItemPrinted change set rules state [] (Err refusal)
+      → IsItemPrinted change set is_json rules state [] (Err refusal)
   none_ends refusal (inl none) =
-      subst (λ (r : Refusal). IsItemPrinted change set rules state [] (Err r)) (sym none.0)
+      subst (λ (r : Refusal). IsItemPrinted change set is_json rules state [] (Err r)) (sym none.0)
       ((refl, refl), λ has. none.1 has.0 has.1, refl)
   none_ends refusal (inr memory) =
-      subst (λ (r : Refusal). IsItemPrinted change set rules state [] (Err r)) (sym memory) (refl, refl)
+      subst (λ (r : Refusal). IsItemPrinted change set is_json rules state [] (Err r)) (sym memory) (refl, refl)
 
 -- ---- how an item stands
 
@@ -87,8 +86,8 @@ ready_found ready item any =
     let same : there.1 ≡ item = ap (λ n. record { change = n; set = there.1.set }) change ∙ ap (λ n. record { change = item.change; set = n }) set in
     subst (Contains ready) same (there.0, there.2, there.3)
 
-pub out_written : (out : List Left) (item : Item) (place : ℕ) (d : Left) (old new : List ℕ) → IsOutAt out item place
-    → old ≡ [] → new ≡ old ++ out_line (get_or out place d) → IsLeftSo out item false new
-out_written out item place d old new at none written =
+pub out_written : (is_json : Bool) (out : List Left) (item : Item) (place : ℕ) (d : Left) (line : List ℕ)
+    → IsOutAt out item place → line ≡ out_as is_json (get_or out place d) → IsLeftSo is_json out item false line
+out_written is_json out item place d line at written =
     let read : get_or out place d ≡ at.left = get_or_from_slice_get out place at.left d at.here in
-    (refl, at.left, Contains-at out place at.left at.here, at.of, written ∙ ap (λ l. l ++ out_line (get_or out place d)) none ∙ ap out_line read)
+    (refl, at.left, Contains-at out place at.left at.here, at.of, written ∙ ap (out_as is_json) read)

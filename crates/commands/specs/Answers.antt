@@ -3,7 +3,7 @@ use Rattle.std.specs.Prelude.{◌≡◌, ◌⊎◌, ◌<◌, ℕ, Bool, true, fa
 use Rattle.std.specs.Prelude.{codes, decimal, flat_map, length}
 use Rattle.byte_ends.specs.Lines.{lines_of}
 use Rattle.footer_text.specs.Footers.{AreFooters}
-use Rattle.gate_check.specs.Checked.{check_text, warnings_of}
+use Rattle.gate_check.specs.Checked.{check_text, check_tokens, warnings_of}
 use Rattle.gate_rules.specs.Rules.{GateRules}
 use Rattle.gate_rules.specs.Spelling.{SpellsGate}
 use Rattle.graph_text.specs.Drawing.{IsGraphText}
@@ -14,6 +14,9 @@ use Rattle.replica_core.specs.Journal.{all_arrived}
 use Rattle.state_core.specs.Known.{IsKnown}
 use Rattle.state_core.specs.State.{State, state_of}
 use Rattle.state_core.specs.declared.item.Item.{Item}
+use Rattle.json.specs.Token.{Token}
+use Rattle.json_line.specs.Tokens.{json_line, numbers_listed, object_of, texts_listed}
+use Rattle.report_json.specs.Report.{out_item_tokens, ready_item_tokens, report_tokens}
 use Rattle.report_text.specs.Report.{out_line, ready_line, report_of}
 use Rattle.byte_ends.specs.Lines.{as_line}
 use Rattle.snapshot_text.specs.Snapshot.{SaysOperations, snapshot_text}
@@ -64,8 +67,14 @@ MissesNone change set = ⊥
 
 -- ---- `ready`: the report of the state
 
-abbrev pub IsReport : GateRules → State → List ℕ → Type 0
-IsReport rules state answer = (verdicts : Judged) × AreVerdicts rules state verdicts × (answer ≡ report_of verdicts)
+-- the report of verdicts, as JSON where that is asked for
+abbrev pub report_as : Bool → Judged → List ℕ
+report_as true verdicts = json_line (report_tokens verdicts)
+report_as false verdicts = report_of verdicts
+
+abbrev pub IsReport : Bool → GateRules → State → List ℕ → Type 0
+IsReport is_json rules state answer =
+    (verdicts : Judged) × AreVerdicts rules state verdicts × (answer ≡ report_as is_json verdicts)
 
 -- ---- `ready --item`: the line of an item in the report
 
@@ -76,20 +85,29 @@ HasItem change set state = (item : Item) × IsItemAsked state change set item
 abbrev pub IsItemText : ℕ → Option ℕ → ℕ → Option ℕ → Type 0
 IsItemText change set number other = (number ≡ change) × (other ≡ set)
 
-abbrev pub IsLeftSo : List Left → Item → Bool → List ℕ → Type 0
-IsLeftSo out item is_ready answer =
-    (is_ready ≡ false) × (left : Left) × Contains out left × (left.item ≡ item) × (answer ≡ out_line left)
+-- what is said of an item that is ready, and of one that is left out
+abbrev pub ready_as : Bool → Item → List ℕ
+ready_as true item = json_line (ready_item_tokens item)
+ready_as false item = ready_line item
+
+abbrev pub out_as : Bool → Left → List ℕ
+out_as true left = json_line (out_item_tokens left)
+out_as false left = out_line left
+
+abbrev pub IsLeftSo : Bool → List Left → Item → Bool → List ℕ → Type 0
+IsLeftSo is_json out item is_ready answer =
+    (is_ready ≡ false) × (left : Left) × Contains out left × (left.item ≡ item) × (answer ≡ out_as is_json left)
 
 -- so the item stands by these verdicts, and its line says so
-abbrev pub StandsSo : Judged → Item → Bool → List ℕ → Type 0
-StandsSo verdicts item is_ready answer =
-    ((is_ready ≡ true) × Contains verdicts.ready item × (answer ≡ ready_line item))
-    ⊎ IsLeftSo verdicts.out item is_ready answer
+abbrev pub StandsSo : Bool → Judged → Item → Bool → List ℕ → Type 0
+StandsSo is_json verdicts item is_ready answer =
+    ((is_ready ≡ true) × Contains verdicts.ready item × (answer ≡ ready_as is_json item))
+    ⊎ IsLeftSo is_json verdicts.out item is_ready answer
 
-abbrev pub IsStanding : ℕ → Option ℕ → Bool → GateRules → State → List ℕ → Type 0
-IsStanding change set is_ready rules state answer =
+abbrev pub IsStanding : ℕ → Option ℕ → Bool → Bool → GateRules → State → List ℕ → Type 0
+IsStanding change set is_json is_ready rules state answer =
     (item : Item) × (verdicts : Judged) × IsItemAsked state change set item × AreVerdicts rules state verdicts
-    × StandsSo verdicts item is_ready answer
+    × StandsSo is_json verdicts item is_ready answer
 
 -- how the command ends of an item that is ready, or waits
 abbrev pub EndsItem : Bool → Ended → Type 0
@@ -98,17 +116,17 @@ EndsItem is_ready (Err Waits) = is_ready ≡ false
 EndsItem is_ready (Err refusal) = ⊥
 
 -- the line of the item is printed, and the command ends by that; or there is no such item, or memory was refused
-abbrev pub IsItemPrinted : ℕ → Option ℕ → GateRules → State → List ℕ → Ended → Type 0
-IsItemPrinted change set rules state answer (Ok done) = IsStanding change set true rules state answer
-IsItemPrinted change set rules state answer (Err Waits) = IsStanding change set false rules state answer
-IsItemPrinted change set rules state answer (Err (NoItem number other)) =
+abbrev pub IsItemPrinted : ℕ → Option ℕ → Bool → GateRules → State → List ℕ → Ended → Type 0
+IsItemPrinted change set is_json rules state answer (Ok done) = IsStanding change set is_json true rules state answer
+IsItemPrinted change set is_json rules state answer (Err Waits) = IsStanding change set is_json false rules state answer
+IsItemPrinted change set is_json rules state answer (Err (NoItem number other)) =
     IsItemText change set number other × (¬ HasItem change set state) × (answer ≡ [])
-IsItemPrinted change set rules state answer (Err refusal) = (refusal ≡ Memory) × (answer ≡ [])
+IsItemPrinted change set is_json rules state answer (Err refusal) = (refusal ≡ Memory) × (answer ≡ [])
 
-abbrev pub IsItemAnswer : List ℕ → List ℕ → ℕ → Option ℕ → List ℕ → Ended → Type 0
-IsItemAnswer gate snapshot change set answer ended =
+abbrev pub IsItemAnswer : List ℕ → List ℕ → ℕ → Option ℕ → Bool → List ℕ → Ended → Type 0
+IsItemAnswer gate snapshot change set is_json answer ended =
     (rules : GateRules) × SpellsGate gate rules × (ops : List Operation) × SaysOperations (lines_of snapshot) ops
-    × IsItemPrinted change set rules (state_of (all_arrived [] ops)) answer ended
+    × IsItemPrinted change set is_json rules (state_of (all_arrived [] ops)) answer ended
 
 -- ---- `why`: why an item waits, for which the text of the gate file is looked at, too
 
@@ -172,13 +190,24 @@ abbrev pub footers_text : List ℕ → List (List ℕ) → List ℕ
 footers_text needs ignored =
     flat_map need_line needs ++ flat_map ignored_line ignored ++ count_line (length needs) (length ignored)
 
-pub record AreFooterLines (gate message : List ℕ) (change : ℕ) (answer : List ℕ) : Type 0 where
+-- the same as JSON, with the bases: {"needs":[101],"ignored":["I0123456789"],"bases":["https://review.example.org/"]}
+abbrev pub footers_tokens : List (List ℕ) → List ℕ → List (List ℕ) → List Token
+footers_tokens bases needs ignored =
+    object_of
+    (numbers_listed (codes "needs") needs
+    ++ (texts_listed (codes "ignored") ignored ++ texts_listed (codes "bases") bases))
+
+abbrev pub footers_as : Bool → List (List ℕ) → List ℕ → List (List ℕ) → List ℕ
+footers_as true bases needs ignored = json_line (footers_tokens bases needs ignored)
+footers_as false bases needs ignored = footers_text needs ignored
+
+pub record AreFooterLines (gate message : List ℕ) (change : ℕ) (is_json : Bool) (answer : List ℕ) : Type 0 where
   pub rules : GateRules
   pub spelled : SpellsGate gate rules
   pub needs : List ℕ
   pub ignored : List (List ℕ)
   pub footers : AreFooters rules.bases change message needs ignored
-  pub text : answer ≡ footers_text needs ignored
+  pub text : answer ≡ footers_as is_json rules.bases needs ignored
 
 -- ---- `check`: what the gate asks for, and warnings, with the record of a snapshot, where one is named
 
@@ -205,16 +234,21 @@ EndsChecked is_strict count (Ok done) = is_strict ≡ true → count ≡ 0
 EndsChecked is_strict count (Err (Warnings found)) = (is_strict ≡ true) × (found ≡ count) × (0 < count)
 EndsChecked is_strict count (Err refusal) = ⊥
 
--- the text is printed, and the check ends by its warnings; or memory was refused before anything was printed
-abbrev pub IsCheckText : GateRules → Option State → Bool → List ℕ → Ended → Type 0
-IsCheckText rules state is_strict answer ended =
-    ((answer ≡ check_text rules state) × EndsChecked is_strict (length (warnings_of rules state)) ended)
+-- what is said of the gate, as JSON where that is asked for
+abbrev pub check_as : Bool → GateRules → Option State → List ℕ
+check_as true rules state = json_line (check_tokens rules state)
+check_as false rules state = check_text rules state
+
+-- that is printed, and the check ends by its warnings; or memory was refused before anything was printed
+abbrev pub IsCheckText : GateRules → Option State → Bool → Bool → List ℕ → Ended → Type 0
+IsCheckText rules state is_strict is_json answer ended =
+    ((answer ≡ check_as is_json rules state) × EndsChecked is_strict (length (warnings_of rules state)) ended)
     ⊎ ((answer ≡ []) × (ended ≡ Err Memory))
 
-abbrev pub IsChecked : List ℕ → List (List ℕ) → Bool → List ℕ → Ended → Type 0
-IsChecked gate snapshots is_strict answer ended =
+abbrev pub IsChecked : List ℕ → List (List ℕ) → Bool → Bool → List ℕ → Ended → Type 0
+IsChecked gate snapshots is_strict is_json answer ended =
     (rules : GateRules) × SpellsGate gate rules × (state : Option State) × GivesRecord snapshots state
-    × IsCheckText rules state is_strict answer ended
+    × IsCheckText rules state is_strict is_json answer ended
 
 -- ---- `simulate`: the answers of the script's lines, in a run of the world
 

@@ -15,33 +15,33 @@ use Rattle.console.specs.declared.refusals.Refusal.TheVariants.{Output}
 abbrev pub inputs_of : Command → List Input
 inputs_of (Simulate script None) = input script_file script.now ∷ []
 inputs_of (Simulate script (Some gate)) = input script_file script.now ∷ input gate_file gate.now ∷ []
-inputs_of (Ready gate snapshot) = input gate_file gate.now ∷ record_input snapshot.now ∷ []
-inputs_of (ReadyItem gate snapshot change set) = input gate_file gate.now ∷ record_input snapshot.now ∷ []
+inputs_of (Ready gate snapshot is_json) = input gate_file gate.now ∷ record_input snapshot.now ∷ []
+inputs_of (ReadyItem gate snapshot change set is_json) = input gate_file gate.now ∷ record_input snapshot.now ∷ []
 inputs_of (Merge first second) = record_input first.now ∷ record_input second.now ∷ []
-inputs_of (Footers gate message change) = input gate_file gate.now ∷ input message_file message.now ∷ []
+inputs_of (Footers gate message change is_json) = input gate_file gate.now ∷ input message_file message.now ∷ []
 inputs_of (Why gate snapshot change set is_all) = input gate_file gate.now ∷ record_input snapshot.now ∷ []
 inputs_of (Graph gate snapshot around) = input gate_file gate.now ∷ record_input snapshot.now ∷ []
-inputs_of (Check gate None is_strict) = input gate_file gate.now ∷ []
-inputs_of (Check gate (Some snapshot) is_strict) =
+inputs_of (Check gate None is_strict is_json) = input gate_file gate.now ∷ []
+inputs_of (Check gate (Some snapshot) is_strict is_json) =
     input gate_file gate.now ∷ record_input snapshot.now ∷ []
 
 -- of these texts the command prints this answer, and ends so once it is printed
 abbrev pub IsAnswer : Command → List (List ℕ) → List ℕ → Ended → Type 0
 IsAnswer (Simulate script gate) (text ∷ gates) answer ended = IsSimulated text gates answer ended
-IsAnswer (Ready gate snapshot) (one ∷ other ∷ []) answer ended =
-    IsWhole (IsOf one other IsReport) MissesNone answer ended
-IsAnswer (ReadyItem gate snapshot change set) (one ∷ other ∷ []) answer ended =
-    IsItemAnswer one other change set answer ended
+IsAnswer (Ready gate snapshot is_json) (one ∷ other ∷ []) answer ended =
+    IsWhole (IsOf one other (IsReport is_json)) MissesNone answer ended
+IsAnswer (ReadyItem gate snapshot change set is_json) (one ∷ other ∷ []) answer ended =
+    IsItemAnswer one other change set is_json answer ended
 IsAnswer (Merge first second) (one ∷ other ∷ []) answer ended = IsWhole (IsMergedText one other) MissesNone answer ended
-IsAnswer (Footers gate message change) (one ∷ other ∷ []) answer ended =
-    IsWhole (AreFooterLines one other change) MissesNone answer ended
+IsAnswer (Footers gate message change is_json) (one ∷ other ∷ []) answer ended =
+    IsWhole (AreFooterLines one other change is_json) MissesNone answer ended
 IsAnswer (Why gate snapshot change set is_all) (one ∷ other ∷ []) answer ended =
     IsWhole (IsOf one other (IsReason one change set is_all)) (Misses (IsItemText change set) other (HasItem change set))
     answer ended
 IsAnswer (Graph gate snapshot around) (one ∷ other ∷ []) answer ended =
     IsWhole (IsOf one other (IsPicture around)) (Misses (IsAround around) other (HasAround around)) answer ended
-IsAnswer (Check gate snapshot is_strict) (text ∷ snapshots) answer ended =
-    IsChecked text snapshots is_strict answer ended
+IsAnswer (Check gate snapshot is_strict is_json) (text ∷ snapshots) answer ended =
+    IsChecked text snapshots is_strict is_json answer ended
 IsAnswer command texts answer ended = ⊥
 
 -- all of the answer was printed, and the command ends as it does; or the output failed, and a proper prefix was printed

@@ -1,37 +1,47 @@
 //! Prints what a gate file asks for, with warnings of what looks mistaken in it.
 
-ghost use Rattle.std.specs.Prelude.{◌≡◌, IfErr, IfOk, IsSomeAnd, option_map};
+ghost use Rattle.std.specs.Prelude.{◌≡◌, IfErr, IfOk, IsSomeAnd, length, option_map};
+ghost use Rattle.gate_check.specs.Checked.{warnings_of};
 ghost use Rattle.console.specs.Inputs.{IsRefused, record_input};
 ghost use Rattle.state_core.specs.State.{state_of};
-ghost use Rattle.commands.specs.Answers.{EndsChecked, IsCheckText, IsRecordHad};
+ghost use Rattle.commands.specs.Answers.{EndsChecked, IsCheckText, IsRecordHad, check_as};
 ghost use Rattle.commands.specs.Ending.{Ends, Finishes};
 
 use command_line::Command;
 use console::{Console, Refusal, read_gate, read_record};
-use gate_check::check_gate;
+use gate_check::{CheckedLine, check_gate, check_line};
 use gate_rules::Gate;
+use lattice_core::NoMemory;
 use replica_core::Replica;
 use state_core::State;
 use std::alloc::Global;
 use std::mem::ManuallyDrop;
 
-/// Prints what a gate file asks for, condition by condition, and warnings of what looks mistaken in it; where a snapshot
-/// is named, of names that its record hasn't got, too. Refusals: those of the gate file, then of the snapshot; `Memory`,
-/// memory was refused once both were read; `Output`; `Warnings`, where `is_strict`, once all is printed: there are
-/// warnings. It costs what reading both costs, and what `check_gate` does.
+/// Prints what a gate file asks for, condition by condition, and warnings of what looks mistaken in it; where a
+/// snapshot is named, of names that its record hasn't got, too; as JSON where `is_json`. Refusals: those of the gate
+/// file, then of the snapshot; `Memory`, memory was refused once both were read; `Output`; `Warnings`, where
+/// `is_strict`, once all is printed: there are warnings. It costs what reading both costs, and what `check_gate` does.
 pub fn check<'n, C: Console>(
     alloc: Global,
     gate: &'n str,
     snapshot: Option<&'n str>,
     is_strict: bool,
+    is_json: bool,
     console: &mut C,
 ) -> Result<(), Refusal<'n>>
-    ensures { Ends (Command.Check gate.entry snapshot.entry is_strict) (C.state console.old)
+    ensures { Ends (Command.Check gate.entry snapshot.entry is_strict is_json) (C.state console.old)
         (C.state console.new) result }
 {
     let rules = read_gate(alloc, gate, console)?;
     let record = read_any_record(alloc, snapshot, console)?;
-    let ended = print_check(alloc, &rules, state_in(&record), is_strict, console);
+    let ended = print_check(
+        alloc,
+        &rules,
+        state_in(&record),
+        is_strict,
+        is_json,
+        console,
+    );
     // The program ends now, and the record's memory goes with it.
     let _kept = ManuallyDrop::new(record);
     ended
@@ -71,17 +81,40 @@ fn print_check<C: Console>(
     rules: &Gate,
     state: Option<&State>,
     is_strict: bool,
+    is_json: bool,
     console: &mut C,
 ) -> Result<(), Refusal<'static>>
-    ensures { Finishes (IsCheckText rules.now (option_map (λ known. known.now) state.entry) is_strict) (C.state console.old)
+    ensures { Finishes (IsCheckText rules.now (option_map (λ known. known.now) state.entry) is_strict is_json) (C.state console.old)
         (C.state console.new) result }
 {
-    let Ok(checked) = check_gate(alloc, rules, state) else {
+    let Ok(checked) = checked_as(alloc, rules, state, is_json) else {
         return Err(Refusal::Memory);
     };
     let ended = end_of(is_strict, checked.warnings);
-    console.print(checked.text.as_bytes())?;
+    console.print(checked.line.as_slice())?;
     ended
+}
+
+/// What is printed of a gate, as JSON where `is_json`, and how many warnings there are.
+fn checked_as(
+    alloc: Global,
+    rules: &Gate,
+    state: Option<&State>,
+    is_json: bool,
+) -> Result<CheckedLine, NoMemory>
+    ensures text { IfOk result
+        (λ checked. checked.line.items ≡ check_as is_json rules.now (option_map (λ known. known.now) state.entry)) }
+    ensures warnings { IfOk result
+        (λ checked. checked.warnings ≡ length (warnings_of rules.now (option_map (λ known. known.now) state.entry))) }
+{
+    if is_json {
+        return check_line(alloc, rules, state);
+    }
+    let checked = check_gate(alloc, rules, state)?;
+    Ok(CheckedLine {
+        line: checked.text.into_bytes(),
+        warnings: checked.warnings,
+    })
 }
 
 /// How a check ends that has so many warnings.

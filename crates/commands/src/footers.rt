@@ -2,50 +2,112 @@
 
 ghost use Rattle.std.specs.Prelude.{◌≡◌, ℕ, List, IfOk, flat_map, map};
 ghost use Rattle.footer_text.specs.Footers.{AreFooters};
-ghost use Rattle.commands.specs.Answers.{footers_text, ignored_line, need_line};
+ghost use Rattle.json_line.specs.Tokens.{json_line};
+ghost use Rattle.commands.specs.Answers.{footers_as, footers_text, footers_tokens, ignored_line, need_line};
 ghost use Rattle.commands.specs.Ending.{Ends};
 
 use command_line::Command;
 use console::{Console, Refusal, read_gate, read_message};
-use footer_text::depends;
+use footer_text::{Bases, depends};
 use gate_rules::Gate;
+use json::Writer;
+use json_line::{close_object, line_of, open_object, put_numbers, put_texts, put_words};
 use lattice_core::NoMemory;
 use std::alloc::Global;
 
 /// Prints what the footers of a message of the change say, 0 where it has no number: `need N` for each other change
-/// that they name, `ignored VALUE` for each other value, and `end` with the counts of both. Refusals: those of the gate
-/// file, then of the message; `Memory`, memory was refused once both were read; `Output`. It costs O(bytes of both).
+/// that they name, `ignored VALUE` for each other value, and `end` with the counts of both; where `is_json` the same as
+/// one JSON object, with the bases of the gate. Refusals: those of the gate file, then of the message; `Memory`, memory
+/// was refused once both were read; `Output`. It costs O(bytes of both).
 pub fn footers<'n, C: Console>(
     alloc: Global,
     gate: &'n str,
     message: &'n str,
     change: u32,
+    is_json: bool,
     console: &mut C,
 ) -> Result<(), Refusal<'n>>
-    ensures { Ends (Command.Footers gate.entry message.entry change) (C.state console.old)
+    ensures { Ends (Command.Footers gate.entry message.entry change is_json) (C.state console.old)
         (C.state console.new) result }
 {
     let rules = read_gate(alloc, gate, console)?;
     let message = read_message(alloc, message, console)?;
-    let Ok(text) = text_under(alloc, &rules, change, message.as_str()) else {
+    let Ok(text) = text_under(alloc, &rules, change, message.as_str(), is_json) else {
         return Err(Refusal::Memory);
     };
     console.print(text.as_slice())
 }
 
 /// What is printed of a message under a gate.
-fn text_under(alloc: Global, gate: &Gate, change: u32, message: &str) -> Result<Vec<u8>, NoMemory>
+fn text_under(
+    alloc: Global,
+    gate: &Gate,
+    change: u32,
+    message: &str,
+    is_json: bool,
+) -> Result<Vec<u8>, NoMemory>
     ensures { IfOk result (λ text. (needs : List ℕ) × (ignored : List (List ℕ))
         × AreFooters gate.now.bases change message.now needs ignored
-        × (text.items ≡ footers_text needs ignored)) }
+        × (text.items ≡ footers_as is_json gate.now.bases needs ignored)) }
 {
-    let found = depends(alloc, gate.bases(), change, message)?;
-    let mut text = need_lines(alloc, found.needs.as_slice())?;
-    let ignored = ignored_lines(alloc, found.ignored.as_slice())?;
-    text.extend_from_slice(ignored.as_slice())?;
-    let needs = found.needs.len();
-    let others = found.ignored.len();
-    let end = format!(in alloc; "end {needs} {others}\n")?;
+    let bases = gate.bases();
+    let found = depends(alloc, bases, change, message)?;
+    footers_as(
+        alloc,
+        bases,
+        found.needs.as_slice(),
+        found.ignored.as_slice(),
+        is_json,
+    )
+}
+
+/// What is printed of the changes and the other values of footers under these bases.
+fn footers_as(
+    alloc: Global,
+    bases: &Bases,
+    needs: &[u32],
+    ignored: &[&str],
+    is_json: bool,
+) -> Result<Vec<u8>, NoMemory>
+    ensures { IfOk result (λ text. text.items
+        ≡ footers_as is_json bases.now needs.now (map (λ value. value.now) ignored.now)) }
+{
+    if is_json {
+        return footers_line(alloc, bases, needs, ignored);
+    }
+    footers_text(alloc, needs, ignored)
+}
+
+/// The line of both and of the bases.
+fn footers_line(
+    alloc: Global,
+    bases: &Bases,
+    needs: &[u32],
+    ignored: &[&str],
+) -> Result<Vec<u8>, NoMemory>
+    ensures { IfOk result (λ text. text.items
+        ≡ json_line (footers_tokens bases.now needs.now (map (λ value. value.now) ignored.now))) }
+{
+    let mut out = Writer::new(Vec::new(alloc));
+    open_object(&mut out)?;
+    put_numbers(&mut out, "needs", needs)?;
+    put_words(&mut out, "ignored", ignored)?;
+    put_texts(&mut out, "bases", bases.iter().as_slice())?;
+    close_object(&mut out)?;
+    line_of(out)
+}
+
+/// The lines of both, and their counts.
+fn footers_text(alloc: Global, needs: &[u32], ignored: &[&str]) -> Result<Vec<u8>, NoMemory>
+    ensures { IfOk result
+        (λ text. text.items ≡ footers_text needs.now (map (λ value. value.now) ignored.now)) }
+{
+    let mut text = need_lines(alloc, needs)?;
+    let lines = ignored_lines(alloc, ignored)?;
+    text.extend_from_slice(lines.as_slice())?;
+    let count = needs.len();
+    let others = ignored.len();
+    let end = format!(in alloc; "end {count} {others}\n")?;
     text.extend_from_slice(end.as_bytes())?;
     Ok(text)
 }

@@ -1,33 +1,76 @@
 //! Prints the report of a snapshot under a gate.
 
-ghost use Rattle.commands.specs.Ending.{Ends};
+ghost use Rattle.std.specs.Prelude.{◌≡◌, true, false};
+ghost use Rattle.commands.specs.Answers.{IsWhole, MissesNone, report_as};
+ghost use Rattle.commands.specs.Ending.{Ends, Finishes};
 
 use command_line::Command;
 use console::{Console, Refusal, read_gate, read_record};
-use ready_core::evaluate;
+use ready_core::{Verdicts, evaluate};
 use replica_core::Replica;
+use report_json::report_line;
 use std::alloc::Global;
 use std::mem::ManuallyDrop;
 
-/// Prints which items of a snapshot may be enqueued under a gate, and why each other one waits. Refusals: those of the
-/// gate file, then of the snapshot; `Memory`, memory was refused once both were read; `Output`. It costs what reading
-/// both costs, and what `evaluate` and `write_report` do.
+/// Prints which items of a snapshot may be enqueued under a gate, and why each other one waits, as JSON where `is_json`.
+/// Refusals: those of the gate file, then of the snapshot; `Memory`, memory was refused once both were read; `Output`. It
+/// costs what reading both costs, and what `evaluate` and `write_report` or `report_line` do.
 pub fn ready<'n, C: Console>(
     alloc: Global,
     gate: &'n str,
     snapshot: &'n str,
+    is_json: bool,
     console: &mut C,
 ) -> Result<(), Refusal<'n>>
-    ensures { Ends (Command.Ready gate.entry snapshot.entry) (C.state console.old) (C.state console.new) result }
+    ensures { Ends (Command.Ready gate.entry snapshot.entry is_json) (C.state console.old) (C.state console.new) result }
 {
     let rules = read_gate(alloc, gate, console)?;
     let replica = read_record(Replica::new(alloc), snapshot, console)?;
     let Ok(verdicts) = evaluate(alloc, replica.state(), &rules) else {
         return Err(Refusal::Memory);
     };
-    let printed = console.print_report(&verdicts);
+    let printed = print_verdicts(alloc, &verdicts, is_json, console);
     // The program ends now, and the record's memory goes with it: giving back each operation takes a seventh of the
     // whole time.
     let _kept = ManuallyDrop::new(replica);
     printed
+}
+
+/// Prints the report of verdicts, as JSON where `is_json`.
+fn print_verdicts<C: Console>(
+    alloc: Global,
+    verdicts: &Verdicts,
+    is_json: bool,
+    console: &mut C,
+) -> Result<(), Refusal<'static>>
+    ensures { Finishes (IsWhole (λ answer. answer ≡ report_as is_json verdicts.now) MissesNone) (C.state console.old)
+        (C.state console.new) result }
+{
+    if is_json {
+        return print_line(alloc, verdicts, console);
+    }
+    print_text(verdicts, console)
+}
+
+/// Prints the report of verdicts as JSON.
+fn print_line<C: Console>(
+    alloc: Global,
+    verdicts: &Verdicts,
+    console: &mut C,
+) -> Result<(), Refusal<'static>>
+    ensures { Finishes (IsWhole (λ answer. answer ≡ report_as true verdicts.now) MissesNone) (C.state console.old)
+        (C.state console.new) result }
+{
+    match report_line(alloc, verdicts) {
+        Ok(line) => console.print(line.as_slice()),
+        Err(_) => Err(Refusal::Memory),
+    }
+}
+
+/// Prints the text of the report of verdicts.
+fn print_text<C: Console>(verdicts: &Verdicts, console: &mut C) -> Result<(), Refusal<'static>>
+    ensures { Finishes (IsWhole (λ answer. answer ≡ report_as false verdicts.now) MissesNone) (C.state console.old)
+        (C.state console.new) result }
+{
+    console.print_report(verdicts)
 }

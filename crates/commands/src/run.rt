@@ -84,19 +84,25 @@ fn do_command<'n, C: Console>(
 {
     match command {
         Command::Simulate { script, gate } => simulate(alloc, script, *gate, console),
-        Command::Ready { gate, snapshot } => ready(alloc, gate, snapshot, console),
+        Command::Ready {
+            gate,
+            snapshot,
+            is_json,
+        } => ready(alloc, gate, snapshot, *is_json, console),
         Command::ReadyItem {
             gate,
             snapshot,
             change,
             set,
-        } => ready_item(alloc, gate, snapshot, *change, *set, console),
+            is_json,
+        } => ready_item(alloc, gate, snapshot, *change, *set, *is_json, console),
         Command::Merge { first, second } => merge(alloc, first, second, console),
         Command::Footers {
             gate,
             message,
             change,
-        } => footers(alloc, gate, message, *change, console),
+            is_json,
+        } => footers(alloc, gate, message, *change, *is_json, console),
         Command::Why {
             gate,
             snapshot,
@@ -113,7 +119,8 @@ fn do_command<'n, C: Console>(
             gate,
             snapshot,
             is_strict,
-        } => check(alloc, gate, *snapshot, *is_strict, console),
+            is_json,
+        } => check(alloc, gate, *snapshot, *is_strict, *is_json, console),
     }
 }
 

@@ -1,11 +1,13 @@
 -- A console: the input, the output and the files of a command, as one value. The name `-` is that of the input (POSIX).
-use Rattle.std.specs.Prelude.{◌≡◌, ◌≤◌, ◌<◌, ◌+◌, ◌==◌, ℕ, Bool, List, [], ◌∷◌, Option, None, Some, IfSome, if◌then◌else◌}
+use Rattle.std.specs.Prelude.{◌≡◌, ◌≤◌, ◌<◌, ◌+◌, ℕ, Bool, List, [], ◌∷◌, Option, None, Some, IfSome, if◌then◌else◌}
 use Rattle.std.specs.Prelude.{codes, length, min, nat_eq, take}
 use Rattle.std.specs.Cmp.Lexicographic.{pointwise}
 use Rattle.std.specs.Io.KnownBytes.{Appends}
 use Rattle.byte_ends.specs.Failures.{most_failures}
 use Rattle.byte_ends.specs.declared.faults.BytesFault.{BytesFault}
 use Rattle.byte_ends.specs.declared.faults.BytesFault.TheVariants.{TooLong, ReadFault, NoMemory}
+use Rattle.site_address.specs.Address.{address_text}
+use Rattle.site_address.specs.declared.address.Address.{Address}
 
 -- files, by name and contents
 abbrev pub Contents : Type 0
@@ -16,14 +18,13 @@ abbrev pub file_of : Contents → List ℕ → Option (List ℕ)
 file_of [] name = None
 file_of (file ∷ files) name = if pointwise nat_eq file.0 name then Some file.1 else file_of files name
 
--- the records of running sites, by port, each as the text of a snapshot
+-- the records of running sites, by the words for their addresses, each as the text of a snapshot
 abbrev pub Records : Type 0
-Records = List (ℕ × List ℕ)
+Records = Contents
 
--- the record of the first site of a port, where it is known
-abbrev pub record_at : Records → ℕ → Option (List ℕ)
-record_at [] port = None
-record_at (site ∷ sites) port = if site.0 == port then Some site.1 else record_at sites port
+-- the record of the first site of an address, where it is known
+abbrev pub record_at : Records → Address → Option (List ℕ)
+record_at sites address = file_of sites (address_text address)
 
 -- what the input has left and what was printed, where that is known; how many calls of each end failed; and which ends
 pub record ConsoleState : Type 0 where

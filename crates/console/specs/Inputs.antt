@@ -11,9 +11,10 @@ use Rattle.snapshot_text.specs.Snapshot.{IsOfText, IsRefusal, SaysOperations, mo
 use Rattle.snapshot_text.specs.declared.fault.SnapFault.{SnapFault}
 use Rattle.review_ops.specs.Operation.{Operation}
 use Rattle.console.specs.Console.{ConsoleState, IsRead, IsUnread, record_at}
-use Rattle.console.specs.Pulls.{IsPullFault, NamesPort, is_site_name}
+use Rattle.console.specs.Pulls.{IsPullFault, NamesSite, is_site_name}
 use Rattle.console.specs.declared.refusals.Refusal.{Refusal}
-use Rattle.console.specs.declared.refusals.Refusal.TheVariants.{File, Gate, NoPort, NotText, Peer, Snapshot}
+use Rattle.console.specs.declared.refusals.Refusal.TheVariants.{File, Gate, NoAddress, NotText, Peer, Snapshot}
+use Rattle.site_address.specs.declared.address.Address.{Address}
 
 pub data Kind : Type 0 where
   gate_file : Kind
@@ -54,9 +55,9 @@ IsUnreadOf kind name fault refusal = IsUnreadAs name fault refusal
 
 -- a pull reads and prints nothing, and its text is that of the site's record, where that is known
 pub record IsPulled (name : List ℕ) (old new : ConsoleState) (text : List ℕ) : Type 0 where
-  pub port : ℕ
-  pub named : NamesPort name port
-  pub whole : IfSome (record_at old.sites port) (λ known. text ≡ known)
+  pub address : Address
+  pub named : NamesSite name address
+  pub whole : IfSome (record_at old.sites address) (λ known. text ≡ known)
   pub after : new ≡ old
 
 -- the text of an input of this name is had
@@ -81,10 +82,10 @@ IsFlawed snapshot_file name text refusal =
     (fault : SnapFault) × (refusal ≡ Snapshot fault) × IsRefusal text fault × IsOfText fault
 IsFlawed pulled name text refusal = ⊥
 
--- how a record is refused that isn't pulled: its name has no port, or a pull from that fails
+-- how a record is refused that isn't pulled: its name has no address, or a pull from that fails
 abbrev pub IsUnpulled : List ℕ → Refusal → Type 0
-IsUnpulled name (NoPort named) = (named.now ≡ name) × ((port : ℕ) → ¬ NamesPort name port)
-IsUnpulled name (Peer fault port) = NamesPort name port × IsPullFault fault
+IsUnpulled name (NoAddress named) = (named.now ≡ name) × ((address : Address) → ¬ NamesSite name address)
+IsUnpulled name (Peer fault address) = NamesSite name address × IsPullFault fault
 IsUnpulled name refusal = ⊥
 
 -- the input is had, and its text is so

@@ -1,11 +1,12 @@
 -- The record of a running site, which is pulled: its name as an input, what comes, and why it isn't had.
-use Rattle.std.specs.Prelude.{◌≡◌, ◌≤◌, ◌++◌, ◌==◌, ℕ, Bool, false, List, [], ◌∷◌, Option, IfSome, codes}
-use Rattle.std.specs.Str.Parse.{IsNumeral, digits_value, without_leading_plus}
+use Rattle.std.specs.Prelude.{◌≡◌, ◌++◌, ◌==◌, ℕ, Bool, false, List, [], ◌∷◌, Option, IfSome, codes}
 use Rattle.byte_ends.specs.Lines.{lines_of}
 use Rattle.gossip_line.specs.Fault as line
 use Rattle.gossip_line.specs.declared.fault.LineFault.TheVariants.{Closed, FarAhead, NotListed}
 use Rattle.replica_core.specs.Journal.{all_arrived}
 use Rattle.review_ops.specs.Operation.{Operation}
+use Rattle.site_address.specs.Address.{NamesAddress}
+use Rattle.site_address.specs.declared.address.Address.{Address}
 use Rattle.snapshot_text.specs.Snapshot.{SaysOperations}
 use Rattle.console.specs.declared.pulls.PullFault.{PullFault}
 use Rattle.console.specs.declared.pulls.PullFault.TheVariants.{Failed, NoEnd, Unreachable}
@@ -17,14 +18,11 @@ abbrev pub is_site_name : List ℕ → Bool
 is_site_name [] = false
 is_site_name (byte ∷ rest) = byte == 64
 
--- the name is `@`, and then the site's port in decimal
-pub record NamesPort (name : List ℕ) (port : ℕ) : Type 0 where
-  pub digits : List ℕ
-  pub form : name ≡ codes "@" ++ digits
-  pub numeral : IsNumeral 10 (without_leading_plus digits)
-  pub value : port ≡ digits_value 10 (without_leading_plus digits)
-  pub least : 1 ≤ port
-  pub most : port ≤ 65535
+-- the name is `@`, and then a word that names the site's address
+pub record NamesSite (name : List ℕ) (address : Address) : Type 0 where
+  pub word : List ℕ
+  pub form : name ≡ codes "@" ++ word
+  pub named : NamesAddress word address
 
 -- ---- faults
 

@@ -5,13 +5,14 @@ use Rattle.gate_rules.specs.Fault as gate
 use Rattle.refusal_line.specs.Line.{line_of}
 use Rattle.refusal_line.specs.declared.part.Part.{Part}
 use Rattle.refusal_line.specs.declared.part.Part.TheVariants as part
+use Rattle.site_address.specs.Address.{address_text}
 use Rattle.snapshot_text.specs.Fault as snapshot
 use Rattle.script_text.specs.Fault as script
 use Rattle.console.specs.Console.{is_input}
 use Rattle.console.specs.Pulls as pull
 use Rattle.console.specs.declared.refusals.Refusal.{Refusal}
 use Rattle.console.specs.declared.refusals.Refusal.TheVariants.{Script, Snapshot, Gate, File, NotText, NoItem, Output}
-use Rattle.console.specs.declared.refusals.Refusal.TheVariants.{Memory, NoPort, Peer, Waits, Warnings}
+use Rattle.console.specs.declared.refusals.Refusal.TheVariants.{Memory, NoAddress, Peer, Waits, Warnings}
 
 abbrev pub part_of : Refusal → Part
 part_of (Script fault) = part.Script
@@ -19,8 +20,8 @@ part_of (Snapshot fault) = part.Snapshot
 part_of (Gate fault) = part.Gate
 part_of (File name fault) = part.File
 part_of (NotText name) = part.File
-part_of (Peer fault port) = part.Peer
-part_of (NoPort name) = part.Peer
+part_of (Peer fault address) = part.Peer
+part_of (NoAddress name) = part.Peer
 part_of (NoItem change set) = part.Item
 part_of Waits = part.Item
 part_of (Warnings count) = part.Check
@@ -33,8 +34,8 @@ number_of (Snapshot fault) = snapshot.number_of fault
 number_of (Gate fault) = gate.number_of fault
 number_of (File name fault) = bytes.number_of fault
 number_of (NotText name) = 9
-number_of (Peer fault port) = pull.number_of fault
-number_of (NoPort name) = 9
+number_of (Peer fault address) = pull.number_of fault
+number_of (NoAddress name) = 9
 number_of (NoItem change set) = 1
 number_of Waits = 2
 number_of (Warnings count) = 1
@@ -56,8 +57,8 @@ words_of (Snapshot fault) = snapshot.words_of fault
 words_of (Gate fault) = gate.words_of fault
 words_of (File name fault) = file_words (bytes.name_of fault) name.now
 words_of (NotText name) = file_words (codes "NotText") name.now
-words_of (Peer fault port) = pull.name_of fault ++ codes " " ++ decimal port
-words_of (NoPort name) = codes "NoPort " ++ name.now
+words_of (Peer fault address) = pull.name_of fault ++ codes " " ++ address_text address
+words_of (NoAddress name) = codes "NoAddress " ++ name.now
 words_of (NoItem change set) = item_words change set
 words_of Waits = codes "Waits"
 words_of (Warnings count) = codes "Warnings " ++ decimal count

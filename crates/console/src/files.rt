@@ -10,9 +10,10 @@ ghost use Rattle.console.specs.Pulls.{BringsRecord, IsPullFault};
 use super::pulls::PullFault;
 use byte_ends::BytesFault;
 use replica_core::Replica;
+use site_address::Address;
 use snapshot_text::SnapFault;
 
-/// Files by their names, and running sites by their ports.
+/// Files by their names, and running sites by their addresses.
 pub trait Named {
     /// The files whose contents are known. No reading changes them.
     ghost files: { Self → Contents };
@@ -48,11 +49,11 @@ pub trait Named {
             (λ _. failed self.new ≡ failed self.old)
             (CountsSnapFault (failed self.old) (failed self.new)) };
 
-    /// The replica to which the operations of the record of the running site at a port of this machine came, after
+    /// The replica to which the operations of the record of the running site at an address of this machine came, after
     /// those that it has. Refusals: those of a pull, but for `Closed`; 8 `Unreachable`; 10 `NoEnd`, the site says again
     /// and again that more is left. It is no call of a file.
-    fn pull(&mut self, replica: Replica, port: u16) -> Result<Replica, PullFault>
-        ensures ok { IfOk result (λ both. BringsRecord (record_at (sites self.old) port) replica both) }
+    fn pull(&mut self, replica: Replica, address: Address<'_>) -> Result<Replica, PullFault>
+        ensures ok { IfOk result (λ both. BringsRecord (record_at (sites self.old) address.entry) replica both) }
         ensures err { IfErr result IsPullFault }
         ensures kept { files self.new ≡ files self.old }
         ensures sites { sites self.new ≡ sites self.old }

@@ -11,7 +11,7 @@ ghost use Rattle.console.specs.Console.{IsRead, IsUnread};
 ghost use Rattle.console.specs.Inputs.{IsGateHad, IsHad, IsRefused, IsUnreadAs, gate_file, input, message_file};
 ghost use Rattle.console.specs.Inputs.{pulled, record_input, script_file, snapshot_file};
 
-use super::ports::{is_site_name, port_of};
+use super::addresses::{is_site_name, site_of};
 use super::refusals::Refusal;
 use super::streams::Console;
 use gate_rules::Gate;
@@ -142,9 +142,9 @@ pub fn read_snapshot<'n, C: Console>(
     }
 }
 
-/// The replica to which the operations of the record of a name came, after those that it has: for `@PORT` the record of
-/// the running site at that port of this machine, for any other name that of a snapshot. Refusals: those of
-/// `read_snapshot`; `NoPort`, there is no port behind the `@`; `Peer`, the record isn't pulled.
+/// The replica to which the operations of the record of a name came, after those that it has: for `@ADDRESS` the record
+/// of the running site at that address of this machine, for any other name that of a snapshot. Refusals: those of
+/// `read_snapshot`; `NoAddress`, there is no address behind the `@`; `Peer`, the record isn't pulled.
 pub fn read_record<'n, C: Console>(
     replica: Replica,
     name: &'n str,
@@ -175,11 +175,11 @@ fn pull_record<'n, C: Console>(
     ensures refused { IfErr result
         (IsRefused (input pulled name.now) (C.state console.old) (C.state console.new)) }
 {
-    let Some(port) = port_of(name) else {
-        return Err(Refusal::NoPort(name));
+    let Some(address) = site_of(name) else {
+        return Err(Refusal::NoAddress(name));
     };
-    match console.pull(replica, port) {
+    match console.pull(replica, address) {
         Ok(both) => Ok(both),
-        Err(fault) => Err(Refusal::Peer(fault, port)),
+        Err(fault) => Err(Refusal::Peer(fault, address)),
     }
 }

@@ -10,14 +10,14 @@ use gossip_line::LineFault;
 pub enum PullFault {
     /// 1 to 7: the session failed, as a pull does.
     Failed(LineFault),
-    /// 8: nothing that answers was reached at the port.
+    /// 8: nothing that answers was reached at the address.
     Unreachable,
     /// 10: the site said after the last answer that may come that more is left.
     NoEnd,
 }
 
 impl PullFault {
-    /// The fault's number. 9 is that of a name without a port.
+    /// The fault's number. 9 is that of a name without an address.
     pub fn number(&self) -> u8
         ensures { result ≡ number_of self.now }
     {

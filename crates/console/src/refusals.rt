@@ -1,7 +1,8 @@
 //! Why a command ended with status 1.
 
-ghost use Rattle.std.specs.Prelude.{◌≡◌, ◌++◌, IfOk, OnOk, codes, decimal, string_bytes};
+ghost use Rattle.std.specs.Prelude.{◌≡◌, ◌++◌, IfOk, OnOk, codes, string_bytes};
 ghost use Rattle.console.specs.declared.refusals.Refusal.TheVariants.{Script as BadScript, Gate as BadGate};
+ghost use Rattle.site_address.specs.Address.{address_text};
 ghost use Rattle.console.specs.Refusals.{file_words, item_words, number_of, part_of, refusal_line, words_of};
 
 use super::pulls::PullFault;
@@ -10,6 +11,7 @@ use byte_ends::BytesFault;
 use gate_rules::GateFault;
 use refusal_line::{Part, refusal_line};
 use script_text::ScriptFault;
+use site_address::Address;
 use snapshot_text::SnapFault;
 use std::alloc::{AllocError, Global};
 
@@ -23,10 +25,10 @@ pub enum Refusal<'n> {
     File(&'n str, BytesFault),
     /// The message of this name isn't UTF-8.
     NotText(&'n str),
-    /// The record of the site at this port isn't pulled.
-    Peer(PullFault, u16),
-    /// This name begins as that of a running site, but has no port.
-    NoPort(&'n str),
+    /// The record of the site at this address isn't pulled.
+    Peer(PullFault, Address<'n>),
+    /// This name begins as that of a running site, but has no address.
+    NoAddress(&'n str),
     /// What is asked for isn't known: this patch set of the change, or, where none is named, the change's items.
     NoItem(u32, Option<u32>),
     /// The item that is asked for waits; its line was printed, which says why.
@@ -58,7 +60,7 @@ impl<'n> Refusal<'n> {
             Refusal::Snapshot(_) => Part::Snapshot,
             Refusal::Gate(_) => Part::Gate,
             Refusal::File(_, _) | Refusal::NotText(_) => Part::File,
-            Refusal::Peer(_, _) | Refusal::NoPort(_) => Part::Peer,
+            Refusal::Peer(_, _) | Refusal::NoAddress(_) => Part::Peer,
             Refusal::NoItem(_, _) | Refusal::Waits => Part::Item,
             Refusal::Warnings(_) => Part::Check,
             Refusal::Output => Part::Output,
@@ -75,7 +77,7 @@ impl<'n> Refusal<'n> {
             Refusal::Snapshot(fault) => fault.number(),
             Refusal::Gate(fault) => fault.number(),
             Refusal::File(_, fault) => fault.number(),
-            Refusal::NotText(_) | Refusal::NoPort(_) => 9,
+            Refusal::NotText(_) | Refusal::NoAddress(_) => 9,
             Refusal::Peer(fault, _) => fault.number(),
             Refusal::Waits => 2,
             Refusal::NoItem(_, _) | Refusal::Warnings(_) | Refusal::Output | Refusal::Memory => 1,
@@ -92,8 +94,8 @@ impl<'n> Refusal<'n> {
             Refusal::Gate(fault) => fault.write_words(words),
             Refusal::File(name, fault) => write_file(words, fault.name(), name),
             Refusal::NotText(name) => write_file(words, "NotText", name),
-            Refusal::Peer(fault, port) => write_peer(words, fault.name(), *port),
-            Refusal::NoPort(name) => write!(words, "NoPort {name}"),
+            Refusal::Peer(fault, address) => write_peer(words, fault.name(), *address),
+            Refusal::NoAddress(name) => write!(words, "NoAddress {name}"),
             Refusal::NoItem(change, set) => write_item(words, *change, *set),
             Refusal::Waits => words.push_str("Waits"),
             Refusal::Warnings(count) => write!(words, "Warnings {count}"),
@@ -115,12 +117,13 @@ fn write_file(words: &mut String, fault: &str, name: &str) -> Result<(), AllocEr
     words.push_str(name)
 }
 
-/// Writes the words of a pull's fault, and the port.
-fn write_peer(words: &mut String, fault: &str, port: u16) -> Result<(), AllocError>
+/// Writes the words of a pull's fault, and the address.
+fn write_peer(words: &mut String, fault: &str, address: Address<'_>) -> Result<(), AllocError>
     ensures { OnOk result
-        (string_bytes words.new ≡ string_bytes words.old ++ fault.now ++ codes " " ++ decimal port) }
+        (string_bytes words.new ≡ string_bytes words.old ++ fault.now ++ codes " " ++ address_text address.entry) }
 {
-    write!(words, "{fault} {port}")
+    write!(words, "{fault} ")?;
+    address.write(words)
 }
 
 /// Writes the words of an item that isn't known.

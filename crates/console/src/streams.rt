@@ -20,6 +20,7 @@ use byte_ends::{BytesFault, Drain, Source, read_all, write_all};
 use ready_core::Verdicts;
 use replica_core::Replica;
 use report_text::{WriteReportFault, write_report};
+use site_address::Address;
 use snapshot_text::{SnapFault, WriteSnapFault, read_onto, write_snapshot};
 use std::alloc::Global;
 
@@ -46,10 +47,10 @@ pub trait Console {
         ensures refused { IfErr result (λ fault. IsRefused (input snapshot_file name.now)
             (state self.old) (state self.new) (Refusal.Snapshot fault)) };
 
-    /// The replica to which the operations of the record of the running site at a port of this machine came, after
+    /// The replica to which the operations of the record of the running site at an address of this machine came, after
     /// those that it has. Refusals: those of `Named::pull`.
-    fn pull(&mut self, replica: Replica, port: u16) -> Result<Replica, PullFault>
-        ensures pulled { IfOk result (λ both. BringsRecord (record_at (state self.old).sites port) replica both) }
+    fn pull(&mut self, replica: Replica, address: Address<'_>) -> Result<Replica, PullFault>
+        ensures pulled { IfOk result (λ both. BringsRecord (record_at (state self.old).sites address.entry) replica both) }
         ensures unpulled { IfErr result IsPullFault }
         ensures kept { state self.new ≡ state self.old };
 
@@ -117,8 +118,8 @@ impl<'i, 'o, 'f, I: Source, O: Drain, N: Named> Console for Streams<'i, 'o, 'f, 
         read_onto(replica, self.input)
     }
 
-    fn pull(&mut self, replica: Replica, port: u16) -> Result<Replica, PullFault> {
-        self.files.pull(replica, port)
+    fn pull(&mut self, replica: Replica, address: Address<'_>) -> Result<Replica, PullFault> {
+        self.files.pull(replica, address)
     }
 
     fn print(&mut self, text: &[u8]) -> Result<(), Refusal<'static>> {

@@ -12,6 +12,7 @@ use byte_ends::{Drain, Ends, Source};
 use event_feed::{FeedFault, Input, send};
 use footer_text::Bases;
 use gerrit_events::Projects;
+use site_address::Address;
 use site_net::{Stop, connected};
 use state_core::State;
 use std::alloc::Global;
@@ -33,9 +34,9 @@ pub enum Feeds {
 
 /// Which site is fed, and how.
 #[derive(Drop)]
-pub struct FeedOrder {
-    /// The port of this machine at which the site answers.
-    pub port: u16,
+pub struct FeedOrder<'a> {
+    /// The address of this machine at which the site answers.
+    pub address: Address<'a>,
     pub feeds: Feeds,
     /// Whose changes are fed.
     pub projects: Projects,
@@ -43,16 +44,16 @@ pub struct FeedOrder {
     pub bases: Option<Bases>,
 }
 
-/// Feeds the lines of an input to the site that answers at a port of this machine, as `feed_site` and `complete_site`
+/// Feeds the lines of an input to the site that answers at an address of this machine, as `feed_site` and `complete_site`
 /// do. Its record is pulled first, of which the state is kept, and then `pulled N` is written to the output: the record
 /// has N operations. Only then the input is read, by a thread of its own. One session is held as long as the feed lasts,
 /// which ends with `quit` and `bye`. A feed of a stream pulls again over it, from its front, whenever its input was
 /// silent for a second. Where the session ends the feed does within a tenth of a second, also while the input is silent.
-/// Refusals, beside those of `feed_site` and `complete_site`: 7 `NoSite`, no site answers at the port.
+/// Refusals, beside those of `feed_site` and `complete_site`: 7 `NoSite`, no site answers at the address.
 pub fn feed_to<R, I, O, E>(
     rt: R,
     alloc: Global,
-    order: FeedOrder,
+    order: FeedOrder<'_>,
     input: I,
     output: &mut O,
     errors: &mut E,
@@ -64,7 +65,7 @@ where
     E: Drain,
 {
     let stop = Stop::new();
-    let Ok(stream) = connected(&rt, order.port, patience()) else {
+    let Ok(stream) = connected(&rt, order.address, patience()) else {
         return Err(FeedFault::NoSite);
     };
     let Ok(inlet) = Arc::new(alloc, Inlet::new()) else {

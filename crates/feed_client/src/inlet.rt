@@ -56,6 +56,12 @@ impl Inlet {
         slot.block.is_some()
     }
 
+    /// Whether some bytes can be taken.
+    pub fn has_bytes(&self, rt: &impl Wait) -> bool {
+        let slot = self.slot.lock(rt);
+        matches!(slot.block, Some(Block::Bytes(_)))
+    }
+
     /// The block that can be taken, if one can. The end and a failure stay.
     pub fn take(&self, rt: &impl Wait) -> Option<Block> {
         let mut slot = self.slot.lock(rt);

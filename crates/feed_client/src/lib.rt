@@ -1,4 +1,4 @@
-//! Feeds what Gerrit writes to the site that answers at a port of this machine: what `event_feed` reads of each line
+//! Feeds what Gerrit writes to the site that answers at an address of this machine: what `event_feed` reads of each line
 //! goes to a session of the site, but for what the site's record says already. The feed first pulls the record, and
 //! then keeps its state in step with what it sends and with what others bring to the site.
 //!

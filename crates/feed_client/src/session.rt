@@ -17,7 +17,7 @@ use std::alloc::Global;
 use std::io;
 use std::net::TcpStream;
 use std::sync::Wait;
-use std::time::{Clock, Duration};
+use std::time::{Clock, Duration, Instant};
 
 /// How many milliseconds a site has for an answer.
 const PATIENCE_MS: u64 = 60_000;
@@ -27,6 +27,9 @@ const TICK_MS: u64 = 100;
 
 /// How many such waits make the input silent: a second.
 const SILENT_TICKS: u32 = 10;
+
+/// How many seconds pass at least before the site is told again that Gerrit was heard.
+const HEARD_S: u64 = 10;
 
 /// A session that is open, with what it was asked for so far.
 #[derive(Drop)]
@@ -44,6 +47,9 @@ pub struct Session<'a, R: Wait + Clock> {
     is_pulled: bool,
     /// Whether a pull is under way.
     is_behind: bool,
+    /// Whether the site notes that Gerrit was heard, as far as is known, and when it did last.
+    notes_heard: bool,
+    heard: Option<Instant>,
 }
 
 /// How long a site has for an answer.
@@ -78,6 +84,8 @@ impl<'a, R: Wait + Clock> Session<'a, R> {
             pulls_again,
             is_pulled: false,
             is_behind: false,
+            notes_heard: true,
+            heard: None,
         };
         session.begin()?;
         Ok(session)
@@ -159,6 +167,35 @@ impl<'a, R: Wait + Clock> Session<'a, R> {
         }
     }
 
+    /// Has the site note that Gerrit was heard, unless that was less than ten seconds ago. A site of an older version
+    /// knows no such line, and isn't asked again.
+    fn say_heard(&mut self) -> Result<(), IntakeFault> {
+        let Ok(now) = Instant::now(self.rt) else {
+            return Ok(());
+        };
+        if !self.notes_heard || !self.inlet.has_bytes(self.rt) || self.was_heard(now) {
+            return Ok(());
+        }
+        self.heard = Some(now);
+        self.ask("heard\n")?;
+        match self.reader.line() {
+            b"noted" => Ok(()),
+            b"no 6 BadCommand" => {
+                self.notes_heard = false;
+                Ok(())
+            }
+            _ => Err(IntakeFault::Ended),
+        }
+    }
+
+    /// Whether the site noted that Gerrit was heard less than ten seconds before.
+    fn was_heard(&self, now: Instant) -> bool {
+        match self.heard {
+            Some(heard) => now.duration_since(heard) < Duration::from_secs(HEARD_S),
+            None => false,
+        }
+    }
+
     /// Waits until more of the input may be read, or it was silent for a second. Whether it may be read.
     fn await_input(&self) -> Result<bool, IntakeFault> {
         for _ in 0..SILENT_TICKS {
@@ -215,6 +252,7 @@ impl<'a, R: Wait + Clock> Intake for Session<'a, R> {
             return Ok(Missing { ops, more: true });
         }
         let is_ready = self.await_input()?;
+        self.say_heard()?;
         self.is_behind = self.pulls_again && !is_ready;
         Ok(Missing {
             ops: Vec::new(self.alloc),

@@ -2,6 +2,8 @@
 use Rattle.std.specs.Prelude.{ℕ, List, ◌++◌, Option, codes, decimal, flat_map, length, option_map}
 use Rattle.byte_ends.specs.Lines.{as_line}
 use Rattle.gate_rules.specs.Rules.{GateRules}
+use Rattle.json.specs.Token.{Token}
+use Rattle.json_line.specs.Tokens.{object_of, texts_listed}
 use Rattle.state_core.specs.State.{State}
 use Rattle.gate_check.specs.Asking.{condition_lines}
 use Rattle.gate_check.specs.Names.{names_in}
@@ -13,6 +15,13 @@ warnings_of gate state = warning_lines gate (option_map names_in state)
 
 abbrev pub count_line : ℕ → ℕ → List ℕ
 count_line conditions warnings = codes "end " ++ decimal conditions ++ codes " " ++ decimal warnings
+
+-- the same as JSON: {"conditions":["require /require/gerrit/open open"],"warnings":[]}
+abbrev pub check_tokens : GateRules → Option State → List Token
+check_tokens gate state =
+    object_of
+    (texts_listed (codes "conditions") (condition_lines gate)
+    ++ texts_listed (codes "warnings") (warnings_of gate state))
 
 abbrev pub check_text : GateRules → Option State → List ℕ
 check_text gate state =

@@ -48,7 +48,11 @@ pub fn check_gate(alloc: Global, gate: &Gate, state: Option<&State>) -> Result<C
 }
 
 /// The lines of the warnings, with the record of a state or without one.
-fn warnings_of(alloc: Global, gate: &Gate, state: Option<&State>) -> Result<Vec<String>, NoMemory>
+pub(super) fn warnings_of(
+    alloc: Global,
+    gate: &Gate,
+    state: Option<&State>,
+) -> Result<Vec<String>, NoMemory>
     ensures { IfOk result (λ lines. map string_bytes lines.items
         ≡ warnings_of gate.now (option_map (λ known. known.now) state.entry)) }
 {

@@ -20,10 +20,12 @@ mod finding;
 mod laws;
 mod meeting;
 mod names;
+mod object;
 mod place;
 mod warning;
 mod words;
 
 pub use checking::{Checked, check_gate};
 pub use laws::what_is_never_met_lets_nothing_in;
+pub use object::{CheckedLine, check_line};
 pub use warning::Warning;

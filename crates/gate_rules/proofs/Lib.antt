@@ -4,3 +4,4 @@ pub mod Lists
 pub mod Spelled
 pub mod Votes
 pub mod Trials
+pub mod Places

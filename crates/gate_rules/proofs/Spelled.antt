@@ -14,7 +14,7 @@ use Rattle.gate_rules.specs.Spelling.{IsObject, SpellsGate, IsFirstFault, IsRefu
 
 pub refused_by : (text : List ℕ) (fault : GateFault) (found : Fault) → NamesFault fault found → IsFirstFault text found
     → IsRefusalOf text fault
-refused_by text NotJson found names first = absurd names
+refused_by text (NotJson place) found names first = absurd names
 refused_by text (UnknownKey key) found names first = subst (IsFirstFault text) (sym names) first
 refused_by text (BadValue key) found names first = subst (IsFirstFault text) (sym names) first
 refused_by text (Unsupported key) found names first = subst (IsFirstFault text) (sym names) first
@@ -53,7 +53,7 @@ no_fault text gate found p h =
 
 only_memory : (text : List ℕ) (gate : GateRules) (fault : GateFault) → SpellsGate text gate → IsRefusalOf text fault
     → fault ≡ NoMemory
-only_memory text gate NotJson p h = absurd (h p.members p.is_object)
+only_memory text gate (NotJson place) p h = absurd (h.none p.members p.is_object)
 only_memory text gate (UnknownKey key) p h = absurd (no_fault text gate _ p h)
 only_memory text gate (BadValue key) p h = absurd (no_fault text gate _ p h)
 only_memory text gate (Unsupported key) p h = absurd (no_fault text gate _ p h)

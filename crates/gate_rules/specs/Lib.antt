@@ -1,4 +1,5 @@
 pub mod Fault
+pub mod Place
 pub mod Rules
 pub mod Reading
 pub mod Walk

@@ -1,10 +1,13 @@
 -- What the text of a gate file spells, and what each refusal of it says.
-use Rattle.std.specs.Prelude.{◌≡◌, ◌↔◌, ℕ, List, Bool, true, None, Some, IsTrue, IsUtf8, string_bytes}
-use Rattle.serde_json.specs.Data.{Members, object}
+use Rattle.std.specs.Prelude.{◌≡◌, ◌≤◌, ◌↔◌, ℕ, List, Bool, true, None, Some, IsTrue, IsUtf8, length, string_bytes}
+use Rattle.std.specs.Str.{IsValidUpTo}
+use Rattle.serde_json.specs.Data.{Data, Members, object}
 use Rattle.serde_json.specs.Read.{read}
 use Rattle.gate_rules.specs.declared.fault.GateFault.{GateFault}
 use Rattle.gate_rules.specs.declared.fault.GateFault.TheVariants as fault
 use Rattle.gate_rules.specs.declared.walk.Flaw.TheVariants as flaw
+use Rattle.gate_rules.specs.declared.place.Place.{Place}
+use Rattle.gate_rules.specs.Place.{blanks, place_at}
 use Rattle.gate_rules.specs.Rules.{GateRules}
 use Rattle.gate_rules.specs.Reading.{HasBases, gate_of}
 use Rattle.gate_rules.specs.Walk.{Fault, gate_fault}
@@ -30,9 +33,23 @@ pub record IsFirstFault (text : List ℕ) (found : Fault) : Type 0 where
   pub bases : IsTrue has_bases ↔ ((bases : List (List ℕ)) × HasBases members bases)
   pub first : gate_fault has_bases members ≡ Some found
 
+-- where it shows that a text is no object: at its first byte that belongs to no UTF-8; where it is other JSON, at the
+-- first byte of that; and else at a byte of it, or at its end
+pub record IsStop (text : List ℕ) (place : Place) : Type 0 where
+  pub offset : ℕ
+  pub within : offset ≤ length text
+  pub is_at : place ≡ place_at text offset
+  pub no_text : ¬ IsUtf8 text → IsValidUpTo text offset
+  pub other : (value : Data) → IsUtf8 text → read text ≡ Some value → offset ≡ blanks text
+
+-- no members are those of the text as an object, and so it shows at this place
+pub record IsNoObject (text : List ℕ) (place : Place) : Type 0 where
+  pub none : (members : Members) → ¬ IsObject text members
+  pub stop : IsStop text place
+
 -- Want of memory says nothing of the text.
 abbrev pub IsRefusalOf : List ℕ → GateFault → Type 0
-IsRefusalOf text fault.NotJson = (members : Members) → ¬ IsObject text members
+IsRefusalOf text (fault.NotJson place) = IsNoObject text place
 IsRefusalOf text (fault.UnknownKey key) = IsFirstFault text (flaw.Unknown, string_bytes key)
 IsRefusalOf text (fault.BadValue key) = IsFirstFault text (flaw.Bad, string_bytes key)
 IsRefusalOf text (fault.Unsupported key) = IsFirstFault text (flaw.Unsupported, string_bytes key)
@@ -40,7 +57,7 @@ IsRefusalOf text fault.NoMemory = Unit {0}
 
 -- the refusal names the fault, unless memory was refused
 abbrev pub NamesFault : GateFault → Fault → Type 0
-NamesFault fault.NotJson found = ⊥
+NamesFault (fault.NotJson place) found = ⊥
 NamesFault (fault.UnknownKey key) found = (flaw.Unknown, string_bytes key) ≡ found
 NamesFault (fault.BadValue key) found = (flaw.Bad, string_bytes key) ≡ found
 NamesFault (fault.Unsupported key) found = (flaw.Unsupported, string_bytes key) ≡ found

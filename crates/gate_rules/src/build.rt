@@ -1,11 +1,12 @@
 //! Makes a gate of the text of a gate file.
 
-ghost use Rattle.std.specs.Prelude.{◌≡◌, ◌↔◌, ◌⊎◌, ℕ, List, Some, IfOk, IfErr, IsSome, IsNone, MatchOption, map};
-ghost use Rattle.std.specs.Prelude.{option_map, string_bytes};
+ghost use Rattle.std.specs.Prelude.{◌≡◌, ◌↔◌, ◌⊎◌, ℕ, List, Some, IfOk, IfErr, IsSome, IsNone, IsUtf8, MatchOption, map};
+ghost use Rattle.std.specs.Prelude.{None, option_map, string_bytes};
 ghost use Rattle.std.specs.Char.{to_ascii_lowercase};
 ghost use Rattle.serde_json.specs.Data.{Members, no_members};
 ghost use Rattle.serde_json.specs.Errors.{IsMemory};
 ghost use Rattle.serde_json.specs.Find.{get_member};
+ghost use Rattle.serde_json.specs.Read.{read};
 ghost use Rattle.serde_json.specs.View.{view, members_view};
 ghost use Rattle.gate_rules.specs.Reading.{HasBases, listed, texts_of, votes_of, labels_of, pattern_of, patterns_of};
 ghost use Rattle.gate_rules.specs.Reading.{conditions_of, listed_or_none, side_of, gate_of};
@@ -13,12 +14,14 @@ ghost use Rattle.gate_rules.specs.Spelling.{IsObject, SpellsGate, IsRefusalOf, N
 
 use super::fault::GateFault;
 use super::gate::{Clauses, Gate, LabelValues, Pattern};
+use super::place::{blanks, offset_of, place_at};
 use super::value::{are_texts, flag_at, found, listed, object_at, text_at, vote_in};
 use super::walk::{Flaw, connection_of, gate_fault};
 use footer_text::{Bases, BasesFault};
 use lattice_core::NoMemory;
-use serde_json::{Map, Value};
+use serde_json::{Error, Map, Value};
 use std::alloc::Global;
+use std::str;
 
 /// The gate that a text spells, or its first fault.
 pub fn read_gate(alloc: Global, bytes: &[u8]) -> Result<Gate, GateFault>
@@ -41,19 +44,47 @@ fn object_of(alloc: Global, bytes: &[u8]) -> Result<Map<String, Value>, GateFaul
     ensures ok { IfOk result (λ members. IsObject bytes.now (members_view members.entries)) }
     ensures err { IfErr result (IsRefusalOf bytes.now) }
 {
-    let value = match Value::from_slice(alloc, bytes) {
-        Ok(value) => value,
-        Err(error) => {
-            if error.is_memory() {
-                return Err(GateFault::NoMemory);
-            }
-            return Err(GateFault::NotJson);
-        }
-    };
+    let value = value_of(alloc, bytes)?;
     match value {
         Value::Object(members) => Ok(members),
-        _other => Err(GateFault::NotJson),
+        _other => Err(no_object(bytes)),
     }
+}
+
+/// The refusal of JSON that is no object.
+fn no_object(bytes: &[u8]) -> GateFault
+    requires utf8 { IsUtf8 bytes.now }
+    requires none { (members : Members) → ¬ IsObject bytes.now members }
+    ensures { IsRefusalOf bytes.now result }
+{
+    GateFault::NotJson(place_at(bytes, blanks(bytes)))
+}
+
+/// The JSON value that the bytes are.
+fn value_of(alloc: Global, bytes: &[u8]) -> Result<Value, GateFault>
+    ensures ok { IfOk result (λ value. IsUtf8 bytes.now × (read bytes.now ≡ Some (view value))) }
+    ensures err { IfErr result (IsRefusalOf bytes.now) }
+{
+    let text = match str::from_utf8(bytes) {
+        Ok(text) => text,
+        Err(error) => return Err(GateFault::NotJson(place_at(bytes, error.valid_up_to()))),
+    };
+    match Value::from_str(alloc, text) {
+        Ok(value) => Ok(value),
+        Err(error) => Err(not_json(bytes, &error)),
+    }
+}
+
+/// The refusal of a text that is no JSON, or at which memory was refused.
+fn not_json(bytes: &[u8], error: &Error) -> GateFault
+    requires utf8 { IsUtf8 bytes.now }
+    requires none { ¬ IsMemory error.now → read bytes.now ≡ None }
+    ensures { IsRefusalOf bytes.now result }
+{
+    if error.is_memory() {
+        return GateFault::NoMemory;
+    }
+    GateFault::NotJson(place_at(bytes, offset_of(bytes, error)))
 }
 
 /// The refusal that names a key.

@@ -1,9 +1,10 @@
 //! Why a gate file isn't read.
 
 ghost use Rattle.std.specs.Prelude.{◌≡◌, ◌++◌, OnOk, string_bytes};
-ghost use Rattle.gate_rules.specs.Fault.{number_of, name_of, words_of};
+ghost use Rattle.gate_rules.specs.Fault.{number_of, name_of, not_json_words, words_of};
 ghost use Rattle.gate_rules.specs.declared.fault.GateFault.TheVariants.{NoMemory as OutOfMemory};
 
+use super::place::Place;
 use lattice_core::NoMemory;
 use std::alloc::AllocError;
 use thiserror::Error;
@@ -11,9 +12,9 @@ use thiserror::Error;
 /// Why a gate file isn't read.
 #[derive(Debug, Drop, Error)]
 pub enum GateFault {
-    /// 1: the bytes aren't UTF-8, or aren't the text of one JSON object.
+    /// 1: the bytes aren't UTF-8, or aren't the text of one JSON object; and the place where that shows.
     #[error("no JSON object")]
-    NotJson,
+    NotJson(Place),
     /// 2: the key has no meaning in its place.
     #[error("unknown key {0:?}")]
     UnknownKey(String),
@@ -34,7 +35,7 @@ impl GateFault {
         ensures { result ≡ number_of self.now }
     {
         match self {
-            GateFault::NotJson => 1,
+            GateFault::NotJson(_) => 1,
             GateFault::UnknownKey(_) => 2,
             GateFault::BadValue(_) => 3,
             GateFault::Unsupported(_) => 4,
@@ -47,7 +48,7 @@ impl GateFault {
         ensures { result.now ≡ name_of self.now }
     {
         match self {
-            GateFault::NotJson => "NotJson",
+            GateFault::NotJson(_) => "NotJson",
             GateFault::UnknownKey(_) => "UnknownKey",
             GateFault::BadValue(_) => "BadValue",
             GateFault::Unsupported(_) => "Unsupported",
@@ -55,17 +56,27 @@ impl GateFault {
         }
     }
 
-    /// Writes the fault's words in reports: its name, and the key where there is one. In O(n) for their length.
+    /// Writes the fault's words in reports: its name, and the line and the column, or the key, where there is one. In
+    /// O(n) for their length.
     pub fn write_words(&self, text: &mut String) -> Result<(), AllocError>
         ensures { OnOk result (string_bytes text.new ≡ string_bytes text.old ++ words_of self.now) }
     {
         match self {
+            GateFault::NotJson(place) => write_place(text, *place),
             GateFault::UnknownKey(key) => write!(text, "UnknownKey {key}"),
             GateFault::BadValue(key) => write!(text, "BadValue {key}"),
             GateFault::Unsupported(key) => write!(text, "Unsupported {key}"),
-            GateFault::NotJson | GateFault::NoMemory => text.push_str(self.name()),
+            GateFault::NoMemory => text.push_str("NoMemory"),
         }
     }
+}
+
+/// Writes that a text is no JSON, with the place where that shows.
+fn write_place(text: &mut String, place: Place) -> Result<(), AllocError>
+    ensures { OnOk result (string_bytes text.new ≡ string_bytes text.old ++ not_json_words place) }
+{
+    let Place { line, column } = place;
+    write!(text, "NotJson {line} {column}")
 }
 
 impl From<NoMemory> for GateFault {

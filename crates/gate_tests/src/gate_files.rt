@@ -8,16 +8,16 @@ use std::alloc::{AllocError, Global};
 use std::process::Abort;
 use std::test::Fail;
 
-/// A fault as reports print it.
+/// A fault as reports print it: its number, and its words, which begin with its name.
 fn said(alloc: Global, fault: &GateFault) -> Result<String, AllocError> {
     let number = fault.number();
     let name = fault.name();
-    match fault {
-        GateFault::UnknownKey(key) | GateFault::BadValue(key) | GateFault::Unsupported(key) => {
-            format!(in alloc; "{number} {name} {key}")
-        }
-        _ => format!(in alloc; "{number} {name}"),
+    let mut words = String::new(alloc);
+    fault.write_words(&mut words)?;
+    if !words.as_str().starts_with(name) {
+        return format!(in alloc; "{number} {name} in place of {words}");
     }
+    format!(in alloc; "{number} {words}")
 }
 
 /// What reading a gate gives: `read`, or the fault.
@@ -82,11 +82,11 @@ fn good_gates(rt: HostRuntime) -> Result<(), Fail> {
 /// Texts that are no gate, and worked examples with a fault.
 const FAULTY_TEXTS: &[(&str, &str)] = &[
     (r#"{}"#, "3 BadValue bases"),
-    (r#"["#, "1 NotJson"),
-    (r#""#, "1 NotJson"),
-    (r#"[]"#, "1 NotJson"),
-    (r#""a""#, "1 NotJson"),
-    (r#"{"bases":["https://r/"]} x"#, "1 NotJson"),
+    (r#"["#, "1 NotJson 1 2"),
+    (r#""#, "1 NotJson 1 1"),
+    (r#"[]"#, "1 NotJson 1 1"),
+    (r#""a""#, "1 NotJson 1 1"),
+    (r#"{"bases":["https://r/"]} x"#, "1 NotJson 1 26"),
     (
         r#"{"bases":["https://review.example.org"]}"#,
         "3 BadValue bases",
@@ -358,7 +358,35 @@ fn faults_have_a_law(rt: HostRuntime) {
 // Bytes that are no text.
 #[test]
 fn a_gate_that_is_no_text(rt: HostRuntime) -> Result<(), Fail> {
-    assert_answer(&rt, rt.alloc(), &[123, 255, 125], "1 NotJson")
+    let alloc = rt.alloc();
+    assert_answer(&rt, alloc, &[123, 255, 125], "1 NotJson 1 2")?;
+    assert_answer(&rt, alloc, &[123, 10, 10, 195, 168, 195], "1 NotJson 3 3")
+}
+
+/// Texts that stop being JSON, or are no object, and the line and the column where that shows.
+const BROKEN_TEXTS: &[(&str, &str)] = &[
+    (" \n\n", "1 NotJson 3 1"),
+    ("\n [1]", "1 NotJson 2 2"),
+    ("\u{feff}{}", "1 NotJson 1 1"),
+    // A comma is missing, between two lines and in one.
+    (
+        "{\n  \"bases\": [\"https://r/\"],\n  \"connection\": \"g\"\n  \"reject\": {}\n}\n",
+        "1 NotJson 4 3",
+    ),
+    (
+        "{\n\"bases\":[\"https://r/\"],\n\"reject\":{} \"require\":{}}\n",
+        "1 NotJson 3 13",
+    ),
+    ("{\"bases\":[\"https://r/\"],}", "1 NotJson 1 25"),
+    // A control character in a string, and a string without an end.
+    ("{\"bases\":[\"a\tb\"]}", "1 NotJson 1 11"),
+    ("{\"bases\":[\"a", "1 NotJson 1 13"),
+    ("{\n\"bases\":tru}", "1 NotJson 2 9"),
+];
+
+#[test]
+fn a_gate_that_is_no_json_is_placed(rt: HostRuntime) -> Result<(), Fail> {
+    assert_answers(&rt, rt.alloc(), BROKEN_TEXTS)
 }
 
 // A copy has the settings of the gate.

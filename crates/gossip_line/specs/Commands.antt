@@ -2,7 +2,7 @@
 use Rattle.std.specs.Prelude.{◌≡◌, ◌≢◌, ◌++◌, ℕ, List, codes}
 use Rattle.gossip_line.specs.Texts.{hello}
 use Rattle.gossip_line.specs.declared.command.Command.{Command}
-use Rattle.gossip_line.specs.declared.command.Command.TheVariants.{Hello, OtherVersion, Take, Front, Ready, State, Quit}
+use Rattle.gossip_line.specs.declared.command.Command.TheVariants.{Hello, OtherVersion, Take, Front, Ready, State, Heard, Quit}
 use Rattle.gossip_line.specs.declared.command.Command.TheVariants.{Other}
 
 -- what follows a word in a line
@@ -28,6 +28,7 @@ pub record IsOther (line : List ℕ) : Type 0 where
   pub front : ¬ BeginsLine front_word line
   pub ready : line ≢ codes "ready"
   pub state : line ≢ codes "state"
+  pub heard : line ≢ codes "heard"
   pub quit : line ≢ codes "quit"
 
 -- the line is this command
@@ -38,5 +39,6 @@ Says line (Take text) = Follows take_word line text.now
 Says line (Front text) = Follows front_word line text.now
 Says line Ready = line ≡ codes "ready"
 Says line State = line ≡ codes "state"
+Says line Heard = line ≡ codes "heard"
 Says line Quit = line ≡ codes "quit"
 Says line Other = IsOther line

@@ -25,6 +25,8 @@ pub data SessionAnswer : Type 0 where
   bad_command : SessionAnswer
   -- what follows the command isn't a text of its kind
   bad_text : SessionAnswer
+  -- it is noted that what feeds the site heard from Gerrit
+  noted : SessionAnswer
   farewell : SessionAnswer
 
 -- ---- the texts
@@ -68,6 +70,7 @@ answer_text (replied reply) = reply_text reply
 answer_text no_memory = no_memory_line
 answer_text bad_command = codes "no 6 BadCommand\n"
 answer_text bad_text = codes "no 7 BadText\n"
+answer_text noted = codes "noted\n"
 answer_text farewell = codes "bye\n"
 
 -- what is answered to a line that is too long

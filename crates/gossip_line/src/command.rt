@@ -21,6 +21,8 @@ pub enum Command<'a> {
     Ready,
     /// To show the state.
     State,
+    /// To note that what feeds the site heard from Gerrit.
+    Heard,
     /// To end the session.
     Quit,
     /// Nothing that is known.
@@ -70,6 +72,9 @@ fn word_of<'a>(line: &'a [u8]) -> Command<'a>
     }
     if line == b"state".as_slice() {
         return Command::State;
+    }
+    if line == b"heard".as_slice() {
+        return Command::Heard;
     }
     if line == b"quit".as_slice() {
         return Command::Quit;

@@ -46,6 +46,8 @@ pub enum Saying {
     BadCommand,
     /// What follows the command isn't read.
     BadText,
+    /// It is noted that what feeds the site heard from Gerrit.
+    Noted,
     /// The session ends well.
     Farewell,
 }
@@ -75,6 +77,7 @@ pub fn step_of(alloc: Global, first: bool, line: &[u8]) -> Step
         Command::Front(text) => front_step(alloc, text),
         Command::Ready => Step::Looks(Look::Ready),
         Command::State => Step::Looks(Look::State),
+        Command::Heard => Step::Says(Saying::Noted),
         Command::Quit => Step::Says(Saying::Farewell),
         Command::Other => Step::Says(Saying::BadCommand),
     }
@@ -147,6 +150,7 @@ impl Saying {
             Saying::NoMemory => NO_MEMORY,
             Saying::BadCommand => "no 6 BadCommand\n",
             Saying::BadText => "no 7 BadText\n",
+            Saying::Noted => "noted\n",
             Saying::Farewell => "bye\n",
         }
     }

@@ -1,2 +1,3 @@
 mod OwnHosts
 mod Appended
+mod Named

@@ -1,19 +1,23 @@
 -- How a request is answered.
-use Rattle.std.specs.Prelude.{◌≡◌, ◌⊎◌, ℕ, Bool, List, [], ◌∷◌, ◌++◌, Option, codes, take}
+use Rattle.std.specs.Prelude.{◌≡◌, ◌⊎◌, ℕ, Bool, true, false, List, [], ◌∷◌, ◌++◌, Option, codes, take}
 use Rattle.std.specs.Str.{bytes_eq}
 use Rattle.http_header.specs.FieldValue.{FieldValue}
+use Rattle.http_header.specs.HeaderMap.{Entries}
 use Rattle.http_uri.specs.Uri.{uri_path}
 use Rattle.http.specs.declared.request.Parts.{Parts}
 use Rattle.http1.specs.Fields.{Header}
 use Rattle.http_server.specs.Response.{IsResponse}
 use Rattle.http_server.specs.declared.response.Response.{Response}
+use Rattle.page_routes.specs.declared.page.Kind.{Kind}
+use Rattle.page_routes.specs.declared.page.Kind.TheVariants.{Icon, Script, Style}
 use Rattle.page_routes.specs.declared.page.Page.{Page}
 use Rattle.page_routes.specs.declared.page.Status.{Status}
 use Rattle.page_routes.specs.declared.page.Status.TheVariants.{Found, NotFound, Unavailable}
 use Rattle.page_routes.specs.declared.route.Route.{Route}
 use Rattle.page_server.specs.Asked.{IsAsked}
-use Rattle.page_server.specs.Fields.{response_fields}
+use Rattle.page_server.specs.Fields.{fixed_fields, kept_fields, response_fields}
 use Rattle.page_server.specs.Refusals.{code_of, problem_kind, refusal_text}
+use Rattle.page_server.specs.Tags.{IsNamed, tag_text}
 use Rattle.page_server.specs.declared.asked.Asked.TheVariants as asked
 use Rattle.page_server.specs.declared.refusal.Refusal.{Refusal}
 use Rattle.page_server.specs.declared.refusal.Refusal.TheVariants.{NoHost, OtherHost, OtherMethod, NoPage, NoMemory}
@@ -23,9 +27,26 @@ status_of Found = 200
 status_of NotFound = 404
 status_of Unavailable = 503
 
--- the response is the page, at this date
-abbrev pub IsPage : Page → Option FieldValue → Response → Type 0
-IsPage page date = IsResponse (status_of page.status) (response_fields page.kind date) page.body.items
+-- texts of these kinds stay the same while the site runs
+abbrev pub is_same : Kind → Bool
+is_same Style = true
+is_same Script = true
+is_same Icon = true
+is_same other = false
+
+-- what a request with these fields is shown of a page, at this date. Of a text that stays the same only the tag is sent
+-- where the request names it: status 304 (RFC 9110, section 15.4.5).
+pub data IsPage (headers : Entries FieldValue) (page : Page) (date : Option FieldValue) (response : Response)
+    : Type 0 where
+  Made : is_same page.kind ≡ false
+      → IsResponse (status_of page.status) (response_fields page.kind date) page.body.items response
+      → IsPage headers page date response
+  Fixed : is_same page.kind ≡ true → ¬ IsNamed (tag_text page.body.items) headers
+      → IsResponse (status_of page.status) (fixed_fields page.kind page.body.items date) page.body.items response
+      → IsPage headers page date response
+  Kept : is_same page.kind ≡ true → IsNamed (tag_text page.body.items) headers
+      → IsResponse 304 (kept_fields page.body.items date) [] response
+      → IsPage headers page date response
 
 -- a refused method is told which methods there are
 abbrev pub allow_fields : Refusal → List Header
@@ -58,10 +79,10 @@ module _ {P : Type 0} (pages : P → Route → Page → P → Type 0) (moves : P
   Leaves NoMemory old new = new ≡ old
 
   -- a page that is there is sent, or what could be made of it wasn't to be sent, or it couldn't be made
-  abbrev pub Shows : Option FieldValue → P → Route → Bool → Response → P → Type 0
-  Shows date old route for_programs response new =
+  abbrev pub Shows : Entries FieldValue → Option FieldValue → P → Route → Bool → Response → P → Type 0
+  Shows headers date old route for_programs response new =
       ((page : Page) × pages old route page new
-      × (IsPage page date response ⊎ IsFailure for_programs date response))
+      × (IsPage headers page date response ⊎ IsFailure for_programs date response))
       ⊎ (moves old new × IsFailure for_programs date response)
 
   -- the request asks for no page, and is answered why
@@ -74,7 +95,7 @@ module _ {P : Type 0} (pages : P → Route → Page → P → Type 0) (moves : P
   abbrev pub Answers : List (List ℕ) → Option FieldValue → P → Parts → Response → P → Type 0
   Answers hosts date old head response new =
       (route : Route) × IsAsked hosts head (asked.Page route)
-      × Shows date old route (is_for_programs head) response new
+      × Shows head.headers date old route (is_for_programs head) response new
 
   abbrev pub IsAnswered : List (List ℕ) → Option FieldValue → P → Parts → Response → P → Type 0
   IsAnswered hosts date old head response new =

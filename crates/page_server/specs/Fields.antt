@@ -1,11 +1,12 @@
--- The fields of a response: RFC 9110, sections 8.3 (Content-Type) and 6.6.1 (Date), RFC 9111, section 5.2.2.5
--- (no-store); the Fetch Standard (X-Content-Type-Options, Cross-Origin-Resource-Policy), Referrer Policy, and Content
+-- The fields of a response: RFC 9110, sections 8.3 (Content-Type), 6.6.1 (Date) and 8.8.3 (ETag), RFC 9111, sections
+-- 5.2.2.4 (no-cache) and 5.2.2.5 (no-store); the Fetch Standard (X-Content-Type-Options, Cross-Origin-Resource-Policy), Referrer Policy, and Content
 -- Security Policy Level 3.
-use Rattle.std.specs.Prelude.{ℕ, List, [], ◌∷◌, ◌++◌, Option, None, Some, codes}
+use Rattle.std.specs.Prelude.{ℕ, Bool, true, false, List, [], ◌∷◌, ◌++◌, Option, None, Some, codes}
 use Rattle.http1.specs.Fields.{Header}
 use Rattle.http_header.specs.FieldValue.{FieldValue}
 use Rattle.page_routes.specs.declared.page.Kind.{Kind}
 use Rattle.page_routes.specs.declared.page.Kind.TheVariants.{Html, Icon, Json, Problem, Metrics, Events, Style, Script, Plain}
+use Rattle.page_server.specs.Tags.{tag_text}
 
 abbrev pub kind_text : Kind → List ℕ
 kind_text Html = codes "text/html; charset=utf-8"
@@ -24,11 +25,18 @@ policy =
     codes "default-src 'none'; style-src 'self'; script-src 'self'; connect-src 'self'; img-src 'self'; "
     ++ codes "form-action 'self'; base-uri 'none'; frame-ancestors 'none'"
 
--- a browser keeps the page from others, and doesn't keep it itself
+-- a browser may keep the text, and asks each time whether it is still the same (true); or it doesn't keep it
+abbrev pub cache_text : Bool → List ℕ
+cache_text true = codes "no-cache"
+cache_text false = codes "no-store"
+
+abbrev pub cache_fields : Bool → List Header
+cache_fields may_keep = (codes "cache-control", cache_text may_keep) ∷ []
+
+-- a browser keeps the page from others
 abbrev pub guard_fields : List Header
 guard_fields =
-    (codes "cache-control", codes "no-store")
-    ∷ (codes "x-content-type-options", codes "nosniff")
+    (codes "x-content-type-options", codes "nosniff")
     ∷ (codes "referrer-policy", codes "no-referrer")
     ∷ (codes "cross-origin-resource-policy", codes "same-origin")
     ∷ (codes "content-security-policy", policy) ∷ []
@@ -37,5 +45,18 @@ abbrev pub date_fields : Option FieldValue → List Header
 date_fields None = []
 date_fields (Some date) = (codes "date", date.bytes) ∷ []
 
+-- those of all responses
+abbrev pub common_fields : Bool → Option FieldValue → List Header
+common_fields may_keep date = cache_fields may_keep ++ guard_fields ++ date_fields date
+
+-- of a text that is made for the request
 abbrev pub response_fields : Kind → Option FieldValue → List Header
-response_fields kind date = (codes "content-type", kind_text kind) ∷ (guard_fields ++ date_fields date)
+response_fields kind date = (codes "content-type", kind_text kind) ∷ common_fields false date
+
+-- of a text that stays the same, where a browser has kept it
+abbrev pub kept_fields : List ℕ → Option FieldValue → List Header
+kept_fields text date = common_fields true date ++ (codes "etag", tag_text text) ∷ []
+
+-- and where it has not
+abbrev pub fixed_fields : Kind → List ℕ → Option FieldValue → List Header
+fixed_fields kind text date = (codes "content-type", kind_text kind) ∷ kept_fields text date

@@ -2,18 +2,22 @@
 
 ghost use Rattle.std.specs.Prelude.{◌≡◌, ◌++◌, ◌⊎◌, OnOk, OnErr, IfOk};
 ghost use Rattle.http.specs.Request.{head_of};
-ghost use Rattle.http_server.specs.Response.{IsBlank, fields_of};
-ghost use Rattle.page_server.specs.Answers.{IsFailure, IsPage, IsRefusal, allow_fields, is_for_programs, status_of};
+ghost use Rattle.http_server.specs.Response.{IsBlank, IsResponse, fields_of};
+ghost use Rattle.page_server.specs.Answers.{IsFailure, IsPage, IsRefusal, allow_fields, is_for_programs, is_same};
+ghost use Rattle.page_server.specs.Answers.{status_of};
+ghost use Rattle.page_server.specs.Fields.{fixed_fields, response_fields};
+ghost use Rattle.page_server.specs.Tags.{tag_text};
 
 use super::asked::{Asked, asked_for};
-use super::fields::{add, add_fields};
+use super::fields::{add, add_fields, add_fixed, add_kept};
 use super::pages::Pages;
 use super::refusal::{Refusal, problem_kind};
+use super::tag::{is_named, tag_of};
 use bytes::Bytes;
-use http::header::HeaderValue;
+use http::header::{HeaderMap, HeaderValue};
 use http::{Request, StatusCode};
 use http_server::{Response, Service};
-use page_routes::{Page, Route, Status};
+use page_routes::{Kind, Page, Route, Status};
 use std::alloc::{AllocError, Global};
 
 /// Answers requests by pages, for this machine and some hosts.
@@ -45,7 +49,8 @@ impl<P: Pages> Service for PageService<'_, P> {
     ) -> Result<(), AllocError> {
         match asked_for(self.alloc, self.hosts, request)? {
             Asked::Page(route) => {
-                self.show(&route, is_for_programs(request), response);
+                let for_programs = is_for_programs(request);
+                self.show(request.headers(), &route, for_programs, response);
                 Ok(())
             }
             Asked::Refused(refusal) => self.refuse(refusal, is_for_programs(request), response),
@@ -68,24 +73,38 @@ impl<P: Pages> PageService<'_, P> {
     ghost use Rattle.http_server.specs.Response.{IsBlank};
 
     /// Answers by a page, or by 503 where memory is refused.
-    fn show(&mut self, route: &Route, for_programs: bool, response: &mut Response)
+    fn show(
+        &mut self,
+        headers: &HeaderMap<HeaderValue>,
+        route: &Route,
+        for_programs: bool,
+        response: &mut Response,
+    )
         requires { IsBlank response.old }
-        ensures shows { Shows P.pages P.moves self.old.date self.old.pages route.now for_programs response.new self.new.pages }
+        ensures shows { Shows P.pages P.moves headers.now self.old.date self.old.pages route.now for_programs
+            response.new self.new.pages }
         ensures hosts { self.new.hosts ≡ self.old.hosts }
         ensures date { self.new.date ≡ self.old.date }
     {
         match self.pages.page(route) {
-            Ok(page) => self.send(page, for_programs, response),
+            Ok(page) => self.send(headers, page, for_programs, response),
             Err(AllocError) => fail(response, for_programs, &self.date),
         }
     }
 
     /// Answers by a page, or by 503 where memory is refused.
-    fn send(&self, page: Page, for_programs: bool, response: &mut Response)
+    fn send(
+        &self,
+        headers: &HeaderMap<HeaderValue>,
+        page: Page,
+        for_programs: bool,
+        response: &mut Response,
+    )
         requires { IsBlank response.old }
-        ensures { IsPage page self.now.date response.new ⊎ IsFailure for_programs self.now.date response.new }
+        ensures { IsPage headers.now page self.now.date response.new
+            ⊎ IsFailure for_programs self.now.date response.new }
     {
-        if fill(response, page, &self.date).is_err() {
+        if fill(self.alloc, headers, response, page, &self.date).is_err() {
             fail(response, for_programs, &self.date);
         }
     }
@@ -124,15 +143,78 @@ fn fail(response: &mut Response, for_programs: bool, date: &Option<HeaderValue>)
     }
 }
 
-/// Fills a response by a page.
-fn fill(response: &mut Response, page: Page, date: &Option<HeaderValue>) -> Result<(), AllocError>
+/// Fills a response by what a request with these fields is shown of a page.
+fn fill(
+    alloc: Global,
+    headers: &HeaderMap<HeaderValue>,
+    response: &mut Response,
+    page: Page,
+    date: &Option<HeaderValue>,
+) -> Result<(), AllocError>
     requires { IsBlank response.old }
-    ensures { OnOk result (IsPage page date.now response.new) }
+    ensures { OnOk result (IsPage headers.now page date.now response.new) }
+{
+    if !is_same(page.kind) {
+        return fill_made(response, page, date);
+    }
+    let tag = tag_of(alloc, page.body.as_slice())?;
+    let value = value_of(alloc, tag.as_str())?;
+    if is_named(headers, tag.as_str().as_bytes()) {
+        response.status = StatusCode::NOT_MODIFIED;
+        return add_kept(response, value, date);
+    }
+    fill_fixed(response, page, value, date)
+}
+
+/// Whether texts of a kind stay the same while the site runs.
+fn is_same(kind: Kind) -> bool
+    ensures { result ≡ is_same kind }
+{
+    matches!(kind, Kind::Style | Kind::Script | Kind::Icon)
+}
+
+/// A text as the value of a field.
+fn value_of(alloc: Global, text: &str) -> Result<HeaderValue, AllocError>
+    ensures { IfOk result (λ value. value.bytes ≡ text.now) }
+{
+    match HeaderValue::from_bytes(alloc, text.as_bytes()) {
+        Ok(value) => Ok(value),
+        Err(_) => Err(AllocError),
+    }
+}
+
+/// Fills a response by a page that is made for the request.
+fn fill_made(
+    response: &mut Response,
+    page: Page,
+    date: &Option<HeaderValue>,
+) -> Result<(), AllocError>
+    requires { IsBlank response.old }
+    ensures { OnOk result (IsResponse (status_of page.status) (response_fields page.kind date.now) page.body.items
+        response.new) }
 {
     let Page { status, kind, body } = page;
     response.status = status_of(status);
     add_fields(response, kind, date)?;
-    put(response, Bytes::from_vec(body)?)
+    put_body(response, body)
+}
+
+/// Fills a response by a page that stays the same and has this entity tag.
+fn fill_fixed(
+    response: &mut Response,
+    page: Page,
+    tag: HeaderValue,
+    date: &Option<HeaderValue>,
+) -> Result<(), AllocError>
+    requires blank { IsBlank response.old }
+    requires tag { tag.bytes ≡ tag_text page.body.items }
+    ensures { OnOk result (IsResponse (status_of page.status) (fixed_fields page.kind page.body.items date.now)
+        page.body.items response.new) }
+{
+    let Page { status, kind, body } = page;
+    response.status = status_of(status);
+    add_fixed(response, kind, tag, date)?;
+    put_body(response, body)
 }
 
 /// The code of a page's status.
@@ -172,6 +254,15 @@ fn add_methods(response: &mut Response, refusal: Refusal) -> Result<(), AllocErr
         Refusal::OtherMethod => add(response, "allow", "GET, HEAD"),
         Refusal::NoHost | Refusal::OtherHost | Refusal::NoPage | Refusal::NoMemory => Ok(()),
     }
+}
+
+/// Adds the bytes of a page to the body.
+fn put_body(response: &mut Response, body: Vec<u8>) -> Result<(), AllocError>
+    ensures items { OnOk result (response.new.body.items ≡ response.old.body.items ++ body.items) }
+    ensures fields { fields_of response.new ≡ fields_of response.old }
+    ensures status { response.new.status ≡ response.old.status }
+{
+    put(response, Bytes::from_vec(body)?)
 }
 
 /// Adds bytes to the body.

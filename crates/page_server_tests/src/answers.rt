@@ -92,9 +92,8 @@ fn take_all(
     Ok(text)
 }
 
-/// The fields that each page has.
-const GUARDS: &str =
-    "cache-control: no-store\r\nx-content-type-options: nosniff\r\nreferrer-policy: no-referrer\r\n\
+/// The fields that each page has after the one that says whether a browser may keep it.
+const GUARDS: &str = "x-content-type-options: nosniff\r\nreferrer-policy: no-referrer\r\n\
     cross-origin-resource-policy: same-origin\r\ncontent-security-policy: default-src 'none'; style-src 'self'; \
     script-src 'self'; connect-src 'self'; img-src 'self'; form-action 'self'; base-uri 'none'; \
     frame-ancestors 'none'\r\n";
@@ -110,11 +109,11 @@ struct Row {
     refused: u64,
 }
 
-/// Whether a request is answered as its row says.
-fn is_right<R: RandomSource>(rt: &R, alloc: Global, row: &Row) -> io::Result<bool> {
+/// Whether a request is answered as its row says, by a text that may be kept so.
+fn is_right<R: RandomSource>(rt: &R, alloc: Global, cache: &str, row: &Row) -> io::Result<bool> {
     let reply = reply_to(rt, alloc, row.sent.as_bytes())?;
     let (head, rest) = (row.head, row.rest);
-    let wanted = format!(in alloc; "{head}{GUARDS}{rest}")?;
+    let wanted = format!(in alloc; "{head}cache-control: {cache}\r\n{GUARDS}{rest}")?;
     Ok(
         reply.text.as_slice() == wanted.as_bytes()
             && reply.taken == row.taken
@@ -122,11 +121,11 @@ fn is_right<R: RandomSource>(rt: &R, alloc: Global, row: &Row) -> io::Result<boo
     )
 }
 
-/// How many rows, from the first on, are as they say.
-fn right<R: RandomSource>(rt: &R, alloc: Global, rows: &[Row]) -> io::Result<usize> {
+/// How many rows, from the first on, are as they say, by texts that may be kept so.
+fn right<R: RandomSource>(rt: &R, alloc: Global, cache: &str, rows: &[Row]) -> io::Result<usize> {
     let mut count = 0usize;
     for row in rows {
-        if !is_right(rt, alloc, row)? {
+        if !is_right(rt, alloc, cache, row)? {
             return Ok(count);
         }
         count = count.saturating_add(1);
@@ -180,7 +179,7 @@ fn pages(rt: HostRuntime) -> Result<(), Fail> {
             refused: 0,
         },
     ];
-    let count = right(&rt, rt.alloc(), rows.as_slice())?;
+    let count = right(&rt, rt.alloc(), "no-store", rows.as_slice())?;
     assert_eq!(rt; count, 6);
     Ok(())
 }
@@ -217,7 +216,7 @@ fn refusals_of_hosts(rt: HostRuntime) -> Result<(), Fail> {
             refused: 0,
         },
     ];
-    let count = right(&rt, rt.alloc(), rows.as_slice())?;
+    let count = right(&rt, rt.alloc(), "no-store", rows.as_slice())?;
     assert_eq!(rt; count, 4);
     Ok(())
 }
@@ -254,8 +253,67 @@ fn refusals_of_methods_and_paths(rt: HostRuntime) -> Result<(), Fail> {
             refused: 0,
         },
     ];
-    let count = right(&rt, rt.alloc(), rows.as_slice())?;
+    let count = right(&rt, rt.alloc(), "no-store", rows.as_slice())?;
     assert_eq!(rt; count, 4);
+    Ok(())
+}
+
+// The tag is the SHA-256 of `abc` (FIPS 180-4, the first example).
+#[test]
+fn texts_that_stay_the_same(rt: HostRuntime) -> Result<(), Fail> {
+    let rows = [
+        Row {
+            sent: "GET /style.css HTTP/1.1\r\nHost: localhost\r\n\r\n",
+            head: "HTTP/1.1 200 OK\r\ncontent-type: text/css; charset=utf-8\r\n",
+            rest: "etag: \"ba7816bf8f01cfea414140de5dae2223b00361a396177a9cb410ff61f20015ad\"\r\ncontent-length: 3\r\n\r\nabc",
+            taken: 1,
+            refused: 0,
+        },
+        Row {
+            sent: "GET /style.css HTTP/1.1\r\nHost: localhost\r\nIf-None-Match: \"ba7816bf8f01cfea414140de5dae2223b00361a396177a9cb410ff61f20015ad\"\r\n\r\n",
+            head: "HTTP/1.1 304 Not Modified\r\n",
+            rest: "etag: \"ba7816bf8f01cfea414140de5dae2223b00361a396177a9cb410ff61f20015ad\"\r\n\r\n",
+            taken: 1,
+            refused: 0,
+        },
+        Row {
+            sent: "GET /style.css HTTP/1.1\r\nHost: localhost\r\nIf-None-Match: W/\"ba7816bf8f01cfea414140de5dae2223b00361a396177a9cb410ff61f20015ad\"\r\n\r\n",
+            head: "HTTP/1.1 304 Not Modified\r\n",
+            rest: "etag: \"ba7816bf8f01cfea414140de5dae2223b00361a396177a9cb410ff61f20015ad\"\r\n\r\n",
+            taken: 1,
+            refused: 0,
+        },
+        Row {
+            sent: "GET /style.css HTTP/1.1\r\nHost: localhost\r\nIf-None-Match: *\r\n\r\n",
+            head: "HTTP/1.1 304 Not Modified\r\n",
+            rest: "etag: \"ba7816bf8f01cfea414140de5dae2223b00361a396177a9cb410ff61f20015ad\"\r\n\r\n",
+            taken: 1,
+            refused: 0,
+        },
+        Row {
+            sent: "GET /style.css HTTP/1.1\r\nHost: localhost\r\nIf-None-Match: \"a\", W/\"b\"\r\nIf-None-Match: \"c\",\"ba7816bf8f01cfea414140de5dae2223b00361a396177a9cb410ff61f20015ad\"\r\n\r\n",
+            head: "HTTP/1.1 304 Not Modified\r\n",
+            rest: "etag: \"ba7816bf8f01cfea414140de5dae2223b00361a396177a9cb410ff61f20015ad\"\r\n\r\n",
+            taken: 1,
+            refused: 0,
+        },
+        Row {
+            sent: "GET /style.css HTTP/1.1\r\nHost: localhost\r\nIf-None-Match: \"a\", \"ba7816bf8f01cfea414140de5dae2223b00361a396177a9cb410ff61f20015a\"\r\n\r\n",
+            head: "HTTP/1.1 200 OK\r\ncontent-type: text/css; charset=utf-8\r\n",
+            rest: "etag: \"ba7816bf8f01cfea414140de5dae2223b00361a396177a9cb410ff61f20015ad\"\r\ncontent-length: 3\r\n\r\nabc",
+            taken: 1,
+            refused: 0,
+        },
+        Row {
+            sent: "GET /style.css HTTP/1.1\r\nHost: localhost\r\nIf-None-Match: ba7816bf8f01cfea414140de5dae2223b00361a396177a9cb410ff61f20015ad\r\n\r\n",
+            head: "HTTP/1.1 200 OK\r\ncontent-type: text/css; charset=utf-8\r\n",
+            rest: "etag: \"ba7816bf8f01cfea414140de5dae2223b00361a396177a9cb410ff61f20015ad\"\r\ncontent-length: 3\r\n\r\nabc",
+            taken: 1,
+            refused: 0,
+        },
+    ];
+    let count = right(&rt, rt.alloc(), "no-cache", rows.as_slice())?;
+    assert_eq!(rt; count, 7);
     Ok(())
 }
 

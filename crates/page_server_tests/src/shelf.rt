@@ -37,6 +37,7 @@ impl Pages for Shelf {
             Route::Change(_) => text(self.alloc, Status::NotFound, Kind::Html, "<p>no change\n")?,
             Route::Status => text(self.alloc, Status::Unavailable, Kind::Problem, "{}\n")?,
             Route::Metrics => long_text(self.alloc)?,
+            Route::Style => text(self.alloc, Status::Found, Kind::Style, "abc")?,
             // Where memory is refused, there is no page.
             _ => return Err(AllocError),
         };

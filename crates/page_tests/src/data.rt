@@ -7,7 +7,7 @@ use std::test::Fail;
 
 /// How the site is.
 const STATUS: &str =
-    r#"{"site":1,"start":5,"operations":10,"ready":1,"out":3,"open_out":2,"age_ms":1500,"news_ms":61000,"sessions":3,"peers":[{"port":8102,"reachable":false,"condition_ms":200000,"good_ms":12005,"pulls":7,"failures":2}]}"#;
+    r#"{"site":1,"start":5,"operations":10,"ready":1,"out":3,"open_out":2,"age_ms":1500,"news_ms":61000,"sessions":3,"peers":[{"peer":"/run/\"a\\<b>&\n'","reachable":false,"condition_ms":200000,"good_ms":12005,"pulls":7,"failures":2}],"workers":6,"busy_workers":2,"session_faults":8,"refused_connections":11,"journal":{"bytes":123456,"syncs":42},"heard_ms":7050}"#;
 
 /// A problem.
 const PROBLEM: &str = r#"{"type":"about:blank","title":"Not Found","status":404}"#;
@@ -44,7 +44,7 @@ fn items_are_rows_with_their_refusals(rt: HostRuntime) -> Result<(), Fail> {
 
 /// The change that waits for another one.
 const WAITING: &str =
-    "{\"change\":102,\"set\":1,\"status\":\"NEW\",\"current\":1,\"patchsets\":[{\"set\":1,\"subject\":\"Open\"}],\"votes\":[{\"label\":\"verified\",\"voter\":\"zuul\",\"value\":2},{\"label\":\"workflow\",\"voter\":\"ann\",\"value\":1}],\"why\":[{\"change\":102,\"set\":1,\"subject\":\"Open\",\"ready\":false,\"refusal\":\"dependency 103\"},{\"change\":103,\"set\":2,\"subject\":\"<script>alert(\\\"x\\\")&'\u{202e}abc\",\"ready\":false,\"refusal\":\"require approval 2\"}],\"conditions\":[{\"condition\":\"require open\",\"met\":true},{\"condition\":\"require current-patchset\",\"met\":true},{\"condition\":\"require status\",\"met\":true},{\"condition\":\"require approval 1\",\"met\":true},{\"condition\":\"require approval 2\",\"met\":true},{\"condition\":\"reject status\",\"met\":true},{\"condition\":\"reject approval 1\",\"met\":true}],\"depends_on\":[101,103]}";
+    "{\"change\":102,\"set\":1,\"status\":\"NEW\",\"current\":1,\"patchsets\":[{\"set\":1,\"subject\":\"Open\"}],\"votes\":[{\"label\":\"verified\",\"voter\":\"zuul\",\"value\":2},{\"label\":\"workflow\",\"voter\":\"ann\",\"value\":1}],\"why\":[{\"change\":102,\"set\":1,\"subject\":\"Open\",\"ready\":false,\"refusal\":\"dependency 103\"},{\"change\":103,\"set\":2,\"subject\":\"<script>alert(\\\"x\\\")&'\u{202e}abc\",\"ready\":false,\"refusal\":\"require approval 2\"}],\"conditions\":[{\"condition\":\"require open\",\"met\":true},{\"condition\":\"require current-patchset\",\"met\":true},{\"condition\":\"require status\",\"met\":true},{\"condition\":\"require approval 1\",\"met\":true},{\"condition\":\"require approval 2\",\"met\":true},{\"condition\":\"reject status\",\"met\":true},{\"condition\":\"reject approval 1\",\"met\":true}],\"depends_on\":[101,103],\"waiting\":[]}";
 
 #[test]
 fn a_change_has_the_items_down_to_the_cause(rt: HostRuntime) -> Result<(), Fail> {
@@ -115,16 +115,16 @@ reviewgate_site_info{site="1",start="5"} 1
 reviewgate_last_operation_age_seconds 61.000
 # HELP reviewgate_peer_up Whether the last pull reached the peer.
 # TYPE reviewgate_peer_up gauge
-reviewgate_peer_up{port="8102"} 0
+reviewgate_peer_up{peer="/run/\"a\\<b>&\n'"} 0
 # HELP reviewgate_peer_last_pull_age_seconds Seconds since the last whole pull ended.
 # TYPE reviewgate_peer_last_pull_age_seconds gauge
-reviewgate_peer_last_pull_age_seconds{port="8102"} 12.005
+reviewgate_peer_last_pull_age_seconds{peer="/run/\"a\\<b>&\n'"} 12.005
 # HELP reviewgate_peer_pulls_total Whole pulls since the start.
 # TYPE reviewgate_peer_pulls_total counter
-reviewgate_peer_pulls_total{port="8102"} 7
+reviewgate_peer_pulls_total{peer="/run/\"a\\<b>&\n'"} 7
 # HELP reviewgate_peer_pull_failures_total Pulls that failed since the start.
 # TYPE reviewgate_peer_pull_failures_total counter
-reviewgate_peer_pull_failures_total{port="8102"} 2
+reviewgate_peer_pull_failures_total{peer="/run/\"a\\<b>&\n'"} 2
 # HELP reviewgate_open_sessions Sessions that are open.
 # TYPE reviewgate_open_sessions gauge
 reviewgate_open_sessions 3
@@ -140,6 +140,27 @@ reviewgate_refused_hosts_total 1
 # HELP reviewgate_update_duration_seconds Seconds that the last update of the verdicts took.
 # TYPE reviewgate_update_duration_seconds gauge
 reviewgate_update_duration_seconds 0.001234
+# HELP reviewgate_workers Threads that look at the record for sessions.
+# TYPE reviewgate_workers gauge
+reviewgate_workers 6
+# HELP reviewgate_busy_workers Threads that look at the record for sessions just now.
+# TYPE reviewgate_busy_workers gauge
+reviewgate_busy_workers 2
+# HELP reviewgate_session_faults_total Sessions that ended with a fault since the start.
+# TYPE reviewgate_session_faults_total counter
+reviewgate_session_faults_total 8
+# HELP reviewgate_refused_connections_total Connections that were closed since the start because as many as may be were open.
+# TYPE reviewgate_refused_connections_total counter
+reviewgate_refused_connections_total 11
+# HELP reviewgate_journal_bytes Bytes of the journal.
+# TYPE reviewgate_journal_bytes gauge
+reviewgate_journal_bytes 123456
+# HELP reviewgate_journal_syncs_total Syncs of the journal since the start.
+# TYPE reviewgate_journal_syncs_total counter
+reviewgate_journal_syncs_total 42
+# HELP reviewgate_gerrit_heard_age_seconds Seconds since a feed last said that it heard from Gerrit.
+# TYPE reviewgate_gerrit_heard_age_seconds gauge
+reviewgate_gerrit_heard_age_seconds 7.050
 "#;
 
 #[test]

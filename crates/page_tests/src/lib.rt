@@ -5,6 +5,8 @@
 #[cfg(test)]
 mod data;
 #[cfg(test)]
+mod drawings;
+#[cfg(test)]
 mod lists;
 #[cfg(test)]
 mod markup;

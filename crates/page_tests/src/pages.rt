@@ -40,7 +40,8 @@ const LIST: &str = r#"<!DOCTYPE html>
 <p><strong class="ready">1</strong> may enter, <strong class="waits">2</strong> open ones may not.</p>
 <p>As it was 1 s ago.</p>
 <p>The last operation came 1 min ago.</p>
-<p class="waits">The site at port 8102 has not been reached for 3 min.</p>
+<p>A feed last heard from Gerrit 7 s ago.</p>
+<p class="waits">The peer /run/&quot;a\&lt;b&gt;&amp;\u{A}&#39; has not been reached for 3 min.</p>
 <h2>Why open items wait</h2>
 <ul>
 <li><a href="/?reason=require">require</a>: 1</li>
@@ -116,7 +117,8 @@ const SECOND: &str = r#"<!DOCTYPE html>
 <p><strong class="ready">1</strong> may enter, <strong class="waits">2</strong> open ones may not.</p>
 <p>As it was 1 s ago.</p>
 <p>The last operation came 1 min ago.</p>
-<p class="waits">The site at port 8102 has not been reached for 3 min.</p>
+<p>A feed last heard from Gerrit 7 s ago.</p>
+<p class="waits">The peer /run/&quot;a\&lt;b&gt;&amp;\u{A}&#39; has not been reached for 3 min.</p>
 <h2>Why open items wait</h2>
 <ul>
 <li><a href="/?reason=require">require</a>: 1</li>
@@ -160,7 +162,7 @@ const WAITING: &str = r#"<!DOCTYPE html>
 <head>
 <meta charset="utf-8">
 <meta name="viewport" content="width=device-width, initial-scale=1">
-<title>Change</title>
+<title>Change 102,1: Open</title>
 <link rel="icon" href="/icon.svg">
 <link rel="stylesheet" href="/style.css">
 <script src="/script.js" defer></script>
@@ -205,6 +207,17 @@ const WAITING: &str = r#"<!DOCTYPE html>
 <li><a href="/change/101">101</a> NEW</li>
 <li><a href="/change/103">103</a> NEW</li>
 </ul>
+<h2>Drawing</h2>
+<div class="drawing" role="region" aria-labelledby="drawn" tabindex="0">
+<svg role="img" aria-labelledby="drawn" width="360" height="88" viewBox="0 0 360 88">
+<title id="drawn">What waits for the item, and what it waits for</title>
+<line x1="160" y1="24" x2="200" y2="24"/>
+<line x1="160" y1="24" x2="200" y2="64"/>
+<a href="/change/102,1"><rect class="waits" x="10" y="10" width="150" height="28" rx="4"/><text x="18" y="29">102,1 waits</text></a>
+<a href="/change/101,1"><rect class="ready" x="200" y="10" width="150" height="28" rx="4"/><text x="208" y="29">101,1 ready</text></a>
+<a href="/change/103,2"><rect class="waits" x="200" y="50" width="150" height="28" rx="4"/><text x="208" y="69">103,2 waits</text></a>
+</svg>
+</div>
 </div>
 </main>
 </body>
@@ -217,7 +230,7 @@ const HOSTILE: &str = r#"<!DOCTYPE html>
 <head>
 <meta charset="utf-8">
 <meta name="viewport" content="width=device-width, initial-scale=1">
-<title>Change</title>
+<title>Change 103,2: &lt;script&gt;alert(&quot;x&quot;)&amp;&#39;\u{202E}abc</title>
 <link rel="icon" href="/icon.svg">
 <link rel="stylesheet" href="/style.css">
 <script src="/script.js" defer></script>
@@ -258,6 +271,19 @@ const HOSTILE: &str = r#"<!DOCTYPE html>
 <h2>Depends on</h2>
 <ul>
 </ul>
+<h2>What waits for it</h2>
+<ul>
+<li><a href="/change/102,1">102,1</a></li>
+</ul>
+<h2>Drawing</h2>
+<div class="drawing" role="region" aria-labelledby="drawn" tabindex="0">
+<svg role="img" aria-labelledby="drawn" width="360" height="48" viewBox="0 0 360 48">
+<title id="drawn">What waits for the item, and what it waits for</title>
+<line x1="160" y1="24" x2="200" y2="24"/>
+<a href="/change/102,1"><rect class="waits" x="10" y="10" width="150" height="28" rx="4"/><text x="18" y="29">102,1 waits</text></a>
+<a href="/change/103,2"><rect class="waits" x="200" y="10" width="150" height="28" rx="4"/><text x="208" y="29">103,2 waits</text></a>
+</svg>
+</div>
 </div>
 </main>
 </body>

@@ -3,7 +3,7 @@
 use deeds::{Deed, op_of};
 use gate_rules::Gate;
 use page_routes::{Kind, Page, Route, Status};
-use page_text::{Facts, PeerFacts, page_of};
+use page_text::{Facts, JournalFacts, PeerFacts, page_of};
 use ready_core::evaluate;
 use replica_core::Replica;
 use std::alloc::{AllocError, Global};
@@ -14,6 +14,9 @@ const GATE: &str = r#"{"bases":["https://r/"],
 "reject":{"gerrit":{"approval":{"Code-Review":[-2]},"status":"HELD"}},
 "require":{"gerrit":{"status":["NEW","MERGED"],"open":true,"current-patchset":true,
 "approval":[{"Workflow":1},{"username":"zuul","Verified":[1,2]}]}}}"#;
+
+/// The path of a peer's socket, as no one would name it.
+const PEER: &str = "/run/\"a\\<b>&\n'";
 
 /// Change 101 is ready, 102 waits for 103, whose subject is hostile and which waits for a vote, and 104 is abandoned.
 const RECORD: [(u32, Deed); 10] = [
@@ -55,27 +58,38 @@ pub fn gate(alloc: Global) -> Result<Gate, Fail> {
     Ok(Gate::read(alloc, GATE.as_bytes())?)
 }
 
-/// What the site knows of itself, with a peer that can't be reached.
+/// What the site knows of itself, with a peer that can't be reached, at a socket whose path has markup.
 fn facts(alloc: Global) -> Result<Facts, AllocError> {
     let peer = PeerFacts {
-        port: 8102,
+        peer: String::from_str(alloc, PEER)?,
         is_reachable: false,
         condition_ms: 200_000,
         good_ms: Some(12_005),
         pulls: 7,
         failures: 2,
     };
+    let mut peers = Vec::new(alloc);
+    peers.push(peer)?;
     Ok(Facts {
         site: 1,
         start: 5,
         age_ms: 1_500,
         news_ms: Some(61_000),
-        peers: vec![in alloc; peer; 1]?,
+        peers,
         sessions: 3,
         publishes: 4,
         requests: 9,
         refused_hosts: 1,
         update_us: 1_234,
+        workers: 6,
+        busy_workers: 2,
+        session_faults: 8,
+        refused_connections: 11,
+        journal: Some(JournalFacts {
+            bytes: 123_456,
+            syncs: 42,
+        }),
+        heard_ms: Some(7_050),
     })
 }
 

@@ -5,5 +5,9 @@ mod SearchSteps
 mod OutSteps
 mod HeldSteps
 mod Adding
+mod LabelSteps
+mod NamedChanges
+mod ReachedSteps
+mod WaitingSteps
 mod Counting
 mod TableRows

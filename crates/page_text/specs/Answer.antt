@@ -20,6 +20,8 @@ use Rattle.page_text.specs.Metrics.{metrics_of}
 use Rattle.page_text.specs.Problem.{problem_tokens}
 use Rattle.page_text.specs.Rows.{chosen_rows, rows_on}
 use Rattle.page_text.specs.Table.{HasRows}
+use Rattle.page_text.specs.Titles.{IsTitled, item_title}
+use Rattle.page_text.specs.Waiting.{HasWaiting, waiting_for}
 use Rattle.page_text.specs.declared.rows.Row.{Row}
 
 pub record IsPage (status : Status) (kind : Kind) (page : Page) : Type 0 where
@@ -36,9 +38,20 @@ pub record IsList (state : State) (rows : List Row) (page : Page) : Type 0 where
   pub is : IsPage Found kind.Html page
   pub rows_are : HasRows state rows page.body.items
 
+-- the page for people of an item, which its title names
+pub record IsItemPage (state : State) (item : Item) (page : Page) : Type 0 where
+  pub is : IsPage Found kind.Html page
+  pub titled : IsTitled (item_title state item) page.body.items
+
+-- the data of an item, with those that wait for its change
+pub record IsItemData (verdicts : Judged) (item : Item) (page : Page) : Type 0 where
+  pub is : IsPage Found kind.Json page
+  pub waiting : HasWaiting (waiting_for item.change verdicts.out) page.body.items
+
 -- the item that is asked for is known, and its page is there; or there is no such item
-pub data IsOfItem (state : State) (place : Place) (found missing : Page → Type 0) (page : Page) : Type 0 where
-  There : (item : Item) → IsItemAsked state place.change place.set item → found page
+pub data IsOfItem (state : State) (place : Place) (found : Item → Page → Type 0) (missing : Page → Type 0) (page : Page)
+    : Type 0 where
+  There : (item : Item) → IsItemAsked state place.change place.set item → found item page
       → IsOfItem state place found missing page
   NotThere : ((item : Item) → ¬ IsItemAsked state place.change place.set item) → missing page
       → IsOfItem state place found missing page
@@ -55,12 +68,12 @@ abbrev pub IsAnswer : GateRules → State → ℕ → Judged → Facts → Route
 IsAnswer gate state operations verdicts facts (route.List choice) page =
     IsList state (rows_on choice.page (chosen_rows state choice verdicts)) page
 IsAnswer gate state operations verdicts facts (route.Change place) page =
-    IsOfItem state place (IsPage Found kind.Html) (IsPage NotFound kind.Html) page
+    IsOfItem state place (IsItemPage state) (IsPage NotFound kind.Html) page
 IsAnswer gate state operations verdicts facts route.Status page = IsPage Found kind.Json page
 IsAnswer gate state operations verdicts facts (route.Items choice) page =
     IsText Found kind.Json (print (items_tokens state choice.page (chosen_rows state choice verdicts))) page
 IsAnswer gate state operations verdicts facts (route.ChangeData place) page =
-    IsOfItem state place (IsPage Found kind.Json) (IsText NotFound kind.Problem (print problem_tokens)) page
+    IsOfItem state place (IsItemData verdicts) (IsText NotFound kind.Problem (print problem_tokens)) page
 IsAnswer gate state operations verdicts facts route.Events page =
     IsText Found kind.Events (event_text (length verdicts.ready) (length verdicts.out) operations) page
 IsAnswer gate state operations verdicts facts route.Metrics page =

@@ -3,12 +3,16 @@ pub mod Search
 pub mod Rows
 pub mod Names
 pub mod Walk
+pub mod Reached
 pub mod Tokens
 pub mod Items
+pub mod Waiting
 pub mod Problem
 pub mod Held
 pub mod Statuses
+pub mod Labels
 pub mod Samples
 pub mod Metrics
 pub mod Table
+pub mod Titles
 pub mod Answer

@@ -1,7 +1,7 @@
 -- The figures of a site as metrics. The names follow Prometheus's rules ("Metric and label naming"); what is counted is
 -- the project's own.
 use Rattle.std.specs.Prelude.{ℕ, zero, suc, Bool, true, false, List, [], ◌∷◌, ◌++◌, Option, None, Some, codes}
-use Rattle.std.specs.Prelude.{count_by, decimal, flat_map, length}
+use Rattle.std.specs.Prelude.{count_by, decimal, flat_map, length, string_bytes}
 use Rattle.change_core.specs.Status.{status_name}
 use Rattle.change_core.specs.declared.life.Status.{Status}
 use Rattle.change_core.specs.declared.life.Status.TheVariants.{New, Abandoned, Merged}
@@ -12,12 +12,13 @@ use Rattle.state_core.specs.State.{State}
 use Rattle.ready_core.specs.Verdicts.{Judged}
 use Rattle.ready_core.specs.declared.verdicts.Left.{Left}
 use Rattle.page_text.specs.declared.facts.Facts.{Facts}
+use Rattle.page_text.specs.declared.facts.JournalFacts.{JournalFacts}
 use Rattle.page_text.specs.declared.facts.PeerFacts.{PeerFacts}
 use Rattle.page_text.specs.declared.held.Held.{Held}
 use Rattle.page_text.specs.declared.held.Held.TheVariants.{Approval, Cycle, Unknown, Dependency}
 use Rattle.page_text.specs.Held.{held_words, is_held}
-use Rattle.page_text.specs.Samples.{counter, family, gauge, labelled, micro_sample, milli_sample, port_milli_sample}
-use Rattle.page_text.specs.Samples.{port_sample}
+use Rattle.page_text.specs.Samples.{counter, family, gauge, labelled, micro_sample, milli_sample, peer_milli_sample}
+use Rattle.page_text.specs.Samples.{peer_sample}
 use Rattle.page_text.specs.Statuses.{status_count}
 
 -- how many changes have a status
@@ -72,33 +73,33 @@ abbrev pub flag : Bool → ℕ
 flag true = 1
 flag false = 0
 
--- of the peer at a port, how long ago it was, where it was
-abbrev pub port_age_text : List ℕ → ℕ → Option ℕ → List ℕ
-port_age_text name port None = []
-port_age_text name port (Some age) = port_milli_sample name port age
+-- of a peer, how long ago it was, where it was
+abbrev pub peer_age_text : List ℕ → List ℕ → Option ℕ → List ℕ
+peer_age_text name peer None = []
+peer_age_text name peer (Some age) = peer_milli_sample name peer age
 
 abbrev pub up_text : List PeerFacts → List ℕ
 up_text peers =
     family (codes "reviewgate_peer_up") (codes "gauge") (codes "Whether the last pull reached the peer.")
-    ++ flat_map (λ peer. port_sample (codes "reviewgate_peer_up") peer.port (flag peer.is_reachable)) peers
+    ++ flat_map (λ peer. peer_sample (codes "reviewgate_peer_up") (string_bytes peer.peer) (flag peer.is_reachable)) peers
 
 abbrev pub ages_text : List PeerFacts → List ℕ
 ages_text peers =
     family (codes "reviewgate_peer_last_pull_age_seconds") (codes "gauge")
     (codes "Seconds since the last whole pull ended.")
-    ++ flat_map (λ peer. port_age_text (codes "reviewgate_peer_last_pull_age_seconds") peer.port peer.good_ms) peers
+    ++ flat_map (λ peer. peer_age_text (codes "reviewgate_peer_last_pull_age_seconds") (string_bytes peer.peer) peer.good_ms) peers
 
 abbrev pub pulls_text : List PeerFacts → List ℕ
 pulls_text peers =
     family (codes "reviewgate_peer_pulls_total") (codes "counter") (codes "Whole pulls since the start.")
-    ++ flat_map (λ peer. port_sample (codes "reviewgate_peer_pulls_total") peer.port peer.pulls) peers
+    ++ flat_map (λ peer. peer_sample (codes "reviewgate_peer_pulls_total") (string_bytes peer.peer) peer.pulls) peers
 
 abbrev pub failures_text : List PeerFacts → List ℕ
 failures_text peers =
     family (codes "reviewgate_peer_pull_failures_total") (codes "counter") (codes "Pulls that failed since the start.")
-    ++ flat_map (λ peer. port_sample (codes "reviewgate_peer_pull_failures_total") peer.port peer.failures) peers
+    ++ flat_map (λ peer. peer_sample (codes "reviewgate_peer_pull_failures_total") (string_bytes peer.peer) peer.failures) peers
 
--- the sites that it pulls from, each with its port
+-- the sites that it pulls from, each by how the command line names it
 abbrev pub peers_text : List PeerFacts → List ℕ
 peers_text peers = up_text peers ++ ages_text peers ++ pulls_text peers ++ failures_text peers
 
@@ -138,9 +139,52 @@ update_text update_us =
     (codes "Seconds that the last update of the verdicts took.")
     ++ micro_sample (codes "reviewgate_update_duration_seconds") update_us
 
--- all figures: of the record, of what open items are held by, of the site, of its peers, and of what it served
-abbrev pub metrics_of : GateRules → State → ℕ → Judged → Facts → List ℕ
-metrics_of gate state operations verdicts facts =
+-- ---- its threads, its journal, and what its feeds hear
+
+abbrev pub work_text : ℕ → ℕ → ℕ → ℕ → List ℕ
+work_text workers busy_workers session_faults refused_connections =
+    gauge (codes "reviewgate_workers") (codes "Threads that look at the record for sessions.") workers
+    ++ gauge (codes "reviewgate_busy_workers") (codes "Threads that look at the record for sessions just now.")
+    busy_workers
+    ++ counter (codes "reviewgate_session_faults_total") (codes "Sessions that ended with a fault since the start.")
+    session_faults
+    ++ counter (codes "reviewgate_refused_connections_total")
+    (codes "Connections that were closed since the start because as many as may be were open.") refused_connections
+
+abbrev pub one_journal_text : ℕ → ℕ → List ℕ
+one_journal_text bytes syncs =
+    gauge (codes "reviewgate_journal_bytes") (codes "Bytes of the journal.") bytes
+    ++ counter (codes "reviewgate_journal_syncs_total") (codes "Syncs of the journal since the start.") syncs
+
+-- what the journal has, where there is one
+abbrev pub journal_text : Option JournalFacts → List ℕ
+journal_text None = []
+journal_text (Some journal) = one_journal_text journal.bytes journal.syncs
+
+abbrev pub heard_age_text : ℕ → List ℕ
+heard_age_text age =
+    family (codes "reviewgate_gerrit_heard_age_seconds") (codes "gauge")
+    (codes "Seconds since a feed last said that it heard from Gerrit.")
+    ++ milli_sample (codes "reviewgate_gerrit_heard_age_seconds") age
+
+-- how long ago a feed last heard from Gerrit, where one did
+abbrev pub heard_text : Option ℕ → List ℕ
+heard_text None = []
+heard_text (Some age) = heard_age_text age
+
+-- the figures of what it does just now
+abbrev pub now_text : Facts → List ℕ
+now_text facts =
+    work_text facts.workers facts.busy_workers facts.session_faults facts.refused_connections
+    ++ journal_text facts.journal ++ heard_text facts.heard_ms
+
+-- the figures of the record, of what open items are held by, of the site, of its peers, and of what it served
+abbrev pub figures_text : GateRules → State → ℕ → Judged → Facts → List ℕ
+figures_text gate state operations verdicts facts =
     record_text operations state (length verdicts.ready) ++ all_held_text gate verdicts.out
     ++ site_text facts.site facts.start facts.news_ms ++ peers_text facts.peers.items
     ++ served_text facts.sessions facts.publishes facts.requests facts.refused_hosts ++ update_text facts.update_us
+
+-- all figures: these, and those of what it does just now
+abbrev pub metrics_of : GateRules → State → ℕ → Judged → Facts → List ℕ
+metrics_of gate state operations verdicts facts = figures_text gate state operations verdicts facts ++ now_text facts

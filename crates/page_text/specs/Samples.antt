@@ -1,5 +1,6 @@
 -- Lines of metrics (Prometheus, "Exposition formats", text-based format, version 0.0.4).
 use Rattle.std.specs.Prelude.{ℕ, List, ◌++◌, ◌/◌, ◌%◌, codes, decimal}
+use Rattle.page_text.specs.Labels.{label_text}
 
 -- what the metric means, and its type
 abbrev pub family : List ℕ → List ℕ → List ℕ → List ℕ
@@ -35,12 +36,15 @@ abbrev pub micro_sample : List ℕ → ℕ → List ℕ
 micro_sample name value =
     whole_text name (value / 1000000) ++ three_digits (value / 1000) ++ (three_digits value ++ codes "\n")
 
--- of the peer at a port
-abbrev pub port_sample : List ℕ → ℕ → ℕ → List ℕ
-port_sample name port value = labelled name (codes "port") (decimal port) value
+-- of a peer, up to its value
+abbrev pub peer_label : List ℕ → List ℕ → List ℕ
+peer_label name peer = name ++ codes "{peer=\"" ++ label_text peer ++ codes "\"} "
 
-abbrev pub port_whole_text : List ℕ → ℕ → ℕ → List ℕ
-port_whole_text name port whole = name ++ codes "{port=\"" ++ decimal port ++ codes "\"} " ++ decimal whole ++ codes "."
+abbrev pub peer_sample : List ℕ → List ℕ → ℕ → List ℕ
+peer_sample name peer value = peer_label name peer ++ decimal value ++ codes "\n"
 
-abbrev pub port_milli_sample : List ℕ → ℕ → ℕ → List ℕ
-port_milli_sample name port value = port_whole_text name port (value / 1000) ++ (three_digits value ++ codes "\n")
+abbrev pub peer_whole_text : List ℕ → List ℕ → ℕ → List ℕ
+peer_whole_text name peer whole = peer_label name peer ++ decimal whole ++ codes "."
+
+abbrev pub peer_milli_sample : List ℕ → List ℕ → ℕ → List ℕ
+peer_milli_sample name peer value = peer_whole_text name peer (value / 1000) ++ (three_digits value ++ codes "\n")

@@ -6,7 +6,8 @@ ghost use Rattle.json.specs.Print.{print};
 ghost use Rattle.state_core.specs.Items.{item_cmp};
 ghost use Rattle.state_core.specs.State.{state_of};
 ghost use Rattle.ready_core.specs.Verdicts.{items_out};
-ghost use Rattle.page_text.specs.Answer.{IsAnswer, IsList, IsOfItem, IsPage, IsText, event_text};
+ghost use Rattle.page_text.specs.Answer.{IsAnswer, IsItemData, IsItemPage, IsList, IsOfItem, IsPage, IsText};
+ghost use Rattle.page_text.specs.Answer.{event_text};
 ghost use Rattle.page_text.specs.Items.{items_tokens};
 ghost use Rattle.page_text.specs.Metrics.{metrics_of};
 ghost use Rattle.page_text.specs.Problem.{problem_tokens};
@@ -157,7 +158,7 @@ fn change_answer(
 ) -> Result<Page, NoMemory>
     requires { IsStrictlySortedBy item_cmp (items_out verdicts.now.out) }
     ensures { IfOk result (IsOfItem state.now place
-        (IsPage Status.Found Kind.Html) (IsPage Status.NotFound Kind.Html)) }
+        (IsItemPage state.now) (IsPage Status.NotFound Kind.Html)) }
 {
     let Some(item) = item_asked(state, place.change, place.set) else {
         let body = unknown_page(alloc, place, facts.site)?;
@@ -177,7 +178,7 @@ fn change_data(
 ) -> Result<Page, NoMemory>
     requires { IsStrictlySortedBy item_cmp (items_out verdicts.now.out) }
     ensures { IfOk result (IsOfItem state.now place
-        (IsPage Status.Found Kind.Json) (IsText Status.NotFound Kind.Problem (print problem_tokens))) }
+        (IsItemData verdicts.now) (IsText Status.NotFound Kind.Problem (print problem_tokens))) }
 {
     let Some(item) = item_asked(state, place.change, place.set) else {
         let body = problem_text(alloc)?;

@@ -1,11 +1,14 @@
 //! The page of a change, for people.
 
+ghost use Rattle.std.specs.Prelude.{IfOk};
 ghost use Rattle.std.specs.List.Sorted.{IsStrictlySortedBy};
 ghost use Rattle.state_core.specs.Items.{IsItem, item_cmp};
 ghost use Rattle.ready_core.specs.Verdicts.{items_out};
+ghost use Rattle.page_text.specs.Titles.{IsTitled, item_title};
 
 use super::chain::walk_from;
 use super::conditions::add_conditions;
+use super::drawing::add_drawing;
 use super::facts::Facts;
 use super::frame::{begin, end};
 use super::links::{add_item_link, add_left};
@@ -13,6 +16,7 @@ use super::needs::needs_of;
 use super::rows::Row;
 use super::subject::{first_line, subject_of};
 use super::verdict::verdict_on;
+use super::waiting::{add_waiting, waiting_for};
 use super::words::add_wanted;
 use change_core::ChangeState;
 use gate_rules::Gate;
@@ -39,8 +43,45 @@ pub fn change_page(
 ) -> Result<Vec<u8>, NoMemory>
     requires rising { IsStrictlySortedBy item_cmp (items_out verdicts.now.out) }
     requires there { IsItem state.now item }
+    ensures { IfOk result (λ text. IsTitled (item_title state.now item) text.items) }
 {
-    let mut page = begin(alloc, "Change", facts.site)?;
+    let main = main_of(alloc, item, gate, state, verdicts)?;
+    let mut page = begin_titled(alloc, state, item, facts.site)?;
+    page.append(&main)?;
+    let text = end(page)?;
+    Ok(text)
+}
+
+/// The page of an item up to where its own part begins.
+fn begin_titled(alloc: Global, state: &State, item: Item, site: u16) -> Result<Markup, NoMemory>
+    ensures { IfOk result (IsTitled (item_title state.now item)) }
+{
+    begin(
+        alloc,
+        &[
+            Piece::Markup("Change "),
+            Piece::Number(u64::from(item.change)),
+            Piece::Markup(","),
+            Piece::Number(u64::from(item.set)),
+            Piece::Markup(": "),
+            Piece::Text(subject_of(state, item)),
+        ],
+        site,
+    )
+}
+
+/// The part of the page that is the item's own.
+fn main_of(
+    alloc: Global,
+    item: Item,
+    gate: &Gate,
+    state: &State,
+    verdicts: &Verdicts,
+) -> Result<Markup, NoMemory>
+    requires rising { IsStrictlySortedBy item_cmp (items_out verdicts.now.out) }
+    requires there { IsItem state.now item }
+{
+    let mut page = Markup::new(alloc);
     add_head(&mut page, state, item)?;
     add_verdict(alloc, &mut page, gate, state, verdicts, item)?;
     add_conditions(alloc, &mut page, gate, state, item)?;
@@ -49,8 +90,19 @@ pub fn change_page(
     }
     let needs = needs_of(alloc, gate, state, item)?;
     add_needs(&mut page, state, needs.as_slice())?;
+    let waiting = waiting_for(alloc, verdicts.out(), item.change)?;
+    add_waiting(&mut page, waiting.as_slice())?;
+    add_drawing(
+        alloc,
+        &mut page,
+        gate,
+        state,
+        verdicts,
+        item,
+        waiting.as_slice(),
+    )?;
     page.add(&[Piece::Markup("</div>\n")])?;
-    end(page)
+    Ok(page)
 }
 
 /// Adds the item and its subject.

@@ -24,13 +24,33 @@ pub struct Facts {
     pub refused_hosts: u64,
     /// How long the last update of the verdicts took, in microseconds.
     pub update_us: u64,
+    /// How many threads look at the record for sessions, and how many of them look just now.
+    pub workers: u64,
+    pub busy_workers: u64,
+    /// How many sessions ended with a fault since the start.
+    pub session_faults: u64,
+    /// How many connections were closed since the start because as many as may be were open.
+    pub refused_connections: u64,
+    /// What its journal has, where it has one.
+    pub journal: Option<JournalFacts>,
+    /// How long ago a feed last said that it heard from Gerrit, in milliseconds, if one did since the start.
+    pub heard_ms: Option<u64>,
+}
+
+/// What a site knows of its journal.
+#[derive(Clone, Copy, Debug, PartialEq, Eq)]
+pub struct JournalFacts {
+    /// How many bytes it has.
+    pub bytes: u64,
+    /// How often it was synced since the start.
+    pub syncs: u64,
 }
 
 /// What a site knows of a site that it pulls from.
-#[derive(Clone, Copy, Debug, PartialEq, Eq)]
+#[derive(Debug, Drop)]
 pub struct PeerFacts {
-    /// The port at which the site is.
-    pub port: u16,
+    /// How the command line names the site: its port, or the path of its socket.
+    pub peer: String,
     /// Whether the last pull reached it.
     pub is_reachable: bool,
     /// For how long that has been so, in milliseconds.

@@ -1,6 +1,8 @@
 //! What all pages for people have in common.
 
-ghost use Rattle.std.specs.Prelude.{◌≡◌, ◌++◌, IfOk, codes};
+ghost use Rattle.std.specs.Prelude.{◌≡◌, ◌++◌, IfOk, OnOk, codes, flat_map};
+ghost use Rattle.markup_text.specs.Pieces.{piece_html};
+ghost use Rattle.page_text.specs.Titles.{IsTitled};
 
 use lattice_core::NoMemory;
 use markup_text::{Markup, Piece};
@@ -12,10 +14,10 @@ const BEFORE_TITLE: &str = r#"<!DOCTYPE html>
 <head>
 <meta charset="utf-8">
 <meta name="viewport" content="width=device-width, initial-scale=1">
-<title>"#;
+"#;
 
 /// What comes between a page's title and the number of the site.
-const AFTER_TITLE: &str = r#"</title>
+const AFTER_TITLE: &str = r#"
 <link rel="icon" href="/icon.svg">
 <link rel="stylesheet" href="/style.css">
 <script src="/script.js" defer></script>
@@ -23,17 +25,30 @@ const AFTER_TITLE: &str = r#"</title>
 <body>
 <header><p><a href="/">reviewgate</a>, site "#;
 
-/// A page with a title, which stands in the program, up to where its own part begins.
-pub fn begin(alloc: Global, title: &'static str, site: u16) -> Result<Markup, NoMemory> {
+/// A page with a title up to where its own part begins.
+pub fn begin(alloc: Global, title: &[Piece<'_>], site: u16) -> Result<Markup, NoMemory>
+    ensures { IfOk result (IsTitled (flat_map piece_html title.now)) }
+{
     let mut page = Markup::new(alloc);
+    page.add(&[Piece::Markup(BEFORE_TITLE)])?;
+    add_title(&mut page, title)?;
     page.add(&[
-        Piece::Markup(BEFORE_TITLE),
-        Piece::Markup(title),
         Piece::Markup(AFTER_TITLE),
         Piece::Number(u64::from(site)),
         Piece::Markup("</p></header>\n<main>\n"),
     ])?;
     Ok(page)
+}
+
+/// Adds the title.
+fn add_title(page: &mut Markup, title: &[Piece<'_>]) -> Result<(), NoMemory>
+    ensures { OnOk result (page.new
+        ≡ page.old ++ (codes "<title>" ++ flat_map piece_html title.now ++ codes "</title>")) }
+{
+    page.add(&[Piece::Markup("<title>")])?;
+    page.add(title)?;
+    page.add(&[Piece::Markup("</title>")])?;
+    Ok(())
 }
 
 /// The bytes of a page whose own part ends here.

@@ -1,8 +1,10 @@
 //! A change, as JSON.
 
+ghost use Rattle.std.specs.Prelude.{IfOk};
 ghost use Rattle.std.specs.List.Sorted.{IsStrictlySortedBy};
 ghost use Rattle.state_core.specs.Items.{IsItem, item_cmp};
 ghost use Rattle.ready_core.specs.Verdicts.{items_out};
+ghost use Rattle.page_text.specs.Waiting.{HasWaiting, waiting_for};
 
 use super::chain::walk_from;
 use super::conditions::put_conditions;
@@ -14,6 +16,7 @@ use super::needs::needs_of;
 use super::rows::Row;
 use super::subject::first_line;
 use super::verdict::verdict_on;
+use super::waiting::{put_waiting, waiting_for};
 use change_core::ChangeState;
 use gate_rules::Gate;
 use json::Writer;
@@ -24,7 +27,7 @@ use std::alloc::Global;
 
 /// The JSON text of an item of the record: its change's status and current patch set, the patch sets, the votes on the
 /// current one, the items from this one down to the cause, each condition of the gate with whether the item meets it,
-/// and the changes that the item depends on.
+/// the changes that the item depends on, and the items that wait for its change.
 pub fn change_text(
     alloc: Global,
     item: Item,
@@ -34,6 +37,7 @@ pub fn change_text(
 ) -> Result<Vec<u8>, NoMemory>
     requires rising { IsStrictlySortedBy item_cmp (items_out verdicts.now.out) }
     requires there { IsItem state.now item }
+    ensures { IfOk result (λ text. HasWaiting (waiting_for item.change verdicts.now.out) text.items) }
 {
     let mut out = Writer::new(Vec::new(alloc));
     open_object(&mut out)?;
@@ -45,6 +49,21 @@ pub fn change_text(
     add_steps(alloc, &mut out, state, verdicts, item)?;
     put_conditions(alloc, &mut out, gate, state, item)?;
     add_needs(alloc, &mut out, gate, state, item)?;
+    end_change(alloc, out, verdicts, item.change)
+}
+
+/// The text that ends with the items that wait for a change.
+fn end_change(
+    alloc: Global,
+    out: Writer<Global>,
+    verdicts: &Verdicts,
+    change: u32,
+) -> Result<Vec<u8>, NoMemory>
+    ensures { IfOk result (λ text. HasWaiting (waiting_for change verdicts.now.out) text.items) }
+{
+    let mut out = out;
+    let waiting = waiting_for(alloc, verdicts.out(), change)?;
+    put_waiting(alloc, &mut out, waiting.as_slice())?;
     close_object(&mut out)?;
     Ok(out.into_inner())
 }

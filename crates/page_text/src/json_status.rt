@@ -4,9 +4,10 @@ ghost use Rattle.std.specs.Prelude.{◌≡◌, IfOk, length};
 ghost use Rattle.page_text.specs.Answer.{event_text};
 
 use super::counts::open_count;
-use super::facts::{Facts, PeerFacts};
+use super::facts::{Facts, JournalFacts, PeerFacts};
 use super::members::{
-    close_list, close_object, open_list, open_object, put_flag, put_number, put_option,
+    close_list, close_object, open_list, open_member, open_object, put_flag, put_null, put_number,
+    put_option, put_text,
 };
 use json::Writer;
 use lattice_core::NoMemory;
@@ -32,8 +33,30 @@ pub fn status_text(
     open_list(&mut out, "peers")?;
     add_peers(&mut out, facts)?;
     close_list(&mut out)?;
+    add_work(&mut out, facts)?;
+    add_journal(&mut out, facts.journal)?;
+    put_option(&mut out, "heard_ms", facts.heard_ms)?;
     close_object(&mut out)?;
     Ok(out.into_inner())
+}
+
+/// Adds what its threads do, and what went wrong since the start.
+fn add_work(out: &mut Writer<Global>, facts: &Facts) -> Result<(), NoMemory> {
+    put_number(out, "workers", facts.workers)?;
+    put_number(out, "busy_workers", facts.busy_workers)?;
+    put_number(out, "session_faults", facts.session_faults)?;
+    put_number(out, "refused_connections", facts.refused_connections)
+}
+
+/// Adds the object of the journal, or `null` where there is none.
+fn add_journal(out: &mut Writer<Global>, journal: Option<JournalFacts>) -> Result<(), NoMemory> {
+    let Some(journal) = journal else {
+        return put_null(out, "journal");
+    };
+    open_member(out, "journal")?;
+    put_number(out, "bytes", journal.bytes)?;
+    put_number(out, "syncs", journal.syncs)?;
+    close_object(out)
 }
 
 /// Adds how many operations, ready items, other items and open ones of these there are.
@@ -59,7 +82,7 @@ fn add_peers(out: &mut Writer<Global>, facts: &Facts) -> Result<(), NoMemory> {
 /// Adds the object of a peer.
 fn add_peer(out: &mut Writer<Global>, peer: &PeerFacts) -> Result<(), NoMemory> {
     open_object(out)?;
-    put_number(out, "port", u64::from(peer.port))?;
+    put_text(out, "peer", peer.peer.as_str())?;
     put_flag(out, "reachable", peer.is_reachable)?;
     put_number(out, "condition_ms", peer.condition_ms)?;
     put_option(out, "good_ms", peer.good_ms)?;

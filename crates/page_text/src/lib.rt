@@ -23,6 +23,12 @@
 //!     requests: 1,
 //!     refused_hosts: 0,
 //!     update_us: 0,
+//!     workers: 1,
+//!     busy_workers: 0,
+//!     session_faults: 0,
+//!     refused_connections: 0,
+//!     journal: None,
+//!     heard_ms: None,
 //! };
 //! let page = page_of(alloc, &Route::Health, &gate, &replica, &verdicts, &facts)?;
 //! assert_eq!(rt; page.body.as_slice(), b"ok\n".as_slice());
@@ -34,6 +40,7 @@ mod chain;
 mod change;
 mod conditions;
 mod counts;
+mod drawing;
 mod durations;
 mod facts;
 mod form;
@@ -42,14 +49,17 @@ mod held;
 mod json_change;
 mod json_items;
 mod json_status;
+mod labels;
 mod laws;
 mod links;
 mod list;
 mod members;
 mod metrics;
 mod metrics_peers;
+mod metrics_work;
 mod names;
 mod needs;
+mod reached;
 mod rows;
 mod samples;
 mod search;
@@ -59,10 +69,13 @@ mod subject;
 mod table;
 mod unknown;
 mod verdict;
+mod waiting;
 mod words;
 
 pub use answer::page_of;
-pub use facts::{Facts, PeerFacts};
+pub use facts::{Facts, JournalFacts, PeerFacts};
 pub use laws::pages_are_the_report;
+pub use reached::reached_from;
 pub use rows::{ROWS, Row, chosen_rows, rows_of};
 pub use style::{SCRIPT, STYLE};
+pub use waiting::waiting_for;

@@ -48,7 +48,7 @@ pub fn list_page(
 {
     let chosen = chosen_rows(alloc, replica.state(), verdicts, choice)?;
     let rows = rows_of(chosen.as_slice(), choice.page);
-    let mut page = begin(alloc, "Items", facts.site)?;
+    let mut page = begin(alloc, &[Piece::Markup("Items")], facts.site)?;
     add_top(&mut page, choice, verdicts, facts, chosen.len())?;
     let bottom = bottom_of(alloc, choice, chosen.len())?;
     add_rows(alloc, &mut page, gate, replica.state(), verdicts, rows)?;
@@ -70,6 +70,7 @@ fn add_top(
     add_counts(page, verdicts)?;
     add_age(page, facts.age_ms)?;
     add_news(page, facts.news_ms)?;
+    add_heard(page, facts.heard_ms)?;
     add_peers(page, facts.peers.as_slice())?;
     add_reasons(page, verdicts)?;
     add_caption(page, choice.page, rows)
@@ -115,6 +116,21 @@ fn add_news(page: &mut Markup, news_ms: Option<u64>) -> Result<(), NoMemory> {
     Ok(())
 }
 
+/// Adds when a feed last heard from Gerrit, where one did.
+fn add_heard(page: &mut Markup, heard_ms: Option<u64>) -> Result<(), NoMemory> {
+    let Some(heard_ms) = heard_ms else {
+        return Ok(());
+    };
+    let (number, unit) = in_unit(heard_ms);
+    page.add(&[
+        Piece::Markup("<p>A feed last heard from Gerrit "),
+        Piece::Number(number),
+        Piece::Markup(unit),
+        Piece::Markup(" ago.</p>\n"),
+    ])?;
+    Ok(())
+}
+
 /// Adds the peers that can't be reached.
 fn add_peers(page: &mut Markup, peers: &[PeerFacts]) -> Result<(), NoMemory> {
     for peer in peers {
@@ -129,8 +145,8 @@ fn add_peers(page: &mut Markup, peers: &[PeerFacts]) -> Result<(), NoMemory> {
 fn add_peer(page: &mut Markup, peer: &PeerFacts) -> Result<(), NoMemory> {
     let (number, unit) = in_unit(peer.condition_ms);
     page.add(&[
-        Piece::Markup("<p class=\"waits\">The site at port "),
-        Piece::Number(u64::from(peer.port)),
+        Piece::Markup("<p class=\"waits\">The peer "),
+        Piece::Text(peer.peer.as_str()),
         Piece::Markup(" has not been reached for "),
         Piece::Number(number),
         Piece::Markup(unit),

@@ -17,6 +17,15 @@ pub fn open_object(out: &mut Writer<Global>) -> Result<(), NoMemory>
     Ok(())
 }
 
+/// Begins an object under a key.
+pub fn open_member(out: &mut Writer<Global>, name: &str) -> Result<(), NoMemory>
+    ensures { OnOk result (Adds out.old out.new (key name.now ∷ begin_object ∷ [])) }
+{
+    out.key(name)?;
+    out.begin_object()?;
+    Ok(())
+}
+
 /// Ends an object.
 pub fn close_object(out: &mut Writer<Global>) -> Result<(), NoMemory>
     ensures { OnOk result (Adds out.old out.new (end_object ∷ [])) }
@@ -71,7 +80,7 @@ pub fn put_option(out: &mut Writer<Global>, name: &str, value: Option<u64>) -> R
 }
 
 /// Adds `null` under a key.
-fn put_null(out: &mut Writer<Global>, name: &str) -> Result<(), NoMemory>
+pub fn put_null(out: &mut Writer<Global>, name: &str) -> Result<(), NoMemory>
     ensures { OnOk result (Adds out.old out.new (key name.now ∷ null ∷ [])) }
 {
     out.key(name)?;

@@ -2,13 +2,14 @@
 
 ghost use Rattle.std.specs.Prelude.{◌≡◌, ◌++◌, IfOk, OnOk, flat_map, length, string_bytes};
 ghost use Rattle.state_core.specs.State.{state_of};
-ghost use Rattle.page_text.specs.Metrics.{all_held_text, changes_text, held_text, metrics_of, record_text};
-ghost use Rattle.page_text.specs.Metrics.{age_text, info_text, labels_text, served_text};
-ghost use Rattle.page_text.specs.Metrics.{site_text, status_text, update_text};
+ghost use Rattle.page_text.specs.Metrics.{age_text, all_held_text, changes_text, figures_text, held_text, info_text};
+ghost use Rattle.page_text.specs.Metrics.{labels_text, metrics_of, record_text, served_text, site_text, status_text};
+ghost use Rattle.page_text.specs.Metrics.{update_text};
 
 use super::facts::Facts;
 use super::held::{Held, all_held, held_count, held_words};
 use super::metrics_peers::add_peers;
+use super::metrics_work::add_now;
 use super::samples::{
     add_counter, add_family, add_gauge, add_labelled, add_microseconds, add_milliseconds,
 };
@@ -21,8 +22,8 @@ use replica_core::Replica;
 use state_core::State;
 use std::alloc::Global;
 
-/// The text of the figures: of the record, of the items that open ones are held by, of the site, of its peers, and of
-/// what it served. It costs O(n k) for n items and k approvals of the gate.
+/// The text of the figures: of the record, of the items that open ones are held by, of the site, of its peers, of what
+/// it served, of its threads, of its journal, and of what its feeds heard. It costs O(n k) for n items and k approvals of the gate.
 pub fn metrics_text(
     alloc: Global,
     gate: &Gate,
@@ -34,13 +35,31 @@ pub fn metrics_text(
         ≡ metrics_of gate.now (state_of replica.now) (length replica.now) verdicts.now facts.now) }
 {
     let mut text = String::new(alloc);
-    add_record(&mut text, replica, verdicts)?;
-    add_held(alloc, &mut text, gate, verdicts.out())?;
-    add_site(&mut text, facts)?;
-    add_peers(&mut text, facts.peers.as_slice())?;
-    add_served(&mut text, facts)?;
-    add_update(&mut text, facts.update_us)?;
+    add_figures(alloc, &mut text, gate, replica, verdicts, facts)?;
+    add_now(&mut text, facts)?;
     Ok(text.into_bytes())
+}
+
+/// Adds the figures of the record, of the items that open ones are held by, of the site, of its peers, and of what it
+/// served.
+fn add_figures(
+    alloc: Global,
+    text: &mut String,
+    gate: &Gate,
+    replica: &Replica,
+    verdicts: &Verdicts,
+    facts: &Facts,
+) -> Result<(), NoMemory>
+    ensures { OnOk result (string_bytes text.new ≡ string_bytes text.old
+        ++ figures_text gate.now (state_of replica.now) (length replica.now) verdicts.now facts.now) }
+{
+    add_record(text, replica, verdicts)?;
+    add_held(alloc, text, gate, verdicts.out())?;
+    add_site(text, facts)?;
+    add_peers(text, facts.peers.as_slice())?;
+    add_served(text, facts)?;
+    add_update(text, facts.update_us)?;
+    Ok(())
 }
 
 /// Adds the figures of the record.

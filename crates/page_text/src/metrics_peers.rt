@@ -1,15 +1,15 @@
 //! The figures of the sites that a site pulls from.
 
 ghost use Rattle.std.specs.Prelude.{◌≡◌, ◌++◌, OnOk, flat_map, string_bytes};
-ghost use Rattle.page_text.specs.Metrics.{ages_text, failures_text, flag, peers_text, port_age_text};
+ghost use Rattle.page_text.specs.Metrics.{ages_text, failures_text, flag, peers_text, peer_age_text};
 ghost use Rattle.page_text.specs.Metrics.{pulls_text, up_text};
-ghost use Rattle.page_text.specs.Samples.{port_sample};
+ghost use Rattle.page_text.specs.Samples.{peer_sample};
 
 use super::facts::PeerFacts;
-use super::samples::{add_family, add_port, add_port_milliseconds};
+use super::samples::{add_family, add_peer, add_peer_milliseconds};
 use lattice_core::NoMemory;
 
-/// Adds the figures of the peers, each with its port.
+/// Adds the figures of the peers, each by how the command line names it.
 pub fn add_peers(text: &mut String, peers: &[PeerFacts]) -> Result<(), NoMemory>
     ensures { OnOk result (string_bytes text.new ≡ string_bytes text.old ++ peers_text peers.now) }
 {
@@ -38,10 +38,10 @@ fn add_up(text: &mut String, peers: &[PeerFacts]) -> Result<(), NoMemory>
 /// Adds 1 of each peer that was reached, and 0 of each other one.
 fn add_flags(text: &mut String, name: &str, peers: &[PeerFacts]) -> Result<(), NoMemory>
     ensures { OnOk result (string_bytes text.new ≡ string_bytes text.old
-        ++ flat_map (λ peer. port_sample name.now peer.port (flag peer.is_reachable)) peers.now) }
+        ++ flat_map (λ peer. peer_sample name.now (string_bytes peer.peer) (flag peer.is_reachable)) peers.now) }
 {
     for peer in peers {
-        add_port(text, name, peer.port, flag(peer.is_reachable))?;
+        add_peer(text, name, peer.peer.as_str(), flag(peer.is_reachable))?;
     }
     Ok(())
 }
@@ -64,32 +64,32 @@ fn add_ages(text: &mut String, peers: &[PeerFacts]) -> Result<(), NoMemory>
         "gauge",
         "Seconds since the last whole pull ended.",
     )?;
-    add_port_ages(text, name, peers)?;
+    add_peer_ages(text, name, peers)?;
     Ok(())
 }
 
 /// Adds how long ago it was of each peer, where it was.
-fn add_port_ages(text: &mut String, name: &str, peers: &[PeerFacts]) -> Result<(), NoMemory>
+fn add_peer_ages(text: &mut String, name: &str, peers: &[PeerFacts]) -> Result<(), NoMemory>
     ensures { OnOk result (string_bytes text.new ≡ string_bytes text.old
-        ++ flat_map (λ peer. port_age_text name.now peer.port peer.good_ms) peers.now) }
+        ++ flat_map (λ peer. peer_age_text name.now (string_bytes peer.peer) peer.good_ms) peers.now) }
 {
     for peer in peers {
-        add_port_age(text, name, peer.port, peer.good_ms)?;
+        add_peer_age(text, name, peer.peer.as_str(), peer.good_ms)?;
     }
     Ok(())
 }
 
-/// Adds how long ago something was of the peer at a port, where it was.
-fn add_port_age(
+/// Adds how long ago something was of a peer, where it was.
+fn add_peer_age(
     text: &mut String,
     name: &str,
-    port: u16,
+    peer: &str,
     age_ms: Option<u64>,
 ) -> Result<(), NoMemory>
-    ensures { OnOk result (string_bytes text.new ≡ string_bytes text.old ++ port_age_text name.now port age_ms) }
+    ensures { OnOk result (string_bytes text.new ≡ string_bytes text.old ++ peer_age_text name.now peer.now age_ms) }
 {
     match age_ms {
-        Some(age_ms) => add_port_milliseconds(text, name, port, age_ms),
+        Some(age_ms) => add_peer_milliseconds(text, name, peer, age_ms),
         None => Ok(()),
     }
 }
@@ -107,10 +107,10 @@ fn add_pulls(text: &mut String, peers: &[PeerFacts]) -> Result<(), NoMemory>
 /// Adds the number of each peer.
 fn add_pull_counts(text: &mut String, name: &str, peers: &[PeerFacts]) -> Result<(), NoMemory>
     ensures { OnOk result (string_bytes text.new ≡ string_bytes text.old
-        ++ flat_map (λ peer. port_sample name.now peer.port peer.pulls) peers.now) }
+        ++ flat_map (λ peer. peer_sample name.now (string_bytes peer.peer) peer.pulls) peers.now) }
 {
     for peer in peers {
-        add_port(text, name, peer.port, peer.pulls)?;
+        add_peer(text, name, peer.peer.as_str(), peer.pulls)?;
     }
     Ok(())
 }
@@ -128,10 +128,10 @@ fn add_failures(text: &mut String, peers: &[PeerFacts]) -> Result<(), NoMemory>
 /// Adds the number of each peer.
 fn add_failure_counts(text: &mut String, name: &str, peers: &[PeerFacts]) -> Result<(), NoMemory>
     ensures { OnOk result (string_bytes text.new ≡ string_bytes text.old
-        ++ flat_map (λ peer. port_sample name.now peer.port peer.failures) peers.now) }
+        ++ flat_map (λ peer. peer_sample name.now (string_bytes peer.peer) peer.failures) peers.now) }
 {
     for peer in peers {
-        add_port(text, name, peer.port, peer.failures)?;
+        add_peer(text, name, peer.peer.as_str(), peer.failures)?;
     }
     Ok(())
 }

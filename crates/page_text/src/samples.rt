@@ -2,9 +2,10 @@
 
 ghost use Rattle.std.specs.Prelude.{◌≡◌, ◌++◌, OnOk, codes, string_bytes};
 ghost use Rattle.page_text.specs.Samples.{counter, family, gauge, labelled, micro_sample, milli_sample, sample};
-ghost use Rattle.page_text.specs.Samples.{port_milli_sample, port_sample, port_whole_text, three_digits};
-ghost use Rattle.page_text.specs.Samples.{whole_text};
+ghost use Rattle.page_text.specs.Samples.{peer_label, peer_milli_sample, peer_sample, peer_whole_text};
+ghost use Rattle.page_text.specs.Samples.{three_digits, whole_text};
 
+use super::labels::push_label;
 use lattice_core::NoMemory;
 
 /// Adds the lines that say what a metric means and of which type it is.
@@ -102,32 +103,44 @@ fn add_last_three(text: &mut String, number: u64) -> Result<(), NoMemory>
     Ok(())
 }
 
-/// Adds a sample of the peer at a port.
-pub fn add_port(text: &mut String, name: &str, port: u16, value: u64) -> Result<(), NoMemory>
-    ensures { OnOk result (string_bytes text.new ≡ string_bytes text.old ++ port_sample name.now port value) }
+/// Adds a sample of a peer.
+pub fn add_peer(text: &mut String, name: &str, peer: &str, value: u64) -> Result<(), NoMemory>
+    ensures { OnOk result (string_bytes text.new ≡ string_bytes text.old ++ peer_sample name.now peer.now value) }
 {
-    write!(text, "{name}{{port=\"{port}\"}} {value}\n")?;
+    add_peer_label(text, name, peer)?;
+    write!(text, "{value}\n")?;
     Ok(())
 }
 
-/// Adds a sample of a duration in seconds of the peer at a port.
-pub fn add_port_milliseconds(
+/// Adds a sample of a duration in seconds of a peer.
+pub fn add_peer_milliseconds(
     text: &mut String,
     name: &str,
-    port: u16,
+    peer: &str,
     value: u64,
 ) -> Result<(), NoMemory>
-    ensures { OnOk result (string_bytes text.new ≡ string_bytes text.old ++ port_milli_sample name.now port value) }
+    ensures { OnOk result (string_bytes text.new ≡ string_bytes text.old ++ peer_milli_sample name.now peer.now value) }
 {
-    add_port_whole(text, name, port, value / 1000)?;
+    add_peer_whole(text, name, peer, value / 1000)?;
     add_last_three(text, value)?;
     Ok(())
 }
 
-/// Adds a sample of the peer at a port up to the point of its value.
-fn add_port_whole(text: &mut String, name: &str, port: u16, whole: u64) -> Result<(), NoMemory>
-    ensures { OnOk result (string_bytes text.new ≡ string_bytes text.old ++ port_whole_text name.now port whole) }
+/// Adds a sample of a peer up to the point of its value.
+fn add_peer_whole(text: &mut String, name: &str, peer: &str, whole: u64) -> Result<(), NoMemory>
+    ensures { OnOk result (string_bytes text.new ≡ string_bytes text.old ++ peer_whole_text name.now peer.now whole) }
 {
-    write!(text, "{name}{{port=\"{port}\"}} {whole}.")?;
+    add_peer_label(text, name, peer)?;
+    write!(text, "{whole}.")?;
+    Ok(())
+}
+
+/// Adds a sample of a peer up to its value.
+fn add_peer_label(text: &mut String, name: &str, peer: &str) -> Result<(), NoMemory>
+    ensures { OnOk result (string_bytes text.new ≡ string_bytes text.old ++ peer_label name.now peer.now) }
+{
+    write!(text, "{name}{{peer=\"")?;
+    push_label(text, peer)?;
+    text.push_str("\"} ")?;
     Ok(())
 }

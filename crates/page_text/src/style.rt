@@ -90,6 +90,28 @@ td:first-child {
 .waits {
   color: var(--waits);
 }
+.drawing {
+  overflow-x: auto;
+}
+.drawing svg {
+  display: block;
+}
+.drawing line {
+  stroke: var(--quiet);
+}
+.drawing rect {
+  fill: var(--shade);
+  stroke: var(--quiet);
+}
+.drawing rect.ready {
+  stroke: var(--ready);
+}
+.drawing rect.waits {
+  stroke: var(--waits);
+}
+.drawing text {
+  fill: var(--link);
+}
 @media (max-width: 40rem) {
   thead {
     position: absolute;

@@ -14,7 +14,7 @@ use std::alloc::Global;
 
 /// The page that says that a change, or one of its patch sets, isn't known.
 pub fn unknown_page(alloc: Global, place: Place, site: u16) -> Result<Vec<u8>, NoMemory> {
-    let mut page = begin(alloc, "Not found", site)?;
+    let mut page = begin(alloc, &[Piece::Markup("Not found")], site)?;
     page.add(&[
         Piece::Markup("<h1>Not found</h1>\n<p>The record has no change "),
         Piece::Number(u64::from(place.change)),

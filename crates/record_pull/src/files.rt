@@ -8,6 +8,7 @@ use super::joining::joined;
 use byte_ends::{BytesFault, Ends, read_all};
 use console::{Named, PullFault};
 use replica_core::Replica;
+use site_address::Address;
 use snapshot_text::{SnapFault, read_onto};
 use std::alloc::Global;
 use std::fs;
@@ -68,8 +69,8 @@ impl<R: Files + Net<Stream = TcpStream> + Clock + AllocGlobal + Drop> Named for 
         answer
     }
 
-    fn pull(&mut self, replica: Replica, port: u16) -> Result<Replica, PullFault> {
-        let pulled = pull_from(&self.rt, self.rt.alloc(), port)?;
+    fn pull(&mut self, replica: Replica, address: Address<'_>) -> Result<Replica, PullFault> {
+        let pulled = pull_from(&self.rt, self.rt.alloc(), address)?;
         joined(replica, pulled)
     }
 

@@ -1,8 +1,9 @@
 //! Feeds what Gerrit writes to a session.
 
-ghost use Rattle.std.specs.Prelude.{◌≡◌, ◌++◌, IfOk, codes, decimal, string_bytes};
+ghost use Rattle.std.specs.Prelude.{◌≡◌, ◌++◌, IfOk, codes, string_bytes};
 ghost use Rattle.refusal_line.specs.Line.{line_of};
 ghost use Rattle.refusal_line.specs.declared.part.Part.TheVariants.{Events};
+ghost use Rattle.site_address.specs.Address.{address_text};
 
 use super::projects::read_projects;
 use byte_ends::{Drain, Source};
@@ -15,6 +16,7 @@ use footer_text::Bases;
 use gerrit_events::Projects;
 use record_pull::SystemFiles;
 use refusal_line::{Part, refusal_line};
+use site_address::Address;
 use std::alloc::{AllocError, Global};
 use std::net::{Net, TcpStream};
 use std::rt::Files;
@@ -24,14 +26,14 @@ use std::time::Clock;
 
 /// What a feed is run with, once its files are read.
 #[derive(Drop)]
-struct Choice {
-    to: Option<u16>,
+struct Choice<'n> {
+    to: Option<Address<'n>>,
     answer: Answer,
     projects: Projects,
     bases: Option<Bases>,
 }
 
-/// Feeds what Gerrit writes as the words ask for: to the site at a port, or else to the output. Answers the exit
+/// Feeds what Gerrit writes as the words ask for: to the site at an address, or else to the output. Answers the exit
 /// status: 0 at the end of the input, 1 where a file is refused or the feed ended before.
 pub fn feed<R, I, O, E>(
     rt: R,
@@ -52,7 +54,7 @@ where
     let files = &mut SystemFiles::new(rt);
     match read_choice(alloc, words, &mut input, output, files) {
         Ok(choice) => match choice.to {
-            Some(port) => events_to(rt, alloc, port, choice, input, output, errors),
+            Some(address) => events_to(rt, alloc, address, choice, input, output, errors),
             None => events(alloc, choice, &mut input, output, errors),
         },
         Err(refusal) => report(alloc, &Err(refusal), errors),
@@ -66,7 +68,7 @@ fn read_choice<'n, I: Source, O: Drain, N: Named>(
     input: &mut I,
     output: &mut O,
     files: &mut N,
-) -> Result<Choice, Refusal<'n>> {
+) -> Result<Choice<'n>, Refusal<'n>> {
     let mut console = Streams {
         input,
         output,
@@ -109,7 +111,7 @@ fn read_bases<'n, C: Console>(
 /// lost of them to the errors.
 fn events<I: Source, O: Drain, E: Drain>(
     alloc: Global,
-    choice: Choice,
+    choice: Choice<'_>,
     input: &mut I,
     output: &mut O,
     errors: &mut E,
@@ -129,13 +131,13 @@ fn events<I: Source, O: Drain, E: Drain>(
     }
 }
 
-/// Reads Gerrit's lines from the input, and feeds them to the site at a port, and writes what has to be asked for to the
-/// output, and what is lost of them to the errors.
+/// Reads Gerrit's lines from the input, and feeds them to the site at an address, and writes what has to be asked for
+/// to the output, and what is lost of them to the errors.
 fn events_to<R, I, O, E>(
     rt: R,
     alloc: Global,
-    port: u16,
-    choice: Choice,
+    address: Address<'_>,
+    choice: Choice<'_>,
     input: I,
     output: &mut O,
     errors: &mut E,
@@ -152,29 +154,31 @@ where
         Answer::Complete => Feeds::Complete,
     };
     let order = FeedOrder {
-        port,
+        address,
         feeds,
         projects: choice.projects,
         bases: choice.bases,
     };
     match feed_to(rt, alloc, order, input, output, errors) {
         Ok(()) => 0,
-        Err(FeedFault::NoSite) => report_no_site(alloc, port, errors),
+        Err(FeedFault::NoSite) => report_no_site(alloc, address, errors),
         Err(fault) => report_end(alloc, fault, errors),
     }
 }
 
-/// Reports that no site answers at a port. Answers the exit status.
-fn report_no_site<E: Drain>(alloc: Global, port: u16, errors: &mut E) -> u8 {
-    show_line(&no_site_line(alloc, port), errors);
+/// Reports that no site answers at an address. Answers the exit status.
+fn report_no_site<E: Drain>(alloc: Global, address: Address<'_>, errors: &mut E) -> u8 {
+    show_line(&no_site_line(alloc, address), errors);
     1
 }
 
-/// The line of a port at which no site answers.
-fn no_site_line(alloc: Global, port: u16) -> Result<String, AllocError>
-    ensures { IfOk result (λ line. string_bytes line ≡ line_of Events 7 (codes "NoSite " ++ decimal port)) }
+/// The line of an address at which no site answers.
+fn no_site_line(alloc: Global, address: Address<'_>) -> Result<String, AllocError>
+    ensures { IfOk result
+        (λ line. string_bytes line ≡ line_of Events 7 (codes "NoSite " ++ address_text address.entry)) }
 {
-    let words = format!(in alloc; "NoSite {port}")?;
+    let mut words = String::from_str(alloc, "NoSite ")?;
+    address.write(&mut words)?;
     refusal_line(alloc, Part::Events, 7, words.as_str())
 }
 

@@ -3,3 +3,4 @@ pub mod Beginning
 pub mod Endings
 pub mod Printing
 pub mod LateClock
+pub mod Listening

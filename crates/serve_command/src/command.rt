@@ -10,10 +10,11 @@ use super::fault::ProgramFault;
 use super::input_end::stop_with_input;
 use super::journal::open_journal;
 use super::late_clock::show_late_clock;
+use super::listening::{Listening, leave, listen, listen_at};
 use super::output::PatientOutput;
 use super::save::save;
 use super::start::start_of;
-use byte_ends::{Drain, Ends, Source, write_all};
+use byte_ends::{Drain, Ends, Source};
 use command_line::{Printing, ServeWords};
 use console::{Console, Named, Refusal, Streams, read_gate, read_snapshot};
 use gate_rules::Gate;
@@ -23,7 +24,7 @@ use record_pull::SystemFiles;
 use replica_core::Replica;
 use site_journal::JournalFault;
 use site_ledger::{Keeps, NoJournal};
-use site_net::Stop;
+use site_net::{Listener, Stop};
 use site_serve::{Doorstep, Prints, ServeFault, Served, Setup, Turn, serve_keeping};
 use std::alloc::Global;
 use std::fs::File;
@@ -63,9 +64,10 @@ impl Turn for NoTurn {
     fn left(&self, _session: u64) {}
 }
 
-/// Runs the site that words ask for. It reads and judges the gate file and then the snapshot, if one
-/// is named, opens the journal, asks whether the start was used, binds, prints `listening P` and, where it shows itself to
-/// browsers, `listening http P`, runs the site and saves what it has. What is wrong while it runs is written to `errors`.
+/// Runs the site that words ask for. It reads and judges the gate file and then the snapshot, if one is named, opens
+/// the journal, asks whether the start was used, listens and prints `listening ADDRESS` for each address and, where it
+/// shows itself to browsers, `listening http P`, runs the site and saves what it has. What is wrong while it runs is
+/// written to `errors`.
 pub fn serve<'n, R, I, E>(
     rt: R,
     alloc: Global,
@@ -165,10 +167,42 @@ where
     let Some(start) = start_of(&rt, serving.start, &replica, serving.site) else {
         return Err(Ended::Site(ServeFault::StartUsed));
     };
-    let Ok(listener) = TcpListener::bind(&rt, ("127.0.0.1", serving.port)) else {
-        return Err(Ended::Program(ProgramFault::NoBind));
+    let Listening { listeners, sockets } = listen(&rt, alloc, &serving)?;
+    let site = Site {
+        serving,
+        gate,
+        replica,
     };
-    say_port(&rt, alloc, "", &listener)?;
+    let ended = run_listening(rt, alloc, site, start, listeners, input, errors, keeper);
+    leave(&rt, sockets.as_slice());
+    ended
+}
+
+/// Runs a site that listens, until it has saved its snapshot.
+fn run_listening<R, I, E, K>(
+    rt: R,
+    alloc: Global,
+    site: Site<'_>,
+    start: u32,
+    listeners: Vec<Listener>,
+    input: I,
+    errors: E,
+    keeper: K,
+) -> Result<(), Ended<'static>>
+where
+    R: Net<Listener = TcpListener, Stream = TcpStream> + RandomSource,
+    R: Files<File = File> + Print + Threads + Wait + Clock + AllocGlobal,
+    R: Copy + Send + Sync + 'static,
+    I: Source + Send + Drop + 'static,
+    E: Drain + Send + Drop,
+    K: Keeps + Drop,
+    requires { (first : List Operation) × K.holds keeper first }
+{
+    let Site {
+        serving,
+        gate,
+        replica,
+    } = site;
     let page = page_of(&rt, alloc, serving.http)?;
     let ending = serving.until_input_ends.then_some(input);
     let stop = stop_of(rt, alloc, ending)?;
@@ -176,7 +210,7 @@ where
     let setup = setup_of(serving, start, gate, replica, page);
     let output = output_of(rt, alloc, &stop)?;
     match serve_keeping(
-        &rt, alloc, listener, setup, &stop, output, errors, &NoTurn, keeper,
+        &rt, alloc, listeners, setup, &stop, output, errors, &NoTurn, keeper,
     ) {
         Ok(served) => keep(&rt, alloc, name, &served),
         Err(fault) => Err(Ended::Site(fault)),
@@ -211,10 +245,7 @@ where
     let Some(port) = http else {
         return Ok(None);
     };
-    let Ok(listener) = TcpListener::bind(rt, ("127.0.0.1", port)) else {
-        return Err(Ended::Program(ProgramFault::NoBind));
-    };
-    say_port(rt, alloc, "http ", &listener)?;
+    let listener = listen_at(rt, alloc, "http ", port)?;
     match open_door(rt, listener) {
         Ok(page) => Ok(Some(page)),
         Err(_) => Err(Ended::Program(ProgramFault::NoBind)),
@@ -222,13 +253,13 @@ where
 }
 
 /// What a site is run with.
-fn setup_of(
-    serving: ServeWords<'_>,
+fn setup_of<'a>(
+    serving: ServeWords<'a>,
     start: u32,
     gate: Gate,
     replica: Replica,
     page: Option<(Door, Waker)>,
-) -> Setup
+) -> Setup<'a>
     ensures held { (result.gate ≡ gate) × (result.replica ≡ replica) }
     ensures stamps { (result.site ≡ serving.entry.site) × (result.start ≡ start) }
     ensures peers { (result.peers ≡ serving.entry.peers) × (result.pause_ms ≡ serving.entry.pause_ms)
@@ -349,26 +380,6 @@ fn read_inputs<'n, C: Console>(
         None => Replica::new(alloc),
     };
     Ok((rules, replica))
-}
-
-/// Prints the port at which the site listens, after what it is for.
-fn say_port<R: Print>(
-    rt: &R,
-    alloc: Global,
-    what: &str,
-    listener: &TcpListener,
-) -> Result<(), Ended<'static>> {
-    let Ok(address) = listener.local_addr() else {
-        return Err(Ended::Program(ProgramFault::NoBind));
-    };
-    let port = address.port();
-    let Ok(line) = format!(in alloc; "listening {what}{port}\n") else {
-        return Err(Ended::Refused(Refusal::Memory));
-    };
-    match write_all(&mut Ends::new(io::writer(rt)), line.as_bytes()) {
-        Ok(()) => Ok(()),
-        Err(_) => Err(Ended::Refused(Refusal::Output)),
-    }
 }
 
 /// Saves what a site has left, where a file is named, also where the output failed, or where the site ended

@@ -23,6 +23,7 @@ mod fault;
 mod input_end;
 mod journal;
 mod late_clock;
+mod listening;
 mod output;
 mod save;
 mod start;

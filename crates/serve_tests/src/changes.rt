@@ -96,7 +96,7 @@ where
 }
 
 /// A site that prints what changed, for as many sessions as there are clients.
-fn changing(alloc: Global) -> Result<Setup, Fail> {
+fn changing(alloc: Global) -> Result<Setup<'static>, Fail> {
     let mut setup = one_session(alloc, 1)?;
     setup.gate = Gate::read(alloc, GATE)?;
     setup.sessions = CLIENTS.len() as u64;

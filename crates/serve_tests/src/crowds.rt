@@ -66,7 +66,7 @@ fn a_silent_crowd_holds_no_other_and_no_end(rt: HostRuntime) -> Result<(), Fail>
 }
 
 /// Runs a site for one session, which sends these pieces one after the other with a pause between: what it is answered.
-fn answers_to<R>(rt: &R, alloc: Global, setup: Setup, pieces: &[&str]) -> io::Result<String>
+fn answers_to<R>(rt: &R, alloc: Global, setup: Setup<'_>, pieces: &[&str]) -> io::Result<String>
 where
     R: Net<Listener = TcpListener, Stream = TcpStream> + Threads + Wait + Clock + Sync,
 {
@@ -219,18 +219,29 @@ fn read_late<R: Net<Listener = TcpListener, Stream = TcpStream> + Clock + Wait>(
     Ok(answers.len())
 }
 
+/// How a site with one session ends.
+fn run_alone<R>(
+    rt: &R,
+    alloc: Global,
+    listener: TcpListener,
+) -> Result<Option<(usize, bool, bool)>, Fail>
+where
+    R: Net<Listener = TcpListener, Stream = TcpStream> + Threads + Wait + Clock + Sync,
+{
+    let setup = one_session(alloc, 1)?;
+    Ok(ending(run_one(rt, alloc, listener, setup, &Stop::new(), &NoTurn)))
+}
+
 #[test]
 fn who_reads_late_is_answered_all(rt: HostRuntime) -> Result<(), Fail> {
     let alloc = rt.alloc();
     let (listener, port) = listening(&rt)?;
-    let setup = one_session(alloc, 1)?;
-    let stop = Stop::new();
     let (ended, count) = thread::join(
         &rt,
-        || ending(run_one(&rt, alloc, listener, setup, &stop, &NoTurn)),
+        || run_alone(&rt, alloc, listener),
         || read_late(&rt, alloc, port),
     );
-    assert_eq!(rt; ended, Some((1, true, false)));
+    assert_eq!(rt; ended?, Some((1, true, false)));
     assert!(rt; matches!(count, Ok(count) if count > ASKED * 60_000));
     Ok(())
 }
@@ -253,32 +264,37 @@ fn one_too_many<R: Net<Listener = TcpListener, Stream = TcpStream> + Clock + Wai
     Ok((answers, refused))
 }
 
+/// How a site with one place ends.
+fn run_with_one_place<R>(
+    rt: &R,
+    alloc: Global,
+    listener: TcpListener,
+    stop: &Stop,
+    errors: &mut Ends<Vec<u8>>,
+) -> Result<Option<(usize, bool, bool)>, Fail>
+where
+    R: Net<Listener = TcpListener, Stream = TcpStream> + Threads + Wait + Clock + Sync,
+{
+    let mut setup = pulling(alloc, 1, &[])?;
+    setup.connections = 1;
+    let output = Ends::new(Vec::new(alloc));
+    Ok(ending(serve_run(rt, alloc, listener, setup, stop, output, errors, &NoTurn)))
+}
+
 /// A connection beyond as many as may be open is closed with nothing said, and the session before it goes on.
 #[test]
 fn a_connection_too_many_is_closed(rt: HostRuntime) -> Result<(), Fail> {
     let alloc = rt.alloc();
     let (listener, port) = listening(&rt)?;
-    let mut setup = pulling(alloc, 1, &[])?;
-    setup.connections = 1;
     let stop = Stop::new();
     let mut errors = Ends::new(Vec::new(alloc));
-    let output = Ends::new(Vec::new(alloc));
     let (ended, answered) = thread::join(
         &rt,
-        || ending(serve_run(
-            &rt,
-            alloc,
-            listener,
-            setup,
-            &stop,
-            output,
-            &mut errors,
-            &NoTurn,
-        )),
+        || run_with_one_place(&rt, alloc, listener, &stop, &mut errors),
         || one_too_many(&rt, alloc, port, &stop),
     );
+    assert_eq!(rt; ended?, Some((0, true, false)));
     let (answers, refused) = answered?;
-    assert_eq!(rt; ended, Some((0, true, false)));
     assert_eq!(rt; answers.as_str(), "hello 2\nbye\n");
     assert_eq!(rt; refused.as_str(), "");
     assert_eq!(rt;

@@ -12,6 +12,7 @@ use gerrit_events::Projects;
 use op_text::{read_op, write_body};
 use replica_core::Missing;
 use review_ops::{Body, Op, Stamp};
+use site_address::Address;
 use state_core::State;
 use std::alloc::Global;
 use std::io::{Read, Write};
@@ -453,7 +454,7 @@ where
     I: Read + Send + Drop + 'static,
 {
     let order = FeedOrder {
-        port,
+        address: Address::Port(port),
         feeds,
         projects: Projects::all(),
         bases: None,
@@ -493,15 +494,17 @@ fn answer_pull(listener: &TcpListener) -> io::Result<TcpStream> {
     Ok(session)
 }
 
-/// A site with nothing, which answers this to the first body and then goes.
-fn go_away(listener: TcpListener, answer: &str) -> io::Result<()> {
+/// A site with nothing, which answers so that Gerrit was heard, and this to the first body, and then goes.
+fn go_away(listener: TcpListener, heard: &str, answer: &str) -> io::Result<()> {
     let mut session = answer_pull(&listener)?;
+    read_line(&mut session)?;
+    session.write_all(heard.as_bytes())?;
     read_line(&mut session)?;
     session.write_all(answer.as_bytes())
 }
 
-/// How a feed of the events ends whose site goes with this answer.
-fn feed_that_ends<R>(rt: R, answer: &str) -> io::Result<Ending>
+/// How a feed of the events ends whose site goes with these answers.
+fn feed_that_ends<R>(rt: R, heard: &str, answer: &str) -> io::Result<Ending>
 where
     R: Clock + Net<Listener = TcpListener, Stream = TcpStream> + Threads + Wait,
     R: AllocGlobal + Copy + Send + Sync + 'static,
@@ -509,7 +512,7 @@ where
     let (listener, port) = listening(&rt)?;
     let (gone, fed) = thread::join(
         &rt,
-        || go_away(listener, answer),
+        || go_away(listener, heard, answer),
         || feed(rt, rt.alloc(), port),
     );
     gone?;
@@ -518,11 +521,28 @@ where
 
 #[test]
 fn the_end_of_a_site_ends_the_feed(rt: HostRuntime) -> Result<(), Fail> {
-    for answer in ["", "what\n", "ok 1,2,3,", "no 11 Else\n"] {
-        let (ended, output, errors) = feed_that_ends(rt, answer)?;
+    for (heard, answer) in [
+        ("noted\n", ""),
+        ("noted\n", "what\n"),
+        ("noted\n", "ok 1,2,3,"),
+        ("noted\n", "no 11 Else\n"),
+        ("no 6 BadCommand\n", "no 11 Else\n"),
+    ] {
+        let (ended, output, errors) = feed_that_ends(rt, heard, answer)?;
         assert_eq!(rt; ended, Err(FeedFault::Ended));
         assert_eq!(rt; output.as_slice(), b"pulled 0\nask 7\n".as_slice());
         assert!(rt; errors.is_empty());
+    }
+    Ok(())
+}
+
+/// A site that answers anything else where it should note that Gerrit was heard is none.
+#[test]
+fn a_site_notes_that_gerrit_was_heard(rt: HostRuntime) -> Result<(), Fail> {
+    for heard in ["ok 1,2,3,4\n", "no 7 BadText\n"] {
+        let (ended, output, _errors) = feed_that_ends(rt, heard, "")?;
+        assert_eq!(rt; ended, Err(FeedFault::Ended));
+        assert_eq!(rt; output.as_slice(), b"pulled 0\n".as_slice());
     }
     Ok(())
 }

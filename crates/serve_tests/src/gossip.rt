@@ -39,7 +39,7 @@ const BOTH: &str = "hello 2\n\
     done\nbye\n";
 
 /// A site without end, with two workers, that pulls from the peer at a port.
-fn with_peer(alloc: Global, site: u16, peer: u16) -> Result<Setup, Fail> {
+fn with_peer(alloc: Global, site: u16, peer: u16) -> Result<Setup<'static>, Fail> {
     let mut setup = pulling(alloc, site, &[peer])?;
     setup.workers = 2;
     Ok(setup)
@@ -85,8 +85,8 @@ fn come_to_agree<R: Net<Listener = TcpListener, Stream = TcpStream> + Wait + Clo
 fn run_two<R>(
     rt: &R,
     alloc: Global,
-    first: (TcpListener, Setup),
-    second: (TcpListener, Setup),
+    first: (TcpListener, Setup<'_>),
+    second: (TcpListener, Setup<'_>),
     ports: (u16, u16),
 ) -> (bool, bool)
 where
@@ -202,32 +202,38 @@ fn fall_silent<R: Net<Listener = TcpListener, Stream = TcpStream> + Clock + Wait
     asked
 }
 
+/// How a site ends that pulls from the peer at a port.
+fn run_beside<R>(
+    rt: &R,
+    alloc: Global,
+    listener: TcpListener,
+    peer: u16,
+    stop: &Stop,
+    errors: &mut Ends<Vec<u8>>,
+) -> Result<Option<(usize, bool, bool)>, Fail>
+where
+    R: Net<Listener = TcpListener, Stream = TcpStream> + Threads + Wait + Clock + Sync,
+{
+    let setup = with_peer(alloc, 1, peer)?;
+    let output = Ends::new(Vec::new(alloc));
+    Ok(ending(serve_run(rt, alloc, listener, setup, stop, output, errors, &NoTurn)))
+}
+
 /// A peer that has greeted a pull and then says nothing is left after ten seconds, and that is reported.
 #[test]
 fn a_peer_that_falls_silent_is_left(rt: HostRuntime) -> Result<(), Fail> {
     let alloc = rt.alloc();
     let (mute, peer) = listening(&rt)?;
     let (listener, _port) = listening(&rt)?;
-    let setup = with_peer(alloc, 1, peer)?;
     let stop = Stop::new();
     let mut errors = Ends::new(Vec::new(alloc));
-    let output = Ends::new(Vec::new(alloc));
     let (ended, asked) = thread::join(
         &rt,
-        || ending(serve_run(
-            &rt,
-            alloc,
-            listener,
-            setup,
-            &stop,
-            output,
-            &mut errors,
-            &NoTurn,
-        )),
+        || run_beside(&rt, alloc, listener, peer, &stop, &mut errors),
         || fall_silent(&rt, alloc, &mute, &stop),
     );
+    assert_eq!(rt; ended?, Some((0, true, false)));
     let line = format!(in alloc; "reviewgate: peer 3 ReadFault {peer}\n")?;
-    assert_eq!(rt; ended, Some((0, true, false)));
     assert_eq!(rt; text_of(&asked), "hello 2\nfront []\n");
     assert!(rt; errors.get_ref().starts_with(line.as_bytes()));
     Ok(())

@@ -8,6 +8,7 @@ use super::sites::{
 use byte_ends::Ends;
 use command_line::ServeWords;
 use serve_command::{Ended, serve};
+use site_address::Address;
 use site_net::Stop;
 use site_serve::{ServeFault, serve_run};
 use std::alloc::Global;
@@ -20,7 +21,7 @@ use std::rt::Files;
 use std::sync::Wait;
 use std::test::Fail;
 use std::thread::Threads;
-use std::time::Clock;
+use std::time::{Clock, Duration};
 use std::{fs, io, thread};
 
 /// The answer of a peer that hands over an operation under the last time that there is, which would spend every clock.
@@ -84,6 +85,8 @@ where
         || {
             let _handed = hand_over::<R>(alloc, &peer.0, answer);
             let answers = talk(rt, alloc, port, TAKE);
+            // What is wrong with a pull isn't reported by a site that stops.
+            let _ = thread::sleep(rt, Duration::from_millis(300));
             stop.ask(rt);
             answers
         },
@@ -129,7 +132,7 @@ fn a_journal_is_not_poisoned(rt: HostRuntime) -> Result<(), Fail> {
         let (listener, port) = listening(&rt)?;
         drop(listener);
         let mut words = kept_words(rt.alloc(), port);
-        words.peers.push(peer_port)?;
+        words.peers.push(Address::Port(peer_port))?;
         let client = thread::spawn(&rt, move || {
             let _handed = hand_over::<HostRuntime>(rt.alloc(), &peer, answer);
             talk_once_up(&rt, rt.alloc(), port, TAKE)
@@ -152,7 +155,7 @@ fn a_journal_is_not_poisoned(rt: HostRuntime) -> Result<(), Fail> {
 /// A site of one session at a port that keeps a journal.
 fn kept_words(alloc: Global, port: u16) -> ServeWords<'static> {
     let mut words = site_words(alloc);
-    words.port = port;
+    words.port = Some(port);
     words.pause_ms = 50;
     words.sessions = 1;
     words.journal = Some("guarded.tmp");

@@ -27,4 +27,6 @@ mod site_feeds;
 #[cfg(test)]
 mod sites;
 #[cfg(test)]
+mod sockets;
+#[cfg(test)]
 mod watched;

@@ -2,7 +2,7 @@
 
 use super::sites::listening;
 use byte_ends::Ends;
-use command_line::{Printing, ServeWords};
+use command_line::{Printing, ServeWords, SocketMode};
 use serve_command::{Ended, ProgramFault, serve};
 use site_journal::JournalFault;
 use std::alloc::Global;
@@ -40,7 +40,9 @@ pub fn site_words<'a>(alloc: Global) -> ServeWords<'a> {
         sites: Vec::new(alloc),
         site: 1,
         start: Some(1),
-        port: 0,
+        port: None,
+        sockets: Vec::new(alloc),
+        mode: SocketMode::Owner,
         workers: 2,
         pause_ms: 1000,
         sessions: 0,
@@ -64,7 +66,9 @@ fn journal_words<'a>(alloc: Global, name: &'a str) -> ServeWords<'a> {
         sites: Vec::new(alloc),
         site: 1,
         start: None,
-        port: 0,
+        port: None,
+        sockets: Vec::new(alloc),
+        mode: SocketMode::Owner,
         workers: 2,
         pause_ms: 1000,
         sessions: 0,
@@ -111,7 +115,7 @@ fn a_gate_file_that_is_not_there_is_refused(rt: HostRuntime) {
 fn a_port_that_is_taken_is_refused(rt: HostRuntime) -> Result<(), Fail> {
     let (_listener, port) = listening(&rt)?;
     let mut words = site_words(rt.alloc());
-    words.port = port;
+    words.port = Some(port);
     let ended = serve_input(rt, words);
     assert!(rt; matches!(&ended, Ended::Program(ProgramFault::NoBind)));
     Ok(())

@@ -81,24 +81,35 @@ fn assert_answered(
 }
 
 /// A site that has a patch set of change 101, which another one took in, and ends after one session.
-fn with_patch_set(alloc: Global) -> Result<Setup, Fail> {
+fn with_patch_set(alloc: Global) -> Result<Setup<'static>, Fail> {
     let mut setup = one_session(alloc, 2)?;
     let _taken = setup.replica.take(read_op(alloc, PATCH_SET)?)?;
     Ok(setup)
+}
+
+/// How such a site ends.
+fn run_with_patch_set<R>(
+    rt: &R,
+    alloc: Global,
+    listener: TcpListener,
+) -> Result<Option<(usize, bool, bool)>, Fail>
+where
+    R: Net<Listener = TcpListener, Stream = TcpStream> + Threads + Wait + Clock + Sync,
+{
+    let setup = with_patch_set(alloc)?;
+    Ok(ending(run_one(rt, alloc, listener, setup, &Stop::new(), &NoTurn)))
 }
 
 #[test]
 fn a_running_site_is_asked_why(rt: HostRuntime) -> Result<(), Fail> {
     let alloc = rt.alloc();
     let (listener, port) = listening(&rt)?;
-    let setup = with_patch_set(alloc)?;
-    let stop = Stop::new();
-    let (served, answered) = thread::join(
+    let (ended, answered) = thread::join(
         &rt,
-        || run_one(&rt, alloc, listener, setup, &stop, &NoTurn),
+        || run_with_patch_set(&rt, alloc, listener),
         || why_of(rt, alloc, port),
     );
-    assert_eq!(rt; ending(served), Some((1, true, false)));
+    assert_eq!(rt; ended?, Some((1, true, false)));
     let reason = "101,1 require approval 1\nwant {\"Verified\":[1,2],\"username\":\"zuul\"}\n";
     assert_answered(&rt, alloc, &answered, 0, reason, "", port)
 }

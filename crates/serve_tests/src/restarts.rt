@@ -6,6 +6,7 @@ use super::sites::{NoTurn, PASS_ON, PASSED, TAKE, ending, listening, pulling, ru
 use byte_ends::Ends;
 use command_line::ServeWords;
 use serve_command::{Ended, ProgramFault, serve};
+use site_address::Address;
 use site_net::Stop;
 use site_serve::ServeFault;
 use std::alloc::Global;
@@ -54,7 +55,7 @@ where
     let (listener, port) = listening(&rt)?;
     drop(listener);
     let mut words = words;
-    words.port = port;
+    words.port = Some(port);
     words.sessions = 1;
     let client = thread::spawn(&rt, move || talk_once_up(&rt, rt.alloc(), port, lines))?;
     let is_well = matches!(&serve_input(rt, words), Ended::Well);
@@ -137,7 +138,7 @@ fn a_start_that_a_peer_has_ends_a_site(rt: HostRuntime) -> Result<(), Fail> {
     let twin = pulling(rt.alloc(), 1, &[])?;
     let stop = Stop::new();
     let mut words = site_words(rt.alloc());
-    words.peers.push(port)?;
+    words.peers.push(Address::Port(port))?;
     words.pause_ms = 50;
     let (served, (is_taken, ended)) = thread::join(
         &rt,

@@ -2,6 +2,7 @@
 
 use super::sites::{NoTurn, ending, listening, one_session, run_one, talk, text_of};
 use page_server::open_door;
+use site_address::Address;
 use site_net::Stop;
 use site_serve::{Doorstep, Setup};
 use std::alloc::Global;
@@ -9,6 +10,7 @@ use std::net::{Net, TcpListener, TcpStream};
 use std::random::RandomSource;
 use std::sync::Wait;
 use std::test::Fail;
+use std::time::{Clock, Duration};
 use std::{io, thread};
 
 /// A client that takes in a patch set, whose subject has markup.
@@ -20,6 +22,8 @@ const ITEMS: &str = "GET /api/v1/items?show=all HTTP/1.1\r\nHost: localhost\r\n\
 
 const LIST: &str = "GET / HTTP/1.1\r\nHost: gate.example.org\r\n\r\n";
 
+const STATUS: &str = "GET /api/v1/status HTTP/1.1\r\nHost: localhost\r\n\r\n";
+
 const HEALTH: &str = "GET /healthz HTTP/1.1\r\nHost: 127.0.0.1\r\n\r\n";
 
 /// The items of a site that took it.
@@ -27,7 +31,7 @@ const SHOWN: &str =
     r#"{"total":1,"page":1,"items":[{"change":101,"set":1,"subject":"<b>&","ready":false,"refusal":"require approval 1"}]}"#;
 
 /// A site without a limit of sessions that shows itself, also by another name, and the port of its page.
-fn shown<R>(rt: &R, alloc: Global) -> Result<(Setup, u16), Fail>
+fn shown<R>(rt: &R, alloc: Global) -> Result<(Setup<'static>, u16), Fail>
 where
     R: Net<Listener = TcpListener, Stream = TcpStream> + RandomSource,
 {
@@ -78,5 +82,58 @@ fn a_site_shows_what_it_took(rt: HostRuntime) -> Result<(), Fail> {
     assert!(rt; text_of(&list).contains("&lt;b&gt;&amp;"));
     assert!(rt; !text_of(&list).contains("<b>"));
     assert!(rt; text_of(&health).ends_with("\r\n\r\nok\n"));
+    Ok(())
+}
+
+/// What a site's page answers of the site once a session has ended with a fault; then the site is asked to stop.
+fn status_after_fault<R>(
+    rt: &R,
+    alloc: Global,
+    ports: (u16, u16),
+    stop: &Stop,
+) -> io::Result<String>
+where
+    R: Net<Listener = TcpListener, Stream = TcpStream> + Wait + Clock,
+{
+    let (port, page) = ports;
+    let _answers = talk(rt, alloc, port, "hello 2\nheard\nhello 3\n");
+    let mut status = talk(rt, alloc, page, STATUS);
+    for _try in 0..100 {
+        if text_of(&status).contains("\"session_faults\":1") {
+            break;
+        }
+        let _ = thread::sleep(rt, Duration::from_millis(50));
+        status = talk(rt, alloc, page, STATUS);
+    }
+    stop.ask(rt);
+    status
+}
+
+/// A site shows what feeds it heard, which sessions failed, and which peers it doesn't reach.
+#[test]
+fn a_site_shows_how_it_is(rt: HostRuntime) -> Result<(), Fail> {
+    let alloc = rt.alloc();
+    let (mut setup, page) = shown(&rt, alloc)?;
+    setup.peers.push(Address::Path("./no/such/socket"))?;
+    let (listener, port) = listening(&rt)?;
+    let stop = Stop::new();
+    let (_ended, status) = thread::join(
+        &rt,
+        || ending(run_one(&rt, alloc, listener, setup, &stop, &NoTurn)),
+        || status_after_fault(&rt, alloc, (port, page), &stop),
+    );
+    let status = text_of(&status);
+    assert!(rt; status.contains("\"session_faults\":1"), "{status}");
+    assert!(rt;
+        status.contains("\"heard_ms\":") && !status.contains("\"heard_ms\":null"),
+        "{status}"
+    );
+    assert!(rt; status.contains("\"journal\":null"), "{status}");
+    assert!(rt; status.contains("\"workers\":1"), "{status}");
+    assert!(rt; status.contains("\"refused_connections\":0"), "{status}");
+    assert!(rt;
+        status.contains("\"peer\":\"./no/such/socket\""),
+        "{status}"
+    );
     Ok(())
 }

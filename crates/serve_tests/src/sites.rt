@@ -5,6 +5,7 @@ use byte_ends::Ends;
 use gate_rules::Gate;
 use op_text::read_op;
 use replica_core::Replica;
+use site_address::Address;
 use site_net::Stop;
 use site_serve::{Prints, ServeFault, Served, Setup, Turn, serve_run};
 use std::alloc::Global;
@@ -45,7 +46,7 @@ impl Turn for NoTurn {
 }
 
 /// A site under start 1, empty, with one worker and one session.
-pub fn one_session(alloc: Global, site: u16) -> Result<Setup, Fail> {
+pub fn one_session(alloc: Global, site: u16) -> Result<Setup<'static>, Fail> {
     Ok(Setup {
         gate: Gate::read(alloc, GATE)?,
         replica: Replica::new(alloc),
@@ -68,7 +69,7 @@ pub fn run_one<R, T>(
     rt: &R,
     alloc: Global,
     listener: TcpListener,
-    setup: Setup,
+    setup: Setup<'_>,
     stop: &Stop,
     turn: &T,
 ) -> Result<Served, ServeFault>
@@ -129,7 +130,13 @@ struct Ran {
 }
 
 /// Runs a site for one session, of these lines: what they are answered, and how the site ended.
-fn run_session<R, T>(rt: &R, alloc: Global, setup: Setup, turn: &T, lines: &str) -> io::Result<Ran>
+fn run_session<R, T>(
+    rt: &R,
+    alloc: Global,
+    setup: Setup<'_>,
+    turn: &T,
+    lines: &str,
+) -> io::Result<Ran>
 where
     R: Net<Listener = TcpListener, Stream = TcpStream> + Threads + Wait + Clock + Sync,
     T: Turn + Sync,
@@ -176,7 +183,7 @@ fn a_bad_body_is_answered_as_one(rt: HostRuntime) -> Result<(), Fail> {
 }
 
 /// A site under the start of the merge that it has.
-fn with_used_start(alloc: Global) -> Result<Setup, Fail> {
+fn with_used_start(alloc: Global) -> Result<Setup<'static>, Fail> {
     let mut setup = one_session(alloc, 1)?;
     let _taken = setup.replica.take(read_op(alloc, MERGED)?)?;
     Ok(setup)
@@ -220,7 +227,7 @@ fn both_are_answered<R, T>(
     rt: &R,
     alloc: Global,
     listener: TcpListener,
-    setup: Setup,
+    setup: Setup<'_>,
     port: u16,
     turn: &T,
 ) -> bool
@@ -286,11 +293,11 @@ fn await_answer<R: Net<Listener = TcpListener, Stream = TcpStream> + Wait + Cloc
 }
 
 /// A site without end, that pulls from these ports.
-pub fn pulling(alloc: Global, site: u16, peers: &[u16]) -> Result<Setup, Fail> {
+pub fn pulling(alloc: Global, site: u16, peers: &[u16]) -> Result<Setup<'static>, Fail> {
     let mut setup = one_session(alloc, site)?;
     setup.sessions = 0;
     for port in peers {
-        setup.peers.push(*port)?;
+        setup.peers.push(Address::Port(*port))?;
     }
     Ok(setup)
 }

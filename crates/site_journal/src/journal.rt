@@ -118,6 +118,13 @@ impl<T: Tape> Journal<T> {
 }
 
 impl<T: Tape> Journal<T> {
+    /// How many bytes of it are synced, as long as it isn't spoiled.
+    pub fn len(&self) -> u64
+        ensures { self.now.is_spoiled ≡ false → IfSome self.now.image (λ i. length i.contents ≡ result) }
+    {
+        self.len
+    }
+
     /// The tape, to look at.
     pub fn tape(&self) -> &T
         ensures { T.image result.now ≡ self.now.image }

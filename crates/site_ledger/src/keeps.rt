@@ -27,6 +27,9 @@ pub trait Keeps {
         ensures err { OnErr result ((before : List Operation) → holds self.old before → survives self.new before) }
         ensures memory { result ≡ Err NoMemory → (before : List Operation) → holds self.old before
             → holds self.new before };
+
+    /// How many bytes it has, where it is a journal: a figure for people, of which this trait promises nothing.
+    fn bytes(&self) -> Option<u64>;
 }
 
 /// A site without a journal: nothing outlives it.
@@ -43,6 +46,10 @@ impl Keeps for NoJournal {
     fn keep(&mut self, _ops: &[Op]) -> Result<(), KeepFault> {
         Ok(())
     }
+
+    fn bytes(&self) -> Option<u64> {
+        None
+    }
 }
 
 impl<T: Tape> Keeps for Journal<T> {
@@ -57,5 +64,9 @@ impl<T: Tape> Keeps for Journal<T> {
 
     fn keep(&mut self, ops: &[Op]) -> Result<(), KeepFault> {
         self.append(ops)
+    }
+
+    fn bytes(&self) -> Option<u64> {
+        Some(self.len())
     }
 }

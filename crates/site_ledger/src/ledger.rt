@@ -94,6 +94,11 @@ impl<K: Keeps> Ledger<K> {
         self.desk.held().len()
     }
 
+    /// How many bytes its keeper has, where that is a journal, as `Keeps::bytes` says.
+    pub fn kept_bytes(&self) -> Option<u64> {
+        self.keeper.bytes()
+    }
+
     /// Has all that is held kept, whoever asked for it, and then publishes it. Where it isn't kept nothing is
     /// published, now and later. Waits and costs as `Desk::flush`, and as the keeper.
     pub fn publish<R: Wait>(&mut self, rt: &R) -> Result<Receipt, LedgerFault>

@@ -1,4 +1,4 @@
-//! The connections of a site: ends that don't wait for ever, and the wish that a site stops.
+//! The connections of a site: where it listens, ends that don't wait for ever, and the wish that a site stops.
 //!
 //! Its tests are in the crate `serve_tests`.
 //!
@@ -19,12 +19,14 @@
 #![tactic(auto)]
 
 mod connect;
+mod listener;
 mod patience;
 mod reader;
 mod stop;
 mod writer;
 
 pub use connect::connected;
+pub use listener::{Listener, listen_at_path, listen_at_port};
 pub use patience::{Awaited, Patience};
 pub use reader::PatientReader;
 pub use stop::Stop;

@@ -11,7 +11,6 @@ const NEVER: u64 = u64::MAX;
 /// What is noted of the pulls from a peer. Moments are counted from the beginning of the site.
 #[derive(Clone, Copy, Debug)]
 pub struct PeerNote {
-    pub port: u16,
     /// Whether the last pull ended well.
     pub is_well: bool,
     /// Since when that is so.
@@ -31,16 +30,30 @@ pub struct Board {
     news_ms: AtomicU64,
     publishes: AtomicU64,
     sessions: AtomicU64,
+    looking: AtomicU64,
+    session_faults: AtomicU64,
+    refused_connections: AtomicU64,
+    journal_bytes: AtomicU64,
+    syncs: AtomicU64,
+    heard_ms: AtomicU64,
     peers: Mutex<Vec<PeerNote>>,
 }
 
+/// What is noted of a journal.
+#[derive(Clone, Copy, Debug)]
+pub struct JournalNote {
+    /// How many bytes it has.
+    pub bytes: u64,
+    /// How often it was synced.
+    pub syncs: u64,
+}
+
 impl Board {
-    /// Nothing is noted yet, from now on.
-    pub fn new<R: Clock>(rt: &R, alloc: Global, ports: &[u16]) -> Result<Board, AllocError> {
-        let mut peers = Vec::with_capacity(alloc, ports.len())?;
-        for port in ports {
+    /// Nothing is noted yet, from now on, of so many peers.
+    pub fn new<R: Clock>(rt: &R, alloc: Global, count: usize) -> Result<Board, AllocError> {
+        let mut peers = Vec::with_capacity(alloc, count)?;
+        for _ in 0..count {
             peers.push(PeerNote {
-                port: *port,
                 is_well: false,
                 since: Duration::ZERO,
                 last_well: None,
@@ -54,6 +67,12 @@ impl Board {
             news_ms: AtomicU64::new(NEVER),
             publishes: AtomicU64::new(0),
             sessions: AtomicU64::new(0),
+            looking: AtomicU64::new(0),
+            session_faults: AtomicU64::new(0),
+            refused_connections: AtomicU64::new(0),
+            journal_bytes: AtomicU64::new(NEVER),
+            syncs: AtomicU64::new(0),
+            heard_ms: AtomicU64::new(NEVER),
             peers: Mutex::new(peers),
         })
     }
@@ -76,14 +95,49 @@ impl Board {
         self.publishes.fetch_add(1, Ordering::Relaxed);
     }
 
-    /// A pull from a peer ended, well or not.
-    pub fn note_pull<R: Wait + Clock>(&self, rt: &R, port: u16, is_well: bool) {
+    /// What feeds the site said that it heard from Gerrit.
+    pub fn note_heard(&self, now: Duration) {
+        self.heard_ms.store(millis(now), Ordering::Relaxed);
+    }
+
+    /// A worker looks from now on.
+    pub fn begin_look(&self) {
+        self.looking.fetch_add(1, Ordering::Relaxed);
+    }
+
+    /// A worker has looked.
+    pub fn end_look(&self) {
+        self.looking.fetch_sub(1, Ordering::Relaxed);
+    }
+
+    /// A session ended with a fault.
+    pub fn note_fault(&self) {
+        self.session_faults.fetch_add(1, Ordering::Relaxed);
+    }
+
+    /// A connection was closed, since as many as may be were open.
+    pub fn note_refused(&self) {
+        self.refused_connections.fetch_add(1, Ordering::Relaxed);
+    }
+
+    /// The journal has so many bytes, if there is one.
+    pub fn note_journal(&self, bytes: Option<u64>) {
+        self.journal_bytes
+            .store(bytes.unwrap_or(NEVER), Ordering::Relaxed);
+    }
+
+    /// What was held is kept now, with so many bytes in the journal, if there is one.
+    pub fn note_kept(&self, bytes: Option<u64>) {
+        self.note_journal(bytes);
+        self.syncs.fetch_add(1, Ordering::Relaxed);
+    }
+
+    /// A pull from the peer at this place among all of them ended, well or not.
+    pub fn note_pull<R: Wait + Clock>(&self, rt: &R, peer: usize, is_well: bool) {
         let now = self.now(rt).unwrap_or(Duration::ZERO);
         let mut peers = self.peers.lock(rt);
-        for peer in peers.as_mut_slice() {
-            if peer.port == port {
-                peer.note(now, is_well);
-            }
+        if let Some(note) = peers.get_mut(peer) {
+            note.note(now, is_well);
         }
     }
 
@@ -94,11 +148,12 @@ impl Board {
 
     /// How long ago something new was published, if anything was.
     pub fn since_news(&self, now: Duration) -> Option<Duration> {
-        let news_ms = self.news_ms.load(Ordering::Relaxed);
-        if news_ms == NEVER {
-            return None;
-        }
-        Some(now.saturating_sub(Duration::from_millis(news_ms)))
+        passed_since(self.news_ms.load(Ordering::Relaxed), now)
+    }
+
+    /// How long ago what feeds the site said that it heard from Gerrit, if it did.
+    pub fn since_heard(&self, now: Duration) -> Option<Duration> {
+        passed_since(self.heard_ms.load(Ordering::Relaxed), now)
     }
 
     /// How many publishes brought something new.
@@ -109,6 +164,33 @@ impl Board {
     /// How many sessions are open.
     pub fn sessions(&self) -> u64 {
         self.sessions.load(Ordering::Relaxed)
+    }
+
+    /// How many workers look now.
+    pub fn looking(&self) -> u64 {
+        self.looking.load(Ordering::Relaxed)
+    }
+
+    /// How many sessions ended with a fault.
+    pub fn session_faults(&self) -> u64 {
+        self.session_faults.load(Ordering::Relaxed)
+    }
+
+    /// How many connections were closed, since as many as may be were open.
+    pub fn refused_connections(&self) -> u64 {
+        self.refused_connections.load(Ordering::Relaxed)
+    }
+
+    /// What is noted of the journal, if there is one.
+    pub fn journal(&self) -> Option<JournalNote> {
+        let bytes = self.journal_bytes.load(Ordering::Relaxed);
+        if bytes == NEVER {
+            return None;
+        }
+        Some(JournalNote {
+            bytes,
+            syncs: self.syncs.load(Ordering::Relaxed),
+        })
     }
 
     /// A copy of what is noted of the peers.
@@ -132,6 +214,14 @@ impl PeerNote {
             self.failures = self.failures.saturating_add(1);
         }
     }
+}
+
+/// How long ago a moment was, if there was one.
+fn passed_since(moment_ms: u64, now: Duration) -> Option<Duration> {
+    if moment_ms == NEVER {
+        return None;
+    }
+    Some(now.saturating_sub(Duration::from_millis(moment_ms)))
 }
 
 /// A duration in whole milliseconds, as far as they can be counted.

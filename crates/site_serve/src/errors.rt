@@ -2,10 +2,13 @@
 
 ghost use Rattle.std.specs.Prelude.{◌≡◌, ◌++◌, IfOk, codes, decimal, string_bytes};
 ghost use Rattle.refusal_line.specs.Line.{line_of};
+ghost use Rattle.refusal_line.specs.declared.part.Part.TheVariants.{Peer};
+ghost use Rattle.site_address.specs.Address.{address_text};
 
 use byte_ends::{Drain, write_all};
 use gossip_line::LineFault;
 use refusal_line::{Part, refusal_line};
+use site_address::Address;
 use std::alloc::{AllocError, Global};
 use std::sync::{Mutex, Wait};
 
@@ -39,23 +42,22 @@ impl<E: Drain> Errors<E> {
     }
 
     /// Writes that a pull from a peer failed.
-    pub fn pull_failed(&self, rt: &impl Wait, alloc: Global, fault: LineFault, peer: u16) {
-        let port = u64::from(peer);
-        if let Ok(line) = line_about(alloc, Part::Peer, fault.number(), fault.name(), port) {
+    pub fn pull_failed(&self, rt: &impl Wait, alloc: Global, fault: LineFault, peer: Address<'_>) {
+        if let Ok(line) = line_of_peer(alloc, fault.number(), fault.name(), peer) {
             self.write(rt, line.as_str());
         }
     }
 
     /// Writes that a peer can't be reached.
-    pub fn not_reached(&self, rt: &impl Wait, alloc: Global, peer: u16) {
-        if let Ok(line) = line_about(alloc, Part::Peer, 8, "Unreachable", u64::from(peer)) {
+    pub fn not_reached(&self, rt: &impl Wait, alloc: Global, peer: Address<'_>) {
+        if let Ok(line) = line_of_peer(alloc, 8, "Unreachable", peer) {
             self.write(rt, line.as_str());
         }
     }
 
     /// Writes that a pull from a peer ended well, after one that didn't.
-    pub fn is_back(&self, rt: &impl Wait, alloc: Global, peer: u16) {
-        if let Ok(line) = line_about(alloc, Part::Peer, 0, "Back", u64::from(peer)) {
+    pub fn is_back(&self, rt: &impl Wait, alloc: Global, peer: Address<'_>) {
+        if let Ok(line) = line_of_peer(alloc, 0, "Back", peer) {
             self.write(rt, line.as_str());
         }
     }
@@ -86,4 +88,19 @@ fn line_about(
 {
     let words = format!(in alloc; "{name} {about}")?;
     refusal_line(alloc, part, number, words.as_str())
+}
+
+/// The line of what is the matter with a pull from a peer, with the peer's address.
+fn line_of_peer(
+    alloc: Global,
+    number: u8,
+    name: &str,
+    peer: Address<'_>,
+) -> Result<String, AllocError>
+    ensures { IfOk result
+        (λ line. string_bytes line ≡ line_of Peer number (name.now ++ codes " " ++ address_text peer.entry)) }
+{
+    let mut words = format!(in alloc; "{name} ")?;
+    peer.write(&mut words)?;
+    refusal_line(alloc, Part::Peer, number, words.as_str())
 }

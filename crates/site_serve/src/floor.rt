@@ -13,13 +13,14 @@ use super::desk::{
 use super::errors::Errors;
 use super::jobs::{Job, Task};
 use super::lines::{Means, do_lines};
+use super::listeners::Listeners;
 use super::news::News;
 use super::opening::OwnLedger;
 use super::places::Places;
 use super::seats::Lines;
 use super::session::Session;
 use byte_ends::Drain;
-use mio::net::{TcpListener, TcpStream};
+use mio::net::TcpStream;
 use mio::{Events, Interest, Poll, Token};
 use site_ledger::Keeps;
 use site_net::{Patience, Stop};
@@ -28,7 +29,7 @@ use std::alloc::{AllocError, Global};
 use std::sync::Wait;
 use std::time::{Clock, Duration};
 
-/// The token of the listener, and that of who has done something for the loop.
+/// The token of the listeners, and that of who has done something for the loop.
 pub(super) const DOOR: Token = Token(usize::MAX);
 
 pub(super) const BELL: Token = Token(usize::MAX - 1);
@@ -57,7 +58,7 @@ pub(super) struct Floor {
     alloc: Global,
     poll: Poll,
     events: Events,
-    listener: Option<TcpListener>,
+    listeners: Option<Listeners>,
     buffer: Vec<u8>,
     patience: Patience,
     /// How many sessions there are to be; without end where that is 0.
@@ -85,7 +86,7 @@ pub(super) struct Floor {
 pub(super) struct House {
     pub alloc: Global,
     pub poll: Poll,
-    pub listener: TcpListener,
+    pub listeners: Listeners,
     pub patience: Patience,
     /// How many sessions there are to be; without end where that is 0.
     pub most: u64,
@@ -99,7 +100,7 @@ impl Floor {
         let House {
             alloc,
             poll,
-            listener,
+            listeners,
             patience,
             most,
             connections,
@@ -108,7 +109,7 @@ impl Floor {
             alloc,
             poll,
             events: Events::with_capacity(alloc, EVENTS)?,
-            listener: Some(listener),
+            listeners: Some(listeners),
             buffer: vec![in alloc; 0u8; BLOCK]?,
             patience,
             most,
@@ -158,7 +159,7 @@ impl Floor {
     fn accept<R: Wait, E: Drain, J: Naming>(
         &mut self,
         rt: &R,
-        errors: &Errors<E>,
+        site: &Site<'_, E, J>,
         places: &mut Places<J>,
         lines: &Lines<J>,
     ) {
@@ -168,7 +169,7 @@ impl Floor {
             };
             match places.free_one() {
                 Some(place) => self.seat(rt, places, lines, place, stream),
-                None => self.refuse(rt, errors),
+                None => self.refuse(rt, site),
             }
         }
     }
@@ -178,27 +179,21 @@ impl Floor {
         if !self.may_accept || (self.most > 0 && self.accepted >= self.most) {
             return None;
         }
-        let Some(listener) = &self.listener else {
-            return None;
-        };
-        match listener.accept() {
-            Ok((stream, _address)) => Some(stream),
-            Err(_) => {
-                self.may_accept = false;
-                None
-            }
-        }
+        let stream = self.listeners.as_ref()?.accept();
+        self.may_accept = stream.is_some();
+        stream
     }
 
     /// Says that every place is taken, at most once a second.
-    fn refuse<R: Wait, E: Drain>(&mut self, rt: &R, errors: &Errors<E>) {
+    fn refuse<R: Wait, E: Drain, J: Naming>(&mut self, rt: &R, site: &Site<'_, E, J>) {
+        site.board.note_refused();
         if let Some(refused) = self.refused {
             if self.now.saturating_sub(refused) < Duration::from_secs(1) {
                 return;
             }
         }
         self.refused = Some(self.now);
-        errors.too_many(rt, self.alloc, self.connections);
+        site.errors.too_many(rt, self.alloc, self.connections);
     }
 
     /// Begins a session at a place.
@@ -212,7 +207,6 @@ impl Floor {
     ) {
         self.accepted = self.accepted.wrapping_add(1);
         let mut stream = stream;
-        let _nodelay = stream.set_nodelay(true);
         let both = Interest::READABLE | Interest::WRITABLE;
         let _registered = self
             .poll
@@ -244,6 +238,7 @@ impl Floor {
     fn do_sessions<R: Wait, J: Naming, K: Keeps>(
         &mut self,
         rt: &R,
+        board: &Board,
         places: &mut Places<J>,
         lines: &Lines<J>,
         ledger: &mut OwnLedger<J, K>,
@@ -263,6 +258,7 @@ impl Floor {
                     number: session.number,
                     moment: self.now,
                     has_room: self.has_room,
+                    board,
                     jobs: &lines.jobs,
                 };
                 let buffer = self.buffer.as_mut_slice();
@@ -318,7 +314,7 @@ impl Floor {
         let Some(stopped) = self.stopped else {
             if stop.is_asked() {
                 self.stopped = Some(self.now);
-                self.listener = None;
+                self.listeners = None;
                 self.end_sessions(places);
             }
             return false;
@@ -377,8 +373,12 @@ fn publish<R: Wait, J: Naming, K: Keeps, E: Drain>(
     if waiters.is_empty() {
         return Ok(());
     }
-    floor.is_news_due |= ledger.held_count() > 0;
+    let is_more = ledger.held_count() > 0;
+    floor.is_news_due |= is_more;
     let published = publish_and_answer(rt, floor.alloc, ledger, replies, waiters)?;
+    if is_more {
+        site.board.note_kept(ledger.kept_bytes());
+    }
     if let Ok(receipt) = &published
         && floor.is_news_due
     {
@@ -415,14 +415,14 @@ fn turn<R: Wait + Clock, J: Naming, K: Keeps, E: Drain>(
     ensures room { BATCH ≤ vec_capacity waiters.new }
     ensures over { OnErr result (ledger.new.ledger.is_over ≡ true) }
 {
-    floor.accept(rt, site.errors, places, lines);
+    floor.accept(rt, site, places, lines);
     if floor.is_rung {
         floor.is_rung = false;
         floor.take_replies(rt, places, lines);
         hold_pulled(rt, lines, ledger, waiters);
     }
     floor.look_at_clock(places);
-    floor.do_sessions(rt, places, lines, ledger, waiters);
+    floor.do_sessions(rt, site.board, places, lines, ledger, waiters);
     let mut replies = Replies {
         places,
         pullers: lines.answers.as_slice(),
@@ -455,6 +455,7 @@ pub(super) fn serve_floor<R: Wait + Clock, J: Naming, K: Keeps, E: Drain>(
     ) else {
         return Ok(Err(DeskFault::NoMemory(0)));
     };
+    site.board.note_journal(ledger.kept_bytes());
     for _ in rt.forever() {
         floor.wait(&mut places);
         floor.note_turn(rt, site.board);

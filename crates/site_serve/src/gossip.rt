@@ -5,6 +5,7 @@ use super::errors::Errors;
 use super::port::PullPort;
 use byte_ends::{Drain, Ends};
 use gossip_line::{LineFault, pull_run};
+use site_address::Address;
 use site_net::{Patience, PatientReader, PatientWriter, Stop, connected};
 use site_port::Guarded;
 use site_shared::Naming;
@@ -17,15 +18,16 @@ use std::time::{Clock, Duration};
 /// A peer on this machine, and how the last pull from it ended.
 #[derive(Drop)]
 pub struct Peer {
-    pub port: u16,
+    /// Its place among the addresses of all peers.
+    pub place: usize,
     pub condition: Condition,
 }
 
 impl Peer {
     /// A peer of which nothing is known yet.
-    pub fn at(port: u16) -> Peer {
+    pub fn at(place: usize) -> Peer {
         Peer {
-            port,
+            place,
             condition: Condition::Well,
         }
     }
@@ -43,6 +45,8 @@ pub enum Condition {
 #[derive(Clone, Copy)]
 pub struct Pulling<'a> {
     pub alloc: Global,
+    /// The addresses of all peers.
+    pub addresses: &'a [Address<'a>],
     /// How long to rest between two rounds.
     pub pause: Duration,
     pub patience: Patience,
@@ -94,11 +98,14 @@ fn pull_round<R: Wait + Clock + Net<Stream = TcpStream>, E: Drain, J: Naming>(
 ) -> bool {
     let mut is_well = false;
     for peer in peers {
-        let condition = pull_from(rt, pulling, peer.port, port);
+        let Some(address) = pulling.addresses.get(peer.place) else {
+            return is_well;
+        };
+        let condition = pull_from(rt, pulling, *address, port);
         is_well |= condition == Condition::Well;
         pulling
             .board
-            .note_pull(rt, peer.port, condition == Condition::Well);
+            .note_pull(rt, peer.place, condition == Condition::Well);
         if port.sink.is_start_taken() {
             pulling.stop.ask(rt);
         }
@@ -107,18 +114,24 @@ fn pull_round<R: Wait + Clock + Net<Stream = TcpStream>, E: Drain, J: Naming>(
         }
         if condition != peer.condition {
             peer.condition = condition;
-            report_condition(rt, pulling.alloc, peer, errors);
+            report_condition(rt, pulling.alloc, *address, condition, errors);
         }
     }
     is_well
 }
 
 /// Writes what is wrong with a peer, or that nothing is any more.
-fn report_condition<E: Drain>(rt: &impl Wait, alloc: Global, peer: &Peer, errors: &Errors<E>) {
-    match peer.condition {
-        Condition::Well => errors.is_back(rt, alloc, peer.port),
-        Condition::Unreachable => errors.not_reached(rt, alloc, peer.port),
-        Condition::Failed(fault) => errors.pull_failed(rt, alloc, fault, peer.port),
+fn report_condition<E: Drain>(
+    rt: &impl Wait,
+    alloc: Global,
+    peer: Address<'_>,
+    condition: Condition,
+    errors: &Errors<E>,
+) {
+    match condition {
+        Condition::Well => errors.is_back(rt, alloc, peer),
+        Condition::Unreachable => errors.not_reached(rt, alloc, peer),
+        Condition::Failed(fault) => errors.pull_failed(rt, alloc, fault, peer),
     }
 }
 
@@ -126,7 +139,7 @@ fn report_condition<E: Drain>(rt: &impl Wait, alloc: Global, peer: &Peer, errors
 fn pull_from<R: Wait + Clock + Net<Stream = TcpStream>, J: Naming>(
     rt: &R,
     pulling: Pulling<'_>,
-    peer: u16,
+    peer: Address<'_>,
     port: &mut Guarded<'_, PullPort<'_, R, J>>,
 ) -> Condition {
     let Ok(stream) = connected(rt, peer, pulling.patience) else {

@@ -10,7 +10,6 @@
 //! An example of its use:
 //!
 //! ```
-//! use std::net::TcpListener;
 //! #[derive(Drop)]
 //! struct Quiet;
 //! impl Turn for Quiet {
@@ -18,7 +17,7 @@
 //!     fn left(&self, _session: u64) {}
 //! }
 //!
-//! let listener = TcpListener::bind(&rt, "127.0.0.1:0")?;
+//! let listener = listen_at_port(&rt, 0)?;
 //! let setup = Setup {
 //!     gate: Gate::read(alloc, br#"{"bases":["https://r/"]}"#)?,
 //!     replica: Replica::new(alloc),
@@ -53,6 +52,7 @@ mod inbox;
 mod jobs;
 mod kept;
 mod lines;
+mod listeners;
 mod looks;
 mod news;
 mod opening;

@@ -11,6 +11,7 @@ ghost use Rattle.site_serve.specs.Outboxes.{Adds};
 ghost use Rattle.site_serve.specs.Doing.{DoesLine};
 
 use super::ask::{Ask, Asker};
+use super::board::Board;
 use super::desk::{BATCH, Waiter, hold_more};
 use super::jobs::{Job, Task};
 use super::opening::OwnLedger;
@@ -37,6 +38,7 @@ pub(super) struct Means<'a, J: Naming> {
     pub moment: Duration,
     /// Whether there is room for the answers of more looks.
     pub has_room: bool,
+    pub board: &'a Board,
     pub jobs: &'a Sender<Job<J>, Global>,
 }
 
@@ -169,6 +171,9 @@ fn do_line<R: Wait, J: Naming, K: Keeps>(
         }
         _ if session.is_waiting() => false,
         Step::Says(saying) => {
+            if saying == Saying::Noted {
+                means.board.note_heard(means.moment);
+            }
             session.say(means.alloc, saying);
             session.pass(size);
             true

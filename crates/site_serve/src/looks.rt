@@ -12,6 +12,7 @@ ghost use Rattle.site_serve.specs.Outboxes.{Adds};
 ghost use Rattle.site_shared.specs.Accounts.{GoesOn};
 ghost use Rattle.site_shared.specs.Publishes.{arrive};
 
+use super::board::Board;
 use super::errors::Errors;
 use super::jobs::{Job, Reply, Task, Work, Worker};
 use super::outbox::refusing_memory;
@@ -34,6 +35,7 @@ pub(super) fn do_jobs<R: Wait, E: Drain, T: Turn, J: Naming>(
     gate: &Gate,
     worker: Worker<J>,
     waker: &Waker,
+    board: &Board,
     errors: &Errors<E>,
     turn: &T,
 ) {
@@ -44,7 +46,7 @@ pub(super) fn do_jobs<R: Wait, E: Drain, T: Turn, J: Naming>(
     } = worker;
     let mut port = SitePort::new(rt, alloc, gate, window);
     for job in jobs.iter(rt) {
-        let reply = done(rt, alloc, job, &mut port, errors, turn);
+        let reply = done(rt, alloc, job, &mut port, board, errors, turn);
         let _sent = replies.send(rt, reply);
         let _woken = waker.wake();
     }
@@ -56,6 +58,7 @@ fn done<R: Wait, E: Drain, T: Turn, J: Naming>(
     alloc: Global,
     job: Job<J>,
     port: &mut SitePort<'_, '_, R, J>,
+    board: &Board,
     errors: &Errors<E>,
     turn: &T,
 ) -> Reply {
@@ -70,10 +73,16 @@ fn done<R: Wait, E: Drain, T: Turn, J: Naming>(
             turn.enter(session);
             Work::Entered
         }
-        Task::Look(look) => looked(alloc, &look, &receipt, port),
+        Task::Look(look) => {
+            board.begin_look();
+            let work = looked(alloc, &look, &receipt, port);
+            board.end_look();
+            work
+        }
         Task::Leave(ended) => {
             turn.left(session);
             if let Err(fault) = ended {
+                board.note_fault();
                 errors.session_failed(rt, alloc, fault, session);
             }
             Work::Left

@@ -236,6 +236,11 @@ impl<J: Naming, K: Keeps> OwnLedger<J, K> {
         self.ledger.held_count()
     }
 
+    /// How many bytes keep its operations, where a journal does.
+    pub fn kept_bytes(&self) -> Option<u64> {
+        self.ledger.kept_bytes()
+    }
+
     /// Has what is held kept, and then publishes it, as `Ledger::publish` does: all of it is in what the receipt has
     /// seen published.
     pub fn publish<R: Wait>(&mut self, rt: &R) -> Result<BrandedReceipt<J>, LedgerFault>

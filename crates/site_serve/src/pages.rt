@@ -9,15 +9,16 @@ ghost use Rattle.site_shared.specs.Publishes.{arrive};
 ghost use Rattle.state_core.specs.State.{state_of};
 ghost use Rattle.page_routes.specs.declared.page.Status.TheVariants.{Unavailable};
 
-use super::board::{Board, PeerNote};
+use super::board::{Board, JournalNote, PeerNote};
 use super::kept::brought_up;
 use super::opening::{OwnWatch, OwnWindow};
 use gate_rules::Gate;
 use page_routes::{Kind, Page, Route, Status};
 use page_server::{Door, Pages, serve_pages};
-use page_text::{Facts, PeerFacts, page_of};
+use page_text::{Facts, JournalFacts, PeerFacts, page_of};
 use ready_core::Verdicts;
 use replica_core::Replica;
+use site_address::Address;
 use site_net::Stop;
 use site_shared::{Naming, RefreshFault, Viewer, WindowFault};
 use std::alloc::{AllocError, Global};
@@ -44,6 +45,10 @@ pub(super) struct Shower<'a, R> {
     pub board: &'a Board,
     pub site: u16,
     pub start: u32,
+    /// How many workers there are.
+    pub workers: usize,
+    /// The addresses of the peers, in the order of the board.
+    pub peers: &'a [Address<'a>],
 }
 
 /// Shows a site at a door, to this machine and to hosts of these names, until the stop is asked. Where memory is refused
@@ -170,6 +175,8 @@ impl<R: Wait + Clock, J: Naming> SitePages<'_, R, J> {
             board,
             site,
             start,
+            workers,
+            peers,
             ..
         } = self.shower;
         Ok(Facts {
@@ -177,8 +184,14 @@ impl<R: Wait + Clock, J: Naming> SitePages<'_, R, J> {
             start,
             age_ms: 0,
             news_ms: since(board.since_news(now)),
-            peers: peers_of(alloc, &board.peers(rt, alloc)?, now)?,
+            peers: peers_of(alloc, peers, &board.peers(rt, alloc)?, now)?,
             sessions: board.sessions(),
+            workers: workers as u64,
+            busy_workers: board.looking(),
+            session_faults: board.session_faults(),
+            refused_connections: board.refused_connections(),
+            journal: journal_facts(board.journal()),
+            heard_ms: since(board.since_heard(now)),
             publishes: board.publishes(),
             requests: self.requests,
             refused_hosts: self.refused_hosts,
@@ -267,14 +280,17 @@ fn unwell(alloc: Global, why: &str) -> Result<Page, AllocError>
 /// What is known of the peers now.
 fn peers_of(
     alloc: Global,
+    addresses: &[Address<'_>],
     notes: &[PeerNote],
     now: Duration,
 ) -> Result<Vec<PeerFacts>, AllocError> {
     let mut peers = Vec::with_capacity(alloc, notes.len())?;
-    for note in notes {
+    for (address, note) in addresses.iter().zip(notes) {
         let last_well = note.last_well.map(|then| now.saturating_sub(then));
+        let mut peer = String::new(alloc);
+        address.write(&mut peer)?;
         peers.push(PeerFacts {
-            port: note.port,
+            peer,
             is_reachable: note.is_well,
             condition_ms: millis(now.saturating_sub(note.since)),
             good_ms: since(last_well),
@@ -283,6 +299,12 @@ fn peers_of(
         })?;
     }
     Ok(peers)
+}
+
+/// What is known of the journal, if there is one.
+fn journal_facts(note: Option<JournalNote>) -> Option<JournalFacts> {
+    let JournalNote { bytes, syncs } = note?;
+    Some(JournalFacts { bytes, syncs })
 }
 
 /// How long ago something was in milliseconds, if it was.

@@ -15,6 +15,7 @@ use super::evaluator::{Printed, print_reports, serve_fault};
 use super::floor::{BELL, DOOR, Floor, House, Site, serve_floor};
 use super::gossip::{Peer, Pulling, pull_from_peers};
 use super::jobs::Worker;
+use super::listeners::Listeners;
 use super::looks::do_jobs;
 use super::news::News;
 use super::opening::{OwnLedger, OwnWindow};
@@ -24,12 +25,12 @@ use super::seats::{Lines, Seats, seated};
 use super::setup::{Doorstep, Prints, ServeFault, Served, Setup, Turn};
 use byte_ends::Drain;
 use gate_rules::Gate;
-use mio::net::TcpListener as Listener;
-use mio::{Interest, Poll, Waker};
+use mio::{Poll, Waker};
 use page_server::Door;
 use pull_guard::Guard;
+use site_address::Address;
 use site_ledger::{Keeps, Ledger, NoJournal};
-use site_net::{Patience, Stop};
+use site_net::{Listener, Patience, Stop};
 use site_port::Guarded;
 use site_shared::{Desk, Naming, OpenFault, Window, open_site};
 use std::alloc::{AllocError, Global};
@@ -64,6 +65,8 @@ struct Common<'a, E: Drain, T: Turn> {
     prints: Prints,
     guard: Guard,
     start: u32,
+    workers: usize,
+    peers: Vec<Address<'a>>,
     pause: Duration,
     patience: Patience,
     errors: Errors<E>,
@@ -74,12 +77,12 @@ struct Common<'a, E: Drain, T: Turn> {
     is_start_taken: AtomicBool,
 }
 
-/// Runs a site without a journal, as `serve_keeping` does.
+/// Runs a site without a journal at one port, as `serve_keeping` does.
 pub fn serve_run<R, W, E, T>(
     rt: &R,
     alloc: Global,
     listener: TcpListener,
-    setup: Setup,
+    setup: Setup<'_>,
     stop: &Stop,
     output: W,
     errors: E,
@@ -90,10 +93,14 @@ where
     W: Drain + Send + Drop,
     E: Drain + Send + Drop,
     T: Turn + Sync,
-    ensures used { list_any (is_used setup.site setup.start) setup.replica ≡ true → IsErr result }
+    ensures used { list_any (is_used setup.entry.site setup.entry.start) setup.entry.replica ≡ true → IsErr result }
 {
+    let mut listeners = Vec::new(alloc);
+    if listeners.push(Listener::Port(listener)).is_err() {
+        return Err(ServeFault::NoMemory);
+    }
     serve_keeping(
-        rt, alloc, listener, setup, stop, output, errors, turn, NoJournal,
+        rt, alloc, listeners, setup, stop, output, errors, turn, NoJournal,
     )
 }
 
@@ -108,8 +115,8 @@ where
 pub fn serve_keeping<R, W, E, T, K>(
     rt: &R,
     alloc: Global,
-    listener: TcpListener,
-    setup: Setup,
+    listeners: Vec<Listener>,
+    setup: Setup<'_>,
     stop: &Stop,
     output: W,
     errors: E,
@@ -123,7 +130,7 @@ where
     T: Turn + Sync,
     K: Keeps + Drop,
     requires { (first : List Operation) × K.holds keeper first }
-    ensures used { list_any (is_used setup.site setup.start) setup.replica ≡ true → IsErr result }
+    ensures used { list_any (is_used setup.entry.site setup.entry.start) setup.entry.replica ≡ true → IsErr result }
 {
     let Setup {
         gate,
@@ -142,12 +149,12 @@ where
     } = setup;
     let workers = workers.max(1).min(MOST_WORKERS);
     let pullers = peers.len().max(1).min(WINDOWS - 2 - workers);
-    let Ok((poll, listener)) = polled(rt, listener) else {
+    let Ok((poll, listeners)) = polled(rt, alloc, listeners) else {
         return Err(ServeFault::NoPlace);
     };
     let (Ok(shares), Ok(board)) = (
-        shares_of(alloc, peers.as_slice(), pullers),
-        Board::new(rt, alloc, peers.as_slice()),
+        shares_of(alloc, peers.len(), pullers),
+        Board::new(rt, alloc, peers.len()),
     ) else {
         return Err(ServeFault::NoMemory);
     };
@@ -157,6 +164,8 @@ where
         prints,
         guard: Guard { own: site, sites },
         start,
+        workers,
+        peers,
         pause: Duration::from_millis(pause_ms),
         patience: patience_of(idle_ms),
         errors: Errors::new(errors),
@@ -167,7 +176,7 @@ where
     };
     let loft = Loft {
         poll,
-        listener,
+        listeners,
         page,
         most: sessions,
         workers,
@@ -182,15 +191,15 @@ where
 }
 
 /// Peers of which nothing is known yet, in as many shares as there are threads that pull.
-fn shares_of(alloc: Global, ports: &[u16], pullers: usize) -> Result<Vec<Vec<Peer>>, AllocError> {
+fn shares_of(alloc: Global, count: usize, pullers: usize) -> Result<Vec<Vec<Peer>>, AllocError> {
     let mut shares = Vec::with_capacity(alloc, pullers)?;
     for _ in 0..pullers {
         shares.push(Vec::new(alloc))?;
     }
     let mut next = 0;
-    for port in ports {
+    for place in 0..count {
         if let Some(share) = shares.get_mut(next) {
-            share.push(Peer::at(*port))?;
+            share.push(Peer::at(place))?;
         }
         next = next.wrapping_add(1);
         if next >= pullers {
@@ -204,21 +213,22 @@ fn shares_of(alloc: Global, ports: &[u16], pullers: usize) -> Result<Vec<Vec<Pee
 #[derive(Drop)]
 struct Loft {
     poll: Poll,
-    listener: Listener,
+    listeners: Listeners,
     page: Option<Doorstep>,
     most: u64,
     workers: usize,
     connections: usize,
 }
 
-/// A poll, and a listener that it reports.
-fn polled<R: Net>(rt: &R, listener: TcpListener) -> io::Result<(Poll, Listener)> {
-    listener.set_nonblocking(true)?;
+/// A poll, and the listeners that it reports.
+fn polled<R: Net>(
+    rt: &R,
+    alloc: Global,
+    listeners: Vec<Listener>,
+) -> io::Result<(Poll, Listeners)> {
     let poll = Poll::new(rt)?;
-    let mut listener = Listener::from_std(listener);
-    poll.registry()
-        .register(&mut listener, DOOR, Interest::READABLE)?;
-    Ok((poll, listener))
+    let listeners = Listeners::new(alloc, &poll, DOOR, listeners)?;
+    Ok((poll, listeners))
 }
 
 /// The patience with the other sides of connections.
@@ -306,7 +316,7 @@ where
     } = seats;
     let Loft {
         poll,
-        listener,
+        listeners,
         page,
         most,
         workers: _,
@@ -318,7 +328,7 @@ where
     let house = House {
         alloc: common.alloc,
         poll,
-        listener,
+        listeners,
         patience: common.patience,
         most,
         connections,
@@ -488,6 +498,8 @@ where
         board: &common.board,
         site: common.guard.own,
         start: common.start,
+        workers: common.workers,
+        peers: common.peers.as_slice(),
     };
     show_pages(shower, door, hosts.as_slice(), common.stop, window);
 }
@@ -508,6 +520,7 @@ where
 {
     let pulling = Pulling {
         alloc: common.alloc,
+        addresses: common.peers.as_slice(),
         pause: common.pause,
         patience: Patience {
             limit: Duration::from_millis(PULL_PATIENCE_MS),
@@ -537,11 +550,12 @@ where
     let Common {
         alloc,
         gate,
+        board,
         errors,
         turn,
         ..
     } = common;
-    do_jobs(rt, *alloc, gate, worker, waker, errors, *turn);
+    do_jobs(rt, *alloc, gate, worker, waker, board, errors, *turn);
 }
 
 /// Brings the last publish, and has nothing new come any more.

@@ -7,6 +7,7 @@ use gate_rules::Gate;
 use mio::Waker;
 use page_server::Door;
 use replica_core::Replica;
+use site_address::Address;
 use thiserror::Error;
 
 /// What a site prints of its verdicts.
@@ -33,7 +34,7 @@ pub struct Doorstep {
 
 /// What a site is run with.
 #[derive(Drop)]
-pub struct Setup {
+pub struct Setup<'a> {
     /// What its reports are made under.
     pub gate: Gate,
     /// What it has at first.
@@ -42,8 +43,8 @@ pub struct Setup {
     pub site: u16,
     /// The start of what it takes in, which must be greater than every start that it has used.
     pub start: u32,
-    /// The ports of its peers on this machine.
-    pub peers: Vec<u16>,
+    /// The addresses of its peers on this machine.
+    pub peers: Vec<Address<'a>>,
     /// The numbers of the sites whose operations it takes from its peers, beside its own; none stands for all.
     pub sites: Vec<u16>,
     /// How many threads look at its record for sessions, from 1 to 6: none is as 1, and more are as 6.

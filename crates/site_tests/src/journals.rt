@@ -68,11 +68,13 @@ fn without_a_journal_nothing_is_refused(rt: HostRuntime) -> Result<(), Fail> {
     Ok(())
 }
 
-/// Whether all that a journal has is synced that was opened over so many bytes, with the torn ones as many as before.
+/// Whether all that a journal has is synced, and counted, that was opened over so many bytes, with the torn ones as many as
+/// before.
 fn is_synced(journal: &Journal<MemoryTape>, torn: usize, length: usize) -> bool {
     let synced = journal.tape().synced();
     let is_all = synced.len().checked_add(torn) == Some(length);
-    synced == journal.tape().contents() && (is_all || length < 13)
+    let is_counted = journal.len() == synced.len() as u64;
+    synced == journal.tape().contents() && is_counted && (is_all || length < 13)
 }
 
 /// How many operations a journal has once it took another one.

@@ -31,6 +31,10 @@ impl Keeps for Failing {
             None => Ok(()),
         }
     }
+
+    fn bytes(&self) -> Option<u64> {
+        None
+    }
 }
 
 /// What a publish of one held operation is answered, and that of the next try; and how many operations a window sees

@@ -106,6 +106,16 @@ fn each_line_is_answered(rt: HostRuntime) -> Result<(), Fail> {
             fault: Some(LineFault::BadVersion),
         },
         Talk {
+            lines: b"hello 2\nheard\nheard \nheard\nready\n",
+            text: b"hello 2\nnoted\nno 6 BadCommand\nnoted\nout 101,1 require approval 1\nend 0 1\n",
+            fault: None,
+        },
+        Talk {
+            lines: b"heard\n",
+            text: b"no 2 BadVersion\n",
+            fault: Some(LineFault::BadVersion),
+        },
+        Talk {
             lines: b"hello 2\nready",
             text: b"hello 2\n",
             fault: None,

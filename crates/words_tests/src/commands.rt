@@ -128,6 +128,37 @@ fn a_check_is_strict_where_it_is_asked(rt: HostRuntime) {
     assert_asks(&rt, alloc, ["check", "g", "s", "t"].as_slice(), "", "", 0);
 }
 
+/// Whether words ask for JSON.
+fn asks_for_json(alloc: Global, words: &[&str]) -> bool {
+    match command_of(alloc, words) {
+        Some(
+            Command::Ready { is_json, .. }
+            | Command::ReadyItem { is_json, .. }
+            | Command::Footers { is_json, .. }
+            | Command::Check { is_json, .. },
+        ) => is_json,
+        _ => false,
+    }
+}
+
+#[test]
+fn an_answer_is_json_where_that_is_asked(rt: HostRuntime) {
+    let cases: [(&[&str], bool); 9] = [
+        (&["ready", "g", "s", "--json"], true),
+        (&["ready", "--json", "g", "s", "--item", "101"], true),
+        (&["footers", "g", "m", "--json", "--change", "7"], true),
+        (&["check", "--json", "g", "--strict"], true),
+        (&["ready", "g", "s"], false),
+        (&["ready", "g", "s", "--item", "101"], false),
+        (&["footers", "g", "m"], false),
+        (&["check", "g", "--strict"], false),
+        (&["graph", "g", "s", "--json"], false),
+    ];
+    for (words, wanted) in cases {
+        assert_eq!(rt; asks_for_json(rt.alloc(), words), wanted);
+    }
+}
+
 /// Whether words ask for each condition.
 fn asks_for_all(alloc: Global, words: &[&str]) -> bool {
     match command_of(alloc, words) {

@@ -1,6 +1,7 @@
 //! Feeds that words ask for.
 
 use command_line::{Answer, Asked, EventWords, read_words};
+use site_address::Address;
 use std::alloc::Global;
 use std::test::Fail;
 
@@ -13,16 +14,18 @@ fn feed_of<'a>(alloc: Global, words: &'a [&'a str]) -> Option<EventWords<'a>> {
 }
 
 #[test]
-fn a_feed_goes_to_a_port_or_to_the_output(rt: HostRuntime) -> Result<(), Fail> {
-    let cases: [(&[&str], Option<u16>); 4] = [
+fn a_feed_goes_to_an_address_or_to_the_output(rt: HostRuntime) -> Result<(), Fail> {
+    let cases: [(&[&str], Option<Address<'_>>); 6] = [
         (&["events"], None),
-        (&["events", "--to", "1"], Some(1)),
-        (&["events", "--to=65535"], Some(65535)),
-        (&["events", "--to", "08101"], Some(8101)),
+        (&["events", "--to", "1"], Some(Address::Port(1))),
+        (&["events", "--to=65535"], Some(Address::Port(65_535))),
+        (&["events", "--to", "08101"], Some(Address::Port(8_101))),
+        (&["events", "--to", "/run/s"], Some(Address::Path("/run/s"))),
+        (&["events", "--to=./8101"], Some(Address::Path("./8101"))),
     ];
-    for (words, port) in cases {
+    for (words, address) in cases {
         let feed = feed_of(rt.alloc(), words).ok_or("a feed")?;
-        assert_eq!(rt; feed.to, port);
+        assert_eq!(rt; feed.to, address);
         assert_eq!(rt; feed.answer, Answer::Stream);
         assert!(rt; feed.projects.is_empty());
         assert_eq!(rt; (feed.projects_file, feed.gate), (None, None));

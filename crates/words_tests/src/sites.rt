@@ -1,6 +1,7 @@
 //! Sites that words ask for.
 
-use command_line::{Asked, Printing, ServeWords, read_words};
+use command_line::{Asked, Printing, ServeWords, SocketMode, read_words};
+use site_address::{Address, address_of};
 use std::alloc::Global;
 use std::process::Abort;
 use std::test::Fail;
@@ -19,7 +20,7 @@ fn site_of<'a>(serving: &ServeWords<'a>) -> (&'a str, u16, Option<u32>) {
 }
 
 /// The port, the numbers of workers and of connections, and the pause between two rounds of pulls.
-fn numbers_of(serving: &ServeWords<'_>) -> (u16, usize, usize, u64) {
+fn numbers_of(serving: &ServeWords<'_>) -> (Option<u16>, usize, usize, u64) {
     (
         serving.port,
         serving.workers,
@@ -51,6 +52,8 @@ fn assert_serves(rt: &impl Abort, serving: &ServeWords<'_>, wanted: &ServeWords<
     assert_eq!(rt; ends_of(serving), ends_of(wanted));
     assert_eq!(rt; files_of(serving), files_of(wanted));
     assert_eq!(rt; serving.peers.as_slice(), wanted.peers.as_slice());
+    assert_eq!(rt; serving.sockets.as_slice(), wanted.sockets.as_slice());
+    assert_eq!(rt; serving.mode, wanted.mode);
     assert_eq!(rt; serving.sites.as_slice(), wanted.sites.as_slice());
     assert_eq!(rt; serving.http, wanted.http);
     assert_eq!(rt; serving.http_hosts.as_slice(), wanted.http_hosts.as_slice());
@@ -64,7 +67,9 @@ fn with_defaults(alloc: Global) -> ServeWords<'static> {
         sites: Vec::new(alloc),
         site: 1,
         start: Some(7),
-        port: 0,
+        port: None,
+        sockets: Vec::new(alloc),
+        mode: SocketMode::Owner,
         workers: 2,
         pause_ms: 1000,
         sessions: 0,
@@ -89,17 +94,23 @@ fn options_have_defaults(rt: HostRuntime) -> Result<(), Fail> {
 }
 
 /// Words with each option.
-const ALL: [&str; 39] = [
+const ALL: [&str; 45] = [
     "serve",
     "-",
     "8001",
-    "8002",
+    "/run/b.socket",
     "--site",
     "65535",
     "--start",
     "4294967294",
     "--port",
     "8000",
+    "--listen",
+    "/run/a.socket",
+    "--listen",
+    "./a",
+    "--mode",
+    "660",
     "--sites",
     "65535",
     "--sites",
@@ -132,14 +143,21 @@ const ALL: [&str; 39] = [
 ];
 
 /// The site that they ask for.
-fn with_all(peers: Vec<u16>, sites: Vec<u16>, http_hosts: Vec<String>) -> ServeWords<'static> {
+fn with_all<'a>(
+    peers: Vec<Address<'a>>,
+    sockets: Vec<&'a str>,
+    sites: Vec<u16>,
+    http_hosts: Vec<String>,
+) -> ServeWords<'a> {
     ServeWords {
         gate: "-",
         peers,
         sites,
         site: 65535,
         start: Some(4_294_967_294),
-        port: 8000,
+        port: Some(8_000),
+        sockets,
+        mode: SocketMode::Group,
         workers: 6,
         pause_ms: 600_000,
         sessions: 3,
@@ -157,11 +175,12 @@ fn with_all(peers: Vec<u16>, sites: Vec<u16>, http_hosts: Vec<String>) -> ServeW
 
 #[test]
 fn all_options_are_read(rt: HostRuntime) -> Result<(), Fail> {
-    let peers = [8001, 8002].to_vec(rt.alloc())?;
+    let peers = [Address::Port(8_001), Address::Path("/run/b.socket")].to_vec(rt.alloc())?;
+    let sockets = ["/run/a.socket", "./a"].to_vec(rt.alloc())?;
     let mut hosts = Vec::new(rt.alloc());
     hosts.push(String::from_str(rt.alloc(), "gate.example.org")?)?;
     hosts.push(String::from_str(rt.alloc(), "gate")?)?;
-    let wanted = with_all(peers, [65535, 1].to_vec(rt.alloc())?, hosts);
+    let wanted = with_all(peers, sockets, [65535, 1].to_vec(rt.alloc())?, hosts);
     let serving = serving_of(rt.alloc(), ALL.as_slice()).ok_or("a site")?;
     assert_serves(&rt, &serving, &wanted);
     Ok(())
@@ -197,7 +216,7 @@ fn number_of(serving: &ServeWords<'_>, option: &str) -> u64 {
     match option {
         "--site" => u64::from(serving.site),
         "--start" => u64::from(serving.start.unwrap_or(0)),
-        "--port" => u64::from(serving.port),
+        "--port" => u64::from(serving.port.unwrap_or(7)),
         "--workers" => serving.workers as u64,
         "--pause" => serving.pause_ms,
         "--sessions" => serving.sessions,
@@ -233,11 +252,61 @@ fn a_journal_has_the_starts_before(rt: HostRuntime) -> Result<(), Fail> {
 }
 
 #[test]
-fn ports_of_peers_follow_the_gate(rt: HostRuntime) -> Result<(), Fail> {
-    let words = ["serve", "--site", "1", "--start", "1", "g", "1", "65535"];
+fn addresses_of_peers_follow_the_gate(rt: HostRuntime) -> Result<(), Fail> {
+    let words = [
+        "serve", "--site", "1", "--start", "1", "g", "1", "./65535", "65535",
+    ];
     let serving = serving_of(rt.alloc(), words.as_slice()).ok_or("a site")?;
-    assert_eq!(rt; serving.peers.as_slice(), [1, 65535].as_slice());
+    let wanted = [
+        Address::Port(1),
+        Address::Path("./65535"),
+        Address::Port(65_535),
+    ];
+    assert_eq!(rt; serving.peers.as_slice(), wanted.as_slice());
     Ok(())
+}
+
+/// A word is the address of a site, and written as one.
+#[test]
+fn words_with_a_slash_are_paths(rt: HostRuntime) -> Result<(), Fail> {
+    for (word, wanted) in [
+        ("1", Some(Address::Port(1))),
+        ("+65535", Some(Address::Port(65_535))),
+        ("/", Some(Address::Path("/"))),
+        ("a/b", Some(Address::Path("a/b"))),
+        ("0", None),
+        ("65536", None),
+        ("-1", None),
+        ("a", None),
+        ("", None),
+        ("8101 ", None),
+    ] {
+        assert_eq!(rt; address_of(word), wanted, "{word}");
+    }
+    let mut text = String::new(rt.alloc());
+    Address::Port(8_101).write(&mut text)?;
+    Address::Path("/run/s").write(&mut text)?;
+    assert_eq!(rt; text.as_str(), "8101/run/s");
+    Ok(())
+}
+
+/// Who may connect to a site's sockets by this word, if the word says so.
+fn mode_of(alloc: Global, word: &str) -> Option<SocketMode> {
+    let words = ["serve", "g", "--site=1", "--start=1", "--mode", word];
+    let serving = serving_of(alloc, words.as_slice())?;
+    Some(serving.mode)
+}
+
+#[test]
+fn each_word_says_who_may_connect(rt: HostRuntime) {
+    for (word, wanted) in [
+        ("600", Some(SocketMode::Owner)),
+        ("660", Some(SocketMode::Group)),
+        ("0600", None),
+        ("666", None),
+    ] {
+        assert_eq!(rt; mode_of(rt.alloc(), word), wanted);
+    }
 }
 
 /// What a site prints by this word, if the word says so.

@@ -74,10 +74,11 @@ Usage: reviewgate ready [OPTIONS] <GATE> <SNAPSHOT>
 
 Arguments:
   <GATE>      The gate file, or - for standard input
-  <SNAPSHOT>  The snapshot's file, - for standard input, or @PORT for a running site
+  <SNAPSHOT>  The snapshot's file, - for standard input, or @ADDRESS for a running site
 
 Options:
       --item <CHANGE[,SET]>  Prints the line of this item alone, and ends with status 3 if it waits
+      --json                 Prints one JSON object on one line in place of the text
   -h, --help                 Print help
 ",
     ),
@@ -89,7 +90,7 @@ Usage: reviewgate why [OPTIONS] <GATE> <SNAPSHOT> <CHANGE[,SET]>
 
 Arguments:
   <GATE>          The gate file, or - for standard input
-  <SNAPSHOT>      The snapshot's file, - for standard input, or @PORT for a running site
+  <SNAPSHOT>      The snapshot's file, - for standard input, or @ADDRESS for a running site
   <CHANGE[,SET]>  The change's number, and that of a patch set if not the current one
 
 Options:
@@ -105,7 +106,7 @@ Usage: reviewgate graph [OPTIONS] <GATE> <SNAPSHOT>
 
 Arguments:
   <GATE>      The gate file, or - for standard input
-  <SNAPSHOT>  The snapshot's file, - for standard input, or @PORT for a running site
+  <SNAPSHOT>  The snapshot's file, - for standard input, or @ADDRESS for a running site
 
 Options:
       --around <CHANGE>  The change around which items are drawn: what it leads to, and what leads to it
@@ -119,8 +120,8 @@ Options:
 Usage: reviewgate merge <FIRST> <SECOND>
 
 Arguments:
-  <FIRST>   The first snapshot's file, - for standard input, or @PORT for a running site
-  <SECOND>  The second snapshot's file, - for standard input, or @PORT for a running site
+  <FIRST>   The first snapshot's file, - for standard input, or @ADDRESS for a running site
+  <SECOND>  The second snapshot's file, - for standard input, or @ADDRESS for a running site
 
 Options:
   -h, --help  Print help
@@ -138,6 +139,7 @@ Arguments:
 
 Options:
       --change <N>  The number of the message's own change; 0 means none [default: 0]
+      --json        Prints one JSON object on one line in place of the text
   -h, --help        Print help
 ",
     ),
@@ -149,10 +151,11 @@ Usage: reviewgate check [OPTIONS] <GATE> [SNAPSHOT]
 
 Arguments:
   <GATE>      The gate file, or - for standard input
-  [SNAPSHOT]  The snapshot whose votes the gate is compared with, - for standard input, or @PORT for a running site
+  [SNAPSHOT]  The snapshot whose votes the gate is compared with, - for standard input, or @ADDRESS for a running site
 
 Options:
       --strict  Ends with status 1 if there is a warning
+      --json    Prints one JSON object on one line in place of the text
   -h, --help    Print help
 ",
     ),
@@ -178,12 +181,14 @@ Usage: reviewgate serve [OPTIONS] --site <N> <GATE> [PEER]...
 
 Arguments:
   <GATE>     The gate file, or - for standard input
-  [PEER]...  The ports on 127.0.0.1 that it pulls from
+  [PEER]...  The sites that it pulls from: ports on 127.0.0.1, or paths of Unix sockets
 
 Options:
       --site <N>          The site's number, from 1 to 65535
       --start <N>         The start, greater than every start the site has used; optional with --journal
-      --port <P>          The port on 127.0.0.1; 0 has the system choose one [default: 0]
+      --port <P>          The port on 127.0.0.1; 0, the default without --listen, has the system choose one
+      --listen <PATH>     A Unix socket for its sessions, once for each; the path has a slash
+      --mode <MODE>       Who may connect to them: 600, its user, or 660, its group too [default: 600]
       --sites <N>         A site whose operations it takes from peers, once for each; without it those of all
       --workers <N>       How many threads answer ready, state and front, 1 to 6 [default: 2]
       --pause <MS>        Between two rounds of pulls, 1 to 600000 [default: 1000]
@@ -222,7 +227,7 @@ Options:
 Usage: reviewgate events [OPTIONS]
 
 Options:
-      --to <PORT>        The port on 127.0.0.1 of the site that is fed; without it the lines of a session are printed
+      --to <ADDRESS>     The site that is fed: a port on 127.0.0.1, or the path of a Unix socket; without it the lines of a session are printed
       --query            The input is the answer of a query, and has to be whole
       --complete         The same, and the answer has every open change: those that it lacks are abandoned
       --project <NAME>   Feeds the changes of this project alone, and of those that are named beside it
@@ -417,16 +422,16 @@ const OPTIONS: [(&str, &str); 14] = [
     ),
     (
         "events --too 8101",
-        "error: unexpected argument '--too' found\n\n  tip: a similar argument exists: '--to'\n\nUsage: reviewgate events --to <PORT>",
+        "error: unexpected argument '--too' found\n\n  tip: a similar argument exists: '--to'\n\nUsage: reviewgate events --to <ADDRESS>",
     ),
     (
         "events --to",
-        "error: a value is required for '--to <PORT>' but none was supplied",
+        "error: a value is required for '--to <ADDRESS>' but none was supplied",
     ),
 ];
 
 /// Numbers one beyond their limits, and what is no number, or no word of an option.
-const NUMBERS: [(&str, &str); 35] = [
+const NUMBERS: [(&str, &str); 37] = [
     (
         "why g s x",
         "error: invalid value 'x' for '<CHANGE[,SET]>': CHANGE and SET are numbers from 0 to 4294967295",
@@ -541,15 +546,23 @@ const NUMBERS: [(&str, &str); 35] = [
     ),
     (
         "serve g 0 --site 1 --start 1",
-        "error: invalid value '0' for '[PEER]...': 0 is not in 1..=65535",
+        "error: invalid value '0' for '[PEER]...': a port from 1 to 65535, or the path of a Unix socket, which has a slash",
     ),
     (
         "serve g 8101 65536 --site 1 --start 1",
-        "error: invalid value '65536' for '[PEER]...': 65536 is not in 1..=65535",
+        "error: invalid value '65536' for '[PEER]...': a port from 1 to 65535, or the path of a Unix socket, which has a slash",
     ),
     (
         "serve g --site 1 --start 1 --print all",
         "error: invalid value 'all' for '--print <WHAT>'\n  [possible values: report, changes, none]",
+    ),
+    (
+        "serve g --site 1 --start 1 --mode 666",
+        "error: invalid value '666' for '--mode <MODE>'\n  [possible values: 600, 660]",
+    ),
+    (
+        "serve g --site 1 --start 1 --listen 8101",
+        "error: invalid value '8101' for '--listen <PATH>': the path of a Unix socket has a slash",
     ),
     (
         "serve g --site 1",
@@ -557,15 +570,15 @@ const NUMBERS: [(&str, &str); 35] = [
     ),
     (
         "events --to 0",
-        "error: invalid value '0' for '--to <PORT>': 0 is not in 1..=65535",
+        "error: invalid value '0' for '--to <ADDRESS>': a port from 1 to 65535, or the path of a Unix socket, which has a slash",
     ),
     (
         "events --to 65536",
-        "error: invalid value '65536' for '--to <PORT>': 65536 is not in 1..=65535",
+        "error: invalid value '65536' for '--to <ADDRESS>': a port from 1 to 65535, or the path of a Unix socket, which has a slash",
     ),
     (
         "events --to x",
-        "error: invalid value 'x' for '--to <PORT>': invalid digit found in string",
+        "error: invalid value 'x' for '--to <ADDRESS>': a port from 1 to 65535, or the path of a Unix socket, which has a slash",
     ),
 ];
 

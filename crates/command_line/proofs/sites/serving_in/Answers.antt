@@ -9,11 +9,6 @@ returns-in_err-short_in-clause-none c =
     let none : (words : ServeWords) → ¬ AreOptions (rows_in c.args.values.now) words = λ words is. c.in_err-short_in.ensures words.site is.site in
     search (rules, none)
 
-pub returns-in_err-short_in-2-clause-none : goal.returns-in_err-short_in-2-clause-none
-returns-in_err-short_in-2-clause-none c =
-    let none : (words : ServeWords) → ¬ AreOptions (rows_in c.args.values.now) words = λ words is. c.in_err-short_in-2.ensures words.port is.port in
-    search (rules, none)
-
 pub returns-in_err-number_in-clause-none : goal.returns-in_err-number_in-clause-none
 returns-in_err-number_in-clause-none c =
     let none : (words : ServeWords) → ¬ AreOptions (rows_in c.args.values.now) words = λ words is. c.in_err-number_in.ensures.found words.workers is.workers in

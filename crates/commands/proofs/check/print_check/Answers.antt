@@ -13,10 +13,10 @@ pub returns-in_err-print : goal.returns-in_err-print
 returns-in_err-print g c =
     let p = err_from_is_err_and c.from_residual.result c.from_residual.ensures.1 in
     rw (p.1, p.2)
-    (ends_cut (IsCheckText c.args.rules.now (option_map (λ known. known.now) c.args.state) c.args.is_strict) _ _ _ c.end_of-ended.result c.in_err-print.field-0.0
-    (inl (c.as_bytes.ensures.value ∙ c.in-Ok.ensures.text, subst (λ n. EndsChecked c.args.is_strict n c.end_of-ended.result) c.in-Ok.ensures.warnings c.end_of-ended.ensures)) c.in_err-print.ensures)
+    (ends_cut (IsCheckText c.args.rules.now (option_map (λ known. known.now) c.args.state) c.args.is_strict c.args.is_json) _ _ _ c.end_of-ended.result c.in_err-print.field-0.0
+    (inl (c.as_slice.ensures.value ∙ c.in-Ok.ensures.text, subst (λ n. EndsChecked c.args.is_strict n c.end_of-ended.result) c.in-Ok.ensures.warnings c.end_of-ended.ensures)) c.in_err-print.ensures)
 
 pub returns : goal.returns
 returns g c =
-    ends_printed (IsCheckText c.args.rules.now (option_map (λ known. known.now) c.args.state) c.args.is_strict) _ _ _ c.end_of-ended.result
-    (inl (c.as_bytes.ensures.value ∙ c.in-Ok.ensures.text, subst (λ n. EndsChecked c.args.is_strict n c.end_of-ended.result) c.in-Ok.ensures.warnings c.end_of-ended.ensures)) c.in_ok-print.ensures
+    ends_printed (IsCheckText c.args.rules.now (option_map (λ known. known.now) c.args.state) c.args.is_strict c.args.is_json) _ _ _ c.end_of-ended.result
+    (inl (c.as_slice.ensures.value ∙ c.in-Ok.ensures.text, subst (λ n. EndsChecked c.args.is_strict n c.end_of-ended.result) c.in-Ok.ensures.warnings c.end_of-ended.ensures)) c.in_ok-print.ensures

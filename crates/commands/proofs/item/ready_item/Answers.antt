@@ -26,7 +26,7 @@ returns g c =
       g.C.Console.state c.read_record.new.console,
       record_had c.args.gate.now c.args.snapshot.now rules (λ text. SpellsGate text rules)
           (λ text spells. spells) second.0 _ _ _ first second.2,
-      finishes_so (IsItemPrinted c.args.change c.args.set rules (state_of (all_arrived [] second.0))) _
+      finishes_so (IsItemPrinted c.args.change c.args.set c.args.is_json rules (state_of (all_arrived [] second.0))) _
           (λ answer end is. (rules, first.2, second.0, second.2.2, is)) _ _ c.print_item-printed.result
-          (subst (λ (s : State). Finishes (IsItemPrinted c.args.change c.args.set rules s) (g.C.Console.state c.read_record.new.console) (g.C.Console.state c.print_item-printed.new.console) c.print_item-printed.result) state c.print_item-printed.ensures),
+          (subst (λ (s : State). Finishes (IsItemPrinted c.args.change c.args.set c.args.is_json rules s) (g.C.Console.state c.read_record.new.console) (g.C.Console.state c.print_item-printed.new.console) c.print_item-printed.result) state c.print_item-printed.ensures),
     )

@@ -1,8 +1,10 @@
-use Rattle.std.proofs.Common.{inl, sym, subst, List}
+use Rattle.std.proofs.Common.{inl, inr, sym, subst, List}
+use Rattle.std.proofs.lemmas.Result.{IfOk-weaker}
 use Rattle.std.specs.Prelude.{Contains}
 use Rattle.ready_core.specs.Verdicts.{items_out}
 use Rattle.ready_core.specs.declared.verdicts.Left.{Left}
 use Rattle.state_core.specs.declared.item.Item.{Item}
+use Rattle.commands.specs.Answers.{IsLeftSo}
 use Rattle.commands.proofs.ItemEnds.{not_ready, ready_found}
 use Rattle.commands.proofs.item.standing_in.Goals as goal
 
@@ -14,4 +16,9 @@ left_in-requires-clause-there c =
 pub returns-then-contains : goal.returns-then-contains
 returns-then-contains c =
     let ready = subst (λ (items : List Item). Contains items c.args.item) c.ready.ensures (ready_found c.ready.result.now c.args.item (sym c.if-contains.ensures.value)) in
-    inl (c.ready_so.ensures.ready, ready, c.ready_so.ensures.line)
+    IfOk-weaker c.ready_so.result _ _ (λ standing is. inl (is.0, ready, is.1)) c.ready_so.ensures
+
+pub returns : goal.returns
+returns c =
+    IfOk-weaker c.left_in.result _ _
+    (λ standing is. inr (subst (λ (out : List Left). IsLeftSo c.args.is_json out c.args.item standing.is_ready standing.line.items) c.out.ensures is)) c.left_in.ensures

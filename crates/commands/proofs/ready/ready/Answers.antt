@@ -1,12 +1,12 @@
-use Rattle.std.proofs.Common.{◌∙◌, ap, inl, inr, refl, subst, [], ◌∷◌}
+use Rattle.std.proofs.Common.{◌≡◌, ◌∙◌, ap, inl, inr, subst, [], ◌∷◌}
 use Rattle.std.proofs.lemmas.Result.{err_from_is_err_and}
 use Rattle.gate_rules.specs.Spelling.{SpellsGate}
 use Rattle.ready_core.specs.Verdicts.{AreVerdicts}
 use Rattle.replica_core.specs.Journal.{all_arrived}
 use Rattle.state_core.specs.State.{state_of}
-use Rattle.report_text.specs.Report.{report_of}
-use Rattle.commands.specs.Answers.{IsOf, IsReport, IsWhole, MissesNone}
-use Rattle.commands.proofs.HowItEnds.{finishes, stops}
+use Rattle.commands.specs.Answers.{IsOf, IsReport, IsWhole, MissesNone, report_as}
+use Rattle.commands.proofs.HowItEnds.{stops, whole_so}
+use Rattle.commands.proofs.Simulated.{finishes_so}
 use Rattle.commands.proofs.OfRecord.{record_had, snapshot_refused}
 use Rattle.commands.proofs.ready.ready.Goals as goal
 
@@ -26,7 +26,7 @@ returns-in_default g c =
       g.C.Console.state c.read_record.new.console,
       record_had c.args.gate.now c.args.snapshot.now rules (λ text. SpellsGate text rules)
           (λ text spells. spells) second.0 _ _ _ first second.2,
-      stops (IsOf first.0 second.2.0 IsReport) _,
+      stops (IsOf first.0 second.2.0 (IsReport c.args.is_json)) _,
     )
 
 pub returns : goal.returns
@@ -40,14 +40,13 @@ returns g c =
       g.C.Console.state c.read_record.new.console,
       record_had c.args.gate.now c.args.snapshot.now rules (λ text. SpellsGate text rules)
           (λ text spells. spells) second.0 _ _ _ first second.2,
-      finishes (IsWhole (IsOf first.0 second.2.0 IsReport) MissesNone)
-          (report_of c.in-Ok.verdicts) _ _ c.print_report-printed.result
-          (record {
+      finishes_so (IsWhole (λ answer. answer ≡ report_as c.args.is_json c.in-Ok.verdicts) MissesNone) _
+          (whole_so (λ answer. answer ≡ report_as c.args.is_json c.in-Ok.verdicts) (IsOf first.0 second.2.0 (IsReport c.args.is_json)) MissesNone
+          (λ answer same. record {
             rules = rules;
             spelled = first.2;
             ops = second.0;
             says = second.2.2;
-            so = (c.in-Ok.verdicts, subst (λ s. AreVerdicts rules s c.in-Ok.verdicts) state c.in-Ok.ensures, refl);
-          })
-          c.print_report-printed.ensures,
+            so = (c.in-Ok.verdicts, subst (λ s. AreVerdicts rules s c.in-Ok.verdicts) state c.in-Ok.ensures, same);
+          })) _ _ c.print_verdicts-printed.result c.print_verdicts-printed.ensures,
     )

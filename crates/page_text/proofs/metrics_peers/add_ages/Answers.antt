@@ -7,7 +7,7 @@ use Rattle.page_text.proofs.metrics_peers.add_ages.Goals as goal
 
 pub returns : goal.returns
 returns c =
-    then2 (string_bytes c.args.text.now) (string_bytes c.add_family.new.text) (string_bytes c.add_port_ages.new.text)
+    then2 (string_bytes c.args.text.now) (string_bytes c.add_family.new.text) (string_bytes c.add_peer_ages.new.text)
     (samples.family (codes "reviewgate_peer_last_pull_age_seconds") (codes "gauge") (codes "Seconds since the last whole pull ended."))
-    (flat_map (λ (peer : PeerFacts). metrics.port_age_text (codes "reviewgate_peer_last_pull_age_seconds") peer.port peer.good_ms) c.args.peers.now)
-    c.in_ok-add_family.ensures c.in_ok-add_port_ages.ensures
+    (flat_map (λ (peer : PeerFacts). metrics.peer_age_text (codes "reviewgate_peer_last_pull_age_seconds") (string_bytes peer.peer) peer.good_ms) c.args.peers.now)
+    c.in_ok-add_family.ensures c.in_ok-add_peer_ages.ensures

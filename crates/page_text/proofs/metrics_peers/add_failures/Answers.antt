@@ -9,5 +9,5 @@ returns c =
     then2 (string_bytes c.args.text.now) (string_bytes c.add_family.new.text)
     (string_bytes c.add_failure_counts.new.text)
     (samples.family (codes "reviewgate_peer_pull_failures_total") (codes "counter") (codes "Pulls that failed since the start."))
-    (flat_map (λ (peer : PeerFacts). samples.port_sample (codes "reviewgate_peer_pull_failures_total") peer.port peer.failures) c.args.peers.now)
+    (flat_map (λ (peer : PeerFacts). samples.peer_sample (codes "reviewgate_peer_pull_failures_total") (string_bytes peer.peer) peer.failures) c.args.peers.now)
     c.in_ok-add_family.ensures c.in_ok-add_failure_counts.ensures

@@ -8,5 +8,5 @@ pub returns : goal.returns
 returns c =
     then2 (string_bytes c.args.text.now) (string_bytes c.add_family.new.text) (string_bytes c.add_pull_counts.new.text)
     (samples.family (codes "reviewgate_peer_pulls_total") (codes "counter") (codes "Whole pulls since the start."))
-    (flat_map (λ (peer : PeerFacts). samples.port_sample (codes "reviewgate_peer_pulls_total") peer.port peer.pulls) c.args.peers.now)
+    (flat_map (λ (peer : PeerFacts). samples.peer_sample (codes "reviewgate_peer_pulls_total") (string_bytes peer.peer) peer.pulls) c.args.peers.now)
     c.in_ok-add_family.ensures c.in_ok-add_pull_counts.ensures

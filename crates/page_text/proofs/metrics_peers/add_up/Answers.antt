@@ -9,5 +9,5 @@ pub returns : goal.returns
 returns c =
     then2 (string_bytes c.args.text.now) (string_bytes c.add_family.new.text) (string_bytes c.add_flags.new.text)
     (samples.family (codes "reviewgate_peer_up") (codes "gauge") (codes "Whether the last pull reached the peer."))
-    (flat_map (λ (peer : PeerFacts). samples.port_sample (codes "reviewgate_peer_up") peer.port (metrics.flag peer.is_reachable)) c.args.peers.now)
+    (flat_map (λ (peer : PeerFacts). samples.peer_sample (codes "reviewgate_peer_up") (string_bytes peer.peer) (metrics.flag peer.is_reachable)) c.args.peers.now)
     c.in_ok-add_family.ensures c.in_ok-add_flags.ensures

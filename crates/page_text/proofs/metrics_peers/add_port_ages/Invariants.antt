@@ -1,9 +1,0 @@
-use Rattle.std.proofs.Common.{◌≡◌, ◌++◌, flat_map, string_bytes, take}
-use Rattle.page_text.specs.Metrics.{port_age_text}
-use Rattle.page_text.proofs.metrics_peers.add_port_ages.Given as goal
-
--- the samples of the peers so far are added
-abbrev pub invariant-loop-peer : goal.invariant-loop-peer
-invariant-loop-peer l =
-    string_bytes l.text ≡ string_bytes l.initial.text ++ flat_map (λ peer. port_age_text l.name peer.port peer.good_ms)
-    (take l.peer-index l.peers)

@@ -1,0 +1,19 @@
+-- The title of a page (WCAG 2.2, success criterion 2.4.2 "Page Titled").
+use Rattle.std.specs.Prelude.{◌≡◌, List, ℕ, [], ◌∷◌, ◌++◌, codes, decimal}
+use Rattle.markup_text.specs.Html.{html_of}
+use Rattle.state_core.specs.State.{State}
+use Rattle.state_core.specs.declared.item.Item.{Item}
+use Rattle.page_text.specs.Subject.{subject_of}
+use Rattle.page_text.specs.Table.{joined}
+
+-- an item with its subject: Change 102,1: Fix the door
+abbrev pub item_title : State → Item → List ℕ
+item_title state item =
+    joined (codes "Change " ∷ decimal item.change ∷ codes "," ∷ decimal item.set ∷ codes ": "
+    ∷ html_of (subject_of state item) ∷ [])
+
+-- the page has the title
+pub record IsTitled (title html : List ℕ) : Type 0 where
+  pub before : List ℕ
+  pub after : List ℕ
+  pub is : html ≡ before ++ (codes "<title>" ++ title ++ codes "</title>" ++ after)

@@ -1,0 +1,115 @@
+//! The items that wait for a change.
+
+ghost use Rattle.std.specs.Prelude.{◌≡◌, ◌++◌, ◌∷◌, [], IfOk, OnOk, filter, flat_map, map, string_bytes};
+ghost use Rattle.json.specs.Token.{string};
+ghost use Rattle.page_text.specs.Tokens.{Adds};
+ghost use Rattle.page_text.specs.Waiting.{item_text, names, waiting_for, waiting_tokens};
+
+use super::links::add_item_link;
+use super::members::{close_list, open_list};
+use json::Writer;
+use lattice_core::NoMemory;
+use markup_text::{Markup, Piece};
+use ready_core::{Left, Refusal};
+use state_core::Item;
+use std::alloc::Global;
+
+/// How many of the items that wait for a change are on its page at most.
+const SHOWN: usize = 100;
+
+/// The items that wait for a change directly, in item order: those whose verdict names it. It costs O(n) for n items
+/// that are left out.
+pub fn waiting_for(alloc: Global, out: &[Left], change: u32) -> Result<Vec<Item>, NoMemory>
+    ensures { IfOk result (λ items. items.items ≡ waiting_for change out.now) }
+{
+    let mut items = Vec::new(alloc);
+    for left in out {
+        add_if_waiting(&mut items, *left, change)?;
+    }
+    Ok(items)
+}
+
+/// Adds the item of a verdict that names the change.
+fn add_if_waiting(items: &mut Vec<Item>, left: Left, change: u32) -> Result<(), NoMemory>
+    ensures { OnOk result (items.new.items ≡ items.old.items ++ waiting_for change (left ∷ [])) }
+{
+    if names(left.refusal, change) {
+        items.push(left.item)?;
+    }
+    Ok(())
+}
+
+/// Whether a refusal names a change.
+fn names(refusal: Refusal, change: u32) -> bool
+    ensures { result ≡ names change refusal }
+{
+    match refusal {
+        Refusal::Unknown(number) | Refusal::Dependency(number) => number == change,
+        Refusal::Own(_) | Refusal::Cycle => false,
+    }
+}
+
+/// Adds the list of these items, as `101,2`.
+pub fn put_waiting(alloc: Global, out: &mut Writer<Global>, items: &[Item]) -> Result<(), NoMemory>
+    ensures { OnOk result (Adds out.old out.new (waiting_tokens items.now)) }
+{
+    open_list(out, "waiting")?;
+    put_items(alloc, out, items)?;
+    close_list(out)?;
+    Ok(())
+}
+
+/// Adds items.
+fn put_items(alloc: Global, out: &mut Writer<Global>, items: &[Item]) -> Result<(), NoMemory>
+    ensures { OnOk result (Adds out.old out.new (flat_map (λ item. string (item_text item) ∷ []) items.now)) }
+{
+    for item in items {
+        put_item(alloc, out, *item)?;
+    }
+    Ok(())
+}
+
+/// Adds an item.
+fn put_item(alloc: Global, out: &mut Writer<Global>, item: Item) -> Result<(), NoMemory>
+    ensures { OnOk result (Adds out.old out.new (string (item_text item) ∷ [])) }
+{
+    let text = item_text(alloc, item)?;
+    out.string(text.as_str())?;
+    Ok(())
+}
+
+/// An item, as `101,2`.
+fn item_text(alloc: Global, item: Item) -> Result<String, NoMemory>
+    ensures { IfOk result (λ text. string_bytes text ≡ item_text item) }
+{
+    let Item { change, set } = item;
+    Ok(format!(in alloc; "{change},{set}")?)
+}
+
+/// Adds these items to the page of the change that they wait for, at most 100, and how many more there are.
+pub fn add_waiting(page: &mut Markup, items: &[Item]) -> Result<(), NoMemory> {
+    if items.is_empty() {
+        return Ok(());
+    }
+    page.add(&[Piece::Markup("<h2>What waits for it</h2>\n<ul>\n")])?;
+    for item in items.iter().take(SHOWN) {
+        page.add(&[Piece::Markup("<li>")])?;
+        add_item_link(page, *item)?;
+        page.add(&[Piece::Markup("</li>\n")])?;
+    }
+    page.add(&[Piece::Markup("</ul>\n")])?;
+    add_more(page, items.len().saturating_sub(SHOWN))
+}
+
+/// Adds how many more items there are, if there are any.
+fn add_more(page: &mut Markup, more: usize) -> Result<(), NoMemory> {
+    if more == 0 {
+        return Ok(());
+    }
+    page.add(&[
+        Piece::Markup("<p>And "),
+        Piece::Number(more as u64),
+        Piece::Markup(" more.</p>\n"),
+    ])?;
+    Ok(())
+}

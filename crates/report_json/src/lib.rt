@@ -1,0 +1,22 @@
+//! The report of a record as JSON, whole or of one item.
+//!
+//! Its tests are in the crate `command_tests`.
+//!
+//! It is a crate of its own so that `report_text`, which a running site prints by, stays free of JSON. Not taken: a
+//! report in JSON that is written in pages, since it is printed once, at the end of a command.
+//!
+//! An example of its use:
+//!
+//! ```
+//! let gate = Gate::read(alloc, br#"{"bases":["https://r/"]}"#)?;
+//! let verdicts = evaluate(alloc, &State::new(alloc), &gate)?;
+//! let line = report_line(alloc, &verdicts)?;
+//! assert_eq!(rt; line.as_slice(), b"{\"ready\":[],\"out\":[]}\n".as_slice());
+//! ```
+#![tactic(auto)]
+
+mod items;
+mod report;
+
+pub use items::{out_item_line, ready_item_line};
+pub use report::report_line;

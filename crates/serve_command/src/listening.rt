@@ -1,0 +1,138 @@
+//! Listens for the sessions of a site, and says where.
+
+ghost use Rattle.std.specs.Prelude.{◌≡◌, vec_len};
+ghost use Rattle.serve_command.specs.Listening.{bits_of, port_of};
+
+use super::command::Ended;
+use super::fault::ProgramFault;
+use byte_ends::{Ends, write_all};
+use command_line::{ServeWords, SocketMode};
+use console::Refusal;
+use site_net::{Listener, listen_at_path, listen_at_port};
+use std::alloc::{AllocError, Global};
+use std::io::Print;
+use std::net::{Net, TcpListener, TcpStream};
+use std::rt::Files;
+use std::{fs, io};
+
+/// What a site listens at, and the paths of the sockets that it made for that.
+#[derive(Drop)]
+pub struct Listening<'a> {
+    pub listeners: Vec<Listener>,
+    pub sockets: Vec<&'a str>,
+}
+
+/// Listens at the port and the sockets that the words name; at a port that the system chooses where they name none. The
+/// address of each is printed. Where it fails the sockets that it has made are removed.
+pub fn listen<'a, R>(
+    rt: &R,
+    alloc: Global,
+    words: &ServeWords<'a>,
+) -> Result<Listening<'a>, Ended<'static>>
+where
+    R: Net<Listener = TcpListener, Stream = TcpStream> + Files + Print,
+{
+    let mut listeners = Vec::new(alloc);
+    let mut sockets = Vec::new(alloc);
+    match listen_at_all(rt, alloc, words, &mut listeners, &mut sockets) {
+        Ok(()) => Ok(Listening { listeners, sockets }),
+        Err(ended) => {
+            leave(rt, sockets.as_slice());
+            Err(ended)
+        }
+    }
+}
+
+/// Removes sockets. One that is gone already stays gone.
+pub fn leave<R: Files>(rt: &R, sockets: &[&str]) {
+    for path in sockets {
+        let _gone = fs::remove_file(rt, *path);
+    }
+}
+
+/// Listens at all that the words name.
+fn listen_at_all<'a, R>(
+    rt: &R,
+    alloc: Global,
+    words: &ServeWords<'a>,
+    listeners: &mut Vec<Listener>,
+    sockets: &mut Vec<&'a str>,
+) -> Result<(), Ended<'static>>
+where
+    R: Net<Listener = TcpListener, Stream = TcpStream> + Files + Print,
+{
+    if let Some(port) = port_of(words.port, words.sockets.len()) {
+        let listener = listen_at(rt, alloc, "", port)?;
+        add(listeners, Listener::Port(listener))?;
+    }
+    for path in &words.sockets {
+        let Ok(listener) = listen_at_path(rt, alloc, path, bits_of(words.mode)) else {
+            return Err(Ended::Program(ProgramFault::NoBind));
+        };
+        add(sockets, *path)?;
+        add(listeners, Listener::Socket(listener))?;
+        say(rt, format!(in alloc; "listening {path}\n"))?;
+    }
+    Ok(())
+}
+
+/// The port that a site listens at: the one that is named; or, where none is and no socket either, one that the system
+/// chooses.
+fn port_of(port: Option<u16>, sockets: usize) -> Option<u16>
+    ensures { result ≡ port_of port sockets }
+{
+    match port {
+        None if sockets == 0 => Some(0),
+        named => named,
+    }
+}
+
+/// The permissions of a socket.
+fn bits_of(mode: SocketMode) -> u32
+    ensures { result ≡ bits_of mode }
+{
+    match mode {
+        SocketMode::Owner => 0o600,
+        SocketMode::Group => 0o660,
+    }
+}
+
+/// Listens at a port, and prints it after what it is for.
+pub fn listen_at<R>(
+    rt: &R,
+    alloc: Global,
+    what: &str,
+    port: u16,
+) -> Result<TcpListener, Ended<'static>>
+where
+    R: Net<Listener = TcpListener, Stream = TcpStream> + Print,
+{
+    let Ok(listener) = listen_at_port(rt, port) else {
+        return Err(Ended::Program(ProgramFault::NoBind));
+    };
+    let Ok(address) = listener.local_addr() else {
+        return Err(Ended::Program(ProgramFault::NoBind));
+    };
+    let port = address.port();
+    say(rt, format!(in alloc; "listening {what}{port}\n"))?;
+    Ok(listener)
+}
+
+/// Adds one to those that are there.
+fn add<T: Drop>(all: &mut Vec<T>, one: T) -> Result<(), Ended<'static>> {
+    match all.push(one) {
+        Ok(()) => Ok(()),
+        Err(_) => Err(Ended::Refused(Refusal::Memory)),
+    }
+}
+
+/// Prints a line.
+fn say<R: Print>(rt: &R, line: Result<String, AllocError>) -> Result<(), Ended<'static>> {
+    let Ok(line) = line else {
+        return Err(Ended::Refused(Refusal::Memory));
+    };
+    match write_all(&mut Ends::new(io::writer(rt)), line.as_bytes()) {
+        Ok(()) => Ok(()),
+        Err(_) => Err(Ended::Refused(Refusal::Output)),
+    }
+}
