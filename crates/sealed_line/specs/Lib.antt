@@ -1,2 +1,4 @@
 pub mod Sealing
 pub mod Keystream
+pub mod Greetings
+pub mod Keys

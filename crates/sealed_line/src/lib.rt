@@ -21,11 +21,17 @@
 #![tactic(auto)]
 
 mod cross;
+mod digits;
 mod fault;
+mod greeting;
+mod keys;
 mod laws;
 mod seal;
 
+pub use digits::lower_hex;
 pub use fault::SealFault;
+pub use greeting::{Answer, Greeting, Reply};
+pub use keys::{KeyId, SessionKeys, key_id, session_keys};
 pub use laws::{no_block_twice, opening_gives_back};
 pub use seal::Seal;
 
