@@ -1,25 +1,16 @@
 -- A line is the seal of one cipher at most.
 use Rattle.std.proofs.Common.{◌≡◌, ◌≢◌, ℕ, ◌<◌, ◌+◌, ◌++◌, List, sym, ◌∙◌, ap, refl, arith, length, take, drop, length-append, length-drop, subst, take-append-drop}
-use Rattle.std.proofs.Math.Seq.{take-append_seam, drop-append_seam}
 use Rattle.std.specs.Int.{to_be_bytes, w64}
 use Rattle.std.specs.Result.{result_unwrap_or}
 use Rattle.base64.specs.Engines.{standard}
 use Rattle.base64.specs.GeneralPurpose.{IsBytes, decode_of, encode_of}
 use Rattle.base64.proofs.EngineFacts.{decode_of-encode_of}
 use Rattle.keyed_digest.specs.HmacFacts.{bytes-append, bytes-hmac, length-hmac}
+use Rattle.sealed_line.specs.Words.{split_alike}
 use Rattle.sealed_line.specs.Sealing.{IsNoSeal, IsUndecoded, IsUnopened, Opens, Sealing, crossed, sealed, tag_of}
 use Rattle.sealed_line.specs.declared.fault.SealFault.{SealFault}
 use Rattle.sealed_line.specs.declared.fault.SealFault.TheVariants.{BadSeal, LongLine, Spent, NoMemory}
 use Rattle.sealed_line.proofs.Crosses.{bytes-crossed_under, crossed_under_twice}
-
--- two pieces whose ends are of one length
-pub split_alike : (a b c d : List ℕ) → length b ≡ length d → a ++ b ≡ c ++ d → (a ≡ c) × (b ≡ d)
-split_alike a b c d same e =
-    let lengths = ap (λ (l : List ℕ). length l) e in
-    let first : length a ≡ length c = omega (arith, lengths, length-append a b, length-append c d, same) in (
-      sym (take-append_seam a b) ∙ ap (take (length a)) e ∙ ap (λ n. take n (c ++ d)) first ∙ take-append_seam c d,
-      sym (drop-append_seam a b) ∙ ap (drop (length a)) e ∙ ap (λ n. drop n (c ++ d)) first ∙ drop-append_seam c d,
-    )
 
 pub encoded_alike : (a b : List ℕ) → IsBytes a → IsBytes b → encode_of standard a ≡ encode_of standard b → a ≡ b
 encoded_alike a b of_a of_b e =

@@ -157,8 +157,9 @@ fn write_proof<A: Allocator + Copy>(
     write_hex(into, proof.as_slice())
 }
 
-/// The last word of a text, of this length, and what stands before the blank before it.
-fn last_word(text: &[u8], size: usize) -> Option<(&[u8], &[u8])>
+/// What stands before the last word of a text, and that word, which has this length and a blank before it; nothing
+/// where no such word is last. It takes no memory.
+pub fn last_word(text: &[u8], size: usize) -> Option<(&[u8], &[u8])>
     ensures { MatchOption result ((front last : List ℕ) → length last ≡ size → text.now ≢ front ++ 32 ∷ last)
         (λ words. (text.now ≡ words.0.now ++ 32 ∷ words.1.now) × (length words.1.now ≡ size)) }
 {

@@ -30,7 +30,7 @@ mod seal;
 
 pub use digits::lower_hex;
 pub use fault::SealFault;
-pub use greeting::{Answer, Greeting, Reply};
+pub use greeting::{Answer, Greeting, Reply, last_word};
 pub use keys::{KeyId, SessionKeys, key_id, session_keys};
 pub use laws::{no_block_twice, opening_gives_back};
 pub use seal::Seal;

@@ -1,6 +1,6 @@
 //! The seal of one direction.
 
-ghost use Rattle.std.specs.Prelude.{◌≡◌, ◌<◌, ◌≤◌, ◌++◌, Err, List, ℕ, IfErr, IfOk, MatchResult, OnErr, OnOk, length, string_bytes};
+ghost use Rattle.std.specs.Prelude.{◌≡◌, ◌<◌, ◌≤◌, ◌++◌, Err, List, ℕ, IfErr, IfOk, OnErr, OnOk, length, string_bytes};
 ghost use Rattle.base64.specs.Engines.{standard};
 ghost use Rattle.base64.specs.GeneralPurpose.{IsBytes, encode_of};
 ghost use Rattle.byte_ends.specs.Lines.{as_line};
@@ -11,7 +11,6 @@ use super::fault::SealFault;
 use base64::DecodeAllocError;
 use base64::engine::general_purpose::STANDARD;
 use keyed_digest::Mac;
-use lattice_core::NoMemory;
 use std::alloc::{AllocError, Allocator};
 use std::marker::Model;
 

@@ -2,7 +2,8 @@
 use Rattle.std.proofs.Common.{◌≢◌, codes}
 use Rattle.hex.specs.Hex.{encode_lower}
 use Rattle.sealed_line.specs.Greetings.{front_text, reply_text}
-use Rattle.sealed_line.proofs.Firsts.{last_alike, length-hex, no_answer}
+use Rattle.sealed_line.specs.Words.{last_alike, length-hex}
+use Rattle.sealed_line.proofs.Firsts.{no_answer}
 use Rattle.sealed_line.proofs.greeting.Answer.read.Goals as goal
 
 pub returns-in_default : goal.returns-in_default

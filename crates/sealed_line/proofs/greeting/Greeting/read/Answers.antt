@@ -1,7 +1,7 @@
 -- From the last word on, each word of a greeting is the one that was read.
 use Rattle.hex.specs.Hex.{encode_lower}
 use Rattle.sealed_line.specs.Greetings.{front_text, then_hex}
-use Rattle.sealed_line.proofs.Firsts.{last_alike, length-hex}
+use Rattle.sealed_line.specs.Words.{last_alike, length-hex}
 use Rattle.sealed_line.proofs.greeting.Greeting.read.Goals as goal
 
 pub returns-in_default : goal.returns-in_default
