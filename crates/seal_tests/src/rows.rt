@@ -67,6 +67,20 @@ fn the_first_lines_are_these(rt: HostRuntime) -> Result<(), Fail> {
     Ok(())
 }
 
+/// The next line of a seal is this one.
+fn assert_next(
+    rt: &impl Abort,
+    alloc: Global,
+    seal: &mut Seal,
+    text: &[u8],
+    wanted: &str,
+) -> Result<(), Fail> {
+    let mut line = Vec::new(alloc);
+    seal.seal(alloc, text, &mut line)?;
+    assert_eq!(rt; without_end(line.as_slice()), wanted.as_bytes());
+    Ok(())
+}
+
 /// The three texts are sealed to these lines.
 fn assert_sealed(
     rt: &impl Abort,
@@ -75,17 +89,9 @@ fn assert_sealed(
     lines: &[&str; 3],
 ) -> Result<(), Fail> {
     let long = times(alloc, b'x', 100)?;
-    let texts = [
-        b"hello 2".as_slice(),
-        b"front {\"reach\":[]}",
-        long.as_slice(),
-    ];
-    for (text, wanted) in texts.iter().zip(lines) {
-        let mut line = Vec::new(alloc);
-        seal.seal(alloc, text, &mut line)?;
-        assert_eq!(rt; without_end(line.as_slice()), wanted.as_bytes());
-    }
-    Ok(())
+    assert_next(rt, alloc, &mut seal, b"hello 2", lines[0])?;
+    assert_next(rt, alloc, &mut seal, b"front {\"reach\":[]}", lines[1])?;
+    assert_next(rt, alloc, &mut seal, long.as_slice(), lines[2])
 }
 
 #[test]

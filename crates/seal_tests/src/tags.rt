@@ -103,7 +103,7 @@ fn each_byte_of_a_tag_counts(rt: HostRuntime) {
         }
     }
     assert_eq!(rt; taken, 0);
-    assert!(rt; !mac.is_tag(b"message", b"", &tag[..16]));
+    assert!(rt; !mac.is_tag(b"message", b"", b"a short one"));
     assert!(rt; !is_same(b"a", b"ab"));
     assert!(rt; is_same(b"", b""));
 }
