@@ -13,4 +13,6 @@ mod rows;
 #[cfg(test)]
 mod seals;
 #[cfg(test)]
+mod sources;
+#[cfg(test)]
 mod tags;
