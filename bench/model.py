@@ -336,7 +336,7 @@ class Gate:
             if key == "allow-circular-dependencies":
                 self.want(isinstance(value[key], bool), key)
             elif key == "bases":
-                self.want(self.are_bases(value[key]), key)
+                self.want_bases(value[key])
             elif key == "connection":
                 self.want(isinstance(value[key], str), key)
             elif key in ("require", "reject"):
@@ -351,13 +351,25 @@ class Gate:
         if not is_good:
             raise Refused(f"gate 3 BadValue {key}")
 
+    def want_bases(self, value) -> None:
+        """A list of bases; the first item that is none is named by its number, with what it lacks."""
+        self.want(isinstance(value, list) and len(value) > 0, "bases")
+        for number, base in enumerate(value, 1):
+            flaw = "TooMany" if number > 8 else self.flaw_of(base)
+            if flaw:
+                raise Refused(f"gate 3 BadValue bases {number} {flaw}")
+
     @staticmethod
-    def are_bases(value) -> bool:
-        return (
-            isinstance(value, list)
-            and 1 <= len(value) <= 8
-            and all(isinstance(base, str) and re.fullmatch(rb"[\x21-\x7e]{0,255}/", base.encode()) for base in value)
-        )
+    def flaw_of(base) -> str:
+        if not isinstance(base, str):
+            return "NotText"
+        if base == "":
+            return "Empty"
+        if len(base.encode()) > 256:
+            return "TooLong"
+        if not re.fullmatch(rb"[\x21-\x7e]+", base.encode()):
+            return "BadByte"
+        return "" if base.endswith("/") else "NoSlash"
 
     def walk_side(self, side: dict) -> None:
         for key in sorted(side, key=str.encode):

@@ -102,6 +102,98 @@ fn names_are_looked_for_in_a_record(rt: HostRuntime) -> Result<(), Fail> {
     Ok(())
 }
 
+/// A record with votes of some labels and voters.
+const VOTERS: &str = r#"reviewgate 2
+{"change":101,"label":"code-review","op":"vote","seq":1,"set":1,"site":1,"start":1,"time":1,"value":1,"voter":"zuul"}
+{"change":101,"label":"code-style","op":"vote","seq":2,"set":1,"site":1,"start":1,"time":2,"value":1,"voter":"zuul2"}
+{"change":101,"label":"verified","op":"vote","seq":3,"set":1,"site":1,"start":1,"time":3,"value":1,"voter":"zuul1"}
+end 3
+"#;
+
+#[test]
+fn the_nearest_name_is_said(rt: HostRuntime) {
+    let gate =
+        r#"{"bases":["https://r/"],"require":{"gerrit":{"approval":[{"Code-Reveiw":1},{"Verify":1},{"Workflow":1},
+{"username":"Zuul"},{"username":"zuul3"},{"username":"zu"},{"username":"z"}]}},
+"reject":{"gerrit":{"approval":{"Code-St":-1,"username":""}}}}"#;
+    let lines = r#"require /require/gerrit/approval/0 code-reveiw 1
+require /require/gerrit/approval/1 verify 1
+require /require/gerrit/approval/2 workflow 1
+require /require/gerrit/approval/3 any vote by "Zuul"
+require /require/gerrit/approval/4 any vote by "zuul3"
+require /require/gerrit/approval/5 any vote by "zu"
+require /require/gerrit/approval/6 any vote by "z"
+reject /reject/gerrit/approval/0 code-st -1 by ""
+warning 2 UnknownLabel /require/gerrit/approval/0 "code-reveiw" nearest "code-review"
+warning 2 UnknownLabel /require/gerrit/approval/1 "verify"
+warning 2 UnknownLabel /require/gerrit/approval/2 "workflow"
+warning 3 UnknownVoter /require/gerrit/approval/3 "Zuul" nearest "zuul"
+warning 3 UnknownVoter /require/gerrit/approval/4 "zuul3" nearest "zuul"
+warning 3 UnknownVoter /require/gerrit/approval/5 "zu"
+warning 3 UnknownVoter /require/gerrit/approval/6 "z"
+warning 2 UnknownLabel /reject/gerrit/approval/0 "code-st"
+warning 3 UnknownVoter /reject/gerrit/approval/0 ""
+end 8 9
+"#;
+    let words = ["check", "gate", "-"];
+    assert_prints(
+        &rt,
+        rt.alloc(),
+        words.as_slice(),
+        gate,
+        VOTERS,
+        0,
+        lines,
+        "",
+    );
+}
+
+/// What `check` warns of bases, of a record with these two messages.
+fn assert_bases(
+    rt: &impl Abort,
+    alloc: Global,
+    first: &str,
+    second: &str,
+    lines: &str,
+) -> Result<(), Fail> {
+    let gate = r#"{"bases":["https://r/","http://s/"]}"#;
+    let record = format!(in alloc;
+        "reviewgate 2\n{{\"change\":101,\"message\":\"{first}\",\"op\":\"patchset\",\"seq\":1,\"set\":1,\"site\":1,\"start\":1,\"time\":1}}\n{{\"change\":102,\"message\":\"m\",\"op\":\"patchset\",\"seq\":2,\"set\":1,\"site\":1,\"start\":1,\"time\":2}}\n{{\"change\":102,\"message\":\"{second}\",\"op\":\"patchset\",\"seq\":3,\"set\":2,\"site\":1,\"start\":1,\"time\":3}}\nend 3\n"
+    )?;
+    let words = ["check", "gate", "-"];
+    assert_prints(
+        rt,
+        alloc,
+        words.as_slice(),
+        gate,
+        record.as_str(),
+        0,
+        lines,
+        "",
+    );
+    Ok(())
+}
+
+#[test]
+fn bases_are_looked_for_in_a_record(rt: HostRuntime) -> Result<(), Fail> {
+    let alloc = rt.alloc();
+    let both =
+        "warning 5 UnusedBase /bases/0 \"https://r/\"\nwarning 5 UnusedBase /bases/1 \"http://s/\"\nend 0 2\n";
+    let second = "warning 5 UnusedBase /bases/1 \"http://s/\"\nend 0 1\n";
+    let none = "end 0 0\n";
+    let elsewhere = "Fix\\n\\nDepends-On: https://t/1";
+    let other = "depends-on:http://s/x\\nDepends-On: https://r/g/c/p/+/7";
+    let used = "Depends-On: https://r/c/p/+/7";
+    assert_bases(&rt, alloc, "m", "m", none)?;
+    assert_bases(&rt, alloc, elsewhere, "m", both)?;
+    assert_bases(&rt, alloc, "m", other, both)?;
+    assert_bases(&rt, alloc, used, elsewhere, second)?;
+    assert_bases(&rt, alloc, used, "Depends-On: I0123", none)?;
+    assert_bases(&rt, alloc, "See https://t/1", used, none)?;
+    let own = "Depends-On: http://s/102\\nDepends-On: https://t/1\\nDepends-On: https://r/9";
+    assert_bases(&rt, alloc, "m", own, none)
+}
+
 #[test]
 fn a_username_is_no_pattern(rt: HostRuntime) {
     let gate =

@@ -63,13 +63,29 @@ fn a_check_is_one_object(rt: HostRuntime) {
     assert_prints(&rt, alloc, words.as_slice(), GATE, "", 0, line, "");
     let gate = r#"{"bases":["https://r/"],"reject":{"gerrit":{"approval":{"username":"a.*\n"}}}}"#;
     let line =
-        r#"{"conditions":["reject /reject/gerrit/approval/0 any vote by \"a.*\\n\""],"warnings":["warning 1 Pattern /reject/gerrit/approval/0 \"a.*\\n\"","warning 3 UnknownVoter /reject/gerrit/approval/0 \"a.*\\n\""]}
+        r#"{"conditions":["reject /reject/gerrit/approval/0 any vote by \"a.*\\n\""],"warnings":[{"number":1,"name":"Pattern","place":"/reject/gerrit/approval/0","about":"a.*\n"},{"number":3,"name":"UnknownVoter","place":"/reject/gerrit/approval/0","about":"a.*\n"}]}
 "#;
     let words = ["check", "--json", "gate", "-"];
     assert_prints(&rt, alloc, words.as_slice(), gate, RECORD, 0, line, "");
     let words = ["check", "--strict", "--json", "gate", "-"];
     let errors = "reviewgate: check 1 Warnings 2\n";
     assert_prints(&rt, alloc, words.as_slice(), gate, RECORD, 1, line, errors);
+}
+
+#[test]
+fn a_check_names_the_nearest_as_json(rt: HostRuntime) {
+    let alloc = rt.alloc();
+    let gate =
+        r#"{"bases":["https://r/"],"reject":{"gerrit":{"open":true}},"require":{"gerrit":{"open":true,"approval":{"Verifeid":1}}}}"#;
+    let record = r#"reviewgate 2
+{"change":101,"label":"verified","op":"vote","seq":1,"set":1,"site":1,"start":1,"time":1,"value":1,"voter":"zuul"}
+end 1
+"#;
+    let line =
+        r#"{"conditions":["require /require/gerrit/open open","require /require/gerrit/approval/0 verifeid 1","reject /reject/gerrit/open open"],"warnings":[{"number":4,"name":"NeverMet","place":"/require/gerrit/open"},{"number":2,"name":"UnknownLabel","place":"/require/gerrit/approval/0","about":"verifeid","nearest":"verified"}]}
+"#;
+    let words = ["check", "gate", "-", "--json"];
+    assert_prints(&rt, alloc, words.as_slice(), gate, record, 0, line, "");
 }
 
 #[test]

@@ -1,3 +1,3 @@
-pub mod Building
+pub mod Adding
 pub mod Getting
 pub mod Refusing

@@ -1,6 +1,7 @@
 //! The kinds of arguments that commands have.
 
 ghost use Rattle.std.specs.Prelude.{◌≡◌};
+ghost use Rattle.clap.specs.Words.{new_rule};
 ghost use Rattle.command_tree.specs.Rules.{IsRule, flag_rule, needed, number_rule, number_with};
 ghost use Rattle.command_tree.specs.Rules.{option_rule, option_with, several_numbers, several_rule, words_rule};
 
@@ -112,6 +113,13 @@ pub fn file<'a>(alloc: Global, name: &'a str, help: &'a str) -> Arg<'a>
     ensures { IsRule (needed name.entry.now) result }
 {
     Arg::new(alloc, name).required(true).help(help)
+}
+
+/// An argument without a dash that may be left out.
+pub fn optional<'a>(alloc: Global, name: &'a str, help: &'a str) -> Arg<'a>
+    ensures { IsRule (new_rule name.entry.now) result }
+{
+    Arg::new(alloc, name).help(help)
 }
 
 /// An option with a value.

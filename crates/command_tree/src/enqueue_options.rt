@@ -1,19 +1,19 @@
 //! The arguments of `enqueue`.
 
-ghost use Rattle.std.specs.Prelude.{IfOk};
-ghost use Rattle.command_tree.specs.Commands.{IsApp, enqueue_app, templated_app};
+ghost use Rattle.command_tree.specs.Building.{Builds};
+ghost use Rattle.command_tree.specs.Commands.{enqueue_app, templated_app};
 
 use super::arguments::{default_text, file, option};
-use clap::Command;
-use std::alloc::{AllocError, Global};
+use super::building::Building;
+use std::alloc::Global;
 
 /// What is written for an item where no template is named.
 const TEMPLATE: &str =
     "zuul-client enqueue --tenant {tenant} --pipeline {pipeline} --project {project} --change {change},{set}";
 
 /// `enqueue QUERY [--tenant TENANT] [--pipeline NAME] [--template TEXT] [--projects FILE] [--handed FILE]`
-pub fn enqueue_command<'a>(alloc: Global) -> Result<Command<'a>, AllocError>
-    ensures { IfOk result (IsApp enqueue_app) }
+pub fn enqueue_command<'a>(alloc: Global) -> Building<'a>
+    ensures { Builds enqueue_app result }
 {
     let projects = option(
         alloc,
@@ -27,12 +27,12 @@ pub fn enqueue_command<'a>(alloc: Global) -> Result<Command<'a>, AllocError>
         "FILE",
         "The file of the items that were handed over before, as CHANGE,SET, one a line",
     );
-    templated_command(alloc)?.arg(projects)?.arg(handed)
+    templated_command(alloc).with(projects).with(handed)
 }
 
 /// The command with what is written for an item.
-fn templated_command<'a>(alloc: Global) -> Result<Command<'a>, AllocError>
-    ensures { IfOk result (IsApp templated_app) }
+fn templated_command<'a>(alloc: Global) -> Building<'a>
+    ensures { Builds templated_app result }
 {
     let query = file(
         alloc,
@@ -53,10 +53,13 @@ fn templated_command<'a>(alloc: Global) -> Result<Command<'a>, AllocError>
         "TEXT",
         "What is written for an item, with {tenant} {pipeline} {project} {branch} {change} {set}",
     );
-    Command::new(alloc, "enqueue")
-        .about("Writes a command for each item that became ready in reports on standard input")
-        .arg(query)?
-        .arg(tenant)?
-        .arg(pipeline)?
-        .arg(template)
+    Building::of(
+        alloc,
+        "enqueue",
+        "Writes a command for each item that became ready in reports on standard input",
+    )
+    .with(query)
+    .with(tenant)
+    .with(pipeline)
+    .with(template)
 }

@@ -1,15 +1,15 @@
 //! The arguments of `events`.
 
-ghost use Rattle.std.specs.Prelude.{IfOk};
-ghost use Rattle.command_tree.specs.Commands.{IsApp, events_app, feeding_app};
+ghost use Rattle.command_tree.specs.Building.{Builds};
+ghost use Rattle.command_tree.specs.Commands.{events_app, feeding_app};
 
 use super::arguments::{flag, option, several};
-use clap::Command;
-use std::alloc::{AllocError, Global};
+use super::building::Building;
+use std::alloc::Global;
 
 /// `events [--to ADDRESS] [--query | --complete] [--project NAME].. [--projects FILE] [--gate GATE]`
-pub fn events_command<'a>(alloc: Global) -> Result<Command<'a>, AllocError>
-    ensures { IfOk result (IsApp events_app) }
+pub fn events_command<'a>(alloc: Global) -> Building<'a>
+    ensures { Builds events_app result }
 {
     let project = several(
         alloc,
@@ -29,13 +29,13 @@ pub fn events_command<'a>(alloc: Global) -> Result<Command<'a>, AllocError>
         "GATE",
         "The gate file whose bases say which changes a Depends-On names, so that unknown ones are asked for",
     );
-    let feeding = feeding_command(alloc)?;
-    feeding.arg(project)?.arg(projects)?.arg(gate)
+    let feeding = feeding_command(alloc);
+    feeding.with(project).with(projects).with(gate)
 }
 
 /// The command with where Gerrit's lines go to, and what they are.
-fn feeding_command<'a>(alloc: Global) -> Result<Command<'a>, AllocError>
-    ensures { IfOk result (IsApp feeding_app) }
+fn feeding_command<'a>(alloc: Global) -> Building<'a>
+    ensures { Builds feeding_app result }
 {
     let to = option(
         alloc,
@@ -53,9 +53,12 @@ fn feeding_command<'a>(alloc: Global) -> Result<Command<'a>, AllocError>
         "complete",
         "The same, and the answer has every open change: those that it lacks are abandoned",
     );
-    Command::new(alloc, "events")
-        .about("Feeds what Gerrit writes to a session of a site")
-        .arg(to)?
-        .arg(query)?
-        .arg(complete)
+    Building::of(
+        alloc,
+        "events",
+        "Feeds what Gerrit writes to a session of a site",
+    )
+    .with(to)
+    .with(query)
+    .with(complete)
 }

@@ -19,6 +19,7 @@
 #![tactic(auto)]
 
 mod arguments;
+mod building;
 mod enqueue_options;
 mod feed_options;
 mod parsing;

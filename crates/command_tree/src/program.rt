@@ -1,15 +1,16 @@
 //! The program's commands and their arguments.
 
 ghost use Rattle.std.specs.Prelude.{IfOk, codes};
+ghost use Rattle.command_tree.specs.Building.{Builds};
 ghost use Rattle.command_tree.specs.Commands.{IsApp, bare_app, check_app, events_app, footers_app, graph_app};
 ghost use Rattle.command_tree.specs.Commands.{judging_app, merge_app, program, reading_app, ready_app, recover_app};
 ghost use Rattle.command_tree.specs.Commands.{simulate_app, why_app};
-ghost use Rattle.clap.specs.Words.{new_rule};
 ghost use Rattle.command_tree.specs.Rules.{IsRule, flag_rule};
 
 use super::arguments::{
-    AROUND, CHANGE, UNTIL, default_option, file, flag, number_option, option, several,
+    AROUND, CHANGE, UNTIL, default_option, file, flag, number_option, option, optional, several,
 };
+use super::building::Building;
 use super::enqueue_options::enqueue_command;
 use super::feed_options::events_command;
 use super::site_options::serve_command;
@@ -41,32 +42,37 @@ fn json_flag<'a>(alloc: Global) -> Arg<'a>
 pub fn program<'a>(alloc: Global) -> Result<Command<'a>, AllocError>
     ensures { IfOk result (IsApp program) }
 {
-    let reading = reading_commands(alloc)?;
-    let serving = reading.subcommand(serve_command(alloc)?)?;
-    let recovering = serving.subcommand(recover_command(alloc)?)?;
-    let feeding = recovering.subcommand(events_command(alloc)?)?;
-    feeding.subcommand(enqueue_command(alloc)?)
+    let reading = reading_commands(alloc);
+    let serving = reading
+        .with_command(serve_command(alloc))
+        .with_command(recover_command(alloc));
+    let feeding = serving
+        .with_command(events_command(alloc))
+        .with_command(enqueue_command(alloc));
+    feeding.command
 }
 
 /// The program with the commands that read files alone.
-fn reading_commands<'a>(alloc: Global) -> Result<Command<'a>, AllocError>
-    ensures { IfOk result (IsApp reading_app) }
+fn reading_commands<'a>(alloc: Global) -> Building<'a>
+    ensures { Builds reading_app result }
 {
-    let judging = judging_commands(alloc)?;
-    let merging = judging.subcommand(merge_command(alloc)?)?;
-    let depending = merging.subcommand(footers_command(alloc)?)?;
-    let checking = depending.subcommand(check_command(alloc)?)?;
-    checking.subcommand(simulate_command(alloc)?)
+    judging_commands(alloc)
+        .with_command(merge_command(alloc))
+        .with_command(footers_command(alloc))
+        .with_command(check_command(alloc))
+        .with_command(simulate_command(alloc))
 }
 
 /// The program with the commands that judge a snapshot.
-fn judging_commands<'a>(alloc: Global) -> Result<Command<'a>, AllocError>
-    ensures { IfOk result (IsApp judging_app) }
+fn judging_commands<'a>(alloc: Global) -> Building<'a>
+    ensures { Builds judging_app result }
 {
-    let bare = bare_program(alloc)?;
-    let reporting = bare.subcommand(ready_command(alloc)?)?;
-    let explaining = reporting.subcommand(why_command(alloc)?)?;
-    explaining.subcommand(graph_command(alloc)?)
+    let bare = Building {
+        command: bare_program(alloc),
+    };
+    bare.with_command(ready_command(alloc))
+        .with_command(why_command(alloc))
+        .with_command(graph_command(alloc))
 }
 
 /// The program, before it has its commands.
@@ -83,8 +89,8 @@ fn bare_program<'a>(alloc: Global) -> Result<Command<'a>, AllocError>
 }
 
 /// `ready GATE SNAPSHOT [--item CHANGE[,SET]] [--json]`
-fn ready_command<'a>(alloc: Global) -> Result<Command<'a>, AllocError>
-    ensures { IfOk result (IsApp ready_app) }
+fn ready_command<'a>(alloc: Global) -> Building<'a>
+    ensures { Builds ready_app result }
 {
     let item = option(
         alloc,
@@ -92,17 +98,20 @@ fn ready_command<'a>(alloc: Global) -> Result<Command<'a>, AllocError>
         "CHANGE[,SET]",
         "Prints the line of this item alone, and ends with status 3 if it waits",
     );
-    Command::new(alloc, "ready")
-        .about("Prints which items may be enqueued, and why each other one waits")
-        .arg(file(alloc, "GATE", GATE_HELP))?
-        .arg(file(alloc, "SNAPSHOT", SNAPSHOT_HELP))?
-        .arg(item)?
-        .arg(json_flag(alloc))
+    Building::of(
+        alloc,
+        "ready",
+        "Prints which items may be enqueued, and why each other one waits",
+    )
+    .with(file(alloc, "GATE", GATE_HELP))
+    .with(file(alloc, "SNAPSHOT", SNAPSHOT_HELP))
+    .with(item)
+    .with(json_flag(alloc))
 }
 
 /// `why GATE SNAPSHOT CHANGE[,SET] [--all]`
-fn why_command<'a>(alloc: Global) -> Result<Command<'a>, AllocError>
-    ensures { IfOk result (IsApp why_app) }
+fn why_command<'a>(alloc: Global) -> Building<'a>
+    ensures { Builds why_app result }
 {
     let item = file(
         alloc,
@@ -114,17 +123,16 @@ fn why_command<'a>(alloc: Global) -> Result<Command<'a>, AllocError>
         "all",
         "Prints each condition of the gate, too, and whether the item meets it",
     );
-    Command::new(alloc, "why")
-        .about("Prints why an item waits, down to the cause")
-        .arg(file(alloc, "GATE", GATE_HELP))?
-        .arg(file(alloc, "SNAPSHOT", SNAPSHOT_HELP))?
-        .arg(item)?
-        .arg(all)
+    Building::of(alloc, "why", "Prints why an item waits, down to the cause")
+        .with(file(alloc, "GATE", GATE_HELP))
+        .with(file(alloc, "SNAPSHOT", SNAPSHOT_HELP))
+        .with(item)
+        .with(all)
 }
 
 /// `graph GATE SNAPSHOT [--around CHANGE]`
-fn graph_command<'a>(alloc: Global) -> Result<Command<'a>, AllocError>
-    ensures { IfOk result (IsApp graph_app) }
+fn graph_command<'a>(alloc: Global) -> Building<'a>
+    ensures { Builds graph_app result }
 {
     let around = number_option(
         alloc,
@@ -132,16 +140,19 @@ fn graph_command<'a>(alloc: Global) -> Result<Command<'a>, AllocError>
         "CHANGE",
         "The change around which items are drawn: what it leads to, and what leads to it",
     );
-    Command::new(alloc, "graph")
-        .about("Prints what items wait for as a Graphviz graph")
-        .arg(file(alloc, "GATE", GATE_HELP))?
-        .arg(file(alloc, "SNAPSHOT", SNAPSHOT_HELP))?
-        .arg(around)
+    Building::of(
+        alloc,
+        "graph",
+        "Prints what items wait for as a Graphviz graph",
+    )
+    .with(file(alloc, "GATE", GATE_HELP))
+    .with(file(alloc, "SNAPSHOT", SNAPSHOT_HELP))
+    .with(around)
 }
 
 /// `merge FIRST SECOND`
-fn merge_command<'a>(alloc: Global) -> Result<Command<'a>, AllocError>
-    ensures { IfOk result (IsApp merge_app) }
+fn merge_command<'a>(alloc: Global) -> Building<'a>
+    ensures { Builds merge_app result }
 {
     let first = file(
         alloc,
@@ -153,15 +164,14 @@ fn merge_command<'a>(alloc: Global) -> Result<Command<'a>, AllocError>
         "SECOND",
         "The second snapshot's file, - for standard input, or @ADDRESS for a running site",
     );
-    Command::new(alloc, "merge")
-        .about("Prints the snapshot of two together")
-        .arg(first)?
-        .arg(second)
+    Building::of(alloc, "merge", "Prints the snapshot of two together")
+        .with(first)
+        .with(second)
 }
 
 /// `footers GATE FILE [--change N] [--json]`
-fn footers_command<'a>(alloc: Global) -> Result<Command<'a>, AllocError>
-    ensures { IfOk result (IsApp footers_app) }
+fn footers_command<'a>(alloc: Global) -> Building<'a>
+    ensures { Builds footers_app result }
 {
     let message = file(
         alloc,
@@ -175,58 +185,64 @@ fn footers_command<'a>(alloc: Global) -> Result<Command<'a>, AllocError>
         "N",
         "The number of the message's own change; 0 means none",
     );
-    Command::new(alloc, "footers")
-        .about("Prints the changes that a commit message depends on")
-        .arg(file(alloc, "GATE", GATE_HELP))?
-        .arg(message)?
-        .arg(change)?
-        .arg(json_flag(alloc))
-}
-
-/// The snapshot that a gate is compared with, which may be left out.
-fn compared_snapshot<'a>(alloc: Global) -> Arg<'a>
-    ensures { IsRule (new_rule (codes "SNAPSHOT")) result }
-{
-    Arg::new(alloc, "SNAPSHOT").help(
-        "The snapshot whose votes the gate is compared with, - for standard input, or @ADDRESS for a running site",
+    Building::of(
+        alloc,
+        "footers",
+        "Prints the changes that a commit message depends on",
     )
+    .with(file(alloc, "GATE", GATE_HELP))
+    .with(message)
+    .with(change)
+    .with(json_flag(alloc))
 }
 
 /// `check GATE [SNAPSHOT] [--strict] [--json]`
-fn check_command<'a>(alloc: Global) -> Result<Command<'a>, AllocError>
-    ensures { IfOk result (IsApp check_app) }
+fn check_command<'a>(alloc: Global) -> Building<'a>
+    ensures { Builds check_app result }
 {
-    let snapshot = compared_snapshot(alloc);
+    let snapshot = optional(
+        alloc,
+        "SNAPSHOT",
+        "The snapshot whose votes the gate is compared with, - for standard input, or @ADDRESS for a running site",
+    );
     let strict = flag(alloc, "strict", "Ends with status 1 if there is a warning");
-    Command::new(alloc, "check")
-        .about("Prints what a gate file asks for, and warns of what looks mistaken")
-        .arg(file(alloc, "GATE", GATE_HELP))?
-        .arg(snapshot)?
-        .arg(strict)?
-        .arg(json_flag(alloc))
+    Building::of(
+        alloc,
+        "check",
+        "Prints what a gate file asks for, and warns of what looks mistaken",
+    )
+    .with(file(alloc, "GATE", GATE_HELP))
+    .with(snapshot)
+    .with(strict)
+    .with(json_flag(alloc))
 }
 
 /// `simulate SCRIPT [GATE]`
-fn simulate_command<'a>(alloc: Global) -> Result<Command<'a>, AllocError>
-    ensures { IfOk result (IsApp simulate_app) }
+fn simulate_command<'a>(alloc: Global) -> Building<'a>
+    ensures { Builds simulate_app result }
 {
     let script = file(
         alloc,
         "SCRIPT",
         "The script's file, or - for standard input",
     );
-    let gate = Arg::new(alloc, "GATE").help(
+    let gate = optional(
+        alloc,
+        "GATE",
         "The gate file for the script's reports, or - for standard input",
     );
-    Command::new(alloc, "simulate")
-        .about("Plays a script of several sites and prints what each line answers")
-        .arg(script)?
-        .arg(gate)
+    Building::of(
+        alloc,
+        "simulate",
+        "Plays a script of several sites and prints what each line answers",
+    )
+    .with(script)
+    .with(gate)
 }
 
 /// `recover JOURNAL [--without SITE,START].. [--until TIME]`
-fn recover_command<'a>(alloc: Global) -> Result<Command<'a>, AllocError>
-    ensures { IfOk result (IsApp recover_app) }
+fn recover_command<'a>(alloc: Global) -> Building<'a>
+    ensures { Builds recover_app result }
 {
     let journal = file(
         alloc,
@@ -245,9 +261,12 @@ fn recover_command<'a>(alloc: Global) -> Result<Command<'a>, AllocError>
         "TIME",
         "Leaves out the operations whose time is above this",
     );
-    Command::new(alloc, "recover")
-        .about("Prints the snapshot of a journal, without a line that a crash tore")
-        .arg(journal)?
-        .arg(without)?
-        .arg(until)
+    Building::of(
+        alloc,
+        "recover",
+        "Prints the snapshot of a journal, without a line that a crash tore",
+    )
+    .with(journal)
+    .with(without)
+    .with(until)
 }

@@ -1,7 +1,8 @@
 //! The arguments of `serve`.
 
-ghost use Rattle.std.specs.Prelude.{IfOk, codes};
-ghost use Rattle.command_tree.specs.Commands.{IsApp, ending_app, guarded_app, listening_app, paced_app};
+ghost use Rattle.std.specs.Prelude.{codes};
+ghost use Rattle.command_tree.specs.Building.{Builds};
+ghost use Rattle.command_tree.specs.Commands.{ending_app, guarded_app, listening_app, paced_app};
 ghost use Rattle.command_tree.specs.Commands.{peered_app, placed_app, printing_app, serve_app, shown_app};
 ghost use Rattle.command_tree.specs.Rules.{IsRule, needed_number};
 
@@ -9,13 +10,14 @@ use super::arguments::{
     CONNECTIONS, HTTP, IDLE, PAUSE, PORT, SESSIONS, SITE, SITES, START, WORKERS, default_option,
     default_text, file, flag, number_option, option, several, several_of, words,
 };
+use super::building::Building;
 use super::program::GATE_HELP;
-use clap::{Arg, Command};
-use std::alloc::{AllocError, Global};
+use clap::Arg;
+use std::alloc::Global;
 
 /// `serve GATE [PEER].. --site N [option]..`
-pub fn serve_command<'a>(alloc: Global) -> Result<Command<'a>, AllocError>
-    ensures { IfOk result (IsApp serve_app) }
+pub fn serve_command<'a>(alloc: Global) -> Building<'a>
+    ensures { Builds serve_app result }
 {
     let load = option(alloc, "load", "FILE", "The snapshot to begin with");
     let save = option(
@@ -30,13 +32,13 @@ pub fn serve_command<'a>(alloc: Global) -> Result<Command<'a>, AllocError>
         "FILE",
         "The journal that keeps what is taken in",
     );
-    let shown = shown_command(alloc)?;
-    shown.arg(load)?.arg(save)?.arg(journal)
+    let shown = shown_command(alloc);
+    shown.with(load).with(save).with(journal)
 }
 
 /// The command with all but the names of files.
-fn shown_command<'a>(alloc: Global) -> Result<Command<'a>, AllocError>
-    ensures { IfOk result (IsApp shown_app) }
+fn shown_command<'a>(alloc: Global) -> Building<'a>
+    ensures { Builds shown_app result }
 {
     let http = number_option(
         alloc,
@@ -50,12 +52,12 @@ fn shown_command<'a>(alloc: Global) -> Result<Command<'a>, AllocError>
         "NAME",
         "A host name that browsers may use for it, once for each, beside localhost",
     );
-    printing_command(alloc)?.arg(http)?.arg(host)
+    printing_command(alloc).with(http).with(host)
 }
 
 /// The command with all but the names of files and where it shows itself.
-fn printing_command<'a>(alloc: Global) -> Result<Command<'a>, AllocError>
-    ensures { IfOk result (IsApp printing_app) }
+fn printing_command<'a>(alloc: Global) -> Building<'a>
+    ensures { Builds printing_app result }
 {
     let print = default_text(
         alloc,
@@ -64,12 +66,12 @@ fn printing_command<'a>(alloc: Global) -> Result<Command<'a>, AllocError>
         "WHAT",
         "What it prints: report, changes or none",
     );
-    ending_command(alloc)?.arg(print)
+    ending_command(alloc).with(print)
 }
 
 /// The command with all but what it prints and the names of files.
-fn ending_command<'a>(alloc: Global) -> Result<Command<'a>, AllocError>
-    ensures { IfOk result (IsApp ending_app) }
+fn ending_command<'a>(alloc: Global) -> Building<'a>
+    ensures { Builds ending_app result }
 {
     let idle = default_option(
         alloc,
@@ -90,13 +92,13 @@ fn ending_command<'a>(alloc: Global) -> Result<Command<'a>, AllocError>
         "until-input-ends",
         "Ends in order when standard input ends, or at its line stop",
     );
-    let paced = paced_command(alloc)?;
-    paced.arg(idle)?.arg(connections)?.arg(ending)
+    let paced = paced_command(alloc);
+    paced.with(idle).with(connections).with(ending)
 }
 
 /// The command with what the site is, where it is reached, whom it listens to and how it works.
-fn paced_command<'a>(alloc: Global) -> Result<Command<'a>, AllocError>
-    ensures { IfOk result (IsApp paced_app) }
+fn paced_command<'a>(alloc: Global) -> Building<'a>
+    ensures { Builds paced_app result }
 {
     let workers = default_option(
         alloc,
@@ -119,13 +121,13 @@ fn paced_command<'a>(alloc: Global) -> Result<Command<'a>, AllocError>
         "N",
         "Ends after so many sessions; 0 means no limit",
     );
-    let guarded = guarded_command(alloc)?;
-    guarded.arg(workers)?.arg(pause)?.arg(sessions)
+    let guarded = guarded_command(alloc);
+    guarded.with(workers).with(pause).with(sessions)
 }
 
 /// The command with what the site is, where it is reached and whom it listens to.
-fn guarded_command<'a>(alloc: Global) -> Result<Command<'a>, AllocError>
-    ensures { IfOk result (IsApp guarded_app) }
+fn guarded_command<'a>(alloc: Global) -> Building<'a>
+    ensures { Builds guarded_app result }
 {
     let sites = several_of(
         alloc,
@@ -133,12 +135,12 @@ fn guarded_command<'a>(alloc: Global) -> Result<Command<'a>, AllocError>
         "N",
         "A site whose operations it takes from peers, once for each; without it those of all",
     );
-    listening_command(alloc)?.arg(sites)
+    listening_command(alloc).with(sites)
 }
 
 /// The command with what the site is, and where it is reached.
-fn listening_command<'a>(alloc: Global) -> Result<Command<'a>, AllocError>
-    ensures { IfOk result (IsApp listening_app) }
+fn listening_command<'a>(alloc: Global) -> Building<'a>
+    ensures { Builds listening_app result }
 {
     let listen = several(
         alloc,
@@ -153,12 +155,12 @@ fn listening_command<'a>(alloc: Global) -> Result<Command<'a>, AllocError>
         "MODE",
         "Who may connect to them: 600, its user, or 660, its group too",
     );
-    placed_command(alloc)?.arg(listen)?.arg(mode)
+    placed_command(alloc).with(listen).with(mode)
 }
 
 /// The command with what the site is, and its port.
-fn placed_command<'a>(alloc: Global) -> Result<Command<'a>, AllocError>
-    ensures { IfOk result (IsApp placed_app) }
+fn placed_command<'a>(alloc: Global) -> Building<'a>
+    ensures { Builds placed_app result }
 {
     let start = number_option(
         alloc,
@@ -172,25 +174,26 @@ fn placed_command<'a>(alloc: Global) -> Result<Command<'a>, AllocError>
         "P",
         "The port on 127.0.0.1; 0, the default without --listen, has the system choose one",
     );
-    let peered = peered_command(alloc)?;
-    peered.arg(site_option(alloc))?.arg(start)?.arg(port)
+    let peered = peered_command(alloc);
+    peered.with(site_option(alloc)).with(start).with(port)
 }
 
 /// The command with what has no name: a gate and peers.
-fn peered_command<'a>(alloc: Global) -> Result<Command<'a>, AllocError>
-    ensures { IfOk result (IsApp peered_app) }
+fn peered_command<'a>(alloc: Global) -> Building<'a>
+    ensures { Builds peered_app result }
 {
     let peers = words(
         alloc,
         "PEER",
         "The sites that it pulls from: ports on 127.0.0.1, or paths of Unix sockets",
     );
-    Command::new(alloc, "serve")
-        .about(
-            "Runs a site: answers sessions, pulls from peers, prints the report whenever it changes",
-        )
-        .arg(file(alloc, "GATE", GATE_HELP))?
-        .arg(peers)
+    Building::of(
+        alloc,
+        "serve",
+        "Runs a site: answers sessions, pulls from peers, prints the report whenever it changes",
+    )
+    .with(file(alloc, "GATE", GATE_HELP))
+    .with(peers)
 }
 
 /// `--site N`

@@ -3,7 +3,8 @@ use Rattle.std.specs.Prelude.{◌≡◌, ◌⊎◌, ◌<◌, ℕ, Bool, true, fa
 use Rattle.std.specs.Prelude.{codes, decimal, flat_map, length}
 use Rattle.byte_ends.specs.Lines.{lines_of}
 use Rattle.footer_text.specs.Footers.{AreFooters}
-use Rattle.gate_check.specs.Checked.{check_text, check_tokens, warnings_of}
+use Rattle.gate_check.specs.Checked.{IsCheck, check_line, check_text}
+use Rattle.gate_check.specs.Evidence.{Evidence}
 use Rattle.gate_rules.specs.Rules.{GateRules}
 use Rattle.gate_rules.specs.Spelling.{SpellsGate}
 use Rattle.graph_text.specs.Drawing.{IsGraphText}
@@ -235,14 +236,14 @@ EndsChecked is_strict count (Err (Warnings found)) = (is_strict ≡ true) × (fo
 EndsChecked is_strict count (Err refusal) = ⊥
 
 -- what is said of the gate, as JSON where that is asked for
-abbrev pub check_as : Bool → GateRules → Option State → List ℕ
-check_as true rules state = json_line (check_tokens rules state)
-check_as false rules state = check_text rules state
+abbrev pub check_as : Bool → GateRules → Option Evidence → List ℕ
+check_as true rules evidence = check_line rules evidence
+check_as false rules evidence = check_text rules evidence
 
 -- that is printed, and the check ends by its warnings; or memory was refused before anything was printed
 abbrev pub IsCheckText : GateRules → Option State → Bool → Bool → List ℕ → Ended → Type 0
 IsCheckText rules state is_strict is_json answer ended =
-    ((answer ≡ check_as is_json rules state) × EndsChecked is_strict (length (warnings_of rules state)) ended)
+    ((count : ℕ) × IsCheck (check_as is_json) rules state answer count × EndsChecked is_strict count ended)
     ⊎ ((answer ≡ []) × (ended ≡ Err Memory))
 
 abbrev pub IsChecked : List ℕ → List (List ℕ) → Bool → Bool → List ℕ → Ended → Type 0

@@ -1,7 +1,7 @@
 //! Prints what a gate file asks for, with warnings of what looks mistaken in it.
 
-ghost use Rattle.std.specs.Prelude.{◌≡◌, IfErr, IfOk, IsSomeAnd, length, option_map};
-ghost use Rattle.gate_check.specs.Checked.{warnings_of};
+ghost use Rattle.std.specs.Prelude.{◌≡◌, IfErr, IfOk, IsSomeAnd, option_map};
+ghost use Rattle.gate_check.specs.Checked.{IsCheck};
 ghost use Rattle.console.specs.Inputs.{IsRefused, record_input};
 ghost use Rattle.state_core.specs.State.{state_of};
 ghost use Rattle.commands.specs.Answers.{EndsChecked, IsCheckText, IsRecordHad, check_as};
@@ -102,10 +102,8 @@ fn checked_as(
     state: Option<&State>,
     is_json: bool,
 ) -> Result<CheckedLine, NoMemory>
-    ensures text { IfOk result
-        (λ checked. checked.line.items ≡ check_as is_json rules.now (option_map (λ known. known.now) state.entry)) }
-    ensures warnings { IfOk result
-        (λ checked. checked.warnings ≡ length (warnings_of rules.now (option_map (λ known. known.now) state.entry))) }
+    ensures { IfOk result (λ checked. IsCheck (check_as is_json) rules.now (option_map (λ known. known.now) state.entry)
+        checked.line.items checked.warnings) }
 {
     if is_json {
         return check_line(alloc, rules, state);

@@ -1,4 +1,5 @@
 pub mod Bases
+pub mod Flaws
 pub mod Cuts
 pub mod Lines
 pub mod LineLaws

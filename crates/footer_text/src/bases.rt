@@ -49,10 +49,10 @@ impl BasesFault {
 }
 
 /// How many bases there may be.
-const MOST_BASES: usize = 8;
+pub const MOST_BASES: usize = 8;
 
 /// How many bytes a base may have.
-const LONGEST_BASE: usize = 256;
+pub(crate) const LONGEST_BASE: usize = 256;
 
 /// What may precede a change's number in a footer's value: one to eight texts, each of 1 to
 /// 256 bytes from 0x21 to 0x7E, the last of which is `/`. They are tried in their order.
@@ -112,8 +112,9 @@ impl<A: Allocator + Copy> Bases<A> {
         self.texts.iter()
     }
 
-    /// The change that the value names under the first base under which it names one.
-    pub(crate) fn named_change(&self, value: &str) -> Option<u32>
+    /// The change that the value of a footer names under the first base under which it names one. It costs O(n) for each
+    /// base and a value of n bytes, and takes no memory.
+    pub fn named_change(&self, value: &str) -> Option<u32>
         ensures { MatchOption result ((change : ℕ) → ¬ (NamesChange self.now value.now change))
             (NamesChange self.now value.now) }
     {
@@ -152,14 +153,14 @@ fn first_bad(texts: &[&str]) -> Option<usize>
 }
 
 /// Whether a text is a base.
-fn is_base(text: &str) -> bool
+pub(crate) fn is_base(text: &str) -> bool
     ensures { IsTrue result ↔ IsBase text.now }
 {
     text.len() <= LONGEST_BASE && text.ends_with('/') && is_graphic(text.as_bytes())
 }
 
 /// Whether each byte is from 0x21 to 0x7E.
-fn is_graphic(bytes: &[u8]) -> bool
+pub(crate) fn is_graphic(bytes: &[u8]) -> bool
     ensures { IsTrue result ↔ All IsGraphic bytes.now }
 {
     bytes.iter().all(|b| b.is_ascii_graphic())

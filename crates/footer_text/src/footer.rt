@@ -4,8 +4,9 @@ ghost use Rattle.std.specs.Prelude.{◌≡◌, ℕ, ◌++◌, ◌∷◌, List, [
 ghost use Rattle.std.specs.List.{AllByRecursion};
 ghost use Rattle.footer_text.specs.Lines.{IsBlank, BeginsBare, EndsBare, HasBare, IsFooter};
 
-/// The value of a line that is a footer.
-pub(crate) fn footer_value(line: &str) -> Option<&str>
+/// The value of a line of a commit message that is a footer `Depends-On:`, in any case. It costs O(n) for n bytes, and
+/// takes no memory.
+pub fn footer_value(line: &str) -> Option<&str>
     ensures { MatchOption result ((value : List ℕ) → ¬ (IsFooter line.now value))
         (λ value. IsFooter line.now value.now) }
 {

@@ -5,8 +5,8 @@ ghost use Rattle.std.specs.List.{AllByRecursion};
 ghost use Rattle.std.specs.Str.Parse.{digits_value};
 ghost use Rattle.footer_text.specs.Readings.{IsNumeral, SpellsChange, IsPatch, IsNumberAndTail, IsForm, ReadsAs};
 
-/// The change as which the value reads under this base.
-pub(crate) fn read_value(base: &str, value: &str) -> Option<u32>
+/// The change as which the value of a footer reads under this base. It costs O(n) for n bytes, and takes no memory.
+pub fn read_value(base: &str, value: &str) -> Option<u32>
     ensures { MatchOption result ((change : ℕ) → ¬ (ReadsAs base.now value.now change))
         (ReadsAs base.now value.now) }
 {

@@ -1,4 +1,6 @@
 pub mod Exact
-pub mod Found
+pub mod Gathered
 pub mod Shut
 pub mod Texts
+pub mod Nearby
+pub mod Sought

@@ -2,17 +2,20 @@
 use Rattle.std.proofs.Common.{◌≡◌, ◌∙◌, ◌+◌, ◌<◌, ℕ, List, [], ◌∷◌, ◌++◌, Bool, false, Result, length, map, flat_map, take, drop, get_or, sym, ap, refl}
 use Rattle.std.proofs.Common.{append-nil, append_assoc, arith, add-one, drop-cons, length-drop, ◌≤◌}
 use Rattle.std.specs.List.{join_by}
-use Rattle.std.specs.Prelude.{IsUtf8, OnOk, encode_utf8, ◌==◌}
+use Rattle.std.specs.Prelude.{IsUtf8, OnOk, String, encode_utf8, string_bytes, ◌==◌}
 use Rattle.std.specs.Str.{chars}
 use Rattle.std.proofs.lemmas.Result.{on_ok_weaker}
 use Rattle.std.proofs.lemmas.Str.{IsUtf8-past_char, chars_past_char, chars-nil}
-use Rattle.std.proofs.lemmas.List.{nil_from_length, length-append, take_more}
+use Rattle.std.proofs.lemmas.List.{nil_from_length, length-append, length-map, take_more}
+use Rattle.byte_ends.specs.Lines.{as_line}
 use Rattle.std.proofs.lemmas.List.Concat.{flat_map-append}
 use Rattle.std.proofs.lemmas.List.Folds.{flat_map-map}
 use Rattle.json.proofs.Printed.Tokens.{print_from_push, print_from-append}
 use Rattle.json.specs.Token.{string}
 use Rattle.json.specs.Print.{print, quoted}
 use Rattle.gate_check.specs.Asking.{escaped, joined, numbered}
+use Rattle.gate_check.specs.Checked.{as_warning, count_line}
+use Rattle.gate_check.specs.Warnings.{Found}
 
 print_nothing : print [] ≡ []
 print_nothing = nil_from_length (print [])
@@ -91,3 +94,18 @@ module _ {Y E : Type 0} (result : Result (Unit {0}) E) (start a b : List Y) wher
         on_ok_weaker result
         (added start (a ++ b ++ c) d three four
         (added start (a ++ b) c two three (added start a b one two first second) next)) last
+
+-- ---- a whole check
+
+length_mapped : {A B : Type 0} (f : A → B) (xs : List A) → length (map f xs) ≡ length xs
+length_mapped f xs = rw length-map refl
+
+pub check_whole : {Y : Type 0} (conditions : List (String Y)) (found warnings : List Found) (lines : List (List ℕ))
+    (text : List ℕ)
+    → text ≡ flat_map as_line (map string_bytes conditions) ++ flat_map as_warning found
+    ++ as_line (count_line (length conditions) (length found))
+    → map string_bytes conditions ≡ lines → found ≡ warnings
+    → text ≡ flat_map as_line lines ++ flat_map as_warning warnings ++ as_line (count_line (length lines) (length warnings))
+check_whole conditions found warnings lines text is asked warned =
+    let as_many : length conditions ≡ length lines = sym (length_mapped string_bytes conditions) ∙ ap length asked in
+    is ∙ (λ i. flat_map as_line (asked i) ++ flat_map as_warning (warned i) ++ as_line (count_line (as_many i) (length (warned i))))

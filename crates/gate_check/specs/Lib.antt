@@ -1,6 +1,10 @@
 pub mod Asking
 pub mod Meeting
 pub mod Names
+pub mod Nearest
+pub mod Near
+pub mod Unused
+pub mod Evidence
 pub mod Shown
 pub mod Warnings
 pub mod Checked

@@ -1,6 +1,9 @@
 -- The labels and the voters of a record: those that some vote has, be it withdrawn or not.
-use Rattle.std.specs.Prelude.{ℕ, List, Bool, map, flat_map}
+use Rattle.std.specs.Prelude.{◌≡◌, ℕ, List, [], ◌∷◌, Bool, map, flat_map}
+use Rattle.std.specs.BTreeSet.{insert_key}
+use Rattle.std.specs.Cmp.Lexicographic.{slice_cmp}
 use Rattle.std.specs.FinMap as finite
+use Rattle.std.specs.Ordering.{nat_cmp}
 use Rattle.std.specs.Str.{bytes_eq}
 use Rattle.change_core.specs.Change.{Change}
 use Rattle.change_core.specs.Slots.{Slot}
@@ -15,19 +18,32 @@ slots_on change = map (λ register. register.0) (finite.entries change.1.votes)
 abbrev pub slots_in : State → List Slot
 slots_in state = flat_map slots_on (finite.entries state)
 
--- what is known of a record: whether a vote has a label, and whether a voter voted
+-- texts in byte order, each once, with more of them
+abbrev pub with_each : List (List ℕ) → List (List ℕ) → List (List ℕ)
+with_each texts [] = texts
+with_each texts (text ∷ more) = with_each (insert_key (slice_cmp nat_cmp) texts text) more
+
+-- whether a name is among these
+abbrev pub has : List (List ℕ) → List ℕ → Bool
+has names name = some (bytes_eq name) names
+
+-- what is known of a record: its labels and its voters, in byte order, each once
 pub record Names : Type 0 where
-  pub has_label : List ℕ → Bool
-  pub has_voter : List ℕ → Bool
+  pub labels : List (List ℕ)
+  pub voters : List (List ℕ)
 
-abbrev pub is_label_among : List Slot → List ℕ → Bool
-is_label_among slots label = some (λ slot. bytes_eq slot.label label) slots
+abbrev pub labels_of : List Slot → List (List ℕ)
+labels_of slots = map (λ slot. slot.label) slots
 
-abbrev pub is_voter_among : List Slot → List ℕ → Bool
-is_voter_among slots voter = some (λ slot. bytes_eq slot.voter voter) slots
+abbrev pub voters_of : List Slot → List (List ℕ)
+voters_of slots = map (λ slot. slot.voter) slots
 
 abbrev pub names_in : State → Names
 names_in state = record {
-  has_label = is_label_among (slots_in state);
-  has_voter = is_voter_among (slots_in state);
+  labels = with_each [] (labels_of (slots_in state));
+  voters = with_each [] (voters_of (slots_in state));
 }
+
+-- texts that are put in order are the same texts
+abbrev pub AreTheSameTexts : Type 0
+AreTheSameTexts = (texts : List (List ℕ)) (name : List ℕ) → has (with_each [] texts) name ≡ has texts name

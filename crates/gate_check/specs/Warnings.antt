@@ -1,7 +1,7 @@
--- What looks mistaken in a gate: a line for each warning, with its number and name, the place of the condition, and
--- what it is about.
+-- What looks mistaken in a gate: warnings, each with its number and name, the place of the condition, what it is about,
+-- and the nearest name that there is.
 use Rattle.std.specs.Prelude.{ℕ, List, [], ◌∷◌, ◌++◌, Bool, not, Option, None, Some, codes}
-use Rattle.std.specs.Prelude.{decimal, flat_map, if◌then◌else◌, nat_eq}
+use Rattle.std.specs.Prelude.{decimal, flat_map, if◌then◌else◌, nat_eq, slice_get}
 use Rattle.json.specs.Print.{quoted}
 use Rattle.gate_rules.specs.Own.{some}
 use Rattle.gate_rules.specs.Rules.{GateRules, LabelRule, PatternRule}
@@ -9,91 +9,140 @@ use Rattle.gate_rules.specs.declared.condition.Side.{Side}
 use Rattle.gate_rules.specs.declared.condition.Side.TheVariants.{Require, Reject}
 use Rattle.gate_check.specs.Asking.{approval_key, numbered, place_of}
 use Rattle.gate_check.specs.Meeting.{is_current_never_met, is_never_met, is_open_never_met, is_status_never_met}
-use Rattle.gate_check.specs.Names.{Names}
+use Rattle.gate_check.specs.Evidence.{Evidence, names_shown_by}
+use Rattle.gate_check.specs.Names.{Names, has}
+use Rattle.gate_check.specs.Nearest.{nearest}
 use Rattle.gate_check.specs.declared.warning.Warning.{Warning}
-use Rattle.gate_check.specs.declared.warning.Warning.TheVariants.{Pattern, UnknownLabel, UnknownVoter, NeverMet}
+use Rattle.gate_check.specs.declared.warning.Warning.TheVariants.{Pattern, UnknownLabel, UnknownVoter, NeverMet, UnusedBase}
 
 abbrev pub number_of : Warning → ℕ
 number_of Pattern = 1
 number_of UnknownLabel = 2
 number_of UnknownVoter = 3
 number_of NeverMet = 4
+number_of UnusedBase = 5
 
 abbrev pub name_of : Warning → List ℕ
 name_of Pattern = codes "Pattern"
 name_of UnknownLabel = codes "UnknownLabel"
 name_of UnknownVoter = codes "UnknownVoter"
 name_of NeverMet = codes "NeverMet"
+name_of UnusedBase = codes "UnusedBase"
 
--- what a warning is about, where it is about something
+-- a warning: its kind, a place of the gate file, what it is about, where it is about something, and the nearest name
+-- that there is, where one is near enough
+pub record Found : Type 0 where
+  pub warning : Warning
+  pub place : List ℕ
+  pub about : Option (List ℕ)
+  pub nearest : Option (List ℕ)
+
 abbrev pub about_words : Option (List ℕ) → List ℕ
 about_words None = []
 about_words (Some text) = codes " " ++ quoted text
 
-abbrev pub warning_line : Warning → List ℕ → Option (List ℕ) → List ℕ
-warning_line warning place about =
-    codes "warning " ++ decimal (number_of warning) ++ codes " " ++ name_of warning ++ codes " " ++ place
-    ++ about_words about
+abbrev pub nearest_words : Option (List ℕ) → List ℕ
+nearest_words None = []
+nearest_words (Some text) = codes " nearest " ++ quoted text
 
--- the line, where there is a warning
-abbrev pub warned : Bool → List ℕ → List (List ℕ)
-warned is_so line = if is_so then line ∷ [] else []
+abbrev pub warning_line : Found → List ℕ
+warning_line found =
+    codes "warning " ++ decimal (number_of found.warning) ++ codes " " ++ name_of found.warning ++ codes " "
+    ++ found.place ++ about_words found.about ++ nearest_words found.nearest
+
+-- one of a place alone, one that is about a text, and one of a name that isn't among these
+abbrev pub of_place : Warning → List ℕ → Found
+of_place warning place = record { warning = warning; place = place; about = None; nearest = None }
+
+abbrev pub about_text : Warning → List ℕ → List ℕ → Found
+about_text warning place text = record { warning = warning; place = place; about = Some text; nearest = None }
+
+abbrev pub not_among : Warning → List ℕ → List (List ℕ) → List ℕ → Found
+not_among warning place names name =
+    record { warning = warning; place = place; about = Some name; nearest = nearest name names }
+
+-- it, where it is so
+abbrev pub warned : Bool → Found → List Found
+warned is_so found = if is_so then found ∷ [] else []
 
 -- ---- 1 Pattern: the username has a character that a regular expression would have, and is compared as it is
 
 abbrev pub is_sign : ℕ → Bool
 is_sign byte = some (nat_eq byte) (codes "^$*+?()[]{}|\\")
 
-abbrev pub pattern_warnings : List ℕ → Option (List ℕ) → List (List ℕ)
+abbrev pub pattern_warnings : List ℕ → Option (List ℕ) → List Found
 pattern_warnings place None = []
-pattern_warnings place (Some voter) = warned (some is_sign voter) (warning_line Pattern place (Some voter))
+pattern_warnings place (Some voter) = warned (some is_sign voter) (about_text Pattern place voter)
 
 -- ---- 2 UnknownLabel and 3 UnknownVoter: no vote of the record has the label, or the voter
 
-abbrev pub label_warning : List ℕ → Names → LabelRule → List (List ℕ)
-label_warning place names rule =
-    warned (not (names.has_label rule.label)) (warning_line UnknownLabel place (Some rule.label))
+abbrev pub unknown_name : Warning → List ℕ → List (List ℕ) → List ℕ → List Found
+unknown_name warning place names name = warned (not (has names name)) (not_among warning place names name)
 
-abbrev pub voter_warnings : List ℕ → Names → Option (List ℕ) → List (List ℕ)
+abbrev pub label_warning : List ℕ → Names → LabelRule → List Found
+label_warning place names rule = unknown_name UnknownLabel place names.labels rule.label
+
+abbrev pub voter_warnings : List ℕ → Names → Option (List ℕ) → List Found
 voter_warnings place names None = []
-voter_warnings place names (Some voter) =
-    warned (not (names.has_voter voter)) (warning_line UnknownVoter place (Some voter))
+voter_warnings place names (Some voter) = unknown_name UnknownVoter place names.voters voter
 
 -- of a pattern, where a record is named
-abbrev pub unknown_warnings : List ℕ → Option Names → PatternRule → List (List ℕ)
+abbrev pub unknown_warnings : List ℕ → Option Names → PatternRule → List Found
 unknown_warnings place None pattern = []
 unknown_warnings place (Some names) pattern =
     flat_map (label_warning place names) pattern.labels ++ voter_warnings place names pattern.username
 
 -- ---- 4 NeverMet: what is required can't be met beside the other conditions
 
-abbrev pub never_met : Bool → List ℕ → List (List ℕ)
-never_met is_so place = warned is_so (warning_line NeverMet place None)
+abbrev pub never_met : Bool → List ℕ → List Found
+never_met is_so place = warned is_so (of_place NeverMet place)
+
+-- ---- 5 UnusedBase: no footer of the record has the base, while one has a URL that is under none
+
+abbrev pub base_place : ℕ → List ℕ
+base_place place = codes "/bases/" ++ decimal place
+
+abbrev pub base_warning : GateRules → ℕ → Bool → List Found
+base_warning gate place is_so = warned is_so (record {
+  warning = UnusedBase;
+  place = base_place place;
+  about = slice_get gate.bases place;
+  nearest = None;
+})
+
+-- of each base, where a record is named
+abbrev pub base_warnings : GateRules → Option Evidence → List Found
+base_warnings gate None = []
+base_warnings gate (Some evidence) = numbered (base_warning gate) 0 evidence.unused
 
 -- ---- the warnings of a gate
 
 -- of an approval at a place
-abbrev pub warnings_at : List ℕ → Option Names → Bool → PatternRule → List (List ℕ)
+abbrev pub warnings_at : List ℕ → Option Names → Bool → PatternRule → List Found
 warnings_at place names is_so pattern =
     pattern_warnings place pattern.username ++ unknown_warnings place names pattern ++ never_met is_so place
 
-abbrev pub approval_warnings : GateRules → Option Names → Side → ℕ → PatternRule → List (List ℕ)
+abbrev pub approval_warnings : GateRules → Option Names → Side → ℕ → PatternRule → List Found
 approval_warnings gate names side number pattern =
     warnings_at (place_of gate side (approval_key number)) names (is_never_met gate side pattern) pattern
 
 -- of what is required under a key
-abbrev pub key_warnings : GateRules → List ℕ → Bool → List (List ℕ)
+abbrev pub key_warnings : GateRules → List ℕ → Bool → List Found
 key_warnings gate key is_so = never_met is_so (place_of gate Require key)
 
 -- of the conditions before the approvals
-abbrev pub first_warnings : GateRules → List (List ℕ)
+abbrev pub first_warnings : GateRules → List Found
 first_warnings gate =
     key_warnings gate (codes "open") (is_open_never_met gate)
     ++ key_warnings gate (codes "current-patchset") (is_current_never_met gate)
     ++ key_warnings gate (codes "status") (is_status_never_met gate)
 
 -- condition by condition, as items are judged by them
-abbrev pub warning_lines : GateRules → Option Names → List (List ℕ)
-warning_lines gate names =
+abbrev pub condition_warnings : GateRules → Option Names → List Found
+condition_warnings gate names =
     first_warnings gate ++ numbered (approval_warnings gate names Require) 0 gate.require.approvals
     ++ numbered (approval_warnings gate names Reject) 0 gate.reject.approvals
+
+-- those of the conditions, and then those of the bases
+abbrev pub warnings_of : GateRules → Option Evidence → List Found
+warnings_of gate evidence = condition_warnings gate (names_shown_by evidence) ++ base_warnings gate evidence

@@ -2,13 +2,15 @@
 
 ghost use Rattle.std.specs.Prelude.{◌≡◌, ◌++◌, IfOk, OnOk, flat_map, length, map, option_map, string_bytes};
 ghost use Rattle.byte_ends.specs.Lines.{as_line};
-ghost use Rattle.gate_check.specs.Checked.{check_text, warnings_of};
-ghost use Rattle.gate_check.specs.Names.{names_in};
+ghost use Rattle.gate_check.specs.Checked.{IsCheck, as_warning, check_text, count_line};
+ghost use Rattle.gate_check.specs.Evidence.{IsEvidenceIfAny};
+ghost use Rattle.gate_check.specs.Shown.{evidence_shown};
 
 use super::asking::condition_lines;
-use super::finding::warning_lines;
-use super::laws::what_is_never_met_lets_nothing_in;
-use super::names::Names;
+use super::evidence::Evidence;
+use super::finding::findings_of;
+use super::found::Finding;
+use super::laws::{the_nearest_name_is_found, what_is_never_met_lets_nothing_in};
 use gate_rules::Gate;
 use lattice_core::NoMemory;
 use state_core::State;
@@ -22,45 +24,54 @@ pub struct Checked {
 }
 
 /// Checks a gate: a line for each of its conditions, with the side, the place in the gate file and what is asked, in
-/// the order in which items are judged by them; a line for each warning, in that order; and `end` with how many there
-/// are of both. Where the state of a record is given, labels and voters are looked for there. The warnings are 1
-/// `Pattern`, 2 `UnknownLabel`, 3 `UnknownVoter` and 4 `NeverMet`. It costs O(b + p q + v log n) for b bytes of text, p
-/// values of patterns that are required, q patterns that are rejected, and v votes of n labels and voters.
+/// the order in which items are judged by them; a line for each warning, in that order, those of bases last; and `end`
+/// with how many there are of both. Where the state of a record is given, labels, voters and bases are looked for there,
+/// and of a label or a voter that it lacks the nearest is named. The warnings are 1 `Pattern`, 2 `UnknownLabel`, 3
+/// `UnknownVoter`, 4 `NeverMet` and 5 `UnusedBase`. It costs O(b + p q + v log n + m) for b bytes of text, p values of
+/// patterns that are required, q patterns that are rejected, v votes of n labels and voters and m bytes of messages for
+/// each base, and for each unknown name O(c d) for its c characters and d of all names.
 pub fn check_gate(alloc: Global, gate: &Gate, state: Option<&State>) -> Result<Checked, NoMemory>
-    ensures text { IfOk result
-        (λ check. string_bytes check.text ≡ check_text gate.now (option_map (λ known. known.now) state.entry)) }
-    ensures warnings { IfOk result
-        (λ check. check.warnings ≡ length (warnings_of gate.now (option_map (λ known. known.now) state.entry))) }
+    ensures { IfOk result (λ check. IsCheck check_text gate.now (option_map (λ known. known.now) state.entry)
+        (string_bytes check.text) check.warnings) }
 {
     what_is_never_met_lets_nothing_in();
+    the_nearest_name_is_found();
+    let evidence = evidence_in(alloc, gate, state)?;
     let conditions = condition_lines(alloc, gate)?;
-    let warnings = warnings_of(alloc, gate, state)?;
-    let mut text = String::new(alloc);
-    add_lines(&mut text, conditions.as_slice())?;
-    add_lines(&mut text, warnings.as_slice())?;
-    let asked = conditions.len();
-    let warned = warnings.len();
-    write!(text, "end {asked} {warned}\n")?;
-    Ok(Checked {
-        text,
-        warnings: warned,
-    })
+    let found = findings_of(alloc, gate, &evidence)?;
+    let checked = text_with(alloc, conditions.as_slice(), found.as_slice())?;
+    Ok(checked)
 }
 
-/// The lines of the warnings, with the record of a state or without one.
-pub(super) fn warnings_of(
+/// The text of these lines and warnings.
+fn text_with(alloc: Global, conditions: &[String], found: &[Finding]) -> Result<Checked, NoMemory>
+    ensures text { IfOk result (λ check. string_bytes check.text
+        ≡ flat_map as_line (map string_bytes conditions.now) ++ flat_map as_warning found.now
+        ++ as_line (count_line (length conditions.now) (length found.now))) }
+    ensures warnings { IfOk result (λ check. check.warnings ≡ length found.now) }
+{
+    let mut text = String::new(alloc);
+    add_lines(&mut text, conditions)?;
+    add_warnings(alloc, &mut text, found)?;
+    let asked = conditions.len();
+    let warnings = found.len();
+    write!(text, "end {asked} {warnings}\n")?;
+    Ok(Checked { text, warnings })
+}
+
+/// What the record of a state shows, where one is given.
+pub(super) fn evidence_in(
     alloc: Global,
     gate: &Gate,
     state: Option<&State>,
-) -> Result<Vec<String>, NoMemory>
-    ensures { IfOk result (λ lines. map string_bytes lines.items
-        ≡ warnings_of gate.now (option_map (λ known. known.now) state.entry)) }
+) -> Result<Option<Evidence>, NoMemory>
+    ensures { IfOk result (λ evidence. IsEvidenceIfAny gate.now (option_map (λ known. known.now) state.entry)
+        (option_map evidence_shown evidence)) }
 {
-    let Some(state) = state else {
-        return warning_lines(alloc, gate, None);
-    };
-    let names = Names::of(alloc, state)?;
-    warning_lines(alloc, gate, Some(&names))
+    match state {
+        Some(state) => Ok(Some(Evidence::of(alloc, gate, state)?)),
+        None => Ok(None),
+    }
 }
 
 /// Adds lines to a text.
@@ -69,6 +80,18 @@ fn add_lines(text: &mut String, lines: &[String]) -> Result<(), NoMemory>
         ≡ string_bytes text.old ++ flat_map as_line (map string_bytes lines.now)) }
 {
     for line in lines {
+        text.push_str(line.as_str())?;
+        text.push_str("\n")?;
+    }
+    Ok(())
+}
+
+/// Adds the lines of warnings to a text.
+fn add_warnings(alloc: Global, text: &mut String, found: &[Finding]) -> Result<(), NoMemory>
+    ensures { OnOk result (string_bytes text.new ≡ string_bytes text.old ++ flat_map as_warning found.now) }
+{
+    for finding in found {
+        let line = finding.line(alloc)?;
         text.push_str(line.as_str())?;
         text.push_str("\n")?;
     }

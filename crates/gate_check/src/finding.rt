@@ -3,51 +3,78 @@
 ghost use Rattle.std.specs.Prelude.{◌≡◌, ◌++◌, IfOk, OnOk, flat_map, map, nat_eq, option_map, string_bytes};
 ghost use Rattle.gate_rules.specs.Own.{some};
 ghost use Rattle.gate_check.specs.Asking.{numbered};
-ghost use Rattle.gate_check.specs.Shown.{names_shown};
-ghost use Rattle.gate_check.specs.Warnings.{approval_warnings, first_warnings, is_sign, key_warnings, label_warning};
-ghost use Rattle.gate_check.specs.Warnings.{pattern_warnings, unknown_warnings, voter_warnings, warned, warning_line};
-ghost use Rattle.gate_check.specs.Warnings.{warning_lines, warnings_at};
+ghost use Rattle.gate_check.specs.Evidence.{names_shown_by};
+ghost use Rattle.gate_check.specs.Shown.{evidence_shown, names_shown};
+ghost use Rattle.gate_check.specs.Warnings.{approval_warnings, base_place, base_warning, base_warnings};
+ghost use Rattle.gate_check.specs.Warnings.{condition_warnings, first_warnings, is_sign, key_warnings, label_warning};
+ghost use Rattle.gate_check.specs.Warnings.{never_met, pattern_warnings, unknown_name, unknown_warnings};
+ghost use Rattle.gate_check.specs.Warnings.{voter_warnings, warnings_at, warnings_of};
 
+use super::evidence::Evidence;
+use super::found::Finding;
 use super::meeting::{is_current_never_met, is_never_met, is_open_never_met, is_status_never_met};
-use super::names::Names;
+use super::names::{Names, has};
+use super::nearest::nearest;
 use super::place::{approval_key, place_of};
 use super::warning::Warning;
 use gate_rules::{Gate, LabelValues, Pattern, Side};
 use lattice_core::NoMemory;
 use std::alloc::Global;
+use std::collections::BTreeSet;
 
-/// A line for each warning, condition by condition; where the names of a record are given, of those that it lacks,
-/// too.
-pub fn warning_lines(
+/// The warnings of a gate: condition by condition, and then those of its bases; where it is given what a record shows, of
+/// that, too.
+pub fn findings_of(
+    alloc: Global,
+    gate: &Gate,
+    evidence: &Option<Evidence>,
+) -> Result<Vec<Finding>, NoMemory>
+    ensures { IfOk result (λ found. found.items
+        ≡ warnings_of gate.now (option_map evidence_shown evidence.now)) }
+{
+    let mut found = Vec::new(alloc);
+    add_conditions(alloc, gate, names_in(evidence), &mut found)?;
+    add_unused(alloc, gate, evidence, &mut found)?;
+    Ok(found)
+}
+
+/// The names of a record, where one is given.
+fn names_in(evidence: &Option<Evidence>) -> Option<&Names>
+    ensures { option_map (λ known. names_shown known.now) result
+        ≡ names_shown_by (option_map evidence_shown evidence.now) }
+{
+    match evidence {
+        Some(evidence) => Some(evidence.names()),
+        None => None,
+    }
+}
+
+/// Adds those of the conditions.
+fn add_conditions(
     alloc: Global,
     gate: &Gate,
     names: Option<&Names>,
-) -> Result<Vec<String>, NoMemory>
-    ensures { IfOk result
-        (λ lines. map string_bytes lines.items ≡ warning_lines gate.now (option_map (λ known. names_shown known.now) names.entry)) }
+    found: &mut Vec<Finding>,
+) -> Result<(), NoMemory>
+    ensures { OnOk result (found.new.items ≡ found.old.items
+        ++ condition_warnings gate.now (option_map (λ known. names_shown known.now) names.entry)) }
 {
-    let mut lines = Vec::new(alloc);
-    add_first(alloc, gate, &mut lines)?;
+    add_first(alloc, gate, found)?;
     let required = gate.clauses(Side::Require).approvals();
-    add_approvals(alloc, gate, names, Side::Require, required, &mut lines)?;
+    add_approvals(alloc, gate, names, Side::Require, required, found)?;
     let rejected = gate.clauses(Side::Reject).approvals();
-    add_approvals(alloc, gate, names, Side::Reject, rejected, &mut lines)?;
-    Ok(lines)
+    add_approvals(alloc, gate, names, Side::Reject, rejected, found)?;
+    Ok(())
 }
 
 /// Adds those of the conditions before the approvals.
-fn add_first(alloc: Global, gate: &Gate, lines: &mut Vec<String>) -> Result<(), NoMemory>
-    ensures { OnOk result (map string_bytes lines.new.items ≡ map string_bytes lines.old.items ++ first_warnings gate.now) }
+fn add_first(alloc: Global, gate: &Gate, found: &mut Vec<Finding>) -> Result<(), NoMemory>
+    ensures { OnOk result (found.new.items ≡ found.old.items ++ first_warnings gate.now) }
 {
-    add_key(alloc, gate, "open", is_open_never_met(gate), lines)?;
-    add_key(
-        alloc,
-        gate,
-        "current-patchset",
-        is_current_never_met(gate),
-        lines,
-    )?;
-    add_key(alloc, gate, "status", is_status_never_met(gate), lines)
+    add_key(alloc, gate, "open", is_open_never_met(gate), found)?;
+    let is_current = is_current_never_met(gate);
+    add_key(alloc, gate, "current-patchset", is_current, found)?;
+    add_key(alloc, gate, "status", is_status_never_met(gate), found)
 }
 
 /// Adds that what is required under a key is never met, if it is so.
@@ -56,13 +83,27 @@ fn add_key(
     gate: &Gate,
     key: &str,
     is_so: bool,
-    lines: &mut Vec<String>,
+    found: &mut Vec<Finding>,
 ) -> Result<(), NoMemory>
-    ensures { OnOk result (map string_bytes lines.new.items
-        ≡ map string_bytes lines.old.items ++ key_warnings gate.now key.now is_so) }
+    ensures { OnOk result (found.new.items ≡ found.old.items ++ key_warnings gate.now key.now is_so) }
 {
     let place = place_of(alloc, gate, Side::Require, key)?;
-    add(alloc, is_so, Warning::NeverMet, place.as_str(), None, lines)
+    add_never_met(alloc, is_so, place.as_str(), found)
+}
+
+/// Adds that what is required at a place is never met, if it is so.
+fn add_never_met(
+    alloc: Global,
+    is_so: bool,
+    place: &str,
+    found: &mut Vec<Finding>,
+) -> Result<(), NoMemory>
+    ensures { OnOk result (found.new.items ≡ found.old.items ++ never_met is_so place.now) }
+{
+    if is_so {
+        found.push(Finding::new(alloc, Warning::NeverMet, place, None, None)?)?;
+    }
+    Ok(())
 }
 
 /// Adds those of a side's approvals.
@@ -72,15 +113,14 @@ fn add_approvals(
     names: Option<&Names>,
     side: Side,
     approvals: &[Pattern],
-    lines: &mut Vec<String>,
+    found: &mut Vec<Finding>,
 ) -> Result<(), NoMemory>
-    ensures { OnOk result (map string_bytes lines.new.items
-        ≡ map string_bytes lines.old.items
+    ensures { OnOk result (found.new.items ≡ found.old.items
         ++ numbered (approval_warnings gate.now (option_map (λ known. names_shown known.now) names.entry) side) 0
         approvals.now) }
 {
     for number in 0..approvals.len() {
-        add_approval(alloc, gate, names, side, number, &approvals[number], lines)?;
+        add_approval(alloc, gate, names, side, number, &approvals[number], found)?;
     }
     Ok(())
 }
@@ -93,16 +133,15 @@ fn add_approval(
     side: Side,
     number: usize,
     pattern: &Pattern,
-    lines: &mut Vec<String>,
+    found: &mut Vec<Finding>,
 ) -> Result<(), NoMemory>
-    ensures { OnOk result (map string_bytes lines.new.items
-        ≡ map string_bytes lines.old.items
+    ensures { OnOk result (found.new.items ≡ found.old.items
         ++ approval_warnings gate.now (option_map (λ known. names_shown known.now) names.entry) side number pattern.now) }
 {
     let key = approval_key(alloc, number)?;
     let place = place_of(alloc, gate, side, key.as_str())?;
     let is_so = is_never_met(gate, side, pattern);
-    add_at(alloc, place.as_str(), names, is_so, pattern, lines)
+    add_at(alloc, place.as_str(), names, is_so, pattern, found)
 }
 
 /// Adds those of an approval at a place.
@@ -112,15 +151,14 @@ fn add_at(
     names: Option<&Names>,
     is_never_met: bool,
     pattern: &Pattern,
-    lines: &mut Vec<String>,
+    found: &mut Vec<Finding>,
 ) -> Result<(), NoMemory>
-    ensures { OnOk result (map string_bytes lines.new.items
-        ≡ map string_bytes lines.old.items
+    ensures { OnOk result (found.new.items ≡ found.old.items
         ++ warnings_at place.now (option_map (λ known. names_shown known.now) names.entry) is_never_met pattern.now) }
 {
-    add_pattern(alloc, place, pattern.username(), lines)?;
-    add_unknown(alloc, place, names, pattern, lines)?;
-    add(alloc, is_never_met, Warning::NeverMet, place, None, lines)
+    add_pattern(alloc, place, pattern.username(), found)?;
+    add_unknown(alloc, place, names, pattern, found)?;
+    add_never_met(alloc, is_never_met, place, found)
 }
 
 /// Adds that a username looks like a regular expression, if it does.
@@ -128,22 +166,18 @@ fn add_pattern(
     alloc: Global,
     place: &str,
     username: Option<&str>,
-    lines: &mut Vec<String>,
+    found: &mut Vec<Finding>,
 ) -> Result<(), NoMemory>
-    ensures { OnOk result (map string_bytes lines.new.items
-        ≡ map string_bytes lines.old.items ++ pattern_warnings place.now (option_map (λ name. name.now) username.entry)) }
+    ensures { OnOk result (found.new.items
+        ≡ found.old.items ++ pattern_warnings place.now (option_map (λ name. name.now) username.entry)) }
 {
     let Some(voter) = username else {
         return Ok(());
     };
-    add(
-        alloc,
-        has_sign(voter.as_bytes()),
-        Warning::Pattern,
-        place,
-        Some(voter),
-        lines,
-    )
+    if has_sign(voter.as_bytes()) {
+        found.push(Finding::new(alloc, Warning::Pattern, place, Some(voter), None)?)?;
+    }
+    Ok(())
 }
 
 /// Whether a username has a character that a regular expression would have.
@@ -183,17 +217,16 @@ fn add_unknown(
     place: &str,
     names: Option<&Names>,
     pattern: &Pattern,
-    lines: &mut Vec<String>,
+    found: &mut Vec<Finding>,
 ) -> Result<(), NoMemory>
-    ensures { OnOk result (map string_bytes lines.new.items
-        ≡ map string_bytes lines.old.items
+    ensures { OnOk result (found.new.items ≡ found.old.items
         ++ unknown_warnings place.now (option_map (λ known. names_shown known.now) names.entry) pattern.now) }
 {
     let Some(names) = names else {
         return Ok(());
     };
-    add_labels(alloc, place, names, pattern.labels(), lines)?;
-    add_voter(alloc, place, names, pattern.username(), lines)
+    add_labels(alloc, place, names, pattern.labels(), found)?;
+    add_voter(alloc, place, names, pattern.username(), found)
 }
 
 /// Adds which labels the record lacks.
@@ -202,24 +235,37 @@ fn add_labels(
     place: &str,
     names: &Names,
     labels: &[LabelValues],
-    lines: &mut Vec<String>,
+    found: &mut Vec<Finding>,
 ) -> Result<(), NoMemory>
-    ensures { OnOk result (map string_bytes lines.new.items
-        ≡ map string_bytes lines.old.items ++ flat_map (label_warning place.now (names_shown names.now)) labels.now) }
+    ensures { OnOk result (found.new.items
+        ≡ found.old.items ++ flat_map (label_warning place.now (names_shown names.now)) labels.now) }
 {
     for rule in labels {
-        let label = rule.label();
-        let is_so = !names.has_label(label);
-        add(
-            alloc,
-            is_so,
-            Warning::UnknownLabel,
-            place,
-            Some(label),
-            lines,
-        )?;
+        add_label(alloc, place, names, rule, found)?;
     }
     Ok(())
+}
+
+/// Adds that the record lacks a label, if it does.
+fn add_label(
+    alloc: Global,
+    place: &str,
+    names: &Names,
+    rule: &LabelValues,
+    found: &mut Vec<Finding>,
+) -> Result<(), NoMemory>
+    ensures { OnOk result (found.new.items
+        ≡ found.old.items ++ label_warning place.now (names_shown names.now) rule.now) }
+{
+    let labels = names.labels();
+    add_name(
+        alloc,
+        Warning::UnknownLabel,
+        place,
+        labels,
+        rule.label(),
+        found,
+    )
 }
 
 /// Adds that the record lacks the voter, if it does.
@@ -228,41 +274,90 @@ fn add_voter(
     place: &str,
     names: &Names,
     username: Option<&str>,
-    lines: &mut Vec<String>,
+    found: &mut Vec<Finding>,
 ) -> Result<(), NoMemory>
-    ensures { OnOk result (map string_bytes lines.new.items
-        ≡ map string_bytes lines.old.items
+    ensures { OnOk result (found.new.items ≡ found.old.items
         ++ voter_warnings place.now (names_shown names.now) (option_map (λ name. name.now) username.entry)) }
 {
     let Some(voter) = username else {
         return Ok(());
     };
-    let is_so = !names.has_voter(voter);
-    add(
-        alloc,
-        is_so,
-        Warning::UnknownVoter,
-        place,
-        Some(voter),
-        lines,
-    )
+    let voters = names.voters();
+    add_name(alloc, Warning::UnknownVoter, place, voters, voter, found)
 }
 
-/// Adds the line of a warning, if it is so.
-fn add(
+/// Adds that a name isn't among these, if it isn't, with the nearest of them.
+fn add_name(
     alloc: Global,
-    is_so: bool,
     warning: Warning,
     place: &str,
-    about: Option<&str>,
-    lines: &mut Vec<String>,
+    names: &BTreeSet<String>,
+    name: &str,
+    found: &mut Vec<Finding>,
 ) -> Result<(), NoMemory>
-    ensures { OnOk result (map string_bytes lines.new.items
-        ≡ map string_bytes lines.old.items
-        ++ warned is_so (warning_line warning place.now (option_map (λ text. text.now) about.entry))) }
+    ensures { OnOk result (found.new.items
+        ≡ found.old.items ++ unknown_name warning place.now (map string_bytes names.now.keys) name.now) }
 {
-    if is_so {
-        lines.push(warning.line(alloc, place, about)?)?;
+    if has(names, name) {
+        return Ok(());
+    }
+    let near = nearest(alloc, name, names)?;
+    found.push(Finding::new(alloc, warning, place, Some(name), near)?)?;
+    Ok(())
+}
+
+/// Adds those of the bases, where it is given what a record shows.
+fn add_unused(
+    alloc: Global,
+    gate: &Gate,
+    evidence: &Option<Evidence>,
+    found: &mut Vec<Finding>,
+) -> Result<(), NoMemory>
+    ensures { OnOk result (found.new.items ≡ found.old.items
+        ++ base_warnings gate.now (option_map evidence_shown evidence.now)) }
+{
+    let Some(evidence) = evidence else {
+        return Ok(());
+    };
+    add_bases(alloc, gate, evidence.unused(), found)
+}
+
+/// Adds those of the bases that are unused.
+fn add_bases(
+    alloc: Global,
+    gate: &Gate,
+    unused: &[bool],
+    found: &mut Vec<Finding>,
+) -> Result<(), NoMemory>
+    ensures { OnOk result (found.new.items ≡ found.old.items ++ numbered (base_warning gate.now) 0 unused.now) }
+{
+    for place in 0..unused.len() {
+        add_base(alloc, gate, place, unused[place], found)?;
     }
     Ok(())
+}
+
+/// Adds that a base is unused, if it is so.
+fn add_base(
+    alloc: Global,
+    gate: &Gate,
+    place: usize,
+    is_so: bool,
+    found: &mut Vec<Finding>,
+) -> Result<(), NoMemory>
+    ensures { OnOk result (found.new.items ≡ found.old.items ++ base_warning gate.now place is_so) }
+{
+    if is_so {
+        let base = gate.bases().get(place);
+        let place = base_place(alloc, place)?;
+        found.push(Finding::new(alloc, Warning::UnusedBase, place.as_str(), base, None)?)?;
+    }
+    Ok(())
+}
+
+/// The place of a base in a gate file, as a JSON pointer.
+fn base_place(alloc: Global, place: usize) -> Result<String, NoMemory>
+    ensures { IfOk result (λ pointer. string_bytes pointer ≡ base_place place) }
+{
+    Ok(format!(in alloc; "/bases/{place}")?)
 }

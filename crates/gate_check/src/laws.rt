@@ -1,9 +1,11 @@
-//! What the tests of `NeverMet` mean.
+//! What the tests of warnings mean.
 
 ghost use Rattle.std.specs.Prelude.{◌≡◌, ◌↔◌, ℕ, Some, slice_get, true};
 ghost use Rattle.gate_rules.specs.Rules.{GateRules, PatternRule};
 ghost use Rattle.gate_rules.specs.declared.condition.Side.TheVariants.{Require};
 ghost use Rattle.gate_check.specs.Meeting.{IsRejected, LetsNothingIn, is_current_never_met, is_never_met};
+ghost use Rattle.gate_check.specs.Names.{AreTheSameTexts};
+ghost use Rattle.gate_check.specs.Nearest.{FindsNearest};
 ghost use Rattle.gate_check.specs.Meeting.{is_open_never_met, is_status_never_met};
 
 /// Where a gate has a condition that is never met, an item of any change breaks some condition of the gate. An approval
@@ -17,4 +19,12 @@ pub fn what_is_never_met_lets_nothing_in()
         → LetsNothingIn gate }
     ensures exact { (gate : GateRules) (pattern : PatternRule)
         → (is_never_met gate Require pattern ≡ true) ↔ IsRejected gate.reject.approvals pattern }
+{}
+
+/// The name that is found to be nearest is one of the record's that is near enough, none of them is nearer, and those
+/// before it in byte order are further; none is found just where each of them is too far. The names of a record, in
+/// byte order and each once, are just those that some vote has.
+pub fn the_nearest_name_is_found()
+    ensures nearest { FindsNearest }
+    ensures same { AreTheSameTexts }
 {}

@@ -16,16 +16,20 @@
 
 mod asking;
 mod checking;
+mod evidence;
 mod finding;
+mod found;
 mod laws;
 mod meeting;
 mod names;
+mod nearest;
 mod object;
 mod place;
+mod unused;
 mod warning;
 mod words;
 
 pub use checking::{Checked, check_gate};
-pub use laws::what_is_never_met_lets_nothing_in;
+pub use laws::{the_nearest_name_is_found, what_is_never_met_lets_nothing_in};
 pub use object::{CheckedLine, check_line};
 pub use warning::Warning;

@@ -1,13 +1,14 @@
 //! The labels and the voters of a record.
 
-ghost use Rattle.std.specs.Prelude.{◌≡◌, ◌||◌, ℕ, List, OnOk, IfOk, map};
+ghost use Rattle.std.specs.Prelude.{◌≡◌, OnOk, IfOk, map, string_bytes};
+ghost use Rattle.std.specs.BTreeSet.{insert_key};
+ghost use Rattle.std.specs.Cmp.Lexicographic.{slice_cmp};
 ghost use Rattle.std.specs.FinMap as finite;
-ghost use Rattle.std.specs.Str.{bytes_eq};
-ghost use Rattle.std.specs.BTreeSet.{contains_text};
+ghost use Rattle.std.specs.Ordering.{nat_cmp};
 ghost use Rattle.change_core.specs.Parts.{votes_shown};
 ghost use Rattle.state_core.specs.State.{state_shown};
-ghost use Rattle.gate_check.specs.Names.{is_label_among, is_voter_among, names_in};
-ghost use Rattle.gate_check.specs.Shown.{HasMore, names_shown};
+ghost use Rattle.gate_check.specs.Names.{has, labels_of, names_in, voters_of, with_each};
+ghost use Rattle.gate_check.specs.Shown.{names_shown};
 
 use change_core::{ChangeState, VoteSlot};
 use chunk_list::JoinList;
@@ -56,8 +57,10 @@ impl Names {
         alloc: Global,
         votes: &JoinList<VoteSlot, Register<Stamp, i8>>,
     ) -> Result<(), NoMemory>
-        ensures { OnOk result
-            (HasMore (map (λ register. register.0) (finite.entries (votes_shown votes.now))) self.old self.new) }
+        ensures labels { OnOk result ((names_shown self.new).labels ≡ with_each (names_shown self.old).labels
+            (labels_of (map (λ register. register.0) (finite.entries (votes_shown votes.now))))) }
+        ensures voters { OnOk result ((names_shown self.new).voters ≡ with_each (names_shown self.old).voters
+            (voters_of (map (λ register. register.0) (finite.entries (votes_shown votes.now))))) }
     {
         for (slot, register) in votes {
             let _value = register;
@@ -67,29 +70,33 @@ impl Names {
         Ok(())
     }
 
-    /// Whether a vote has the label.
-    pub fn has_label(&self, label: &str) -> bool
-        ensures { result ≡ (names_shown self.now).has_label label.now }
+    /// The labels.
+    pub fn labels(&self) -> &BTreeSet<String>
+        ensures { map string_bytes result.now.keys ≡ (names_shown self.now).labels }
     {
-        self.labels.contains(label)
+        &self.labels
     }
 
-    /// Whether a voter voted.
-    pub fn has_voter(&self, voter: &str) -> bool
-        ensures { result ≡ (names_shown self.now).has_voter voter.now }
+    /// The voters.
+    pub fn voters(&self) -> &BTreeSet<String>
+        ensures { map string_bytes result.now.keys ≡ (names_shown self.now).voters }
     {
-        self.voters.contains(voter)
+        &self.voters
     }
 }
 
 /// Adds a text to a set.
 fn add(alloc: Global, texts: &mut BTreeSet<String>, text: &str) -> Result<(), NoMemory>
-    ensures { OnOk result ((other : List ℕ)
-        → contains_text texts.new other ≡ (contains_text texts.old other || bytes_eq text.now other)) }
+    ensures { OnOk result (map string_bytes texts.new.keys
+        ≡ insert_key (slice_cmp nat_cmp) (map string_bytes texts.old.keys) text.now) }
 {
-    if texts.contains(text) {
-        return Ok(());
-    }
     texts.insert(String::from_str(alloc, text)?)?;
     Ok(())
+}
+
+/// Whether a text is in a set.
+pub fn has(texts: &BTreeSet<String>, text: &str) -> bool
+    ensures { result ≡ has (map string_bytes texts.now.keys) text.now }
+{
+    texts.contains(text)
 }

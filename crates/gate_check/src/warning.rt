@@ -1,11 +1,7 @@
 //! The warnings of a check.
 
-ghost use Rattle.std.specs.Prelude.{◌≡◌, ◌++◌, IfOk, map, option_map, string_bytes};
-ghost use Rattle.gate_check.specs.Warnings.{about_words, name_of, number_of, warning_line};
-
-use super::words::json_text;
-use lattice_core::NoMemory;
-use std::alloc::Global;
+ghost use Rattle.std.specs.Prelude.{◌≡◌};
+ghost use Rattle.gate_check.specs.Warnings.{name_of, number_of};
 
 /// What a warning says of a condition.
 #[derive(Clone, Copy, Debug, PartialEq, Eq)]
@@ -18,6 +14,8 @@ pub enum Warning {
     UnknownVoter,
     /// No item can meet the condition beside the gate's others.
     NeverMet,
+    /// No footer of the record has the base, while one has a URL that is under none.
+    UnusedBase,
 }
 
 impl Warning {
@@ -30,6 +28,7 @@ impl Warning {
             Warning::UnknownLabel => 2,
             Warning::UnknownVoter => 3,
             Warning::NeverMet => 4,
+            Warning::UnusedBase => 5,
         }
     }
 
@@ -42,33 +41,7 @@ impl Warning {
             Warning::UnknownLabel => "UnknownLabel",
             Warning::UnknownVoter => "UnknownVoter",
             Warning::NeverMet => "NeverMet",
+            Warning::UnusedBase => "UnusedBase",
         }
     }
-
-    /// The line of the warning at a place of the gate file, and what it is about, where it is about something.
-    pub(crate) fn line(
-        self,
-        alloc: Global,
-        place: &str,
-        about: Option<&str>,
-    ) -> Result<String, NoMemory>
-        ensures { IfOk result (λ line. string_bytes line
-            ≡ warning_line self place.now (option_map (λ text. text.now) about.entry)) }
-    {
-        let number = self.number();
-        let name = self.name();
-        let words = about_words(alloc, about)?;
-        Ok(format!(in alloc; "warning {number} {name} {place}{words}")?)
-    }
-}
-
-/// What a warning is about, where it is about something.
-fn about_words(alloc: Global, about: Option<&str>) -> Result<String, NoMemory>
-    ensures { IfOk result (λ words. string_bytes words ≡ about_words (option_map (λ text. text.now) about.entry)) }
-{
-    let Some(text) = about else {
-        return Ok(String::new(alloc));
-    };
-    let quoted = json_text(alloc, text)?;
-    Ok(format!(in alloc; " {quoted}")?)
 }

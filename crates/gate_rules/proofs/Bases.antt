@@ -36,7 +36,7 @@ not_bases texts place bad are = either_here texts place are bad.here
 
 -- ---- what is under the key
 
-array_is : (d : Data) (items : Items) → as_array d ≡ Some items → d ≡ array items
+pub array_is : (d : Data) (items : Items) → as_array d ≡ Some items → d ≡ array items
 array_is (array ds) items is = let same : ds ≡ items = cc in ap array same
 array_is null items is = absurd (false≢true (ap is_some is))
 array_is (boolean b) items is = absurd (false≢true (ap is_some is))

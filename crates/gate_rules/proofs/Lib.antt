@@ -5,3 +5,4 @@ pub mod Spelled
 pub mod Votes
 pub mod Trials
 pub mod Places
+pub mod BadItems

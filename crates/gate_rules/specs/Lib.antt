@@ -2,6 +2,7 @@ pub mod Fault
 pub mod Place
 pub mod Rules
 pub mod Reading
+pub mod BadItems
 pub mod Walk
 pub mod Spelling
 pub mod Own

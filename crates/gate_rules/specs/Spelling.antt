@@ -1,5 +1,6 @@
 -- What the text of a gate file spells, and what each refusal of it says.
-use Rattle.std.specs.Prelude.{◌≡◌, ◌≤◌, ◌↔◌, ℕ, List, Bool, true, None, Some, IsTrue, IsUtf8, length, string_bytes}
+use Rattle.std.specs.Prelude.{◌≡◌, ◌≤◌, ◌↔◌, ◌⊎◌, ℕ, List, Bool, true, None, Some, IsTrue, IsUtf8, codes, length}
+use Rattle.std.specs.Prelude.{string_bytes}
 use Rattle.std.specs.Str.{IsValidUpTo}
 use Rattle.serde_json.specs.Data.{Data, Members, object}
 use Rattle.serde_json.specs.Read.{read}
@@ -11,6 +12,8 @@ use Rattle.gate_rules.specs.Place.{blanks, place_at}
 use Rattle.gate_rules.specs.Rules.{GateRules}
 use Rattle.gate_rules.specs.Reading.{HasBases, gate_of}
 use Rattle.gate_rules.specs.Walk.{Fault, gate_fault}
+use Rattle.gate_rules.specs.BadItems.{IsBadItem}
+use Rattle.gate_rules.specs.declared.bad_base.BadBase.{BadBase}
 
 -- the bytes are the JSON text of an object with these members, each key once, its last value
 pub record IsObject (text : List ℕ) (members : Members) : Type 0 where
@@ -33,6 +36,11 @@ pub record IsFirstFault (text : List ℕ) (found : Fault) : Type 0 where
   pub bases : IsTrue has_bases ↔ ((bases : List (List ℕ)) × HasBases members bases)
   pub first : gate_fault has_bases members ≡ Some found
 
+-- the first fault is a bad value of `bases`, of which this item is the first that is refused
+pub record IsBadBase (text : List ℕ) (bad : BadBase) : Type 0 where
+  pub fault : IsFirstFault text (flaw.Bad, codes "bases")
+  pub item : IsBadItem fault.members bad
+
 -- where it shows that a text is no object: at its first byte that belongs to no UTF-8; where it is other JSON, at the
 -- first byte of that; and else at a byte of it, or at its end
 pub record IsStop (text : List ℕ) (place : Place) : Type 0 where
@@ -52,13 +60,28 @@ abbrev pub IsRefusalOf : List ℕ → GateFault → Type 0
 IsRefusalOf text (fault.NotJson place) = IsNoObject text place
 IsRefusalOf text (fault.UnknownKey key) = IsFirstFault text (flaw.Unknown, string_bytes key)
 IsRefusalOf text (fault.BadValue key) = IsFirstFault text (flaw.Bad, string_bytes key)
+IsRefusalOf text (fault.BadBases bad) = IsBadBase text bad
 IsRefusalOf text (fault.Unsupported key) = IsFirstFault text (flaw.Unsupported, string_bytes key)
 IsRefusalOf text fault.NoMemory = Unit {0}
+
+-- what is refused is no JSON object, or memory was
+abbrev pub IsUnread : GateFault → Type 0
+IsUnread (fault.NotJson place) = Unit {0}
+IsUnread (fault.UnknownKey key) = ⊥
+IsUnread (fault.BadValue key) = ⊥
+IsUnread (fault.BadBases bad) = ⊥
+IsUnread (fault.Unsupported key) = ⊥
+IsUnread fault.NoMemory = Unit {0}
 
 -- the refusal names the fault, unless memory was refused
 abbrev pub NamesFault : GateFault → Fault → Type 0
 NamesFault (fault.NotJson place) found = ⊥
 NamesFault (fault.UnknownKey key) found = (flaw.Unknown, string_bytes key) ≡ found
 NamesFault (fault.BadValue key) found = (flaw.Bad, string_bytes key) ≡ found
+NamesFault (fault.BadBases bad) found = (flaw.Bad, codes "bases") ≡ found
 NamesFault (fault.Unsupported key) found = (flaw.Unsupported, string_bytes key) ≡ found
 NamesFault fault.NoMemory found = Unit {0}
+
+-- where an item of the list of bases is refused, the refusal names it, unless memory was refused
+abbrev pub NamesItem : GateFault → BadBase → Type 0
+NamesItem found bad = (found ≡ fault.BadBases bad) ⊎ (found ≡ fault.NoMemory)

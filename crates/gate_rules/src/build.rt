@@ -1,7 +1,7 @@
 //! Makes a gate of the text of a gate file.
 
-ghost use Rattle.std.specs.Prelude.{◌≡◌, ◌↔◌, ◌⊎◌, ℕ, List, Some, IfOk, IfErr, IsSome, IsNone, IsUtf8, MatchOption, map};
-ghost use Rattle.std.specs.Prelude.{None, option_map, string_bytes};
+ghost use Rattle.std.specs.Prelude.{◌≡◌, ◌↔◌, ◌⊎◌, ℕ, List, Some, IfOk, IfErr, IsSome, IsNone, IsTrue, IsUtf8, MatchOption};
+ghost use Rattle.std.specs.Prelude.{None, codes, map, option_map, string_bytes};
 ghost use Rattle.std.specs.Char.{to_ascii_lowercase};
 ghost use Rattle.serde_json.specs.Data.{Members, no_members};
 ghost use Rattle.serde_json.specs.Errors.{IsMemory};
@@ -10,8 +10,12 @@ ghost use Rattle.serde_json.specs.Read.{read};
 ghost use Rattle.serde_json.specs.View.{view, members_view};
 ghost use Rattle.gate_rules.specs.Reading.{HasBases, listed, texts_of, votes_of, labels_of, pattern_of, patterns_of};
 ghost use Rattle.gate_rules.specs.Reading.{conditions_of, listed_or_none, side_of, gate_of};
-ghost use Rattle.gate_rules.specs.Spelling.{IsObject, SpellsGate, IsRefusalOf, NamesFault};
+ghost use Rattle.gate_rules.specs.BadItems.{IsBadItem};
+ghost use Rattle.gate_rules.specs.Spelling.{IsBadBase, IsObject, SpellsGate, IsRefusalOf, IsUnread, NamesFault, NamesItem};
+ghost use Rattle.gate_rules.specs.declared.bad_base.BadBase.{BadBase as Bad};
+ghost use Rattle.gate_rules.specs.declared.walk.Flaw.TheVariants as flaws;
 
+use super::bad_base::bad_base;
 use super::fault::GateFault;
 use super::gate::{Clauses, Gate, LabelValues, Pattern};
 use super::place::{blanks, offset_of, place_at};
@@ -27,15 +31,16 @@ use std::str;
 pub fn read_gate(alloc: Global, bytes: &[u8]) -> Result<Gate, GateFault>
     ensures spelled { IfOk result (SpellsGate bytes.now) }
     ensures refused { IfErr result (IsRefusalOf bytes.now) }
+    ensures item { IfErr result (λ fault. (bad : Bad) → IsBadBase bytes.now bad → NamesItem fault bad) }
 {
     let members = object_of(alloc, bytes)?;
     let bases = bases_of(alloc, &members)?;
     if let Some((flaw, key)) = gate_fault(&members, bases.is_some()) {
-        return Err(named(alloc, flaw, key));
+        return Err(blamed(alloc, &members, flaw, key));
     }
     match bases {
         Some(bases) => Ok(gate_of(alloc, &members, bases)?),
-        None => Err(named(alloc, Flaw::Bad, "bases")),
+        None => Err(blamed(alloc, &members, Flaw::Bad, "bases")),
     }
 }
 
@@ -43,6 +48,7 @@ pub fn read_gate(alloc: Global, bytes: &[u8]) -> Result<Gate, GateFault>
 fn object_of(alloc: Global, bytes: &[u8]) -> Result<Map<String, Value>, GateFault>
     ensures ok { IfOk result (λ members. IsObject bytes.now (members_view members.entries)) }
     ensures err { IfErr result (IsRefusalOf bytes.now) }
+    ensures unread { IfErr result IsUnread }
 {
     let value = value_of(alloc, bytes)?;
     match value {
@@ -55,7 +61,8 @@ fn object_of(alloc: Global, bytes: &[u8]) -> Result<Map<String, Value>, GateFaul
 fn no_object(bytes: &[u8]) -> GateFault
     requires utf8 { IsUtf8 bytes.now }
     requires none { (members : Members) → ¬ IsObject bytes.now members }
-    ensures { IsRefusalOf bytes.now result }
+    ensures refusal { IsRefusalOf bytes.now result }
+    ensures unread { IsUnread result }
 {
     GateFault::NotJson(place_at(bytes, blanks(bytes)))
 }
@@ -64,6 +71,7 @@ fn no_object(bytes: &[u8]) -> GateFault
 fn value_of(alloc: Global, bytes: &[u8]) -> Result<Value, GateFault>
     ensures ok { IfOk result (λ value. IsUtf8 bytes.now × (read bytes.now ≡ Some (view value))) }
     ensures err { IfErr result (IsRefusalOf bytes.now) }
+    ensures unread { IfErr result IsUnread }
 {
     let text = match str::from_utf8(bytes) {
         Ok(text) => text,
@@ -79,7 +87,8 @@ fn value_of(alloc: Global, bytes: &[u8]) -> Result<Value, GateFault>
 fn not_json(bytes: &[u8], error: &Error) -> GateFault
     requires utf8 { IsUtf8 bytes.now }
     requires none { ¬ IsMemory error.now → read bytes.now ≡ None }
-    ensures { IsRefusalOf bytes.now result }
+    ensures refusal { IsRefusalOf bytes.now result }
+    ensures unread { IsUnread result }
 {
     if error.is_memory() {
         return GateFault::NoMemory;
@@ -87,9 +96,33 @@ fn not_json(bytes: &[u8], error: &Error) -> GateFault
     GateFault::NotJson(place_at(bytes, offset_of(bytes, error)))
 }
 
+/// The refusal that names a key, and of the key `bases` the item that is refused, where one is.
+fn blamed(alloc: Global, members: &Map<String, Value>, flaw: Flaw, key: &str) -> GateFault
+    ensures key { NamesFault result (flaw, key.now) }
+    ensures bad { (bad : Bad) → result ≡ GateFault.BadBases bad → IsBadItem (members_view members.now.entries) bad }
+    ensures item { (bad : Bad) → flaw ≡ flaws.Bad → key.now ≡ codes "bases"
+        → IsBadItem (members_view members.now.entries) bad → NamesItem result bad }
+{
+    if !is_of_bases(flaw, key) {
+        return named(alloc, flaw, key);
+    }
+    match bad_base(members) {
+        Some(bad) => GateFault::BadBases(bad),
+        None => named(alloc, flaw, key),
+    }
+}
+
+/// Whether a fault is a bad value of the bases.
+fn is_of_bases(flaw: Flaw, key: &str) -> bool
+    ensures { IsTrue result ↔ ((flaw ≡ flaws.Bad) × (key.now ≡ codes "bases")) }
+{
+    flaw == Flaw::Bad && key == "bases"
+}
+
 /// The refusal that names a key.
 fn named(alloc: Global, flaw: Flaw, key: &str) -> GateFault
-    ensures { NamesFault result (flaw, key.now) }
+    ensures key { NamesFault result (flaw, key.now) }
+    ensures bare { (bad : Bad) → ¬ (result ≡ GateFault.BadBases bad) }
 {
     let Ok(key) = String::from_str(alloc, key) else {
         return GateFault::NoMemory;

@@ -1,9 +1,10 @@
 //! Why a gate file isn't read.
 
 ghost use Rattle.std.specs.Prelude.{◌≡◌, ◌++◌, OnOk, string_bytes};
-ghost use Rattle.gate_rules.specs.Fault.{number_of, name_of, not_json_words, words_of};
+ghost use Rattle.gate_rules.specs.Fault.{bad_base_words, number_of, name_of, not_json_words, words_of};
 ghost use Rattle.gate_rules.specs.declared.fault.GateFault.TheVariants.{NoMemory as OutOfMemory};
 
+use super::bad_base::BadBase;
 use super::place::Place;
 use lattice_core::NoMemory;
 use std::alloc::AllocError;
@@ -21,6 +22,9 @@ pub enum GateFault {
     /// 3: the key's value is of another kind, or out of range; or `bases` is missing.
     #[error("bad value of {0:?}")]
     BadValue(String),
+    /// 3, too: this item of `bases` is refused; its name is `BadValue`.
+    #[error("bad item of bases")]
+    BadBases(BadBase),
     /// 4: Zuul knows the key, and this project doesn't support it.
     #[error("unsupported key {0:?}")]
     Unsupported(String),
@@ -37,7 +41,7 @@ impl GateFault {
         match self {
             GateFault::NotJson(_) => 1,
             GateFault::UnknownKey(_) => 2,
-            GateFault::BadValue(_) => 3,
+            GateFault::BadValue(_) | GateFault::BadBases(_) => 3,
             GateFault::Unsupported(_) => 4,
             GateFault::NoMemory => 5,
         }
@@ -50,14 +54,14 @@ impl GateFault {
         match self {
             GateFault::NotJson(_) => "NotJson",
             GateFault::UnknownKey(_) => "UnknownKey",
-            GateFault::BadValue(_) => "BadValue",
+            GateFault::BadValue(_) | GateFault::BadBases(_) => "BadValue",
             GateFault::Unsupported(_) => "Unsupported",
             GateFault::NoMemory => "NoMemory",
         }
     }
 
-    /// Writes the fault's words in reports: its name, and the line and the column, or the key, where there is one. In
-    /// O(n) for their length.
+    /// Writes the fault's words in reports: its name, and the line and the column, or the key, where there is one;
+    /// after the key `bases` the item that is refused, and why. In O(n) for their length.
     pub fn write_words(&self, text: &mut String) -> Result<(), AllocError>
         ensures { OnOk result (string_bytes text.new ≡ string_bytes text.old ++ words_of self.now) }
     {
@@ -65,6 +69,7 @@ impl GateFault {
             GateFault::NotJson(place) => write_place(text, *place),
             GateFault::UnknownKey(key) => write!(text, "UnknownKey {key}"),
             GateFault::BadValue(key) => write!(text, "BadValue {key}"),
+            GateFault::BadBases(bad) => write_bad_base(text, *bad),
             GateFault::Unsupported(key) => write!(text, "Unsupported {key}"),
             GateFault::NoMemory => text.push_str("NoMemory"),
         }
@@ -77,6 +82,15 @@ fn write_place(text: &mut String, place: Place) -> Result<(), AllocError>
 {
     let Place { line, column } = place;
     write!(text, "NotJson {line} {column}")
+}
+
+/// Writes that an item of the list of bases is refused, and why.
+fn write_bad_base(text: &mut String, bad: BadBase) -> Result<(), AllocError>
+    ensures { OnOk result (string_bytes text.new ≡ string_bytes text.old ++ bad_base_words bad) }
+{
+    let BadBase { item, flaw } = bad;
+    let flaw = flaw.name();
+    write!(text, "BadValue bases {item} {flaw}")
 }
 
 impl From<NoMemory> for GateFault {

@@ -7,7 +7,8 @@ ghost use Rattle.change_core.specs.VoteShown.{approval_shown};
 ghost use Rattle.gate_rules.specs.Own.{takes, names, labels_take, matches, compared, IsFirstApproval, IsFirstWith};
 ghost use Rattle.gate_rules.specs.Own.{IsBroken, IsFirstBroken, IsOwn, side_rules};
 ghost use Rattle.state_core.specs.Items.{IsItem};
-ghost use Rattle.gate_rules.specs.Spelling.{SpellsGate, IsRefusalOf};
+ghost use Rattle.gate_rules.specs.Spelling.{SpellsGate, IsBadBase, IsRefusalOf, NamesItem};
+ghost use Rattle.gate_rules.specs.declared.bad_base.BadBase.{BadBase};
 
 use super::build::read_gate;
 use super::condition::{Clause, Condition, Side};
@@ -399,7 +400,8 @@ impl Gate {
     /// bytes aren't UTF-8 or aren't the text of one JSON object; otherwise the first fault, where members are visited
     /// depth first, those of an object in byte order of their keys, those of a list in order, and at each the key is
     /// judged before its value: 2 `UnknownKey`, 3 `BadValue`, 4 `Unsupported`, each with the key (for a member of a
-    /// list that of the list; missing `bases` are a bad value, named last); 5 `NoMemory`. It costs O(n log n) for n
+    /// list that of the list; missing `bases` are a bad value, named last), and of `bases` with the first item that is
+    /// refused, where one is; 5 `NoMemory`. It costs O(n log n) for n
     /// bytes.
     pub fn read(alloc: Global, bytes: &[u8]) -> Result<Gate, GateFault>
         ensures spelled { IfOk result (SpellsGate bytes.now) }
@@ -408,6 +410,10 @@ impl Gate {
         // What is spelled is read.
         ensures only { (gate : GateRules) → SpellsGate bytes.now gate
             → MatchResult result (λ read. read ≡ gate) (λ fault. fault ≡ GateFault.NoMemory) }
+
+        // Where an item of the bases is refused, it is named.
+        ensures item { (bad : BadBase) → IsBadBase bytes.now bad
+            → MatchResult result (λ _. ⊥) (λ fault. NamesItem fault bad) }
     {
         read_gate(alloc, bytes)
     }

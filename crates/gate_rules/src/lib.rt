@@ -30,6 +30,7 @@
 //! ```
 #![tactic(auto)]
 
+mod bad_base;
 mod build;
 mod condition;
 mod fault;
@@ -43,6 +44,7 @@ mod value;
 mod walk;
 mod wanted;
 
+pub use bad_base::{BadBase, ItemFlaw};
 pub use condition::{Clause, Condition, Side};
 pub use fault::GateFault;
 pub use gate::{Clauses, Gate, LabelValues, Pattern};

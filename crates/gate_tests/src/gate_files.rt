@@ -89,7 +89,7 @@ const FAULTY_TEXTS: &[(&str, &str)] = &[
     (r#"{"bases":["https://r/"]} x"#, "1 NotJson 1 26"),
     (
         r#"{"bases":["https://review.example.org"]}"#,
-        "3 BadValue bases",
+        "3 BadValue bases 1 NoSlash",
     ),
     (
         r#"{"allow-circular-dependencies":false,"bases":["https://review.example.org/"],"reject":{"gerrit":{"approval":[{"Code-Review":-2}]}},"require":{"gerrit":{"open":true,"current-patchset":true,"approval":[{"Workflow":1,"older-than":"1d"},{"Verified":[1,2],"username":"zuul"}]}}}"#,
@@ -110,11 +110,32 @@ fn faulty_texts(rt: HostRuntime) -> Result<(), Fail> {
 const FAULTY_SETTINGS: &[(&str, &str)] = &[
     (r#"{"bases":[]}"#, "3 BadValue bases"),
     (r#"{"bases":"https://r/"}"#, "3 BadValue bases"),
-    (r#"{"bases":[1]}"#, "3 BadValue bases"),
-    (r#"{"bases":["https://r/",null]}"#, "3 BadValue bases"),
+    (r#"{"bases":[1]}"#, "3 BadValue bases 1 NotText"),
+    (
+        r#"{"bases":["https://r/",null]}"#,
+        "3 BadValue bases 2 NotText",
+    ),
+    (r#"{"bases":["https://r/",""]}"#, "3 BadValue bases 2 Empty"),
+    (
+        r#"{"bases":["/","https://r /"]}"#,
+        "3 BadValue bases 2 BadByte",
+    ),
+    (
+        r#"{"bases":["/","/","https://é/",7]}"#,
+        "3 BadValue bases 3 BadByte",
+    ),
+    (r#"{"bases":["/","r"],"aa":1}"#, "2 UnknownKey aa"),
+    (
+        r#"{"bases":["r"],"connection":"bases","require":{"bases":1}}"#,
+        "3 BadValue bases 1 NoSlash",
+    ),
+    (
+        r#"{"bases":["/"],"connection":"bases","require":{"bases":1}}"#,
+        "3 BadValue bases",
+    ),
     (
         r#"{"bases":["https://r0/","https://r1/","https://r2/","https://r3/","https://r4/","https://r5/","https://r6/","https://r7/","https://r8/"]}"#,
-        "3 BadValue bases",
+        "3 BadValue bases 9 TooMany",
     ),
     (
         r#"{"bases":["https://r/"],"connection":1}"#,
@@ -315,6 +336,23 @@ const FAULTY_VOTES: &[(&str, &str)] = &[
 #[test]
 fn faulty_votes(rt: HostRuntime) -> Result<(), Fail> {
     assert_answers(&rt, rt.alloc(), FAULTY_VOTES)
+}
+
+/// A gate with one base of `count` letters and what ends it.
+fn gate_of_base(alloc: Global, count: usize, last: &str) -> Result<String, Fail> {
+    let letters = "r".repeat(alloc, count)?;
+    Ok(format!(in alloc; "{{\"bases\":[\"{letters}{last}\"]}}")?)
+}
+
+#[test]
+fn a_base_has_256_bytes_at_most(rt: HostRuntime) -> Result<(), Fail> {
+    let alloc = rt.alloc();
+    let longest = gate_of_base(alloc, 255, "/")?;
+    assert_answer(&rt, alloc, longest.as_bytes(), "read")?;
+    let longer = gate_of_base(alloc, 256, "/")?;
+    assert_answer(&rt, alloc, longer.as_bytes(), "3 BadValue bases 1 TooLong")?;
+    let bare = gate_of_base(alloc, 256, "")?;
+    assert_answer(&rt, alloc, bare.as_bytes(), "3 BadValue bases 1 NoSlash")
 }
 
 /// Gates with several faults: the first one of the walk is named.

@@ -5,3 +5,4 @@ pub mod Answers
 pub mod Session
 pub mod Pull
 pub mod Steps
+pub mod PassingOn

@@ -11,8 +11,6 @@ ghost use Rattle.review_ops.specs.Operation.{Operation};
 ghost use Rattle.site_port.specs.OwnSite.{OwnGives, OwnSinks, OwnState};
 ghost use Rattle.site_port.specs.Ports.{lacked, lacks};
 
-use site_port::last_answers_pass_on_all;
-
 /// A law: a plain site whose pull ended well, the last answer having reported that nothing is left, has all that the
 /// other site had when it gave that answer, where no two operations of theirs share site, start and sequence number
 /// without being one.
@@ -25,6 +23,4 @@ pub fn pulls_pass_on_all()
         → ((op twin : Operation) → has peer.journal op ≡ true → has after.port.journal twin ≡ true
         → AreTwins op.stamp twin.stamp → op ≡ twin)
         → IsPartOf peer.journal after.port.journal }
-{
-    last_answers_pass_on_all();
-}
+{}

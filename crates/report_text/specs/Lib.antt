@@ -5,3 +5,4 @@ pub mod Report
 pub mod Printed
 pub mod ReportLaws
 pub mod StateText
+pub mod Agreement

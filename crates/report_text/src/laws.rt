@@ -4,6 +4,7 @@ ghost use Rattle.std.specs.Prelude.{◌≡◌, map};
 ghost use Rattle.state_core.specs.State.{State};
 ghost use Rattle.gate_rules.specs.Rules.{GateRules};
 ghost use Rattle.ready_core.specs.Verdicts.{AreVerdicts, Judged};
+ghost use Rattle.report_text.specs.Agreement.{PrintTheSame};
 ghost use Rattle.report_text.specs.Report.{report_of};
 ghost use Rattle.report_text.specs.Printed.{AreSmall, printed};
 
@@ -23,4 +24,11 @@ pub fn equal_states_print_equal_reports()
         → report_of verdicts ≡ report_of others }
 {
     verdicts_are_unique();
+}
+
+/// A law: equal states print the same: one state text, and one report under each gate.
+pub fn equal_states_print_the_same()
+    ensures { (state other : State) → state ≡ other → PrintTheSame state other }
+{
+    equal_states_print_equal_reports();
 }

@@ -23,7 +23,9 @@ mod report;
 mod state_text;
 
 pub use fault::{WriteReportFault, WriteStateFault};
-pub use laws::{equal_states_print_equal_reports, reports_have_one_reading};
+pub use laws::{
+    equal_states_print_equal_reports, equal_states_print_the_same, reports_have_one_reading,
+};
 pub use page::{Page, make_room, send};
 pub use report::{add_end, add_item, add_out, write_report};
 pub use state_text::write_state;

@@ -2,14 +2,15 @@
 
 ghost use Rattle.std.specs.Prelude.{◌≡◌, ℕ, List, Some, IfSome};
 ghost use Rattle.replica_core.specs.Sets.{IsSameSet};
-ghost use Rattle.script_play.specs.Agreement.{PrintTheSame};
+ghost use Rattle.report_text.specs.Agreement.{PrintTheSame};
+ghost use Rattle.state_core.specs.State.{state_of};
 ghost use Rattle.world_core.specs.declared.event.Event.{Event};
 ghost use Rattle.world_core.specs.Convergence.{IsWhatCame, came_to};
 ghost use Rattle.world_core.specs.Numbered.{numbered};
 ghost use Rattle.world_core.specs.Step.{Answer, Run};
 ghost use Rattle.world_core.specs.World.{SiteState, WorldState, new_world};
 
-use report_text::equal_states_print_equal_reports;
+use report_text::equal_states_print_the_same;
 use std::alloc::Allocator;
 use world_core::worlds_converge;
 
@@ -26,8 +27,8 @@ pub fn the_same_operations_print_the_same<A: Allocator + Copy>()
         → (site another : ℕ) (one other : SiteState)
         → numbered world.sites site ≡ Some one → numbered world.sites another ≡ Some other
         → IsSameSet (came_to world.packets site events answers) (came_to world.packets another events answers)
-        → PrintTheSame one other }
+        → PrintTheSame (state_of one.journal) (state_of other.journal) }
 {
     worlds_converge::<A>();
-    equal_states_print_equal_reports();
+    equal_states_print_the_same();
 }

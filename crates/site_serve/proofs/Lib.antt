@@ -2,3 +2,4 @@ pub mod Boxes
 pub mod Held
 pub mod Waiting
 pub mod Shown
+pub mod PassingOn

@@ -8,3 +8,4 @@ pub mod Doing
 pub mod Looks
 pub mod Pages
 pub mod Answered
+pub mod TwoSites

@@ -1,6 +1,7 @@
 -- What a running site replies to a session: each look is at one moment, at a prefix of the site's publishes that goes
 -- on from all that the session has seen and learnt before. A stamp is answered once the window sees an operation of it.
-use Rattle.std.specs.Prelude.{◌≡◌, true, List, length, nat_lt, take}
+use Rattle.std.specs.Prelude.{◌≡◌, true, List, length, map, nat_lt, take}
+use Rattle.std.specs.List.{list_all}
 use Rattle.gate_rules.specs.Rules.{GateRules}
 use Rattle.ready_core.specs.Verdicts.{AreVerdicts}
 use Rattle.replica_core.specs.Clock.{greatest, times}
@@ -12,7 +13,8 @@ use Rattle.site_port.specs.Ports.{Call, Reply, IsLookingFault, takes_in, lacks, 
 use Rattle.site_port.specs.Ports.{looked, refused}
 use Rattle.site_port.specs.declared.fault.PortFault.{PortFault}
 use Rattle.site_port.specs.declared.fault.PortFault.TheVariants as port
-use Rattle.site_port.specs.Sinks.{Offer, Uptake, at_time, clocks, fronts, reached}
+use Rattle.review_ops.specs.Timestamp.{Timestamp}
+use Rattle.site_port.specs.Sinks.{Offer, Uptake, at_time, clocks, declined, fronts, hands, reached, took}
 use Rattle.site_shared.specs.Accounts.{GoesOn, Outlook}
 use Rattle.site_shared.specs.Publishes.{arrive}
 use Rattle.site_shared.specs.declared.fault.DeskFault.{DeskFault}
@@ -40,9 +42,20 @@ SaysAtMoment gate seen call reply = ⊥
 abbrev pub SiteGives : GateRules → Outlook → Call → Reply → Outlook → Type 0
 SiteGives gate old call reply new = GoesOn old new × SaysAtMoment gate new.seen call reply
 
--- how a pull's offers are taken up: the front and the greatest time are those of a moment; what is handed over is
--- published, or only held, by the desk
+-- the stamps of operations, in their order
+abbrev pub stamps_of : List Operation → List Timestamp
+stamps_of ops = map (λ op. op.stamp) ops
+
+-- for each of these stamps the record has an operation with it
+abbrev pub HaveStamps : List Operation → List Timestamp → Type 0
+HaveStamps journal stamps = list_all (has_stamp journal) stamps ≡ true
+
+-- how a pull's offers are taken up: the front and the greatest time are those of a moment; once what is handed over is
+-- taken, the window sees an operation with each of its stamps; what is declined may have been published, or held, by the
+-- desk
 abbrev pub SiteSinks : Outlook → Offer → Uptake → Outlook → Type 0
 SiteSinks old fronts (reached front) new = GoesOn old new × IsFront (arrive new.seen) front
 SiteSinks old clocks (at_time latest) new = GoesOn old new × (latest ≡ greatest (times (arrive new.seen)))
-SiteSinks old offer uptake new = GoesOn old new
+SiteSinks old (hands ops) took new = GoesOn old new × HaveStamps (arrive new.seen) (stamps_of ops)
+SiteSinks old offer (declined fault) new = GoesOn old new
+SiteSinks old offer uptake new = ⊥

@@ -2,6 +2,7 @@
 
 use super::board::Board;
 use super::errors::Errors;
+use super::laws::sites_that_pulled_print_the_same;
 use super::port::PullPort;
 use byte_ends::{Drain, Ends};
 use gossip_line::{LineFault, pull_run};
@@ -59,6 +60,7 @@ const LONGEST_PAUSE_S: u64 = 60;
 
 /// Pulls from each peer in turn, with a rest after each round, until the site stops: a pause, which doubles with each
 /// round in which no pull ended well, up to a minute. It asks for the stop where another process takes in as this site.
+/// What pulls that end well come to is the law of `sites_that_pulled_print_the_same`.
 pub fn pull_from_peers<R: Wait + Clock + Net<Stream = TcpStream>, E: Drain, J: Naming>(
     rt: &R,
     pulling: Pulling<'_>,
@@ -66,6 +68,7 @@ pub fn pull_from_peers<R: Wait + Clock + Net<Stream = TcpStream>, E: Drain, J: N
     errors: &Errors<E>,
     port: &mut Guarded<'_, PullPort<'_, R, J>>,
 ) {
+    sites_that_pulled_print_the_same();
     let mut peers = peers;
     let mut rest = pulling.pause;
     for _ in rt.forever() {

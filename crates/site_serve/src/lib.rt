@@ -51,6 +51,7 @@ mod gossip;
 mod inbox;
 mod jobs;
 mod kept;
+mod laws;
 mod lines;
 mod listeners;
 mod looks;
@@ -65,5 +66,6 @@ mod seats;
 mod session;
 mod setup;
 
+pub use laws::{pulls_of_sites_pass_on_all, sites_that_pulled_print_the_same};
 pub use run::{serve_keeping, serve_run};
 pub use setup::{Doorstep, Prints, ServeFault, Served, Setup, Turn};

@@ -3,7 +3,7 @@
 
 ghost use Rattle.std.specs.Prelude.{◌≡◌, ◌<◌, ◌∷◌, ◌⊎◌, ◌↔◌, [], Err, IfErr, IfOk, IfSome, IsOk, List, MatchResult};
 ghost use Rattle.std.specs.Prelude.{None, OnErr, OnOk, false, if◌then◌else◌, length, nat_lt, take, true};
-ghost use Rattle.std.specs.List.{list_any};
+ghost use Rattle.std.specs.List.{list_all, list_any};
 ghost use Rattle.std.specs.Option.{option_copied};
 ghost use Rattle.ready_core.specs.Verdicts.{AreVerdicts};
 ghost use Rattle.replica_core.specs.Clock.{greatest, times};
@@ -140,6 +140,15 @@ impl<J: Naming> OwnWindow<J> {
         ensures closed { IfErr result (λ fault. (fault ≡ Closed) × (self.new.window ≡ self.old.window)) }
     {
         self.window.has_foreign(ops)
+    }
+
+    /// Whether the record has, for each of these stamps, an operation with it.
+    pub fn has_stamps(&mut self, stamps: &[Stamp]) -> Result<bool, WindowFault>
+        ensures later { GoesOn self.old.window self.new.window }
+        ensures ok { IfOk result (λ found. found ≡ list_all (has_stamp (arrive self.new.window.seen)) stamps.now) }
+        ensures closed { IfErr result (λ fault. (fault ≡ Closed) × (self.new.window ≡ self.old.window)) }
+    {
+        self.window.has_stamps(stamps)
     }
 
     /// The greatest time of the record's operations, or 0 where it has none.

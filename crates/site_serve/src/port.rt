@@ -1,10 +1,10 @@
 //! The site, as a session or a pull of it sees it.
 
-ghost use Rattle.std.specs.Prelude.{◌≡◌, true};
+ghost use Rattle.std.specs.Prelude.{◌≡◌, IfOk, OnOk, true};
 ghost use Rattle.std.specs.Option.{ForSome};
 ghost use Rattle.replica_core.specs.JournalLaws.{IsPartOf};
 ghost use Rattle.site_port.specs.Ports.{IsLookingFault};
-ghost use Rattle.site_serve.specs.SitePorts.{fault_of};
+ghost use Rattle.site_serve.specs.SitePorts.{HaveStamps, fault_of, stamps_of};
 ghost use Rattle.site_shared.specs.Accounts.{GoesOn};
 ghost use Rattle.site_shared.specs.Publishes.{arrive};
 
@@ -18,7 +18,7 @@ use replica_core::{Front, Missing, Replica};
 use review_ops::{Draft, Op, Stamp};
 use site_port::{Port, PortFault, Sink, SinkFault};
 use site_shared::{BrandedReceipt, DeskFault, Naming, WindowFault};
-use std::alloc::Global;
+use std::alloc::{AllocError, Global};
 use std::sync::Wait;
 
 /// How many operations are answered at once.
@@ -105,6 +105,7 @@ impl<'a, 'g, R: Wait, J: Naming> Port for SitePort<'a, 'g, R, J> {
 #[derive(Drop)]
 pub struct PullPort<'a, R: Wait, J: Naming> {
     rt: &'a R,
+    alloc: Global,
     waker: &'a Waker,
     window: OwnWindow<J>,
     wire: Wire<J>,
@@ -113,10 +114,11 @@ pub struct PullPort<'a, R: Wait, J: Naming> {
 
 impl<'a, R: Wait, J: Naming> PullPort<'a, R, J> {
     /// The site as it is seen from a place.
-    pub fn new(rt: &'a R, waker: &'a Waker, place: Place<J>) -> PullPort<'a, R, J> {
+    pub fn new(rt: &'a R, alloc: Global, waker: &'a Waker, place: Place<J>) -> PullPort<'a, R, J> {
         let Place { window, wire } = place;
         PullPort {
             rt,
+            alloc,
             waker,
             window,
             wire,
@@ -143,6 +145,33 @@ impl<'a, R: Wait, J: Naming> PullPort<'a, R, J> {
         let _woken = self.waker.wake();
         self.wire.answers.recv(self.rt).ok()
     }
+
+    /// Refuses operations that another process took in as this site, and notes that there are such.
+    fn bar_foreign(&mut self, ops: &[Op]) -> Result<(), SinkFault>
+        ensures later { GoesOn self.old.window.window self.new.window.window }
+    {
+        match self.window.has_foreign(ops) {
+            Ok(false) => Ok(()),
+            Ok(true) => {
+                self.is_start_taken = true;
+                Err(SinkFault::Closed)
+            }
+            Err(fault) => Err(sink_fault(fault)),
+        }
+    }
+
+    /// Sees no less than a publish, which has to have an operation with each of these stamps.
+    fn see_taken(&mut self, receipt: &BrandedReceipt<J>, stamps: &[Stamp]) -> Result<(), SinkFault>
+        ensures later { GoesOn self.old.window.window self.new.window.window }
+        ensures seen { OnOk result (HaveStamps (arrive self.new.window.window.seen) stamps.now) }
+    {
+        let _own = self.window.learn(receipt);
+        match self.window.has_stamps(stamps) {
+            Ok(true) => Ok(()),
+            Ok(false) => Err(SinkFault::Closed),
+            Err(fault) => Err(sink_fault(fault)),
+        }
+    }
 }
 
 impl<'a, R: Wait, J: Naming> Sink for PullPort<'a, R, J> {
@@ -165,21 +194,19 @@ impl<'a, R: Wait, J: Naming> Sink for PullPort<'a, R, J> {
     }
 
     fn take_all(&mut self, ops: Vec<Op>) -> Result<(), SinkFault> {
-        match self.window.has_foreign(ops.as_slice()) {
-            Ok(false) => {}
-            Ok(true) => {
-                self.is_start_taken = true;
-                return Err(SinkFault::Closed);
-            }
-            Err(fault) => return Err(sink_fault(fault)),
-        }
-        match self.ask(ops) {
-            Some(Ok(done)) => {
-                let _own = self.window.learn(&done.receipt);
-                Ok(())
-            }
-            Some(Err(_)) => Err(SinkFault::NoMemory),
-            None => Err(SinkFault::Closed),
+        self.bar_foreign(ops.as_slice())?;
+        let stamps = match stamps_in(self.alloc, ops.as_slice()) {
+            Ok(stamps) => stamps,
+            Err(_) => return Err(SinkFault::NoMemory),
+        };
+        let done = match self.ask(ops) {
+            Some(Ok(done)) => done,
+            Some(Err(_)) => return Err(SinkFault::NoMemory),
+            None => return Err(SinkFault::Closed),
+        };
+        match self.see_taken(&done.receipt, stamps.as_slice()) {
+            Ok(()) => Ok(()),
+            Err(fault) => Err(fault),
         }
     }
 }
@@ -211,4 +238,15 @@ fn sink_fault(fault: WindowFault) -> SinkFault {
         WindowFault::NoMemory => SinkFault::NoMemory,
         WindowFault::Closed => SinkFault::Closed,
     }
+}
+
+/// The stamps of operations, in their order.
+fn stamps_in(alloc: Global, ops: &[Op]) -> Result<Vec<Stamp>, AllocError>
+    ensures { IfOk result (λ stamps. stamps.items ≡ stamps_of ops.now) }
+{
+    let mut stamps = Vec::with_capacity(alloc, ops.len())?;
+    for op in ops {
+        stamps.push(op.stamp())?;
+    }
+    Ok(stamps)
 }

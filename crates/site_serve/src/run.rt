@@ -531,7 +531,7 @@ where
     };
     let mut port = Guarded {
         guard: &common.guard,
-        sink: PullPort::new(rt, waker, place),
+        sink: PullPort::new(rt, common.alloc, waker, place),
     };
     pull_from_peers(rt, pulling, peers, &common.errors, &mut port);
     if port.sink.is_start_taken() {

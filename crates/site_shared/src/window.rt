@@ -3,7 +3,7 @@
 ghost use Rattle.std.specs.Prelude.{◌≡◌, ◌⊎◌, ◌<◌, ◌↔◌, List, Err, IfErr, IfNone, IfOk, IfSome, IsOk, MatchBool};
 ghost use Rattle.std.specs.Prelude.{MatchResult, OnErr, OnOk, Some, length, nat_lt, take};
 ghost use Rattle.std.specs.Arc.{arc_value};
-ghost use Rattle.std.specs.List.{list_any};
+ghost use Rattle.std.specs.List.{list_all, list_any};
 ghost use mathlib.Core.List.{IsPrefix};
 ghost use Rattle.left_right.specs.Sides.{view};
 ghost use Rattle.ready_core.specs.Verdicts.{AreVerdicts};
@@ -234,6 +234,21 @@ impl Window {
         Ok(found)
     }
 
+    /// Whether the journal has, for each of these stamps, an operation with it. It takes no memory, and costs
+    /// O(log r + log n) for each stamp, for r rows and n operations of its row.
+    pub fn has_stamps(&mut self, stamps: &[Stamp]) -> Result<bool, WindowFault>
+        ensures later { GoesOn self.old self.new }
+        ensures ok { IfOk result (λ found. found ≡ list_all (has_stamp (arrive self.new.seen)) stamps.now) }
+        ensures closed { IfErr result (λ fault. (fault ≡ Closed) × (self.new ≡ self.old)) }
+    {
+        let Some(look) = self.enter() else {
+            return Err(WindowFault::Closed);
+        };
+        let found = has_each(&look.get().replica, stamps);
+        self.leave(look);
+        Ok(found)
+    }
+
     /// Whether one of the operations bears the window's own site, and its start or a later one, though the journal
     /// lacks it: then another process takes in as this site. It takes no memory, and costs O(log r + log n) for
     /// each operation, for r rows and n operations of its row.
@@ -369,4 +384,11 @@ fn is_any_foreign(replica: &Replica, ops: &[Op], site: u16, start: u32) -> bool
     ops.iter().any(|op| {
         op.stamp().site() == site && start <= op.stamp().start() && !replica.has(op)
     })
+}
+
+/// Whether the replica has, for each of these stamps, an operation with it.
+fn has_each(replica: &Replica, stamps: &[Stamp]) -> bool
+    ensures { result ≡ list_all (has_stamp replica.now) stamps.now }
+{
+    stamps.iter().all(|stamp| replica.has_stamp(*stamp))
 }

@@ -158,6 +158,31 @@ fn take_in_learnt<R: Wait>(
     Ok(receipt.stamp().ok_or("a stamp")?)
 }
 
+/// Whether a window finds each of no stamps, of the one of an intake twice, and of that beside one that nobody has.
+fn stamps_found<R: Wait>(
+    rt: &R,
+    alloc: Global,
+    desk: &mut Desk,
+    window: &mut Window,
+) -> Result<(bool, bool, bool), Fail>
+    requires { window.old ≡ watching desk.old }
+{
+    let stamp = take_in_learnt(rt, alloc, desk, window)?;
+    let unknown = Stamp::new(9, 9, 9, 9).ok_or("a stamp")?;
+    let none = window.has_stamps(&[])?;
+    let twice = window.has_stamps(&[stamp, stamp])?;
+    Ok((none, twice, window.has_stamps(&[stamp, unknown])?))
+}
+
+#[test]
+fn a_window_looks_for_each_stamp(rt: HostRuntime) -> Result<(), Fail> {
+    let (mut desk, mut first, _second) = open_two(&rt, 1, 1, Replica::new(rt.alloc()))?;
+    let found = stamps_found(&rt, rt.alloc(), &mut desk, &mut first);
+    desk.end(&rt);
+    assert_eq!(rt; found?, (true, true, false));
+    Ok(())
+}
+
 /// Whether publishes of nothing have no stamp.
 fn publishes_nothing<R: Wait>(rt: &R, alloc: Global, desk: &mut Desk) -> Result<bool, DeskFault> {
     let taken = desk.take_all(rt, Vec::new(alloc))?.stamp();

@@ -36,3 +36,11 @@ pub record IsChain (state : State) (verdicts : Judged) (first : Left) (waiting :
   pub ends : IsCause cause.refusal
   pub out : Contains verdicts.out cause
   pub steps : length waiting ≡ first.rank
+
+-- the same from the item's own verdict on
+pub record IsChainOf (state : State) (verdicts : Judged) (item : Item) (waiting : List Left) (cause : Left)
+    : Type 0 where
+  pub first : Left
+  pub out : Contains verdicts.out first
+  pub of : first.item ≡ item
+  pub chain : IsChain state verdicts first waiting cause

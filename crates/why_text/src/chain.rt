@@ -3,12 +3,13 @@
 ghost use Rattle.std.specs.Prelude.{◌≡◌, ◌+◌, IfOk, Contains};
 ghost use Rattle.std.specs.List.Sorted.{IsStrictlySortedBy};
 ghost use Rattle.state_core.specs.Items.{item_cmp};
-ghost use Rattle.ready_core.specs.Verdicts.{LeadsOn, items_out};
+ghost use Rattle.ready_core.specs.Verdicts.{AreVerdicts, LeadsOn, items_out};
 ghost use Rattle.ready_core.specs.declared.verdicts.Left.{Left as LeftOut};
-ghost use Rattle.why_text.specs.Chain.{IsChain, WaitsFor};
+ghost use Rattle.why_text.specs.Chain.{IsChain, IsChainOf, WaitsFor};
 
+use gate_rules::Gate;
 use lattice_core::NoMemory;
-use ready_core::{Left, Refusal, Verdicts, place_out};
+use ready_core::{Left, Refusal, Verdicts, dependencies_lead_to_a_cause, place_out};
 use state_core::{Item, State};
 use std::alloc::Global;
 
@@ -20,7 +21,7 @@ pub struct Chain {
 }
 
 /// The verdict on an item that is left out. In O(log n) for n items.
-pub fn left_at(out: &[Left], item: Item) -> Left
+fn left_at(out: &[Left], item: Item) -> Left
     requires in_order { IsStrictlySortedBy item_cmp (items_out out.now) }
     requires there { Contains (items_out out.now) item }
     ensures there { Contains out.now result }
@@ -47,9 +48,30 @@ fn step_after(state: &State, verdicts: &Verdicts, left: Left, change: u32) -> Le
     )
 }
 
+/// The items from one that is left out down to the cause, with why each is left out: the current item of the change that
+/// the one before waits for, as many that wait as the item's rank says, and the one that waits for no other. The verdicts
+/// are those of the state under the gate. It costs O(k log n) for k steps and n items.
+pub fn chain_of(
+    alloc: Global,
+    gate: &Gate,
+    state: &State,
+    verdicts: &Verdicts,
+    item: Item,
+) -> Result<Chain, NoMemory>
+    requires judged { AreVerdicts gate.now state.now verdicts.now }
+    requires there { Contains (items_out verdicts.now.out) item }
+    ensures { IfOk result (λ chain. IsChainOf state.now verdicts.now item chain.waiting.items chain.cause) }
+{
+    let _judged_under = gate;
+    dependencies_lead_to_a_cause();
+    let first = left_at(verdicts.out(), item);
+    let chain = chain_from(alloc, state, verdicts, first)?;
+    Ok(chain)
+}
+
 /// The items from one that is left out down to the cause: as many that wait as the rank of the first says. It costs
 /// O(k log n) for k steps and n items.
-pub fn chain_from(
+fn chain_from(
     alloc: Global,
     state: &State,
     verdicts: &Verdicts,

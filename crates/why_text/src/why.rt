@@ -6,12 +6,12 @@ ghost use Rattle.gate_rules.specs.Spelling.{SpellsGate};
 ghost use Rattle.ready_core.specs.Verdicts.{AreVerdicts, items_out};
 ghost use Rattle.why_text.specs.Why.{IsLeftFor, IsWhy, why_ready_line, step_line};
 
-use super::chain::{chain_from, left_at};
+use super::chain::chain_of;
 use super::details::details_of;
 use super::words::{add_item, add_refusal};
 use gate_rules::Gate;
 use lattice_core::NoMemory;
-use ready_core::{Left, Verdicts, dependencies_lead_to_a_cause};
+use ready_core::{Left, Verdicts};
 use state_core::{Item, State};
 use std::alloc::Global;
 
@@ -62,9 +62,7 @@ fn left_text(
     requires there { Contains (items_out verdicts.now.out) item }
     ensures { IfOk result (λ text. IsLeftFor file.now gate.now state.now verdicts.now item (string_bytes text)) }
 {
-    dependencies_lead_to_a_cause();
-    let first = left_at(verdicts.out(), item);
-    let chain = chain_from(alloc, state, verdicts, first)?;
+    let chain = chain_of(alloc, gate, state, verdicts, item)?;
     let details = details_of(alloc, file, gate, state, chain.cause)?;
     let mut text = step_lines(alloc, chain.waiting.as_slice())?;
     add_step(&mut text, &chain.cause)?;

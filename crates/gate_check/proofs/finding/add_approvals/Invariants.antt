@@ -1,13 +1,13 @@
-use Rattle.std.proofs.Common.{◌≡◌, ◌++◌, map, drop, option_map, string_bytes}
+use Rattle.std.proofs.Common.{◌≡◌, ◌++◌, drop, option_map}
 use Rattle.gate_check.specs.Asking.{numbered}
 use Rattle.gate_check.specs.Shown.{names_shown}
 use Rattle.gate_check.specs.Warnings.{approval_warnings}
 use Rattle.gate_check.proofs.finding.add_approvals.Given as goal
 
--- the lines so far, and those that are left
+-- those so far, and those that are left
 abbrev pub invariant-loop-number : goal.invariant-loop-number
 invariant-loop-number l =
-    map string_bytes l.lines.items
+    l.found.items
     ++ numbered (approval_warnings l.gate (option_map (λ known. names_shown known.now) l.fn.names) l.side) l.number (drop l.number l.approvals)
-    ≡ map string_bytes l.fn.lines.items
+    ≡ l.fn.found.items
     ++ numbered (approval_warnings l.gate (option_map (λ known. names_shown known.now) l.fn.names) l.side) 0 l.approvals

@@ -1,4 +1,4 @@
-use Rattle.std.proofs.Common.{◌++◌, ◌∙◌, ap, map, string_bytes}
+use Rattle.std.proofs.Common.{◌++◌, ◌∙◌, ap}
 use Rattle.gate_check.specs.Warnings.{never_met, pattern_warnings}
 use Rattle.gate_check.proofs.Texts.{after_three}
 use Rattle.gate_check.proofs.finding.add_at.Goals as goal
@@ -6,8 +6,8 @@ use Rattle.gate_check.proofs.finding.add_at.Goals as goal
 pub returns : goal.returns
 returns c =
     let place = c.args.place.now in
-    let start = map string_bytes c.args.lines.now.items in
-    after_three c.add.result start (pattern_warnings place c.args.pattern.now.username) _
+    let start = c.args.found.now.items in
+    after_three c.add_never_met.result start (pattern_warnings place c.args.pattern.now.username) _
     (never_met c.args.is_never_met place) _ _ _
     (c.in_ok-add_pattern.ensures ∙ ap (λ u. start ++ pattern_warnings place u) c.username.ensures)
-    c.in_ok-add_unknown.ensures c.add.ensures
+    c.in_ok-add_unknown.ensures c.add_never_met.ensures

@@ -1,4 +1,4 @@
-use Rattle.std.proofs.Common.{◌≡◌, ◌++◌, ◌∙◌, ap, codes, map, subst, string_bytes}
+use Rattle.std.proofs.Common.{◌≡◌, ◌++◌, ◌∙◌, ap, codes, subst}
 use Rattle.std.specs.Prelude.{OnOk}
 use Rattle.gate_check.specs.Meeting.{is_current_never_met, is_open_never_met, is_status_never_met}
 use Rattle.gate_check.specs.Warnings.{key_warnings}
@@ -8,12 +8,12 @@ use Rattle.gate_check.proofs.finding.add_first.Goals as goal
 pub returns : goal.returns
 returns c =
     let gate = c.args.gate.now in
-    let start = map string_bytes c.args.lines.now.items in
-    let one = map string_bytes c.add_key.new.lines.items in
-    let two = map string_bytes c.add_key-2.new.lines.items in
+    let start = c.args.found.now.items in
+    let one = c.add_key.new.found.items in
+    let two = c.add_key-2.new.found.items in
     after_three c.add_key-3.result start (key_warnings gate (codes "open") (is_open_never_met gate))
     (key_warnings gate (codes "current-patchset") (is_current_never_met gate))
     (key_warnings gate (codes "status") (is_status_never_met gate)) one two _
     (c.in_ok-add_key.ensures ∙ ap (λ b. start ++ key_warnings gate (codes "open") b) c.is_open_never_met.ensures)
-    (c.in_ok-add_key-2.ensures ∙ ap (λ b. one ++ key_warnings gate (codes "current-patchset") b) c.is_current_never_met.ensures)
-    (subst (λ b. OnOk c.add_key-3.result (map string_bytes c.add_key-3.new.lines.items ≡ two ++ key_warnings gate (codes "status") b)) c.is_status_never_met.ensures c.add_key-3.ensures)
+    (c.in_ok-add_key-2.ensures ∙ ap (λ b. one ++ key_warnings gate (codes "current-patchset") b) c.is_current_never_met-is_current.ensures)
+    (subst (λ b. OnOk c.add_key-3.result (c.add_key-3.new.found.items ≡ two ++ key_warnings gate (codes "status") b)) c.is_status_never_met.ensures c.add_key-3.ensures)

@@ -1,16 +1,11 @@
-use Rattle.std.proofs.Common.{◌∙◌, ap, cond, sym, true}
-use Rattle.std.specs.BTreeSet.{contains_text}
-use Rattle.std.specs.Str.{bytes_eq}
-use Rattle.std.proofs.lemmas.Map.Text.{btree_set_updates_text}
-use Rattle.gate_check.proofs.Found.{or_swap, there_already}
+use Rattle.std.proofs.Common.{◌∙◌, ap, map, string_bytes}
+use Rattle.std.specs.BTreeSet.{insert_key}
+use Rattle.std.specs.Cmp.Lexicographic.{slice_cmp}
+use Rattle.std.specs.Ordering.{nat_cmp}
+use Rattle.gate_check.proofs.Gathered.{insert_shown}
 use Rattle.gate_check.proofs.names.add.Goals as goal
 
-pub returns-then-contains : goal.returns-then-contains
-returns-then-contains c = λ other.
-    there_already c.args.texts.now c.args.text.now other (sym c.contains.ensures ∙ c.if-contains.true)
-
 pub returns : goal.returns
-returns c = λ other.
-    btree_set_updates_text _ c.args.texts.now c.insert.new.self true c.in_ok-insert.ensures.updates other
-    ∙ ap (λ t. cond (bytes_eq t other) true (contains_text c.args.texts.now other)) c.in_ok-from_str.ensures.ok
-    ∙ or_swap (bytes_eq c.args.text.now other) (contains_text c.args.texts.now other)
+returns c =
+    ap (map string_bytes) c.in_ok-insert.ensures.keys ∙ insert_shown c.args.texts.now.keys _
+    ∙ ap (insert_key (slice_cmp nat_cmp) (map string_bytes c.args.texts.now.keys)) c.in_ok-from_str.ensures.ok

@@ -1,7 +1,7 @@
 use Rattle.gate_rules.proofs.build.no_object.Goals as goal
 
-pub returns : goal.returns
-returns c = record {
+pub returns-clause-refusal : goal.returns-clause-refusal
+returns-clause-refusal c = record {
   none = c.requires.none;
   stop = record {
     offset = c.blanks.result;

@@ -1,6 +1,5 @@
-use Rattle.std.proofs.Common.{ap, subst}
+use Rattle.std.proofs.Common.{subst}
 use Rattle.std.specs.Prelude.{IfSome}
-use Rattle.report_text.specs.StateText.{state_text}
 use Rattle.state_core.specs.State.{state_of}
 use Rattle.world_core.specs.Convergence.{Agree}
 use Rattle.world_core.specs.Numbered.{numbered}
@@ -14,8 +13,4 @@ returns-clause-same g c = λ sites events answers world run site another one oth
     let converges = c.worlds_converge.ensures sites events answers world run in
     let at_one = subst (λ found. IfSome found (λ at. IfSome (numbered world.sites another) (Agree at))) is_one (converges.agree site another same) in
     let agree = subst (λ found. IfSome found (Agree one)) is_other at_one in
-    record {
-      states = agree.1;
-      texts = ap state_text agree.1;
-      reports = λ gate verdicts others are others_are. c.equal_states_print_equal_reports.ensures gate (state_of one.journal) (state_of other.journal) verdicts others agree.1 are others_are;
-    }
+    c.equal_states_print_the_same.ensures (state_of one.journal) (state_of other.journal) agree.1

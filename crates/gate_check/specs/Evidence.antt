@@ -1,0 +1,29 @@
+-- What a record shows of a gate: its labels and voters, and which bases no footer of it has.
+use Rattle.std.specs.Prelude.{◌≡◌, List, Bool, MatchBool, Option, None, Some, option_map}
+use Rattle.std.specs.List.{AllZip}
+use Rattle.gate_rules.specs.Rules.{GateRules}
+use Rattle.state_core.specs.State.{State}
+use Rattle.gate_check.specs.Names.{Names, names_in}
+use Rattle.gate_check.specs.Unused.{IsUnused, messages_in}
+
+-- the names, and of each base, in the order of the gate file, whether it is unused
+pub record Evidence : Type 0 where
+  pub names : Names
+  pub unused : List Bool
+
+pub record IsEvidence (gate : GateRules) (state : State) (evidence : Evidence) : Type 0 where
+  pub names : evidence.names ≡ names_in state
+  pub unused : AllZip
+      (λ base is_so. MatchBool is_so
+      (IsUnused gate.bases (messages_in state) base) (¬ IsUnused gate.bases (messages_in state) base))
+      gate.bases evidence.unused
+
+-- the same with a record or without one
+abbrev pub IsEvidenceIfAny : GateRules → Option State → Option Evidence → Type 0
+IsEvidenceIfAny gate None None = Unit {0}
+IsEvidenceIfAny gate None (Some evidence) = ⊥
+IsEvidenceIfAny gate (Some state) None = ⊥
+IsEvidenceIfAny gate (Some state) (Some evidence) = IsEvidence gate state evidence
+
+abbrev pub names_shown_by : Option Evidence → Option Names
+names_shown_by evidence = option_map (λ known. known.names) evidence

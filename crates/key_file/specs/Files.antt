@@ -1,0 +1,95 @@
+-- The file of keys: a key a line, `NAME ROLE SECRET`. Lines that are empty or begin with `#` are passed over.
+use Rattle.std.specs.Prelude.{◌≡◌, ◌⊎◌, ◌<◌, ◌≤◌, ℕ, ◌+◌, ◌==◌, ◌&&◌, ◌||◌, nat_le, Bool, true, List, [], ◌∷◌, ◌++◌, All, codes, length, take, slice_index}
+use Rattle.std.specs.List.{list_all}
+use Rattle.hex.specs.Hex.{IsBytes, encode_lower}
+use Rattle.key_file.specs.declared.key.Role.{Role}
+use Rattle.key_file.specs.declared.key.Role.TheVariants.{Read, Feed}
+use Rattle.key_file.specs.declared.fault.KeyFault.{KeyFault}
+use Rattle.key_file.specs.declared.fault.KeyFault.TheVariants.{Open, BadLine, NoKey, ReadFault, NoMemory}
+
+-- what a line says
+pub record Entry : Type 0 where
+  pub name : List ℕ
+  pub role : Role
+  pub secret : List ℕ
+
+-- a letter, a digit, `-`, `.` or `_`
+abbrev pub is_name_byte : ℕ → Bool
+is_name_byte b = (nat_le 48 b && nat_le b 57) || (nat_le 65 b && nat_le b 90) || (nat_le 97 b && nat_le b 122)
+    || (b == 45) || (b == 46) || (b == 95)
+
+-- a name of a host or of a site
+pub record IsName (name : List ℕ) : Type 0 where
+  pub some : 0 < length name
+  pub few : length name ≤ 64
+  pub plain : list_all is_name_byte name ≡ true
+
+abbrev pub role_text : Role → List ℕ
+role_text Read = codes "read"
+role_text Feed = codes "feed"
+
+-- the secret is written in hex, in lower case
+abbrev pub entry_text : Entry → List ℕ
+entry_text entry = entry.name ++ 32 ∷ role_text entry.role ++ 32 ∷ encode_lower entry.secret
+
+pub record IsEntry (entry : Entry) : Type 0 where
+  pub name : IsName entry.name
+  pub long : length entry.secret ≡ 32
+  pub bytes : IsBytes entry.secret
+
+-- the line says this key
+pub record Says (line : List ℕ) (entry : Entry) : Type 0 where
+  pub good : IsEntry entry
+  pub text : line ≡ entry_text entry
+
+abbrev pub IsPassedOver : List ℕ → Type 0
+IsPassedOver line = (line ≡ []) ⊎ (slice_index line 0 ≡ 35)
+
+-- the lines say these keys, in their order
+abbrev pub Say : List (List ℕ) → List Entry → Type 0
+Say [] keys = keys ≡ []
+Say (line ∷ lines) keys =
+    (IsPassedOver line × Say lines keys)
+    ⊎ ((key : Entry) × (rest : List Entry) × Says line key × (keys ≡ key ∷ rest) × Say lines rest)
+
+-- the line is neither passed over nor says a key
+pub record IsBad (line : List ℕ) : Type 0 where
+  pub not_passed : ¬ IsPassedOver line
+  pub nothing : (key : Entry) → ¬ Says line key
+
+-- the line adds a key, or none
+abbrev pub SaysMore : List ℕ → List Entry → List Entry → Type 0
+SaysMore line old new = (more : List Entry) × Say (line ∷ []) more × (new ≡ old ++ more)
+
+-- a line is bad, and those before it, of which there are so many, aren't
+pub record IsFirstBad (lines : List (List ℕ)) (before : ℕ) : Type 0 where
+  pub keys : List Entry
+  pub good : Say (take before lines) keys
+  pub bad : List ℕ
+  pub rest : List (List ℕ)
+  pub at : lines ≡ take before lines ++ bad ∷ rest
+  pub is_bad : IsBad bad
+
+-- why a text's keys aren't read
+abbrev pub IsUnread : List (List ℕ) → KeyFault → Type 0
+IsUnread lines Open = ⊥
+IsUnread lines (BadLine n) = (before : ℕ) × (n ≡ before + 1) × IsFirstBad lines before
+IsUnread lines NoKey = ⊥
+IsUnread lines ReadFault = ⊥
+IsUnread lines NoMemory = Unit {0}
+
+-- the numbers of faults are the project's own
+abbrev pub number_of : KeyFault → ℕ
+number_of Open = 1
+number_of (BadLine n) = 2
+number_of NoKey = 3
+number_of ReadFault = 4
+number_of NoMemory = 5
+
+-- the first of a list of which a fact holds
+pub record IsFirst (P : Entry → Type 0) (keys : List Entry) (found : Entry) : Type 0 where
+  pub before : List Entry
+  pub after : List Entry
+  pub whole : keys ≡ before ++ found ∷ after
+  pub none : All (λ key. ¬ P key) before
+  pub is : P found

@@ -1,0 +1,26 @@
+//! The file of keys that a site lets in, and that it dials with.
+//!
+//! Its tests are in the crate `seal_tests`.
+//!
+//! It is here since a key has to be named on both sides without being told, and to be withdrawn by editing one line.
+//! Not taken: TOML, whose values would be printed with an error.
+//!
+//! An example of its use:
+//!
+//! ```
+//! let text = b"# keys\nsite-2 feed 000102030405060708090a0b0c0d0e0f101112131415161718191a1b1c1d1e1f\n";
+//! let keys = read_keys(alloc, text)?;
+//! let key = keys.dialing(b"site-2").ok_or("a key")?;
+//! assert!(rt; key.role() == Role::Feed);
+//! assert!(rt; keys.letting_in(&key_id(key.secret())).is_some());
+//! ```
+#![tactic(auto)]
+
+mod fault;
+mod key;
+mod keys;
+mod line;
+
+pub use fault::KeyFault;
+pub use key::{Key, Role};
+pub use keys::{Keys, read_keys};

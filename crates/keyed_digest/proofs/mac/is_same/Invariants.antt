@@ -1,0 +1,6 @@
+-- So far nothing differed just where both begin alike.
+use Rattle.std.proofs.Common.{◌≡◌, ◌↔◌, ℕ, ◌<◌, get_or}
+use Rattle.keyed_digest.proofs.mac.is_same.Given as goal
+
+abbrev pub invariant-loop-i : goal.invariant-loop-i
+invariant-loop-i l = (l.difference ≡ 0) ↔ ((k : ℕ) → k < l.i → get_or l.left k 0 ≡ get_or l.right k 0)

@@ -1,0 +1,99 @@
+-- What is left of a source stays what it was, whatever is read, opened and handed out.
+use Rattle.std.proofs.Common.{◌≡◌, ℕ, suc, ◌<◌, ◌≤◌, ◌-◌, ◌==◌, ◌++◌, [], ◌∷◌, true, false, List, Option, Some, None, sym, ◌∙◌, ap, refl, arith, length, take, drop, length-append, append_assoc, take-append-drop, length-drop, min}
+use Rattle.std.proofs.lemmas.List.{length-take-le, nil_from_length}
+use Rattle.std.proofs.lemmas.Bool.{and_from, eq-eqb, ne_eqb}
+use Rattle.std.proofs.Math.Seq.{take-append_seam, drop-append_seam}
+use Rattle.std.specs.Int.{to_be_bytes, w64}
+use Rattle.std.specs.Io.KnownBytes.{Consumes, IsAtEnd, Keeps}
+use Rattle.std.specs.Prelude.{option_and_then}
+use Rattle.base64.specs.Engines.{standard}
+use Rattle.base64.proofs.EngineFacts.{decode_of-encode_of}
+use Rattle.base64.proofs.Streams.{decoded_of-ok}
+use Rattle.byte_ends.specs.Lines.{as_line}
+use Rattle.keyed_digest.specs.HmacFacts.{bytes-append, bytes-hmac, length-hmac}
+use Rattle.line_reader.specs.Lines.{HasNoLf}
+use Rattle.sealed_line.specs.Sealing.{Opens, Sealing, after_line, crossed, tag_of}
+use Rattle.sealed_ends.specs.Opened.{alike, body_text, left_of, line_text, opened, texts_of, whole_lines}
+
+alike_same : (bytes : List ℕ) → alike bytes bytes ≡ true
+alike_same [] = refl
+alike_same (b ∷ bytes) = and_from (b == b) (alike bytes bytes) (eq-eqb b b refl) (alike_same bytes)
+
+tagged_text : (s : Sealing) (cipher : List ℕ) → body_text s (cipher ++ tag_of s cipher) ≡ Some (crossed s cipher)
+tagged_text s cipher =
+    let tag = tag_of s cipher in
+    let long = length-hmac s.tags (to_be_bytes w64 s.count ++ cipher) in
+    let n : length (cipher ++ tag) - 32 ≡ length cipher = omega (arith, length-append cipher tag, long) in
+    rw (n, take-append_seam cipher tag, drop-append_seam cipher tag, alike_same tag) refl
+
+pub line_is : (s : Sealing) (line text : List ℕ) → Opens s line text → line_text s line ≡ Some text
+line_is s line text is =
+    let body = is.cipher ++ tag_of s is.cipher in
+    let bytes = bytes-append is.cipher (tag_of s is.cipher) is.bytes (bytes-hmac s.tags (to_be_bytes w64 s.count ++ is.cipher)) in
+    let decoded = decoded_of-ok standard line body (rw is.is (decode_of-encode_of standard body refl bytes)) in
+    ap (option_and_then (body_text s)) decoded ∙ tagged_text s is.cipher ∙ ap Some (sym is.text_is)
+
+pub whole_first : (line rest : List ℕ) → HasNoLf line → whole_lines (line ++ 10 ∷ rest) ≡ line ∷ whole_lines rest
+unfolding whole_lines
+whole_first [] rest plain = refl
+whole_first (b ∷ line) rest plain =
+    let other : (b == 10) ≡ false = ne_eqb b 10 (plain 0 0 (omega arith)) in
+    let more = whole_first line rest (λ k d lt. plain (suc k) d (omega (arith, lt))) in
+    rw (other, more) refl
+
+pub opened_first : (s : Sealing) (line rest text : List ℕ) → HasNoLf line → Opens s line text
+    → opened s (as_line line ++ rest) ≡ as_line text ++ opened (after_line s) rest
+unfolding texts_of
+opened_first s line rest text plain is =
+    ap (opened s) (append_assoc line (10 ∷ []) rest) ∙ ap (texts_of s) (whole_first line rest plain) ∙ rw (line_is s line text is) refl
+
+pub kept_read : (ready : List ℕ) (s : Sealing) (held came : List ℕ) (a b : Option (List ℕ)) → Consumes a b came
+    → Keeps (left_of ready s held a) (left_of ready s (held ++ came) b)
+kept_read ready s held came None b is = tt
+kept_read ready s held came (Some x) None is = absurd is
+kept_read ready s held came (Some x) (Some y) is =
+    ap (λ l. ready ++ opened s l) (append_assoc held came y ∙ ap (λ l. held ++ l) (sym is))
+
+pub kept_failed : (ready : List ℕ) (s : Sealing) (held : List ℕ) (a b : Option (List ℕ)) → Keeps a b
+    → Keeps (left_of ready s held a) (left_of ready s held b)
+kept_failed ready s held None b is = tt
+kept_failed ready s held (Some x) None is = absurd is
+kept_failed ready s held (Some x) (Some y) is = ap (λ l. ready ++ opened s (held ++ l)) is
+
+pub kept_opened : (s : Sealing) (held line rest text : List ℕ) (a : Option (List ℕ)) → held ≡ as_line line ++ rest → HasNoLf line
+    → Opens s line text → Keeps (left_of [] s held a) (left_of (as_line text) (after_line s) rest a)
+kept_opened s held line rest text None whole plain is = tt
+kept_opened s held line rest text (Some x) whole plain is =
+    sym (ap (λ h. opened s (h ++ x)) whole ∙ ap (opened s) (append_assoc (as_line line) rest x)
+    ∙ opened_first s line (rest ++ x) text plain is)
+
+pub handed_out : (ready : List ℕ) (s : Sealing) (held : List ℕ) (n : ℕ) (a : Option (List ℕ))
+    → Consumes (left_of ready s held a) (left_of (drop n ready) s held a) (take n ready)
+handed_out ready s held n None = tt
+handed_out ready s held n (Some x) =
+    ap (λ l. l ++ opened s (held ++ x)) (sym (take-append-drop n ready)) ∙ append_assoc (take n ready) (drop n ready) (opened s (held ++ x))
+
+pub kept_then : (a b c : Option (List ℕ)) (bytes : List ℕ) → Keeps a b → Consumes b c bytes → Consumes a c bytes
+kept_then None b c bytes p q = tt
+kept_then (Some x) None c bytes p q = absurd p
+kept_then (Some x) (Some y) None bytes p q = absurd q
+kept_then (Some x) (Some y) (Some z) bytes p q = sym p ∙ q
+
+pub left_at_end : (s : Sealing) (a : Option (List ℕ)) → IsAtEnd a → IsAtEnd (left_of [] s [] a)
+unfolding texts_of whole_lines
+left_at_end s None is = tt
+left_at_end s (Some x) is = ap (opened s) is
+
+pub handed_bytes : (copied rest into ready : List ℕ) (n : ℕ) → copied ≡ take n ready → length copied ≡ length (take n into) → n ≤ length into
+    → take n (copied ++ rest) ≡ take n ready
+handed_bytes copied rest into ready n is long within =
+    let count : n ≡ length copied = sym (long ∙ length-take-le n into within) in
+    ap (λ m. take m (copied ++ rest)) count ∙ take-append_seam copied rest ∙ is
+
+pub none_ready : (copied into ready : List ℕ) (n : ℕ) → length copied ≡ length (take n into) → n ≡ 0 → n ≡ min (length ready) (length into)
+    → 0 < length (copied ++ drop n into) → ready ≡ []
+none_ready copied into ready n long none least some =
+    let whole = length-append copied (drop n into) in
+    let rest = length-drop n into in
+    let taken = length-take-le n into (omega (arith, none)) in
+    nil_from_length ready (omega (arith, whole, rest, taken, long, none, least, some))

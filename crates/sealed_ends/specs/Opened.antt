@@ -1,0 +1,66 @@
+-- What the bytes of a source open to: the texts of the longest prefix of lines each of which is sealed under its count.
+use Rattle.std.specs.Prelude.{ℕ, ◌-◌, ◌==◌, ◌&&◌, Bool, true, false, if◌then◌else◌, List, [], ◌∷◌, ◌++◌, length, take, drop, Option, Some, None, option_map, option_and_then}
+use Rattle.base64.specs.Engines.{standard}
+use Rattle.base64.specs.GeneralPurpose.{decoded_of}
+use Rattle.byte_ends.specs.Lines.{as_line}
+use Rattle.sealed_line.specs.Sealing.{Sealing, after_line, crossed, tag_of}
+use Rattle.sealed_ends.specs.declared.source.SealedSource.{SealedSource}
+
+abbrev pub alike : List ℕ → List ℕ → Bool
+alike [] [] = true
+alike [] (b ∷ right) = false
+alike (a ∷ left) [] = false
+alike (a ∷ left) (b ∷ right) = (a == b) && alike left right
+
+-- the text of a cipher and a tag of this length, where the tag is that of the cipher
+abbrev pub text_of : Sealing → List ℕ → List ℕ → Option (List ℕ)
+text_of s cipher tag = if alike tag (tag_of s cipher) then Some (crossed s cipher) else None
+
+abbrev pub body_text : Sealing → List ℕ → Option (List ℕ)
+body_text s body = text_of s (take (length body - 32) body) (drop (length body - 32) body)
+
+-- the text of a line, where it is the seal of one
+abbrev pub line_text : Sealing → List ℕ → Option (List ℕ)
+line_text s line = option_and_then (body_text s) (decoded_of standard line)
+
+-- the byte before the first of these pieces, where there is one
+abbrev pub put_first : ℕ → List (List ℕ) → List (List ℕ)
+put_first byte [] = []
+put_first byte (piece ∷ pieces) = (byte ∷ piece) ∷ pieces
+
+-- the pieces of some bytes that end with an LF; what follows the last LF is none
+unfoldable pub whole_lines : List ℕ → List (List ℕ)
+whole_lines [] = []
+whole_lines (byte ∷ bytes) = if byte == 10 then [] ∷ whole_lines bytes else put_first byte (whole_lines bytes)
+
+-- a text's line and what follows, or nothing more
+abbrev pub then_texts : Option (List ℕ) → List ℕ → List ℕ
+then_texts None rest = []
+then_texts (Some text) rest = as_line text ++ rest
+
+-- the texts of lines up to the first that isn't sealed
+unfoldable pub texts_of : Sealing → List (List ℕ) → List ℕ
+texts_of s [] = []
+texts_of s (line ∷ lines) = then_texts (line_text s line) (texts_of (after_line s) lines)
+
+abbrev pub opened : Sealing → List ℕ → List ℕ
+opened s bytes = texts_of s (whole_lines bytes)
+
+-- what is left of a source: what is opened already, and what the bytes that are held, and come, open to
+abbrev pub left_of : List ℕ → Sealing → List ℕ → Option (List ℕ) → Option (List ℕ)
+left_of ready s held left = option_map (λ bytes. ready ++ opened s (held ++ bytes)) left
+
+-- the source within, and what was read of it and isn't opened
+abbrev pub source_within : {S : Type 0} → SealedSource S → S
+source_within s = s.source
+
+abbrev pub held_by : {S : Type 0} → SealedSource S → List ℕ
+held_by s = s.held.items
+
+-- what is left, by what is left of the source within
+abbrev pub left_by : {S : Type 0} → (S → Option (List ℕ)) → SealedSource S → Option (List ℕ)
+left_by left s = left_of s.ready.items s.seal s.held.items (left s.source)
+
+-- the reads that failed
+abbrev pub failed_by : {S : Type 0} → SealedSource S → ℕ
+failed_by s = s.failures

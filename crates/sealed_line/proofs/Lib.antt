@@ -1,0 +1,4 @@
+pub mod Stream
+pub mod Crosses
+pub mod Seals
+pub mod Firsts

@@ -1,0 +1,49 @@
+-- The first lines of a sealed connection. A number is written in decimal, bytes in hex in lower case.
+use Rattle.std.specs.Prelude.{◌≡◌, ◌<◌, ℕ, ◌^◌, List, ◌∷◌, ◌++◌, codes, decimal, length}
+use Rattle.hex.specs.Hex.{IsBytes, encode_lower}
+use Rattle.sealed_line.specs.declared.greeting.Answer.{Answer}
+use Rattle.sealed_line.specs.declared.greeting.Answer.TheVariants.{Proved, NoKey}
+use Rattle.sealed_line.specs.declared.greeting.Greeting.{Greeting}
+use Rattle.sealed_line.specs.declared.greeting.Reply.{Reply}
+
+-- the version and a site
+abbrev pub front_text : ℕ → List ℕ
+front_text site = codes "key 1 " ++ decimal site
+
+-- a text, a blank, and bytes in hex
+abbrev pub then_hex : List ℕ → List ℕ → List ℕ
+then_hex text bytes = text ++ 32 ∷ encode_lower bytes
+
+-- `key 1 SITE ID NONCE`
+abbrev pub greeting_text : Greeting → List ℕ
+greeting_text g = then_hex (then_hex (front_text g.site) g.id) g.nonce
+
+-- `key 1 SITE NONCE`
+abbrev pub reply_text : Reply → List ℕ
+reply_text r = then_hex (front_text r.site) r.nonce
+
+-- `key 1 SITE NONCE PROOF`, or the refusal
+abbrev pub answer_text : Answer → List ℕ
+answer_text (Proved reply proof) = then_hex (reply_text reply) proof
+answer_text NoKey = codes "no 12 NoKey"
+
+-- a site is a number below 2 ^ 16, and each of the others has its length
+pub record IsGreeting (g : Greeting) : Type 0 where
+  pub site : g.site < 2 ^ 16
+  pub id_long : length g.id ≡ 8
+  pub id : IsBytes g.id
+  pub nonce_long : length g.nonce ≡ 16
+  pub nonce : IsBytes g.nonce
+
+pub record IsReply (r : Reply) : Type 0 where
+  pub site : r.site < 2 ^ 16
+  pub nonce_long : length r.nonce ≡ 16
+  pub nonce : IsBytes r.nonce
+
+pub record IsProof (proof : List ℕ) : Type 0 where
+  pub long : length proof ≡ 32
+  pub bytes : IsBytes proof
+
+abbrev pub IsAnswer : Answer → Type 0
+IsAnswer (Proved reply proof) = IsReply reply × IsProof proof
+IsAnswer NoKey = Unit {0}

@@ -1,0 +1,5 @@
+pub mod Sealing
+pub mod Keystream
+pub mod Greetings
+pub mod Keys
+pub mod Words

@@ -1,0 +1,39 @@
+//! Lines between sites on different machines, sealed so that nobody else reads, changes, adds, drops or repeats one.
+//!
+//! Its tests are in the crate `seal_tests`.
+//!
+//! It is here since the toolchain has no TLS. What it has is used: SHA-256, ChaCha20's block, base64, hex. Not taken:
+//! a cipher without a tag, under which bits can be flipped; one key for both directions, under which a line can be sent
+//! back.
+//!
+//! An example of its use:
+//!
+//! ```
+//! let mut ours = Seal::new(&[1; 32], &[2; 32]);
+//! let mut line = Vec::new(alloc);
+//! ours.seal(alloc, b"hello 2", &mut line)?;
+//! let mut theirs = Seal::new(&[1; 32], &[2; 32]);
+//! let mut text = Vec::new(alloc);
+//! let length = line.len() - 1;
+//! theirs.open(alloc, &line[..length], &mut text)?;
+//! assert_eq!(rt; text.as_slice(), b"hello 2\n".as_slice());
+//! ```
+#![tactic(auto)]
+
+mod cross;
+mod digits;
+mod fault;
+mod greeting;
+mod keys;
+mod laws;
+mod seal;
+
+pub use digits::lower_hex;
+pub use fault::SealFault;
+pub use greeting::{Answer, Greeting, Reply, last_word};
+pub use keys::{KeyId, SessionKeys, key_id, session_keys};
+pub use laws::{no_block_twice, opening_gives_back};
+pub use seal::Seal;
+
+/// How many bytes a sealed line may have, without its line end: what a line of 524,288 bytes is sealed to.
+pub const SEALED_LIMIT: usize = 699_096;
