@@ -1,4 +1,5 @@
-//! Lines between sites on different machines, sealed so that nobody else reads, changes, adds, drops or repeats one.
+//! Lines between sites on different machines, sealed under keys that only these have. A line that was changed, added or
+//! repeated isn't opened, nor is any after one that was dropped; that the last ones were dropped doesn't show.
 //!
 //! Its tests are in the crate `seal_tests`.
 //!
