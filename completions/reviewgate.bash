@@ -13,7 +13,7 @@ _reviewgate() {
             ready) words="--item --json --help" ;;
             recover) words="--without --until --help" ;;
             serve)
-                words="--site --start --port --listen --mode --sites --workers --pause --sessions --idle --connections --until-input-ends --print --http --http-host --load --save --journal --help"
+                words="--site --start --port --listen --mode --sites --workers --pause --sessions --idle --connections --until-input-ends --print --log-time --http --http-host --load --save --journal --help"
                 ;;
             why) words="--all --help" ;;
             *) words="--help" ;;

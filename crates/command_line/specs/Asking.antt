@@ -54,6 +54,7 @@ pub record AreOptions (rows : List Row) (words : ServeWords) : Type 0 where
   pub connections : GivesNumber rows (codes "connections") 1 65535 words.connections
   pub ending : IsTrue words.until_input_ends ↔ HasFlag rows (codes "until-input-ends")
   pub prints : GivesPrinting rows words.prints
+  pub times : IsTrue words.log_time ↔ HasFlag rows (codes "log-time")
   pub http : GivesAny rows (codes "http") 0 65535 words.http
   pub load : first_of (codes "load") rows ≡ option_map (λ name. name.now) words.load
   pub save : first_of (codes "save") rows ≡ option_map (λ name. name.now) words.save

@@ -116,10 +116,12 @@ pub struct ServeWords<'a> {
     pub idle_ms: u64,
     /// How many connections may be open at once, from 1 to 65,535.
     pub connections: usize,
-    /// Whether it ends with the standard input.
+    /// Whether it ends with the standard input, which it hears `stop` and `reload` from.
     pub until_input_ends: bool,
     /// What it prints of its verdicts.
     pub prints: Printing,
+    /// Whether its lines on the error output begin with the time.
+    pub log_time: bool,
     /// The port at which it shows itself to browsers, if it does; 0 for one that is free.
     pub http: Option<u16>,
     /// The names by which browsers may call this machine, beside `localhost` and the addresses of the loopback.

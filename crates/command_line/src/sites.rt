@@ -68,6 +68,7 @@ fn serving_in<'a>(
         connections: number_in(values, CONNECTIONS)? as usize,
         until_input_ends: values.flag("until-input-ends"),
         prints: printing_in(values)?,
+        log_time: values.flag("log-time"),
         http: any_short_in(values, HTTP)?,
         http_hosts,
         load: values.text("load"),

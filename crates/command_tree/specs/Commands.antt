@@ -89,9 +89,10 @@ ending_app =
     (number_with (codes "connections") (codes "1024") 1 65535))
     (flag_rule (codes "until-input-ends"))
 
--- with what it prints
+-- with what it prints, and what its lines on standard error have
 abbrev pub printing_app : App
-printing_app = with_rule ending_app (option_with (codes "print") (codes "report"))
+printing_app =
+    with_rule (with_rule ending_app (option_with (codes "print") (codes "report"))) (flag_rule (codes "log-time"))
 
 -- with where it shows itself to browsers
 abbrev pub shown_app : App

@@ -66,10 +66,15 @@ fn printing_command<'a>(alloc: Global) -> Building<'a>
         "WHAT",
         "What it prints: report, changes or none",
     );
-    ending_command(alloc).with(print)
+    let times = flag(
+        alloc,
+        "log-time",
+        "Begins each line on standard error with the time, in UTC",
+    );
+    ending_command(alloc).with(print).with(times)
 }
 
-/// The command with all but what it prints and the names of files.
+/// The command with all but what it prints, and the names of files.
 fn ending_command<'a>(alloc: Global) -> Building<'a>
     ensures { Builds ending_app result }
 {
@@ -90,7 +95,7 @@ fn ending_command<'a>(alloc: Global) -> Building<'a>
     let ending = flag(
         alloc,
         "until-input-ends",
-        "Ends in order when standard input ends, or at its line stop",
+        "Ends in order when its input ends, as at a line stop there; at a line reload GATE is read again",
     );
     let paced = paced_command(alloc);
     paced.with(idle).with(connections).with(ending)

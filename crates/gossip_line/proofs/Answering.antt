@@ -19,7 +19,7 @@ use Rattle.gossip_line.specs.Answers.{Answers, Asks, IsAnswered, AnswerIsCutShor
 use Rattle.gossip_line.specs.Commands.{take_word, front_word}
 use Rattle.gossip_line.specs.Steps.{IsSaid, IsShown, unread_answer}
 use Rattle.gossip_line.specs.Texts.{SessionAnswer, greeting, bad_version, replied, no_memory, bad_command, bad_text, farewell}
-use Rattle.gossip_line.specs.Texts.{noted}
+use Rattle.gossip_line.specs.Texts.{noted, not_allowed}
 use Rattle.gossip_line.specs.declared.fault.LineFault.{LineFault}
 
 -- a fault that isn't want of memory says that nothing is spelled
@@ -62,6 +62,7 @@ module _ {P : Type 0} (gives : P → Call → Reply → P → Type 0) (old : P) 
   said_by_any false bad_text is = (is.0, refl)
   said_by_any false noted is = (is.0, refl)
   said_by_any false farewell is = (is.0, refl)
+  said_by_any false not_allowed is = absurd is
 
   -- what a look shows is an answer to the line that asks for it
   pub shown_as_asked : (new : P) (call : Call) (taken later : Option (List ℕ)) (failed failures : ℕ)

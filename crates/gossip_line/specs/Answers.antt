@@ -4,7 +4,7 @@ use Rattle.std.specs.Io.KnownBytes.{Appends}
 use Rattle.byte_ends.specs.Failures.{OneFailed}
 use Rattle.gossip_line.specs.Commands.{BeginsLine, Follows, IsOther, front_word, take_word, version_word}
 use Rattle.gossip_line.specs.Texts.{SessionAnswer, greeting, bad_version, replied, no_memory, bad_command, bad_text, farewell}
-use Rattle.gossip_line.specs.Texts.{noted}
+use Rattle.gossip_line.specs.Texts.{noted, not_allowed}
 use Rattle.gossip_line.specs.Texts.{hello, answer_text, next_of}
 use Rattle.gossip_line.specs.declared.fault.LineFault.{LineFault}
 use Rattle.gossip_line.specs.declared.fault.LineFault.TheVariants.{WriteFault}
@@ -55,6 +55,8 @@ module _ {P : Type 0} (gives : P → Call → Reply → P → Type 0) where
   IsAnswer old line bad_text new = IsMisspelled line × (new ≡ old)
   IsAnswer old line noted new = (line ≡ codes "heard") × (new ≡ old)
   IsAnswer old line farewell new = (line ≡ codes "quit") × (new ≡ old)
+  -- who may ask for everything is never answered so
+  IsAnswer old line not_allowed new = ⊥
 
   -- the first line has to name the version
   abbrev pub Answers : Bool → P → List ℕ → SessionAnswer → P → Type 0

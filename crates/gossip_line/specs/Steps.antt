@@ -2,7 +2,7 @@
 use Rattle.std.specs.Prelude.{◌≡◌, ◌⊎◌, ℕ, Bool, false, true, List, Option, Result, Ok}
 use Rattle.gossip_line.specs.Answers.{Answers, Asks, IsMadeText, Sends}
 use Rattle.gossip_line.specs.Texts.{SessionAnswer, greeting, bad_version, no_memory, bad_command, bad_text, farewell}
-use Rattle.gossip_line.specs.Texts.{no_memory_line, noted, reply_text}
+use Rattle.gossip_line.specs.Texts.{no_memory_line, not_allowed, noted, reply_text}
 use Rattle.gossip_line.specs.declared.fault.LineFault.{LineFault}
 use Rattle.gossip_line.specs.declared.step.Look.{Look}
 use Rattle.gossip_line.specs.declared.step.Look.TheVariants as look
@@ -23,6 +23,7 @@ answer_of saying.BadCommand = bad_command
 answer_of saying.BadText = bad_text
 answer_of saying.Noted = noted
 answer_of saying.Farewell = farewell
+answer_of saying.NotAllowed = not_allowed
 
 -- where the text after a command isn't read
 abbrev pub unread_answer : OpTextFault → SessionAnswer

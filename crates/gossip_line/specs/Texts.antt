@@ -28,6 +28,8 @@ pub data SessionAnswer : Type 0 where
   -- it is noted that what feeds the site heard from Gerrit
   noted : SessionAnswer
   farewell : SessionAnswer
+  -- the session's key doesn't allow what the line asks for
+  not_allowed : SessionAnswer
 
 -- ---- the texts
 
@@ -72,6 +74,7 @@ answer_text bad_command = codes "no 6 BadCommand\n"
 answer_text bad_text = codes "no 7 BadText\n"
 answer_text noted = codes "noted\n"
 answer_text farewell = codes "bye\n"
+answer_text not_allowed = codes "no 11 NotAllowed\n"
 
 -- what is answered to a line that is too long
 abbrev pub long_line : List ℕ

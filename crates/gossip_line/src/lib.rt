@@ -29,6 +29,9 @@
 //! | `no 9 ClockSpent` | no stamp is left |
 //! | `no 10 Closed` | the site has ended |
 //!
+//! A site that knows by its key who asks may answer `no 11 NotAllowed`; these sessions, which may ask for everything,
+//! never do.
+//!
 //! An example of its use:
 //!
 //! ```

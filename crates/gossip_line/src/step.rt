@@ -50,6 +50,8 @@ pub enum Saying {
     Noted,
     /// The session ends well.
     Farewell,
+    /// The session's key doesn't allow what the line asks for.
+    NotAllowed,
 }
 
 /// What is looked at.
@@ -152,6 +154,7 @@ impl Saying {
             Saying::BadText => "no 7 BadText\n",
             Saying::Noted => "noted\n",
             Saying::Farewell => "bye\n",
+            Saying::NotAllowed => "no 11 NotAllowed\n",
         }
     }
 

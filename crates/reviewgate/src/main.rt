@@ -21,6 +21,7 @@ use std::env::Env;
 use std::io::ErrorKind;
 use std::process::ExitCode;
 use std::{env, io};
+use timed_lines::{SystemMoments, Timed};
 
 /// What is wrong with words that are no text.
 const NOT_TEXT: &str = "error: the words have to be UTF-8\n";
@@ -44,7 +45,12 @@ fn main(rt: HostRuntime) -> ExitCode {
             &mut SystemFiles::new(&rt),
         ),
         Asked::Serve(words) => {
-            let ended = serve(rt, alloc, words, input, Ends::new(rt.stderr()));
+            let log_time = words.log_time;
+            let errors_of_site = Ends::new(rt.stderr());
+            let errors_of_site = Timed::new(SystemMoments::new(rt, log_time), errors_of_site);
+            let files = SystemFiles::new(rt);
+            let ended = serve(rt, alloc, words, input, files, errors_of_site);
+            let mut errors = Timed::new(SystemMoments::new(rt, log_time), errors);
             report_site(alloc, ended, &mut errors)
         }
         Asked::Recover(words) => {

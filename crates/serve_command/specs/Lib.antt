@@ -4,3 +4,4 @@ pub mod Endings
 pub mod Printing
 pub mod LateClock
 pub mod Listening
+pub mod Wishes

@@ -1,13 +1,14 @@
 //! Runs a site over sockets of this machine, as the words of the command line ask for.
 
-ghost use Rattle.std.specs.Prelude.{◌≡◌, IfOk, List, option_map};
+ghost use Rattle.std.specs.Prelude.{◌≡◌, IfOk, List, Ok, option_map};
 ghost use Rattle.review_ops.specs.Operation.{Operation};
 ghost use Rattle.serve_command.specs.Beginning.{AreInputs};
 ghost use Rattle.serve_command.specs.Endings.{EndsAs};
 ghost use Rattle.serve_command.specs.Printing.{prints_of};
 
 use super::fault::ProgramFault;
-use super::input_end::stop_with_input;
+use super::heard::Heard;
+use super::input_end::{hear_input, lines_of_input};
 use super::journal::open_journal;
 use super::late_clock::show_late_clock;
 use super::listening::{Listening, leave, listen, listen_at};
@@ -20,13 +21,12 @@ use console::{Console, Named, Refusal, Streams, read_gate, read_snapshot};
 use gate_rules::Gate;
 use mio::Waker;
 use page_server::{Door, open_door};
-use record_pull::SystemFiles;
 use replica_core::Replica;
 use site_journal::JournalFault;
 use site_ledger::{Keeps, NoJournal};
 use site_net::{Listener, Stop};
-use site_serve::{Doorstep, Prints, ServeFault, Served, Setup, Turn, serve_keeping};
-use std::alloc::Global;
+use site_serve::{Doorstep, Prints, Reloads, ServeFault, Served, Setup, Turn, serve_keeping};
+use std::alloc::{AllocError, Global};
 use std::fs::File;
 use std::io;
 use std::io::Print;
@@ -67,12 +67,14 @@ impl Turn for NoTurn {
 /// Runs the site that words ask for. It reads and judges the gate file and then the snapshot, if one is named, opens
 /// the journal, asks whether the start was used, listens and prints `listening ADDRESS` for each address and, where it
 /// shows itself to browsers, `listening http P`, runs the site and saves what it has. What is wrong while it runs is
-/// written to `errors`.
-pub fn serve<'n, R, I, E>(
+/// written to `errors`. Where it is to end with its input it ends in order at that end and at a line `stop`, and at a line
+/// `reload` the gate file is read again, by `files` as before; else the input isn't read.
+pub fn serve<'n, R, I, N, E>(
     rt: R,
     alloc: Global,
     words: ServeWords<'n>,
     input: I,
+    files: N,
     errors: E,
 ) -> Ended<'n>
 where
@@ -80,20 +82,22 @@ where
     R: Files<File = File> + Print + Threads + Wait + Clock + AllocGlobal,
     R: Copy + Send + Sync + 'static,
     I: Source + Send + Drop + 'static,
-    E: Drain + Send + Drop,
+    N: Named + Send + Drop + 'static,
+    E: Drain + Send + Drop + 'static,
 {
-    match run_site(rt, alloc, words, input, errors) {
+    match run_site(rt, alloc, words, input, files, errors) {
         Ok(()) => Ended::Well,
         Err(ended) => ended,
     }
 }
 
 /// Runs a site, from its inputs to its snapshot.
-fn run_site<'n, R, I, E>(
+fn run_site<'n, R, I, N, E>(
     rt: R,
     alloc: Global,
     serving: ServeWords<'n>,
     input: I,
+    files: N,
     errors: E,
 ) -> Result<(), Ended<'n>>
 where
@@ -101,16 +105,17 @@ where
     R: Files<File = File> + Print + Threads + Wait + Clock + AllocGlobal,
     R: Copy + Send + Sync + 'static,
     I: Source + Send + Drop + 'static,
-    E: Drain + Send + Drop,
+    N: Named + Send + Drop + 'static,
+    E: Drain + Send + Drop + 'static,
 {
-    let mut input = input;
+    let (mut input, mut files) = (input, files);
     let inputs = read_from(
         alloc,
         serving.gate,
         serving.load,
         &mut input,
         &mut Ends::new(io::writer(&rt)),
-        &mut SystemFiles::new(rt),
+        &mut files,
     );
     let (gate, loaded) = inputs.map_err(Ended::Refused)?;
     let Some(name) = serving.journal else {
@@ -119,7 +124,7 @@ where
             gate,
             replica: loaded,
         };
-        return run_kept(rt, alloc, site, input, errors, NoJournal);
+        return run_kept(rt, alloc, site, input, files, errors, NoJournal);
     };
     let mut errors = errors;
     let (journal, replica) = open_journal(&rt, alloc, name, loaded, &mut errors)?;
@@ -128,7 +133,7 @@ where
         gate,
         replica,
     };
-    run_kept(rt, alloc, site, input, errors, journal)
+    run_kept(rt, alloc, site, input, files, errors, journal)
 }
 
 /// What a site is run with, once its inputs are read.
@@ -140,11 +145,12 @@ struct Site<'a> {
 }
 
 /// Runs a site over what keeps its operations, from its start to its snapshot.
-fn run_kept<R, I, E, K>(
+fn run_kept<R, I, N, E, K>(
     rt: R,
     alloc: Global,
     site: Site<'_>,
     input: I,
+    files: N,
     errors: E,
     keeper: K,
 ) -> Result<(), Ended<'static>>
@@ -153,7 +159,8 @@ where
     R: Files<File = File> + Print + Threads + Wait + Clock + AllocGlobal,
     R: Copy + Send + Sync + 'static,
     I: Source + Send + Drop + 'static,
-    E: Drain + Send + Drop,
+    N: Named + Send + Drop + 'static,
+    E: Drain + Send + Drop + 'static,
     K: Keeps + Drop,
     requires { (first : List Operation) × K.holds keeper first }
 {
@@ -173,19 +180,22 @@ where
         gate,
         replica,
     };
-    let ended = run_listening(rt, alloc, site, start, listeners, input, errors, keeper);
+    let ended = run_listening(
+        rt, alloc, site, start, listeners, input, files, errors, keeper,
+    );
     leave(&rt, sockets.as_slice());
     ended
 }
 
 /// Runs a site that listens, until it has saved its snapshot.
-fn run_listening<R, I, E, K>(
+fn run_listening<R, I, N, E, K>(
     rt: R,
     alloc: Global,
     site: Site<'_>,
     start: u32,
     listeners: Vec<Listener>,
     input: I,
+    files: N,
     errors: E,
     keeper: K,
 ) -> Result<(), Ended<'static>>
@@ -194,7 +204,8 @@ where
     R: Files<File = File> + Print + Threads + Wait + Clock + AllocGlobal,
     R: Copy + Send + Sync + 'static,
     I: Source + Send + Drop + 'static,
-    E: Drain + Send + Drop,
+    N: Named + Send + Drop + 'static,
+    E: Drain + Send + Drop + 'static,
     K: Keeps + Drop,
     requires { (first : List Operation) × K.holds keeper first }
 {
@@ -204,10 +215,22 @@ where
         replica,
     } = site;
     let page = page_of(&rt, alloc, serving.http)?;
-    let ending = serving.until_input_ends.then_some(input);
-    let stop = stop_of(rt, alloc, ending)?;
+    let heard = hear(
+        rt,
+        alloc,
+        serving.gate,
+        serving.until_input_ends,
+        input,
+        files,
+        errors,
+    )?;
+    let Heard {
+        stop,
+        reloads,
+        errors,
+    } = heard;
     let name = serving.save;
-    let setup = setup_of(serving, start, gate, replica, page);
+    let setup = setup_of(serving, start, gate, reloads, replica, page);
     let output = output_of(rt, alloc, &stop)?;
     match serve_keeping(
         &rt, alloc, listeners, setup, &stop, output, errors, &NoTurn, keeper,
@@ -257,10 +280,11 @@ fn setup_of<'a>(
     serving: ServeWords<'a>,
     start: u32,
     gate: Gate,
+    reloads: Arc<Reloads, Global>,
     replica: Replica,
     page: Option<(Door, Waker)>,
 ) -> Setup<'a>
-    ensures held { (result.gate ≡ gate) × (result.replica ≡ replica) }
+    ensures held { (result.gate ≡ gate) × (result.reloads ≡ reloads) × (result.replica ≡ replica) }
     ensures stamps { (result.site ≡ serving.entry.site) × (result.start ≡ start) }
     ensures peers { (result.peers ≡ serving.entry.peers) × (result.pause_ms ≡ serving.entry.pause_ms)
         × (result.sites ≡ serving.entry.sites) }
@@ -285,6 +309,7 @@ fn setup_of<'a>(
     } = serving;
     Setup {
         gate,
+        reloads,
         replica,
         site,
         start,
@@ -322,28 +347,43 @@ fn prints_of(printing: Printing) -> Prints
     }
 }
 
-/// The wish to stop, which comes with the end of the input where there is one.
-fn stop_of<R, I>(
+/// Has a thread hear what the lines of the input ask for, where the site ends with it; else the input isn't read. What
+/// the site shares with that thread.
+fn hear<R, I, N, E>(
     rt: R,
     alloc: Global,
-    input: Option<I>,
-) -> Result<Arc<Stop, Global>, Ended<'static>>
+    gate: &str,
+    until_input_ends: bool,
+    input: I,
+    files: N,
+    errors: E,
+) -> Result<Heard<R, E>, Ended<'static>>
 where
     R: Threads + Wait + Copy + Send + 'static,
     I: Source + Send + Drop + 'static,
+    N: Named + Send + Drop + 'static,
+    E: Drain + Send + Drop + 'static,
 {
-    let Ok(stop) = Arc::new(alloc, Stop::new()) else {
-        return Err(Ended::Site(ServeFault::NoMemory));
-    };
-    if let Some(input) = input {
-        let Ok(theirs) = Arc::try_clone(&stop) else {
-            return Err(Ended::Site(ServeFault::NoMemory));
-        };
-        if !stop_with_input(rt, alloc, input, theirs) {
-            return Err(Ended::Site(ServeFault::NoPlace));
-        }
+    let heard = shared(Heard::new(rt, alloc, errors))?;
+    if !until_input_ends {
+        return Ok(heard);
     }
-    Ok(stop)
+    let asked = shared(heard.asked(alloc, gate, files))?;
+    let lines = shared(lines_of_input(alloc))?;
+    if hear_input(rt, alloc, lines, input, asked) {
+        return Ok(heard);
+    }
+    Err(Ended::Site(ServeFault::NoPlace))
+}
+
+/// What memory was asked for; a site ends where it was refused.
+fn shared<T: Drop>(made: Result<T, AllocError>) -> Result<T, Ended<'static>>
+    ensures { IfOk result (λ value. made ≡ Ok value) }
+{
+    match made {
+        Ok(value) => Ok(value),
+        Err(_) => Err(Ended::Site(ServeFault::NoMemory)),
+    }
 }
 
 /// The gate, and the record to begin with, from these ends.

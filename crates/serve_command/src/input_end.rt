@@ -1,9 +1,20 @@
-//! A site that ends with its standard input.
+//! What a site is asked for on its standard input.
 
-use byte_ends::{BytesFault, Source};
+ghost use Rattle.std.specs.Prelude.{◌≡◌, IfErr, IfNone, IfOk, IfSome};
+ghost use Rattle.console.specs.Console.{is_input};
+ghost use Rattle.console.specs.Inputs.{IsHad, gate_file, input};
+ghost use Rattle.console.specs.Showing.{error_output};
+ghost use Rattle.gate_rules.specs.Spelling.{SpellsGate};
+ghost use Rattle.serve_command.specs.Wishes.{IsRefusedAgain, ShowsRefused, wish_in};
+
+use super::shared_errors::SharedErrors;
+use byte_ends::{BytesFault, Drain, Ends, Source};
+use console::{Console, Named, Refusal, Streams, read_gate, show_refusal};
+use gate_rules::Gate;
 use line_reader::LineReader;
 use site_net::Stop;
-use std::alloc::Global;
+use site_serve::Reloads;
+use std::alloc::{AllocError, Global};
 use std::sync::{Arc, Wait};
 use std::thread;
 use std::thread::Threads;
@@ -11,35 +22,184 @@ use std::thread::Threads;
 /// The most bytes of a line that is looked at.
 const LINE_LIMIT: usize = 1024;
 
-/// Has a thread of its own ask the site to stop once the input ends, or has a line `stop`. Nobody waits for that
-/// thread. Whether the system gave it.
-pub fn stop_with_input<R, I>(rt: R, alloc: Global, input: I, stop: Arc<Stop, Global>) -> bool
+/// What is asked for by the next line of the input.
+#[derive(Clone, Copy, Debug, PartialEq, Eq)]
+pub enum Wish {
+    /// Nothing.
+    Nothing,
+    /// That the gate file is read again.
+    Reload,
+    /// That the site stops.
+    Stop,
+    /// Nothing any more: the input has ended.
+    Over,
+}
+
+/// What the lines of the input are about: the wish to stop, the gates that are put in force, the name of the gate file,
+/// what it is read by, and where a gate file that is refused is reported.
+#[derive(Drop)]
+pub struct Asked<R, N, E> {
+    pub stop: Arc<Stop, Global>,
+    pub reloads: Arc<Reloads, Global>,
+    pub gate: String,
+    pub files: N,
+    pub errors: SharedErrors<R, E>,
+}
+
+/// What lines are read with.
+pub fn lines_of_input(alloc: Global) -> Result<LineReader, AllocError> {
+    LineReader::new(alloc, LINE_LIMIT).map_err(|_| AllocError)
+}
+
+/// Has a thread of its own hear what the lines of the input ask for: at a line `reload` the gate file is read again, and
+/// at a line `stop`, or at the end of the input, the site is asked to stop. Nobody waits for that thread. Whether the
+/// system gave it.
+pub fn hear_input<R, I, N, E>(
+    rt: R,
+    alloc: Global,
+    lines: LineReader,
+    input: I,
+    asked: Asked<R, N, E>,
+) -> bool
 where
     R: Threads + Wait + Copy + Send + 'static,
     I: Source + Send + Drop + 'static,
+    N: Named + Send + Drop + 'static,
+    E: Drain + Send + Drop + 'static,
 {
-    thread::spawn(&rt, move || await_end(&rt, alloc, input, &stop)).is_ok()
+    thread::spawn(&rt, move || heed(rt, alloc, lines, input, asked)).is_ok()
 }
 
-/// Asks the site to stop once the input ends, or has a line `stop`.
-fn await_end<R: Wait, I: Source + Drop>(rt: &R, alloc: Global, input: I, stop: &Stop) {
-    let mut input = input;
-    if let Ok(mut lines) = LineReader::new(alloc, LINE_LIMIT) {
-        for _ in rt.forever() {
-            if is_last(&mut lines, &mut input) {
-                break;
-            }
+/// Does what the lines of the input ask for, to its end or the line `stop`, and then asks the site to stop.
+fn heed<R, I, N, E>(rt: R, alloc: Global, lines: LineReader, input: I, asked: Asked<R, N, E>)
+where
+    R: Wait + Copy,
+    I: Source + Drop,
+    N: Named + Drop,
+    E: Drain + Drop,
+{
+    let (mut lines, mut input, mut asked) = (lines, input, asked);
+    for _ in rt.forever() {
+        match next_wish(&mut lines, &mut input) {
+            Wish::Nothing => {}
+            Wish::Reload => reload(rt, alloc, &mut asked),
+            Wish::Stop | Wish::Over => break,
         }
     }
-    stop.ask(rt);
+    asked.stop.ask(&rt);
 }
 
-/// Whether no line comes any more, or the next one is `stop`. A longer one is passed over.
-fn is_last<S: Source>(lines: &mut LineReader, input: &mut S) -> bool {
+/// What the next line of the input asks for. A longer line is passed over. An input that fails has ended.
+fn next_wish<S: Source>(lines: &mut LineReader, input: &mut S) -> Wish {
     match lines.next_line(input) {
-        Ok(true) => lines.line() == b"stop".as_slice(),
-        Ok(false) => true,
-        Err(BytesFault::TooLong) => !matches!(lines.pass_over(input), Ok(true)),
-        Err(_) => true,
+        Ok(true) => wish_in(lines.line()),
+        Ok(false) => Wish::Over,
+        Err(BytesFault::TooLong) => match lines.pass_over(input) {
+            Ok(true) => Wish::Nothing,
+            _ => Wish::Over,
+        },
+        Err(_) => Wish::Over,
     }
+}
+
+/// What a line asks for.
+fn wish_in(line: &[u8]) -> Wish
+    ensures { result ≡ wish_in line.now }
+{
+    if line == b"stop".as_slice() {
+        Wish::Stop
+    } else if line == b"reload".as_slice() {
+        Wish::Reload
+    } else {
+        Wish::Nothing
+    }
+}
+
+/// Has the gate file read again, and puts its gate in force. One that is refused is reported, and the gate before it
+/// stays in force.
+fn reload<R, N, E>(rt: R, alloc: Global, asked: &mut Asked<R, N, E>)
+where
+    R: Wait + Copy,
+    N: Named,
+    E: Drain,
+{
+    let gate = read_by(
+        alloc,
+        asked.gate.as_str(),
+        &mut Ends::new([].as_slice()),
+        &mut Ends::new(Vec::new(alloc)),
+        &mut asked.files,
+        &mut asked.errors,
+    );
+    let Some(gate) = gate else {
+        return;
+    };
+    if asked.reloads.put(&rt, alloc, gate).is_err() {
+        show_refusal(alloc, &Refusal::Memory, &mut asked.errors);
+    }
+}
+
+/// The gate of a name, read again from these ends.
+fn read_by<I: Source, O: Drain, N: Named, E: Drain>(
+    alloc: Global,
+    name: &str,
+    input: &mut I,
+    output: &mut O,
+    files: &mut N,
+    errors: &mut E,
+) -> Option<Gate> {
+    let mut console = Streams {
+        input,
+        output,
+        files,
+        is_spent: true,
+    };
+    read_again(alloc, name, &mut console, errors)
+}
+
+/// The gate of a name, read again. What was read from the input can't be. A gate that is refused is written to the error
+/// output as at the start; nothing else is.
+fn read_again<C: Console, E: Drain>(
+    alloc: Global,
+    name: &str,
+    console: &mut C,
+    errors: &mut E,
+) -> Option<Gate>
+    ensures had { IfSome result (λ gate. IsHad (input gate_file name.now) (λ text. SpellsGate text gate)
+        (C.state console.old) (C.state console.new)) }
+    ensures silent { IfSome result (λ gate. errors.new ≡ errors.old) }
+    ensures refused { IfNone result (ShowsRefused name.now (C.state console.old) (C.state console.new)
+        (error_output (E.taken errors.old) (E.failed errors.old))
+        (error_output (E.taken errors.new) (E.failed errors.new))) }
+{
+    match read_named(alloc, name, console) {
+        Ok(gate) => Some(gate),
+        Err(refusal) => {
+            show_refusal(alloc, &refusal, errors);
+            None
+        }
+    }
+}
+
+/// The gate of a name, read again. Refusals: those of `read_gate`, and `File` for the input.
+fn read_named<'n, C: Console>(
+    alloc: Global,
+    name: &'n str,
+    console: &mut C,
+) -> Result<Gate, Refusal<'n>>
+    ensures had { IfOk result (λ gate. IsHad (input gate_file name.now) (λ text. SpellsGate text gate)
+        (C.state console.old) (C.state console.new)) }
+    ensures refused { IfErr result (IsRefusedAgain name.now (C.state console.old) (C.state console.new)) }
+{
+    if is_input(name) {
+        return Err(Refusal::File(name, BytesFault::ReadFault));
+    }
+    read_gate(alloc, name, console)
+}
+
+/// Whether a name is that of the input.
+fn is_input(name: &str) -> bool
+    ensures { result ≡ is_input name.now }
+{
+    name == "-"
 }

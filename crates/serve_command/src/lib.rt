@@ -13,19 +13,22 @@
 //!     return Err(Fail::from("a site"));
 //! };
 //! let input = Ends::new(b"no gate file".as_slice());
-//! let ended = serve(rt, alloc, words, input, Ends::new(Vec::new(alloc)));
+//! let errors = Ends::new(Vec::new(alloc));
+//! let ended = serve(rt, alloc, words, input, SystemFiles::new(rt), errors);
 //! assert!(rt; matches!(ended, Ended::Refused(Refusal::Gate(_))));
 //! ```
 #![tactic(auto)]
 
 mod command;
 mod fault;
+mod heard;
 mod input_end;
 mod journal;
 mod late_clock;
 mod listening;
 mod output;
 mod save;
+mod shared_errors;
 mod start;
 mod tape;
 

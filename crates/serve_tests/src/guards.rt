@@ -5,8 +5,11 @@ use super::restarts::{TAKEN, talk_once_up};
 use super::sites::{
     NoTurn, PASS_ON, PASSED, TAKE, ending, listening, pulling, run_one, talk, text_of,
 };
+use super::watched::watched_end;
 use byte_ends::Ends;
 use command_line::ServeWords;
+use console::Named;
+use record_pull::SystemFiles;
 use serve_command::{Ended, serve};
 use site_address::Address;
 use site_net::Stop;
@@ -137,13 +140,13 @@ fn a_journal_is_not_poisoned(rt: HostRuntime) -> Result<(), Fail> {
             let _handed = hand_over::<HostRuntime>(rt.alloc(), &peer, answer);
             talk_once_up(&rt, rt.alloc(), port, TAKE)
         })?;
-        let (ended, _errors) = serve_reporting(rt, words);
+        let (ended, _errors) = serve_reporting(rt, words, SystemFiles::new(rt))?;
         assert!(rt; matches!(&ended, Ended::Well));
         assert_eq!(rt; client.join(&rt)?.as_str(), TAKEN);
         let mut words = kept_words(rt.alloc(), port);
         words.start = Some(2);
         let client = thread::spawn(&rt, move || talk_once_up(&rt, rt.alloc(), port, PASS_ON))?;
-        let (ended, errors) = serve_reporting(rt, words);
+        let (ended, errors) = serve_reporting(rt, words, SystemFiles::new(rt))?;
         assert!(rt; matches!(&ended, Ended::Well));
         assert_eq!(rt; client.join(&rt)?.as_str(), PASSED);
         assert_eq!(rt; errors.as_slice(), b"".as_slice());
@@ -163,16 +166,22 @@ fn kept_words(alloc: Global, port: u16) -> ServeWords<'static> {
 }
 
 /// Runs a site under a gate file on the input: how it ended, and what it reported.
-fn serve_reporting<R>(rt: R, words: ServeWords<'_>) -> (Ended<'_>, Vec<u8>)
+fn serve_reporting<R, N>(
+    rt: R,
+    words: ServeWords<'_>,
+    files: N,
+) -> Result<(Ended<'_>, Vec<u8>), Fail>
 where
     R: Net<Listener = TcpListener, Stream = TcpStream> + RandomSource,
     R: Files<File = File> + Print + Threads + Wait + Clock + AllocGlobal,
     R: Copy + Send + Sync + 'static,
+    N: Named + Send + Drop + 'static,
 {
     let input = Ends::new(GATE.as_bytes());
-    let mut errors = Ends::new(Vec::new(rt.alloc()));
-    let ended = serve(rt, rt.alloc(), words, input, &mut errors);
-    (ended, errors.into_inner())
+    let (errors, written) = watched_end(rt, rt.alloc())?;
+    let ended = serve(rt, rt.alloc(), words, input, files, errors);
+    let reported = written.lock(&rt).to_vec(rt.alloc())?;
+    Ok((ended, reported))
 }
 
 /// Snapshots of one operation each, of site 1: under the last start that a site may have but one; and under times at
@@ -187,18 +196,24 @@ const MORE_SPENT: &[u8] =
     b"reviewgate 2\n{\"change\":5,\"op\":\"merged\",\"seq\":1,\"site\":3,\"start\":1,\"time\":9223372036854775809}\nend 1\n";
 
 /// Runs a site that ends with its input, over a snapshot.
-fn serve_loaded<R>(rt: R, snapshot: &[u8], start: u32) -> Result<(Ended<'static>, Vec<u8>), Fail>
+fn serve_loaded<R, N>(
+    rt: R,
+    snapshot: &[u8],
+    start: u32,
+    files: N,
+) -> Result<(Ended<'static>, Vec<u8>), Fail>
 where
     R: Net<Listener = TcpListener, Stream = TcpStream> + RandomSource,
     R: Files<File = File> + Print + Threads + Wait + Clock + AllocGlobal,
     R: Copy + Send + Sync + 'static,
+    N: Named + Send + Drop + 'static,
 {
     fs::write(&rt, "poisoned.tmp", snapshot)?;
     let mut words: ServeWords<'static> = site_words(rt.alloc());
     words.load = Some("poisoned.tmp");
     words.start = Some(start);
     words.until_input_ends = true;
-    let served = serve_reporting(rt, words);
+    let served = serve_reporting(rt, words, files)?;
     fs::remove_file(&rt, "poisoned.tmp")?;
     Ok(served)
 }
@@ -206,22 +221,22 @@ where
 // A site begins under each start above those that its record has, up to the last one.
 #[test]
 fn a_greater_start_begins(rt: HostRuntime) -> Result<(), Fail> {
-    let (ended, _errors) = serve_loaded(rt, LATE_START, 4_294_967_293)?;
+    let (ended, _errors) = serve_loaded(rt, LATE_START, 4_294_967_293, SystemFiles::new(rt))?;
     assert!(rt; matches!(&ended, Ended::Site(ServeFault::StartUsed)));
-    let (ended, errors) = serve_loaded(rt, LATE_START, 4_294_967_294)?;
+    let (ended, errors) = serve_loaded(rt, LATE_START, 4_294_967_294, SystemFiles::new(rt))?;
     assert!(rt; matches!(&ended, Ended::Well));
     assert_eq!(rt; errors.as_slice(), b"".as_slice());
-    let (ended, _errors) = serve_loaded(rt, LATE_START, 4_294_967_295)?;
+    let (ended, _errors) = serve_loaded(rt, LATE_START, 4_294_967_295, SystemFiles::new(rt))?;
     assert!(rt; matches!(&ended, Ended::Site(ServeFault::StartUsed)));
     Ok(())
 }
 
 #[test]
 fn a_clock_that_is_half_spent_is_reported(rt: HostRuntime) -> Result<(), Fail> {
-    let (ended, errors) = serve_loaded(rt, HALF_SPENT, 1)?;
+    let (ended, errors) = serve_loaded(rt, HALF_SPENT, 1, SystemFiles::new(rt))?;
     assert!(rt; matches!(&ended, Ended::Well));
     assert_eq!(rt; errors.as_slice(), b"".as_slice());
-    let (ended, errors) = serve_loaded(rt, MORE_SPENT, 1)?;
+    let (ended, errors) = serve_loaded(rt, MORE_SPENT, 1, SystemFiles::new(rt))?;
     assert!(rt; matches!(&ended, Ended::Well));
     let line = b"reviewgate: serve 9 LateClock 9223372036854775809\n".as_slice();
     assert_eq!(rt; errors.as_slice(), line);

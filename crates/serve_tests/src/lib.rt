@@ -19,6 +19,8 @@ mod programs;
 #[cfg(test)]
 mod records;
 #[cfg(test)]
+mod reloads;
+#[cfg(test)]
 mod restarts;
 #[cfg(test)]
 mod shown;
@@ -28,5 +30,7 @@ mod site_feeds;
 mod sites;
 #[cfg(test)]
 mod sockets;
+#[cfg(test)]
+mod timed;
 #[cfg(test)]
 mod watched;

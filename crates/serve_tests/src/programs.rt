@@ -3,6 +3,8 @@
 use super::sites::listening;
 use byte_ends::Ends;
 use command_line::{Printing, ServeWords, SocketMode};
+use console::Named;
+use record_pull::SystemFiles;
 use serve_command::{Ended, ProgramFault, serve};
 use site_journal::JournalFault;
 use std::alloc::Global;
@@ -50,6 +52,7 @@ pub fn site_words<'a>(alloc: Global) -> ServeWords<'a> {
         connections: 1024,
         until_input_ends: false,
         prints: Printing::Report,
+        log_time: false,
         http: None,
         http_hosts: Vec::new(alloc),
         load: None,
@@ -76,6 +79,7 @@ fn journal_words<'a>(alloc: Global, name: &'a str) -> ServeWords<'a> {
         connections: 1024,
         until_input_ends: true,
         prints: Printing::Report,
+        log_time: false,
         http: None,
         http_hosts: Vec::new(alloc),
         load: None,
@@ -85,15 +89,16 @@ fn journal_words<'a>(alloc: Global, name: &'a str) -> ServeWords<'a> {
 }
 
 /// Runs such a site, under a gate file on the input, which ends after it.
-pub fn serve_input<R>(rt: R, words: ServeWords<'_>) -> Ended<'_>
+pub fn serve_input<R, N>(rt: R, words: ServeWords<'_>, files: N) -> Ended<'_>
 where
     R: Net<Listener = TcpListener, Stream = TcpStream> + RandomSource,
     R: Files<File = File> + Print + Threads + Wait + Clock + AllocGlobal,
     R: Copy + Send + Sync + 'static,
+    N: Named + Send + Drop + 'static,
 {
     let input = Ends::new(GATE.as_bytes());
     let errors = Ends::new(Vec::new(rt.alloc()));
-    serve(rt, rt.alloc(), words, input, errors)
+    serve(rt, rt.alloc(), words, input, files, errors)
 }
 
 /// The contents of a file, which is then removed.
@@ -107,7 +112,7 @@ fn take_away<R: Files<File = File> + AllocGlobal>(rt: &R, name: &str) -> io::Res
 fn a_gate_file_that_is_not_there_is_refused(rt: HostRuntime) {
     let mut words = site_words(rt.alloc());
     words.gate = "no/such/file";
-    let ended = serve_input(rt, words);
+    let ended = serve_input(rt, words, SystemFiles::new(rt));
     assert!(rt; matches!(&ended, Ended::Refused(_)));
 }
 
@@ -116,7 +121,7 @@ fn a_port_that_is_taken_is_refused(rt: HostRuntime) -> Result<(), Fail> {
     let (_listener, port) = listening(&rt)?;
     let mut words = site_words(rt.alloc());
     words.port = Some(port);
-    let ended = serve_input(rt, words);
+    let ended = serve_input(rt, words, SystemFiles::new(rt));
     assert!(rt; matches!(&ended, Ended::Program(ProgramFault::NoBind)));
     Ok(())
 }
@@ -125,7 +130,7 @@ fn a_port_that_is_taken_is_refused(rt: HostRuntime) -> Result<(), Fail> {
 fn a_site_ends_in_order_with_its_input(rt: HostRuntime) {
     let mut words = site_words(rt.alloc());
     words.until_input_ends = true;
-    let ended = serve_input(rt, words);
+    let ended = serve_input(rt, words, SystemFiles::new(rt));
     assert!(rt; matches!(&ended, Ended::Well));
 }
 
@@ -134,7 +139,7 @@ fn a_record_that_cannot_be_saved_is_a_fault(rt: HostRuntime) {
     let mut words = site_words(rt.alloc());
     words.until_input_ends = true;
     words.save = Some("no/such/folder/record.snapshot");
-    let ended = serve_input(rt, words);
+    let ended = serve_input(rt, words, SystemFiles::new(rt));
     assert!(rt; matches!(&ended, Ended::Program(ProgramFault::NoSave)));
 }
 
@@ -147,7 +152,7 @@ where
 {
     let mut words = journal_words(rt.alloc(), journal);
     words.load = Some(snapshot);
-    let ended = serve_input(rt, words);
+    let ended = serve_input(rt, words, SystemFiles::new(rt));
     matches!(&ended, Ended::Well)
 }
 
@@ -165,7 +170,11 @@ fn a_journal_gets_what_a_snapshot_has_once(rt: HostRuntime) -> Result<(), Fail> 
 #[test]
 fn a_torn_line_is_cut_off(rt: HostRuntime) -> Result<(), Fail> {
     fs::write(&rt, "torn.tmp", TORN)?;
-    let ended = serve_input(rt, journal_words(rt.alloc(), "torn.tmp"));
+    let ended = serve_input(
+        rt,
+        journal_words(rt.alloc(), "torn.tmp"),
+        SystemFiles::new(rt),
+    );
     assert!(rt; matches!(&ended, Ended::Well));
     assert_eq!(rt; take_away(&rt, "torn.tmp")?.as_slice(), JOURNAL);
     Ok(())
@@ -174,7 +183,11 @@ fn a_torn_line_is_cut_off(rt: HostRuntime) -> Result<(), Fail> {
 #[test]
 fn another_file_is_no_journal_and_stays(rt: HostRuntime) -> Result<(), Fail> {
     fs::write(&rt, "other.tmp", SNAPSHOT)?;
-    let ended = serve_input(rt, journal_words(rt.alloc(), "other.tmp"));
+    let ended = serve_input(
+        rt,
+        journal_words(rt.alloc(), "other.tmp"),
+        SystemFiles::new(rt),
+    );
     assert!(rt; matches!(&ended, Ended::Journal(JournalFault::BadLine(3, _))));
     assert_eq!(rt; take_away(&rt, "other.tmp")?.as_slice(), SNAPSHOT);
     Ok(())
@@ -192,10 +205,18 @@ fn locked<R: Files<File = File>>(rt: &R, name: &str) -> Result<File, Fail> {
 #[test]
 fn a_journal_is_one_process_s(rt: HostRuntime) -> Result<(), Fail> {
     let held = locked(&rt, "held.tmp")?;
-    let ended = serve_input(rt, journal_words(rt.alloc(), "held.tmp"));
+    let ended = serve_input(
+        rt,
+        journal_words(rt.alloc(), "held.tmp"),
+        SystemFiles::new(rt),
+    );
     assert!(rt; matches!(&ended, Ended::Program(ProgramFault::Locked)));
     drop(held);
-    let ended = serve_input(rt, journal_words(rt.alloc(), "held.tmp"));
+    let ended = serve_input(
+        rt,
+        journal_words(rt.alloc(), "held.tmp"),
+        SystemFiles::new(rt),
+    );
     assert!(rt; matches!(&ended, Ended::Well));
     fs::remove_file(&rt, "held.tmp")?;
     Ok(())
@@ -204,7 +225,11 @@ fn a_journal_is_one_process_s(rt: HostRuntime) -> Result<(), Fail> {
 /// A journal that the system doesn't sync is refused: it answers so for a device that keeps nothing.
 #[test]
 fn a_journal_that_is_not_synced_is_refused(rt: HostRuntime) {
-    let ended = serve_input(rt, journal_words(rt.alloc(), "/dev/null"));
+    let ended = serve_input(
+        rt,
+        journal_words(rt.alloc(), "/dev/null"),
+        SystemFiles::new(rt),
+    );
     assert!(rt; matches!(&ended, Ended::Journal(JournalFault::Failed)));
 }
 
@@ -212,6 +237,10 @@ fn a_journal_that_is_not_synced_is_refused(rt: HostRuntime) {
 /// process.
 #[test]
 fn a_journal_whose_folder_is_not_synced_is_refused(rt: HostRuntime) {
-    let ended = serve_input(rt, journal_words(rt.alloc(), "/proc/self/comm"));
+    let ended = serve_input(
+        rt,
+        journal_words(rt.alloc(), "/proc/self/comm"),
+        SystemFiles::new(rt),
+    );
     assert!(rt; matches!(&ended, Ended::Journal(JournalFault::Failed)));
 }

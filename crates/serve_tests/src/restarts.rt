@@ -5,6 +5,8 @@ use super::programs::{GATE, serve_input, site_words};
 use super::sites::{NoTurn, PASS_ON, PASSED, TAKE, ending, listening, pulling, run_one, talk};
 use byte_ends::Ends;
 use command_line::ServeWords;
+use console::Named;
+use record_pull::SystemFiles;
 use serve_command::{Ended, ProgramFault, serve};
 use site_address::Address;
 use site_net::Stop;
@@ -41,16 +43,18 @@ where
 
 /// Runs a site of these words for one session, of these lines: whether they are answered so, and it ends well. Its input
 /// has ended before, which ends no site that isn't to end with it.
-fn answers_once<R>(
+fn answers_once<R, N>(
     rt: R,
     words: ServeWords<'_>,
     lines: &'static str,
     wanted: &str,
+    files: N,
 ) -> io::Result<bool>
 where
     R: Net<Listener = TcpListener, Stream = TcpStream> + RandomSource,
     R: Files<File = File> + Print + Threads + Wait + Clock + AllocGlobal,
     R: Copy + Send + Sync + 'static,
+    N: Named + Send + Drop + 'static,
 {
     let (listener, port) = listening(&rt)?;
     drop(listener);
@@ -58,7 +62,7 @@ where
     words.port = Some(port);
     words.sessions = 1;
     let client = thread::spawn(&rt, move || talk_once_up(&rt, rt.alloc(), port, lines))?;
-    let is_well = matches!(&serve_input(rt, words), Ended::Well);
+    let is_well = matches!(&serve_input(rt, words, files), Ended::Well);
     let answers = client.join(&rt)?;
     Ok(is_well && answers.as_str() == wanted)
 }
@@ -68,15 +72,15 @@ where
 fn what_is_acknowledged_is_there_by_a_journal(rt: HostRuntime) -> Result<(), Fail> {
     let mut words = site_words(rt.alloc());
     words.journal = Some("again.tmp");
-    assert!(rt; answers_once(rt, words, TAKE, TAKEN)?);
+    assert!(rt; answers_once(rt, words, TAKE, TAKEN, SystemFiles::new(rt))?);
     let mut words = site_words(rt.alloc());
     words.journal = Some("again.tmp");
-    let ended = serve_input(rt, words);
+    let ended = serve_input(rt, words, SystemFiles::new(rt));
     assert!(rt; matches!(&ended, Ended::Site(ServeFault::StartUsed)));
     let mut words = site_words(rt.alloc());
     words.journal = Some("again.tmp");
     words.start = Some(2);
-    assert!(rt; answers_once(rt, words, PASS_ON, PASSED)?);
+    assert!(rt; answers_once(rt, words, PASS_ON, PASSED, SystemFiles::new(rt))?);
     fs::remove_file(&rt, "again.tmp")?;
     Ok(())
 }
@@ -86,11 +90,11 @@ fn what_is_acknowledged_is_there_by_a_journal(rt: HostRuntime) -> Result<(), Fai
 fn what_is_saved_is_loaded(rt: HostRuntime) -> Result<(), Fail> {
     let mut words = site_words(rt.alloc());
     words.save = Some("saved.tmp");
-    assert!(rt; answers_once(rt, words, TAKE, TAKEN)?);
+    assert!(rt; answers_once(rt, words, TAKE, TAKEN, SystemFiles::new(rt))?);
     let mut words = site_words(rt.alloc());
     words.load = Some("saved.tmp");
     words.start = Some(2);
-    assert!(rt; answers_once(rt, words, PASS_ON, PASSED)?);
+    assert!(rt; answers_once(rt, words, PASS_ON, PASSED, SystemFiles::new(rt))?);
     fs::remove_file(&rt, "saved.tmp")?;
     Ok(())
 }
@@ -124,7 +128,7 @@ fn a_line_stop_ends_a_site(rt: HostRuntime) -> Result<(), Fail> {
     words.until_input_ends = true;
     let input = Ends::new(SaysStop { rt, is_said: false });
     let errors = Ends::new(Vec::new(rt.alloc()));
-    let ended = serve(rt, rt.alloc(), words, input, errors);
+    let ended = serve(rt, rt.alloc(), words, input, SystemFiles::new(rt), errors);
     assert!(rt; matches!(&ended, Ended::Well));
     assert!(rt; began.elapsed(&rt)? < Duration::from_secs(15));
     fs::remove_file(&rt, "gate.tmp")?;
@@ -145,7 +149,7 @@ fn a_start_that_a_peer_has_ends_a_site(rt: HostRuntime) -> Result<(), Fail> {
         || ending(run_one(&rt, rt.alloc(), listener, twin, &stop, &NoTurn)),
         || {
             let is_taken = talk(&rt, rt.alloc(), port, TAKE).is_ok();
-            let ended = serve_input(rt, words);
+            let ended = serve_input(rt, words, SystemFiles::new(rt));
             stop.ask(&rt);
             (is_taken, ended)
         },

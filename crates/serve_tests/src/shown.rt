@@ -18,7 +18,7 @@ const TAKE_PATCH: &str =
     "hello 2\ntake {\"change\":101,\"message\":\"<b>&\",\"op\":\"patchset\",\"set\":1}\nquit\n";
 
 /// A request for all items, as data and as a page, and one for how the site is.
-const ITEMS: &str = "GET /api/v1/items?show=all HTTP/1.1\r\nHost: localhost\r\n\r\n";
+pub const ITEMS: &str = "GET /api/v1/items?show=all HTTP/1.1\r\nHost: localhost\r\n\r\n";
 
 const LIST: &str = "GET / HTTP/1.1\r\nHost: gate.example.org\r\n\r\n";
 
@@ -31,7 +31,7 @@ const SHOWN: &str =
     r#"{"total":1,"page":1,"items":[{"change":101,"set":1,"subject":"<b>&","ready":false,"refusal":"require approval 1"}]}"#;
 
 /// A site without a limit of sessions that shows itself, also by another name, and the port of its page.
-fn shown<R>(rt: &R, alloc: Global) -> Result<(Setup<'static>, u16), Fail>
+pub fn shown<R>(rt: &R, alloc: Global) -> Result<(Setup<'static>, u16), Fail>
 where
     R: Net<Listener = TcpListener, Stream = TcpStream> + RandomSource,
 {

@@ -8,12 +8,12 @@ use gate_rules::Gate;
 use op_text::read_op;
 use replica_core::Replica;
 use site_net::Stop;
-use site_serve::{Prints, Setup, serve_run};
+use site_serve::{Prints, Reloads, Setup, serve_run};
 use std::alloc::Global;
 use std::io::Write;
 use std::net::{Net, TcpListener, TcpStream};
 use std::process::Abort;
-use std::sync::Wait;
+use std::sync::{Arc, Wait};
 use std::test::Fail;
 use std::thread::Threads;
 use std::time::{Clock, Duration};
@@ -35,6 +35,7 @@ where
 {
     let setup = Setup {
         gate: Gate::read(alloc, GATE)?,
+        reloads: Arc::new(alloc, Reloads::new())?,
         replica,
         site: 1,
         start: 1,

@@ -7,13 +7,13 @@ use op_text::read_op;
 use replica_core::Replica;
 use site_address::Address;
 use site_net::Stop;
-use site_serve::{Prints, ServeFault, Served, Setup, Turn, serve_run};
+use site_serve::{Prints, Reloads, ServeFault, Served, Setup, Turn, serve_run};
 use std::alloc::Global;
 use std::io::{Read, Write};
 use std::net::{Net, Shutdown, TcpListener, TcpStream};
 use std::process::Abort;
-use std::sync::Wait;
 use std::sync::atomic::{AtomicBool, Ordering};
+use std::sync::{Arc, Wait};
 use std::test::Fail;
 use std::thread::Threads;
 use std::time::{Clock, Duration, Instant};
@@ -49,6 +49,7 @@ impl Turn for NoTurn {
 pub fn one_session(alloc: Global, site: u16) -> Result<Setup<'static>, Fail> {
     Ok(Setup {
         gate: Gate::read(alloc, GATE)?,
+        reloads: Arc::new(alloc, Reloads::new())?,
         replica: Replica::new(alloc),
         site,
         start: 1,

@@ -3,6 +3,8 @@
 use super::programs::{serve_input, site_words};
 use super::sites::{NoTurn, PASS_ON, PASSED, TAKE, ending, one_session, text_of};
 use byte_ends::Ends;
+use console::Named;
+use record_pull::SystemFiles;
 use serve_command::{Ended, ProgramFault};
 use site_address::Address;
 use site_ledger::NoJournal;
@@ -165,23 +167,30 @@ fn sites_are_reached_at_sockets_and_pull_from_them(rt: HostRuntime) -> Result<()
 }
 
 /// How a site ends that listens at this socket until its input ends, and whether the socket is there afterwards.
-fn ends_at<R>(rt: R, path: &str) -> io::Result<(bool, bool)>
+fn ends_at<R, N>(rt: R, path: &str, files: N) -> io::Result<(bool, bool)>
 where
     R: Net<Listener = TcpListener, Stream = TcpStream> + RandomSource,
     R: Files<File = File> + Print + Threads + Wait + Clock + AllocGlobal,
     R: Copy + Send + Sync + 'static,
+    N: Named + Send + Drop + 'static,
 {
     let mut words = site_words(rt.alloc());
     words.until_input_ends = true;
     words.sockets.push(path)?;
-    let is_well = matches!(serve_input(rt, words), Ended::Well);
+    let is_well = matches!(serve_input(rt, words, files), Ended::Well);
     Ok((is_well, fs::metadata(&rt, path).is_ok()))
 }
 
 #[test]
 fn a_site_removes_its_socket_at_its_end(rt: HostRuntime) -> Result<(), Fail> {
-    assert_eq!(rt; ends_at(rt, "./removed.tmp")?, (true, false));
-    assert_eq!(rt; ends_at(rt, "./no/such/folder/socket")?, (false, false));
+    assert_eq!(rt;
+        ends_at(rt, "./removed.tmp", SystemFiles::new(rt))?,
+        (true, false)
+    );
+    assert_eq!(rt;
+        ends_at(rt, "./no/such/folder/socket", SystemFiles::new(rt))?,
+        (false, false)
+    );
     Ok(())
 }
 
@@ -191,7 +200,7 @@ fn a_site_that_does_not_listen_leaves_no_socket(rt: HostRuntime) -> Result<(), F
     let mut words = site_words(rt.alloc());
     words.sockets.push("./gone.tmp")?;
     words.sockets.push("./no/such/folder/socket")?;
-    let ended = serve_input(rt, words);
+    let ended = serve_input(rt, words, SystemFiles::new(rt));
     assert!(rt; matches!(&ended, Ended::Program(ProgramFault::NoBind)));
     assert!(rt; fs::metadata(&rt, "./gone.tmp").is_err());
     Ok(())

@@ -9,3 +9,4 @@ pub mod Looks
 pub mod Pages
 pub mod Answered
 pub mod TwoSites
+pub mod InForce

@@ -14,8 +14,9 @@ ghost use Rattle.state_core.specs.Items.{item_cmp};
 
 use super::errors::Errors;
 use super::kept::brought_up;
-use super::news::News;
+use super::news::{News, Stir};
 use super::opening::{OwnWatch, OwnWindow};
+use super::ruling::Ruling;
 use super::setup::{Prints, ServeFault};
 use byte_ends::{Drain, Ends, write_all};
 use gate_rules::Gate;
@@ -60,13 +61,14 @@ struct Shown {
 }
 
 /// Prints the report of what the window shows, and each one that differs from the last, or what changed from one to the
-/// next, until nothing new comes any more. After each it rests. The verdicts are kept from one look to the next, and
-/// brought up to date with what the window shows. Once the output has failed nothing more is printed, which is said on
+/// next, until nothing new comes any more. After each it rests, unless another gate is put in force, under which the next
+/// one is made at once. The verdicts are kept from one look to the next, and brought up to date with what the window
+/// shows; those under another gate are made anew. Once the output has failed nothing more is printed, which is said on
 /// the error output.
 pub fn print_reports<R: Wait + Clock, W: Drain + Drop, E: Drain, J: Naming>(
     rt: &R,
     alloc: Global,
-    gate: &Gate,
+    ruling: Ruling<'_>,
     prints: Prints,
     news: &News<J>,
     window: OwnWindow<J>,
@@ -78,15 +80,16 @@ pub fn print_reports<R: Wait + Clock, W: Drain + Drop, E: Drain, J: Naming>(
         written: true,
         fault: None,
     };
-    let mut output = output;
+    let (mut ruling, mut output) = (ruling, output);
     let mut last = nothing_shown(alloc);
     let mut kept = None;
     let mut is_over = false;
     for _ in rt.forever() {
+        ruling.follow(rt, &mut kept);
         let begun = Instant::now(rt);
         let shown = next_shown(
             alloc,
-            gate,
+            ruling.gate(),
             prints,
             &mut printed.window,
             &mut kept,
@@ -105,12 +108,12 @@ pub fn print_reports<R: Wait + Clock, W: Drain + Drop, E: Drain, J: Naming>(
         if is_over {
             return printed;
         }
-        news.rest(rt, rest);
-        match news.newest(rt) {
-            Some(receipt) => {
+        match news.next(rt, rest) {
+            Stir::Published(receipt) => {
                 let _own = printed.window.learn(&receipt);
             }
-            None => is_over = true,
+            Stir::Reloaded => {}
+            Stir::Over => is_over = true,
         }
     }
     unreachable!()

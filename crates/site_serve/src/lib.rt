@@ -10,6 +10,7 @@
 //! An example of its use:
 //!
 //! ```
+//! use std::sync::Arc;
 //! #[derive(Drop)]
 //! struct Quiet;
 //! impl Turn for Quiet {
@@ -20,6 +21,7 @@
 //! let listener = listen_at_port(&rt, 0)?;
 //! let setup = Setup {
 //!     gate: Gate::read(alloc, br#"{"bases":["https://r/"]}"#)?,
+//!     reloads: Arc::new(alloc, Reloads::new())?,
 //!     replica: Replica::new(alloc),
 //!     site: 1,
 //!     start: 1,
@@ -42,6 +44,7 @@
 #![tactic(auto)]
 
 mod ask;
+mod bell;
 mod board;
 mod desk;
 mod errors;
@@ -61,11 +64,14 @@ mod outbox;
 mod pages;
 mod places;
 mod port;
+mod reloads;
+mod ruling;
 mod run;
 mod seats;
 mod session;
 mod setup;
 
 pub use laws::{pulls_of_sites_pass_on_all, sites_that_pulled_print_the_same};
+pub use reloads::Reloads;
 pub use run::{serve_keeping, serve_run};
 pub use setup::{Doorstep, Prints, ServeFault, Served, Setup, Turn};

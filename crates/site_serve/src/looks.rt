@@ -7,6 +7,7 @@ ghost use Rattle.gossip_line.specs.Steps.{call_of};
 ghost use Rattle.gossip_line.specs.Texts.{reply_text};
 ghost use Rattle.replica_core.specs.JournalLaws.{IsPartOf};
 ghost use Rattle.site_port.specs.Ports.{reply_by, stamped};
+ghost use Rattle.site_serve.specs.InForce.{ruling_gate};
 ghost use Rattle.site_serve.specs.Looks.{IsLooked, LooksAfter, ShowsReply};
 ghost use Rattle.site_serve.specs.Outboxes.{Adds};
 ghost use Rattle.site_shared.specs.Accounts.{GoesOn};
@@ -17,9 +18,9 @@ use super::errors::Errors;
 use super::jobs::{Job, Reply, Task, Work, Worker};
 use super::outbox::refusing_memory;
 use super::port::SitePort;
+use super::ruling::Ruling;
 use super::setup::Turn;
 use byte_ends::{Drain, Ends};
-use gate_rules::Gate;
 use gossip_line::{LineFault, Look, say_taken, show};
 use mio::Waker;
 use review_ops::Stamp;
@@ -28,11 +29,11 @@ use site_shared::{BrandedReceipt, Naming};
 use std::alloc::Global;
 use std::sync::{Arc, Wait};
 
-/// Does the jobs of sessions until no more come.
+/// Does the jobs of sessions until no more come, each under the gate that is in force when it begins.
 pub(super) fn do_jobs<R: Wait, E: Drain, T: Turn, J: Naming>(
     rt: &R,
     alloc: Global,
-    gate: &Gate,
+    ruling: Ruling<'_>,
     worker: Worker<J>,
     waker: &Waker,
     board: &Board,
@@ -44,8 +45,9 @@ pub(super) fn do_jobs<R: Wait, E: Drain, T: Turn, J: Naming>(
         jobs,
         replies,
     } = worker;
-    let mut port = SitePort::new(rt, alloc, gate, window);
+    let mut port = SitePort::new(rt, alloc, ruling, window);
     for job in jobs.iter(rt) {
+        port.follow();
         let reply = done(rt, alloc, job, &mut port, board, errors, turn);
         let _sent = replies.send(rt, reply);
         let _woken = waker.wake();
@@ -102,7 +104,7 @@ fn looked<R: Wait, J: Naming>(
     receipt: &Option<Arc<BrandedReceipt<J>, Global>>,
     port: &mut SitePort<'_, '_, R, J>,
 ) -> Work
-    ensures { IsLooked (LooksAfter port.old.gate.now port.old.window.window (call_of look.now)
+    ensures { IsLooked (LooksAfter (ruling_gate port.old.ruling) port.old.window.window (call_of look.now)
         (λ seen. ForSome receipt.now (λ receipt. IsPartOf (arrive (arc_value receipt).published) (arrive seen)))
         port.new.window.window) result }
 {
@@ -118,7 +120,7 @@ fn has_learnt<R: Wait, J: Naming>(
     port: &mut SitePort<'_, '_, R, J>,
 ) -> bool
     ensures later { GoesOn port.old.window.window port.new.window.window }
-    ensures gate { port.new.gate ≡ port.old.gate }
+    ensures gate { port.new.ruling ≡ port.old.ruling }
     ensures learnt { result ≡ true → ForSome receipt.now
         (λ receipt. IsPartOf (arrive (arc_value receipt).published) (arrive port.new.window.window.seen)) }
 {
@@ -130,7 +132,7 @@ fn has_learnt<R: Wait, J: Naming>(
 
 /// What is answered to a look.
 fn shown<R: Wait, J: Naming>(alloc: Global, look: &Look, port: &mut SitePort<'_, '_, R, J>) -> Work
-    ensures { IsLooked (ShowsReply port.old.gate.now port.old.window.window (call_of look.now) port.new.window.window) result }
+    ensures { IsLooked (ShowsReply (ruling_gate port.old.ruling) port.old.window.window (call_of look.now) port.new.window.window) result }
 {
     let mut drain = Ends::new(Vec::new(alloc));
     match show(alloc, look, &mut drain, port) {

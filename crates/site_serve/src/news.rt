@@ -1,8 +1,9 @@
-//! The newest receipt of a site, for the thread that prints its reports.
+//! What is new at a site, for the thread that prints its reports.
 
+use super::reloads::Reloads;
 use site_shared::{BrandedReceipt, Naming};
 use std::alloc::Global;
-use std::sync::{Arc, Condvar, Mutex, Wait};
+use std::sync::{Arc, Mutex, Wait};
 use std::time::{Clock, Duration};
 
 /// What is new at a site. A newer receipt takes the place of one that nobody has looked at yet, so that whoever brings
@@ -10,8 +11,8 @@ use std::time::{Clock, Duration};
 #[derive(Drop)]
 pub struct News<J: Naming> {
     slot: Mutex<Slot<J>>,
-    changed: Condvar,
-    closed: Condvar,
+    /// What is put in force at the site, whose bell wakes who waits for what is new.
+    reloads: Arc<Reloads, Global>,
 }
 
 /// The newest receipt, and whether others may come.
@@ -23,17 +24,27 @@ struct Slot<J: Naming> {
     is_awaited: bool,
 }
 
+/// Why there is something to look at.
+#[derive(Drop)]
+pub enum Stir<J: Naming> {
+    /// Something was published.
+    Published(Arc<BrandedReceipt<J>, Global>),
+    /// Another gate was put in force.
+    Reloaded,
+    /// Nothing new comes any more.
+    Over,
+}
+
 impl<J: Naming> News<J> {
-    /// There is nothing new yet.
-    pub fn new() -> News<J> {
+    /// There is nothing new yet at a site with these reloads.
+    pub fn new(reloads: Arc<Reloads, Global>) -> News<J> {
         News {
             slot: Mutex::new(Slot {
                 newest: None,
                 is_closed: false,
                 is_awaited: false,
             }),
-            changed: Condvar::new(),
-            closed: Condvar::new(),
+            reloads,
         }
     }
 
@@ -42,37 +53,71 @@ impl<J: Naming> News<J> {
         let Ok(newest) = Arc::try_clone(receipt) else {
             return;
         };
+        if self.is_awaited_after(rt, newest) {
+            self.reloads.bell().ring(rt);
+        }
+    }
+
+    /// Notes a receipt. Answers whether somebody waits for it.
+    fn is_awaited_after(&self, rt: &impl Wait, newest: Arc<BrandedReceipt<J>, Global>) -> bool {
         let mut slot = self.slot.lock(rt);
         slot.newest = Some(newest);
-        if slot.is_awaited {
-            slot.is_awaited = false;
-            self.changed.notify_all();
-        }
+        let is_awaited = slot.is_awaited;
+        slot.is_awaited = false;
+        is_awaited
     }
 
     /// Nothing new comes any more.
     pub fn close(&self, rt: &impl Wait) {
+        self.note_closed(rt);
+        self.reloads.bell().ring(rt);
+    }
+
+    /// Notes that nothing new comes any more.
+    fn note_closed(&self, rt: &impl Wait) {
         let mut slot = self.slot.lock(rt);
         slot.is_closed = true;
-        self.changed.notify_all();
-        self.closed.notify_all();
     }
 
-    /// Rests for so long, or until nothing new comes any more.
-    pub fn rest<R: Wait + Clock>(&self, rt: &R, pause: Duration) {
-        let slot = self.slot.lock(rt);
-        let _ended = self
-            .closed
-            .wait_timeout_while(rt, slot, pause, |slot| !slot.is_closed);
+    /// Rests for so long, and then waits for a receipt that nobody has looked at. Another gate and the end are heard at
+    /// once, also in the rest; after the end it doesn't rest.
+    pub fn next<R: Wait + Clock>(&self, rt: &R, pause: Duration) -> Stir<J> {
+        let bell = self.reloads.bell();
+        if !self.is_closed(rt) && bell.wait_for(rt, pause) {
+            return self.heard(rt).unwrap_or(Stir::Reloaded);
+        }
+        if let Some(stir) = self.known(rt) {
+            return stir;
+        }
+        bell.wait(rt);
+        self.heard(rt).unwrap_or(Stir::Reloaded)
     }
 
-    /// Waits for the newest receipt that nobody has looked at; none once nothing new comes any more.
-    pub fn newest(&self, rt: &impl Wait) -> Option<Arc<BrandedReceipt<J>, Global>> {
+    /// Whether nothing new comes any more.
+    fn is_closed(&self, rt: &impl Wait) -> bool {
+        self.slot.lock(rt).is_closed
+    }
+
+    /// What is new already. Where nothing is, that is awaited from now on.
+    fn known(&self, rt: &impl Wait) -> Option<Stir<J>> {
         let mut slot = self.slot.lock(rt);
         slot.is_awaited = slot.newest.is_none();
-        let mut slot = self
-            .changed
-            .wait_while(rt, slot, |slot| slot.newest.is_none() && !slot.is_closed);
-        slot.newest.take()
+        stir_of(&mut slot)
+    }
+
+    /// What is new once the bell was heard; nothing where another gate was put in force.
+    fn heard(&self, rt: &impl Wait) -> Option<Stir<J>> {
+        let mut slot = self.slot.lock(rt);
+        slot.is_awaited = false;
+        stir_of(&mut slot)
+    }
+}
+
+/// What a slot has that is new, which is taken.
+fn stir_of<J: Naming>(slot: &mut Slot<J>) -> Option<Stir<J>> {
+    match slot.newest.take() {
+        Some(newest) => Some(Stir::Published(newest)),
+        None if slot.is_closed => Some(Stir::Over),
+        None => None,
     }
 }

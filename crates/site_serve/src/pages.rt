@@ -3,6 +3,7 @@
 ghost use Rattle.std.specs.Prelude.{◌≡◌, IfOk, IfSome, OnOk};
 ghost use Rattle.std.specs.Option.{ForSome};
 ghost use Rattle.ready_core.specs.Verdicts.{AreVerdicts, items_out};
+ghost use Rattle.site_serve.specs.InForce.{ruling_gate};
 ghost use Rattle.site_serve.specs.Pages.{IsPageOf, ShowsMoment};
 ghost use Rattle.site_shared.specs.Accounts.{GoesOn};
 ghost use Rattle.site_shared.specs.Publishes.{arrive};
@@ -12,6 +13,7 @@ ghost use Rattle.page_routes.specs.declared.page.Status.TheVariants.{Unavailable
 use super::board::{Board, JournalNote, PeerNote};
 use super::kept::brought_up;
 use super::opening::{OwnWatch, OwnWindow};
+use super::ruling::Ruling;
 use gate_rules::Gate;
 use page_routes::{Kind, Page, Route, Status};
 use page_server::{Door, Pages, serve_pages};
@@ -41,7 +43,6 @@ const LONGEST_REST_MS: u64 = 1_000;
 pub(super) struct Shower<'a, R> {
     pub rt: &'a R,
     pub alloc: Global,
-    pub gate: &'a Gate,
     pub board: &'a Board,
     pub site: u16,
     pub start: u32,
@@ -51,10 +52,11 @@ pub(super) struct Shower<'a, R> {
     pub peers: &'a [Address<'a>],
 }
 
-/// Shows a site at a door, to this machine and to hosts of these names, until the stop is asked. Where memory is refused
-/// for that nothing is shown.
+/// Shows a site at a door, each page under the gate that is in force when it is made, to this machine and to hosts of
+/// these names, until the stop is asked. Where memory is refused for that nothing is shown.
 pub(super) fn show_pages<R: Wait + Clock, J: Naming>(
     shower: Shower<'_, R>,
+    ruling: Ruling<'_>,
     door: Door,
     hosts: &[String],
     stop: &Stop,
@@ -63,6 +65,7 @@ pub(super) fn show_pages<R: Wait + Clock, J: Naming>(
     let (rt, alloc) = (shower.rt, shower.alloc);
     let pages = SitePages {
         shower,
+        ruling,
         window,
         kept: None,
         next: Duration::ZERO,
@@ -77,6 +80,7 @@ pub(super) fn show_pages<R: Wait + Clock, J: Naming>(
 #[derive(Drop)]
 struct SitePages<'a, R: Wait + Clock, J: Naming> {
     shower: Shower<'a, R>,
+    ruling: Ruling<'a>,
     window: OwnWindow<J>,
     kept: Option<OwnWatch<J>>,
     /// When the next look may begin, from the beginning of the site.
@@ -84,14 +88,15 @@ struct SitePages<'a, R: Wait + Clock, J: Naming> {
     requests: u64,
     refused_hosts: u64,
     update_us: u64,
-    ghost same_gate: { ForSome kept (λ watch. watch.watch.gate ≡ shower.gate.now) },
+    ghost same_gate: { ForSome kept (λ watch. watch.watch.gate ≡ ruling_gate ruling) },
 }
 
 impl<R: Wait + Clock, J: Naming> Pages for SitePages<'_, R, J> {
+    ghost use Rattle.site_serve.specs.InForce.{ruling_gate};
     ghost use Rattle.site_serve.specs.Pages.{ShowsSite};
 
     ghost pages = { λ old route page new. GoesOn old.window.window new.window.window
-        × ShowsSite old.shower.gate.now new.window.window.seen route page };
+        × ShowsSite (ruling_gate new.ruling) new.window.window.seen route page };
 
     ghost moves = { λ old new. GoesOn old.window.window new.window.window };
 
@@ -115,14 +120,15 @@ impl<R: Wait + Clock, J: Naming> Pages for SitePages<'_, R, J> {
 }
 
 impl<R: Wait + Clock, J: Naming> SitePages<'_, R, J> {
-    /// The page of what the window sees.
+    /// The page of what the window sees, under the gate that is in force now.
     fn show(&mut self, route: &Route, facts: &Facts) -> Result<Page, AllocError>
         ensures later { GoesOn self.old.window.window self.new.window.window }
         ensures page { IfOk result
-            (λ page. ShowsMoment self.old.shower.gate.now facts.now self.new.window.window.seen route.now page) }
+            (λ page. ShowsMoment (ruling_gate self.new.ruling) facts.now self.new.window.window.seen route.now page) }
     {
+        self.ruling.follow(self.shower.rt, &mut self.kept);
         let begun = Instant::now(self.shower.rt);
-        match brought_up(self.shower.gate, &mut self.window, self.kept.take()) {
+        match brought_up(self.ruling.gate(), &mut self.window, self.kept.take()) {
             Ok(watch) => {
                 self.update_us = micros_since(self.shower.rt, begun, self.update_us);
                 self.show_watched(route, facts, watch)
@@ -138,16 +144,16 @@ impl<R: Wait + Clock, J: Naming> SitePages<'_, R, J> {
         facts: &Facts,
         watch: OwnWatch<J>,
     ) -> Result<Page, AllocError>
-        requires { watch.watch.gate ≡ self.old.shower.gate.now }
+        requires { watch.watch.gate ≡ ruling_gate self.old.ruling }
         ensures later { GoesOn self.old.window.window self.new.window.window }
         ensures page { IfOk result
-            (λ page. ShowsMoment self.old.shower.gate.now facts.now self.new.window.window.seen route.now page) }
+            (λ page. ShowsMoment (ruling_gate self.new.ruling) facts.now self.new.window.window.seen route.now page) }
     {
         let mut watch = watch;
         let mut viewing = Viewing {
             alloc: self.shower.alloc,
             route,
-            gate: self.shower.gate,
+            gate: self.ruling.gate(),
             facts,
             page: None,
         };

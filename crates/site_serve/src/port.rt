@@ -4,6 +4,7 @@ ghost use Rattle.std.specs.Prelude.{◌≡◌, IfOk, OnOk, true};
 ghost use Rattle.std.specs.Option.{ForSome};
 ghost use Rattle.replica_core.specs.JournalLaws.{IsPartOf};
 ghost use Rattle.site_port.specs.Ports.{IsLookingFault};
+ghost use Rattle.site_serve.specs.InForce.{ruling_gate};
 ghost use Rattle.site_serve.specs.SitePorts.{HaveStamps, fault_of, stamps_of};
 ghost use Rattle.site_shared.specs.Accounts.{GoesOn};
 ghost use Rattle.site_shared.specs.Publishes.{arrive};
@@ -11,7 +12,7 @@ ghost use Rattle.site_shared.specs.Publishes.{arrive};
 use super::ask::{Answer, Ask, Asker, Place, Wire};
 use super::kept::{brought_up, copied};
 use super::opening::{OwnWatch, OwnWindow};
-use gate_rules::Gate;
+use super::ruling::Ruling;
 use mio::Waker;
 use ready_core::Verdicts;
 use replica_core::{Front, Missing, Replica};
@@ -29,11 +30,11 @@ const ANSWER_LIMIT: usize = 256;
 pub struct SitePort<'a, 'g, R: Wait, J: Naming> {
     rt: &'a R,
     alloc: Global,
-    gate: &'g Gate,
+    ruling: Ruling<'g>,
     window: OwnWindow<J>,
     /// The verdicts of the last report.
     kept: Option<OwnWatch<J>>,
-    ghost under_gate: { ForSome kept (λ watch. watch.watch.gate ≡ gate.now) },
+    ghost under_gate: { ForSome kept (λ watch. watch.watch.gate ≡ ruling_gate ruling) },
 }
 
 impl<'a, 'g, R: Wait, J: Naming> SitePort<'a, 'g, R, J> {
@@ -41,22 +42,29 @@ impl<'a, 'g, R: Wait, J: Naming> SitePort<'a, 'g, R, J> {
     pub fn new(
         rt: &'a R,
         alloc: Global,
-        gate: &'g Gate,
+        ruling: Ruling<'g>,
         window: OwnWindow<J>,
     ) -> SitePort<'a, 'g, R, J> {
         SitePort {
             rt,
             alloc,
-            gate,
+            ruling,
             window,
             kept: None,
         }
     }
 
+    /// Judges under the gate that is in force now, from now on.
+    pub fn follow(&mut self)
+        ensures { self.new.window ≡ self.old.window }
+    {
+        self.ruling.follow(self.rt, &mut self.kept);
+    }
+
     /// Sees no less than a publish from now on. False for a publish of another opening.
     pub fn learn(&mut self, receipt: &BrandedReceipt<J>) -> bool
         ensures later { GoesOn self.old.window.window self.new.window.window }
-        ensures gate { self.new.gate ≡ self.old.gate }
+        ensures gate { self.new.ruling ≡ self.old.ruling }
         ensures learnt { result ≡ true → IsPartOf (arrive receipt.now.published) (arrive self.new.window.window.seen) }
     {
         match self.window.learn(receipt) {
@@ -67,9 +75,10 @@ impl<'a, 'g, R: Wait, J: Naming> SitePort<'a, 'g, R, J> {
 }
 
 impl<'a, 'g, R: Wait, J: Naming> Port for SitePort<'a, 'g, R, J> {
+    ghost use Rattle.site_serve.specs.InForce.{ruling_gate};
     ghost use Rattle.site_serve.specs.SitePorts.{SiteGives};
 
-    ghost gives = { λ old call reply new. SiteGives old.gate.now old.window.window call reply new.window.window };
+    ghost gives = { λ old call reply new. SiteGives (ruling_gate old.ruling) old.window.window call reply new.window.window };
 
     fn intake(&mut self, _draft: Draft) -> Result<Stamp, PortFault> {
         Err(PortFault::Closed)
@@ -83,7 +92,7 @@ impl<'a, 'g, R: Wait, J: Naming> Port for SitePort<'a, 'g, R, J> {
     }
 
     fn report(&mut self) -> Result<Verdicts, PortFault> {
-        let watch = match brought_up(self.gate, &mut self.window, self.kept.take()) {
+        let watch = match brought_up(self.ruling.gate(), &mut self.window, self.kept.take()) {
             Ok(watch) => watch,
             Err(fault) => return Err(window_fault(fault)),
         };

@@ -1,10 +1,11 @@
 //! Runs a site.
 
-ghost use Rattle.std.specs.Prelude.{◌≡◌, ◌∷◌, [], true, All, IsErr, List};
+ghost use Rattle.std.specs.Prelude.{◌≡◌, ◌∷◌, [], true, All, IfOk, IsErr, List};
 ghost use Rattle.std.specs.List.{list_any};
 ghost use Rattle.std.specs.Thread.{IsSend, IsSync};
 ghost use Rattle.review_ops.specs.Operation.{Operation};
 ghost use Rattle.site_serve.specs.Fault.{after_opening};
+ghost use Rattle.site_serve.specs.InForce.{gate_in, ruling_gate};
 ghost use Rattle.site_shared.specs.Accounts.{is_used};
 
 use super::ask::Place;
@@ -21,10 +22,11 @@ use super::news::News;
 use super::opening::{OwnLedger, OwnWindow};
 use super::pages::{Shower, show_pages};
 use super::port::PullPort;
+use super::reloads::{InForce, Reloads};
+use super::ruling::Ruling;
 use super::seats::{Lines, Seats, seated};
 use super::setup::{Doorstep, Prints, ServeFault, Served, Setup, Turn};
 use byte_ends::Drain;
-use gate_rules::Gate;
 use mio::{Poll, Waker};
 use page_server::Door;
 use pull_guard::Guard;
@@ -36,8 +38,8 @@ use site_shared::{Desk, Naming, OpenFault, Window, open_site};
 use std::alloc::{AllocError, Global};
 use std::marker::Brand;
 use std::net::{Net, TcpListener, TcpStream};
-use std::sync::Wait;
 use std::sync::atomic::{AtomicBool, Ordering};
+use std::sync::{Arc, Wait};
 use std::thread::Threads;
 use std::time::{Clock, Duration};
 use std::{io, thread};
@@ -61,7 +63,9 @@ const PULL_PATIENCE_MS: u64 = 10_000;
 #[derive(Drop)]
 struct Common<'a, E: Drain, T: Turn> {
     alloc: Global,
-    gate: Gate,
+    /// The gate that the site begins with, and those that are put in force in its place.
+    first: InForce,
+    reloads: Arc<Reloads, Global>,
     prints: Prints,
     guard: Guard,
     start: u32,
@@ -134,6 +138,7 @@ where
 {
     let Setup {
         gate,
+        reloads,
         replica,
         site,
         start,
@@ -152,15 +157,17 @@ where
     let Ok((poll, listeners)) = polled(rt, alloc, listeners) else {
         return Err(ServeFault::NoPlace);
     };
-    let (Ok(shares), Ok(board)) = (
+    let (Ok(shares), Ok(board), Ok(first)) = (
         shares_of(alloc, peers.len(), pullers),
         Board::new(rt, alloc, peers.len()),
+        InForce::first(alloc, gate),
     ) else {
         return Err(ServeFault::NoMemory);
     };
     let common = Common {
         alloc,
-        gate,
+        first,
+        reloads,
         prints,
         guard: Guard { own: site, sites },
         start,
@@ -306,7 +313,13 @@ where
     T: Turn + Sync,
     K: Keeps,
 {
-    let news = News::new();
+    let (Ok(reloads), Ok(rulings)) = (
+        Arc::try_clone(&common.reloads),
+        rulings_of(&*common, loft.workers),
+    ) else {
+        return Err(ServeFault::NoMemory);
+    };
+    let news = News::new(reloads);
     let Seats {
         reports,
         pages,
@@ -342,6 +355,7 @@ where
         page,
         pullers,
         workers,
+        rulings,
         waker: &waker,
     };
     let ended = run_threads(
@@ -358,7 +372,42 @@ struct Hands<'a, J: Naming> {
     page: Option<Doorstep>,
     pullers: Vec<Place<J>>,
     workers: Vec<Worker<J>>,
+    rulings: Rulings<'a>,
     waker: &'a Waker,
+}
+
+/// What the threads of a site judge under.
+#[derive(Drop)]
+struct Rulings<'a> {
+    reports: Ruling<'a>,
+    pages: Ruling<'a>,
+    workers: Vec<Ruling<'a>>,
+}
+
+/// A ruling for each thread that judges, of so many workers: at first each judges under the gate that the site begins
+/// with.
+fn rulings_of<'a, E: Drain, T: Turn>(
+    common: &'a Common<'_, E, T>,
+    workers: usize,
+) -> Result<Rulings<'a>, AllocError> {
+    let mut rulings = Vec::with_capacity(common.alloc, workers)?;
+    for _ in 0..workers {
+        rulings.push(common.ruling()?)?;
+    }
+    Ok(Rulings {
+        reports: common.ruling()?,
+        pages: common.ruling()?,
+        workers: rulings,
+    })
+}
+
+impl<E: Drain, T: Turn> Common<'_, E, T> {
+    /// A ruling under the gate that the site begins with.
+    fn ruling(&self) -> Result<Ruling<'_>, AllocError>
+        ensures { IfOk result (λ ruling. ruling_gate ruling ≡ gate_in self.now.first) }
+    {
+        Ok(Ruling::new(&self.reloads, self.first.share()?))
+    }
 }
 
 /// How the threads of a site ended.
@@ -398,27 +447,40 @@ where
         page,
         pullers,
         workers,
+        rulings,
         waker,
     } = hands;
     let (door, bell) = parted(page);
+    let Rulings {
+        reports: ruling_of_reports,
+        pages: ruling_of_pages,
+        workers: rulings,
+    } = rulings;
     thread::scope(
         thread::scope_env(),
         rt,
         move |scope| -> Ended<J>
             requires { IsSync R.row × IsSend J.row × IsSync J.row × IsSend W.row × IsSend E.row × IsSync T.row }
         {
-            let reports = scope.spawn(move || print_all(rt, common, news, reports, output));
+            let reports = scope.spawn(move || print_all(
+                rt,
+                common,
+                ruling_of_reports,
+                news,
+                reports,
+                output,
+            ));
             let mut is_refused = false;
             if let Some(door) = door {
-                let shower = scope.spawn(move || show(rt, common, door, pages));
+                let shower = scope.spawn(move || show(rt, common, ruling_of_pages, door, pages));
                 is_refused |= shower.is_err();
             }
             for (peers, place) in shares.into_iter().zip(pullers) {
                 let puller = scope.spawn(move || pull(rt, common, waker, peers, place));
                 is_refused |= puller.is_err();
             }
-            for worker in workers {
-                let worker = scope.spawn(move || work(rt, common, waker, worker));
+            for (worker, ruling) in workers.into_iter().zip(rulings) {
+                let worker = scope.spawn(move || work(rt, common, ruling, waker, worker));
                 is_refused |= worker.is_err();
             }
             if is_refused {
@@ -453,6 +515,7 @@ where
 fn print_all<R: Wait + Clock, W: Drain + Drop, E: Drain, T: Turn, J: Naming>(
     rt: &R,
     common: &Common<'_, E, T>,
+    ruling: Ruling<'_>,
     news: &News<J>,
     window: OwnWindow<J>,
     output: W,
@@ -460,7 +523,7 @@ fn print_all<R: Wait + Clock, W: Drain + Drop, E: Drain, T: Turn, J: Naming>(
     print_reports(
         rt,
         common.alloc,
-        &common.gate,
+        ruling,
         common.prints,
         news,
         window,
@@ -481,6 +544,7 @@ fn parted(page: Option<Doorstep>) -> (Option<(Door, Vec<String>)>, Option<Waker>
 fn show<R, E, T, J>(
     rt: &R,
     common: &Common<'_, E, T>,
+    ruling: Ruling<'_>,
     door: (Door, Vec<String>),
     window: OwnWindow<J>,
 )
@@ -494,14 +558,13 @@ where
     let shower = Shower {
         rt,
         alloc: common.alloc,
-        gate: &common.gate,
         board: &common.board,
         site: common.guard.own,
         start: common.start,
         workers: common.workers,
         peers: common.peers.as_slice(),
     };
-    show_pages(shower, door, hosts.as_slice(), common.stop, window);
+    show_pages(shower, ruling, door, hosts.as_slice(), common.stop, window);
 }
 
 /// Pulls from its share of the peers. It notes whether another process takes in as this site.
@@ -540,7 +603,13 @@ where
 }
 
 /// Looks for sessions.
-fn work<R, E, T, J>(rt: &R, common: &Common<'_, E, T>, waker: &Waker, worker: Worker<J>)
+fn work<R, E, T, J>(
+    rt: &R,
+    common: &Common<'_, E, T>,
+    ruling: Ruling<'_>,
+    waker: &Waker,
+    worker: Worker<J>,
+)
 where
     R: Wait,
     E: Drain,
@@ -549,13 +618,12 @@ where
 {
     let Common {
         alloc,
-        gate,
         board,
         errors,
         turn,
         ..
     } = common;
-    do_jobs(rt, *alloc, gate, worker, waker, board, errors, *turn);
+    do_jobs(rt, *alloc, ruling, worker, waker, board, errors, *turn);
 }
 
 /// Brings the last publish, and has nothing new come any more.

@@ -3,11 +3,14 @@
 ghost use Rattle.std.specs.Prelude.{◌≡◌};
 ghost use Rattle.site_serve.specs.Fault.{name_of, number_of};
 
+use super::reloads::Reloads;
 use gate_rules::Gate;
 use mio::Waker;
 use page_server::Door;
 use replica_core::Replica;
 use site_address::Address;
+use std::alloc::Global;
+use std::sync::Arc;
 use thiserror::Error;
 
 /// What a site prints of its verdicts.
@@ -35,8 +38,10 @@ pub struct Doorstep {
 /// What a site is run with.
 #[derive(Drop)]
 pub struct Setup<'a> {
-    /// What its reports are made under.
+    /// What its reports are made under at first.
     pub gate: Gate,
+    /// The gates that are put in force in its place while the site runs.
+    pub reloads: Arc<Reloads, Global>,
     /// What it has at first.
     pub replica: Replica,
     /// Its number, from 1.

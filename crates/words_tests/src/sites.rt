@@ -30,13 +30,14 @@ fn numbers_of(serving: &ServeWords<'_>) -> (Option<u16>, usize, usize, u64) {
 }
 
 /// After how many sessions the site ends, after how many silent milliseconds a session does, whether the site ends with
-/// its input, and what it prints.
-fn ends_of(serving: &ServeWords<'_>) -> (u64, u64, bool, Printing) {
+/// its input, what it prints, and whether its lines have the time.
+fn ends_of(serving: &ServeWords<'_>) -> (u64, u64, bool, Printing, bool) {
     (
         serving.sessions,
         serving.idle_ms,
         serving.until_input_ends,
         serving.prints,
+        serving.log_time,
     )
 }
 
@@ -77,6 +78,7 @@ fn with_defaults(alloc: Global) -> ServeWords<'static> {
         connections: 1024,
         until_input_ends: false,
         prints: Printing::Report,
+        log_time: false,
         http: None,
         http_hosts: Vec::new(alloc),
         load: None,
@@ -94,7 +96,7 @@ fn options_have_defaults(rt: HostRuntime) -> Result<(), Fail> {
 }
 
 /// Words with each option.
-const ALL: [&str; 45] = [
+const ALL: [&str; 46] = [
     "serve",
     "-",
     "8001",
@@ -140,6 +142,7 @@ const ALL: [&str; 45] = [
     "--journal",
     "c",
     "--until-input-ends",
+    "--log-time",
 ];
 
 /// The site that they ask for.
@@ -165,6 +168,7 @@ fn with_all<'a>(
         connections: 9,
         until_input_ends: true,
         prints: Printing::Changes,
+        log_time: true,
         http: Some(65_535),
         http_hosts,
         load: Some("a"),

@@ -195,8 +195,9 @@ Options:
       --sessions <N>      Ends after so many sessions; 0 means no limit [default: 0]
       --idle <MS>         How long a session may be silent; 0 means no limit [default: 0]
       --connections <N>   How many connections may be open at once, 1 to 65535 [default: 1024]
-      --until-input-ends  Ends in order when standard input ends, or at its line stop
+      --until-input-ends  Ends in order when its input ends, as at a line stop there; at a line reload GATE is read again
       --print <WHAT>      What it prints: report, changes or none [default: report]
+      --log-time          Begins each line on standard error with the time, in UTC
       --http <PORT>       Shows itself to browsers at this port on 127.0.0.1; 0 has the system choose one
       --http-host <NAME>  A host name that browsers may use for it, once for each, beside localhost
       --load <FILE>       The snapshot to begin with

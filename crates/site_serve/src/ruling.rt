@@ -1,0 +1,47 @@
+//! The gate that a thread of a site judges under.
+
+ghost use Rattle.std.specs.Prelude.{◌≡◌};
+ghost use Rattle.std.specs.Option.{ForSome};
+ghost use Rattle.site_serve.specs.InForce.{IsNoOlder, gate_in, ruling_gate};
+
+use super::opening::OwnWatch;
+use super::reloads::{InForce, Reloads};
+use gate_rules::Gate;
+use site_shared::Naming;
+use std::sync::Wait;
+
+/// The gate that a thread judges under: the one that was in force when the thread last asked.
+#[derive(Drop)]
+pub struct Ruling<'a> {
+    reloads: &'a Reloads,
+    in_force: InForce,
+}
+
+impl<'a> Ruling<'a> {
+    /// The gate in force so far, which these reloads take the place of.
+    pub fn new(reloads: &'a Reloads, in_force: InForce) -> Ruling<'a>
+        ensures { ruling_gate result ≡ gate_in in_force }
+    {
+        Ruling { reloads, in_force }
+    }
+
+    /// The gate.
+    pub fn gate(&self) -> &Gate
+        ensures { result.now ≡ ruling_gate self.now }
+    {
+        self.in_force.gate()
+    }
+
+    /// Judges under the gate that is in force now, never under an older one than before. The verdicts that are kept are
+    /// of the gate before it, and are dropped; where no other gate was put in force they stay.
+    pub fn follow<R: Wait, J: Naming>(&mut self, rt: &R, kept: &mut Option<OwnWatch<J>>)
+        requires { ForSome kept.old (λ watch. watch.watch.gate ≡ ruling_gate self.old) }
+        ensures kept { ForSome kept.new (λ watch. watch.watch.gate ≡ ruling_gate self.new) }
+        ensures forward { IsNoOlder self.old.in_force self.new.in_force }
+    {
+        if let Some(newer) = self.reloads.newer_than(rt, self.in_force.number()) {
+            self.in_force = newer;
+            *kept = None;
+        }
+    }
+}

@@ -1,0 +1,25 @@
+//! Lines that begin with the time at which they are written.
+//!
+//! Its tests are in the crate `serve_tests`.
+//!
+//! It is a crate of its own so that what makes lines knows nothing of clocks: `Timed` stands between it and the end
+//! that the lines are written to. The time is written as `jiff` writes it. Not taken: the crate `log`, whose records
+//! have no number, and local time, which two machines read differently.
+//!
+//! An example of its use:
+//!
+//! ```
+//! let moments = SystemMoments::new(rt, true);
+//! let mut timed = Timed::new(moments, Ends::new(Vec::new(alloc)));
+//! write_all(&mut timed, b"reviewgate: serve 1 NoBind\n".as_slice())?;
+//! let written = timed.into_inner().into_inner();
+//! assert!(rt; written.as_slice().ends_with(b"Z reviewgate: serve 1 NoBind\n".as_slice()));
+//! ```
+#![tactic(auto)]
+
+mod moments;
+mod stamp;
+mod timed;
+
+pub use moments::{Moments, SystemMoments};
+pub use timed::Timed;
