@@ -114,7 +114,7 @@ no_ready rows none asked says = says
 
 pub no_why : (rows : List Row) → ((item : ℕ × Option ℕ) → ¬ GivesItem rows item.0 item.1) → (asked : Asked)
     → ¬ ArgumentsSay why rows asked
-no_why rows none (Run (Why gate snapshot change set is_all)) says = none (change, set) says.2
+no_why rows none (Run (Why gate snapshot change set is_all is_json)) says = none (change, set) says.2
 no_why rows none asked says = says
 
 pub no_graph : (rows : List Row) → ((around : Option ℕ) → ¬ GivesAny rows (codes "around") 0 4294967295 around)

@@ -148,9 +148,9 @@ ArgumentsSay ready rows (Run (Ready gate snapshot is_json)) =
 ArgumentsSay ready rows (Run (ReadyItem gate snapshot change set is_json)) =
     HasArgument rows (codes "GATE") gate.now × HasArgument rows (codes "SNAPSHOT") snapshot.now
     × GivesAnyItem rows (Some (change, set)) × AsksForJson rows is_json
-ArgumentsSay why rows (Run (Why gate snapshot change set is_all)) =
+ArgumentsSay why rows (Run (Why gate snapshot change set is_all is_json)) =
     HasArgument rows (codes "GATE") gate.now × HasArgument rows (codes "SNAPSHOT") snapshot.now × GivesItem rows change set
-    × (IsTrue is_all ↔ HasFlag rows (codes "all"))
+    × (IsTrue is_all ↔ HasFlag rows (codes "all")) × AsksForJson rows is_json
 ArgumentsSay graph rows (Run (Graph gate snapshot around)) =
     HasArgument rows (codes "GATE") gate.now × HasArgument rows (codes "SNAPSHOT") snapshot.now
     × GivesAny rows (codes "around") 0 4294967295 around

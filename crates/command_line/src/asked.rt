@@ -44,13 +44,14 @@ pub enum Command<'a> {
         is_json: bool,
     },
     /// To print why an item of a snapshot waits under a gate file: the patch set `set` of the change, or its current
-    /// one; and each condition of the gate where `is_all`.
+    /// one; and each condition of the gate where `is_all`; as JSON where `is_json`.
     Why {
         gate: &'a str,
         snapshot: &'a str,
         change: u32,
         set: Option<u32>,
         is_all: bool,
+        is_json: bool,
     },
     /// To draw the items of a snapshot with what they wait for under a gate file: all of them, or those around a
     /// change.

@@ -34,7 +34,7 @@ pub fn ready_in<'a>(values: &Values<'a>) -> Option<Asked<'a>>
     }
 }
 
-/// `why GATE SNAPSHOT CHANGE[,SET] [--all]`
+/// `why GATE SNAPSHOT CHANGE[,SET] [--all] [--json]`
 pub fn why_in<'a>(values: &Values<'a>) -> Option<Asked<'a>>
     ensures { Finds (ArgumentsSay why (rows_in values.now)) result }
 {
@@ -47,6 +47,7 @@ pub fn why_in<'a>(values: &Values<'a>) -> Option<Asked<'a>>
         change,
         set,
         is_all: values.flag("all"),
+        is_json: values.flag("json"),
     }))
 }
 

@@ -8,6 +8,8 @@ mod footers;
 #[cfg(test)]
 mod json_answers;
 #[cfg(test)]
+mod json_reasons;
+#[cfg(test)]
 mod merges;
 #[cfg(test)]
 mod one_file;

@@ -14,13 +14,15 @@ ready_app =
     (option_rule (codes "item")))
     (flag_rule (codes "json"))
 
--- `why GATE SNAPSHOT CHANGE[,SET] [--all]`
+-- `why GATE SNAPSHOT CHANGE[,SET] [--all] [--json]`
 abbrev pub why_app : App
 why_app =
     with_rule
+    (with_rule
     (with_rule (with_rule (with_rule (new_app (codes "why")) (needed (codes "GATE"))) (needed (codes "SNAPSHOT")))
     (needed (codes "CHANGE[,SET]")))
-    (flag_rule (codes "all"))
+    (flag_rule (codes "all")))
+    (flag_rule (codes "json"))
 
 -- `graph GATE SNAPSHOT [--around CHANGE]`
 abbrev pub graph_app : App

@@ -109,7 +109,7 @@ fn ready_command<'a>(alloc: Global) -> Building<'a>
     .with(json_flag(alloc))
 }
 
-/// `why GATE SNAPSHOT CHANGE[,SET] [--all]`
+/// `why GATE SNAPSHOT CHANGE[,SET] [--all] [--json]`
 fn why_command<'a>(alloc: Global) -> Building<'a>
     ensures { Builds why_app result }
 {
@@ -128,6 +128,7 @@ fn why_command<'a>(alloc: Global) -> Building<'a>
         .with(file(alloc, "SNAPSHOT", SNAPSHOT_HELP))
         .with(item)
         .with(all)
+        .with(json_flag(alloc))
 }
 
 /// `graph GATE SNAPSHOT [--around CHANGE]`

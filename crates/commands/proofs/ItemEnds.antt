@@ -1,10 +1,6 @@
 -- How the command ends that is asked for one item.
-use Rattle.std.proofs.Common.{◌≡◌, ◌⊎◌, inl, inr, ℕ, Bool, true, false, List, [], Option, Ok, Err, refl, sym, subst}
-use Rattle.std.proofs.Common.{◌∙◌, ◌<◌, ◌≤◌, ◌++◌, arith, ap, get_or, length}
-use Rattle.std.specs.Prelude.{◌==◌, ◌&&◌, Contains}
-use Rattle.std.specs.List.{list_any}
-use Rattle.std.proofs.lemmas.Bool.{eq-eqb, eqb-true, false≢true}
-use Rattle.std.proofs.lemmas.List.Folds.{Any-from_list_any}
+use Rattle.std.proofs.Common.{◌≡◌, ◌⊎◌, inl, inr, ℕ, Bool, false, List, [], Option, Ok, Err, refl, sym, subst}
+use Rattle.std.proofs.Common.{◌∙◌, ap, get_or}
 use Rattle.std.proofs.lemmas.Option.{get_or_from_slice_get}
 use Rattle.lattice_core.specs.PlaceLaws.{Contains-at}
 use Rattle.gate_rules.specs.Rules.{GateRules}
@@ -59,32 +55,6 @@ module _ (change : ℕ) (set : Option ℕ) (is_json : Bool) (rules : GateRules) 
       subst (λ (r : Refusal). IsItemPrinted change set is_json rules state [] (Err r)) (sym memory) (refl, refl)
 
 -- ---- how an item stands
-
-both_hold : (p q : Bool) → p ≡ true → q ≡ true → (p && q) ≡ true
-both_hold true q p r = r
-both_hold false q p r = p
-
-both_true : (p q : Bool) → (p && q) ≡ true → (p ≡ true) × (q ≡ true)
-both_true true q e = (refl, e)
-both_true false q e = absurd (false≢true e)
-
-pub not_ready : (ready : List Item) (item : Item) → ((k : ℕ) (d : Item) → 0 ≤ k → k < length ready
-    → ((get_or ready k d).change == item.change) && ((get_or ready k d).set == item.set) ≡ false) → ¬ Contains ready item
-not_ready ready item none has =
-    let test : Item → Bool = λ other. (other.change == item.change) && (other.set == item.set) in
-    let itself : test item ≡ true = both_hold (item.change == item.change) (item.set == item.set) (eq-eqb item.change item.change refl) (eq-eqb item.set item.set refl) in
-    false≢true (sym (subst (λ (i : Item). test i ≡ false) has.2 (none has.0 item (omega arith) has.1)) ∙ itself)
-
-pub ready_found : (ready : List Item) (item : Item)
-    → list_any (λ other. (other.change == item.change) && (other.set == item.set)) ready ≡ true → Contains ready item
-ready_found ready item any =
-    let test : Item → Bool = λ other. (other.change == item.change) && (other.set == item.set) in
-    let there = Any-from_list_any test ready any in
-    let both = both_true (there.1.change == item.change) (there.1.set == item.set) there.4 in
-    let change : there.1.change ≡ item.change = eqb-true there.1.change item.change both.0 in
-    let set : there.1.set ≡ item.set = eqb-true there.1.set item.set both.1 in
-    let same : there.1 ≡ item = ap (λ n. record { change = n; set = there.1.set }) change ∙ ap (λ n. record { change = item.change; set = n }) set in
-    subst (Contains ready) same (there.0, there.2, there.3)
 
 pub out_written : (is_json : Bool) (out : List Left) (item : Item) (place : ℕ) (d : Left) (line : List ℕ)
     → IsOutAt out item place → line ≡ out_as is_json (get_or out place d) → IsLeftSo is_json out item false line

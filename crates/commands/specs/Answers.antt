@@ -18,6 +18,7 @@ use Rattle.state_core.specs.declared.item.Item.{Item}
 use Rattle.json.specs.Token.{Token}
 use Rattle.json_line.specs.Tokens.{json_line, numbers_listed, object_of, texts_listed}
 use Rattle.report_json.specs.Report.{out_item_tokens, ready_item_tokens, report_tokens}
+use Rattle.report_json.specs.Why.{IsWhyLine}
 use Rattle.report_text.specs.Report.{out_line, ready_line, report_of}
 use Rattle.byte_ends.specs.Lines.{as_line}
 use Rattle.snapshot_text.specs.Snapshot.{SaysOperations, snapshot_text}
@@ -136,15 +137,25 @@ abbrev pub TellsMore : Bool → List ℕ → GateRules → State → Item → Li
 TellsMore false gate rules state item more = more ≡ []
 TellsMore true gate rules state item more = TellsConditions gate rules state item more
 
-abbrev pub IsReasonFor : List ℕ → Bool → GateRules → State → Item → List ℕ → Type 0
-IsReasonFor gate is_all rules state item answer =
-    (verdicts : Judged) × (reason more : List ℕ) × AreVerdicts rules state verdicts
-    × IsWhy gate rules state verdicts item reason × TellsMore is_all gate rules state item more
+abbrev pub IsReasonText : List ℕ → Bool → GateRules → State → Judged → Item → List ℕ → Type 0
+IsReasonText gate is_all rules state verdicts item answer =
+    (reason more : List ℕ) × IsWhy gate rules state verdicts item reason × TellsMore is_all gate rules state item more
     × (answer ≡ reason ++ more)
 
-abbrev pub IsReason : List ℕ → ℕ → Option ℕ → Bool → GateRules → State → List ℕ → Type 0
-IsReason gate change set is_all rules state answer =
-    (item : Item) × IsItemAsked state change set item × IsReasonFor gate is_all rules state item answer
+-- the reason as lines, or as JSON where that is asked for
+abbrev pub IsReasonAs : Bool → List ℕ → Bool → GateRules → State → Judged → Item → List ℕ → Type 0
+IsReasonAs true gate is_all rules state verdicts item answer = IsWhyLine is_all gate rules state verdicts item answer
+IsReasonAs false gate is_all rules state verdicts item answer =
+    IsReasonText gate is_all rules state verdicts item answer
+
+abbrev pub IsReasonFor : List ℕ → Bool → Bool → GateRules → State → Item → List ℕ → Type 0
+IsReasonFor gate is_all is_json rules state item answer =
+    (verdicts : Judged) × AreVerdicts rules state verdicts
+    × IsReasonAs is_json gate is_all rules state verdicts item answer
+
+abbrev pub IsReason : List ℕ → ℕ → Option ℕ → Bool → Bool → GateRules → State → List ℕ → Type 0
+IsReason gate change set is_all is_json rules state answer =
+    (item : Item) × IsItemAsked state change set item × IsReasonFor gate is_all is_json rules state item answer
 
 -- ---- `graph`: the items and what they wait for, around a change of which a patch set is known, where one is named
 

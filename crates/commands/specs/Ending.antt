@@ -19,7 +19,7 @@ inputs_of (Ready gate snapshot is_json) = input gate_file gate.now ∷ record_in
 inputs_of (ReadyItem gate snapshot change set is_json) = input gate_file gate.now ∷ record_input snapshot.now ∷ []
 inputs_of (Merge first second) = record_input first.now ∷ record_input second.now ∷ []
 inputs_of (Footers gate message change is_json) = input gate_file gate.now ∷ input message_file message.now ∷ []
-inputs_of (Why gate snapshot change set is_all) = input gate_file gate.now ∷ record_input snapshot.now ∷ []
+inputs_of (Why gate snapshot change set is_all is_json) = input gate_file gate.now ∷ record_input snapshot.now ∷ []
 inputs_of (Graph gate snapshot around) = input gate_file gate.now ∷ record_input snapshot.now ∷ []
 inputs_of (Check gate None is_strict is_json) = input gate_file gate.now ∷ []
 inputs_of (Check gate (Some snapshot) is_strict is_json) =
@@ -35,8 +35,8 @@ IsAnswer (ReadyItem gate snapshot change set is_json) (one ∷ other ∷ []) ans
 IsAnswer (Merge first second) (one ∷ other ∷ []) answer ended = IsWhole (IsMergedText one other) MissesNone answer ended
 IsAnswer (Footers gate message change is_json) (one ∷ other ∷ []) answer ended =
     IsWhole (AreFooterLines one other change is_json) MissesNone answer ended
-IsAnswer (Why gate snapshot change set is_all) (one ∷ other ∷ []) answer ended =
-    IsWhole (IsOf one other (IsReason one change set is_all)) (Misses (IsItemText change set) other (HasItem change set))
+IsAnswer (Why gate snapshot change set is_all is_json) (one ∷ other ∷ []) answer ended =
+    IsWhole (IsOf one other (IsReason one change set is_all is_json)) (Misses (IsItemText change set) other (HasItem change set))
     answer ended
 IsAnswer (Graph gate snapshot around) (one ∷ other ∷ []) answer ended =
     IsWhole (IsOf one other (IsPicture around)) (Misses (IsAround around) other (HasAround around)) answer ended

@@ -109,7 +109,10 @@ fn do_command<'n, C: Console>(
             change,
             set,
             is_all,
-        } => why(alloc, gate, snapshot, *change, *set, *is_all, console),
+            is_json,
+        } => why(
+            alloc, gate, snapshot, *change, *set, *is_all, *is_json, console,
+        ),
         Command::Graph {
             gate,
             snapshot,

@@ -8,7 +8,7 @@ use Rattle.std.proofs.lemmas.List.Elements.{Contains-append_cases}
 use Rattle.state_core.specs.declared.item.Item.{Item}
 use Rattle.report_changes.specs.Listing.{same_item}
 use Rattle.enqueue_lines.specs.Groups.{Held, StaysReady, fresh, handed_over, has, holding}
-use Rattle.enqueue_lines.proofs.Members.{finds, same_itself}
+use Rattle.report_changes.specs.Searching.{finds, same_itself}
 
 is_had : (items : List Item) (item : Item) → Contains items item → has items item ≡ true
 is_had items item there = finds (same_item item) items item there (same_itself item)

@@ -2,7 +2,7 @@
 
 use super::record::{patch_set, take};
 use gate_rules::Gate;
-use graph_core::Graph;
+use graph_core::{Graph, names_of};
 use review_ops::Draft;
 use state_core::{Item, State};
 use std::alloc::Global;
@@ -124,6 +124,24 @@ fn by_item(rt: HostRuntime) -> Result<(), Fail> {
     let item = items[1];
     assert_eq!(rt; graph.targets(item), [1, 3].as_slice());
     assert!(rt; graph.on_cycle(item));
+    Ok(())
+}
+
+/// What an item names in a record in which 2,1 needs 1 and 7, which is merged, and is based on 4.
+fn named(alloc: Global, item: Item) -> Result<Vec<u32>, Fail> {
+    let gate = Gate::read(alloc, GATE.as_bytes())?;
+    let steps = [PatchSet(2, 1, &[7, 1], Some(4)), Merged(7)];
+    let state = state_of(alloc, &steps)?;
+    Ok(names_of(alloc, &gate, &state, item)?)
+}
+
+// Merged changes are named, too, and an item that isn't known names none.
+#[test]
+fn merged_changes_are_named(rt: HostRuntime) -> Result<(), Fail> {
+    let names = named(rt.alloc(), Item { change: 2, set: 1 })?;
+    assert_eq!(rt; names.as_slice(), [1, 7, 4].as_slice());
+    let names = named(rt.alloc(), Item { change: 2, set: 9 })?;
+    assert!(rt; names.is_empty());
     Ok(())
 }
 

@@ -4,13 +4,9 @@ use Rattle.std.proofs.Common.{eqb, refl, sym, subst, inl, inr}
 use Rattle.std.specs.FinMap as finite
 use Rattle.std.specs.Ordering.{nat_cmp}
 use Rattle.std.specs.List.Retain.{IsFiltered, DiffersFromLast}
-use Rattle.std.specs.List.Sorted.{IsPermutation, IsSorted, IsStrictlyIncreasing}
+use Rattle.std.specs.List.Sorted.{IsPermutation, IsSorted}
 use Rattle.std.proofs.lemmas.Bool.{false≢true}
-use Rattle.std.proofs.lemmas.List.Filters.{dedup_is}
-use Rattle.std.proofs.lemmas.List.Kept.{Contains-dedup_nat, Contains-from_dedup}
-use Rattle.std.proofs.lemmas.List.Sorted.{Contains-permutation, IsPermutation-sym}
 use Rattle.std.proofs.lemmas.List.Elements.{Contains-push, Contains-push_cases, Contains-append_left}
-use Rattle.std.proofs.lemmas.Map.Keys.{IsStrictlyIncreasing-dedup}
 use Rattle.change_core.specs.Change.{Change}
 use Rattle.change_core.specs.Views.{message_of, parent_of}
 use Rattle.footer_text.specs.Footers.{AreFooters, MessageNeeds}
@@ -19,6 +15,7 @@ use Rattle.state_core.specs.declared.item.Item.{Item}
 use Rattle.state_core.specs.State.{State}
 use Rattle.graph_core.specs.Dependencies.{IsNeeded, IsParent, Names}
 use Rattle.graph_core.specs.ItemGraph.{AreTargets}
+use Rattle.graph_core.specs.Once.{once_each}
 use Rattle.lattice_core.specs.MemberLaws.{Contains-of_filter, Contains-to_filter}
 use Rattle.state_core.specs.Known.{merged_in}
 use Rattle.state_core.specs.KnownLaws.{merged_test}
@@ -92,19 +89,16 @@ pub settled : (gate : GateRules) (state : State) (item : Item) (names kept sorte
     → IsPermutation kept sorted → IsSorted nat_cmp sorted → IsFiltered (DiffersFromLast eqb) [] sorted once
     → AreTargets gate state item once
 settled gate state item names kept sorted once named kept_is moved in_order filtered =
-    let is = dedup_is eqb sorted once filtered in
+    let is = once_each kept sorted once moved in_order filtered in
     record {
-      increasing = subst IsStrictlyIncreasing (sym is) (IsStrictlyIncreasing-dedup sorted in_order);
+      increasing = is.increasing;
       each = λ n. (
         λ c.
-            let in_kept = Contains-permutation sorted kept n (IsPermutation-sym kept sorted moved) (Contains-from_dedup eqb sorted n (subst (λ l. Contains l n) is c)) in
-            let passed = Contains-of_filter (is_open_in state) names n (subst (λ l. Contains l n) kept_is in_kept) in
+            let passed = Contains-of_filter (is_open_in state) names n (subst (λ l. Contains l n) kept_is ((is.each n).0 c)) in
             ((named n).0 passed.0, λ merged. stayed (merged_in (finite.get state n)) passed.1 ((merged_test state n).1 merged)),
         λ target.
             let in_names = (named n).1 target.0 in
             let unmerged = stays (merged_in (finite.get state n)) (λ e. target.1 ((merged_test state n).0 e)) in
-            let in_kept = subst (λ l. Contains l n) (sym kept_is) (Contains-to_filter (is_open_in state) names n in_names unmerged) in
-            subst (λ l. Contains l n) (sym is)
-            (Contains-dedup_nat sorted n (Contains-permutation kept sorted n moved in_kept)),
+            (is.each n).1 (subst (λ l. Contains l n) (sym kept_is) (Contains-to_filter (is_open_in state) names n in_names unmerged)),
       );
     }

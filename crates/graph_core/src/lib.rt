@@ -33,3 +33,4 @@ mod targets;
 pub use graph::Graph;
 pub use items::{add_items, items_of};
 pub use part::part_with;
+pub use targets::names_of;

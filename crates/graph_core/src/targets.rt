@@ -30,14 +30,19 @@ fn other_parent(change: &ChangeState, item: Item) -> Option<u32>
     Some(parent)
 }
 
-/// The changes that an item names, in no order.
-fn names_of(alloc: Global, gate: &Gate, state: &State, item: Item) -> Result<Vec<u32>, NoMemory>
-    requires { IsItem state.now item }
+/// The changes that an item names, merged or not, in no order, maybe more than once: by a footer of its message, or as
+/// the change of its Git parent; none of an item that isn't known. It costs O(n) for each base of the gate and a message of
+/// n bytes.
+pub fn names_of(alloc: Global, gate: &Gate, state: &State, item: Item) -> Result<Vec<u32>, NoMemory>
     ensures { IfOk result (λ names. (number : ℕ)
         → Contains names.items number ↔ Names gate.now state.now item number) }
 {
-    let change = state.change(item.change).unwrap();
-    let message = change.message(item.set).unwrap();
+    let Some(change) = state.change(item.change) else {
+        return Ok(Vec::new(alloc));
+    };
+    let Some(message) = change.message(item.set) else {
+        return Ok(Vec::new(alloc));
+    };
     let Footers {
         needs: mut names,
         ignored: _,

@@ -1,11 +1,12 @@
 -- Tokens that are added one after another.
-use Rattle.std.specs.Prelude.{◌≡◌, ℕ, List, [], ◌∷◌, ◌++◌, ◌<◌, ◌+◌, decimal, flat_map, length, take}
+use Rattle.std.specs.Fmt.{signed_decimal}
+use Rattle.std.specs.Prelude.{◌≡◌, ℕ, ℤ, List, [], ◌∷◌, ◌++◌, ◌<◌, ◌+◌, decimal, flat_map, length, take}
 use Rattle.std.proofs.Common.{◌∙◌, get_or, ap, sym, subst, append_assoc, append-nil}
 use Rattle.std.proofs.lemmas.List.{take_more}
 use Rattle.std.proofs.lemmas.List.Concat.{flat_map-append}
 use Rattle.json.specs.Token.{Token, key, number, string}
 use Rattle.json.specs.Written.{Written}
-use Rattle.json_line.specs.Tokens.{Adds, json_line, numbered, worded}
+use Rattle.json_line.specs.Tokens.{Adds, json_line, numbered, signed, worded}
 
 pub adds_then : {a b c : Written} {xs ys : List Token} → Adds a b xs → Adds b c ys → Adds a c (xs ++ ys)
 adds_then {a} {b} {c} {xs} {ys} p q = record {
@@ -20,14 +21,21 @@ adds_same {a} {b} p e = subst (Adds a b) e p
 pub counted : {a b : Written} {name : List ℕ} {n m : ℕ} → Adds a b (numbered name n) → n ≡ m → Adds a b (numbered name m)
 counted {a} {b} {name} p e = subst (λ n. Adds a b (key name ∷ number (decimal n) ∷ [])) e p
 
+pub signed_so : {a b : Written} {name : List ℕ} {n m : ℤ} → Adds a b (signed name n) → n ≡ m → Adds a b (signed name m)
+signed_so {a} {b} {name} p e = subst (λ n. Adds a b (key name ∷ number (signed_decimal n) ∷ [])) e p
+
 pub texted : {a b : Written} {name text other : List ℕ} → Adds a b (worded name text) → text ≡ other
     → Adds a b (worded name other)
 texted {a} {b} {name} p e = subst (λ t. Adds a b (key name ∷ string t ∷ [])) e p
 
+-- what a writer has that began with nothing
+pub all_written : {a b : Written} {xs : List Token} → a.tokens ≡ [] → Adds a b xs → b.tokens ≡ xs
+all_written {a} {b} {xs} tokens p = p.tokens ∙ ap (λ l. l ++ xs) tokens
+
 -- the line of a writer that began with nothing
 pub finished : {a b : Written} {xs : List Token} {line : List ℕ} → a.tokens ≡ [] → Adds a b xs
     → line ≡ json_line b.tokens → line ≡ json_line xs
-finished {a} {b} {xs} tokens p is = is ∙ ap json_line (p.tokens ∙ ap (λ l. l ++ xs) tokens)
+finished tokens p is = is ∙ ap json_line (all_written tokens p)
 
 pub begun : {a b : Written} {xs : List Token} → a.before ≡ [] → Adds a b xs → b.before ≡ []
 begun before p = p.before ∙ before

@@ -1,8 +1,10 @@
 -- What is written of a JSON text, as its tokens (RFC 8259), and the line that it is.
-use Rattle.std.specs.Prelude.{◌≡◌, ℕ, List, [], ◌∷◌, ◌++◌, Bool, decimal, flat_map}
+use Rattle.std.specs.Fmt.{signed_decimal}
+use Rattle.std.specs.Prelude.{◌≡◌, ℕ, ℤ, List, [], ◌∷◌, ◌++◌, Bool, Option, None, Some, decimal, flat_map}
 use Rattle.byte_ends.specs.Lines.{as_line}
+use Rattle.json.specs.Lex.{tokens}
 use Rattle.json.specs.Print.{print}
-use Rattle.json.specs.Token.{Token, begin_array, begin_object, boolean, end_array, end_object, key, number, string}
+use Rattle.json.specs.Token.{Token, begin_array, begin_object, boolean, end_array, end_object, key, null, number, string}
 use Rattle.json.specs.Written.{Written}
 
 -- just these tokens are added
@@ -40,6 +42,22 @@ numbers_listed name values = listed name (flat_map number_item values)
 -- an object of these members
 abbrev pub object_of : List Token → List Token
 object_of members = begin_object ∷ [] ++ (members ++ end_object ∷ [])
+
+-- a number that may have a sign under a key
+abbrev pub signed : List ℕ → ℤ → List Token
+signed name value = key name ∷ number (signed_decimal value) ∷ []
+
+-- a number, or `null` where there is none
+abbrev pub number_if : Option ℕ → Token
+number_if None = null
+number_if (Some value) = number (decimal value)
+
+abbrev pub optional : List ℕ → Option ℕ → List Token
+optional name value = key name ∷ number_if value ∷ []
+
+-- a JSON reader finds these tokens in their text
+abbrev pub AreReadBack : List Token → Type 0
+AreReadBack written = tokens (print written) ≡ written
 
 -- the text of tokens as a line, with its LF
 abbrev pub json_line : List Token → List ℕ

@@ -18,8 +18,11 @@
 
 mod lists;
 mod members;
+mod nested;
 
 pub use lists::{put_numbers, put_texts, put_words};
 pub use members::{
-    close_list, close_object, line_of, open_list, open_object, put_flag, put_number, put_text,
+    close_list, close_object, line_of, open_list, open_member, open_object, put_flag, put_null,
+    put_number, put_option, put_signed, put_text,
 };
+pub use nested::put_json;

@@ -6,7 +6,6 @@ mod OutSteps
 mod HeldSteps
 mod Adding
 mod LabelSteps
-mod NamedChanges
 mod ReachedSteps
 mod WaitingSteps
 mod Counting

@@ -12,7 +12,7 @@ use Rattle.page_routes.specs.declared.route.Choice.{Choice}
 use Rattle.page_routes.specs.declared.route.Shown.TheVariants.{All}
 use Rattle.page_text.specs.declared.rows.Row.{Row}
 use Rattle.page_text.specs.declared.rows.Row.TheVariants.{Enters, Waits}
-use Rattle.page_text.specs.Rows.{all_rows, chosen_rows, entering, has_reason, has_words, is_asked, is_shown, item_of, report_line, rows_on, rows_to}
+use Rattle.page_text.specs.Rows.{all_rows, chosen_rows, entering, has_reason, has_words, is_asked, is_shown, row_item, row_line, rows_on, rows_to}
 
 no_rows : {X : Type 0} (rows : List X) → [] ≡ take (100 * 0) rows
 no_rows [] = refl
@@ -36,10 +36,10 @@ asked_all : (state : State) (choice : Choice) → choice.shown ≡ All → choic
     → (row : Row) → is_asked state choice row ≡ true
 asked_all state choice shown reason words row =
     ap (λ s. is_shown s row && has_reason choice.reason row
-    && has_words state (option_map string_bytes choice.words) (item_of row)) shown
+    && has_words state (option_map string_bytes choice.words) (row_item row)) shown
     ∙ ap (λ r. is_shown All row && has_reason r row
-    && has_words state (option_map string_bytes choice.words) (item_of row)) reason
-    ∙ ap (λ w. is_shown All row && true && has_words state (option_map string_bytes w) (item_of row)) words
+    && has_words state (option_map string_bytes choice.words) (row_item row)) reason
+    ∙ ap (λ w. is_shown All row && true && has_words state (option_map string_bytes w) (row_item row)) words
     ∙ ap (λ b. b && true && true) (shown_all row)
 
 kept : {X : Type 0} (test : X → Bool) → ((x : X) → test x ≡ true) → (xs : List X) → filter test xs ≡ xs
@@ -47,18 +47,18 @@ kept test passes [] = refl
 kept test passes (x ∷ xs) =
     ap (λ b. if b then x ∷ filter test xs else filter test xs) (passes x) ∙ ap (λ l. x ∷ l) (kept test passes xs)
 
-ready_lines : (place : ℕ) (items : List Item) → flat_map report_line (entering place items) ≡ flat_map ready_line items
+ready_lines : (place : ℕ) (items : List Item) → flat_map row_line (entering place items) ≡ flat_map ready_line items
 ready_lines place [] = refl
 ready_lines place (item ∷ items) = ap (λ l. ready_line item ++ l) (ready_lines (suc place) items)
 
 pub all_are_the_report : (state : State) (choice : Choice) (verdicts : Judged) → choice.shown ≡ All
     → choice.reason ≡ None → choice.words ≡ None
-    → flat_map report_line (chosen_rows state choice verdicts) ++ end_line (length verdicts.ready) (length verdicts.out)
+    → flat_map row_line (chosen_rows state choice verdicts) ++ end_line (length verdicts.ready) (length verdicts.out)
     ≡ report_of verdicts
 all_are_the_report state choice verdicts shown reason words =
-    ap (λ l. flat_map report_line l ++ end_line (length verdicts.ready) (length verdicts.out))
+    ap (λ l. flat_map row_line l ++ end_line (length verdicts.ready) (length verdicts.out))
     (kept (is_asked state choice) (asked_all state choice shown reason words) (all_rows verdicts))
     ∙ ap (λ l. l ++ end_line (length verdicts.ready) (length verdicts.out))
-    (flat_map-append report_line (entering 1 verdicts.ready) (map Waits verdicts.out)
-    ∙ ap (λ l. l ++ flat_map report_line (map Waits verdicts.out)) (ready_lines 1 verdicts.ready)
-    ∙ ap (λ l. flat_map ready_line verdicts.ready ++ l) (flat_map-map report_line Waits verdicts.out))
+    (flat_map-append row_line (entering 1 verdicts.ready) (map Waits verdicts.out)
+    ∙ ap (λ l. l ++ flat_map row_line (map Waits verdicts.out)) (ready_lines 1 verdicts.ready)
+    ∙ ap (λ l. flat_map ready_line verdicts.ready ++ l) (flat_map-map row_line Waits verdicts.out))

@@ -4,15 +4,15 @@ use Rattle.std.proofs.lemmas.List.{take_more}
 use Rattle.state_core.specs.State.{State}
 use Rattle.page_text.specs.declared.rows.Row.{Row}
 use Rattle.page_text.specs.Table.{AddsRow, AddsRows, AreRows, about_html, front_html, place_html}
-use Rattle.page_text.specs.Rows.{item_of}
+use Rattle.page_text.specs.Rows.{row_item}
 use Rattle.page_text.proofs.Adding.{then2}
 
 -- a row that was added in three parts
 pub row_added : (state : State) (row : Row) (a b c d more : List ℕ) → b ≡ a ++ place_html row
-    → c ≡ b ++ about_html state (item_of row) → d ≡ c ++ more → AddsRow state row a d
+    → c ≡ b ++ about_html state (row_item row) → d ≡ c ++ more → AddsRow state row a d
 row_added state row a b c d more p q r = record {
   more = more;
-  is = then2 a c d (front_html state row) more (then2 a b c (place_html row) (about_html state (item_of row)) p q) r;
+  is = then2 a c d (front_html state row) more (then2 a b c (place_html row) (about_html state (row_item row)) p q) r;
 }
 
 are_more : (state : State) (rows : List Row) (row : Row) (html more : List ℕ) → AreRows state rows html

@@ -5,7 +5,7 @@ use Rattle.json.specs.Print.{print}
 use Rattle.json.specs.Token.{end_object}
 use Rattle.json.specs.Written.{Written}
 use Rattle.state_core.specs.declared.item.Item.{Item}
-use Rattle.page_text.specs.Tokens.{Adds}
+use Rattle.json_line.specs.Tokens.{Adds}
 use Rattle.page_text.specs.Titles.{IsTitled}
 use Rattle.page_text.specs.Waiting.{HasWaiting, waiting_tokens}
 

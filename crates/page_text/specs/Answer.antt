@@ -19,6 +19,7 @@ use Rattle.page_text.specs.Items.{items_tokens}
 use Rattle.page_text.specs.Metrics.{metrics_of}
 use Rattle.page_text.specs.Problem.{problem_tokens}
 use Rattle.page_text.specs.Rows.{chosen_rows, rows_on}
+use Rattle.page_text.specs.Site.{site_tokens}
 use Rattle.page_text.specs.Table.{HasRows}
 use Rattle.page_text.specs.Titles.{IsTitled, item_title}
 use Rattle.page_text.specs.Waiting.{HasWaiting, waiting_for}
@@ -34,7 +35,7 @@ pub record IsText (status : Status) (kind : Kind) (text : List ℕ) (page : Page
   pub text_is : page.body.items ≡ text
 
 -- the page for people with a table of these rows
-pub record IsList (state : State) (rows : List Row) (page : Page) : Type 0 where
+pub record IsListPage (state : State) (rows : List Row) (page : Page) : Type 0 where
   pub is : IsPage Found kind.Html page
   pub rows_are : HasRows state rows page.body.items
 
@@ -66,10 +67,11 @@ event_text ready out operations =
 -- the answer under a gate, to a record of so many operations with this state and these verdicts
 abbrev pub IsAnswer : GateRules → State → ℕ → Judged → Facts → Route → Page → Type 0
 IsAnswer gate state operations verdicts facts (route.List choice) page =
-    IsList state (rows_on choice.page (chosen_rows state choice verdicts)) page
+    IsListPage state (rows_on choice.page (chosen_rows state choice verdicts)) page
 IsAnswer gate state operations verdicts facts (route.Change place) page =
     IsOfItem state place (IsItemPage state) (IsPage NotFound kind.Html) page
-IsAnswer gate state operations verdicts facts route.Status page = IsPage Found kind.Json page
+IsAnswer gate state operations verdicts facts route.Status page =
+    IsText Found kind.Json (print (site_tokens operations verdicts facts)) page
 IsAnswer gate state operations verdicts facts (route.Items choice) page =
     IsText Found kind.Json (print (items_tokens state choice.page (chosen_rows state choice verdicts))) page
 IsAnswer gate state operations verdicts facts (route.ChangeData place) page =

@@ -4,17 +4,11 @@ use Rattle.gate_rules.specs.Words.{side_name}
 use Rattle.gate_rules.specs.declared.condition.Clause.{Clause}
 use Rattle.gate_rules.specs.declared.condition.Clause.TheVariants as clause
 use Rattle.gate_rules.specs.declared.condition.Condition.{Condition}
-use Rattle.gate_rules.specs.declared.condition.Side.{Side}
-use Rattle.gate_rules.specs.declared.condition.Side.TheVariants.{Require, Reject}
 use Rattle.ready_core.specs.declared.verdicts.Refusal.{Refusal}
 use Rattle.ready_core.specs.declared.verdicts.Refusal.TheVariants as refusal
+use Rattle.report_changes.specs.Listing.{same_side}
 use Rattle.page_text.specs.declared.held.Held.{Held}
 use Rattle.page_text.specs.declared.held.Held.TheVariants.{Approval, Cycle, Unknown, Dependency}
-
-abbrev pub same_side : Side → Side → Bool
-same_side Require Require = true
-same_side Reject Reject = true
-same_side _ _ = false
 
 -- the clause is the approval of this number
 abbrev pub is_approval : ℕ → Clause → Bool

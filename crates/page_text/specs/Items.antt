@@ -1,6 +1,7 @@
 -- A list of items as JSON, by its tokens. The keys are the project's own.
-use Rattle.std.specs.Prelude.{ℕ, List, [], ◌∷◌, ◌++◌, codes, decimal, flat_map, length, true, false}
-use Rattle.json.specs.Token.{Token, begin_array, begin_object, boolean, end_array, end_object, key, number, string}
+use Rattle.std.specs.Prelude.{ℕ, List, [], ◌∷◌, ◌++◌, codes, flat_map, length, true, false}
+use Rattle.json.specs.Token.{Token, begin_array, begin_object, boolean, end_array, end_object, key}
+use Rattle.json_line.specs.Tokens.{numbered, worded}
 use Rattle.state_core.specs.State.{State}
 use Rattle.state_core.specs.declared.item.Item.{Item}
 use Rattle.ready_core.specs.Words.{refusal_text}
@@ -8,13 +9,6 @@ use Rattle.page_text.specs.declared.rows.Row.{Row}
 use Rattle.page_text.specs.declared.rows.Row.TheVariants.{Enters, Waits}
 use Rattle.page_text.specs.Rows.{rows_on}
 use Rattle.page_text.specs.Subject.{subject_of}
-
--- a number under a key, and a text
-abbrev pub numbered : List ℕ → ℕ → List Token
-numbered name value = key name ∷ number (decimal value) ∷ []
-
-abbrev pub worded : List ℕ → List ℕ → List Token
-worded name value = key name ∷ string value ∷ []
 
 -- what is said of each item: {"change":101,"set":2,"subject":"Fix"
 abbrev pub about_tokens : State → Item → List Token

@@ -4,7 +4,6 @@ pub mod Rows
 pub mod Names
 pub mod Walk
 pub mod Reached
-pub mod Tokens
 pub mod Items
 pub mod Waiting
 pub mod Problem
@@ -16,3 +15,4 @@ pub mod Metrics
 pub mod Table
 pub mod Titles
 pub mod Answer
+pub mod Site

@@ -27,15 +27,15 @@ status_text state status =
     labelled (codes "reviewgate_changes") (codes "status") (status_name status) (status_count state status)
 
 -- how many changes have each status
-abbrev pub changes_text : State → List ℕ
-changes_text state =
+abbrev pub status_counts_text : State → List ℕ
+status_counts_text state =
     family (codes "reviewgate_changes") (codes "gauge") (codes "Changes of the record by status.")
     ++ status_text state New ++ status_text state Abandoned ++ status_text state Merged
 
 -- the figures of the record: its operations, its changes, and the items that are ready
 abbrev pub record_text : ℕ → State → ℕ → List ℕ
 record_text operations state ready =
-    gauge (codes "reviewgate_operations") (codes "Operations of the record.") operations ++ changes_text state
+    gauge (codes "reviewgate_operations") (codes "Operations of the record.") operations ++ status_counts_text state
     ++ gauge (codes "reviewgate_ready_items") (codes "Items that may enter the pipeline.") ready
 
 -- how many items are held so
@@ -106,14 +106,14 @@ peers_text peers = up_text peers ++ ages_text peers ++ pulls_text peers ++ failu
 -- ---- what open items are held by
 
 -- so many approvals of a side, from this number on
-abbrev pub approvals_from : Side → ℕ → ℕ → List Held
-approvals_from side first zero = []
-approvals_from side first (suc count) = Approval side first ∷ approvals_from side (suc first) count
+abbrev pub held_from : Side → ℕ → ℕ → List Held
+held_from side first zero = []
+held_from side first (suc count) = Approval side first ∷ held_from side (suc first) count
 
 -- the approvals of both sides, and the other three
 abbrev pub all_held : GateRules → List Held
 all_held gate =
-    approvals_from Require 1 (length gate.require.approvals) ++ approvals_from Reject 1 (length gate.reject.approvals)
+    held_from Require 1 (length gate.require.approvals) ++ held_from Reject 1 (length gate.reject.approvals)
     ++ Cycle ∷ Unknown ∷ Dependency ∷ []
 
 -- how many open items are held by what
@@ -157,9 +157,9 @@ one_journal_text bytes syncs =
     ++ counter (codes "reviewgate_journal_syncs_total") (codes "Syncs of the journal since the start.") syncs
 
 -- what the journal has, where there is one
-abbrev pub journal_text : Option JournalFacts → List ℕ
-journal_text None = []
-journal_text (Some journal) = one_journal_text journal.bytes journal.syncs
+abbrev pub journal_figures : Option JournalFacts → List ℕ
+journal_figures None = []
+journal_figures (Some journal) = one_journal_text journal.bytes journal.syncs
 
 abbrev pub heard_age_text : ℕ → List ℕ
 heard_age_text age =
@@ -176,7 +176,7 @@ heard_text (Some age) = heard_age_text age
 abbrev pub now_text : Facts → List ℕ
 now_text facts =
     work_text facts.workers facts.busy_workers facts.session_faults facts.refused_connections
-    ++ journal_text facts.journal ++ heard_text facts.heard_ms
+    ++ journal_figures facts.journal ++ heard_text facts.heard_ms
 
 -- the figures of the record, of what open items are held by, of the site, of its peers, and of what it served
 abbrev pub figures_text : GateRules → State → ℕ → Judged → Facts → List ℕ

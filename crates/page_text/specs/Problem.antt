@@ -1,7 +1,7 @@
 -- The problem that says that something isn't there (RFC 9457, section 3.1, and section 4.2.1 "about:blank").
 use Rattle.std.specs.Prelude.{List, [], ◌∷◌, ◌++◌, codes}
 use Rattle.json.specs.Token.{Token, begin_object, end_object}
-use Rattle.page_text.specs.Items.{numbered, worded}
+use Rattle.json_line.specs.Tokens.{numbered, worded}
 
 abbrev pub problem_tokens : List Token
 problem_tokens =

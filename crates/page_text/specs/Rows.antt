@@ -33,9 +33,9 @@ entering place (item ∷ items) = Enters item place ∷ entering (suc place) ite
 abbrev pub all_rows : Judged → List Row
 all_rows verdicts = entering 1 verdicts.ready ++ map Waits verdicts.out
 
-abbrev pub item_of : Row → Item
-item_of (Enters item place) = item
-item_of (Waits left) = left.item
+abbrev pub row_item : Row → Item
+row_item (Enters item place) = item
+row_item (Waits left) = left.item
 
 -- ---- which are asked for
 
@@ -82,7 +82,7 @@ has_words state (Some words) item = is_found state words item
 abbrev pub is_asked : State → Choice → Row → Bool
 is_asked state choice row =
     is_shown choice.shown row && has_reason choice.reason row
-    && has_words state (option_map string_bytes choice.words) (item_of row)
+    && has_words state (option_map string_bytes choice.words) (row_item row)
 
 -- the rows that are asked for
 abbrev pub chosen_rows : State → Choice → Judged → List Row
@@ -102,6 +102,6 @@ rows_to (suc pages) rows = rows_to pages rows ++ rows_on (suc pages) rows
 -- ---- the report
 
 -- the line of a report that says what the row says
-abbrev pub report_line : Row → List ℕ
-report_line (Enters item place) = ready_line item
-report_line (Waits left) = out_line left
+abbrev pub row_line : Row → List ℕ
+row_line (Enters item place) = ready_line item
+row_line (Waits left) = out_line left

@@ -1,6 +1,6 @@
 -- Lines of metrics (Prometheus, "Exposition formats", text-based format, version 0.0.4).
 use Rattle.std.specs.Prelude.{ℕ, List, ◌++◌, ◌/◌, ◌%◌, codes, decimal}
-use Rattle.page_text.specs.Labels.{label_text}
+use Rattle.page_text.specs.Labels.{label_value}
 
 -- what the metric means, and its type
 abbrev pub family : List ℕ → List ℕ → List ℕ → List ℕ
@@ -38,7 +38,7 @@ micro_sample name value =
 
 -- of a peer, up to its value
 abbrev pub peer_label : List ℕ → List ℕ → List ℕ
-peer_label name peer = name ++ codes "{peer=\"" ++ label_text peer ++ codes "\"} "
+peer_label name peer = name ++ codes "{peer=\"" ++ label_value peer ++ codes "\"} "
 
 abbrev pub peer_sample : List ℕ → List ℕ → ℕ → List ℕ
 peer_sample name peer value = peer_label name peer ++ decimal value ++ codes "\n"

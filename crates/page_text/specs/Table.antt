@@ -1,16 +1,13 @@
 -- The rows of a list, as rows of a table in HTML. The form is the project's own.
-use Rattle.std.specs.Prelude.{◌≡◌, ℕ, List, [], ◌∷◌, ◌++◌, codes, decimal, flat_map}
+use Rattle.std.specs.Prelude.{◌≡◌, ℕ, List, [], ◌∷◌, ◌++◌, codes, decimal}
 use Rattle.markup_text.specs.Html.{html_of}
 use Rattle.state_core.specs.State.{State}
 use Rattle.state_core.specs.declared.item.Item.{Item}
+use Rattle.report_text.specs.StateText.{joined}
 use Rattle.page_text.specs.declared.rows.Row.{Row}
 use Rattle.page_text.specs.declared.rows.Row.TheVariants.{Enters, Waits}
-use Rattle.page_text.specs.Rows.{item_of}
+use Rattle.page_text.specs.Rows.{row_item}
 use Rattle.page_text.specs.Subject.{subject_of}
-
--- parts, one after the other
-abbrev pub joined : List (List ℕ) → List ℕ
-joined = flat_map (λ part. part)
 
 -- an item with a link to its page: <a href="/change/101,2">101,2</a>
 abbrev pub link_html : Item → List ℕ
@@ -32,7 +29,7 @@ place_html (Waits left) = joined (codes "<tr><td></td>" ∷ [])
 
 -- how a row begins: with its place, its item and its subject
 abbrev pub front_html : State → Row → List ℕ
-front_html state row = place_html row ++ about_html state (item_of row)
+front_html state row = place_html row ++ about_html state (row_item row)
 
 -- a row was added, with what stands behind its beginning
 pub record AddsRow (state : State) (row : Row) (old new : List ℕ) : Type 0 where

@@ -4,7 +4,7 @@ use Rattle.markup_text.specs.Html.{html_of}
 use Rattle.state_core.specs.State.{State}
 use Rattle.state_core.specs.declared.item.Item.{Item}
 use Rattle.page_text.specs.Subject.{subject_of}
-use Rattle.page_text.specs.Table.{joined}
+use Rattle.report_text.specs.StateText.{joined}
 
 -- an item with its subject: Change 102,1: Fix the door
 abbrev pub item_title : State → Item → List ℕ

@@ -6,12 +6,13 @@ ghost use Rattle.json.specs.Print.{print};
 ghost use Rattle.state_core.specs.Items.{item_cmp};
 ghost use Rattle.state_core.specs.State.{state_of};
 ghost use Rattle.ready_core.specs.Verdicts.{items_out};
-ghost use Rattle.page_text.specs.Answer.{IsAnswer, IsItemData, IsItemPage, IsList, IsOfItem, IsPage, IsText};
+ghost use Rattle.page_text.specs.Answer.{IsAnswer, IsItemData, IsItemPage, IsListPage, IsOfItem, IsPage, IsText};
 ghost use Rattle.page_text.specs.Answer.{event_text};
 ghost use Rattle.page_text.specs.Items.{items_tokens};
 ghost use Rattle.page_text.specs.Metrics.{metrics_of};
 ghost use Rattle.page_text.specs.Problem.{problem_tokens};
 ghost use Rattle.page_text.specs.Rows.{chosen_rows, rows_on};
+ghost use Rattle.page_text.specs.Site.{site_tokens};
 
 use super::change::change_page;
 use super::facts::Facts;
@@ -77,10 +78,7 @@ fn answer(
             verdicts,
             facts,
         ),
-        Route::Status => {
-            let body = status_text(alloc, replica, verdicts, facts)?;
-            Ok(found(Kind::Json, body))
-        }
+        Route::Status => status_answer(alloc, replica, verdicts, facts),
         Route::Items(choice) => items_answer(alloc, choice, replica, verdicts),
         Route::ChangeData(place) => change_data(alloc, *place, gate, replica.state(), verdicts),
         Route::Events => events_answer(alloc, replica, verdicts),
@@ -102,7 +100,7 @@ fn list_answer(
     facts: &Facts,
 ) -> Result<Page, NoMemory>
     requires { IsStrictlySortedBy item_cmp (items_out verdicts.now.out) }
-    ensures { IfOk result (IsList (state_of replica.now)
+    ensures { IfOk result (IsListPage (state_of replica.now)
         (rows_on choice.now.page (chosen_rows (state_of replica.now) choice.now verdicts.now))) }
 {
     let body = list_page(alloc, choice, gate, replica, verdicts, facts)?;
@@ -120,6 +118,20 @@ fn items_answer(
         (chosen_rows (state_of replica.now) choice.now verdicts.now)))) }
 {
     let body = items_text(alloc, choice, replica.state(), verdicts)?;
+    Ok(found(Kind::Json, body))
+}
+
+/// How the site is, as data.
+fn status_answer(
+    alloc: Global,
+    replica: &Replica,
+    verdicts: &Verdicts,
+    facts: &Facts,
+) -> Result<Page, NoMemory>
+    ensures { IfOk result (IsText Status.Found Kind.Json
+        (print (site_tokens (length replica.now) verdicts.now facts.now))) }
+{
+    let body = status_text(alloc, replica, verdicts, facts)?;
     Ok(found(Kind::Json, body))
 }
 

@@ -2,10 +2,10 @@
 
 ghost use Rattle.state_core.specs.Items.{IsItem};
 
-use super::members::{close_list, close_object, open_list, open_object, put_flag, put_text};
 use super::words::{add_wanted, refusal_words};
 use gate_rules::{Gate, Tried};
 use json::Writer;
+use json_line::{close_list, close_object, open_list, open_object, put_flag, put_text};
 use lattice_core::NoMemory;
 use markup_text::{Markup, Piece};
 use ready_core::Refusal;

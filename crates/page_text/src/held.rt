@@ -1,7 +1,7 @@
 //! What open items can be held by, as the metrics count it.
 
 ghost use Rattle.std.specs.Prelude.{◌≡◌, ◌++◌, IfOk, OnOk, count_by, string_bytes};
-ghost use Rattle.page_text.specs.Metrics.{all_held, approvals_from};
+ghost use Rattle.page_text.specs.Metrics.{all_held, held_from};
 ghost use Rattle.page_text.specs.Held.{held_words, is_held, is_held_by};
 
 use gate_rules::{Clause, Condition, Gate, Side};
@@ -46,7 +46,7 @@ pub fn all_held(alloc: Global, gate: &Gate) -> Result<Vec<Held>, NoMemory>
 
 /// Adds so many approvals of a side.
 fn add_approvals(all: &mut Vec<Held>, side: Side, count: usize) -> Result<(), NoMemory>
-    ensures { OnOk result (all.new.items ≡ all.old.items ++ approvals_from side 1 count) }
+    ensures { OnOk result (all.new.items ≡ all.old.items ++ held_from side 1 count) }
 {
     for place in 0..count {
         all.push(Held::Approval(side, place + 1))?;

@@ -9,9 +9,6 @@ ghost use Rattle.page_text.specs.Waiting.{HasWaiting, waiting_for};
 use super::chain::walk_from;
 use super::conditions::put_conditions;
 use super::json_items::add_row;
-use super::members::{
-    close_list, close_object, open_list, open_object, put_number, put_option, put_signed, put_text,
-};
 use super::needs::needs_of;
 use super::rows::Row;
 use super::subject::first_line;
@@ -20,6 +17,9 @@ use super::waiting::{put_waiting, waiting_for};
 use change_core::ChangeState;
 use gate_rules::Gate;
 use json::Writer;
+use json_line::{
+    close_list, close_object, open_list, open_object, put_number, put_option, put_signed, put_text,
+};
 use lattice_core::NoMemory;
 use ready_core::{Left, Verdicts};
 use state_core::{Item, State};

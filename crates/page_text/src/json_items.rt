@@ -4,15 +4,13 @@ ghost use Rattle.std.specs.Prelude.{◌≡◌, IfOk, OnOk, flat_map};
 ghost use Rattle.json.specs.Print.{print};
 ghost use Rattle.page_text.specs.Items.{about_tokens, items_tokens, list_tokens, row_tokens};
 ghost use Rattle.page_text.specs.Rows.{chosen_rows};
-ghost use Rattle.page_text.specs.Tokens.{Adds};
+ghost use Rattle.json_line.specs.Tokens.{Adds};
 
-use super::members::{
-    close_list, close_object, open_list, open_object, put_flag, put_number, put_text,
-};
 use super::rows::{Row, chosen_rows, rows_of};
 use super::subject::subject_of;
 use super::words::refusal_words;
 use json::Writer;
+use json_line::{close_list, close_object, open_list, open_object, put_flag, put_number, put_text};
 use lattice_core::NoMemory;
 use page_routes::Choice;
 use ready_core::{Left, Verdicts};

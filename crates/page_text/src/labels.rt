@@ -1,13 +1,13 @@
 //! The value of a label in the text format of Prometheus, character by character.
 
 ghost use Rattle.std.specs.Prelude.{◌≡◌, ◌++◌, OnOk, string_bytes};
-ghost use Rattle.page_text.specs.Labels.{escaped, label_text};
+ghost use Rattle.page_text.specs.Labels.{label_letter, label_value};
 
 use std::alloc::AllocError;
 
 /// Adds a text as the value of a label.
 pub fn push_label(text: &mut String, value: &str) -> Result<(), AllocError>
-    ensures { OnOk result (string_bytes text.new ≡ string_bytes text.old ++ label_text value.now) }
+    ensures { OnOk result (string_bytes text.new ≡ string_bytes text.old ++ label_value value.now) }
 {
     for letter in value.chars() {
         push_letter(text, letter)?;
@@ -17,7 +17,7 @@ pub fn push_label(text: &mut String, value: &str) -> Result<(), AllocError>
 
 /// Adds a character, with a backslash before it if it could end the value.
 fn push_letter(text: &mut String, letter: char) -> Result<(), AllocError>
-    ensures { OnOk result (string_bytes text.new ≡ string_bytes text.old ++ escaped letter) }
+    ensures { OnOk result (string_bytes text.new ≡ string_bytes text.old ++ label_letter letter) }
 {
     match letter {
         '\\' => text.push_str("\\\\"),

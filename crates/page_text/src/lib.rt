@@ -53,7 +53,6 @@ mod labels;
 mod laws;
 mod links;
 mod list;
-mod members;
 mod metrics;
 mod metrics_peers;
 mod metrics_work;

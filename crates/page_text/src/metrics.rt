@@ -2,7 +2,7 @@
 
 ghost use Rattle.std.specs.Prelude.{◌≡◌, ◌++◌, IfOk, OnOk, flat_map, length, string_bytes};
 ghost use Rattle.state_core.specs.State.{state_of};
-ghost use Rattle.page_text.specs.Metrics.{age_text, all_held_text, changes_text, figures_text, held_text, info_text};
+ghost use Rattle.page_text.specs.Metrics.{age_text, all_held_text, status_counts_text, figures_text, held_text, info_text};
 ghost use Rattle.page_text.specs.Metrics.{labels_text, metrics_of, record_text, served_text, site_text, status_text};
 ghost use Rattle.page_text.specs.Metrics.{update_text};
 
@@ -85,7 +85,7 @@ fn add_record(text: &mut String, replica: &Replica, verdicts: &Verdicts) -> Resu
 
 /// Adds how many changes have each status.
 fn add_changes(text: &mut String, state: &State) -> Result<(), NoMemory>
-    ensures { OnOk result (string_bytes text.new ≡ string_bytes text.old ++ changes_text state.now) }
+    ensures { OnOk result (string_bytes text.new ≡ string_bytes text.old ++ status_counts_text state.now) }
 {
     add_family(
         text,

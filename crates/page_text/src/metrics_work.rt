@@ -1,7 +1,7 @@
 //! The figures of what a site does just now: its threads, its journal, and what its feeds hear.
 
 ghost use Rattle.std.specs.Prelude.{◌≡◌, ◌++◌, OnOk, string_bytes};
-ghost use Rattle.page_text.specs.Metrics.{heard_age_text, heard_text, journal_text, now_text, one_journal_text};
+ghost use Rattle.page_text.specs.Metrics.{heard_age_text, heard_text, journal_figures, now_text, one_journal_text};
 ghost use Rattle.page_text.specs.Metrics.{work_text};
 
 use super::facts::{Facts, JournalFacts};
@@ -52,7 +52,7 @@ fn add_work(text: &mut String, facts: &Facts) -> Result<(), NoMemory>
 
 /// Adds what the journal has, where there is one.
 fn add_journal(text: &mut String, journal: Option<JournalFacts>) -> Result<(), NoMemory>
-    ensures { OnOk result (string_bytes text.new ≡ string_bytes text.old ++ journal_text journal) }
+    ensures { OnOk result (string_bytes text.new ≡ string_bytes text.old ++ journal_figures journal) }
 {
     match journal {
         Some(journal) => add_one_journal(text, journal.bytes, journal.syncs),

@@ -3,7 +3,7 @@
 ghost use Rattle.std.specs.Prelude.{◌≡◌, ◌++◌, ◌∷◌, [], IfOk, OnOk, decimal, filter, map, option_map, string_bytes, take};
 ghost use Rattle.std.specs.Char.{to_ascii_lowercase};
 ghost use Rattle.page_text.specs.Rows.{chosen_rows, entering, has_reason, has_words, is_asked, is_by, is_for, is_found};
-ghost use Rattle.page_text.specs.Rows.{is_shown, item_of, rows_on, waits_for};
+ghost use Rattle.page_text.specs.Rows.{is_shown, row_item, rows_on, waits_for};
 ghost use Rattle.page_text.specs.Search.{contains};
 
 use super::search::contains;
@@ -31,7 +31,7 @@ pub enum Row {
 impl Row {
     /// The item of a row.
     pub fn item(self) -> Item
-        ensures { result ≡ item_of self }
+        ensures { result ≡ row_item self }
     {
         match self {
             Row::Enters(item, _) => item,

@@ -5,8 +5,8 @@ ghost use Rattle.json.specs.Print.{print};
 ghost use Rattle.page_text.specs.Problem.{problem_tokens};
 
 use super::frame::{begin, end};
-use super::members::{close_object, open_object, put_number, put_text};
 use json::Writer;
+use json_line::{close_object, open_object, put_number, put_text};
 use lattice_core::NoMemory;
 use markup_text::Piece;
 use page_routes::Place;

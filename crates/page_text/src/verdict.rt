@@ -4,7 +4,7 @@ ghost use Rattle.std.specs.Prelude.{◌≡◌, Contains, IfSome, Some, slice_get
 ghost use Rattle.std.specs.List.Sorted.{IsStrictlySortedBy};
 ghost use Rattle.state_core.specs.Items.{item_cmp};
 ghost use Rattle.ready_core.specs.Verdicts.{items_out};
-ghost use Rattle.page_text.specs.Rows.{all_rows, item_of};
+ghost use Rattle.page_text.specs.Rows.{all_rows, row_item};
 
 use super::chain::left_at;
 use super::rows::Row;
@@ -15,7 +15,7 @@ use state_core::Item;
 pub fn verdict_on(verdicts: &Verdicts, item: Item) -> Option<Row>
     requires { IsStrictlySortedBy item_cmp (items_out verdicts.now.out) }
     ensures there { IfSome result (Contains (all_rows verdicts.now)) }
-    ensures of { IfSome result (λ row. item_of row ≡ item) }
+    ensures of { IfSome result (λ row. row_item row ≡ item) }
 {
     match place_of(verdicts.ready(), item) {
         Some(place) => Some(Row::Enters(item, place + 1)),

@@ -2,12 +2,13 @@
 
 ghost use Rattle.std.specs.Prelude.{◌≡◌, ◌++◌, ◌∷◌, [], IfOk, OnOk, filter, flat_map, map, string_bytes};
 ghost use Rattle.json.specs.Token.{string};
-ghost use Rattle.page_text.specs.Tokens.{Adds};
-ghost use Rattle.page_text.specs.Waiting.{item_text, names, waiting_for, waiting_tokens};
+ghost use Rattle.json_line.specs.Tokens.{Adds};
+ghost use Rattle.report_text.specs.Report.{item_text};
+ghost use Rattle.page_text.specs.Waiting.{names_change, waiting_for, waiting_tokens};
 
 use super::links::add_item_link;
-use super::members::{close_list, open_list};
 use json::Writer;
+use json_line::{close_list, open_list};
 use lattice_core::NoMemory;
 use markup_text::{Markup, Piece};
 use ready_core::{Left, Refusal};
@@ -41,7 +42,7 @@ fn add_if_waiting(items: &mut Vec<Item>, left: Left, change: u32) -> Result<(), 
 
 /// Whether a refusal names a change.
 fn names(refusal: Refusal, change: u32) -> bool
-    ensures { result ≡ names change refusal }
+    ensures { result ≡ names_change change refusal }
 {
     match refusal {
         Refusal::Unknown(number) | Refusal::Dependency(number) => number == change,

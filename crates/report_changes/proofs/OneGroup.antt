@@ -19,8 +19,9 @@ use Rattle.report_changes.specs.Lines.{changed}
 use Rattle.report_changes.specs.Following.{Held, NamesEachOnce, Stand, StandsIn, after_line, after_lines, all_changed, empty}
 use Rattle.report_changes.specs.Following.{nothing, put}
 use Rattle.report_changes.specs.Following.{stands_out, stands_ready}
-use Rattle.report_changes.proofs.Members.{either, has_out, has_ready, is_false, neither, one_item, one_left}
-use Rattle.report_changes.proofs.Members.{out_for_has, out_has, ready_has, same_itself, sorted_kept}
+use Rattle.report_changes.specs.Searching.{one_item, same_itself}
+use Rattle.report_changes.proofs.Members.{either, has_out, has_ready, is_false, neither, one_left}
+use Rattle.report_changes.proofs.Members.{out_for_has, out_has, ready_has, sorted_kept}
 
 after_both : (xs ys : List Line) (held : Held) → after_lines (xs ++ ys) held ≡ after_lines ys (after_lines xs held)
 after_both [] ys held = refl

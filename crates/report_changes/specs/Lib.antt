@@ -1,6 +1,7 @@
 pub mod Over
 pub mod Listing
 pub mod Keeping
+pub mod Searching
 pub mod Lines
 pub mod Following
 pub mod Fault

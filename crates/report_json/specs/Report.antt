@@ -36,6 +36,8 @@ report_tokens verdicts =
 abbrev pub ready_item_tokens : Item → List Token
 ready_item_tokens item = object_of (item_tokens item ++ flagged (codes "ready") true)
 
+abbrev pub verdict_members : Left → List Token
+verdict_members left = item_tokens left.item ++ (flagged (codes "ready") false ++ refusal_tokens left.refusal)
+
 abbrev pub out_item_tokens : Left → List Token
-out_item_tokens left =
-    object_of (item_tokens left.item ++ (flagged (codes "ready") false ++ refusal_tokens left.refusal))
+out_item_tokens left = object_of (verdict_members left)

@@ -4,7 +4,7 @@ ghost use Rattle.std.specs.Prelude.{◌≡◌, IfOk, OnOk, string_bytes};
 ghost use Rattle.json_line.specs.Tokens.{Adds, json_line};
 ghost use Rattle.ready_core.specs.Words.{refusal_text};
 ghost use Rattle.report_json.specs.Report.{item_tokens, out_item_tokens, out_tokens, ready_item_tokens, ready_tokens};
-ghost use Rattle.report_json.specs.Report.{refusal_tokens};
+ghost use Rattle.report_json.specs.Report.{refusal_tokens, verdict_members};
 
 use json::Writer;
 use json_line::{close_object, line_of, open_object, put_flag, put_number, put_text};
@@ -32,9 +32,7 @@ pub fn out_item_line(alloc: Global, left: &Left) -> Result<Vec<u8>, NoMemory>
 {
     let mut out = Writer::new(Vec::new(alloc));
     open_object(&mut out)?;
-    put_place(&mut out, left.item)?;
-    put_flag(&mut out, "ready", false)?;
-    put_refusal(alloc, &mut out, left.refusal)?;
+    put_verdict(alloc, &mut out, left)?;
     close_object(&mut out)?;
     line_of(out)
 }
@@ -60,8 +58,22 @@ pub(super) fn add_out(alloc: Global, out: &mut Writer<Global>, left: &Left) -> R
     Ok(())
 }
 
+/// Adds an item that is left out: its change and its patch set, that it isn't ready, and why.
+pub(super) fn put_verdict(
+    alloc: Global,
+    out: &mut Writer<Global>,
+    left: &Left,
+) -> Result<(), NoMemory>
+    ensures { OnOk result (Adds out.old out.new (verdict_members left.now)) }
+{
+    put_place(out, left.item)?;
+    put_flag(out, "ready", false)?;
+    put_refusal(alloc, out, left.refusal)?;
+    Ok(())
+}
+
 /// Adds an item's change and patch set.
-fn put_place(out: &mut Writer<Global>, item: Item) -> Result<(), NoMemory>
+pub(super) fn put_place(out: &mut Writer<Global>, item: Item) -> Result<(), NoMemory>
     ensures { OnOk result (Adds out.old out.new (item_tokens item)) }
 {
     put_number(out, "change", u64::from(item.change))?;
@@ -70,7 +82,11 @@ fn put_place(out: &mut Writer<Global>, item: Item) -> Result<(), NoMemory>
 }
 
 /// Adds why an item is left out.
-fn put_refusal(alloc: Global, out: &mut Writer<Global>, refusal: Refusal) -> Result<(), NoMemory>
+pub(super) fn put_refusal(
+    alloc: Global,
+    out: &mut Writer<Global>,
+    refusal: Refusal,
+) -> Result<(), NoMemory>
     ensures { OnOk result (Adds out.old out.new (refusal_tokens refusal)) }
 {
     let words = refusal_words(alloc, refusal)?;
@@ -79,7 +95,7 @@ fn put_refusal(alloc: Global, out: &mut Writer<Global>, refusal: Refusal) -> Res
 }
 
 /// A refusal in the words of a report, as `require approval 2`.
-fn refusal_words(alloc: Global, refusal: Refusal) -> Result<String, NoMemory>
+pub(super) fn refusal_words(alloc: Global, refusal: Refusal) -> Result<String, NoMemory>
     ensures { IfOk result (λ words. string_bytes words ≡ refusal_text refusal) }
 {
     let mut words = String::new(alloc);

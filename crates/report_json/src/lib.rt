@@ -1,4 +1,4 @@
-//! The report of a record as JSON, whole or of one item.
+//! The report of a record as JSON, whole or of one item, and why an item waits.
 //!
 //! Its tests are in the crate `command_tests`.
 //!
@@ -15,8 +15,12 @@
 //! ```
 #![tactic(auto)]
 
+mod asked;
+mod conditions;
 mod items;
 mod report;
+mod why;
 
 pub use items::{out_item_line, ready_item_line};
 pub use report::report_line;
+pub use why::why_line;

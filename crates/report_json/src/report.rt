@@ -36,7 +36,7 @@ fn put_ready(out: &mut Writer<Global>, items: &[Item]) -> Result<(), NoMemory>
 }
 
 /// Adds an object for each item that is ready.
-fn add_all_ready(out: &mut Writer<Global>, items: &[Item]) -> Result<(), NoMemory>
+pub(super) fn add_all_ready(out: &mut Writer<Global>, items: &[Item]) -> Result<(), NoMemory>
     ensures { OnOk result (Adds out.old out.new (flat_map ready_tokens items.now)) }
 {
     for item in items {
@@ -56,7 +56,11 @@ fn put_out(alloc: Global, out: &mut Writer<Global>, left: &[Left]) -> Result<(),
 }
 
 /// Adds an object for each item that is left out.
-fn add_all_out(alloc: Global, out: &mut Writer<Global>, left: &[Left]) -> Result<(), NoMemory>
+pub(super) fn add_all_out(
+    alloc: Global,
+    out: &mut Writer<Global>,
+    left: &[Left],
+) -> Result<(), NoMemory>
     ensures { OnOk result (Adds out.old out.new (flat_map out_tokens left.now)) }
 {
     for one in left {

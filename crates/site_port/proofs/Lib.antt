@@ -1,3 +1,2 @@
 pub mod OneReply
 pub mod Handed
-pub mod PassingOn

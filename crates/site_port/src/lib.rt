@@ -31,6 +31,6 @@ mod port;
 
 pub use fault::{PortFault, SinkFault};
 pub use guarded::Guarded;
-pub use laws::{last_answers_pass_on_all, own_replies_are_one};
+pub use laws::own_replies_are_one;
 pub use own::{OwnPort, take_each};
 pub use port::{Port, Sink};

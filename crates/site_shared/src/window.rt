@@ -176,7 +176,7 @@ impl Window {
         ensures refreshed { MatchResult result (λ _. Refreshes self.old watch.old self.new watch.new)
             (λ fault. RefusesRefresh self.old watch.old fault self.new watch.new) }
     {
-        if watch.origin() != (self.site, self.start) {
+        if !self.is_own(watch) {
             return Err(RefreshFault::Stranger);
         }
         let Some(look) = self.enter_from(watch.sight()) else {
@@ -202,7 +202,7 @@ impl Window {
         ensures shown { OnOk result (IsShownTo (V.views viewer.old) (arrive self.new.seen) watch.new viewer.new) }
         ensures unseen { OnErr result (viewer.new ≡ viewer.old) }
     {
-        if watch.origin() != (self.site, self.start) {
+        if !self.is_own(watch) {
             return Err(RefreshFault::Stranger);
         }
         let Some(look) = self.enter_from(watch.sight()) else {
@@ -217,6 +217,13 @@ impl Window {
             Ok(()) => Ok(()),
             Err(_) => Err(RefreshFault::NoMemory),
         }
+    }
+
+    /// Whether a watch bears the window's own site and start.
+    fn is_own(&self, watch: &Watch) -> bool
+        ensures { MatchBool result (IsOwnWatch self.now watch.now) (¬ IsOwnWatch self.now watch.now) }
+    {
+        watch.origin() == (self.site, self.start)
     }
 
     /// Whether the journal has an operation with this stamp. It takes no memory, and costs O(log r + log n) for r rows

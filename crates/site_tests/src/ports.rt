@@ -1,12 +1,11 @@
 //! The faults of ports and sinks.
 
 use review_ops::BodyFault;
-use site_port::{PortFault, SinkFault, last_answers_pass_on_all, own_replies_are_one};
+use site_port::{PortFault, SinkFault, own_replies_are_one};
 
 #[test]
 fn faults_have_numbers_and_names(rt: HostRuntime) {
     own_replies_are_one();
-    last_answers_pass_on_all();
     for (fault, number, name) in [
         (PortFault::ClockSpent, 1, "ClockSpent"),
         (PortFault::BadBody(BodyFault::BadChange), 2, "BadBody"),

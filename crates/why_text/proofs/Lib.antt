@@ -3,4 +3,3 @@ pub mod Broken
 pub mod Cycles
 pub mod Lookups
 pub mod Steps
-pub mod Each

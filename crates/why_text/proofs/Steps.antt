@@ -7,9 +7,7 @@ use Rattle.std.specs.List.Sorted.{IsStrictlySortedBy}
 use Rattle.change_core.specs.Change.{Change}
 use Rattle.change_core.specs.Views.{IsCurrent, IsGreatestKnown}
 use Rattle.state_core.specs.State.{State}
-use Rattle.state_core.specs.Items.{IsCurrentItem, item_cmp}
-use Rattle.state_core.specs.declared.item.Item.{Item}
-use Rattle.lattice_core.specs.MemberLaws.{Contains-to_map}
+use Rattle.state_core.specs.Items.{item_cmp}
 use Rattle.ready_core.specs.declared.verdicts.Left.{Left}
 use Rattle.ready_core.specs.declared.verdicts.Refusal.{Refusal}
 use Rattle.ready_core.specs.declared.verdicts.Refusal.TheVariants.{Own, Cycle, Unknown, Dependency}

@@ -24,10 +24,10 @@ pub record TellsTried (file : List ℕ) (state : State) (item : Item) (tried : T
   pub shown : TellsCondition file state item tried.condition details
   pub lines : text ≡ tried_line tried ++ details
 
--- the text is one of each, one after the other
-abbrev pub TellsEach : {X : Type 0} → (X → List ℕ → Type 0) → List X → List ℕ → Type 0
+-- the text, or the tokens, are those of each, one after the other
+abbrev pub TellsEach : {X Y : Type 0} → (X → List Y → Type 0) → List X → List Y → Type 0
 TellsEach Tells [] text = text ≡ []
-TellsEach Tells (x ∷ xs) text = (first rest : List ℕ) × Tells x first × TellsEach Tells xs rest × (text ≡ first ++ rest)
+TellsEach {X} {Y} Tells (x ∷ xs) text = (first rest : List Y) × Tells x first × TellsEach Tells xs rest × (text ≡ first ++ rest)
 
 -- all conditions of the gate, in the order in which the item is judged
 pub record TellsConditions (file : List ℕ) (gate : GateRules) (state : State) (item : Item) (text : List ℕ)

@@ -1,6 +1,6 @@
 -- From an item that is left out down to the cause, item by item: each waits for the change of the next one. The form is
 -- the project's own.
-use Rattle.std.specs.Prelude.{◌≡◌, ℕ, List, [], ◌∷◌, ◌++◌, Some, Contains, length, slice_get}
+use Rattle.std.specs.Prelude.{◌≡◌, List, [], ◌∷◌, ◌++◌, Some, Contains, length, slice_get}
 use Rattle.state_core.specs.State.{State}
 use Rattle.state_core.specs.Items.{IsCurrentItem}
 use Rattle.state_core.specs.declared.item.Item.{Item}

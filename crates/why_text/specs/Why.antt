@@ -65,16 +65,25 @@ have_lines CurrentSet change current = current_line current
 have_lines StatusIn change current = why_status_line change
 have_lines (Approval number) change current = flat_map approval_line (approvals_of change current)
 
--- what the gate file asks, and what the item's change has
-pub record TellsCondition (file : List ℕ) (state : State) (item : Item) (condition : Condition) (text : List ℕ)
+-- the gate file has this value at the place of a condition, and the item is of this change, with this current patch set
+pub record IsAskedOf
+    (file : List ℕ) (state : State) (item : Item) (condition : Condition) (want : Option Data) (change : Change)
+    (current : ℕ)
     : Type 0 where
   pub members : Members
   pub is_object : IsObject file members
-  pub change : Change
+  pub wanted : want ≡ wanted_value condition members
   pub there : finite.get state item.change ≡ Some change
-  pub current : ℕ
   pub greatest : IsGreatestKnown change current
-  pub lines : text ≡ want_lines (wanted_value condition members) ++ have_lines condition.clause change current
+
+-- what the gate file asks, and what the item's change has
+pub record TellsCondition (file : List ℕ) (state : State) (item : Item) (condition : Condition) (text : List ℕ)
+    : Type 0 where
+  pub want : Option Data
+  pub change : Change
+  pub current : ℕ
+  pub asked : IsAskedOf file state item condition want change current
+  pub lines : text ≡ want_lines want ++ have_lines condition.clause change current
 
 -- ---- the lines of a cause
 

@@ -35,6 +35,7 @@ mod words;
 pub use all::conditions_text;
 pub use asked::item_asked;
 pub use chain::{Chain, chain_of};
+pub use cycle::others_on_cycle;
 pub use laws::broken_conditions_are_wanted;
 pub use why::why_text;
 pub use words::{add_item, add_refusal};

@@ -1,6 +1,5 @@
 use Rattle.std.proofs.Common.{◌≡◌, ◌⊎◌, ◌∙◌, ℕ, Option, ap, inl, inr, refl, subst, sym, [], ◌∷◌}
 use Rattle.std.proofs.lemmas.Result.{err_from_is_err_and}
-use Rattle.std.specs.Prelude.{string_bytes}
 use Rattle.gate_rules.specs.Spelling.{SpellsGate}
 use Rattle.replica_core.specs.Journal.{all_arrived}
 use Rattle.state_core.specs.State.{State, state_of}
@@ -32,17 +31,17 @@ returns-in-Ok g c =
       record_had c.args.gate.now c.args.snapshot.now file.rules
           (λ text. SpellsGate text file.rules × (text ≡ file.text.items))
           (λ text is. is.0) second.0 _ _ _ first second.2,
-      finishes (IsWhole (IsOf first.0 second.2.0 (IsReason first.0 c.args.change c.args.set c.args.is_all)) (Misses (IsItemText c.args.change c.args.set) second.2.0 (HasItem c.args.change c.args.set))) c.as_bytes.result.now _ _ c.print.result
+      finishes (IsWhole (IsOf first.0 second.2.0 (IsReason first.0 c.args.change c.args.set c.args.is_all c.args.is_json)) (Misses (IsItemText c.args.change c.args.set) second.2.0 (HasItem c.args.change c.args.set))) c.as_slice.result.now _ _ c.print.result
           (record {
             rules = file.rules;
             spelled = first.2.0;
             ops = second.0;
             says = second.2.2;
             so =
-                subst (IsReason first.0 c.args.change c.args.set c.args.is_all file.rules (state_of (all_arrived [] second.0)))
-                (sym c.as_bytes.ensures.value)
-                (subst (λ s. IsReason first.0 c.args.change c.args.set c.args.is_all file.rules s (string_bytes c.in-Ok.text)) state
-                (subst (λ t. IsReason t c.args.change c.args.set c.args.is_all file.rules c.state.result.now (string_bytes c.in-Ok.text)) (sym first.2.1) c.in-Ok.ensures.reason));
+                subst (IsReason first.0 c.args.change c.args.set c.args.is_all c.args.is_json file.rules (state_of (all_arrived [] second.0)))
+                (sym c.as_slice.ensures.value)
+                (subst (λ s. IsReason first.0 c.args.change c.args.set c.args.is_all c.args.is_json file.rules s c.in-Ok.text.items) state
+                (subst (λ t. IsReason t c.args.change c.args.set c.args.is_all c.args.is_json file.rules c.state.result.now c.in-Ok.text.items) (sym first.2.1) c.in-Ok.ensures.reason));
           })
           c.print.ensures,
     )
@@ -70,7 +69,7 @@ returns g c =
           (λ text is. is.0) second.0 _ _ _ first second.2,
       inl (
         [],
-        not_there (IsOf first.0 second.2.0 (IsReason first.0 c.args.change c.args.set c.args.is_all))
+        not_there (IsOf first.0 second.2.0 (IsReason first.0 c.args.change c.args.set c.args.is_all c.args.is_json))
             (IsItemText c.args.change c.args.set) second.2.0
             (HasItem c.args.change c.args.set) c.in-Err.refusal second.0 c.state.result.now second.2.2 state
             (no_item c.args.change c.args.set c.state.result.now c.in-Err.refusal c.in-Err.ensures.refused),

@@ -1,5 +1,5 @@
 use Rattle.std.proofs.Common.{◌∙◌}
-use Rattle.enqueue_lines.proofs.Members.{searched}
+use Rattle.report_changes.specs.Searching.{searched}
 use Rattle.enqueue_lines.proofs.items.has_item.Goals as goal
 
 pub returns : goal.returns

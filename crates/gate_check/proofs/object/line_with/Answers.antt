@@ -12,4 +12,4 @@ pub returns : goal.returns
 returns c =
     IfOk-weaker c.line_of.result _ _
     (λ line is. finished c.new-out.ensures.tokens
-    (adds_then c.in_ok-open_object.ensures (adds_then (adds_then c.in_ok-put_texts.ensures c.in_ok-put_warnings.ensures) c.in_ok-close_object.ensures)) is) c.line_of.ensures
+    (adds_then c.in_ok-open_object.ensures (adds_then (adds_then c.in_ok-put_texts.ensures c.in_ok-put_warnings.ensures) c.in_ok-close_object.ensures)) is) c.line_of.ensures.line

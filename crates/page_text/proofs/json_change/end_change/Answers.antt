@@ -1,6 +1,6 @@
 use Rattle.std.proofs.Common.{◌∙◌, ap, subst}
 use Rattle.page_text.specs.Waiting.{HasWaiting, waiting_for}
-use Rattle.page_text.proofs.Adding.{adds_then}
+use Rattle.json_line.specs.Adding.{adds_then}
 use Rattle.page_text.proofs.WaitingSteps.{has_waiting}
 use Rattle.page_text.proofs.json_change.end_change.Goals as goal
 

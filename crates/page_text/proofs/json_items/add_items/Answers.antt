@@ -1,6 +1,6 @@
 use Rattle.std.proofs.Common.{ap}
 use Rattle.page_text.specs.Items.{list_tokens}
-use Rattle.page_text.proofs.Adding.{adds_same, adds_then, counted}
+use Rattle.json_line.specs.Adding.{adds_same, adds_then, counted}
 use Rattle.page_text.proofs.json_items.add_items.Goals as goal
 
 pub returns : goal.returns

@@ -1,5 +1,5 @@
 use Rattle.std.proofs.Common.{◌∙◌}
-use Rattle.page_text.proofs.Adding.{adds_then, texted}
+use Rattle.json_line.specs.Adding.{adds_then, texted}
 use Rattle.page_text.proofs.json_items.add_left.Goals as goal
 
 pub returns : goal.returns

@@ -1,4 +1,4 @@
-use Rattle.page_text.proofs.Adding.{adds_then}
+use Rattle.json_line.specs.Adding.{adds_then}
 use Rattle.page_text.proofs.json_items.add_ready.Goals as goal
 
 pub returns : goal.returns

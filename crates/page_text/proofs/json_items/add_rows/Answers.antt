@@ -1,5 +1,5 @@
 use Rattle.page_text.specs.Items.{row_tokens}
-use Rattle.page_text.proofs.Adding.{adds_same, adds_then, flat_more}
+use Rattle.json_line.specs.Adding.{adds_same, adds_then, flat_more}
 use Rattle.page_text.proofs.json_items.add_rows.Goals as goal
 
 pub loop-row-preserved : goal.loop-row-preserved

@@ -1,6 +1,6 @@
 use Rattle.std.proofs.Common.{flat_map, take}
 use Rattle.page_text.specs.Items.{row_tokens}
-use Rattle.page_text.specs.Tokens.{Adds}
+use Rattle.json_line.specs.Tokens.{Adds}
 use Rattle.page_text.proofs.json_items.add_rows.Given as goal
 
 -- the rows so far are added

@@ -1,6 +1,7 @@
 use Rattle.std.proofs.Common.{◌∙◌, ap}
 use Rattle.page_text.specs.Items.{items_tokens}
-use Rattle.page_text.proofs.Adding.{adds_same, finished}
+use Rattle.json_line.specs.Adding.{adds_same}
+use Rattle.page_text.proofs.Adding.{finished}
 use Rattle.page_text.proofs.json_items.items_text.Goals as goal
 
 pub returns : goal.returns

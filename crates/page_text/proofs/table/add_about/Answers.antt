@@ -1,6 +1,7 @@
 use Rattle.std.proofs.Common.{◌++◌, ◌∷◌, [], ◌∙◌, ap, codes}
 use Rattle.markup_text.specs.Html.{html_of}
-use Rattle.page_text.specs.Table.{joined, link_html, subject_html}
+use Rattle.report_text.specs.StateText.{joined}
+use Rattle.page_text.specs.Table.{link_html, subject_html}
 use Rattle.page_text.proofs.Adding.{then3}
 use Rattle.page_text.proofs.table.add_about.Goals as goal
 

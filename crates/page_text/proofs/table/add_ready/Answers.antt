@@ -1,6 +1,6 @@
 use Rattle.std.proofs.Common.{◌∷◌, [], codes}
 use Rattle.page_text.specs.declared.rows.Row.TheVariants.{Enters}
-use Rattle.page_text.specs.Table.{joined}
+use Rattle.report_text.specs.StateText.{joined}
 use Rattle.page_text.proofs.TableRows.{row_added}
 use Rattle.page_text.proofs.table.add_ready.Goals as goal
 

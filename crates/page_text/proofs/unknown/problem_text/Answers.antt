@@ -1,5 +1,6 @@
 use Rattle.std.proofs.Common.{◌∙◌}
-use Rattle.page_text.proofs.Adding.{adds_then, finished}
+use Rattle.json_line.specs.Adding.{adds_then}
+use Rattle.page_text.proofs.Adding.{finished}
 use Rattle.page_text.proofs.unknown.problem_text.Goals as goal
 
 pub returns : goal.returns

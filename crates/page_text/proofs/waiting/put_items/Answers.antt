@@ -1,7 +1,7 @@
 use Rattle.std.proofs.Common.{[], ◌∷◌}
 use Rattle.json.specs.Token.{string}
-use Rattle.page_text.specs.Waiting.{item_text}
-use Rattle.page_text.proofs.Adding.{adds_same, adds_then, flat_more}
+use Rattle.report_text.specs.Report.{item_text}
+use Rattle.json_line.specs.Adding.{adds_same, adds_then, flat_more}
 use Rattle.page_text.proofs.waiting.put_items.Goals as goal
 
 pub loop-item-preserved : goal.loop-item-preserved

@@ -1,7 +1,7 @@
 use Rattle.std.proofs.Common.{[], ◌∷◌, flat_map, take}
 use Rattle.json.specs.Token.{string}
-use Rattle.page_text.specs.Tokens.{Adds}
-use Rattle.page_text.specs.Waiting.{item_text}
+use Rattle.json_line.specs.Tokens.{Adds}
+use Rattle.report_text.specs.Report.{item_text}
 use Rattle.page_text.proofs.waiting.put_items.Given as goal
 
 -- the items so far are added

@@ -1,5 +1,5 @@
 use Rattle.std.proofs.Common.{◌∙◌}
-use Rattle.report_changes.proofs.Members.{searched}
+use Rattle.report_changes.specs.Searching.{searched}
 use Rattle.report_changes.proofs.listed.has_item.Goals as goal
 
 pub returns : goal.returns

@@ -14,4 +14,4 @@ pub returns : goal.returns
 returns c =
     IfOk-weaker c.line_of.result _ _
     (λ line is. finished c.new-out.ensures.tokens
-    (adds_then c.in_ok-open_object.ensures (adds_then (adds_then (adds_same c.in_ok-put_ready.ensures (ap (λ items. listed (codes "ready") (flat_map ready_tokens items)) c.ready.ensures)) (adds_same c.in_ok-put_out.ensures (ap (λ left. listed (codes "out") (flat_map out_tokens left)) c.out-3.ensures))) c.in_ok-close_object.ensures)) is) c.line_of.ensures
+    (adds_then c.in_ok-open_object.ensures (adds_then (adds_then (adds_same c.in_ok-put_ready.ensures (ap (λ items. listed (codes "ready") (flat_map ready_tokens items)) c.ready.ensures)) (adds_same c.in_ok-put_out.ensures (ap (λ left. listed (codes "out") (flat_map out_tokens left)) c.out-3.ensures))) c.in_ok-close_object.ensures)) is) c.line_of.ensures.line

@@ -1,6 +1,6 @@
 use Rattle.std.proofs.Common.{◌≡◌, ◌++◌, ◌<◌, length, rules, string_bytes}
 use Rattle.why_text.specs.All.{TellsTried}
-use Rattle.why_text.proofs.Each.{each_more}
+use Rattle.why_text.specs.Each.{each_more}
 use Rattle.why_text.proofs.all.tried_lines.Goals as goal
 
 pub loop-one-preserved : goal.loop-one-preserved

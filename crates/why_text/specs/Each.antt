@@ -1,13 +1,13 @@
--- A text of each, one after the other.
+-- A text of each, or its tokens, one after the other.
 use Rattle.std.proofs.Common.{◌≡◌, ◌∙◌, ◌+◌, ◌<◌, ℕ, List, [], ◌∷◌, ◌++◌, length, take, get_or, sym, ap, refl, subst}
 use Rattle.std.proofs.Common.{append-nil, append_assoc}
 use Rattle.std.proofs.lemmas.List.{take_more}
 use Rattle.why_text.specs.All.{TellsEach}
 
-module _ {X : Type 0} (Tells : X → List ℕ → Type 0) where
-  pub each_push : (xs : List X) (text : List ℕ) (x : X) (more : List ℕ) → TellsEach Tells xs text → Tells x more
+module _ {X Y : Type 0} (Tells : X → List Y → Type 0) where
+  pub each_push : (xs : List X) (text : List Y) (x : X) (more : List Y) → TellsEach Tells xs text → Tells x more
       → TellsEach Tells (xs ++ x ∷ []) (text ++ more)
-  each_push [] text x more none tells = (more, [], tells, refl, ap (λ (l : List ℕ). l ++ more) none ∙ sym (append-nil more))
+  each_push [] text x more none tells = (more, [], tells, refl, ap (λ (l : List Y). l ++ more) none ∙ sym (append-nil more))
   each_push (y ∷ xs) text x more told tells =
       let first = told.0 in
       let rest = told.1 in (
@@ -15,11 +15,11 @@ module _ {X : Type 0} (Tells : X → List ℕ → Type 0) where
         rest ++ more,
         told.2,
         each_push xs rest x more told.3 tells,
-        ap (λ (l : List ℕ). l ++ more) told.4 ∙ append_assoc first rest more,
+        ap (λ (l : List Y). l ++ more) told.4 ∙ append_assoc first rest more,
       )
 
   -- one more of a list
-  pub each_more : (xs : List X) (i : ℕ) (x : X) (text more new : List ℕ) → i < length xs → x ≡ get_or xs i x
+  pub each_more : (xs : List X) (i : ℕ) (x : X) (text more new : List Y) → i < length xs → x ≡ get_or xs i x
       → TellsEach Tells (take i xs) text → Tells x more → new ≡ text ++ more → TellsEach Tells (take (i + 1) xs) new
   each_more xs i x text more new inside is told tells grown =
       subst (TellsEach Tells (take (i + 1) xs)) (sym grown)
