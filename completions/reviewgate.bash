@@ -7,15 +7,15 @@ _reviewgate() {
         case $command in
             check) words="--strict --json --help" ;;
             enqueue) words="--tenant --pipeline --template --projects --handed --help" ;;
-            events) words="--to --query --complete --project --projects --gate --help" ;;
+            events) words="--to --keys --query --complete --project --projects --gate --help" ;;
             footers) words="--change --json --help" ;;
             graph) words="--around --help" ;;
             ready) words="--item --json --help" ;;
             recover) words="--without --until --help" ;;
             serve)
-                words="--site --start --port --listen --mode --sites --workers --pause --sessions --idle --connections --until-input-ends --print --log-time --http --http-host --load --save --journal --help"
+                words="--site --start --port --listen --mode --keys --sites --workers --pause --sessions --idle --connections --until-input-ends --print --log-time --http --http-host --load --save --journal --help"
                 ;;
-            why) words="--all --help" ;;
+            why) words="--all --json --help" ;;
             *) words="--help" ;;
         esac
     fi

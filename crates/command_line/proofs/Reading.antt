@@ -1,8 +1,11 @@
 -- When the values of arguments say no number, no item and no command.
 use Rattle.std.proofs.Common.{◌≡◌, ◌∙◌, ◌<◌, ℕ, List, [], ◌∷◌, map, length, get_or, Option, None, Some, Bool, true}
 use Rattle.std.proofs.Common.{false}
-use Rattle.std.proofs.Common.{not, Bor, option_map, is_some, sym, ap, subst, arith, codes}
-use Rattle.std.specs.List.{AllZip, position_or_len, before_first, after_first}
+use Rattle.std.proofs.Common.{not, refl, suc, zero, cond, filter, take, ◌+◌, ◌++◌, Bor, option_map, is_some, sym, ap, subst, arith, codes}
+use Rattle.std.specs.Prelude.{◌||◌}
+use Rattle.std.specs.List.{AllZip, list_any, position_or_len, before_first, after_first}
+use Rattle.std.proofs.lemmas.List.{get_or-map, length-map, take-map}
+use Rattle.std.proofs.lemmas.List.Elements.{filter_more}
 use Rattle.std.proofs.lemmas.Option.{slice_get-get_or}
 use Rattle.lattice_core.specs.ZipLaws.{AllZip-at}
 use Rattle.command_tree.specs.Matching.{Row, Text, first_of}
@@ -15,9 +18,10 @@ use Rattle.command_line.specs.declared.asked.ServeWords.{ServeWords}
 use Rattle.command_line.specs.Asking.{AreFeedOptions, AreOptions, ArgumentsSay, IsRecovery, events, footers}
 use Rattle.command_line.specs.Asking.{graph, ready, recover, serve, why}
 use Rattle.command_line.specs.Values.{Finds, HasArgument, GivesAny, GivesItem, GivesNumber, NamesItem, NamesRow}
-use Rattle.command_line.specs.Values.{GivesAnyAddress, GivesAnyItem, GivesItemAt, NamesPath, Writes, is_comma}
-use Rattle.site_address.specs.Address.{NamesAddress, has_slash}
-use Rattle.site_address.specs.declared.address.Address.{Address}
+use Rattle.command_line.specs.Values.{GivesAnyItem, GivesAnyPeer, GivesHosts, GivesItemAt, GivesPaths, Writes, is_comma}
+use Rattle.command_line.specs.declared.sites.Places.{Places}
+use Rattle.site_address.specs.Peer.{NamesPeer}
+use Rattle.site_address.specs.declared.peer.PeerAddress.{PeerAddress}
 
 same_text : (rows : List Row) (argument text other : Text) → HasArgument rows argument text
     → HasArgument rows argument other
@@ -132,6 +136,13 @@ pub no_serve : (rows : List Row) → ((words : ServeWords) → ¬ AreOptions row
 no_serve rows none (Serve words) says = none words says.0
 no_serve rows none asked says = says
 
+pub no_places : (rows : List Row)
+    → ((places : Places) → ¬ (GivesPaths rows (codes "listen") places.sockets.items × GivesHosts rows (codes "listen") places.hosts.items))
+    → (asked : Asked)
+    → ¬ ArgumentsSay serve rows asked
+no_places rows none (Serve words) says = none (record { sockets = words.sockets; hosts = words.hosts }) (says.2, says.3)
+no_places rows none asked says = says
+
 pub no_recover : (rows : List Row) → ((words : RecoverWords) → ¬ IsRecovery rows words) → (asked : Asked)
     → ¬ ArgumentsSay recover rows asked
 no_recover rows none (Recover words) says = none words says
@@ -144,19 +155,70 @@ no_events rows none asked says = says
 
 -- ---- addresses
 
-pub no_address_in : (rows : List Row) (option text : Text) → HasArgument rows option text
-    → ((address : Address) → ¬ NamesAddress text address) → (given : Option Address)
-    → ¬ GivesAnyAddress rows option given
-no_address_in rows option text is none None gives = let bad : None ≡ Some text = sym gives ∙ is in cc
-no_address_in rows option text is none (Some address) gives =
-    none address (subst (λ t. NamesAddress t address) (same_text rows option gives.0 text gives.1 is) gives.2)
+pub no_peer_in : (rows : List Row) (option text : Text) → HasArgument rows option text
+    → ((peer : PeerAddress) → ¬ NamesPeer text peer) → (given : Option PeerAddress)
+    → ¬ GivesAnyPeer rows option given
+no_peer_in rows option text is none None gives = let bad : None ≡ Some text = sym gives ∙ is in cc
+no_peer_in rows option text is none (Some peer) gives =
+    none peer (subst (λ t. NamesPeer t peer) (same_text rows option gives.0 text gives.1 is) gives.2)
 
-pub address_found : (rows : List Row) (option text : Text) (address : Address) → HasArgument rows option text
-    → NamesAddress text address → GivesAnyAddress rows option (Some address)
-address_found rows option text address is names = (text, is, names)
+pub peer_found : (rows : List Row) (option text : Text) (peer : PeerAddress) → HasArgument rows option text
+    → NamesPeer text peer → GivesAnyPeer rows option (Some peer)
+peer_found rows option text peer is names = (text, is, names)
 
-pub no_path_at : (texts : List (Bor Text)) (index : ℕ) (d : Bor Text) → index < length texts
-    → has_slash (get_or texts index d).now ≡ false → (paths : List (Bor Text))
-    → ¬ AllZip NamesPath (map (λ text. text.now) texts) paths
-no_path_at texts index d within lacks paths all =
-    none_said NamesPath texts index d within (λ path is. let bad : false ≡ true = sym lacks ∙ is.0 in cc) paths all
+-- ---- those of the texts that pass a test
+
+kept_later : {Y : Type 0} (R : Text → Y → Type 0) (passes : Bool) (text : Text) (rest : List Text) (named : List Y)
+    → ((others : List Y) → ¬ AllZip R rest others) → ¬ AllZip R (cond passes (text ∷ rest) rest) named
+kept_later R true text rest [] none all = absurd all
+kept_later R true text rest (one ∷ named) none all = none named all.1
+kept_later R false text rest named none all = none named all
+
+kept_first : {Y : Type 0} (R : Text → Y → Type 0) (text : Text) (rest : List Text) (named : List Y)
+    → ((one : Y) → ¬ R text one) → ¬ AllZip R (text ∷ rest) named
+kept_first R text rest [] none all = absurd all
+kept_first R text rest (one ∷ named) none all = none one all.0
+
+-- where one of them names nothing, they name no list
+pub none_kept : {Y : Type 0} (R : Text → Y → Type 0) (test : Text → Bool) (texts : List (Bor Text)) (index : ℕ)
+    (d : Bor Text) → index < length texts → test (get_or texts index d).now ≡ true
+    → ((one : Y) → ¬ R (get_or texts index d).now one) → (named : List Y)
+    → ¬ AllZip R (filter test (map (λ text. text.now) texts)) named
+none_kept R test [] index d within passes none named all = omega (arith, within)
+none_kept R test (text ∷ texts) zero d within passes none named all =
+    kept_first R text.now (filter test (map (λ t. t.now) texts)) named none
+    (subst (λ b. AllZip R (cond b (text.now ∷ filter test (map (λ t. t.now) texts)) (filter test (map (λ t. t.now) texts))) named) passes all)
+none_kept R test (text ∷ texts) (suc index) d within passes none named all =
+    kept_later R (test text.now) text.now (filter test (map (λ t. t.now) texts)) named
+    (none_kept R test texts index d (omega (arith, within)) passes none) all
+
+zip_push : {X Y : Type 0} (R : X → Y → Type 0) (xs : List X) (ys : List Y) (x : X) (y : Y) → AllZip R xs ys → R x y
+    → AllZip R (xs ++ x ∷ []) (ys ++ y ∷ [])
+zip_push R [] [] x y all r = (r, tt)
+zip_push R [] (b ∷ ys) x y all r = absurd all
+zip_push R (a ∷ xs) [] x y all r = absurd all
+zip_push R (a ∷ xs) (b ∷ ys) x y all r = (all.0, zip_push R xs ys x y all.1 r)
+
+one_kept : (test : Text → Bool) (texts : List (Bor Text)) (index : ℕ) (d : Bor Text) → index < length texts
+    → test (get_or texts index d).now ≡ true
+    → filter test (map (λ text. text.now) (take (index + 1) texts))
+    ≡ filter test (map (λ text. text.now) (take index texts)) ++ (get_or texts index d).now ∷ []
+one_kept test texts index d within passes =
+    let now : Bor Text → Text = λ text. text.now in
+    let inside : index < length (map now texts) = omega (arith, within, length-map texts now) in
+    ap (filter test) (sym (take-map now (index + 1) texts)) ∙ filter_more test (map now texts) index d.now inside
+    ∙ rw (take-map now index texts) (rw (get_or-map now texts index d d.now within) (rw passes refl))
+
+-- where one more of them names something, all up to it name one more
+pub kept_more : {Y : Type 0} (R : Text → Y → Type 0) (test : Text → Bool) (texts : List (Bor Text)) (index : ℕ)
+    (d : Bor Text) (named : List Y) (one : Y) → index < length texts → test (get_or texts index d).now ≡ true
+    → AllZip R (filter test (map (λ text. text.now) (take index texts))) named → R (get_or texts index d).now one
+    → AllZip R (filter test (map (λ text. text.now) (take (index + 1) texts))) (named ++ one ∷ [])
+kept_more R test texts index d named one within passes all names =
+    subst (λ l. AllZip R l (named ++ one ∷ [])) (sym (one_kept test texts index d within passes))
+    (zip_push R (filter test (map (λ text. text.now) (take index texts))) named (get_or texts index d).now one all names)
+
+pub any_over : {X Y : Type 0} (f : X → Y) (test : Y → Bool) (xs : List X)
+    → list_any test (map f xs) ≡ list_any (λ x. test (f x)) xs
+any_over f test [] = refl
+any_over f test (x ∷ xs) = ap (λ b. test (f x) || b) (any_over f test xs)

@@ -1,8 +1,10 @@
 -- What the words of a command line ask for: each command's arguments, with the limits of their numbers, and what they
 -- say.
-use Rattle.std.specs.Prelude.{◌≡◌, ◌⊎◌, ◌↔◌, Bool, IsTrue, List, None, Some, codes, map, option_map, string_bytes}
+use Rattle.std.specs.Prelude.{◌≡◌, ◌⊎◌, ◌↔◌, Bool, true, false, IsTrue, List, [], None, Some, codes, map, option_map}
+use Rattle.std.specs.Prelude.{string_bytes, unwrap_or}
+use Rattle.std.specs.List.{list_all, list_any}
 use Rattle.command_tree.specs.Matching.{AreFaulty, AskForHelp, AskForVersion, HasFlag, AreFaultlessWords, Matched, Row}
-use Rattle.command_tree.specs.Matching.{Text, first_of, matched_of}
+use Rattle.command_tree.specs.Matching.{Text, all_of, first_of, matched_of}
 use Rattle.command_line.specs.declared.asked.Answer.{Answer}
 use Rattle.command_line.specs.declared.asked.Answer.TheVariants.{Complete, Query, Stream}
 use Rattle.command_line.specs.declared.asked.Asked.{Asked}
@@ -19,7 +21,9 @@ use Rattle.command_line.specs.declared.asked.SocketMode.TheVariants.{Group, Owne
 use Rattle.command_line.specs.declared.asked.RecoverWords.{RecoverWords}
 use Rattle.command_line.specs.declared.asked.ServeWords.{ServeWords}
 use Rattle.command_line.specs.Values.{HasArgument, GivesAny, GivesItem, GivesNumber, GivesNumbers, GivesRows}
-use Rattle.command_line.specs.Values.{GivesAddresses, GivesAnyAddress, GivesAnyItem, GivesPaths, GivesTexts}
+use Rattle.command_line.specs.Values.{GivesAnyItem, GivesAnyPeer, GivesHosts, GivesPaths, GivesPeers, GivesTexts}
+use Rattle.site_address.specs.Address.{has_slash}
+use Rattle.site_address.specs.Peer.{is_there}
 
 -- ---- what the arguments of each command say
 
@@ -47,6 +51,7 @@ pub record AreOptions (rows : List Row) (words : ServeWords) : Type 0 where
   pub start : GivesAny rows (codes "start") 1 4294967294 words.start
   pub port : GivesAny rows (codes "port") 0 65535 words.port
   pub mode : GivesMode rows words.mode
+  pub keys : first_of (codes "keys") rows ≡ option_map (λ name. name.now) words.keys
   pub workers : GivesNumber rows (codes "workers") 1 6 words.workers
   pub pause : GivesNumber rows (codes "pause") 1 600000 words.pause_ms
   pub sessions : GivesNumber rows (codes "sessions") 0 18446744073709551615 words.sessions
@@ -64,12 +69,23 @@ pub record AreOptions (rows : List Row) (words : ServeWords) : Type 0 where
 abbrev pub HasStart : List Row → Type 0
 HasStart rows = first_of (codes "start") rows ≡ None → ¬ (first_of (codes "journal") rows ≡ None)
 
+-- the values of an argument that may be there more than once
+abbrev pub words_of : List Row → Text → List Text
+words_of rows argument = unwrap_or (all_of argument rows) []
+
+-- a file of keys is named, or nothing on another machine: no peer, no site that is fed, and nothing to listen at
+abbrev pub HasKeys : List Row → Type 0
+HasKeys rows = first_of (codes "keys") rows ≡ None
+    → (list_any is_there (words_of rows (codes "PEER")) ≡ false)
+    × (list_any is_there (words_of rows (codes "to")) ≡ false)
+    × (list_all has_slash (words_of rows (codes "listen")) ≡ true)
+
 -- the arguments ask for this site
 abbrev pub IsSite : List Row → ServeWords → Type 0
-IsSite rows words = AreOptions rows words × GivesAddresses rows (codes "PEER") words.peers.items
-    × GivesPaths rows (codes "listen") words.sockets.items
+IsSite rows words = AreOptions rows words × GivesPeers rows (codes "PEER") words.peers.items
+    × GivesPaths rows (codes "listen") words.sockets.items × GivesHosts rows (codes "listen") words.hosts.items
     × GivesNumbers rows (codes "sites") 1 65535 words.sites.items
-    × GivesTexts rows (codes "http-host") (map string_bytes words.http_hosts.items) × HasStart rows
+    × GivesTexts rows (codes "http-host") (map string_bytes words.http_hosts.items) × HasStart rows × HasKeys rows
 
 -- the arguments ask for this recovery
 pub record IsRecovery (rows : List Row) (words : RecoverWords) : Type 0 where
@@ -85,7 +101,8 @@ GivesAnswer rows Complete = (¬ HasFlag rows (codes "query")) × HasFlag rows (c
 
 -- what a feed is run with, but for its projects, is what the arguments give
 pub record AreFeedOptions (rows : List Row) (words : EventWords) : Type 0 where
-  pub to : GivesAnyAddress rows (codes "to") words.to
+  pub to : GivesAnyPeer rows (codes "to") words.to
+  pub keys : first_of (codes "keys") rows ≡ option_map (λ name. name.now) words.keys
   pub answer : GivesAnswer rows words.answer
   pub projects_file : first_of (codes "projects") rows ≡ option_map (λ name. name.now) words.projects_file
   pub gate : first_of (codes "gate") rows ≡ option_map (λ name. name.now) words.gate
@@ -98,7 +115,7 @@ HasTarget rows = first_of (codes "to") rows ≡ None
 -- the arguments ask for this feed
 abbrev pub IsFeed : List Row → EventWords → Type 0
 IsFeed rows words = AreFeedOptions rows words
-    × GivesTexts rows (codes "project") (map string_bytes words.projects.items) × HasTarget rows
+    × GivesTexts rows (codes "project") (map string_bytes words.projects.items) × HasTarget rows × HasKeys rows
 
 -- the arguments ask for items to be handed over so
 pub record IsHanding (rows : List Row) (words : EnqueueWords) : Type 0 where
@@ -178,7 +195,7 @@ abbrev pub IsAskedByWords : Matched → Asked → Type 0
 IsAskedByWords matched asked =
     (name : Name) × (rows : List Row) × (matched ≡ Some (text_of name, rows)) × ArgumentsSay name rows asked
 
--- it is none, or they say nothing: a start or a site is missing, an item, an address, a word, or a site with a start is
+-- it is none, or they say nothing: a start, a site or a file of keys is missing, an item, an address, a word, or a site with a start is
 -- none, or two options differ
 abbrev pub IsNothing : Matched → Type 0
 IsNothing matched = (asked : Asked) → ¬ IsAskedByWords matched asked

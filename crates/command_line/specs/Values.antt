@@ -1,12 +1,15 @@
 -- What the values of a command's arguments say, over the rows that clap matched.
-use Rattle.std.specs.Prelude.{◌≡◌, ◌≤◌, ◌<◌, ◌==◌, ℕ, Bool, true, List, [], Option, None, Some, codes, length}
-use Rattle.std.specs.Prelude.{unwrap_or}
+use Rattle.std.specs.Prelude.{◌≡◌, ◌≤◌, ◌<◌, ◌==◌, ℕ, Bool, List, [], Option, None, Some, codes, length}
+use Rattle.std.specs.Prelude.{filter, map, not, unwrap_or}
 use Rattle.std.specs.Borrow.{Bor}
 use Rattle.std.specs.List.{AllZip, position_or_len, before_first, after_first}
 use Rattle.std.specs.Str.Parse.{IsNumeral, digits_value, without_leading_plus}
 use Rattle.command_tree.specs.Matching.{Row, all_of, first_of}
-use Rattle.site_address.specs.Address.{NamesAddress, has_slash}
-use Rattle.site_address.specs.declared.address.Address.{Address}
+use Rattle.site_address.specs.Address.{has_slash}
+use Rattle.site_address.specs.Host.{NamesHostPort}
+use Rattle.site_address.specs.Peer.{NamesPeer}
+use Rattle.site_address.specs.declared.host.HostPort.{HostPort}
+use Rattle.site_address.specs.declared.peer.PeerAddress.{PeerAddress}
 
 -- an answer that is so, or none where nothing is
 abbrev pub Finds : {X : Type 0} → (X → Type 0) → Option X → Type 0
@@ -42,22 +45,21 @@ abbrev pub GivesTexts : List Row → List ℕ → List (List ℕ) → Type 0
 GivesTexts rows argument texts = texts ≡ unwrap_or (all_of argument rows) []
 
 -- the argument's values name these addresses, one after the other
-abbrev pub GivesAddresses : List Row → List ℕ → List Address → Type 0
-GivesAddresses rows argument = AllZip NamesAddress (unwrap_or (all_of argument rows) [])
+abbrev pub GivesPeers : List Row → List ℕ → List PeerAddress → Type 0
+GivesPeers rows argument = AllZip NamesPeer (unwrap_or (all_of argument rows) [])
 
 -- the option's value names this address, if it isn't left out
-abbrev pub GivesAnyAddress : List Row → List ℕ → Option Address → Type 0
-GivesAnyAddress rows option None = first_of option rows ≡ None
-GivesAnyAddress rows option (Some address) =
-    (word : List ℕ) × HasArgument rows option word × NamesAddress word address
+abbrev pub GivesAnyPeer : List Row → List ℕ → Option PeerAddress → Type 0
+GivesAnyPeer rows option None = first_of option rows ≡ None
+GivesAnyPeer rows option (Some peer) = (word : List ℕ) × HasArgument rows option word × NamesPeer word peer
 
--- the word is a path: it has a slash
-abbrev pub NamesPath : List ℕ → Bor (List ℕ) → Type 0
-NamesPath word path = (has_slash word ≡ true) × (path.now ≡ word)
-
--- the option's values are these paths, one after the other
+-- those of the option's values that are paths, as they have a slash, are these
 abbrev pub GivesPaths : List Row → List ℕ → List (Bor (List ℕ)) → Type 0
-GivesPaths rows option = AllZip NamesPath (unwrap_or (all_of option rows) [])
+GivesPaths rows option paths = map (λ path. path.now) paths ≡ filter has_slash (unwrap_or (all_of option rows) [])
+
+-- the others name these hosts and ports, one after the other
+abbrev pub GivesHosts : List Row → List ℕ → List HostPort → Type 0
+GivesHosts rows option = AllZip NamesHostPort (filter (λ word. not (has_slash word)) (unwrap_or (all_of option rows) []))
 
 -- a text names an item: the number of a change; or that, a comma and the number of a patch set
 abbrev pub is_comma : ℕ → Bool

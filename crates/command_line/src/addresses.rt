@@ -1,136 +1,243 @@
-//! The values of arguments that are addresses of sites, or paths of Unix sockets.
+//! The values of arguments that are addresses of sites, or where a site listens.
 
-ghost use Rattle.std.specs.Prelude.{IfOk, map, option_map};
-ghost use Rattle.std.specs.List.{AllZip};
-ghost use Rattle.command_line.specs.Values.{Finds, GivesAddresses, GivesAnyAddress, GivesPaths, NamesPath};
+ghost use Rattle.std.specs.Prelude.{◌≡◌, IfOk, MatchBool, filter, map, not, option_map};
+ghost use Rattle.std.specs.List.{AllZip, list_all, list_any};
+ghost use Rattle.command_line.specs.Asking.{HasKeys, words_of};
+ghost use Rattle.command_line.specs.Values.{Finds, GivesAnyPeer, GivesHosts, GivesPaths, GivesPeers};
 ghost use Rattle.command_tree.specs.Rows.{rows_in};
-ghost use Rattle.site_address.specs.Address.{NamesAddress};
+ghost use Rattle.site_address.specs.Address.{has_slash};
+ghost use Rattle.site_address.specs.Host.{NamesHostPort};
+ghost use Rattle.site_address.specs.Peer.{NamesPeer, is_there};
 
 use command_tree::Values;
-use site_address::{Address, address_of, has_slash};
+use site_address::{HostPort, PeerAddress, has_slash, host_port_of, is_there, peer_of};
 use std::alloc::{AllocError, Global};
 
 /// The address of an option, where it isn't left out; none where its word names none.
-pub fn any_address_in<'a>(values: &Values<'a>, option: &str) -> Option<Option<Address<'a>>>
-    ensures { Finds (GivesAnyAddress (rows_in values.now) option.now) result }
+pub fn any_peer_in<'a>(values: &Values<'a>, option: &str) -> Option<Option<PeerAddress<'a>>>
+    ensures { Finds (GivesAnyPeer (rows_in values.now) option.now) result }
 {
     let Some(word) = values.text(option) else {
         return Some(None);
     };
-    let address = address_of(word)?;
-    Some(Some(address))
+    let peer = peer_of(word)?;
+    Some(Some(peer))
 }
 
 /// The addresses of an argument that has as many as there are; none where a word names none.
-pub fn addresses_in<'a>(
+pub fn peers_in<'a>(
     alloc: Global,
     values: &Values<'a>,
     argument: &str,
-) -> Result<Option<Vec<Address<'a>>>, AllocError>
-    ensures { IfOk result (λ read. Finds (GivesAddresses (rows_in values.now) argument.now)
-        (option_map (λ addresses. addresses.items) read)) }
+) -> Result<Option<Vec<PeerAddress<'a>>>, AllocError>
+    ensures { IfOk result (λ read. Finds (GivesPeers (rows_in values.now) argument.now)
+        (option_map (λ peers. peers.items) read)) }
 {
     match values.texts(argument) {
         None => Ok(Some(Vec::new(alloc))),
-        Some(texts) => addresses_of(alloc, texts),
+        Some(texts) => peers_of(alloc, texts),
     }
 }
 
 /// The addresses that words name; none where one of them names none.
-fn addresses_of<'a>(
+fn peers_of<'a>(
     alloc: Global,
     texts: &[&'a str],
-) -> Result<Option<Vec<Address<'a>>>, AllocError>
-    ensures { IfOk result (λ read. Finds (AllZip NamesAddress (map (λ text. text.now) texts.now))
-        (option_map (λ addresses. addresses.items) read)) }
+) -> Result<Option<Vec<PeerAddress<'a>>>, AllocError>
+    ensures { IfOk result (λ read. Finds (AllZip NamesPeer (map (λ text. text.now) texts.now))
+        (option_map (λ peers. peers.items) read)) }
 {
-    let mut addresses = Vec::new(alloc);
+    let mut peers = Vec::new(alloc);
     for text in texts {
-        let Some(address) = address_of(text) else {
+        let Some(peer) = peer_of(text) else {
             return Ok(None);
         };
-        addresses.push(address)?;
+        peers.push(peer)?;
     }
-    Ok(Some(addresses))
+    Ok(Some(peers))
 }
 
-/// The paths of an option that may be there more than once; none where a word has no slash.
+/// The paths among the words of an option that may be there more than once: those with a slash.
 pub fn paths_in<'a>(
     alloc: Global,
     values: &Values<'a>,
     option: &str,
-) -> Result<Option<Vec<&'a str>>, AllocError>
-    ensures { IfOk result (λ read. Finds (GivesPaths (rows_in values.now) option.now)
-        (option_map (λ paths. paths.items) read)) }
+) -> Result<Vec<&'a str>, AllocError>
+    ensures { IfOk result (λ paths. GivesPaths (rows_in values.now) option.now paths.items) }
 {
     match values.texts(option) {
-        None => Ok(Some(Vec::new(alloc))),
+        None => Ok(Vec::new(alloc)),
         Some(texts) => paths_of(alloc, texts),
     }
 }
 
-/// Words that are paths; none where one of them has no slash.
-fn paths_of<'a>(alloc: Global, texts: &[&'a str]) -> Result<Option<Vec<&'a str>>, AllocError>
-    ensures { IfOk result (λ read. Finds (AllZip NamesPath (map (λ text. text.now) texts.now))
-        (option_map (λ paths. paths.items) read)) }
+/// Those of words that have a slash.
+fn paths_of<'a>(alloc: Global, texts: &[&'a str]) -> Result<Vec<&'a str>, AllocError>
+    ensures { IfOk result (λ paths. map (λ path. path.now) paths.items
+        ≡ filter has_slash (map (λ text. text.now) texts.now)) }
 {
     let mut paths = Vec::new(alloc);
     for text in texts {
-        if !has_slash(text) {
-            return Ok(None);
+        if has_slash(text) {
+            paths.push(*text)?;
         }
-        paths.push(*text)?;
     }
-    Ok(Some(paths))
+    Ok(paths)
 }
 
-/// What an address has to be.
-const ADDRESS: &str = "a port from 1 to 65535, or the path of a Unix socket, which has a slash";
+/// The hosts and ports among the words of an option that may be there more than once: what those without a slash name;
+/// none where one of these names none.
+pub fn hosts_in<'a>(
+    alloc: Global,
+    values: &Values<'a>,
+    option: &str,
+) -> Result<Option<Vec<HostPort<'a>>>, AllocError>
+    ensures { IfOk result (λ read. Finds (GivesHosts (rows_in values.now) option.now)
+        (option_map (λ hosts. hosts.items) read)) }
+{
+    match values.texts(option) {
+        None => Ok(Some(Vec::new(alloc))),
+        Some(texts) => hosts_of(alloc, texts),
+    }
+}
 
-/// What the path of a socket has to be.
-const PATH: &str = "the path of a Unix socket has a slash";
+/// The hosts and ports that those of words name that have no slash; none where one of these names none.
+fn hosts_of<'a>(alloc: Global, texts: &[&'a str]) -> Result<Option<Vec<HostPort<'a>>>, AllocError>
+    ensures { IfOk result (λ read. Finds
+        (AllZip NamesHostPort (filter (λ word. not (has_slash word)) (map (λ text. text.now) texts.now)))
+        (option_map (λ hosts. hosts.items) read)) }
+{
+    let mut hosts = Vec::new(alloc);
+    for text in texts {
+        if has_slash(text) {
+            continue;
+        }
+        let Some(at) = host_port_of(text) else {
+            return Ok(None);
+        };
+        hosts.push(at)?;
+    }
+    Ok(Some(hosts))
+}
 
-/// A word that should be an address or a path and isn't.
+/// Whether an address on another machine is named, and no file of keys.
+pub fn lacks_keys(values: &Values<'_>) -> bool
+    ensures { MatchBool result (¬ HasKeys (rows_in values.now)) (HasKeys (rows_in values.now)) }
+{
+    if values.text("keys").is_some() {
+        return false;
+    }
+    any_there(values, "PEER") || any_there(values, "to") || !all_here(values, "listen")
+}
+
+/// Whether a word of an argument can only name a peer on another machine.
+fn any_there(values: &Values<'_>, argument: &str) -> bool
+    ensures { result ≡ list_any is_there (words_of (rows_in values.now) argument.now) }
+{
+    match values.texts(argument) {
+        Some(words) => has_there(words),
+        None => false,
+    }
+}
+
+/// Whether one of words can only name a peer on another machine.
+fn has_there(words: &[&str]) -> bool
+    ensures { result ≡ list_any (λ word. is_there word.now) words.now }
+{
+    words.iter().any(|word| is_there(word))
+}
+
+/// Whether each word of an argument has a slash.
+fn all_here(values: &Values<'_>, argument: &str) -> bool
+    ensures { result ≡ list_all has_slash (words_of (rows_in values.now) argument.now) }
+{
+    match values.texts(argument) {
+        Some(words) => are_paths(words),
+        None => true,
+    }
+}
+
+/// Whether each of words has a slash.
+fn are_paths(words: &[&str]) -> bool
+    ensures { result ≡ list_all (λ word. has_slash word.now) words.now }
+{
+    words.iter().all(|word| has_slash(word))
+}
+
+/// What the address of a peer has to be.
+const PEER: &str =
+    "a port from 1 to 65535, the path of a Unix socket, which has a slash, or NAME@HOST:PORT";
+
+/// What an address to listen at has to be.
+const LISTEN: &str = "the path of a Unix socket, which has a slash, or HOST:PORT";
+
+/// What is wanted beside an address on another machine.
+const KEYS: &str = "an address on another machine needs --keys";
+
+/// How the help names the arguments that have addresses.
+const PEER_ARGUMENT: &str = "[PEER]...";
+
+const LISTEN_ARGUMENT: &str = "--listen <ADDRESS>";
+
+const TO_ARGUMENT: &str = "--to <ADDRESS>";
+
+/// A word that should be an address and isn't, or that needs a file of keys.
 #[derive(Drop)]
 pub struct WrongWord<'a> {
     /// The argument that has it, as the help names that.
     pub argument: &'static str,
     pub word: &'a str,
-    /// What it has to be.
+    /// What it has to be, or what it needs.
     pub wanted: &'static str,
 }
 
-/// The first word that should be an address or a path and isn't.
+/// The first word that should be an address and isn't; where all are, the first that needs a file of keys which isn't
+/// named.
 pub fn wrong_address<'a>(values: &Values<'a>) -> Option<WrongWord<'a>> {
-    if let Some(word) = first_without_address(values.texts("PEER")) {
-        return Some(WrongWord {
-            argument: "[PEER]...",
-            word,
-            wanted: ADDRESS,
-        });
+    match misnamed(values) {
+        Some(wrong) => Some(wrong),
+        None if lacks_keys(values) => keyless(values),
+        None => None,
     }
-    if let Some(word) = first_without_slash(values.texts("listen")) {
-        return Some(WrongWord {
-            argument: "--listen <PATH>",
-            word,
-            wanted: PATH,
-        });
-    }
-    let word = values.text("to")?;
-    if address_of(word).is_some() {
-        return None;
-    }
-    Some(WrongWord {
-        argument: "--to <ADDRESS>",
-        word,
-        wanted: ADDRESS,
-    })
 }
 
-/// The first word that names no address.
-fn first_without_address<'a>(words: Option<&[&'a str]>) -> Option<&'a str> {
+/// The first word that should be an address and isn't.
+fn misnamed<'a>(values: &Values<'a>) -> Option<WrongWord<'a>> {
+    if let Some(word) = first_without_peer(values.texts("PEER")) {
+        return Some(wrong(PEER_ARGUMENT, word, PEER));
+    }
+    if let Some(word) = first_without_place(values.texts("listen")) {
+        return Some(wrong(LISTEN_ARGUMENT, word, LISTEN));
+    }
+    let word = first_without_peer(values.texts("to"))?;
+    Some(wrong(TO_ARGUMENT, word, PEER))
+}
+
+/// The first word that names an address on another machine.
+fn keyless<'a>(values: &Values<'a>) -> Option<WrongWord<'a>> {
+    if let Some(word) = first_there(values.texts("PEER")) {
+        return Some(wrong(PEER_ARGUMENT, word, KEYS));
+    }
+    if let Some(word) = first_host(values.texts("listen")) {
+        return Some(wrong(LISTEN_ARGUMENT, word, KEYS));
+    }
+    let word = first_there(values.texts("to"))?;
+    Some(wrong(TO_ARGUMENT, word, KEYS))
+}
+
+/// A word of an argument that should be something else.
+fn wrong<'a>(argument: &'static str, word: &'a str, wanted: &'static str) -> WrongWord<'a> {
+    WrongWord {
+        argument,
+        word,
+        wanted,
+    }
+}
+
+/// The first word of a peer on another machine.
+fn first_there<'a>(words: Option<&[&'a str]>) -> Option<&'a str> {
     for word in words? {
-        if address_of(word).is_none() {
+        if is_there(word) {
             return Some(*word);
         }
     }
@@ -138,9 +245,29 @@ fn first_without_address<'a>(words: Option<&[&'a str]>) -> Option<&'a str> {
 }
 
 /// The first word without a slash.
-fn first_without_slash<'a>(words: Option<&[&'a str]>) -> Option<&'a str> {
+fn first_host<'a>(words: Option<&[&'a str]>) -> Option<&'a str> {
     for word in words? {
         if !has_slash(word) {
+            return Some(*word);
+        }
+    }
+    None
+}
+
+/// The first word that names no address.
+fn first_without_peer<'a>(words: Option<&[&'a str]>) -> Option<&'a str> {
+    for word in words? {
+        if peer_of(word).is_none() {
+            return Some(*word);
+        }
+    }
+    None
+}
+
+/// The first word that is no path, and names no host with a port.
+fn first_without_place<'a>(words: Option<&[&'a str]>) -> Option<&'a str> {
+    for word in words? {
+        if !has_slash(word) && host_port_of(word).is_none() {
             return Some(*word);
         }
     }

@@ -1,6 +1,6 @@
 //! What the words of a command line may ask for.
 
-use site_address::Address;
+use site_address::{HostPort, PeerAddress};
 
 /// What the words of a command line ask for.
 #[derive(Drop)]
@@ -93,8 +93,8 @@ pub enum Command<'a> {
 pub struct ServeWords<'a> {
     /// The gate file's name.
     pub gate: &'a str,
-    /// The addresses of the peers.
-    pub peers: Vec<Address<'a>>,
+    /// The addresses of the peers; one on another machine is only where a file of keys is named.
+    pub peers: Vec<PeerAddress<'a>>,
     /// The numbers of the sites whose operations it takes from its peers, beside its own; none stands for all.
     pub sites: Vec<u16>,
     /// The site's number.
@@ -105,19 +105,23 @@ pub struct ServeWords<'a> {
     pub port: Option<u16>,
     /// The paths of the Unix sockets that it listens at.
     pub sockets: Vec<&'a str>,
-    /// Who may connect to these.
+    /// The hosts and ports that it listens at for sealed connections; there are some only where a file of keys is named.
+    pub hosts: Vec<HostPort<'a>>,
+    /// Who may connect to the Unix sockets.
     pub mode: SocketMode,
+    /// The name of the file of the keys that it lets in, and that it dials with.
+    pub keys: Option<&'a str>,
     /// How many threads look at its record for sessions, from 1 to 6.
     pub workers: usize,
     /// How many milliseconds pass between two rounds of pulls, from 1 to 600,000.
     pub pause_ms: u64,
     /// After how many sessions it ends; 0 means no limit.
     pub sessions: u64,
-    /// How many milliseconds a session may be silent; 0 means no limit.
+    /// How many milliseconds a session that has had no body taken in may be silent; 0 means no limit.
     pub idle_ms: u64,
     /// How many connections may be open at once, from 1 to 65,535.
     pub connections: usize,
-    /// Whether it ends with the standard input, which it hears `stop` and `reload` from.
+    /// Whether it hears `stop` and `reload` from the standard input, and stops at its end.
     pub until_input_ends: bool,
     /// What it prints of its verdicts.
     pub prints: Printing,
@@ -180,8 +184,11 @@ pub enum Answer {
 /// What a feed is run with.
 #[derive(Drop)]
 pub struct EventWords<'a> {
-    /// The address of the site that is fed; without one the lines of a session are printed.
-    pub to: Option<Address<'a>>,
+    /// The address of the site that is fed; without one the lines of a session are printed. One on another machine is
+    /// only where a file of keys is named.
+    pub to: Option<PeerAddress<'a>>,
+    /// The name of the file of keys.
+    pub keys: Option<&'a str>,
     /// What the lines are; `Complete` is only where a site is named.
     pub answer: Answer,
     /// The names of the projects whose changes alone are fed; with none here and in the file, those of all.

@@ -6,16 +6,16 @@ ghost use Rattle.command_line.specs.Values.{Finds, GivesTexts};
 ghost use Rattle.command_line.specs.declared.asked.EventWords.{EventWords};
 ghost use Rattle.command_tree.specs.Rows.{rows_in};
 
-use super::addresses::any_address_in;
+use super::addresses::{any_peer_in, lacks_keys};
 use super::asked::{Answer, Asked, EventWords};
 use command_tree::Values;
 use std::alloc::{AllocError, Global};
 
-/// `events [--to ADDRESS] [--query | --complete] [--project NAME].. [--projects FILE] [--gate GATE]`
+/// `events [--to ADDRESS] [--keys FILE] [--query | --complete] [--project NAME].. [--projects FILE] [--gate GATE]`
 pub fn events_in<'a>(alloc: Global, values: &Values<'a>) -> Result<Option<Asked<'a>>, AllocError>
     ensures { IfOk result (Finds (ArgumentsSay events (rows_in values.now))) }
 {
-    if lacks_target(values) {
+    if lacks_target(values) || lacks_keys(values) {
         return Ok(None);
     }
     let projects = names_in(alloc, values, "project")?;
@@ -30,10 +30,11 @@ fn fed_in<'a>(values: &Values<'a>, projects: Vec<String>) -> Option<EventWords<'
     ensures some { IfSome result (λ words. AreFeedOptions (rows_in values.now) words × (words.projects ≡ projects)) }
     ensures none { IfNone result ((words : EventWords) → ¬ AreFeedOptions (rows_in values.now) words) }
 {
-    let to = any_address_in(values, "to")?;
+    let to = any_peer_in(values, "to")?;
     let answer = answer_in(values)?;
     Some(EventWords {
         to,
+        keys: values.text("keys"),
         answer,
         projects,
         projects_file: values.text("projects"),

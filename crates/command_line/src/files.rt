@@ -41,13 +41,14 @@ pub fn why_in<'a>(values: &Values<'a>) -> Option<Asked<'a>>
     let gate = values.text("GATE")?;
     let snapshot = values.text("SNAPSHOT")?;
     let (change, set) = item_in(values)?;
+    let is_json = values.flag("json");
     Some(Asked::Run(Command::Why {
         gate,
         snapshot,
         change,
         set,
         is_all: values.flag("all"),
-        is_json: values.flag("json"),
+        is_json,
     }))
 }
 

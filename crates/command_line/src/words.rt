@@ -49,10 +49,10 @@ const NO_TARGET: &str =
 
 /// Reads the words that follow the program's name: a command is answered only where `clap` finds no fault in them.
 /// `Usage` is a usage error: `clap` finds a fault other than a wish for help or for the version, an item or an address is
-/// invalid, a word names nothing that a site prints or no mode of its sockets, a site has neither a start nor a journal,
-/// `--without` names no site with a start, two options of a feed exclude each other, or one of them needs a site that
-/// isn't named. Its text, and those of `Help` and `Version`, are `clap`'s, but for the last eight. It costs O(bytes of the
-/// words).
+/// invalid, an address on another machine is named without a file of keys, a word names nothing that a site prints or no
+/// mode of its sockets, a site has neither a start nor a journal, `--without` names no site with a start, two options of a
+/// feed exclude each other, or one of them needs a site that isn't named. Its text, and those of `Help` and `Version`, are
+/// `clap`'s, but for the last nine. It costs O(bytes of the words).
 pub fn read_words<'a, S: AsStr>(alloc: Global, words: &'a [S]) -> Asked<'a>
     ensures { WordsAsk (map S.text words.entry.now) result }
 {
@@ -149,7 +149,7 @@ fn no_mode(alloc: Global, word: &str) -> Result<String, AllocError> {
     format!(in alloc; "error: invalid value '{word}' for '--mode <MODE>'\n  {MODES}")
 }
 
-/// The usage error of a word that is no address, or no path.
+/// The usage error of a word that is no address, or needs a file of keys.
 fn no_address(alloc: Global, wrong: &WrongWord<'_>) -> Result<String, AllocError> {
     let WrongWord {
         argument,

@@ -67,9 +67,12 @@ placed_app =
     (with_rule (with_rule peered_app (needed_number (codes "site") 1 65535)) (number_rule (codes "start") 1 4294967294))
     (number_rule (codes "port") 0 65535)
 
--- with the Unix sockets at which it is reached
+-- with the Unix sockets and the hosts at which it is reached, and the keys of these
 abbrev pub listening_app : App
-listening_app = with_rule (with_rule placed_app (several_rule (codes "listen"))) (option_with (codes "mode") (codes "600"))
+listening_app =
+    with_rule
+    (with_rule (with_rule placed_app (several_rule (codes "listen"))) (option_with (codes "mode") (codes "600")))
+    (option_rule (codes "keys"))
 
 -- with whose operations it takes in
 abbrev pub guarded_app : App
@@ -87,7 +90,7 @@ paced_app =
 abbrev pub ending_app : App
 ending_app =
     with_rule
-    (with_rule (with_rule paced_app (number_with (codes "idle") (codes "0") 0 18446744073709551615))
+    (with_rule (with_rule paced_app (number_with (codes "idle") (codes "300000") 0 18446744073709551615))
     (number_with (codes "connections") (codes "1024") 1 65535))
     (flag_rule (codes "until-input-ends"))
 
@@ -115,11 +118,13 @@ recover_app =
     (with_rule (with_rule (new_app (codes "recover")) (needed (codes "JOURNAL"))) (several_rule (codes "without")))
     (number_rule (codes "until") 0 18446744073709551615)
 
--- `events [--to ADDRESS] [--query | --complete] ..`: where Gerrit's lines go to, and what they are
+-- `events [--to ADDRESS] [--keys FILE] [--query | --complete] ..`: where Gerrit's lines go to, and what they are
 abbrev pub feeding_app : App
 feeding_app =
     with_rule
-    (with_rule (with_rule (new_app (codes "events")) (option_rule (codes "to"))) (flag_rule (codes "query")))
+    (with_rule
+    (with_rule (with_rule (new_app (codes "events")) (option_rule (codes "to"))) (option_rule (codes "keys")))
+    (flag_rule (codes "query")))
     (flag_rule (codes "complete"))
 
 -- with whose changes are fed, and the gate

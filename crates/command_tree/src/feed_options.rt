@@ -7,7 +7,7 @@ use super::arguments::{flag, option, several};
 use super::building::Building;
 use std::alloc::Global;
 
-/// `events [--to ADDRESS] [--query | --complete] [--project NAME].. [--projects FILE] [--gate GATE]`
+/// `events [--to ADDRESS] [--keys FILE] [--query | --complete] [--project NAME].. [--projects FILE] [--gate GATE]`
 pub fn events_command<'a>(alloc: Global) -> Building<'a>
     ensures { Builds events_app result }
 {
@@ -41,7 +41,13 @@ fn feeding_command<'a>(alloc: Global) -> Building<'a>
         alloc,
         "to",
         "ADDRESS",
-        "The site that is fed: a port on 127.0.0.1, or the path of a Unix socket; without it the lines of a session are printed",
+        "The site that is fed: a port on 127.0.0.1, the path of a Unix socket, or NAME@HOST:PORT by the key NAME; without it the lines of a session are printed",
+    );
+    let keys = option(
+        alloc,
+        "keys",
+        "FILE",
+        "The file of keys, which has the key NAME",
     );
     let query = flag(
         alloc,
@@ -59,6 +65,7 @@ fn feeding_command<'a>(alloc: Global) -> Building<'a>
         "Feeds what Gerrit writes to a session of a site",
     )
     .with(to)
+    .with(keys)
     .with(query)
     .with(complete)
 }

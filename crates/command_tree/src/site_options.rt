@@ -81,9 +81,9 @@ fn ending_command<'a>(alloc: Global) -> Building<'a>
     let idle = default_option(
         alloc,
         IDLE,
-        "0",
+        "300000",
         "MS",
-        "How long a session may be silent; 0 means no limit",
+        "How long a session that fed nothing may be silent; 0 means no limit",
     );
     let connections = default_option(
         alloc,
@@ -95,7 +95,7 @@ fn ending_command<'a>(alloc: Global) -> Building<'a>
     let ending = flag(
         alloc,
         "until-input-ends",
-        "Ends in order when its input ends, as at a line stop there; at a line reload GATE is read again",
+        "Hears standard input: stop and reload, and stops at its end",
     );
     let paced = paced_command(alloc);
     paced.with(idle).with(connections).with(ending)
@@ -150,17 +150,24 @@ fn listening_command<'a>(alloc: Global) -> Building<'a>
     let listen = several(
         alloc,
         "listen",
-        "PATH",
-        "A Unix socket for its sessions, once for each; the path has a slash",
+        "ADDRESS",
+        "A Unix socket for its sessions, by a path with a slash, or HOST:PORT, sealed by keys; once for each",
     );
     let mode = default_text(
         alloc,
         "mode",
         "600",
         "MODE",
-        "Who may connect to them: 600, its user, or 660, its group too",
+        "Who may connect to its sockets: 600, its user, or 660, its group too",
     );
-    placed_command(alloc).with(listen).with(mode)
+    let keys = option(
+        alloc,
+        "keys",
+        "FILE",
+        "The file of the keys that it lets in, and that it dials with",
+    );
+    let placed = placed_command(alloc);
+    placed.with(listen).with(mode).with(keys)
 }
 
 /// The command with what the site is, and its port.
@@ -190,7 +197,7 @@ fn peered_command<'a>(alloc: Global) -> Building<'a>
     let peers = words(
         alloc,
         "PEER",
-        "The sites that it pulls from: ports on 127.0.0.1, or paths of Unix sockets",
+        "The sites that it pulls from: ports on 127.0.0.1, paths of Unix sockets, or NAME@HOST:PORT by the key NAME",
     );
     Building::of(
         alloc,

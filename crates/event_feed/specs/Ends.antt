@@ -5,7 +5,7 @@ use Rattle.byte_ends.specs.Failures.{OneFailed}
 use Rattle.line_reader.specs.Lines.{HasNoLf}
 use Rattle.event_feed.specs.declared.fault.FeedFault.{FeedFault}
 use Rattle.event_feed.specs.declared.fault.FeedFault.TheVariants.{Dropped, ReadFault, WriteFault, NoMemory, NoSite, Ended}
-use Rattle.event_feed.specs.declared.fault.FeedFault.TheVariants.{Incomplete}
+use Rattle.event_feed.specs.declared.fault.FeedFault.TheVariants.{Incomplete, NoKey, NotAllowed, NotProved}
 
 -- ---- what is written to
 
@@ -36,6 +36,9 @@ SendsText text old new (Err NoMemory) = ⊥
 SendsText text old new (Err NoSite) = ⊥
 SendsText text old new (Err Ended) = ⊥
 SendsText text old new (Err Incomplete) = ⊥
+SendsText text old new (Err NoKey) = ⊥
+SendsText text old new (Err NotProved) = ⊥
+SendsText text old new (Err NotAllowed) = ⊥
 
 -- ---- the source
 

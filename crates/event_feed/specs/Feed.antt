@@ -19,7 +19,7 @@ use Rattle.event_feed.specs.Progress.{after_part, end_of}
 use Rattle.event_feed.specs.Texts.{drops}
 use Rattle.event_feed.specs.declared.fault.FeedFault.{FeedFault}
 use Rattle.event_feed.specs.declared.fault.FeedFault.TheVariants.{Dropped, ReadFault, WriteFault, NoMemory, NoSite, Ended}
-use Rattle.event_feed.specs.declared.fault.FeedFault.TheVariants.{Incomplete}
+use Rattle.event_feed.specs.declared.fault.FeedFault.TheVariants.{Incomplete, NoKey, NotAllowed, NotProved}
 use Rattle.event_feed.specs.declared.progress.Input.{Input}
 use Rattle.event_feed.specs.declared.progress.Progress.{Progress}
 use Rattle.event_feed.specs.declared.progress.Progress.TheVariants.{Unbegun}
@@ -79,6 +79,9 @@ BreaksOff limit bytes source later NoMemory = later.failed ≡ source.failed
 BreaksOff limit bytes source later NoSite = ⊥
 BreaksOff limit bytes source later Ended = ⊥
 BreaksOff limit bytes source later Incomplete = ⊥
+BreaksOff limit bytes source later NoKey = ⊥
+BreaksOff limit bytes source later NotProved = ⊥
+BreaksOff limit bytes source later NotAllowed = ⊥
 
 -- reading a line broke off, and nothing of it was handed over
 pub record BreaksFeed {Taker : Type 0} (limit : ℕ) (old new : Standing Taker) (fault : FeedFault) : Type 0 where

@@ -20,8 +20,8 @@ pub enum FeedFault {
     /// 5: memory was refused.
     #[error("no memory")]
     NoMemory,
-    /// 7: no site answers at the port.
-    #[error("no site answers at the port")]
+    /// 7: no site answers at the address.
+    #[error("no site answers at the address")]
     NoSite,
     /// 8: the connection to the site ended, or what came over it was no answer.
     #[error("the session of the site ended")]
@@ -29,6 +29,15 @@ pub enum FeedFault {
     /// 9: the answer of a query is cut short, or is an error.
     #[error("the answer of a query isn't whole")]
     Incomplete,
+    /// 10: the site has no such key.
+    #[error("the site has no such key")]
+    NoKey,
+    /// 11: what answers at the address didn't prove that it has the key.
+    #[error("the site didn't prove that it has the key")]
+    NotProved,
+    /// 12: who has the key may look, and not have bodies taken in.
+    #[error("the key may only read")]
+    NotAllowed,
 }
 
 impl FeedFault {
@@ -44,6 +53,9 @@ impl FeedFault {
             FeedFault::NoSite => 7,
             FeedFault::Ended => 8,
             FeedFault::Incomplete => 9,
+            FeedFault::NoKey => 10,
+            FeedFault::NotProved => 11,
+            FeedFault::NotAllowed => 12,
         }
     }
 
@@ -59,6 +71,9 @@ impl FeedFault {
             FeedFault::NoSite => "NoSite",
             FeedFault::Ended => "Ended",
             FeedFault::Incomplete => "Incomplete",
+            FeedFault::NoKey => "NoKey",
+            FeedFault::NotProved => "NotProved",
+            FeedFault::NotAllowed => "NotAllowed",
         }
     }
 }

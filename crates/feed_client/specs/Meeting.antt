@@ -5,7 +5,7 @@ use Rattle.event_feed.specs.Ends.{End, FeedIsCutShort, IsWritten}
 use Rattle.event_feed.specs.Texts.{fault_line}
 use Rattle.event_feed.specs.declared.fault.FeedFault.{FeedFault}
 use Rattle.event_feed.specs.declared.fault.FeedFault.TheVariants.{Dropped, ReadFault, WriteFault, NoMemory, NoSite, Ended}
-use Rattle.event_feed.specs.declared.fault.FeedFault.TheVariants.{Incomplete}
+use Rattle.event_feed.specs.declared.fault.FeedFault.TheVariants.{Incomplete, NoKey, NotAllowed, NotProved}
 use Rattle.event_filter.specs.Bringing.{IsBrought}
 use Rattle.event_filter.specs.Newest.{IsOpenTo}
 use Rattle.gerrit_events.specs.declared.fault.EventFault.{EventFault}
@@ -48,6 +48,9 @@ ReportsLoss text old new (Err NoMemory) = new ≡ old
 ReportsLoss text old new (Err NoSite) = ⊥
 ReportsLoss text old new (Err Ended) = ⊥
 ReportsLoss text old new (Err Incomplete) = ⊥
+ReportsLoss text old new (Err NoKey) = ⊥
+ReportsLoss text old new (Err NotProved) = ⊥
+ReportsLoss text old new (Err NotAllowed) = ⊥
 
 abbrev pub refused_words : ℕ → List ℕ → List ℕ
 refused_words number text = (codes "Refused " ++ decimal number ++ codes " ") ++ text
@@ -64,13 +67,15 @@ KeepsTaken op old new (Ok done) = new ≡ with_effect old op
 KeepsTaken op old new (Err fault) = (fault ≡ NoMemory) × (new ≡ old)
 
 -- how a feed goes on from a reply: what was taken in is taken into the state, a refusal is reported, and without an
--- answer the feed ends
+-- answer the feed ends, as it does where the key may only read
 abbrev pub TakesUp : ℕ → Deed → Result Timestamp IntakeFault → State → State → End → End → Result (Unit {0}) FeedFault
     → Type 0
 TakesUp number deed (Ok stamp) old new errors after result =
     KeepsTaken (record { stamp = stamp; deed = deed }) old new result × (after ≡ errors)
 TakesUp number deed (Err (Refused refusal)) old new errors after result =
     (new ≡ old) × ReportsLoss (refused_line number refusal) errors after result
+TakesUp number deed (Err intake.NotAllowed) old new errors after result =
+    (result ≡ Err NotAllowed) × (new ≡ old) × (after ≡ errors)
 TakesUp number deed (Err intake.Ended) old new errors after result =
     (result ≡ Err Ended) × (new ≡ old) × (after ≡ errors)
 TakesUp number deed (Err intake.NoMemory) old new errors after result =

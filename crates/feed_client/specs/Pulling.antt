@@ -3,7 +3,7 @@
 use Rattle.std.specs.Prelude.{◌≡◌, ◌⊎◌, ◌≤◌, ◌<◌, ◌+◌, ◌-◌, ◌==◌, ◌^◌, ℕ, Bool, true, false, List, [], ◌∷◌, Result, Ok, Err}
 use Rattle.std.specs.Prelude.{Contains, flat_map, fold, length, take, if◌then◌else◌}
 use Rattle.event_feed.specs.declared.fault.FeedFault.{FeedFault}
-use Rattle.event_feed.specs.declared.fault.FeedFault.TheVariants.{NoMemory, Ended}
+use Rattle.event_feed.specs.declared.fault.FeedFault.TheVariants.{NoMemory, NotAllowed, Ended}
 use Rattle.replica_core.specs.Front.{Reaches, raised, reach_of}
 use Rattle.review_ops.specs.Operation.{Operation}
 use Rattle.review_ops.specs.Timestamp.{Timestamp}
@@ -42,6 +42,7 @@ all_ops rounds = flat_map (λ ops. ops) rounds
 -- how a feed ends where a site answers no round
 abbrev pub ending_of : IntakeFault → FeedFault
 ending_of (Refused refusal) = Ended
+ending_of intake.NotAllowed = NotAllowed
 ending_of intake.Ended = Ended
 ending_of intake.NoMemory = NoMemory
 

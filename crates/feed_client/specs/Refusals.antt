@@ -14,7 +14,11 @@ text_of BadBody = codes "8 BadBody"
 text_of ClockSpent = codes "9 ClockSpent"
 text_of Closed = codes "10 Closed"
 
--- each of them
+-- who may only read is answered so to each body
+abbrev pub not_allowed_text : List ℕ
+not_allowed_text = codes "11 NotAllowed"
+
+-- each of the refusals
 abbrev pub all : List Refusal
 all = NoMemory ∷ BadText ∷ BadBody ∷ ClockSpent ∷ Closed ∷ []
 
@@ -27,12 +31,14 @@ no_word = codes "no "
 -- of the text after `no` the refusal is read that it names, or the end where it names none
 abbrev pub IsRefusalText : List ℕ → IntakeFault → Type 0
 IsRefusalText text (Refused refusal) = text ≡ text_of refusal
-IsRefusalText text fault.Ended = (refusal : Refusal) → ¬ (text ≡ text_of refusal)
+IsRefusalText text fault.NotAllowed = text ≡ not_allowed_text
+IsRefusalText text fault.Ended = (¬ (text ≡ not_allowed_text)) × ((refusal : Refusal) → ¬ (text ≡ text_of refusal))
 IsRefusalText text fault.NoMemory = ⊥
 
 -- no session answers this line
 abbrev pub AnswersNothing : List ℕ → Type 0
-AnswersNothing line = ((refusal : Refusal) → ¬ (line ≡ no_word ++ text_of refusal))
+AnswersNothing line = (¬ (line ≡ no_word ++ not_allowed_text))
+    × ((refusal : Refusal) → ¬ (line ≡ no_word ++ text_of refusal))
     × ((stamp : Timestamp) → IsNumbered stamp → ¬ (line ≡ ok_word ++ timestamp_text stamp))
 
 -- what is read of a line: a stamp or a refusal where the line is that of just it, and the end where it is no answer;
@@ -40,5 +46,6 @@ AnswersNothing line = ((refusal : Refusal) → ¬ (line ≡ no_word ++ text_of r
 abbrev pub IsTakeAnswer : List ℕ → Result Timestamp IntakeFault → Type 0
 IsTakeAnswer line (Ok stamp) = line ≡ ok_word ++ timestamp_text stamp
 IsTakeAnswer line (Err (Refused refusal)) = line ≡ no_word ++ text_of refusal
+IsTakeAnswer line (Err fault.NotAllowed) = line ≡ no_word ++ not_allowed_text
 IsTakeAnswer line (Err fault.Ended) = AnswersNothing line
 IsTakeAnswer line (Err fault.NoMemory) = Unit {0}

@@ -3,7 +3,8 @@
 ghost use Rattle.std.specs.Prelude.{◌≡◌, ◌++◌, ◌∷◌, ◌<◌, ◌^◌, ℕ, List, IfOk, IfSome, IsNone, IsSomeAnd, MatchOption};
 ghost use Rattle.std.specs.Prelude.{Some};
 ghost use Rattle.std.specs.Fmt.{decimal};
-ghost use Rattle.feed_client.specs.Refusals.{IsTakeAnswer, IsRefusalText};
+ghost use Rattle.feed_client.specs.Refusals.{IsTakeAnswer, IsRefusalText, text_of};
+ghost use Rattle.feed_client.specs.declared.intake.Refusal.{Refusal as Named};
 ghost use Rattle.review_ops.specs.Timestamp.{IsNumbered, Timestamp, timestamp_text};
 
 use super::intake::{IntakeFault, Refusal};
@@ -20,8 +21,12 @@ const REFUSALS: [Refusal; 5] = [
     Refusal::Closed,
 ];
 
+/// What a session answers to each body where the key of its connection may only read, after `no `.
+const NOT_ALLOWED: &[u8] = b"11 NotAllowed";
+
 /// What a line answers: `ok STAMP`, or the refusal of `no NUMBER NAME`. Refusals: `Refused`, with what the site refused
-/// it for; `Ended`, the line is no answer; `NoMemory`, memory was refused for reading the stamp.
+/// it for; `NotAllowed`, the key of the connection may only read; `Ended`, the line is no answer; `NoMemory`, memory was
+/// refused for reading the stamp.
 pub fn read_answer(alloc: Global, line: &[u8]) -> Result<Stamp, IntakeFault>
     ensures { IsTakeAnswer line.now result }
 {
@@ -50,16 +55,30 @@ fn after<'a>(line: &'a [u8], word: &[u8]) -> Option<&'a [u8]>
     if front == word { Some(text) } else { None }
 }
 
-/// The refusal that a text names.
+/// What a text after `no` says.
 fn read_refusal(text: &[u8]) -> IntakeFault
     ensures { IsRefusalText text.now result }
 {
+    if text == NOT_ALLOWED {
+        return IntakeFault::NotAllowed;
+    }
+    match refusal_of(text) {
+        Some(refusal) => IntakeFault::Refused(refusal),
+        None => IntakeFault::Ended,
+    }
+}
+
+/// The refusal that a text names.
+fn refusal_of(text: &[u8]) -> Option<Refusal>
+    ensures { MatchOption result ((refusal : Named) → ¬ (text.now ≡ text_of refusal))
+        (λ refusal. text.now ≡ text_of refusal) }
+{
     for refusal in REFUSALS {
         if text == refusal.text().as_bytes() {
-            return IntakeFault::Refused(refusal);
+            return Some(refusal);
         }
     }
-    IntakeFault::Ended
+    None
 }
 
 /// The stamp that a text is, where it is one: four numbers in decimal, with commas between them, as a session writes

@@ -2,21 +2,22 @@
 
 use super::inlet::{Inlet, start_reading};
 use super::inlet_reader::InletReader;
+use super::link::{FedSite, linked, reached};
 use super::listing::{Listing, complete_site};
 use super::noted::Noted;
 use super::pull::pull_all;
-use super::session::{Session, patience};
+use super::session::{Place, Session};
 use super::site_feed::{SiteFeed, feed_site};
 use super::watch::is_over;
 use byte_ends::{Drain, Ends, Source};
 use event_feed::{FeedFault, Input, send};
 use footer_text::Bases;
 use gerrit_events::Projects;
-use site_address::Address;
-use site_net::{Stop, connected};
+use site_net::Stop;
 use state_core::State;
 use std::alloc::Global;
 use std::net::{Net, TcpStream};
+use std::random::RandomSource;
 use std::sync::{Arc, Wait};
 use std::thread::Threads;
 use std::time::Clock;
@@ -35,8 +36,8 @@ pub enum Feeds {
 /// Which site is fed, and how.
 #[derive(Drop)]
 pub struct FeedOrder<'a> {
-    /// The address of this machine at which the site answers.
-    pub address: Address<'a>,
+    /// The site.
+    pub site: FedSite<'a>,
     pub feeds: Feeds,
     /// Whose changes are fed.
     pub projects: Projects,
@@ -44,12 +45,21 @@ pub struct FeedOrder<'a> {
     pub bases: Option<Bases>,
 }
 
-/// Feeds the lines of an input to the site that answers at an address of this machine, as `feed_site` and `complete_site`
-/// do. Its record is pulled first, of which the state is kept, and then `pulled N` is written to the output: the record
-/// has N operations. Only then the input is read, by a thread of its own. One session is held as long as the feed lasts,
-/// which ends with `quit` and `bye`. A feed of a stream pulls again over it, from its front, whenever its input was
-/// silent for a second. Where the session ends the feed does within a tenth of a second, also while the input is silent.
-/// Refusals, beside those of `feed_site` and `complete_site`: 7 `NoSite`, no site answers at the address.
+/// What a feed reads, and where a thread of its own leaves it.
+#[derive(Drop)]
+struct Reading<I> {
+    input: I,
+    inlet: Arc<Inlet, Global>,
+}
+
+/// Feeds the lines of an input to a site, as `feed_site` and `complete_site` do, over a connection that is sealed where the
+/// site is on another machine. Its record is pulled first, of which the state is kept, and then `pulled N` is written to the
+/// output: the record has N operations. Only then the input is read, by a thread of its own. One session is held as long as
+/// the feed lasts, which ends with `quit` and `bye`. A feed of a stream pulls again over it, from its front, whenever its
+/// input was silent for a second. Where the session ends the feed does within a tenth of a second, also while the input is
+/// silent. Refusals, beside those of `feed_site` and `complete_site`: 7 `NoSite`, no site answers at the address; 8 `Ended`,
+/// also where the system gives no random bytes for sealing; 10 `NoKey`, the site has no such key; 11 `NotProved`, what
+/// answers didn't prove that it has it; 12 `NotAllowed`, the key may only read.
 pub fn feed_to<R, I, O, E>(
     rt: R,
     alloc: Global,
@@ -59,47 +69,149 @@ pub fn feed_to<R, I, O, E>(
     errors: &mut E,
 ) -> Result<(), FeedFault>
 where
-    R: Net<Stream = TcpStream> + Threads + Wait + Clock + Copy + Send + 'static,
+    R: Net<Stream = TcpStream> + Threads + Wait + Clock + RandomSource + Copy + Send + 'static,
+    I: Source + Send + Drop + 'static,
+    O: Drain,
+    E: Drain,
+{
+    match reached(&rt, &order.site) {
+        Some(stream) => feed_over(rt, alloc, order, &stream, input, output, errors),
+        None => Err(FeedFault::NoSite),
+    }
+}
+
+/// Feeds a site over a connection, with an inlet for the input, which is closed in the end.
+fn feed_over<R, I, O, E>(
+    rt: R,
+    alloc: Global,
+    order: FeedOrder<'_>,
+    stream: &TcpStream,
+    input: I,
+    output: &mut O,
+    errors: &mut E,
+) -> Result<(), FeedFault>
+where
+    R: Threads + Wait + Clock + RandomSource + Copy + Send + 'static,
+    I: Source + Send + Drop + 'static,
+    O: Drain,
+    E: Drain,
+{
+    let Ok(inlet) = Arc::new(alloc, Inlet::new()) else {
+        return Err(FeedFault::NoMemory);
+    };
+    let Ok(theirs) = Arc::try_clone(&inlet) else {
+        return Err(FeedFault::NoMemory);
+    };
+    let reading = Reading {
+        input,
+        inlet: theirs,
+    };
+    let place = Place {
+        stream,
+        inlet: &inlet,
+    };
+    let ended = feed_session(rt, alloc, order, place, reading, output, errors);
+    inlet.close(&rt);
+    ended
+}
+
+/// Feeds a site over a session that is opened on a connection.
+fn feed_session<R, I, O, E>(
+    rt: R,
+    alloc: Global,
+    order: FeedOrder<'_>,
+    place: Place<'_>,
+    reading: Reading<I>,
+    output: &mut O,
+    errors: &mut E,
+) -> Result<(), FeedFault>
+where
+    R: Threads + Wait + Clock + RandomSource + Copy + Send + 'static,
     I: Source + Send + Drop + 'static,
     O: Drain,
     E: Drain,
 {
     let stop = Stop::new();
-    let Ok(stream) = connected(&rt, order.address, patience()) else {
-        return Err(FeedFault::NoSite);
+    let link = match linked(&rt, alloc, &order.site, place.stream, &stop) {
+        Ok(link) => link,
+        Err(fault) => return Err(fault),
     };
-    let Ok(inlet) = Arc::new(alloc, Inlet::new()) else {
-        return Err(FeedFault::NoMemory);
-    };
-    let mut state = State::new(alloc);
     let pulls_again = order.feeds == Feeds::Stream;
-    let mut session = Session::open(&rt, alloc, &stream, &stop, &inlet, pulls_again)?;
-    let count = pull_all(&mut session, &mut state)?;
-    say_pulled(alloc, count, output)?;
-    let Ok(theirs) = Arc::try_clone(&inlet) else {
-        return Err(FeedFault::NoMemory);
-    };
-    if !start_reading(rt, alloc, input, theirs) {
-        return Err(FeedFault::ReadFault);
+    match Session::open(&rt, alloc, link, place, pulls_again) {
+        Ok(session) => feed_pulled(rt, alloc, order, session, reading, output, errors),
+        Err(fault) => Err(fault),
     }
-    let mut source = Ends::new(InletReader::new(&rt, alloc, &inlet, &stream));
-    let FeedOrder {
-        feeds,
-        projects,
-        bases,
-        ..
-    } = order;
-    let feed = SiteFeed {
-        alloc,
-        bases,
-        state,
-        site: session,
-        output,
-        errors,
+}
+
+/// Feeds a site whose session is open: pulls its record, and then reads the input.
+fn feed_pulled<R, I, O, E>(
+    rt: R,
+    alloc: Global,
+    order: FeedOrder<'_>,
+    session: Session<'_, R>,
+    reading: Reading<I>,
+    output: &mut O,
+    errors: &mut E,
+) -> Result<(), FeedFault>
+where
+    R: Threads + Wait + Clock + Copy + Send + 'static,
+    I: Source + Send + Drop + 'static,
+    O: Drain,
+    E: Drain,
+{
+    let mut session = session;
+    let mut state = State::new(alloc);
+    match begin(rt, alloc, &mut session, &mut state, reading, output) {
+        Ok(()) => {
+            let feed = SiteFeed {
+                alloc,
+                bases: order.bases,
+                state,
+                site: session,
+                output,
+                errors,
+            };
+            run(&rt, alloc, order.feeds, &order.projects, feed)
+        }
+        Err(fault) => Err(fault),
+    }
+}
+
+/// Pulls the record of a site into a state, says so, and has the input read from then on.
+fn begin<R, I, O>(
+    rt: R,
+    alloc: Global,
+    session: &mut Session<'_, R>,
+    state: &mut State,
+    reading: Reading<I>,
+    output: &mut O,
+) -> Result<(), FeedFault>
+where
+    R: Threads + Wait + Clock + Copy + Send + 'static,
+    I: Source + Send + Drop + 'static,
+    O: Drain,
+{
+    let count = match pull_all(session, state) {
+        Ok(count) => count,
+        Err(fault) => return Err(fault),
     };
-    let ended = run(alloc, feeds, &projects, &mut source, feed, &stream);
-    inlet.close(&rt);
-    ended
+    match say_pulled(alloc, count, output) {
+        Ok(()) => start(rt, alloc, reading),
+        Err(fault) => Err(fault),
+    }
+}
+
+/// Has the input read.
+fn start<R, I>(rt: R, alloc: Global, reading: Reading<I>) -> Result<(), FeedFault>
+where
+    R: Threads + Wait + Copy + Send + 'static,
+    I: Source + Send + Drop + 'static,
+{
+    if start_reading(rt, alloc, reading.input, reading.inlet) {
+        Ok(())
+    } else {
+        Err(FeedFault::ReadFault)
+    }
 }
 
 /// Says that a record of so many operations is pulled.
@@ -111,26 +223,39 @@ fn say_pulled<O: Drain>(alloc: Global, count: u64, output: &mut O) -> Result<(),
 }
 
 /// Runs a feed over a session, and ends that. A read that failed as the session ended is no fault of the input.
-fn run<R: Wait + Clock, S: Source, O: Drain + Drop, E: Drain + Drop>(
+fn run<R: Wait + Clock, O: Drain + Drop, E: Drain + Drop>(
+    rt: &R,
     alloc: Global,
     feeds: Feeds,
     projects: &Projects,
-    source: &mut S,
     feed: SiteFeed<Session<'_, R>, O, E>,
-    stream: &TcpStream,
 ) -> Result<(), FeedFault> {
+    let place = feed.site.place();
+    let mut source = Ends::new(InletReader::new(rt, alloc, place.inlet, place.stream));
     let mut listing = Listing {
         feed,
         noted: Noted::new(alloc),
     };
     let fed = match feeds {
-        Feeds::Stream => feed_site(alloc, Input::Stream, projects, source, &mut listing.feed),
-        Feeds::Query => feed_site(alloc, Input::Answer, projects, source, &mut listing.feed),
-        Feeds::Complete => complete_site(alloc, projects, source, &mut listing),
+        Feeds::Stream => feed_site(
+            alloc,
+            Input::Stream,
+            projects,
+            &mut source,
+            &mut listing.feed,
+        ),
+        Feeds::Query => feed_site(
+            alloc,
+            Input::Answer,
+            projects,
+            &mut source,
+            &mut listing.feed,
+        ),
+        Feeds::Complete => complete_site(alloc, projects, &mut source, &mut listing),
     };
     match fed {
         Ok(()) => listing.feed.site.expect("quit\n", b"bye"),
-        Err(FeedFault::ReadFault) if is_over(stream) => Err(FeedFault::Ended),
+        Err(FeedFault::ReadFault) if is_over(place.stream) => Err(FeedFault::Ended),
         Err(fault) => Err(fault),
     }
 }

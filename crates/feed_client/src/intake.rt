@@ -25,6 +25,8 @@ pub enum Refusal {
 pub enum IntakeFault {
     /// The site has refused it, which changed nothing.
     Refused(Refusal),
+    /// The key of the connection may only read, so that the site refuses each body. It changed nothing.
+    NotAllowed,
     /// The connection ended, or what came over it was no answer. The body may have been taken in.
     Ended,
     /// Memory was refused here. The body may have been taken in.

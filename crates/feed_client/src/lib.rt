@@ -1,6 +1,6 @@
-//! Feeds what Gerrit writes to the site that answers at an address of this machine: what `event_feed` reads of each line
-//! goes to a session of the site, but for what the site's record says already. The feed first pulls the record, and
-//! then keeps its state in step with what it sends and with what others bring to the site.
+//! Feeds what Gerrit writes to a site, of this machine or, over a sealed connection, of another one: what `event_feed`
+//! reads of each line goes to a session of the site, but for what the site's record says already. The feed first pulls
+//! the record, and then keeps its state in step with what it sends and with what others bring to the site.
 //!
 //! Its tests are in the crate `serve_tests`.
 //!
@@ -31,10 +31,12 @@
 #![tactic(auto)]
 
 mod answer;
+mod answer_reader;
 mod connection;
 mod inlet;
 mod inlet_reader;
 mod intake;
+mod link;
 mod listing;
 mod meet;
 mod noted;
@@ -46,6 +48,7 @@ mod watch;
 pub use answer::read_answer;
 pub use connection::{FeedOrder, Feeds, feed_to};
 pub use intake::{Intake, IntakeFault, Refusal};
+pub use link::FedSite;
 pub use listing::{Listing, complete_site};
 pub use noted::Noted;
 pub use pull::{fronts_have_no_gap, go_on, pull_all};

@@ -143,6 +143,7 @@ fn take_up<E: Drain>(
     match reply {
         Ok(stamp) => keep(state, Op::new(stamp, body)),
         Err(IntakeFault::Refused(refusal)) => report_refusal(alloc, number, refusal, errors),
+        Err(IntakeFault::NotAllowed) => Err(FeedFault::NotAllowed),
         Err(IntakeFault::Ended) => Err(FeedFault::Ended),
         Err(IntakeFault::NoMemory) => Err(FeedFault::NoMemory),
     }

@@ -61,6 +61,7 @@ fn ending_of(fault: IntakeFault) -> FeedFault
 {
     match fault {
         IntakeFault::Refused(_) | IntakeFault::Ended => FeedFault::Ended,
+        IntakeFault::NotAllowed => FeedFault::NotAllowed,
         IntakeFault::NoMemory => FeedFault::NoMemory,
     }
 }

@@ -3,18 +3,18 @@
 use super::answer::read_answer;
 use super::inlet::Inlet;
 use super::intake::{Intake, IntakeFault};
+use super::link::{FeedDrain, FeedSource, Link};
 use super::pull::go_on;
 use super::watch::is_over;
-use byte_ends::{BytesFault, Ends, write_all};
+use byte_ends::{BytesFault, write_all};
 use event_feed::FeedFault;
 use gossip_line::{LineFault, greet, read_round, send_front};
 use line_reader::{LINE_LIMIT, LineReader};
 use op_text::write_body;
 use replica_core::{Front, Missing};
 use review_ops::{Body, Stamp};
-use site_net::{Patience, PatientReader, PatientWriter, Stop};
+use site_net::Patience;
 use std::alloc::Global;
-use std::io;
 use std::net::TcpStream;
 use std::sync::Wait;
 use std::time::{Clock, Duration, Instant};
@@ -36,9 +36,9 @@ const HEARD_S: u64 = 10;
 pub struct Session<'a, R: Wait + Clock> {
     rt: &'a R,
     alloc: Global,
-    stream: &'a TcpStream,
-    stop: &'a Stop,
-    inlet: &'a Inlet,
+    place: Place<'a>,
+    source: FeedSource<'a, R>,
+    drain: FeedDrain<'a, R>,
     reader: LineReader,
     front: Front,
     /// Whether it pulls again where the input is silent.
@@ -50,6 +50,13 @@ pub struct Session<'a, R: Wait + Clock> {
     /// Whether the site notes that Gerrit was heard, as far as is known, and when it did last.
     notes_heard: bool,
     heard: Option<Instant>,
+}
+
+/// Where the input of a session comes from, and the connection that it is held over.
+#[derive(Clone, Copy)]
+pub struct Place<'a> {
+    pub stream: &'a TcpStream,
+    pub inlet: &'a Inlet,
 }
 
 /// How long a site has for an answer.
@@ -65,20 +72,20 @@ impl<'a, R: Wait + Clock> Session<'a, R> {
     pub fn open(
         rt: &'a R,
         alloc: Global,
-        stream: &'a TcpStream,
-        stop: &'a Stop,
-        inlet: &'a Inlet,
+        link: Link<'a, R>,
+        place: Place<'a>,
         pulls_again: bool,
     ) -> Result<Session<'a, R>, FeedFault> {
         let Ok(reader) = LineReader::new(alloc, LINE_LIMIT) else {
             return Err(FeedFault::NoMemory);
         };
+        let Link { source, drain } = link;
         let mut session = Session {
             rt,
             alloc,
-            stream,
-            stop,
-            inlet,
+            place,
+            source,
+            drain,
             reader,
             front: Front::new(alloc),
             pulls_again,
@@ -87,32 +94,24 @@ impl<'a, R: Wait + Clock> Session<'a, R> {
             notes_heard: true,
             heard: None,
         };
-        session.begin()?;
-        Ok(session)
+        match session.begin() {
+            Ok(()) => Ok(session),
+            Err(fault) => Err(fault),
+        }
+    }
+
+    /// Where its input comes from, and the connection that it is held over.
+    pub fn place(&self) -> Place<'a> {
+        self.place
     }
 
     /// Greets the site.
     fn begin(&mut self) -> Result<(), FeedFault> {
-        let (Ok(mut source), Ok(mut drain)) = (self.source(), self.drain()) else {
-            return Err(FeedFault::Ended);
-        };
-        match greet(&mut self.reader, &mut source, &mut drain) {
+        match greet(&mut self.reader, &mut self.source, &mut self.drain) {
             Ok(()) => Ok(()),
             Err(LineFault::NoMemory) => Err(FeedFault::NoMemory),
             Err(_) => Err(FeedFault::Ended),
         }
-    }
-
-    /// Where the site's answers come from.
-    fn source(&self) -> io::Result<Ends<PatientReader<'a, R>>> {
-        let reader = PatientReader::new(self.rt, self.stream, self.stop, patience())?;
-        Ok(Ends::new(reader))
-    }
-
-    /// Where what the site is asked goes to.
-    fn drain(&self) -> io::Result<Ends<PatientWriter<'a, R>>> {
-        let writer = PatientWriter::new(self.rt, self.stream, patience())?;
-        Ok(Ends::new(writer))
     }
 
     /// Sends a line, and awaits this answer.
@@ -126,13 +125,10 @@ impl<'a, R: Wait + Clock> Session<'a, R> {
 
     /// Sends a line, and awaits the first line of its answer.
     fn ask(&mut self, line: &str) -> Result<(), IntakeFault> {
-        let (Ok(mut source), Ok(mut drain)) = (self.source(), self.drain()) else {
-            return Err(IntakeFault::Ended);
-        };
-        if write_all(&mut drain, line.as_bytes()).is_err() {
+        if write_all(&mut self.drain, line.as_bytes()).is_err() {
             return Err(IntakeFault::Ended);
         }
-        match self.reader.next_line(&mut source) {
+        match self.reader.next_line(&mut self.source) {
             Ok(true) => Ok(()),
             Err(BytesFault::NoMemory) => Err(IntakeFault::NoMemory),
             _ => Err(IntakeFault::Ended),
@@ -151,12 +147,9 @@ impl<'a, R: Wait + Clock> Session<'a, R> {
 
     /// Asks for a round, and reads it.
     fn read_round(&mut self) -> Result<Missing, IntakeFault> {
-        let (Ok(mut source), Ok(mut drain)) = (self.source(), self.drain()) else {
-            return Err(IntakeFault::Ended);
-        };
-        let asked = send_front(self.alloc, &mut drain, &self.front);
+        let asked = send_front(self.alloc, &mut self.drain, &self.front);
         asked.map_err(line_fault)?;
-        read_round(self.alloc, &mut self.reader, &mut source).map_err(line_fault)
+        read_round(self.alloc, &mut self.reader, &mut self.source).map_err(line_fault)
     }
 
     /// Lets the front go on to a stamp.
@@ -173,7 +166,7 @@ impl<'a, R: Wait + Clock> Session<'a, R> {
         let Ok(now) = Instant::now(self.rt) else {
             return Ok(());
         };
-        if !self.notes_heard || !self.inlet.has_bytes(self.rt) || self.was_heard(now) {
+        if !self.notes_heard || !self.place.inlet.has_bytes(self.rt) || self.was_heard(now) {
             return Ok(());
         }
         self.heard = Some(now);
@@ -184,6 +177,7 @@ impl<'a, R: Wait + Clock> Session<'a, R> {
                 self.notes_heard = false;
                 Ok(())
             }
+            b"no 11 NotAllowed" => Err(IntakeFault::NotAllowed),
             _ => Err(IntakeFault::Ended),
         }
     }
@@ -200,12 +194,13 @@ impl<'a, R: Wait + Clock> Session<'a, R> {
     fn await_input(&self) -> Result<bool, IntakeFault> {
         for _ in 0..SILENT_TICKS {
             if self
+                .place
                 .inlet
                 .await_block(self.rt, Duration::from_millis(TICK_MS))
             {
                 return Ok(true);
             }
-            if is_over(self.stream) {
+            if is_over(self.place.stream) {
                 return Err(IntakeFault::Ended);
             }
         }

@@ -86,6 +86,13 @@ number_of NoKey = 3
 number_of ReadFault = 4
 number_of NoMemory = 5
 
+abbrev pub name_of : KeyFault → List ℕ
+name_of Open = codes "Open"
+name_of (BadLine n) = codes "BadLine"
+name_of NoKey = codes "NoKey"
+name_of ReadFault = codes "ReadFault"
+name_of NoMemory = codes "NoMemory"
+
 -- the first of a list of which a fact holds
 pub record IsFirst (P : Entry → Type 0) (keys : List Entry) (found : Entry) : Type 0 where
   pub before : List Entry

@@ -24,7 +24,7 @@ pub enum KeyFault {
 
 impl KeyFault {
     ghost use Rattle.std.specs.Prelude.{◌≡◌};
-    ghost use Rattle.key_file.specs.Files.{number_of};
+    ghost use Rattle.key_file.specs.Files.{name_of, number_of};
 
     /// The fault's number, of the part `keys`.
     pub fn number(&self) -> u8
@@ -36,6 +36,19 @@ impl KeyFault {
             KeyFault::NoKey => 3,
             KeyFault::ReadFault => 4,
             KeyFault::NoMemory => 5,
+        }
+    }
+
+    /// The fault's name.
+    pub fn name(&self) -> &'static str
+        ensures { result.now ≡ name_of self.now }
+    {
+        match self {
+            KeyFault::Open => "Open",
+            KeyFault::BadLine(_) => "BadLine",
+            KeyFault::NoKey => "NoKey",
+            KeyFault::ReadFault => "ReadFault",
+            KeyFault::NoMemory => "NoMemory",
         }
     }
 }

@@ -1,8 +1,9 @@
 //! All keys of a file.
 
-ghost use Rattle.std.specs.Prelude.{◌≡◌, ◌≢◌, ◌++◌, ◌∷◌, List, ℕ, All, IfErr, IfOk, MatchBool, MatchOption};
+ghost use Rattle.std.specs.Prelude.{◌≡◌, ◌≢◌, ◌++◌, ◌∷◌, List, ℕ, All, IfErr, IfOk, MatchBool, MatchOption, MatchResult};
 ghost use Rattle.byte_ends.specs.Lines.{lines_of};
-ghost use Rattle.key_file.specs.Files.{IsBad, IsFirst, IsUnread, Say, SaysMore};
+ghost use Rattle.key_file.specs.Files.{Entry, IsBad, IsFirst, IsUnread, Say, SaysMore};
+ghost use Rattle.key_file.specs.declared.fault.KeyFault.TheVariants.{NoKey};
 ghost use Rattle.sealed_line.specs.Keys.{id_under};
 
 use super::fault::KeyFault;
@@ -36,6 +37,19 @@ impl Keys {
             (λ found. IsFirst (λ key. key.name ≡ name.now) self.now found.now) }
     {
         first_named(self.keys.as_slice(), name)
+    }
+
+    /// The secret with which a name is dialed: that of the first key under it. Refusal: 3 `NoKey`, no key has the name. It
+    /// takes no memory.
+    pub fn secret_of(&self, name: &[u8]) -> Result<[u8; 32], KeyFault>
+        ensures { MatchResult result
+            (λ secret. (key : Entry) × IsFirst (λ key. key.name ≡ name.now) self.now key × (secret ≡ key.secret))
+            (λ fault. (fault ≡ NoKey) × All (λ key. key.name ≢ name.now) self.now) }
+    {
+        match self.dialing(name) {
+            Some(key) => Ok(*key.secret()),
+            None => Err(KeyFault::NoKey),
+        }
     }
 
     /// The key that is let in by this ID: the first one whose secret has it. It takes no memory.

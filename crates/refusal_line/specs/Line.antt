@@ -1,8 +1,8 @@
 -- The line of a refusal.
 use Rattle.std.specs.Prelude.{ℕ, List, ◌++◌, codes, decimal}
 use Rattle.refusal_line.specs.declared.part.Part.{Part}
-use Rattle.refusal_line.specs.declared.part.Part.TheVariants.{Check, Enqueue, Events, File, Gate, Item, Journal, Memory}
-use Rattle.refusal_line.specs.declared.part.Part.TheVariants.{Output, Peer, Script, Serve, Session, Snapshot}
+use Rattle.refusal_line.specs.declared.part.Part.TheVariants.{Check, Enqueue, Events, File, Gate, Item, Journal, Keys}
+use Rattle.refusal_line.specs.declared.part.Part.TheVariants.{Memory, Output, Peer, Script, Serve, Session, Snapshot}
 
 -- the part's name
 abbrev pub name_of : Part → List ℕ
@@ -20,6 +20,7 @@ name_of Session = codes "session"
 name_of Peer = codes "peer"
 name_of Events = codes "events"
 name_of Enqueue = codes "enqueue"
+name_of Keys = codes "keys"
 
 -- a name and a number, with a blank after each
 abbrev pub numbered : List ℕ → ℕ → List ℕ

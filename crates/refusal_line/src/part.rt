@@ -33,6 +33,8 @@ pub enum Part {
     Events,
     /// Handing items to Zuul.
     Enqueue,
+    /// The file of keys of sealed connections.
+    Keys,
 }
 
 impl Part {
@@ -57,6 +59,7 @@ impl Part {
             Part::Peer => "peer",
             Part::Events => "events",
             Part::Enqueue => "enqueue",
+            Part::Keys => "keys",
         }
     }
 }

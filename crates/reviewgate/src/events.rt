@@ -3,8 +3,9 @@
 ghost use Rattle.std.specs.Prelude.{◌≡◌, ◌++◌, IfOk, codes, string_bytes};
 ghost use Rattle.refusal_line.specs.Line.{line_of};
 ghost use Rattle.refusal_line.specs.declared.part.Part.TheVariants.{Events};
-ghost use Rattle.site_address.specs.Address.{address_text};
+ghost use Rattle.site_address.specs.Peer.{peer_text};
 
+use super::keys::{fed_site, report_keys};
 use super::projects::read_projects;
 use byte_ends::{Drain, Source};
 use command_line::{Answer, EventWords};
@@ -16,9 +17,10 @@ use footer_text::Bases;
 use gerrit_events::Projects;
 use record_pull::SystemFiles;
 use refusal_line::{Part, refusal_line};
-use site_address::Address;
+use site_address::PeerAddress;
 use std::alloc::{AllocError, Global};
 use std::net::{Net, TcpStream};
+use std::random::RandomSource;
 use std::rt::Files;
 use std::sync::Wait;
 use std::thread::Threads;
@@ -27,7 +29,9 @@ use std::time::Clock;
 /// What a feed is run with, once its files are read.
 #[derive(Drop)]
 struct Choice<'n> {
-    to: Option<Address<'n>>,
+    to: Option<PeerAddress<'n>>,
+    /// The name of the file of keys.
+    keys: Option<&'n str>,
     answer: Answer,
     projects: Projects,
     bases: Option<Bases>,
@@ -44,7 +48,7 @@ pub fn feed<R, I, O, E>(
     errors: &mut E,
 ) -> u8
 where
-    R: Net<Stream = TcpStream> + Files + Threads + Wait + Clock + AllocGlobal,
+    R: Net<Stream = TcpStream> + Files + Threads + Wait + Clock + RandomSource + AllocGlobal,
     R: Copy + Send + 'static,
     I: Source + Send + Drop + 'static,
     O: Drain,
@@ -77,6 +81,7 @@ fn read_choice<'n, I: Source, O: Drain, N: Named>(
     };
     let EventWords {
         to,
+        keys,
         answer,
         projects,
         projects_file,
@@ -86,6 +91,7 @@ fn read_choice<'n, I: Source, O: Drain, N: Named>(
     let bases = read_bases(alloc, gate, &mut console)?;
     Ok(Choice {
         to,
+        keys,
         answer,
         projects,
         bases,
@@ -132,29 +138,42 @@ fn events<I: Source, O: Drain, E: Drain>(
 }
 
 /// Reads Gerrit's lines from the input, and feeds them to the site at an address, and writes what has to be asked for
-/// to the output, and what is lost of them to the errors.
+/// to the output, and what is lost of them to the errors. The key of an address on another machine is read first.
 fn events_to<R, I, O, E>(
     rt: R,
     alloc: Global,
-    address: Address<'_>,
+    address: PeerAddress<'_>,
     choice: Choice<'_>,
     input: I,
     output: &mut O,
     errors: &mut E,
 ) -> u8
 where
-    R: Net<Stream = TcpStream> + Threads + Wait + Clock + Copy + Send + 'static,
+    R: Net<Stream = TcpStream>
+        + Files
+        + Threads
+        + Wait
+        + Clock
+        + RandomSource
+        + Copy
+        + Send
+        + 'static,
     I: Source + Send + Drop + 'static,
     O: Drain,
     E: Drain,
 {
+    let keys = choice.keys.unwrap_or("");
+    let site = match fed_site(&rt, alloc, address, keys) {
+        Ok(site) => site,
+        Err(fault) => return report_keys(alloc, fault, keys, errors),
+    };
     let feeds = match choice.answer {
         Answer::Stream => Feeds::Stream,
         Answer::Query => Feeds::Query,
         Answer::Complete => Feeds::Complete,
     };
     let order = FeedOrder {
-        address,
+        site,
         feeds,
         projects: choice.projects,
         bases: choice.bases,
@@ -167,15 +186,15 @@ where
 }
 
 /// Reports that no site answers at an address. Answers the exit status.
-fn report_no_site<E: Drain>(alloc: Global, address: Address<'_>, errors: &mut E) -> u8 {
+fn report_no_site<E: Drain>(alloc: Global, address: PeerAddress<'_>, errors: &mut E) -> u8 {
     show_line(&no_site_line(alloc, address), errors);
     1
 }
 
 /// The line of an address at which no site answers.
-fn no_site_line(alloc: Global, address: Address<'_>) -> Result<String, AllocError>
+fn no_site_line(alloc: Global, address: PeerAddress<'_>) -> Result<String, AllocError>
     ensures { IfOk result
-        (λ line. string_bytes line ≡ line_of Events 7 (codes "NoSite " ++ address_text address.entry)) }
+        (λ line. string_bytes line ≡ line_of Events 7 (codes "NoSite " ++ peer_text address.entry)) }
 {
     let mut words = String::from_str(alloc, "NoSite ")?;
     address.write(&mut words)?;

@@ -3,14 +3,17 @@
 
 mod enqueue;
 mod events;
+mod keys;
 mod projects;
 
-use byte_ends::{Drain, Ends};
-use command_line::{Asked, RecoverWords, read_words};
+use byte_ends::{Drain, Ends, Source};
+use command_line::{Asked, RecoverWords, ServeWords, read_words};
 use commands::{print_text, report, report_usage, run_command};
-use console::{Refusal, show_line};
+use console::{Named, Refusal, show_line};
 use enqueue::enqueue;
 use events::feed;
+use key_files::{KeyReader, SystemKeys};
+use keys::report_keys;
 use record_pull::SystemFiles;
 use recover_command::{recover_named, show_journal_fault};
 use refusal_line::{Part, refusal_line};
@@ -18,8 +21,15 @@ use serve_command::{Ended, serve};
 use site_journal::LeftOut;
 use std::alloc::Global;
 use std::env::Env;
-use std::io::ErrorKind;
+use std::fs::File;
+use std::io::{ErrorKind, Print};
+use std::net::{Net, TcpListener, TcpStream};
 use std::process::ExitCode;
+use std::random::RandomSource;
+use std::rt::Files;
+use std::sync::Wait;
+use std::thread::Threads;
+use std::time::Clock;
 use std::{env, io};
 use timed_lines::{SystemMoments, Timed};
 
@@ -28,64 +38,112 @@ const NOT_TEXT: &str = "error: the words have to be UTF-8\n";
 
 fn main(rt: HostRuntime) -> ExitCode {
     let alloc = rt.alloc();
-    let mut input = Ends::new(rt.reader());
-    let mut output = Ends::new(io::writer(&rt));
-    let mut errors = Ends::new(rt.stderr());
     let words = match words_of(&rt) {
         Ok(words) => words,
-        Err(error) => return ExitCode::from(report_words(alloc, &error, &mut errors)),
+        Err(error) => {
+            let status = report_words(alloc, &error, &mut Ends::new(rt.stderr()));
+            return ExitCode::from(status);
+        }
     };
     let status = match read_words(alloc, words.as_slice()) {
         Asked::Run(command) => run_command(
             alloc,
             &command,
-            &mut input,
-            &mut output,
-            &mut errors,
+            &mut Ends::new(rt.reader()),
+            &mut Ends::new(io::writer(&rt)),
+            &mut Ends::new(rt.stderr()),
             &mut SystemFiles::new(&rt),
         ),
         Asked::Serve(words) => {
             let log_time = words.log_time;
-            let errors_of_site = Ends::new(rt.stderr());
-            let errors_of_site = Timed::new(SystemMoments::new(rt, log_time), errors_of_site);
-            let files = SystemFiles::new(rt);
-            let ended = serve(rt, alloc, words, input, files, errors_of_site);
-            let mut errors = Timed::new(SystemMoments::new(rt, log_time), errors);
-            report_site(alloc, ended, &mut errors)
-        }
-        Asked::Recover(words) => {
-            let RecoverWords {
-                journal,
-                without: rows,
-                until,
-            } = words;
-            let left_out = LeftOut { rows, until };
-            recover_named(
-                &rt,
+            serve_reported(
+                rt,
                 alloc,
-                journal,
-                input,
-                &left_out,
-                &mut output,
-                &mut errors,
+                words,
+                Ends::new(rt.reader()),
+                SystemFiles::new(rt),
+                Timed::new(SystemMoments::new(rt, log_time), Ends::new(rt.stderr())),
+                &SystemKeys::new(rt),
+                &mut Timed::new(SystemMoments::new(rt, log_time), Ends::new(rt.stderr())),
             )
         }
-        Asked::Events(words) => feed(rt, alloc, words, input, &mut output, &mut errors),
+        Asked::Recover(words) => recover(
+            &rt,
+            alloc,
+            words,
+            Ends::new(rt.reader()),
+            &mut Ends::new(io::writer(&rt)),
+            &mut Ends::new(rt.stderr()),
+        ),
+        Asked::Events(words) => feed(
+            rt,
+            alloc,
+            words,
+            Ends::new(rt.reader()),
+            &mut Ends::new(io::writer(&rt)),
+            &mut Ends::new(rt.stderr()),
+        ),
         Asked::Enqueue(words) => enqueue(
             alloc,
             words,
-            &mut input,
-            &mut output,
-            &mut errors,
+            &mut Ends::new(rt.reader()),
+            &mut Ends::new(io::writer(&rt)),
+            &mut Ends::new(rt.stderr()),
             &mut SystemFiles::new(&rt),
         ),
-        Asked::Help(text) | Asked::Version(text) => {
-            print_text(alloc, text.as_str(), &mut output, &mut errors)
-        }
-        Asked::Usage(text) => report_usage(text.as_str(), &mut errors),
-        Asked::NoMemory => report(alloc, &Err(Refusal::Memory), &mut errors),
+        Asked::Help(text) | Asked::Version(text) => print_text(
+            alloc,
+            text.as_str(),
+            &mut Ends::new(io::writer(&rt)),
+            &mut Ends::new(rt.stderr()),
+        ),
+        Asked::Usage(text) => report_usage(text.as_str(), &mut Ends::new(rt.stderr())),
+        Asked::NoMemory => report(alloc, &Err(Refusal::Memory), &mut Ends::new(rt.stderr())),
     };
     ExitCode::from(status)
+}
+
+/// Recovers a journal as the words ask for. Answers the status.
+fn recover<R: Files, I: Source + Drop, O: Drain, E: Drain>(
+    rt: &R,
+    alloc: Global,
+    words: RecoverWords<'_>,
+    input: I,
+    output: &mut O,
+    errors: &mut E,
+) -> u8 {
+    let RecoverWords {
+        journal,
+        without: rows,
+        until,
+    } = words;
+    let left_out = LeftOut { rows, until };
+    recover_named(rt, alloc, journal, input, &left_out, output, errors)
+}
+
+/// Runs a site as the words ask for, and reports how it ended. Answers the status.
+fn serve_reported<R, I, N, E, L, F>(
+    rt: R,
+    alloc: Global,
+    words: ServeWords<'_>,
+    input: I,
+    files: N,
+    errors: E,
+    keys: &L,
+    last: &mut F,
+) -> u8
+where
+    R: Net<Listener = TcpListener, Stream = TcpStream> + RandomSource,
+    R: Files<File = File> + Print + Threads + Wait + Clock + AllocGlobal,
+    R: Copy + Send + Sync + 'static,
+    I: Source + Send + Drop + 'static,
+    N: Named + Send + Drop + 'static,
+    E: Drain + Send + Drop + 'static,
+    L: KeyReader + Sync,
+    F: Drain,
+{
+    let ended = serve(rt, alloc, words, input, files, errors, keys);
+    report_site(alloc, ended, last)
 }
 
 /// Reports how `serve` ended. Answers the status: 0 where it ended in order, else 1.
@@ -93,6 +151,7 @@ fn report_site<E: Drain>(alloc: Global, ended: Ended<'_>, errors: &mut E) -> u8 
     match ended {
         Ended::Well => 0,
         Ended::Refused(refusal) => report(alloc, &Err(refusal), errors),
+        Ended::Keys(fault, name) => report_keys(alloc, fault, name, errors),
         Ended::Journal(fault) => {
             show_journal_fault(alloc, &fault, errors);
             1

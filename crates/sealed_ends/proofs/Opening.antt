@@ -1,7 +1,8 @@
 -- What is left of a source stays what it was, whatever is read, opened and handed out.
-use Rattle.std.proofs.Common.{◌≡◌, ℕ, suc, ◌<◌, ◌≤◌, ◌-◌, ◌==◌, ◌++◌, [], ◌∷◌, true, false, List, Option, Some, None, sym, ◌∙◌, ap, refl, arith, length, take, drop, length-append, append_assoc, take-append-drop, length-drop, min}
+use Rattle.std.proofs.Common.{◌≡◌, ℕ, suc, ◌<◌, ◌≤◌, ◌-◌, ◌==◌, ◌++◌, [], ◌∷◌, true, false, List, Option, Some, None, sym, ◌∙◌, ap, refl, arith, length, take, drop, ◌≢◌, subst, length-append, append_assoc, take-append-drop, length-drop, min}
 use Rattle.std.proofs.lemmas.List.{length-take-le, nil_from_length}
 use Rattle.std.proofs.lemmas.Bool.{and_from, eq-eqb, ne_eqb}
+use Rattle.std.proofs.lemmas.List.Elements.{All-append}
 use Rattle.std.proofs.Math.Seq.{take-append_seam, drop-append_seam}
 use Rattle.std.specs.Int.{to_be_bytes, w64}
 use Rattle.std.specs.Io.KnownBytes.{Consumes, IsAtEnd, Keeps}
@@ -97,3 +98,11 @@ none_ready copied into ready n long none least some =
     let rest = length-drop n into in
     let taken = length-take-le n into (omega (arith, none)) in
     nil_from_length ready (omega (arith, whole, rest, taken, long, none, least, some))
+
+-- what came last has no LF, nor has what was held
+pub plain_more : (old came new : List ℕ) (n : ℕ) → length came ≡ n → new ≡ old ++ came → HasNoLf old → HasNoLf (drop (length new - n) new) → HasNoLf new
+plain_more old came new n long is first last =
+    let place : length new - n ≡ length old = omega (arith, ap (λ (l : List ℕ). length l) is, length-append old came, long) in
+    let rest : drop (length new - n) new ≡ came =
+    ap (λ k. drop k new) place ∙ ap (λ (l : List ℕ). drop (length old) l) is ∙ drop-append_seam old came in
+    subst HasNoLf (sym is) (All-append (λ b. b ≢ 10) old came first (subst HasNoLf rest last))

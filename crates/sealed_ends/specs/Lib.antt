@@ -1,1 +1,5 @@
+pub mod Unread
 pub mod Opened
+pub mod Sent
+pub mod Written
+pub mod Links

@@ -1,9 +1,11 @@
 -- What the bytes of a source open to: the texts of the longest prefix of lines each of which is sealed under its count.
-use Rattle.std.specs.Prelude.{ℕ, ◌-◌, ◌==◌, ◌&&◌, Bool, true, false, if◌then◌else◌, List, [], ◌∷◌, ◌++◌, length, take, drop, Option, Some, None, option_map, option_and_then}
+use Rattle.std.specs.Prelude.{◌≡◌, ℕ, ◌-◌, ◌==◌, ◌&&◌, Bool, true, false, if◌then◌else◌, List, [], ◌∷◌, ◌++◌, length, take, drop, Option, Some, None, option_map, option_and_then}
 use Rattle.base64.specs.Engines.{standard}
 use Rattle.base64.specs.GeneralPurpose.{decoded_of}
 use Rattle.byte_ends.specs.Lines.{as_line}
 use Rattle.sealed_line.specs.Sealing.{Sealing, after_line, crossed, tag_of}
+use Rattle.sealed_ends.specs.Unread.{CountsFault, IsUnread}
+use Rattle.sealed_ends.specs.declared.fault.OpenFault.{OpenFault}
 use Rattle.sealed_ends.specs.declared.source.SealedSource.{SealedSource}
 
 abbrev pub alike : List ℕ → List ℕ → Bool
@@ -54,8 +56,23 @@ left_of ready s held left = option_map (λ bytes. ready ++ opened s (held ++ byt
 abbrev pub source_within : {S : Type 0} → SealedSource S → S
 source_within s = s.source
 
+-- what opens the next line
+abbrev pub opens_under : {S : Type 0} → SealedSource S → Sealing
+opens_under s = s.seal
+
 abbrev pub held_by : {S : Type 0} → SealedSource S → List ℕ
 held_by s = s.held.items
+
+-- why the last read that failed did
+abbrev pub fault_by : {S : Type 0} → SealedSource S → Option OpenFault
+fault_by s = s.fault
+
+-- a read fails by this fault
+pub record FailsBy {S : Type 0} (left : S → Option (List ℕ)) (failed : S → ℕ) (old new : SealedSource S) : Type 0 where
+  pub fault : OpenFault
+  pub is : fault_by new ≡ Some fault
+  pub why : IsUnread new.seal new.held.items (left new.source) fault
+  pub counted : CountsFault (failed old.source) (failed new.source) fault
 
 -- what is left, by what is left of the source within
 abbrev pub left_by : {S : Type 0} → (S → Option (List ℕ)) → SealedSource S → Option (List ℕ)

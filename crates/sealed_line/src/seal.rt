@@ -49,6 +49,13 @@ impl Seal {
         }
     }
 
+    /// How many lines it has sealed or opened. It takes no memory.
+    pub fn count(&self) -> u64
+        ensures { result ≡ self.now.count }
+    {
+        self.count
+    }
+
     /// Seals a text as the next line, and adds that to `into`, with its line end. Refusals: `LongLine`, the text has
     /// more than 524,288 bytes; `Spent`, 2^64 - 1 lines were sealed; `NoMemory`. Where it is refused nothing changes. It
     /// costs O(n) for n bytes.
@@ -61,6 +68,7 @@ impl Seal {
         ensures ok { OnOk result ((into.new.items ≡ into.old.items ++ as_line (sealed self.old (crossed self.old text.now)))
             × (self.new ≡ after_line self.old)) }
         ensures err { IfErr result (IsUnsealed self.old text.now) }
+        ensures opens { OnOk result (Opens self.old (sealed self.old (crossed self.old text.now)) text.now) }
         ensures kept { OnErr result ((self.new ≡ self.old) × (into.new.items ≡ into.old.items)) }
         ensures long { most_bytes < length text.now → result ≡ Err SealFault.LongLine }
         ensures spent { length text.now ≤ most_bytes → self.old.count ≡ last_count → result ≡ Err SealFault.Spent }

@@ -1,15 +1,15 @@
 //! Runs a site over sockets of this machine, as the words of the command line ask for.
 
-ghost use Rattle.std.specs.Prelude.{◌≡◌, IfOk, List, Ok, option_map};
+ghost use Rattle.std.specs.Prelude.{◌≡◌, IfOk, List, option_map};
 ghost use Rattle.review_ops.specs.Operation.{Operation};
 ghost use Rattle.serve_command.specs.Beginning.{AreInputs};
 ghost use Rattle.serve_command.specs.Endings.{EndsAs};
 ghost use Rattle.serve_command.specs.Printing.{prints_of};
 
 use super::fault::ProgramFault;
-use super::heard::Heard;
-use super::input_end::{hear_input, lines_of_input};
+use super::heard::{Heard, hear};
 use super::journal::open_journal;
+use super::keys::{Host, judge_keys};
 use super::late_clock::show_late_clock;
 use super::listening::{Listening, leave, listen, listen_at};
 use super::output::PatientOutput;
@@ -19,14 +19,16 @@ use byte_ends::{Drain, Ends, Source};
 use command_line::{Printing, ServeWords};
 use console::{Console, Named, Refusal, Streams, read_gate, read_snapshot};
 use gate_rules::Gate;
+use key_file::KeyFault;
+use key_files::KeyReader;
 use mio::Waker;
 use page_server::{Door, open_door};
 use replica_core::Replica;
 use site_journal::JournalFault;
 use site_ledger::{Keeps, NoJournal};
 use site_net::{Listener, Stop};
-use site_serve::{Doorstep, Prints, Reloads, ServeFault, Served, Setup, Turn, serve_keeping};
-use std::alloc::{AllocError, Global};
+use site_serve::{Doorstep, Prints, Reloads, ServeFault, Served, Setup, serve_keeping};
+use std::alloc::Global;
 use std::fs::File;
 use std::io;
 use std::io::Print;
@@ -44,6 +46,8 @@ pub enum Ended<'n> {
     Well,
     /// Its gate file, its snapshot or its output, or memory.
     Refused(Refusal<'n>),
+    /// Its keys, in the file of this name.
+    Keys(KeyFault, &'n str),
     /// Its journal, as it was opened.
     Journal(JournalFault),
     /// The site itself.
@@ -54,28 +58,19 @@ pub enum Ended<'n> {
     Unprinted,
 }
 
-/// Nothing is done before and after a session.
-#[derive(Drop)]
-struct NoTurn;
-
-impl Turn for NoTurn {
-    fn enter(&self, _session: u64) {}
-
-    fn left(&self, _session: u64) {}
-}
-
-/// Runs the site that words ask for. It reads and judges the gate file and then the snapshot, if one is named, opens
-/// the journal, asks whether the start was used, listens and prints `listening ADDRESS` for each address and, where it
+/// Runs the site that words ask for. It reads and judges the gate file, then the snapshot and the keys, if they are
+/// named, opens the journal, asks whether the start was used, listens and prints `listening ADDRESS` for each address and, where it
 /// shows itself to browsers, `listening http P`, runs the site and saves what it has. What is wrong while it runs is
 /// written to `errors`. Where it is to end with its input it ends in order at that end and at a line `stop`, and at a line
-/// `reload` the gate file is read again, by `files` as before; else the input isn't read.
-pub fn serve<'n, R, I, N, E>(
+/// `reload` the gate file is read again, by `files` as before; else the input isn't read. Keys are read by `keys`.
+pub fn serve<'n, R, I, N, E, L>(
     rt: R,
     alloc: Global,
     words: ServeWords<'n>,
     input: I,
     files: N,
     errors: E,
+    keys: &L,
 ) -> Ended<'n>
 where
     R: Net<Listener = TcpListener, Stream = TcpStream> + RandomSource,
@@ -84,21 +79,23 @@ where
     I: Source + Send + Drop + 'static,
     N: Named + Send + Drop + 'static,
     E: Drain + Send + Drop + 'static,
+    L: KeyReader + Sync,
 {
-    match run_site(rt, alloc, words, input, files, errors) {
+    match run_site(rt, alloc, words, input, files, errors, keys) {
         Ok(()) => Ended::Well,
         Err(ended) => ended,
     }
 }
 
 /// Runs a site, from its inputs to its snapshot.
-fn run_site<'n, R, I, N, E>(
+fn run_site<'n, R, I, N, E, L>(
     rt: R,
     alloc: Global,
     serving: ServeWords<'n>,
     input: I,
     files: N,
     errors: E,
+    keys: &L,
 ) -> Result<(), Ended<'n>>
 where
     R: Net<Listener = TcpListener, Stream = TcpStream> + RandomSource,
@@ -107,6 +104,7 @@ where
     I: Source + Send + Drop + 'static,
     N: Named + Send + Drop + 'static,
     E: Drain + Send + Drop + 'static,
+    L: KeyReader + Sync,
 {
     let (mut input, mut files) = (input, files);
     let inputs = read_from(
@@ -118,13 +116,14 @@ where
         &mut files,
     );
     let (gate, loaded) = inputs.map_err(Ended::Refused)?;
+    judge_keys(keys, &serving)?;
     let Some(name) = serving.journal else {
         let site = Site {
             serving,
             gate,
             replica: loaded,
         };
-        return run_kept(rt, alloc, site, input, files, errors, NoJournal);
+        return run_kept(rt, alloc, site, input, files, errors, keys, NoJournal);
     };
     let mut errors = errors;
     let (journal, replica) = open_journal(&rt, alloc, name, loaded, &mut errors)?;
@@ -133,7 +132,7 @@ where
         gate,
         replica,
     };
-    run_kept(rt, alloc, site, input, files, errors, journal)
+    run_kept(rt, alloc, site, input, files, errors, keys, journal)
 }
 
 /// What a site is run with, once its inputs are read.
@@ -145,13 +144,14 @@ struct Site<'a> {
 }
 
 /// Runs a site over what keeps its operations, from its start to its snapshot.
-fn run_kept<R, I, N, E, K>(
+fn run_kept<R, I, N, E, L, K>(
     rt: R,
     alloc: Global,
     site: Site<'_>,
     input: I,
     files: N,
     errors: E,
+    keys: &L,
     keeper: K,
 ) -> Result<(), Ended<'static>>
 where
@@ -161,6 +161,7 @@ where
     I: Source + Send + Drop + 'static,
     N: Named + Send + Drop + 'static,
     E: Drain + Send + Drop + 'static,
+    L: KeyReader + Sync,
     K: Keeps + Drop,
     requires { (first : List Operation) × K.holds keeper first }
 {
@@ -181,14 +182,14 @@ where
         replica,
     };
     let ended = run_listening(
-        rt, alloc, site, start, listeners, input, files, errors, keeper,
+        rt, alloc, site, start, listeners, input, files, errors, keys, keeper,
     );
     leave(&rt, sockets.as_slice());
     ended
 }
 
 /// Runs a site that listens, until it has saved its snapshot.
-fn run_listening<R, I, N, E, K>(
+fn run_listening<R, I, N, E, L, K>(
     rt: R,
     alloc: Global,
     site: Site<'_>,
@@ -197,6 +198,7 @@ fn run_listening<R, I, N, E, K>(
     input: I,
     files: N,
     errors: E,
+    keys: &L,
     keeper: K,
 ) -> Result<(), Ended<'static>>
 where
@@ -206,34 +208,113 @@ where
     I: Source + Send + Drop + 'static,
     N: Named + Send + Drop + 'static,
     E: Drain + Send + Drop + 'static,
+    L: KeyReader + Sync,
     K: Keeps + Drop,
     requires { (first : List Operation) × K.holds keeper first }
 {
-    let Site {
-        serving,
-        gate,
-        replica,
-    } = site;
-    let page = page_of(&rt, alloc, serving.http)?;
-    let heard = hear(
-        rt,
-        alloc,
-        serving.gate,
-        serving.until_input_ends,
-        input,
-        files,
-        errors,
-    )?;
+    let stage = match staged(&rt, alloc, site, start, listeners) {
+        Ok(stage) => stage,
+        Err(ended) => return Err(ended),
+    };
+    let serving = &stage.site.serving;
+    let (gate, until) = (serving.gate, serving.until_input_ends);
+    match hear(rt, alloc, gate, until, input, files, errors) {
+        Ok(heard) => run_staged(rt, alloc, stage, heard, keys, keeper),
+        Err(fault) => Err(Ended::Site(fault)),
+    }
+}
+
+/// A site that listens, with its start, and where it shows itself to browsers.
+#[derive(Drop)]
+struct Stage<'a> {
+    site: Site<'a>,
+    start: u32,
+    listeners: Vec<Listener>,
+    page: Option<(Door, Waker)>,
+}
+
+/// A site that listens, also for browsers where it shows itself to them.
+fn staged<'a, R>(
+    rt: &R,
+    alloc: Global,
+    site: Site<'a>,
+    start: u32,
+    listeners: Vec<Listener>,
+) -> Result<Stage<'a>, Ended<'static>>
+where
+    R: Net<Listener = TcpListener, Stream = TcpStream> + RandomSource + Print,
+{
+    match page_of(rt, alloc, site.serving.http) {
+        Ok(page) => Ok(Stage {
+            site,
+            start,
+            listeners,
+            page,
+        }),
+        Err(ended) => Err(ended),
+    }
+}
+
+/// Runs a site whose input is heard.
+fn run_staged<R, E, L, K>(
+    rt: R,
+    alloc: Global,
+    stage: Stage<'_>,
+    heard: Heard<R, E>,
+    keys: &L,
+    keeper: K,
+) -> Result<(), Ended<'static>>
+where
+    R: Net<Listener = TcpListener, Stream = TcpStream> + RandomSource,
+    R: Files<File = File> + Print + Threads + Wait + Clock + AllocGlobal,
+    R: Copy + Send + Sync + 'static,
+    E: Drain + Send + Drop + 'static,
+    L: KeyReader + Sync,
+    K: Keeps + Drop,
+    requires { (first : List Operation) × K.holds keeper first }
+{
+    match output_of(rt, alloc, &heard.stop) {
+        Ok(output) => run_printing(rt, alloc, stage, heard, keys, keeper, output),
+        Err(fault) => Err(Ended::Site(fault)),
+    }
+}
+
+/// Runs a site that prints to this output, and saves what it has left.
+fn run_printing<R, E, L, K, O>(
+    rt: R,
+    alloc: Global,
+    stage: Stage<'_>,
+    heard: Heard<R, E>,
+    keys: &L,
+    keeper: K,
+    output: O,
+) -> Result<(), Ended<'static>>
+where
+    R: Net<Listener = TcpListener, Stream = TcpStream> + RandomSource,
+    R: Files<File = File> + Threads + Wait + Clock,
+    R: Copy + Send + Sync + 'static,
+    E: Drain + Send + Drop + 'static,
+    L: KeyReader + Sync,
+    K: Keeps + Drop,
+    O: Drain + Send + Drop,
+    requires { (first : List Operation) × K.holds keeper first }
+{
     let Heard {
         stop,
         reloads,
         errors,
     } = heard;
-    let name = serving.save;
-    let setup = setup_of(serving, start, gate, reloads, replica, page);
-    let output = output_of(rt, alloc, &stop)?;
+    let Stage {
+        site,
+        start,
+        listeners,
+        page,
+    } = stage;
+    let name = site.serving.save;
+    let host = Host { reader: keys };
+    let setup = setup_of(site, start, reloads, page);
     match serve_keeping(
-        &rt, alloc, listeners, setup, &stop, output, errors, &NoTurn, keeper,
+        &rt, alloc, listeners, setup, &stop, output, errors, &host, keeper,
     ) {
         Ok(served) => keep(&rt, alloc, name, &served),
         Err(fault) => Err(Ended::Site(fault)),
@@ -245,14 +326,14 @@ fn output_of<R: Print + Threads + Wait + Clock + Copy + Send + 'static>(
     rt: R,
     alloc: Global,
     stop: &Arc<Stop, Global>,
-) -> Result<Ends<PatientOutput<R>>, Ended<'static>> {
+) -> Result<Ends<PatientOutput<R>>, ServeFault> {
     let Ok(theirs) = Arc::try_clone(stop) else {
-        return Err(Ended::Site(ServeFault::NoMemory));
+        return Err(ServeFault::NoMemory);
     };
     match PatientOutput::new(rt, alloc, theirs) {
         Ok(Some(output)) => Ok(Ends::new(output)),
-        Ok(None) => Err(Ended::Site(ServeFault::NoPlace)),
-        Err(_) => Err(Ended::Site(ServeFault::NoMemory)),
+        Ok(None) => Err(ServeFault::NoPlace),
+        Err(_) => Err(ServeFault::NoMemory),
     }
 }
 
@@ -277,25 +358,30 @@ where
 
 /// What a site is run with.
 fn setup_of<'a>(
-    serving: ServeWords<'a>,
+    site: Site<'a>,
     start: u32,
-    gate: Gate,
     reloads: Arc<Reloads, Global>,
-    replica: Replica,
     page: Option<(Door, Waker)>,
 ) -> Setup<'a>
-    ensures held { (result.gate ≡ gate) × (result.reloads ≡ reloads) × (result.replica ≡ replica) }
-    ensures stamps { (result.site ≡ serving.entry.site) × (result.start ≡ start) }
-    ensures peers { (result.peers ≡ serving.entry.peers) × (result.pause_ms ≡ serving.entry.pause_ms)
-        × (result.sites ≡ serving.entry.sites) }
-    ensures sessions { (result.workers ≡ serving.entry.workers) × (result.sessions ≡ serving.entry.sessions)
-        × (result.idle_ms ≡ serving.entry.idle_ms) × (result.connections ≡ serving.entry.connections) }
-    ensures prints { result.prints ≡ prints_of serving.entry.prints }
+    ensures held { (result.gate ≡ site.entry.gate) × (result.reloads ≡ reloads)
+        × (result.replica ≡ site.entry.replica) }
+    ensures stamps { (result.site ≡ site.entry.serving.site) × (result.start ≡ start) }
+    ensures peers { (result.peers ≡ site.entry.serving.peers) × (result.keys ≡ site.entry.serving.keys)
+        × (result.pause_ms ≡ site.entry.serving.pause_ms) × (result.sites ≡ site.entry.serving.sites) }
+    ensures sessions { (result.workers ≡ site.entry.serving.workers) × (result.sessions ≡ site.entry.serving.sessions)
+        × (result.idle_ms ≡ site.entry.serving.idle_ms) × (result.connections ≡ site.entry.serving.connections) }
+    ensures prints { result.prints ≡ prints_of site.entry.serving.prints }
     ensures page { result.page ≡ option_map
-        (λ opened. record { door = opened.0; waker = opened.1; hosts = serving.entry.http_hosts }) page }
+        (λ opened. record { door = opened.0; waker = opened.1; hosts = site.entry.serving.http_hosts }) page }
 {
+    let Site {
+        serving,
+        gate,
+        replica,
+    } = site;
     let ServeWords {
         peers,
+        keys,
         sites,
         site,
         workers,
@@ -314,6 +400,7 @@ fn setup_of<'a>(
         site,
         start,
         peers,
+        keys,
         sites,
         workers,
         pause_ms,
@@ -344,45 +431,6 @@ fn prints_of(printing: Printing) -> Prints
         Printing::Report => Prints::Report,
         Printing::Changes => Prints::Changes,
         Printing::Nothing => Prints::Nothing,
-    }
-}
-
-/// Has a thread hear what the lines of the input ask for, where the site ends with it; else the input isn't read. What
-/// the site shares with that thread.
-fn hear<R, I, N, E>(
-    rt: R,
-    alloc: Global,
-    gate: &str,
-    until_input_ends: bool,
-    input: I,
-    files: N,
-    errors: E,
-) -> Result<Heard<R, E>, Ended<'static>>
-where
-    R: Threads + Wait + Copy + Send + 'static,
-    I: Source + Send + Drop + 'static,
-    N: Named + Send + Drop + 'static,
-    E: Drain + Send + Drop + 'static,
-{
-    let heard = shared(Heard::new(rt, alloc, errors))?;
-    if !until_input_ends {
-        return Ok(heard);
-    }
-    let asked = shared(heard.asked(alloc, gate, files))?;
-    let lines = shared(lines_of_input(alloc))?;
-    if hear_input(rt, alloc, lines, input, asked) {
-        return Ok(heard);
-    }
-    Err(Ended::Site(ServeFault::NoPlace))
-}
-
-/// What memory was asked for; a site ends where it was refused.
-fn shared<T: Drop>(made: Result<T, AllocError>) -> Result<T, Ended<'static>>
-    ensures { IfOk result (λ value. made ≡ Ok value) }
-{
-    match made {
-        Ok(value) => Ok(value),
-        Err(_) => Err(Ended::Site(ServeFault::NoMemory)),
     }
 }
 

@@ -1,12 +1,14 @@
 //! What a site shares with the thread that hears its input.
 
-use super::input_end::Asked;
+use super::input_end::{Asked, hear_input, lines_of_input};
 use super::shared_errors::SharedErrors;
-use byte_ends::Drain;
+use byte_ends::{Drain, Source};
+use console::Named;
 use site_net::Stop;
-use site_serve::Reloads;
+use site_serve::{Reloads, ServeFault};
 use std::alloc::{AllocError, Global};
 use std::sync::{Arc, Wait};
+use std::thread::Threads;
 
 /// The wish to stop, the gates that are put in force, and the error output.
 #[derive(Drop)]
@@ -47,5 +49,78 @@ impl<R: Wait + Copy, E: Drain + Drop> Heard<R, E> {
             files,
             errors,
         })
+    }
+}
+
+/// Has a thread hear what the lines of the input ask for, where the site ends with it; else the input isn't read. What
+/// the site shares with that thread.
+pub fn hear<R, I, N, E>(
+    rt: R,
+    alloc: Global,
+    gate: &str,
+    until_input_ends: bool,
+    input: I,
+    files: N,
+    errors: E,
+) -> Result<Heard<R, E>, ServeFault>
+where
+    R: Threads + Wait + Copy + Send + 'static,
+    I: Source + Send + Drop + 'static,
+    N: Named + Send + Drop + 'static,
+    E: Drain + Send + Drop + 'static,
+{
+    let Ok(heard) = Heard::new(rt, alloc, errors) else {
+        return Err(ServeFault::NoMemory);
+    };
+    if !until_input_ends {
+        return Ok(heard);
+    }
+    match begin(rt, alloc, gate, input, files, &heard) {
+        Ok(()) => Ok(heard),
+        Err(fault) => Err(fault),
+    }
+}
+
+/// Has a thread hear what the lines of the input ask for.
+fn begin<R, I, N, E>(
+    rt: R,
+    alloc: Global,
+    gate: &str,
+    input: I,
+    files: N,
+    heard: &Heard<R, E>,
+) -> Result<(), ServeFault>
+where
+    R: Threads + Wait + Copy + Send + 'static,
+    I: Source + Send + Drop + 'static,
+    N: Named + Send + Drop + 'static,
+    E: Drain + Send + Drop + 'static,
+{
+    match heard.asked(alloc, gate, files) {
+        Ok(asked) => begin_by(rt, alloc, input, asked),
+        Err(_) => Err(ServeFault::NoMemory),
+    }
+}
+
+/// Has a thread do what the lines of the input ask for.
+fn begin_by<R, I, N, E>(
+    rt: R,
+    alloc: Global,
+    input: I,
+    asked: Asked<R, N, E>,
+) -> Result<(), ServeFault>
+where
+    R: Threads + Wait + Copy + Send + 'static,
+    I: Source + Send + Drop + 'static,
+    N: Named + Send + Drop + 'static,
+    E: Drain + Send + Drop + 'static,
+{
+    let Ok(lines) = lines_of_input(alloc) else {
+        return Err(ServeFault::NoMemory);
+    };
+    if hear_input(rt, alloc, lines, input, asked) {
+        Ok(())
+    } else {
+        Err(ServeFault::NoPlace)
     }
 }

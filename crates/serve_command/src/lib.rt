@@ -14,7 +14,7 @@
 //! };
 //! let input = Ends::new(b"no gate file".as_slice());
 //! let errors = Ends::new(Vec::new(alloc));
-//! let ended = serve(rt, alloc, words, input, SystemFiles::new(rt), errors);
+//! let ended = serve(rt, alloc, words, input, SystemFiles::new(rt), errors, &NoKeys);
 //! assert!(rt; matches!(ended, Ended::Refused(Refusal::Gate(_))));
 //! ```
 #![tactic(auto)]
@@ -24,6 +24,7 @@ mod fault;
 mod heard;
 mod input_end;
 mod journal;
+mod keys;
 mod late_clock;
 mod listening;
 mod output;

@@ -1,14 +1,16 @@
 //! Listens for the sessions of a site, and says where.
 
-ghost use Rattle.std.specs.Prelude.{◌≡◌, vec_len};
+ghost use Rattle.std.specs.Prelude.{◌≡◌, ◌++◌, IfOk, codes, string_bytes};
 ghost use Rattle.serve_command.specs.Listening.{bits_of, port_of};
+ghost use Rattle.site_address.specs.Host.{host_port_text};
 
 use super::command::Ended;
 use super::fault::ProgramFault;
 use byte_ends::{Ends, write_all};
 use command_line::{ServeWords, SocketMode};
 use console::Refusal;
-use site_net::{Listener, listen_at_path, listen_at_port};
+use site_address::HostPort;
+use site_net::{Listener, listen_at_host, listen_at_path, listen_at_port};
 use std::alloc::{AllocError, Global};
 use std::io::Print;
 use std::net::{Net, TcpListener, TcpStream};
@@ -22,8 +24,8 @@ pub struct Listening<'a> {
     pub sockets: Vec<&'a str>,
 }
 
-/// Listens at the port and the sockets that the words name; at a port that the system chooses where they name none. The
-/// address of each is printed. Where it fails the sockets that it has made are removed.
+/// Listens at the port, the sockets and the hosts that the words name; at a port of this machine that the system chooses
+/// where they name none. The address of each is printed. Where it fails the sockets that it has made are removed.
 pub fn listen<'a, R>(
     rt: &R,
     alloc: Global,
@@ -61,7 +63,8 @@ fn listen_at_all<'a, R>(
 where
     R: Net<Listener = TcpListener, Stream = TcpStream> + Files + Print,
 {
-    if let Some(port) = port_of(words.port, words.sockets.len()) {
+    let is_alone = words.sockets.is_empty() && words.hosts.is_empty();
+    if let Some(port) = port_of(words.port, is_alone) {
         let listener = listen_at(rt, alloc, "", port)?;
         add(listeners, Listener::Port(listener))?;
     }
@@ -73,16 +76,55 @@ where
         add(listeners, Listener::Socket(listener))?;
         say(rt, format!(in alloc; "listening {path}\n"))?;
     }
+    listen_at_hosts(rt, alloc, words.hosts.as_slice(), listeners)
+}
+
+/// Listens at ports whose connections are sealed, and prints the address of each.
+fn listen_at_hosts<R>(
+    rt: &R,
+    alloc: Global,
+    hosts: &[HostPort<'_>],
+    listeners: &mut Vec<Listener>,
+) -> Result<(), Ended<'static>>
+where
+    R: Net<Listener = TcpListener, Stream = TcpStream> + Print,
+{
+    for at in hosts {
+        let Ok(listener) = listen_at_host(rt, *at) else {
+            return Err(Ended::Program(ProgramFault::NoBind));
+        };
+        let port = port_at(&listener)?;
+        add(listeners, Listener::Sealed(listener))?;
+        say(rt, place_line(alloc, HostPort { port, ..*at }))?;
+    }
     Ok(())
 }
 
-/// The port that a site listens at: the one that is named; or, where none is and no socket either, one that the system
+/// The port that is listened at.
+fn port_at(listener: &TcpListener) -> Result<u16, Ended<'static>> {
+    match listener.local_addr() {
+        Ok(address) => Ok(address.port()),
+        Err(_) => Err(Ended::Program(ProgramFault::NoBind)),
+    }
+}
+
+/// The line of a place that is listened at.
+fn place_line(alloc: Global, at: HostPort<'_>) -> Result<String, AllocError>
+    ensures { IfOk result (λ line. string_bytes line ≡ codes "listening " ++ host_port_text at.entry ++ codes "\n") }
+{
+    let mut line = String::from_str(alloc, "listening ")?;
+    at.write(&mut line)?;
+    line.push('\n')?;
+    Ok(line)
+}
+
+/// The port that a site listens at: the one that is named; or, where it listens nowhere else, one that the system
 /// chooses.
-fn port_of(port: Option<u16>, sockets: usize) -> Option<u16>
-    ensures { result ≡ port_of port sockets }
+fn port_of(port: Option<u16>, is_alone: bool) -> Option<u16>
+    ensures { result ≡ port_of port is_alone }
 {
     match port {
-        None if sockets == 0 => Some(0),
+        None if is_alone => Some(0),
         named => named,
     }
 }
@@ -110,10 +152,7 @@ where
     let Ok(listener) = listen_at_port(rt, port) else {
         return Err(Ended::Program(ProgramFault::NoBind));
     };
-    let Ok(address) = listener.local_addr() else {
-        return Err(Ended::Program(ProgramFault::NoBind));
-    };
-    let port = address.port();
+    let port = port_at(&listener)?;
     say(rt, format!(in alloc; "listening {what}{port}\n"))?;
     Ok(listener)
 }

@@ -4,6 +4,8 @@ use super::sites::{NoTurn, ending, listening, one_session, talk};
 use super::watched::{Shared, Written, watched_end};
 use byte_ends::Ends;
 use gate_rules::Gate;
+use key_file::{KeyFault, Keys};
+use key_files::{KeyReader, NoKeys};
 use site_net::Stop;
 use site_serve::{Prints, Setup, Turn, serve_run};
 use std::alloc::Global;
@@ -81,6 +83,16 @@ impl<R: Wait + Clock + Copy> Turn for AfterGroup<R> {
     }
 
     fn left(&self, _session: u64) {}
+}
+
+impl<R: Wait + Clock + Copy> KeyReader for AfterGroup<R> {
+    fn keys(&self, name: &str) -> Result<Keys, KeyFault> {
+        NoKeys.keys(name)
+    }
+
+    fn nonce(&self) -> Result<[u8; 16], KeyFault> {
+        NoKeys.nonce()
+    }
 }
 
 /// Each client in turn: whether all were answered.

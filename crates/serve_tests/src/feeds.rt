@@ -4,20 +4,21 @@ use super::sites::listening;
 use byte_ends::{Broken, Drain, Ends};
 use event_feed::{FeedFault, Input};
 use feed_client::{
-    FeedOrder, Feeds, Intake, IntakeFault, Listing, Noted, Refusal, SiteFeed, complete_site,
-    feed_site, feed_to, read_answer,
+    FedSite, FeedOrder, Feeds, Intake, IntakeFault, Listing, Noted, Refusal, SiteFeed,
+    complete_site, feed_site, feed_to, read_answer,
 };
 use footer_text::Bases;
 use gerrit_events::Projects;
 use op_text::{read_op, write_body};
 use replica_core::Missing;
 use review_ops::{Body, Op, Stamp};
-use site_address::Address;
+use site_address::{Address, HostPort};
 use state_core::State;
 use std::alloc::Global;
 use std::io::{Read, Write};
 use std::net::{Net, TcpListener, TcpStream};
 use std::process::Abort;
+use std::random::RandomSource;
 use std::sync::Wait;
 use std::test::Fail;
 use std::thread::Threads;
@@ -416,12 +417,14 @@ fn ends_that_fail_end_the_feed(rt: HostRuntime) {
 }
 
 /// What the session of a site may answer, beside the greatest stamp, and how each is read.
-const ANSWERS: [(&str, IntakeFault); 14] = [
+const ANSWERS: [(&str, IntakeFault); 16] = [
     ("no 5 NoMemory", IntakeFault::Refused(Refusal::NoMemory)),
     ("no 7 BadText", IntakeFault::Refused(Refusal::BadText)),
     ("no 8 BadBody", IntakeFault::Refused(Refusal::BadBody)),
     ("no 9 ClockSpent", IntakeFault::Refused(Refusal::ClockSpent)),
     ("no 10 Closed", IntakeFault::Refused(Refusal::Closed)),
+    ("no 11 NotAllowed", IntakeFault::NotAllowed),
+    ("no 11 NotAllowed ", IntakeFault::Ended),
     ("", IntakeFault::Ended),
     ("ok", IntakeFault::Ended),
     ("ok 1,2,3", IntakeFault::Ended),
@@ -450,11 +453,20 @@ pub type Ending = (Result<(), FeedFault>, Vec<u8>, Vec<u8>);
 /// Feeds an input to the site at a port.
 pub fn feed_from<R, I>(rt: R, alloc: Global, port: u16, feeds: Feeds, input: I) -> Ending
 where
-    R: Net<Stream = TcpStream> + Threads + Wait + Clock + Copy + Send + 'static,
+    R: Net<Stream = TcpStream> + Threads + Wait + Clock + RandomSource + Copy + Send + 'static,
+    I: Read + Send + Drop + 'static,
+{
+    feed_site_from(rt, alloc, FedSite::Here(Address::Port(port)), feeds, input)
+}
+
+/// Feeds an input to a site.
+fn feed_site_from<R, I>(rt: R, alloc: Global, site: FedSite<'_>, feeds: Feeds, input: I) -> Ending
+where
+    R: Net<Stream = TcpStream> + Threads + Wait + Clock + RandomSource + Copy + Send + 'static,
     I: Read + Send + Drop + 'static,
 {
     let order = FeedOrder {
-        address: Address::Port(port),
+        site,
         feeds,
         projects: Projects::all(),
         bases: None,
@@ -465,10 +477,23 @@ where
     (ended, output.into_inner(), errors.into_inner())
 }
 
+/// Feeds the events to the site at a port of this machine, over a connection that is sealed by a secret.
+pub fn feed_sealed<R>(rt: R, alloc: Global, port: u16, secret: [u8; 32]) -> Ending
+where
+    R: Net<Stream = TcpStream> + Threads + Wait + Clock + RandomSource + Copy + Send + 'static,
+{
+    let at = HostPort {
+        host: "127.0.0.1",
+        port,
+    };
+    let site = FedSite::There { at, secret };
+    feed_site_from(rt, alloc, site, Feeds::Stream, EVENTS.as_bytes())
+}
+
 /// Feeds the events to the site at a port.
 pub fn feed<R>(rt: R, alloc: Global, port: u16) -> Ending
 where
-    R: Net<Stream = TcpStream> + Threads + Wait + Clock + Copy + Send + 'static,
+    R: Net<Stream = TcpStream> + Threads + Wait + Clock + RandomSource + Copy + Send + 'static,
 {
     feed_from(rt, alloc, port, Feeds::Stream, EVENTS.as_bytes())
 }
@@ -506,7 +531,7 @@ fn go_away(listener: TcpListener, heard: &str, answer: &str) -> io::Result<()> {
 /// How a feed of the events ends whose site goes with these answers.
 fn feed_that_ends<R>(rt: R, heard: &str, answer: &str) -> io::Result<Ending>
 where
-    R: Clock + Net<Listener = TcpListener, Stream = TcpStream> + Threads + Wait,
+    R: Clock + Net<Listener = TcpListener, Stream = TcpStream> + Threads + Wait + RandomSource,
     R: AllocGlobal + Copy + Send + Sync + 'static,
 {
     let (listener, port) = listening(&rt)?;

@@ -9,9 +9,10 @@ use super::watched::watched_end;
 use byte_ends::Ends;
 use command_line::ServeWords;
 use console::Named;
+use key_files::NoKeys;
 use record_pull::SystemFiles;
 use serve_command::{Ended, serve};
-use site_address::Address;
+use site_address::{Address, PeerAddress};
 use site_net::Stop;
 use site_serve::{ServeFault, serve_run};
 use std::alloc::Global;
@@ -135,7 +136,9 @@ fn a_journal_is_not_poisoned(rt: HostRuntime) -> Result<(), Fail> {
         let (listener, port) = listening(&rt)?;
         drop(listener);
         let mut words = kept_words(rt.alloc(), port);
-        words.peers.push(Address::Port(peer_port))?;
+        words
+            .peers
+            .push(PeerAddress::Here(Address::Port(peer_port)))?;
         let client = thread::spawn(&rt, move || {
             let _handed = hand_over::<HostRuntime>(rt.alloc(), &peer, answer);
             talk_once_up(&rt, rt.alloc(), port, TAKE)
@@ -179,7 +182,7 @@ where
 {
     let input = Ends::new(GATE.as_bytes());
     let (errors, written) = watched_end(rt, rt.alloc())?;
-    let ended = serve(rt, rt.alloc(), words, input, files, errors);
+    let ended = serve(rt, rt.alloc(), words, input, files, errors, &NoKeys);
     let reported = written.lock(&rt).to_vec(rt.alloc())?;
     Ok((ended, reported))
 }

@@ -23,6 +23,10 @@ mod reloads;
 #[cfg(test)]
 mod restarts;
 #[cfg(test)]
+mod sealed;
+#[cfg(test)]
+mod sealed_feeds;
+#[cfg(test)]
 mod shown;
 #[cfg(test)]
 mod site_feeds;

@@ -4,6 +4,7 @@ use super::sites::listening;
 use byte_ends::Ends;
 use command_line::{Printing, ServeWords, SocketMode};
 use console::Named;
+use key_files::{KeyReader, NoKeys};
 use record_pull::SystemFiles;
 use serve_command::{Ended, ProgramFault, serve};
 use site_journal::JournalFault;
@@ -39,11 +40,13 @@ pub fn site_words<'a>(alloc: Global) -> ServeWords<'a> {
     ServeWords {
         gate: "-",
         peers: Vec::new(alloc),
+        keys: None,
         sites: Vec::new(alloc),
         site: 1,
         start: Some(1),
         port: None,
         sockets: Vec::new(alloc),
+        hosts: Vec::new(alloc),
         mode: SocketMode::Owner,
         workers: 2,
         pause_ms: 1000,
@@ -66,11 +69,13 @@ fn journal_words<'a>(alloc: Global, name: &'a str) -> ServeWords<'a> {
     ServeWords {
         gate: "-",
         peers: Vec::new(alloc),
+        keys: None,
         sites: Vec::new(alloc),
         site: 1,
         start: None,
         port: None,
         sockets: Vec::new(alloc),
+        hosts: Vec::new(alloc),
         mode: SocketMode::Owner,
         workers: 2,
         pause_ms: 1000,
@@ -96,9 +101,21 @@ where
     R: Copy + Send + Sync + 'static,
     N: Named + Send + Drop + 'static,
 {
+    serve_keyed(rt, words, files, &NoKeys)
+}
+
+/// The same, where keys are read so.
+pub fn serve_keyed<'a, R, N, L>(rt: R, words: ServeWords<'a>, files: N, keys: &L) -> Ended<'a>
+where
+    R: Net<Listener = TcpListener, Stream = TcpStream> + RandomSource,
+    R: Files<File = File> + Print + Threads + Wait + Clock + AllocGlobal,
+    R: Copy + Send + Sync + 'static,
+    N: Named + Send + Drop + 'static,
+    L: KeyReader + Sync,
+{
     let input = Ends::new(GATE.as_bytes());
     let errors = Ends::new(Vec::new(rt.alloc()));
-    serve(rt, rt.alloc(), words, input, files, errors)
+    serve(rt, rt.alloc(), words, input, files, errors, keys)
 }
 
 /// The contents of a file, which is then removed.
@@ -144,24 +161,24 @@ fn a_record_that_cannot_be_saved_is_a_fault(rt: HostRuntime) {
 }
 
 /// Whether a site ends well with its input that keeps a journal and is given a snapshot.
-fn adds_to_journal<'a, R>(rt: R, journal: &'a str, snapshot: &'a str) -> bool
+fn adds_to_journal<'a, R, N>(rt: R, journal: &'a str, snapshot: &'a str, files: N) -> bool
 where
     R: Net<Listener = TcpListener, Stream = TcpStream> + RandomSource,
     R: Files<File = File> + Print + Threads + Wait + Clock + AllocGlobal,
     R: Copy + Send + Sync + 'static,
+    N: Named + Send + Drop + 'static,
 {
     let mut words = journal_words(rt.alloc(), journal);
     words.load = Some(snapshot);
-    let ended = serve_input(rt, words, SystemFiles::new(rt));
-    matches!(&ended, Ended::Well)
+    matches!(serve_input(rt, words, files), Ended::Well)
 }
 
 #[test]
 fn a_journal_gets_what_a_snapshot_has_once(rt: HostRuntime) -> Result<(), Fail> {
     fs::write(&rt, "given.tmp", SNAPSHOT)?;
-    assert!(rt; adds_to_journal(rt, "added.tmp", "given.tmp"));
+    assert!(rt; adds_to_journal(rt, "added.tmp", "given.tmp", SystemFiles::new(rt)));
     assert_eq!(rt; fs::read(&rt, "added.tmp")?.as_slice(), JOURNAL);
-    assert!(rt; adds_to_journal(rt, "added.tmp", "given.tmp"));
+    assert!(rt; adds_to_journal(rt, "added.tmp", "given.tmp", SystemFiles::new(rt)));
     assert_eq!(rt; take_away(&rt, "added.tmp")?.as_slice(), JOURNAL);
     fs::remove_file(&rt, "given.tmp")?;
     Ok(())

@@ -9,6 +9,7 @@ use byte_ends::Ends;
 use command_line::ServeWords;
 use gate_rules::Gate;
 use jiff::Timestamp;
+use key_files::NoKeys;
 use record_pull::SystemFiles;
 use serve_command::{Ended, serve};
 use site_net::Stop;
@@ -247,7 +248,7 @@ impl<R: Wait + Clock + Copy> Typed<R> {
 impl<R: Wait + Clock + Copy> Read for Typed<R> {
     fn read(&mut self, into: &mut [u8]) -> io::Result<usize> {
         for _ in 0..20_000 {
-            let count = self.taken(into)?;
+            let count = self.taken(into)?.min(into.len());
             if count > 0 {
                 return Ok(count);
             }
@@ -378,6 +379,7 @@ fn a_gate_file_is_read_again(rt: HostRuntime) -> Result<(), Fail> {
         input,
         SystemFiles::new(rt),
         errors,
+        &NoKeys,
     );
     let is_well = typist.join(&rt)?;
     fs::remove_file(&rt, GATE_FILE)?;

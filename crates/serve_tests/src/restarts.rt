@@ -6,9 +6,10 @@ use super::sites::{NoTurn, PASS_ON, PASSED, TAKE, ending, listening, pulling, ru
 use byte_ends::Ends;
 use command_line::ServeWords;
 use console::Named;
+use key_files::NoKeys;
 use record_pull::SystemFiles;
 use serve_command::{Ended, ProgramFault, serve};
-use site_address::Address;
+use site_address::{Address, PeerAddress};
 use site_net::Stop;
 use site_serve::ServeFault;
 use std::alloc::Global;
@@ -128,7 +129,15 @@ fn a_line_stop_ends_a_site(rt: HostRuntime) -> Result<(), Fail> {
     words.until_input_ends = true;
     let input = Ends::new(SaysStop { rt, is_said: false });
     let errors = Ends::new(Vec::new(rt.alloc()));
-    let ended = serve(rt, rt.alloc(), words, input, SystemFiles::new(rt), errors);
+    let ended = serve(
+        rt,
+        rt.alloc(),
+        words,
+        input,
+        SystemFiles::new(rt),
+        errors,
+        &NoKeys,
+    );
     assert!(rt; matches!(&ended, Ended::Well));
     assert!(rt; began.elapsed(&rt)? < Duration::from_secs(15));
     fs::remove_file(&rt, "gate.tmp")?;
@@ -142,7 +151,7 @@ fn a_start_that_a_peer_has_ends_a_site(rt: HostRuntime) -> Result<(), Fail> {
     let twin = pulling(rt.alloc(), 1, &[])?;
     let stop = Stop::new();
     let mut words = site_words(rt.alloc());
-    words.peers.push(Address::Port(port))?;
+    words.peers.push(PeerAddress::Here(Address::Port(port)))?;
     words.pause_ms = 50;
     let (served, (is_taken, ended)) = thread::join(
         &rt,

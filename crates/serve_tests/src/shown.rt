@@ -2,7 +2,7 @@
 
 use super::sites::{NoTurn, ending, listening, one_session, run_one, talk, text_of};
 use page_server::open_door;
-use site_address::Address;
+use site_address::{Address, PeerAddress};
 use site_net::Stop;
 use site_serve::{Doorstep, Setup};
 use std::alloc::Global;
@@ -114,7 +114,9 @@ where
 fn a_site_shows_how_it_is(rt: HostRuntime) -> Result<(), Fail> {
     let alloc = rt.alloc();
     let (mut setup, page) = shown(&rt, alloc)?;
-    setup.peers.push(Address::Path("./no/such/socket"))?;
+    setup
+        .peers
+        .push(PeerAddress::Here(Address::Path("./no/such/socket")))?;
     let (listener, port) = listening(&rt)?;
     let stop = Stop::new();
     let (_ended, status) = thread::join(

@@ -40,6 +40,7 @@ where
         site: 1,
         start: 1,
         peers: Vec::new(alloc),
+        keys: None,
         sites: Vec::new(alloc),
         workers: 2,
         pause_ms: 50,

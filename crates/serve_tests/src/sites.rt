@@ -3,9 +3,11 @@
 use super::watched::{Shared, Written, watched_end};
 use byte_ends::Ends;
 use gate_rules::Gate;
+use key_file::{KeyFault, Keys};
+use key_files::{KeyReader, NoKeys};
 use op_text::read_op;
 use replica_core::Replica;
-use site_address::Address;
+use site_address::{Address, PeerAddress};
 use site_net::Stop;
 use site_serve::{Prints, Reloads, ServeFault, Served, Setup, Turn, serve_run};
 use std::alloc::Global;
@@ -45,6 +47,16 @@ impl Turn for NoTurn {
     fn left(&self, _session: u64) {}
 }
 
+impl KeyReader for NoTurn {
+    fn keys(&self, name: &str) -> Result<Keys, KeyFault> {
+        NoKeys.keys(name)
+    }
+
+    fn nonce(&self) -> Result<[u8; 16], KeyFault> {
+        NoKeys.nonce()
+    }
+}
+
 /// A site under start 1, empty, with one worker and one session.
 pub fn one_session(alloc: Global, site: u16) -> Result<Setup<'static>, Fail> {
     Ok(Setup {
@@ -54,6 +66,7 @@ pub fn one_session(alloc: Global, site: u16) -> Result<Setup<'static>, Fail> {
         site,
         start: 1,
         peers: Vec::new(alloc),
+        keys: None,
         sites: Vec::new(alloc),
         workers: 1,
         pause_ms: 50,
@@ -223,6 +236,16 @@ impl<R: Clock + Copy> Turn for SecondFirst<R> {
     }
 }
 
+impl<R: Clock + Copy> KeyReader for SecondFirst<R> {
+    fn keys(&self, name: &str) -> Result<Keys, KeyFault> {
+        NoKeys.keys(name)
+    }
+
+    fn nonce(&self) -> Result<[u8; 16], KeyFault> {
+        NoKeys.nonce()
+    }
+}
+
 /// Whether two sessions side by side are both answered by a site that holds the first until the second has ended.
 fn both_are_answered<R, T>(
     rt: &R,
@@ -298,7 +321,7 @@ pub fn pulling(alloc: Global, site: u16, peers: &[u16]) -> Result<Setup<'static>
     let mut setup = one_session(alloc, site)?;
     setup.sessions = 0;
     for port in peers {
-        setup.peers.push(Address::Port(*port))?;
+        setup.peers.push(PeerAddress::Here(Address::Port(*port)))?;
     }
     Ok(setup)
 }
@@ -492,6 +515,16 @@ impl<R: Wait + Clock + Copy> Turn for AfterReport<R> {
 
     fn left(&self, _session: u64) {
         let _is_more = self.await_more(FIRST_REPORT.len());
+    }
+}
+
+impl<R: Wait + Clock + Copy> KeyReader for AfterReport<R> {
+    fn keys(&self, name: &str) -> Result<Keys, KeyFault> {
+        NoKeys.keys(name)
+    }
+
+    fn nonce(&self) -> Result<[u8; 16], KeyFault> {
+        NoKeys.nonce()
     }
 }
 

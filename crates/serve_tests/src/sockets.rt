@@ -6,7 +6,7 @@ use byte_ends::Ends;
 use console::Named;
 use record_pull::SystemFiles;
 use serve_command::{Ended, ProgramFault};
-use site_address::Address;
+use site_address::{Address, PeerAddress};
 use site_ledger::NoJournal;
 use site_net::{Listener, Patience, Stop, connected, listen_at_path};
 use site_serve::{Setup, serve_keeping};
@@ -125,7 +125,7 @@ where
 /// A site with one session, that pulls from the site at a socket.
 fn pulling_at<'a>(alloc: Global, site: u16, path: &'a str) -> Result<Setup<'a>, Fail> {
     let mut setup = one_session(alloc, site)?;
-    setup.peers.push(Address::Path(path))?;
+    setup.peers.push(PeerAddress::Here(Address::Path(path)))?;
     Ok(setup)
 }
 

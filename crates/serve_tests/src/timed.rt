@@ -14,8 +14,6 @@ struct Counted {
 }
 
 impl Moments for Counted {
-    ghost use Rattle.std.specs.Prelude.{Unit};
-
     ghost reads = { λ old moment new. Unit {0} };
 
     fn moment(&mut self) -> Option<Timestamp> {

@@ -1,1 +1,3 @@
 pub mod Address
+pub mod Host
+pub mod Peer

@@ -25,8 +25,8 @@ mod reader;
 mod stop;
 mod writer;
 
-pub use connect::connected;
-pub use listener::{Listener, listen_at_path, listen_at_port};
+pub use connect::{connected, connected_to_host};
+pub use listener::{Listener, listen_at_host, listen_at_path, listen_at_port};
 pub use patience::{Awaited, Patience};
 pub use reader::PatientReader;
 pub use stop::Stop;

@@ -1,5 +1,6 @@
 //! Listens for sessions, at a port or at a Unix socket.
 
+use site_address::HostPort;
 use std::alloc::Global;
 use std::fs::Permissions;
 use std::io::ErrorKind;
@@ -16,6 +17,8 @@ pub enum Listener {
     Port(TcpListener),
     /// A Unix socket.
     Socket(UnixListener),
+    /// A port whose connections are sealed.
+    Sealed(TcpListener),
 }
 
 /// Listens at a port of 127.0.0.1; at one that the system chooses where it is 0. It fails where that isn't free.
@@ -24,6 +27,15 @@ pub fn listen_at_port<R: Net<Listener = TcpListener, Stream = TcpStream>>(
     port: u16,
 ) -> io::Result<TcpListener> {
     TcpListener::bind(rt, ("127.0.0.1", port))
+}
+
+/// Listens at a port of a host of this machine, whose name it looks up; at one that the system chooses where it is 0. It
+/// fails where the host isn't this machine's, or the port isn't free.
+pub fn listen_at_host<R: Net<Listener = TcpListener, Stream = TcpStream>>(
+    rt: &R,
+    at: HostPort<'_>,
+) -> io::Result<TcpListener> {
+    TcpListener::bind(rt, (at.host, at.port))
 }
 
 /// Listens at a Unix socket with this mode, which it makes at a path of at most 101 bytes. Nobody can connect to it

@@ -3,3 +3,4 @@ pub mod Held
 pub mod Waiting
 pub mod Shown
 pub mod PassingOn
+pub mod Seating

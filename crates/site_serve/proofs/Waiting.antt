@@ -11,8 +11,8 @@ use Rattle.gossip_line.specs.declared.step.Step.TheVariants as step
 use Rattle.review_ops.specs.Deed.{Deed}
 use Rattle.review_ops.specs.Timestamp.{Timestamp}
 use Rattle.site_port.specs.Ports.{takes_in}
-use Rattle.site_serve.specs.Acknowledged.{AddsOne, AddsOwn, HoldsBody}
-use Rattle.site_serve.specs.Doing.{DoesLine, Scene}
+use Rattle.site_serve.specs.Acknowledged.{AddsOne, AddsOwn}
+use Rattle.site_serve.specs.Doing.{DoesBody, DoesLine, Scene}
 use Rattle.site_serve.specs.Outboxes.{Adds}
 use Rattle.site_serve.specs.declared.ask.Asker.{Asker}
 use Rattle.site_serve.specs.declared.desk.Waiter.{Waiter}
@@ -35,20 +35,19 @@ both_own asker old mid new (first, is, own) (more, then, theirs) = (
   All-append (λ waiter. waiter.asker ≡ asker) first more own theirs,
 )
 
-module _ (first : Bool) (line : List ℕ) (asker : Asker) (old new : Scene) where
+module _ (may_take first : Bool) (line : List ℕ) (asker : Asker) (old new : Scene) where
   pub says_does : (saying : Saying) → IsStep first line (step.Says saying)
       → ((result : Result Bool LineFault)
       × Adds (answer_text (answer_of saying)) (next_of (answer_of saying)) old.answers new.answers result)
-      → new.waiters ≡ old.waiters → new.account ≡ old.account → DoesLine first line asker old new
+      → new.waiters ≡ old.waiters → new.account ≡ old.account → DoesLine may_take first line asker old new
   says_does saying is said same held = inl (saying, is, said, (same, held))
 
-  pub takes_does : (deed : Deed) → first ≡ false → Asks line (takes_in deed)
-      → AddsOne asker (HoldsBody deed old.account new.account) old.waiters new.waiters → new.answers ≡ old.answers
-      → DoesLine first line asker old new
-  takes_does deed later asks added same = inr (inl (deed, later, asks, added, same))
+  pub takes_does : (deed : Deed) → first ≡ false → Asks line (takes_in deed) → DoesBody may_take deed asker old new
+      → DoesLine may_take first line asker old new
+  takes_does deed later asks does = inr (inl (deed, later, asks, does))
 
   pub looks_does : (look : Look) → IsStep first line (step.Looks look)
       → ((new.answers ≡ old.answers)
       ⊎ ((result : Result Bool LineFault) × Adds no_memory_line (Ok true) old.answers new.answers result))
-      → new.waiters ≡ old.waiters → new.account ≡ old.account → DoesLine first line asker old new
+      → new.waiters ≡ old.waiters → new.account ≡ old.account → DoesLine may_take first line asker old new
   looks_does look is shown same held = inr (inr (look, is, shown, (same, held)))

@@ -2,7 +2,7 @@
 use Rattle.std.specs.Prelude.{◌≡◌, ◌⊎◌, Bool, false, true, List, ℕ, Ok, Result}
 use Rattle.gossip_line.specs.Answers.{Asks}
 use Rattle.gossip_line.specs.Steps.{IsStep, answer_of}
-use Rattle.gossip_line.specs.Texts.{answer_text, next_of, no_memory_line}
+use Rattle.gossip_line.specs.Texts.{answer_text, next_of, no_memory_line, not_allowed}
 use Rattle.gossip_line.specs.declared.fault.LineFault.{LineFault}
 use Rattle.gossip_line.specs.declared.step.Look.{Look}
 use Rattle.gossip_line.specs.declared.step.Saying.{Saying}
@@ -34,12 +34,19 @@ SaysLine first line old new =
     × Adds (answer_text (answer_of saying)) (next_of (answer_of saying)) old.answers new.answers result)
     × IsLeft old new
 
--- the line is a body to take in, which is held, or refused; and its session waits for the next publish, after those who
--- wait already, for the answer to just that
-abbrev pub TakesLine : Bool → List ℕ → Asker → Scene → Scene → Type 0
-TakesLine first line asker old new =
-    (deed : Deed) × (first ≡ false) × Asks line (takes_in deed)
-    × AddsOne asker (HoldsBody deed old.account new.account) old.waiters new.waiters × (new.answers ≡ old.answers)
+-- a body is held, or refused, and its session waits for the next publish, after those who wait already, for the answer to
+-- just that; a session that may only look is answered that it isn't, and nothing of it is held
+abbrev pub DoesBody : Bool → Deed → Asker → Scene → Scene → Type 0
+DoesBody true deed asker old new =
+    AddsOne asker (HoldsBody deed old.account new.account) old.waiters new.waiters × (new.answers ≡ old.answers)
+DoesBody false deed asker old new =
+    ((result : Result Bool LineFault) × Adds (answer_text not_allowed) (Ok true) old.answers new.answers result)
+    × IsLeft old new
+
+-- the line is a body to take in
+abbrev pub TakesLine : Bool → Bool → List ℕ → Asker → Scene → Scene → Type 0
+TakesLine may_take first line asker old new =
+    (deed : Deed) × (first ≡ false) × Asks line (takes_in deed) × DoesBody may_take deed asker old new
 
 -- the line asks to look, which a worker does; where memory is refused for that it is said at once
 abbrev pub LooksLine : Bool → List ℕ → Scene → Scene → Type 0
@@ -50,6 +57,6 @@ LooksLine first line old new =
     × IsLeft old new
 
 -- the line does one of these three, and nothing else
-abbrev pub DoesLine : Bool → List ℕ → Asker → Scene → Scene → Type 0
-DoesLine first line asker old new =
-    SaysLine first line old new ⊎ (TakesLine first line asker old new ⊎ LooksLine first line old new)
+abbrev pub DoesLine : Bool → Bool → List ℕ → Asker → Scene → Scene → Type 0
+DoesLine may_take first line asker old new =
+    SaysLine first line old new ⊎ (TakesLine may_take first line asker old new ⊎ LooksLine first line old new)

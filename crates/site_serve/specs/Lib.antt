@@ -10,3 +10,5 @@ pub mod Pages
 pub mod Answered
 pub mod TwoSites
 pub mod InForce
+pub mod SessionFaults
+pub mod Channels

@@ -3,12 +3,16 @@
 ghost use Rattle.std.specs.Prelude.{◌≡◌, ◌++◌, IfOk, codes, decimal, string_bytes};
 ghost use Rattle.refusal_line.specs.Line.{line_of};
 ghost use Rattle.refusal_line.specs.declared.part.Part.TheVariants.{Peer};
-ghost use Rattle.site_address.specs.Address.{address_text};
+ghost use Rattle.site_address.specs.Peer.{peer_text};
 
+use super::session_fault::SessionFault;
 use byte_ends::{Drain, write_all};
 use gossip_line::LineFault;
+use key_file::KeyFault;
+use key_files::keys_line;
 use refusal_line::{Part, refusal_line};
-use site_address::Address;
+use sealed_link::DialFault;
+use site_address::PeerAddress;
 use std::alloc::{AllocError, Global};
 use std::sync::{Mutex, Wait};
 
@@ -28,7 +32,7 @@ impl<E: Drain> Errors<E> {
     }
 
     /// Writes that a session ended with a fault.
-    pub fn session_failed(&self, rt: &impl Wait, alloc: Global, fault: LineFault, session: u64) {
+    pub fn session_failed(&self, rt: &impl Wait, alloc: Global, fault: SessionFault, session: u64) {
         if let Ok(line) = line_about(alloc, Part::Session, fault.number(), fault.name(), session) {
             self.write(rt, line.as_str());
         }
@@ -42,22 +46,57 @@ impl<E: Drain> Errors<E> {
     }
 
     /// Writes that a pull from a peer failed.
-    pub fn pull_failed(&self, rt: &impl Wait, alloc: Global, fault: LineFault, peer: Address<'_>) {
+    pub fn pull_failed(
+        &self,
+        rt: &impl Wait,
+        alloc: Global,
+        fault: LineFault,
+        peer: PeerAddress<'_>,
+    ) {
         if let Ok(line) = line_of_peer(alloc, fault.number(), fault.name(), peer) {
             self.write(rt, line.as_str());
         }
     }
 
     /// Writes that a peer can't be reached.
-    pub fn not_reached(&self, rt: &impl Wait, alloc: Global, peer: Address<'_>) {
+    pub fn not_reached(&self, rt: &impl Wait, alloc: Global, peer: PeerAddress<'_>) {
         if let Ok(line) = line_of_peer(alloc, 8, "Unreachable", peer) {
             self.write(rt, line.as_str());
         }
     }
 
     /// Writes that a pull from a peer ended well, after one that didn't.
-    pub fn is_back(&self, rt: &impl Wait, alloc: Global, peer: Address<'_>) {
+    pub fn is_back(&self, rt: &impl Wait, alloc: Global, peer: PeerAddress<'_>) {
         if let Ok(line) = line_of_peer(alloc, 0, "Back", peer) {
+            self.write(rt, line.as_str());
+        }
+    }
+
+    /// Writes that a peer doesn't answer as who has the key.
+    pub fn not_dialed(
+        &self,
+        rt: &impl Wait,
+        alloc: Global,
+        fault: DialFault,
+        peer: PeerAddress<'_>,
+    ) {
+        let (number, name) = words_of(fault);
+        if let Ok(line) = line_of_peer(alloc, number, name, peer) {
+            self.write(rt, line.as_str());
+        }
+    }
+
+    /// Writes that the key of a peer isn't there to be used.
+    pub fn no_key_of(&self, rt: &impl Wait, alloc: Global, fault: KeyFault, peer: PeerAddress<'_>) {
+        let mut name = String::new(alloc);
+        if peer.write(&mut name).is_ok() {
+            self.no_keys(rt, alloc, fault, name.as_str());
+        }
+    }
+
+    /// Writes that the file of keys isn't there to be used, or a key of it, with the name of the file or of a peer.
+    pub fn no_keys(&self, rt: &impl Wait, alloc: Global, fault: KeyFault, name: &str) {
+        if let Ok(line) = keys_line(alloc, fault, name) {
             self.write(rt, line.as_str());
         }
     }
@@ -95,12 +134,24 @@ fn line_of_peer(
     alloc: Global,
     number: u8,
     name: &str,
-    peer: Address<'_>,
+    peer: PeerAddress<'_>,
 ) -> Result<String, AllocError>
     ensures { IfOk result
-        (λ line. string_bytes line ≡ line_of Peer number (name.now ++ codes " " ++ address_text peer.entry)) }
+        (λ line. string_bytes line ≡ line_of Peer number (name.now ++ codes " " ++ peer_text peer.entry)) }
 {
     let mut words = format!(in alloc; "{name} ")?;
     peer.write(&mut words)?;
     refusal_line(alloc, Part::Peer, number, words.as_str())
+}
+
+/// The number and the name under which it is reported that a peer doesn't answer as who has the key.
+fn words_of(fault: DialFault) -> (u8, &'static str) {
+    match fault {
+        DialFault::ReadFault => (3, "ReadFault"),
+        DialFault::WriteFault => (4, "WriteFault"),
+        DialFault::NoMemory => (5, "NoMemory"),
+        DialFault::BadAnswer => (6, "BadAnswer"),
+        DialFault::NoKey => (13, "NoKey"),
+        DialFault::NotProved => (14, "NotProved"),
+    }
 }

@@ -18,9 +18,8 @@ use super::news::News;
 use super::opening::OwnLedger;
 use super::places::Places;
 use super::seats::Lines;
-use super::session::Session;
+use super::session::{Guest, Session};
 use byte_ends::Drain;
-use mio::net::TcpStream;
 use mio::{Events, Interest, Poll, Token};
 use site_ledger::Keeps;
 use site_net::{Patience, Stop};
@@ -164,24 +163,24 @@ impl Floor {
         lines: &Lines<J>,
     ) {
         for _guest in 0..GUESTS {
-            let Some(stream) = self.next_guest() else {
+            let Some(guest) = self.next_guest() else {
                 return;
             };
             match places.free_one() {
-                Some(place) => self.seat(rt, places, lines, place, stream),
+                Some(place) => self.seat(rt, places, lines, place, guest),
                 None => self.refuse(rt, site),
             }
         }
     }
 
     /// The next connection that waits.
-    fn next_guest(&mut self) -> Option<TcpStream> {
+    fn next_guest(&mut self) -> Option<Guest> {
         if !self.may_accept || (self.most > 0 && self.accepted >= self.most) {
             return None;
         }
-        let stream = self.listeners.as_ref()?.accept();
-        self.may_accept = stream.is_some();
-        stream
+        let guest = self.listeners.as_ref()?.accept();
+        self.may_accept = guest.is_some();
+        guest
     }
 
     /// Says that every place is taken, at most once a second.
@@ -203,16 +202,16 @@ impl Floor {
         places: &mut Places<J>,
         lines: &Lines<J>,
         place: usize,
-        stream: TcpStream,
+        guest: Guest,
     ) {
         self.accepted = self.accepted.wrapping_add(1);
-        let mut stream = stream;
+        let mut guest = guest;
         let both = Interest::READABLE | Interest::WRITABLE;
         let _registered = self
             .poll
             .registry()
-            .register(&mut stream, Token(place), both);
-        let session = Session::new(self.alloc, self.accepted, stream, self.now);
+            .register(&mut guest.stream, Token(place), both);
+        let session = Session::new(self.alloc, self.accepted, guest, self.now);
         places.seat(place, session);
         send_job(rt, lines, place, self.accepted, Task::Enter);
     }
@@ -228,7 +227,7 @@ impl Floor {
             let Ok(reply) = lines.replies.try_recv(rt) else {
                 return;
             };
-            if places.take_reply(reply) {
+            if places.take_reply(reply, self.now) {
                 self.ended = self.ended.wrapping_add(1);
             }
         }

@@ -1,13 +1,18 @@
 //! Pulls from peers, round after round.
 
 use super::board::Board;
+use super::doorman::Doorman;
 use super::errors::Errors;
 use super::laws::sites_that_pulled_print_the_same;
 use super::port::PullPort;
-use byte_ends::{Drain, Ends};
+use byte_ends::{Drain, Ends, Source};
 use gossip_line::{LineFault, pull_run};
-use site_address::Address;
-use site_net::{Patience, PatientReader, PatientWriter, Stop, connected};
+use key_file::KeyFault;
+use key_files::KeyReader;
+use sealed_ends::{LinkDrain, LinkSource};
+use sealed_link::{DialFault, dialed};
+use site_address::PeerAddress;
+use site_net::{Patience, PatientReader, PatientWriter, Stop, connected, connected_to_host};
 use site_port::Guarded;
 use site_shared::Naming;
 use std::alloc::Global;
@@ -16,7 +21,7 @@ use std::net::{Net, TcpStream};
 use std::sync::Wait;
 use std::time::{Clock, Duration};
 
-/// A peer on this machine, and how the last pull from it ended.
+/// A peer, and how the last pull from it ended.
 #[derive(Drop)]
 pub struct Peer {
     /// Its place among the addresses of all peers.
@@ -40,14 +45,20 @@ pub enum Condition {
     Well,
     Unreachable,
     Failed(LineFault),
+    /// It doesn't answer as who has the key.
+    Undialed(DialFault),
+    /// The key isn't there to be used.
+    Unkeyed(KeyFault),
 }
 
 /// What pulls go by.
-#[derive(Clone, Copy)]
-pub struct Pulling<'a> {
+#[derive(Drop)]
+pub struct Pulling<'a, T: KeyReader> {
     pub alloc: Global,
     /// The addresses of all peers.
-    pub addresses: &'a [Address<'a>],
+    pub addresses: &'a [PeerAddress<'a>],
+    /// By what peers on other machines are dialed.
+    pub doorman: Doorman<'a, T>,
     /// How long to rest between two rounds.
     pub pause: Duration,
     pub patience: Patience,
@@ -61,13 +72,19 @@ const LONGEST_PAUSE_S: u64 = 60;
 /// Pulls from each peer in turn, with a rest after each round, until the site stops: a pause, which doubles with each
 /// round in which no pull ended well, up to a minute. It asks for the stop where another process takes in as this site.
 /// What pulls that end well come to is the law of `sites_that_pulled_print_the_same`.
-pub fn pull_from_peers<R: Wait + Clock + Net<Stream = TcpStream>, E: Drain, J: Naming>(
+pub fn pull_from_peers<R, E, T, J>(
     rt: &R,
-    pulling: Pulling<'_>,
+    pulling: &Pulling<'_, T>,
     peers: Vec<Peer>,
     errors: &Errors<E>,
     port: &mut Guarded<'_, PullPort<'_, R, J>>,
-) {
+)
+where
+    R: Wait + Clock + Net<Stream = TcpStream>,
+    E: Drain,
+    T: KeyReader,
+    J: Naming,
+{
     sites_that_pulled_print_the_same();
     let mut peers = peers;
     let mut rest = pulling.pause;
@@ -92,13 +109,19 @@ fn longer(rest: Duration, pause: Duration) -> Duration {
 }
 
 /// Pulls from each peer once, unless the site stops. Whether a pull ended well.
-fn pull_round<R: Wait + Clock + Net<Stream = TcpStream>, E: Drain, J: Naming>(
+fn pull_round<R, E, T, J>(
     rt: &R,
-    pulling: Pulling<'_>,
+    pulling: &Pulling<'_, T>,
     peers: &mut [Peer],
     errors: &Errors<E>,
     port: &mut Guarded<'_, PullPort<'_, R, J>>,
-) -> bool {
+) -> bool
+where
+    R: Wait + Clock + Net<Stream = TcpStream>,
+    E: Drain,
+    T: KeyReader,
+    J: Naming,
+{
     let mut is_well = false;
     for peer in peers {
         let Some(address) = pulling.addresses.get(peer.place) else {
@@ -127,7 +150,7 @@ fn pull_round<R: Wait + Clock + Net<Stream = TcpStream>, E: Drain, J: Naming>(
 fn report_condition<E: Drain>(
     rt: &impl Wait,
     alloc: Global,
-    peer: Address<'_>,
+    peer: PeerAddress<'_>,
     condition: Condition,
     errors: &Errors<E>,
 ) {
@@ -135,37 +158,121 @@ fn report_condition<E: Drain>(
         Condition::Well => errors.is_back(rt, alloc, peer),
         Condition::Unreachable => errors.not_reached(rt, alloc, peer),
         Condition::Failed(fault) => errors.pull_failed(rt, alloc, fault, peer),
+        Condition::Undialed(fault) => errors.not_dialed(rt, alloc, fault, peer),
+        Condition::Unkeyed(fault) => errors.no_key_of(rt, alloc, fault, peer),
     }
 }
 
 /// Pulls from one peer, and answers how that ended.
-fn pull_from<R: Wait + Clock + Net<Stream = TcpStream>, J: Naming>(
+fn pull_from<R, T, J>(
     rt: &R,
-    pulling: Pulling<'_>,
-    peer: Address<'_>,
+    pulling: &Pulling<'_, T>,
+    peer: PeerAddress<'_>,
     port: &mut Guarded<'_, PullPort<'_, R, J>>,
-) -> Condition {
-    let Ok(stream) = connected(rt, peer, pulling.patience) else {
+) -> Condition
+where
+    R: Wait + Clock + Net<Stream = TcpStream>,
+    T: KeyReader,
+    J: Naming,
+{
+    let Ok(stream) = reached(rt, peer, pulling.patience) else {
         return Condition::Unreachable;
     };
-    match pull_over(rt, pulling, &stream, port) {
-        Ok(Ok(())) => Condition::Well,
-        Ok(Err(fault)) => Condition::Failed(fault),
+    match ends_of(rt, pulling.stop, pulling.patience, &stream) {
+        Ok((source, drain)) => pull_over(pulling, peer, source, drain, port),
         Err(_) => Condition::Unreachable,
     }
 }
 
-/// Pulls over a connection.
-fn pull_over<R: Wait + Clock, J: Naming>(
+/// A connection to a peer.
+fn reached<R: Net<Stream = TcpStream>>(
     rt: &R,
-    pulling: Pulling<'_>,
-    stream: &TcpStream,
+    peer: PeerAddress<'_>,
+    patience: Patience,
+) -> io::Result<TcpStream> {
+    match peer {
+        PeerAddress::Here(address) => connected(rt, address, patience),
+        PeerAddress::There { key: _, at } => connected_to_host(rt, at, patience),
+    }
+}
+
+/// The ends of a connection.
+fn ends_of<'s, R: Wait + Clock>(
+    rt: &'s R,
+    stop: &'s Stop,
+    patience: Patience,
+    stream: &'s TcpStream,
+) -> io::Result<(Ends<PatientReader<'s, R>>, Ends<PatientWriter<'s, R>>)> {
+    let reader = PatientReader::new(rt, stream, stop, patience)?;
+    let writer = PatientWriter::new(rt, stream, patience)?;
+    Ok((Ends::new(reader), Ends::new(writer)))
+}
+
+/// Pulls over the ends of a connection, which are sealed where the peer is on another machine.
+fn pull_over<R, T, J, S, D>(
+    pulling: &Pulling<'_, T>,
+    peer: PeerAddress<'_>,
+    source: S,
+    drain: D,
     port: &mut Guarded<'_, PullPort<'_, R, J>>,
-) -> io::Result<Result<(), LineFault>> {
-    let mut source = Ends::new(PatientReader::new(rt, stream, pulling.stop, pulling.patience)?);
-    let mut drain = Ends::new(PatientWriter::new(rt, stream, pulling.patience)?);
-    match pull_run(pulling.alloc, &mut source, &mut drain, port) {
-        Ok(_pulled) => Ok(Ok(())),
-        Err(fault) => Ok(Err(fault)),
+) -> Condition
+where
+    R: Wait,
+    T: KeyReader,
+    J: Naming,
+    S: Source + Drop,
+    D: Drain + Drop,
+{
+    let PeerAddress::There { key, at: _ } = peer else {
+        let (mut source, mut drain) = (source, drain);
+        return pulled(pulling, &mut source, &mut drain, port);
+    };
+    match dialed_by(pulling, key, source, drain) {
+        Ok((mut source, mut drain)) => pulled(pulling, &mut source, &mut drain, port),
+        Err(condition) => condition,
+    }
+}
+
+/// The ends of a sealed connection, dialed by a key of this name.
+fn dialed_by<T: KeyReader, S: Source + Drop, D: Drain + Drop>(
+    pulling: &Pulling<'_, T>,
+    key: &str,
+    source: S,
+    drain: D,
+) -> Result<(LinkSource<S>, LinkDrain<D>), Condition> {
+    match pulling.doorman.secret(key) {
+        Ok(secret) => dialed_with(pulling, &secret, source, drain),
+        Err(fault) => Err(Condition::Unkeyed(fault)),
+    }
+}
+
+/// The ends of a sealed connection, dialed with this secret.
+fn dialed_with<T: KeyReader, S: Source + Drop, D: Drain + Drop>(
+    pulling: &Pulling<'_, T>,
+    secret: &[u8; 32],
+    source: S,
+    drain: D,
+) -> Result<(LinkSource<S>, LinkDrain<D>), Condition> {
+    let nonce = match pulling.doorman.reader.nonce() {
+        Ok(nonce) => nonce,
+        Err(fault) => return Err(Condition::Unkeyed(fault)),
+    };
+    let site = pulling.doorman.site;
+    match dialed(pulling.alloc, secret, site, nonce, source, drain) {
+        Ok(ends) => Ok(ends),
+        Err(fault) => Err(Condition::Undialed(fault)),
+    }
+}
+
+/// Pulls over two ends, and answers how that ended.
+fn pulled<R: Wait, T: KeyReader, J: Naming, S: Source, D: Drain>(
+    pulling: &Pulling<'_, T>,
+    source: &mut S,
+    drain: &mut D,
+    port: &mut Guarded<'_, PullPort<'_, R, J>>,
+) -> Condition {
+    match pull_run(pulling.alloc, source, drain, port) {
+        Ok(_pulled) => Condition::Well,
+        Err(fault) => Condition::Failed(fault),
     }
 }

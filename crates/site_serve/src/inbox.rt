@@ -1,11 +1,13 @@
 //! What was read of a session and isn't done yet.
 
-ghost use Rattle.std.specs.Prelude.{◌≡◌, ◌<◌, ◌≤◌, ◌+◌, ◌++◌, [], List, ℕ, MatchBool, MatchOption, OnOk, drop, length, take};
+ghost use Rattle.std.specs.Prelude.{◌≡◌, ◌<◌, ◌≤◌, ◌+◌, ◌++◌, [], List, ℕ, MatchBool, MatchOption, None, OnOk, drop, length, take};
 ghost use Rattle.byte_ends.specs.Lines.{without_cr};
 ghost use Rattle.line_reader.specs.Lines.{HasFirstLf, HasNoLf};
+ghost use Rattle.sealed_link.specs.Lines.{OpensCame};
 
 use line_reader::LINE_LIMIT;
 use memchr::memchr;
+use sealed_link::{Wire, WireFault};
 use std::alloc::{AllocError, Global};
 use std::marker::Model;
 
@@ -85,9 +87,26 @@ impl Inbox {
     pub(super) fn keep(&mut self, came: &[u8]) -> Result<(), AllocError>
         ensures { OnOk result (self.new ≡ self.old ++ came.now) }
     {
+        self.drop_done();
+        self.bytes.extend_from_slice(came)
+    }
+
+    /// Keeps what opens of what came, in place of what is done. What opens is whole lines, so that none is looked at twice.
+    pub(super) fn keep_opened(&mut self, wire: &mut Wire, came: &[u8]) -> Result<(), WireFault>
+        ensures { wire.old.fault ≡ None → (text : List ℕ) × (self.new ≡ self.old ++ text)
+            × OpensCame wire.old came.now text result wire.new }
+    {
+        self.drop_done();
+        self.scanned = 0;
+        wire.open(came, &mut self.bytes)
+    }
+
+    /// Gives up what is done.
+    fn drop_done(&mut self)
+        ensures { self.new ≡ self.old }
+    {
         self.bytes.drain(..self.next);
         self.next = 0;
-        self.bytes.extend_from_slice(came)
     }
 }
 

@@ -1,8 +1,11 @@
 //! What the workers of a site do for its sessions.
 
+use super::channel::Knock;
 use super::opening::OwnWindow;
+use super::session_fault::SessionFault;
 use crossbeam_channel::{Receiver, Sender};
 use gossip_line::{LineFault, Look};
+use sealed_link::Admitted;
 use site_shared::{BrandedReceipt, Naming};
 use std::alloc::Global;
 use std::sync::Arc;
@@ -12,10 +15,12 @@ use std::sync::Arc;
 pub(super) enum Task {
     /// It begins.
     Enter,
+    /// It asks to be let in.
+    Knock(Knock),
     /// It asks to look at what the site has.
     Look(Look),
     /// It has ended so.
-    Leave(Result<(), LineFault>),
+    Leave(Result<(), SessionFault>),
 }
 
 /// A task of the session of a number, at its place. It is shown no less than what its receipt has seen published.
@@ -32,6 +37,10 @@ pub(super) struct Job<J: Naming> {
 pub(super) enum Work {
     /// The session has begun.
     Entered,
+    /// It is let in.
+    Admitted(Admitted),
+    /// It isn't let in, and is answered so.
+    Barred(Vec<u8>),
     /// A look is answered so, and the session goes on or not.
     Looked(Vec<u8>, Result<bool, LineFault>),
     /// The session has ended.

@@ -17,6 +17,14 @@
 //!     fn enter(&self, _session: u64) {}
 //!     fn left(&self, _session: u64) {}
 //! }
+//! impl KeyReader for Quiet {
+//!     fn keys(&self, name: &str) -> Result<Keys, KeyFault> {
+//!         NoKeys.keys(name)
+//!     }
+//!     fn nonce(&self) -> Result<[u8; 16], KeyFault> {
+//!         NoKeys.nonce()
+//!     }
+//! }
 //!
 //! let listener = listen_at_port(&rt, 0)?;
 //! let setup = Setup {
@@ -26,6 +34,7 @@
 //!     site: 1,
 //!     start: 1,
 //!     peers: Vec::new(alloc),
+//!     keys: None,
 //!     workers: 1,
 //!     pause_ms: 1000,
 //!     sessions: 0,
@@ -46,7 +55,9 @@
 mod ask;
 mod bell;
 mod board;
+mod channel;
 mod desk;
+mod doorman;
 mod errors;
 mod evaluator;
 mod floor;
@@ -69,6 +80,7 @@ mod ruling;
 mod run;
 mod seats;
 mod session;
+mod session_fault;
 mod setup;
 
 pub use laws::{pulls_of_sites_pass_on_all, sites_that_pulled_print_the_same};

@@ -8,10 +8,12 @@ ghost use Rattle.gossip_line.specs.declared.fault.LineFault.{LineFault};
 ghost use Rattle.line_reader.specs.Lines.{HasFirstLf};
 ghost use Rattle.site_serve.specs.Acknowledged.{AddsOwn, IsHeldBy, session_at};
 ghost use Rattle.site_serve.specs.Outboxes.{Adds};
-ghost use Rattle.site_serve.specs.Doing.{DoesLine};
+ghost use Rattle.review_ops.specs.Draft.{deed_of};
+ghost use Rattle.site_serve.specs.Doing.{DoesBody, DoesLine};
 
 use super::ask::{Ask, Asker};
 use super::board::Board;
+use super::channel::Knock;
 use super::desk::{BATCH, Waiter, hold_more};
 use super::jobs::{Job, Task};
 use super::opening::OwnLedger;
@@ -19,6 +21,7 @@ use super::session::Session;
 use crossbeam_channel::Sender;
 use gossip_line::{Look, Saying, Step, is_take, step_of};
 use line_reader::LINE_LIMIT;
+use review_ops::Draft;
 use site_ledger::Keeps;
 use site_shared::Naming;
 use std::alloc::Global;
@@ -93,12 +96,17 @@ fn do_next<R: Wait, J: Naming, K: Keeps>(
 {
     match session.inbox.next_line() {
         Some(size) => do_line(rt, means, session, ledger, waiters, size),
-        None => read_on(means, buffer, session),
+        None => read_on(rt, means, buffer, session),
     }
 }
 
 /// Reads on, where no line is there. Whether something came.
-fn read_on<J: Naming>(means: &Means<'_, J>, buffer: &mut [u8], session: &mut Session<J>) -> bool
+fn read_on<R: Wait, J: Naming>(
+    rt: &R,
+    means: &Means<'_, J>,
+    buffer: &mut [u8],
+    session: &mut Session<J>,
+) -> bool
     ensures order { 0 < session.old.waiting → session.new.outbox ≡ session.old.outbox }
     ensures waits { session.new.waiting ≡ session.old.waiting }
 {
@@ -112,11 +120,31 @@ fn read_on<J: Naming>(means: &Means<'_, J>, buffer: &mut [u8], session: &mut Ses
         }
         return false;
     }
-    session.read(buffer, means.moment)
+    match session.knock() {
+        Knock::None => session.read(buffer, means.moment),
+        knock => {
+            ask_for(rt, means, session, knock);
+            false
+        }
+    }
+}
+
+/// Has a worker look whether a session is let in by what it asks that by.
+fn ask_for<R: Wait, J: Naming>(rt: &R, means: &Means<'_, J>, session: &mut Session<J>, knock: Knock)
+    ensures { (session.new.outbox ≡ session.old.outbox) × (session.new.waiting ≡ session.old.waiting) }
+{
+    session.go_away();
+    let job = Job {
+        place: means.place,
+        session: means.number,
+        receipt: None,
+        task: Task::Knock(knock),
+    };
+    let _sent = means.jobs.send(rt, job);
 }
 
 /// Does a line of a session: false where it has to wait, or the session ends at it.
-#[tactic(auto, using(crate::proofs::Waiting::none_own, crate::proofs::Waiting::one_own, crate::proofs::Waiting::says_does, crate::proofs::Waiting::takes_does, crate::proofs::Waiting::looks_does))]
+#[tactic(auto, using(crate::proofs::Waiting::none_own, crate::proofs::Waiting::says_does, crate::proofs::Waiting::takes_does, crate::proofs::Waiting::looks_does))]
 fn do_line<R: Wait, J: Naming, K: Keeps>(
     rt: &R,
     means: &Means<'_, J>,
@@ -134,7 +162,7 @@ fn do_line<R: Wait, J: Naming, K: Keeps>(
     // The next line is done, or none is.
     ensures does { MatchBool result
         ((session.new.inbox ≡ drop (size + 1) session.old.inbox)
-        × DoesLine (nat_eq session.old.lines 0) (without_cr (take size session.old.inbox))
+        × DoesLine session.old.may_take (nat_eq session.old.lines 0) (without_cr (take size session.old.inbox))
         (session_at means.now.place means.now.number)
         (record { answers = session.old.outbox; waiters = waiters.old.items; account = ledger.old.ledger.account })
         (record { answers = session.new.outbox; waiters = waiters.new.items; account = ledger.new.ledger.account }))
@@ -159,16 +187,7 @@ fn do_line<R: Wait, J: Naming, K: Keeps>(
         return false;
     }
     match step_of(means.alloc, session.is_first(), line) {
-        Step::Takes(draft) => {
-            let asker = Asker::Session {
-                place: means.place,
-                session: means.number,
-            };
-            hold_more(ledger, Ask::Intake { asker, draft }, waiters);
-            session.await_publish();
-            session.pass(size);
-            true
-        }
+        Step::Takes(draft) => take_body(means, session, ledger, waiters, draft, size),
         _ if session.is_waiting() => false,
         Step::Says(saying) => {
             if saying == Saying::Noted {
@@ -187,6 +206,51 @@ fn do_line<R: Wait, J: Naming, K: Keeps>(
             true
         }
     }
+}
+
+/// Has the body of the line of this size held, where the session may have bodies taken in, and goes on past that line:
+/// false where it has to wait.
+#[tactic(auto, using(crate::proofs::Waiting::none_own, crate::proofs::Waiting::one_own))]
+fn take_body<J: Naming, K: Keeps>(
+    means: &Means<'_, J>,
+    session: &mut Session<J>,
+    ledger: &mut OwnLedger<J, K>,
+    waiters: &mut Vec<Waiter>,
+    draft: Draft,
+    size: usize,
+) -> bool
+    requires line { size < length session.old.inbox }
+    requires held { All (λ waiter. IsHeldBy ledger.old.ledger.account waiter.held) waiters.old.items }
+    requires room { vec_len waiters.old < vec_capacity waiters.old }
+    ensures held { All (λ waiter. IsHeldBy ledger.new.ledger.account waiter.held) waiters.new.items }
+    ensures room { vec_capacity waiters.new ≡ vec_capacity waiters.old }
+    ensures does { MatchBool result
+        ((session.new.inbox ≡ drop (size + 1) session.old.inbox)
+        × DoesBody session.old.may_take (deed_of draft) (session_at means.now.place means.now.number)
+        (record { answers = session.old.outbox; waiters = waiters.old.items; account = ledger.old.ledger.account })
+        (record { answers = session.new.outbox; waiters = waiters.new.items; account = ledger.new.ledger.account }))
+        ((session.new.inbox ≡ session.old.inbox) × (waiters.new.items ≡ waiters.old.items)
+        × (ledger.new.ledger.account ≡ ledger.old.ledger.account)) }
+    ensures own { AddsOwn (session_at means.now.place means.now.number) waiters.old.items waiters.new.items }
+    ensures order { 0 < session.old.waiting → session.new.outbox ≡ session.old.outbox }
+    ensures waits { 0 < session.old.waiting → 0 < session.new.waiting }
+{
+    if session.may_take() {
+        let asker = Asker::Session {
+            place: means.place,
+            session: means.number,
+        };
+        hold_more(ledger, Ask::Intake { asker, draft }, waiters);
+        session.await_publish();
+        session.pass(size);
+        return true;
+    }
+    if session.is_waiting() {
+        return false;
+    }
+    session.say(means.alloc, Saying::NotAllowed);
+    session.pass(size);
+    true
 }
 
 /// Goes on past the line of this size, and has a worker look for the session as that line asks.

@@ -1,5 +1,6 @@
 //! What a site listens at, as the loop polls it.
 
+use super::session::Guest;
 use mio::net::{TcpListener, TcpStream, UnixListener};
 use mio::{Interest, Poll, Token};
 use site_net::Listener;
@@ -12,6 +13,8 @@ use std::os::fd::OwnedFd;
 enum Polled {
     Port(TcpListener),
     Socket(UnixListener),
+    /// A port whose connections are sealed.
+    Sealed(TcpListener),
 }
 
 /// All that a site listens at, which its poll reports under one token.
@@ -37,10 +40,10 @@ impl Listeners {
     }
 
     /// The next connection that waits at any of them; nothing where none waits, or none can be accepted now.
-    pub(super) fn accept(&self) -> Option<TcpStream> {
+    pub(super) fn accept(&self) -> Option<Guest> {
         for listener in &self.all {
-            if let Ok(stream) = accepted(listener) {
-                return Some(stream);
+            if let Ok(guest) = accepted(listener) {
+                return Some(guest);
             }
         }
         None
@@ -50,13 +53,8 @@ impl Listeners {
 /// A listener that the poll reports.
 fn registered(poll: &Poll, token: Token, listener: Listener) -> io::Result<Polled> {
     match listener {
-        Listener::Port(listener) => {
-            listener.set_nonblocking(true)?;
-            let mut listener = TcpListener::from_std(listener);
-            poll.registry()
-                .register(&mut listener, token, Interest::READABLE)?;
-            Ok(Polled::Port(listener))
-        }
+        Listener::Port(listener) => Ok(Polled::Port(polled_port(poll, token, listener)?)),
+        Listener::Sealed(listener) => Ok(Polled::Sealed(polled_port(poll, token, listener)?)),
         Listener::Socket(listener) => {
             listener.set_nonblocking(true)?;
             let mut listener = UnixListener::from_std(listener);
@@ -67,17 +65,35 @@ fn registered(poll: &Poll, token: Token, listener: Listener) -> io::Result<Polle
     }
 }
 
+/// The listener of a port, which the poll reports.
+fn polled_port(
+    poll: &Poll,
+    token: Token,
+    listener: std::net::TcpListener,
+) -> io::Result<TcpListener> {
+    listener.set_nonblocking(true)?;
+    let mut listener = TcpListener::from_std(listener);
+    poll.registry()
+        .register(&mut listener, token, Interest::READABLE)?;
+    Ok(listener)
+}
+
 /// The next connection that waits at a listener. One of a Unix socket is a stream like those of ports.
-fn accepted(listener: &Polled) -> io::Result<TcpStream> {
-    match listener {
-        Polled::Port(listener) => {
-            let (stream, _address) = listener.accept()?;
-            let _nodelay = stream.set_nodelay(true);
-            Ok(stream)
-        }
+fn accepted(listener: &Polled) -> io::Result<Guest> {
+    let (stream, is_locked) = match listener {
+        Polled::Port(listener) => (accepted_at_port(listener)?, false),
+        Polled::Sealed(listener) => (accepted_at_port(listener)?, true),
         Polled::Socket(listener) => {
             let (stream, _address) = listener.accept()?;
-            Ok(TcpStream::from(OwnedFd::from(stream)))
+            (TcpStream::from(OwnedFd::from(stream)), false)
         }
-    }
+    };
+    Ok(Guest { stream, is_locked })
+}
+
+/// The next connection that waits at a port.
+fn accepted_at_port(listener: &TcpListener) -> io::Result<TcpStream> {
+    let (stream, _address) = listener.accept()?;
+    let _nodelay = stream.set_nodelay(true);
+    Ok(stream)
 }

@@ -14,6 +14,7 @@ ghost use Rattle.site_shared.specs.Accounts.{GoesOn};
 ghost use Rattle.site_shared.specs.Publishes.{arrive};
 
 use super::board::Board;
+use super::doorman::Doorman;
 use super::errors::Errors;
 use super::jobs::{Job, Reply, Task, Work, Worker};
 use super::outbox::refusing_memory;
@@ -33,6 +34,7 @@ use std::sync::{Arc, Wait};
 pub(super) fn do_jobs<R: Wait, E: Drain, T: Turn, J: Naming>(
     rt: &R,
     alloc: Global,
+    doorman: &Doorman<'_, T>,
     ruling: Ruling<'_>,
     worker: Worker<J>,
     waker: &Waker,
@@ -48,7 +50,7 @@ pub(super) fn do_jobs<R: Wait, E: Drain, T: Turn, J: Naming>(
     let mut port = SitePort::new(rt, alloc, ruling, window);
     for job in jobs.iter(rt) {
         port.follow();
-        let reply = done(rt, alloc, job, &mut port, board, errors, turn);
+        let reply = done(rt, alloc, doorman, job, &mut port, board, errors, turn);
         let _sent = replies.send(rt, reply);
         let _woken = waker.wake();
     }
@@ -58,6 +60,7 @@ pub(super) fn do_jobs<R: Wait, E: Drain, T: Turn, J: Naming>(
 fn done<R: Wait, E: Drain, T: Turn, J: Naming>(
     rt: &R,
     alloc: Global,
+    doorman: &Doorman<'_, T>,
     job: Job<J>,
     port: &mut SitePort<'_, '_, R, J>,
     board: &Board,
@@ -75,6 +78,7 @@ fn done<R: Wait, E: Drain, T: Turn, J: Naming>(
             turn.enter(session);
             Work::Entered
         }
+        Task::Knock(knock) => doorman.answer(rt, alloc, knock, errors),
         Task::Look(look) => {
             board.begin_look();
             let work = looked(alloc, &look, &receipt, port);

@@ -20,7 +20,7 @@ use page_server::{Door, Pages, serve_pages};
 use page_text::{Facts, JournalFacts, PeerFacts, page_of};
 use ready_core::Verdicts;
 use replica_core::Replica;
-use site_address::Address;
+use site_address::PeerAddress;
 use site_net::Stop;
 use site_shared::{Naming, RefreshFault, Viewer, WindowFault};
 use std::alloc::{AllocError, Global};
@@ -49,7 +49,7 @@ pub(super) struct Shower<'a, R> {
     /// How many workers there are.
     pub workers: usize,
     /// The addresses of the peers, in the order of the board.
-    pub peers: &'a [Address<'a>],
+    pub peers: &'a [PeerAddress<'a>],
 }
 
 /// Shows a site at a door, each page under the gate that is in force when it is made, to this machine and to hosts of
@@ -286,7 +286,7 @@ fn unwell(alloc: Global, why: &str) -> Result<Page, AllocError>
 /// What is known of the peers now.
 fn peers_of(
     alloc: Global,
-    addresses: &[Address<'_>],
+    addresses: &[PeerAddress<'_>],
     notes: &[PeerNote],
     now: Duration,
 ) -> Result<Vec<PeerFacts>, AllocError> {

@@ -118,7 +118,7 @@ impl<J: Naming> Places<J> {
     fn stays(&mut self, place: usize) -> bool {
         match self.session(place) {
             Some(session) => {
-                session.is_listed = session.is_open() && session.has_more();
+                session.is_listed = session.has_more();
                 session.is_listed
             }
             None => false,
@@ -169,7 +169,7 @@ impl<J: Naming> Places<J> {
     }
 
     /// Takes what a worker has done for a session, unless that has gone.
-    pub(super) fn take_reply(&mut self, reply: Reply) -> bool {
+    pub(super) fn take_reply(&mut self, reply: Reply, now: Duration) -> bool {
         let Reply {
             place,
             session: number,
@@ -183,6 +183,8 @@ impl<J: Naming> Places<J> {
         }
         match work {
             Work::Entered => session.come_back(),
+            Work::Admitted(admitted) => session.let_in(admitted, now),
+            Work::Barred(answer) => session.keep_out(answer),
             Work::Looked(text, answered) => session.take_text(text, answered),
             Work::Left => {
                 self.vacate(place);

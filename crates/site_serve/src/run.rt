@@ -11,6 +11,7 @@ ghost use Rattle.site_shared.specs.Accounts.{is_used};
 use super::ask::Place;
 use super::board::Board;
 use super::desk::{NotKept, Published};
+use super::doorman::Doorman;
 use super::errors::Errors;
 use super::evaluator::{Printed, print_reports, serve_fault};
 use super::floor::{BELL, DOOR, Floor, House, Site, serve_floor};
@@ -30,7 +31,7 @@ use byte_ends::Drain;
 use mio::{Poll, Waker};
 use page_server::Door;
 use pull_guard::Guard;
-use site_address::Address;
+use site_address::PeerAddress;
 use site_ledger::{Keeps, Ledger, NoJournal};
 use site_net::{Listener, Patience, Stop};
 use site_port::Guarded;
@@ -70,7 +71,8 @@ struct Common<'a, E: Drain, T: Turn> {
     guard: Guard,
     start: u32,
     workers: usize,
-    peers: Vec<Address<'a>>,
+    peers: Vec<PeerAddress<'a>>,
+    keys: Option<&'a str>,
     pause: Duration,
     patience: Patience,
     errors: Errors<E>,
@@ -143,6 +145,7 @@ where
         site,
         start,
         peers,
+        keys,
         sites,
         workers,
         pause_ms,
@@ -173,6 +176,7 @@ where
         start,
         workers,
         peers,
+        keys,
         pause: Duration::from_millis(pause_ms),
         patience: patience_of(idle_ms),
         errors: Errors::new(errors),
@@ -584,6 +588,7 @@ where
     let pulling = Pulling {
         alloc: common.alloc,
         addresses: common.peers.as_slice(),
+        doorman: doorman_of(common),
         pause: common.pause,
         patience: Patience {
             limit: Duration::from_millis(PULL_PATIENCE_MS),
@@ -596,7 +601,7 @@ where
         guard: &common.guard,
         sink: PullPort::new(rt, common.alloc, waker, place),
     };
-    pull_from_peers(rt, pulling, peers, &common.errors, &mut port);
+    pull_from_peers(rt, &pulling, peers, &common.errors, &mut port);
     if port.sink.is_start_taken() {
         common.is_start_taken.store(true, Ordering::SeqCst);
     }
@@ -616,6 +621,7 @@ where
     T: Turn,
     J: Naming,
 {
+    let doorman = doorman_of(common);
     let Common {
         alloc,
         board,
@@ -623,7 +629,18 @@ where
         turn,
         ..
     } = common;
-    do_jobs(rt, *alloc, ruling, worker, waker, board, errors, *turn);
+    do_jobs(
+        rt, *alloc, &doorman, ruling, worker, waker, board, errors, *turn,
+    );
+}
+
+/// By what the site lets connections in, and dials.
+fn doorman_of<'a, E: Drain, T: Turn>(common: &'a Common<'_, E, T>) -> Doorman<'a, T> {
+    Doorman {
+        reader: common.turn,
+        keys: common.keys,
+        site: common.guard.own,
+    }
 }
 
 /// Brings the last publish, and has nothing new come any more.

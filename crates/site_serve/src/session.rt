@@ -1,23 +1,29 @@
 //! A session of a site, as a value: what was read of it, and what waits to be written.
 
-ghost use Rattle.std.specs.Prelude.{◌≡◌, ◌⊎◌, ◌<◌, ◌≤◌, ◌+◌, ◌-◌, ◌++◌, [], Bool, Err, IfErr, IfOk, IfSome, MatchBool, MatchOption, None, Ok, Result, Some, drop, length, nat_eq, true};
+ghost use Rattle.std.specs.Prelude.{◌≡◌, ◌⊎◌, ◌↔◌, ◌<◌, ◌≤◌, ◌+◌, ◌-◌, ◌++◌, [], Bool, Err, IfErr, IfOk, IfSome, IsTrue, MatchBool, MatchOption, None, Ok, Result, Some, drop, length, nat_eq, not, true};
+ghost use Rattle.key_file.specs.declared.key.Role.TheVariants.{Feed};
 ghost use Rattle.std.specs.Arc.{arc_value};
 ghost use Rattle.gossip_line.specs.Steps.{answer_of};
 ghost use Rattle.gossip_line.specs.Texts.{answer_text, long_line, next_of, refusal_line, reply_text, stamp_line};
 ghost use Rattle.gossip_line.specs.declared.fault.LineFault.{LineFault};
 ghost use Rattle.site_port.specs.Ports.{reply_by, stamped};
 ghost use Rattle.site_serve.specs.Answered.{SaysFault, SaysStamp};
+ghost use Rattle.site_serve.specs.Channels.{IsSent, outgoing_of};
 ghost use Rattle.site_serve.specs.Outboxes.{Adds};
 ghost use Rattle.site_serve.specs.SitePorts.{fault_of};
 
 use super::ask::{Answer, Done};
+use super::channel::{Channel, Knock};
 use super::inbox::Inbox;
 use super::outbox::Outbox;
 use super::port::desk_fault;
+use super::session_fault::SessionFault;
 use gossip_line::{LineFault, Saying};
+use key_file::Role;
 use memchr::memchr;
 use mio::net::TcpStream;
 use review_ops::Stamp;
+use sealed_link::Admitted;
 use site_net::{Awaited, Patience};
 use site_port::PortFault;
 use site_shared::{BrandedReceipt, Naming};
@@ -37,12 +43,23 @@ const LINES: u64 = 1_000_000;
 /// How many writes are made at once at most.
 const WRITES: usize = 16;
 
+/// A connection that was accepted, and whether it has to be let in by a key.
+#[derive(Drop)]
+pub(super) struct Guest {
+    pub stream: TcpStream,
+    pub is_locked: bool,
+}
+
 /// A session: its connection, what was read and not yet answered, and what was answered and not yet written.
 #[derive(Drop)]
 pub(super) struct Session<J: Naming> {
     /// Its number, from 1, in the order in which sessions were accepted.
     pub number: u64,
     stream: TcpStream,
+    /// What its bytes go through.
+    channel: Channel,
+    /// Whether it may have bodies taken in.
+    may_take: bool,
     /// What was read of it and isn't done yet.
     pub inbox: Inbox,
     /// What it was answered and isn't sent yet.
@@ -53,6 +70,8 @@ pub(super) struct Session<J: Naming> {
     receipt: Option<Arc<BrandedReceipt<J>, Global>>,
     /// How many takes wait for their publish.
     waiting: usize,
+    /// Whether it has had a body taken in, or refused: then it may be silent for as long as it will.
+    has_taken: bool,
     /// Whether a worker has a line of it.
     is_away: bool,
     /// Whether a look of it waits until others have read their answers.
@@ -65,23 +84,32 @@ pub(super) struct Session<J: Naming> {
     is_closing: bool,
     is_read_out: bool,
     /// How it ends, once all that waits is written.
-    ending: Option<Result<(), LineFault>>,
+    ending: Option<Result<(), SessionFault>>,
+    /// Whether its connection took all that was written at once, and more may wait.
+    takes_more: bool,
     awaited: Awaited,
     since: Duration,
     stuck: Duration,
 }
 
 impl<J: Naming> Session<J> {
-    /// A session of which nothing was read, and which waits until it has begun.
-    pub(super) fn new(alloc: Global, number: u64, stream: TcpStream, now: Duration) -> Session<J> {
+    /// A session of which nothing was read, and which waits until it has begun; where its connection has to be let in by
+    /// a key, its lines are sealed.
+    pub(super) fn new(alloc: Global, number: u64, guest: Guest, now: Duration) -> Session<J>
+        ensures { result.may_take ≡ not guest.is_locked }
+    {
+        let Guest { stream, is_locked } = guest;
         Session {
             number,
             stream,
+            channel: Channel::new(alloc, is_locked),
+            may_take: !is_locked,
             inbox: Inbox::new(alloc),
             outbox: Outbox::new(alloc),
             lines: 0,
             receipt: None,
             waiting: 0,
+            has_taken: false,
             is_away: true,
             is_held_back: false,
             is_listed: false,
@@ -89,6 +117,7 @@ impl<J: Naming> Session<J> {
             is_closing: false,
             is_read_out: false,
             ending: None,
+            takes_more: false,
             awaited: Awaited::FirstLine,
             since: now,
             stuck: now,
@@ -105,7 +134,11 @@ impl<J: Naming> Session<J> {
 
     /// Whether nothing of it is left to do.
     pub(super) fn is_over(&self) -> bool {
-        self.ending.is_some() && !self.is_away && self.waiting == 0 && self.outbox.len() == 0
+        self.ending.is_some()
+            && !self.is_away
+            && self.waiting == 0
+            && self.outbox.len() == 0
+            && self.channel.is_sent()
     }
 
     /// Whether the next line is its first.
@@ -228,6 +261,7 @@ impl<J: Naming> Session<J> {
         ensures waits { 0 < self.new.waiting }
     {
         self.waiting = self.waiting.saturating_add(1);
+        self.has_taken = true;
     }
 
     /// Whether it waits for the next publish.
@@ -243,7 +277,7 @@ impl<J: Naming> Session<J> {
     }
 
     /// How it ended.
-    pub(super) fn ended(&self) -> Result<(), LineFault> {
+    pub(super) fn ended(&self) -> Result<(), SessionFault> {
         self.ending.unwrap_or(Ok(()))
     }
 
@@ -273,6 +307,18 @@ impl<J: Naming> Session<J> {
 
     /// Ends once all that waits is written, unless it was to end before.
     pub(super) fn end(&mut self, ending: Result<(), LineFault>)
+        ensures inbox { self.new.inbox ≡ self.old.inbox }
+        ensures receipt { self.new.receipt ≡ self.old.receipt }
+        ensures kept { (self.new.outbox ≡ self.old.outbox) × (self.new.waiting ≡ self.old.waiting) }
+    {
+        match ending {
+            Ok(()) => self.end_as(Ok(())),
+            Err(fault) => self.end_as(Err(SessionFault::Line(fault))),
+        }
+    }
+
+    /// Ends so once all that waits is written, unless it was to end before.
+    fn end_as(&mut self, ending: Result<(), SessionFault>)
         ensures inbox { self.new.inbox ≡ self.old.inbox }
         ensures receipt { self.new.receipt ≡ self.old.receipt }
         ensures kept { (self.new.outbox ≡ self.old.outbox) × (self.new.waiting ≡ self.old.waiting) }
@@ -318,8 +364,8 @@ impl<J: Naming> Session<J> {
                 self.may_read = self.is_closing || count == buffer.len();
                 let came = buffer.get(..count).unwrap_or(&[]);
                 self.note(came, now);
-                if self.inbox.keep(came).is_err() {
-                    self.end(Err(LineFault::NoMemory));
+                if let Err(fault) = self.channel.take(came, &mut self.inbox) {
+                    self.end_as(Err(fault));
                     return false;
                 }
                 true
@@ -349,10 +395,12 @@ impl<J: Naming> Session<J> {
         }
     }
 
-    /// Writes what waits, as much as the connection takes.
+    /// Writes what waits, as much as the connection takes, and not all of it at once where that is much.
     pub(super) fn write(&mut self, now: Duration) {
+        self.takes_more = false;
         for _ in 0..WRITES {
-            let text = self.outbox.as_slice();
+            self.seal_more();
+            let text = self.channel.next(&self.outbox);
             if text.is_empty() {
                 self.stuck = now;
                 return;
@@ -369,14 +417,26 @@ impl<J: Naming> Session<J> {
                 }
             }
         }
+        self.takes_more = true;
+    }
+
+    /// Seals more of what it was answered, where its lines are sealed.
+    fn seal_more(&mut self) {
+        if self.channel.is_shut() {
+            self.outbox.clear();
+        }
+        if let Err(fault) = self.channel.seal(&mut self.outbox) {
+            self.fail_as(fault);
+        }
     }
 
     /// Notes that so many bytes of what waits were written.
     fn note_sent(&mut self, count: usize, now: Duration)
-        requires { count ≤ length self.old.outbox }
-        ensures { self.new.outbox ≡ drop count self.old.outbox }
+        requires { count ≤ length (outgoing_of self.old.channel.first self.old.channel.passage self.old.outbox) }
+        ensures { IsSent count self.old.channel.first self.old.channel.passage self.old.outbox self.new.channel.first
+            self.new.channel.passage self.new.outbox }
     {
-        self.outbox.note_sent(count);
+        self.channel.note_sent(&mut self.outbox, count);
         self.stuck = now;
     }
 
@@ -384,13 +444,21 @@ impl<J: Naming> Session<J> {
     pub(super) fn fail(&mut self, fault: LineFault)
         ensures { self.new.outbox ≡ [] }
     {
-        self.end(Err(fault));
+        self.fail_as(SessionFault::Line(fault));
+    }
+
+    /// Ends with a fault, and nothing more is written.
+    fn fail_as(&mut self, fault: SessionFault)
+        ensures { self.new.outbox ≡ [] }
+    {
+        self.end_as(Err(fault));
         self.outbox.clear();
+        self.channel.shut();
     }
 
     /// Ends where the patience with the other side is at its end.
     pub(super) fn end_if_over(&mut self, patience: Patience, now: Duration) {
-        if self.outbox.len() > 0 {
+        if self.outbox.len() > 0 || !self.channel.is_sent() {
             let stuck = now.saturating_sub(self.stuck);
             if patience.is_over(Awaited::RestOfLine, stuck) {
                 self.fail(LineFault::WriteFault);
@@ -400,15 +468,57 @@ impl<J: Naming> Session<J> {
         if self.is_away || self.is_held_back || self.waiting > 0 || self.ending.is_some() {
             return;
         }
+        let idle = if self.has_taken { None } else { patience.idle };
+        let patience = Patience { idle, ..patience };
         let waited = now.saturating_sub(self.since);
         if patience.is_over(self.awaited, waited) {
             self.end(Err(LineFault::ReadFault));
         }
     }
 
-    /// Whether there is something to read or to answer.
+    /// Whether there is something to read, to answer or to write now.
     pub(super) fn has_more(&mut self) -> bool {
-        self.may_read || self.inbox.next_line().is_some()
+        self.takes_more || self.is_open() && self.has_lines()
+    }
+
+    /// Whether there is something to read or to answer.
+    fn has_lines(&mut self) -> bool {
+        self.may_read || self.inbox.next_line().is_some() || self.knock() != Knock::None
+    }
+
+    /// By what it asks to be let in.
+    pub(super) fn knock(&self) -> Knock {
+        self.channel.knock()
+    }
+
+    /// Is let in by a key: its lines are sealed from now on, the first of which has the time that a first line has.
+    pub(super) fn let_in(&mut self, admitted: Admitted, now: Duration)
+        ensures { IsTrue self.new.may_take ↔ admitted.role ≡ Feed }
+    {
+        let Admitted { role, answer, wire } = admitted;
+        if let Err(fault) = self.channel.let_in(answer, wire) {
+            self.fail_as(fault);
+        }
+        self.is_away = false;
+        self.may_take = role == Role::Feed;
+        self.since = now;
+        self.awaited = Awaited::FirstLine;
+    }
+
+    /// Isn't let in, is answered so, and ends.
+    pub(super) fn keep_out(&mut self, answer: Vec<u8>) {
+        self.is_away = false;
+        self.end_as(Err(SessionFault::NoKey));
+        if let Err(fault) = self.channel.keep_out(answer) {
+            self.fail_as(fault);
+        }
+    }
+
+    /// Whether it may have bodies taken in.
+    pub(super) fn may_take(&self) -> bool
+        ensures { result ≡ self.now.may_take }
+    {
+        self.may_take
     }
 
     /// Its newest receipt once more.

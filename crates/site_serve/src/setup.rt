@@ -5,10 +5,11 @@ ghost use Rattle.site_serve.specs.Fault.{name_of, number_of};
 
 use super::reloads::Reloads;
 use gate_rules::Gate;
+use key_files::KeyReader;
 use mio::Waker;
 use page_server::Door;
 use replica_core::Replica;
-use site_address::Address;
+use site_address::PeerAddress;
 use std::alloc::Global;
 use std::sync::Arc;
 use thiserror::Error;
@@ -48,8 +49,11 @@ pub struct Setup<'a> {
     pub site: u16,
     /// The start of what it takes in, which must be greater than every start that it has used.
     pub start: u32,
-    /// The addresses of its peers on this machine.
-    pub peers: Vec<Address<'a>>,
+    /// The addresses of its peers.
+    pub peers: Vec<PeerAddress<'a>>,
+    /// The name of the file of keys that connections are sealed by, if one is named. Without one nobody is let in at a port
+    /// whose connections are sealed, and no peer on another machine is reached.
+    pub keys: Option<&'a str>,
     /// The numbers of the sites whose operations it takes from its peers, beside its own; none stands for all.
     pub sites: Vec<u16>,
     /// How many threads look at its record for sessions, from 1 to 6: none is as 1, and more are as 6.
@@ -58,7 +62,7 @@ pub struct Setup<'a> {
     pub pause_ms: u64,
     /// After how many sessions it ends; without end where that is 0.
     pub sessions: u64,
-    /// How many milliseconds a session may send no whole line; without end where that is 0.
+    /// How many milliseconds a session that has had no body taken in may send no whole line; without end where that is 0.
     pub idle_ms: u64,
     /// How many connections may be open at once, from 1 to 65,535: none is as 1, and more are as 65,535.
     pub connections: usize,
@@ -122,9 +126,9 @@ impl ServeFault {
     }
 }
 
-/// What is called before and after each session, by the worker that answers it. Sessions are numbered from 1, as they
-/// are accepted.
-pub trait Turn {
+/// What a site asks of its host: it is called before and after each session, by the worker that answers it, and reads the
+/// keys by which connections are sealed. Sessions are numbered from 1, as they are accepted.
+pub trait Turn: KeyReader {
     /// The session is answered from now on.
     fn enter(&self, session: u64);
 

@@ -134,6 +134,7 @@ fn asks_for_json(alloc: Global, words: &[&str]) -> bool {
         Some(
             Command::Ready { is_json, .. }
             | Command::ReadyItem { is_json, .. }
+            | Command::Why { is_json, .. }
             | Command::Footers { is_json, .. }
             | Command::Check { is_json, .. },
         ) => is_json,
@@ -143,7 +144,10 @@ fn asks_for_json(alloc: Global, words: &[&str]) -> bool {
 
 #[test]
 fn an_answer_is_json_where_that_is_asked(rt: HostRuntime) {
-    let cases: [(&[&str], bool); 9] = [
+    let cases: [(&[&str], bool); 12] = [
+        (&["why", "g", "s", "101", "--json"], true),
+        (&["why", "--json", "--all", "g", "s", "101,2"], true),
+        (&["why", "g", "s", "101", "--all"], false),
         (&["ready", "g", "s", "--json"], true),
         (&["ready", "--json", "g", "s", "--item", "101"], true),
         (&["footers", "g", "m", "--json", "--change", "7"], true),

@@ -1,7 +1,7 @@
 //! Feeds that words ask for.
 
 use command_line::{Answer, Asked, EventWords, read_words};
-use site_address::Address;
+use site_address::{Address, HostPort, PeerAddress};
 use std::alloc::Global;
 use std::test::Fail;
 
@@ -25,11 +25,25 @@ fn a_feed_goes_to_an_address_or_to_the_output(rt: HostRuntime) -> Result<(), Fai
     ];
     for (words, address) in cases {
         let feed = feed_of(rt.alloc(), words).ok_or("a feed")?;
-        assert_eq!(rt; feed.to, address);
+        assert_eq!(rt; feed.to, address.map(PeerAddress::Here));
+        assert_eq!(rt; feed.keys, None);
         assert_eq!(rt; feed.answer, Answer::Stream);
         assert!(rt; feed.projects.is_empty());
         assert_eq!(rt; (feed.projects_file, feed.gate), (None, None));
     }
+    Ok(())
+}
+
+#[test]
+fn a_feed_goes_to_another_machine_by_a_key(rt: HostRuntime) -> Result<(), Fail> {
+    let words = ["events", "--keys", "keys", "--to", "a@b:8101"];
+    let feed = feed_of(rt.alloc(), words.as_slice()).ok_or("a feed")?;
+    let at = HostPort {
+        host: "b",
+        port: 8_101,
+    };
+    assert_eq!(rt; feed.to, Some(PeerAddress::There { key: "a", at }));
+    assert_eq!(rt; feed.keys, Some("keys"));
     Ok(())
 }
 

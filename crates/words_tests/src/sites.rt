@@ -1,7 +1,7 @@
 //! Sites that words ask for.
 
 use command_line::{Asked, Printing, ServeWords, SocketMode, read_words};
-use site_address::{Address, address_of};
+use site_address::{Address, HostPort, PeerAddress, address_of, host_port_of, peer_of};
 use std::alloc::Global;
 use std::process::Abort;
 use std::test::Fail;
@@ -54,7 +54,8 @@ fn assert_serves(rt: &impl Abort, serving: &ServeWords<'_>, wanted: &ServeWords<
     assert_eq!(rt; files_of(serving), files_of(wanted));
     assert_eq!(rt; serving.peers.as_slice(), wanted.peers.as_slice());
     assert_eq!(rt; serving.sockets.as_slice(), wanted.sockets.as_slice());
-    assert_eq!(rt; serving.mode, wanted.mode);
+    assert_eq!(rt; serving.hosts.as_slice(), wanted.hosts.as_slice());
+    assert_eq!(rt; (serving.mode, serving.keys), (wanted.mode, wanted.keys));
     assert_eq!(rt; serving.sites.as_slice(), wanted.sites.as_slice());
     assert_eq!(rt; serving.http, wanted.http);
     assert_eq!(rt; serving.http_hosts.as_slice(), wanted.http_hosts.as_slice());
@@ -70,11 +71,13 @@ fn with_defaults(alloc: Global) -> ServeWords<'static> {
         start: Some(7),
         port: None,
         sockets: Vec::new(alloc),
+        hosts: Vec::new(alloc),
         mode: SocketMode::Owner,
+        keys: None,
         workers: 2,
         pause_ms: 1000,
         sessions: 0,
-        idle_ms: 0,
+        idle_ms: 300_000,
         connections: 1024,
         until_input_ends: false,
         prints: Printing::Report,
@@ -96,11 +99,12 @@ fn options_have_defaults(rt: HostRuntime) -> Result<(), Fail> {
 }
 
 /// Words with each option.
-const ALL: [&str; 46] = [
+const ALL: [&str; 53] = [
     "serve",
     "-",
     "8001",
     "/run/b.socket",
+    "site-2@gate.example.org:8101",
     "--site",
     "65535",
     "--start",
@@ -110,9 +114,15 @@ const ALL: [&str; 46] = [
     "--listen",
     "/run/a.socket",
     "--listen",
+    "0.0.0.0:0",
+    "--listen",
     "./a",
+    "--listen",
+    "[::]:65535",
     "--mode",
     "660",
+    "--keys",
+    "d",
     "--sites",
     "65535",
     "--sites",
@@ -147,8 +157,9 @@ const ALL: [&str; 46] = [
 
 /// The site that they ask for.
 fn with_all<'a>(
-    peers: Vec<Address<'a>>,
+    peers: Vec<PeerAddress<'a>>,
     sockets: Vec<&'a str>,
+    hosts: Vec<HostPort<'a>>,
     sites: Vec<u16>,
     http_hosts: Vec<String>,
 ) -> ServeWords<'a> {
@@ -160,7 +171,9 @@ fn with_all<'a>(
         start: Some(4_294_967_294),
         port: Some(8_000),
         sockets,
+        hosts,
         mode: SocketMode::Group,
+        keys: Some("d"),
         workers: 6,
         pause_ms: 600_000,
         sessions: 3,
@@ -179,12 +192,18 @@ fn with_all<'a>(
 
 #[test]
 fn all_options_are_read(rt: HostRuntime) -> Result<(), Fail> {
-    let peers = [Address::Port(8_001), Address::Path("/run/b.socket")].to_vec(rt.alloc())?;
+    let peers = [
+        PeerAddress::Here(Address::Port(8_001)),
+        PeerAddress::Here(Address::Path("/run/b.socket")),
+        there("site-2", "gate.example.org", 8_101),
+    ]
+    .to_vec(rt.alloc())?;
     let sockets = ["/run/a.socket", "./a"].to_vec(rt.alloc())?;
-    let mut hosts = Vec::new(rt.alloc());
-    hosts.push(String::from_str(rt.alloc(), "gate.example.org")?)?;
-    hosts.push(String::from_str(rt.alloc(), "gate")?)?;
-    let wanted = with_all(peers, sockets, [65535, 1].to_vec(rt.alloc())?, hosts);
+    let hosts = [at("0.0.0.0", 0), at("::", 65_535)].to_vec(rt.alloc())?;
+    let mut names = Vec::new(rt.alloc());
+    names.push(String::from_str(rt.alloc(), "gate.example.org")?)?;
+    names.push(String::from_str(rt.alloc(), "gate")?)?;
+    let wanted = with_all(peers, sockets, hosts, [65535, 1].to_vec(rt.alloc())?, names);
     let serving = serving_of(rt.alloc(), ALL.as_slice()).ok_or("a site")?;
     assert_serves(&rt, &serving, &wanted);
     Ok(())
@@ -262,9 +281,9 @@ fn addresses_of_peers_follow_the_gate(rt: HostRuntime) -> Result<(), Fail> {
     ];
     let serving = serving_of(rt.alloc(), words.as_slice()).ok_or("a site")?;
     let wanted = [
-        Address::Port(1),
-        Address::Path("./65535"),
-        Address::Port(65_535),
+        PeerAddress::Here(Address::Port(1)),
+        PeerAddress::Here(Address::Path("./65535")),
+        PeerAddress::Here(Address::Port(65_535)),
     ];
     assert_eq!(rt; serving.peers.as_slice(), wanted.as_slice());
     Ok(())
@@ -291,6 +310,93 @@ fn words_with_a_slash_are_paths(rt: HostRuntime) -> Result<(), Fail> {
     Address::Port(8_101).write(&mut text)?;
     Address::Path("/run/s").write(&mut text)?;
     assert_eq!(rt; text.as_str(), "8101/run/s");
+    Ok(())
+}
+
+/// A host and a port.
+fn at(host: &str, port: u16) -> HostPort<'_> {
+    HostPort { host, port }
+}
+
+/// An address on another machine.
+fn there<'a>(key: &'a str, host: &'a str, port: u16) -> PeerAddress<'a> {
+    PeerAddress::There {
+        key,
+        at: at(host, port),
+    }
+}
+
+/// A word names a host and a port, and is written as one.
+#[test]
+fn words_name_hosts_and_ports(rt: HostRuntime) -> Result<(), Fail> {
+    for (word, wanted) in [
+        ("gate.example.org:8101", Some(at("gate.example.org", 8_101))),
+        ("10.0.0.2:0", Some(at("10.0.0.2", 0))),
+        ("a_b-c:+65535", Some(at("a_b-c", 65_535))),
+        ("[::1]:8101", Some(at("::1", 8_101))),
+        ("[::ffff:10.0.0.2]:1", Some(at("::ffff:10.0.0.2", 1))),
+        ("[Fe80:]:007", Some(at("Fe80:", 7))),
+        ("", None),
+        (":", None),
+        (":1", None),
+        ("a", None),
+        ("a:", None),
+        ("a:65536", None),
+        ("a:-1", None),
+        ("a:b:1", None),
+        ("::1:8101", None),
+        ("a b:1", None),
+        ("a/b:1", None),
+        ("[::1]", None),
+        ("[::1]8101", None),
+        ("[::1]:", None),
+        ("[::g]:1", None),
+        ("[]:1", None),
+        ("[a]:1", None),
+        ("[[::1]:1", None),
+        ("[::1]]:1", None),
+        ("[::1%2]:1", None),
+    ] {
+        assert_eq!(rt; host_port_of(word), wanted, "{word}");
+    }
+    let mut text = String::new(rt.alloc());
+    at("gate.example.org", 8_101).write(&mut text)?;
+    at("::1", 0).write(&mut text)?;
+    assert_eq!(rt; text.as_str(), "gate.example.org:8101[::1]:0");
+    Ok(())
+}
+
+/// A name of a key of 64 letters, and one more.
+const LONG: &str = "abcdefghijklmnopqrstuvwxyzabcdefghijklmnopqrstuvwxyz0123456789-.@h:1";
+
+const LONGER: &str = "abcdefghijklmnopqrstuvwxyzabcdefghijklmnopqrstuvwxyz0123456789-._@h:1";
+
+/// A word names a peer, and is written as one.
+#[test]
+fn words_name_peers(rt: HostRuntime) -> Result<(), Fail> {
+    for (word, wanted) in [
+        ("8101", Some(PeerAddress::Here(Address::Port(8_101)))),
+        ("./8101", Some(PeerAddress::Here(Address::Path("./8101")))),
+        ("a@b:1/", Some(PeerAddress::Here(Address::Path("a@b:1/")))),
+        ("a@b:1", Some(there("a", "b", 1))),
+        ("site-2@[::1]:65535", Some(there("site-2", "::1", 65_535))),
+        ("a@b:0", None),
+        ("a@b", None),
+        ("@b:1", None),
+        ("a@@b:1", None),
+        ("a b@c:1", None),
+        ("b:1", None),
+        ("8101@", None),
+        ("0", None),
+        (LONGER, None),
+    ] {
+        assert_eq!(rt; peer_of(word), wanted, "{word}");
+    }
+    assert!(rt; peer_of(LONG).is_some());
+    let mut text = String::new(rt.alloc());
+    PeerAddress::Here(Address::Port(1)).write(&mut text)?;
+    there("/site-2", "::1", 65_535).write(&mut text)?;
+    assert_eq!(rt; text.as_str(), "1/site-2@[::1]:65535");
     Ok(())
 }
 

@@ -95,6 +95,7 @@ Arguments:
 
 Options:
       --all   Prints each condition of the gate, too, and whether the item meets it
+      --json  Prints one JSON object on one line in place of the text
   -h, --help  Print help
 ",
     ),
@@ -181,21 +182,22 @@ Usage: reviewgate serve [OPTIONS] --site <N> <GATE> [PEER]...
 
 Arguments:
   <GATE>     The gate file, or - for standard input
-  [PEER]...  The sites that it pulls from: ports on 127.0.0.1, or paths of Unix sockets
+  [PEER]...  The sites that it pulls from: ports on 127.0.0.1, paths of Unix sockets, or NAME@HOST:PORT by the key NAME
 
 Options:
       --site <N>          The site's number, from 1 to 65535
       --start <N>         The start, greater than every start the site has used; optional with --journal
       --port <P>          The port on 127.0.0.1; 0, the default without --listen, has the system choose one
-      --listen <PATH>     A Unix socket for its sessions, once for each; the path has a slash
-      --mode <MODE>       Who may connect to them: 600, its user, or 660, its group too [default: 600]
+      --listen <ADDRESS>  A Unix socket for its sessions, by a path with a slash, or HOST:PORT, sealed by keys; once for each
+      --mode <MODE>       Who may connect to its sockets: 600, its user, or 660, its group too [default: 600]
+      --keys <FILE>       The file of the keys that it lets in, and that it dials with
       --sites <N>         A site whose operations it takes from peers, once for each; without it those of all
       --workers <N>       How many threads answer ready, state and front, 1 to 6 [default: 2]
       --pause <MS>        Between two rounds of pulls, 1 to 600000 [default: 1000]
       --sessions <N>      Ends after so many sessions; 0 means no limit [default: 0]
-      --idle <MS>         How long a session may be silent; 0 means no limit [default: 0]
+      --idle <MS>         How long a session that fed nothing may be silent; 0 means no limit [default: 300000]
       --connections <N>   How many connections may be open at once, 1 to 65535 [default: 1024]
-      --until-input-ends  Ends in order when its input ends, as at a line stop there; at a line reload GATE is read again
+      --until-input-ends  Hears standard input: stop and reload, and stops at its end
       --print <WHAT>      What it prints: report, changes or none [default: report]
       --log-time          Begins each line on standard error with the time, in UTC
       --http <PORT>       Shows itself to browsers at this port on 127.0.0.1; 0 has the system choose one
@@ -228,7 +230,8 @@ Options:
 Usage: reviewgate events [OPTIONS]
 
 Options:
-      --to <ADDRESS>     The site that is fed: a port on 127.0.0.1, or the path of a Unix socket; without it the lines of a session are printed
+      --to <ADDRESS>     The site that is fed: a port on 127.0.0.1, the path of a Unix socket, or NAME@HOST:PORT by the key NAME; without it the lines of a session are printed
+      --keys <FILE>      The file of keys, which has the key NAME
       --query            The input is the answer of a query, and has to be whole
       --complete         The same, and the answer has every open change: those that it lacks are abandoned
       --project <NAME>   Feeds the changes of this project alone, and of those that are named beside it
@@ -432,7 +435,7 @@ const OPTIONS: [(&str, &str); 14] = [
 ];
 
 /// Numbers one beyond their limits, and what is no number, or no word of an option.
-const NUMBERS: [(&str, &str); 37] = [
+const NUMBERS: [(&str, &str); 43] = [
     (
         "why g s x",
         "error: invalid value 'x' for '<CHANGE[,SET]>': CHANGE and SET are numbers from 0 to 4294967295",
@@ -547,11 +550,11 @@ const NUMBERS: [(&str, &str); 37] = [
     ),
     (
         "serve g 0 --site 1 --start 1",
-        "error: invalid value '0' for '[PEER]...': a port from 1 to 65535, or the path of a Unix socket, which has a slash",
+        "error: invalid value '0' for '[PEER]...': a port from 1 to 65535, the path of a Unix socket, which has a slash, or NAME@HOST:PORT",
     ),
     (
         "serve g 8101 65536 --site 1 --start 1",
-        "error: invalid value '65536' for '[PEER]...': a port from 1 to 65535, or the path of a Unix socket, which has a slash",
+        "error: invalid value '65536' for '[PEER]...': a port from 1 to 65535, the path of a Unix socket, which has a slash, or NAME@HOST:PORT",
     ),
     (
         "serve g --site 1 --start 1 --print all",
@@ -563,7 +566,31 @@ const NUMBERS: [(&str, &str); 37] = [
     ),
     (
         "serve g --site 1 --start 1 --listen 8101",
-        "error: invalid value '8101' for '--listen <PATH>': the path of a Unix socket has a slash",
+        "error: invalid value '8101' for '--listen <ADDRESS>': the path of a Unix socket, which has a slash, or HOST:PORT",
+    ),
+    (
+        "serve g --site 1 --start 1 --listen ./a --listen b:65536 --keys k",
+        "error: invalid value 'b:65536' for '--listen <ADDRESS>': the path of a Unix socket, which has a slash, or HOST:PORT",
+    ),
+    (
+        "serve g --site 1 --start 1 --listen ./a --listen b:1",
+        "error: invalid value 'b:1' for '--listen <ADDRESS>': an address on another machine needs --keys",
+    ),
+    (
+        "serve g 8101 k@b:1 --site 1 --start 1",
+        "error: invalid value 'k@b:1' for '[PEER]...': an address on another machine needs --keys",
+    ),
+    (
+        "serve g k@b:0 --site 1 --start 1 --keys k",
+        "error: invalid value 'k@b:0' for '[PEER]...': a port from 1 to 65535, the path of a Unix socket, which has a slash, or NAME@HOST:PORT",
+    ),
+    (
+        "events --to k@[::1]:1",
+        "error: invalid value 'k@[::1]:1' for '--to <ADDRESS>': an address on another machine needs --keys",
+    ),
+    (
+        "events --to @b:1 --keys k",
+        "error: invalid value '@b:1' for '--to <ADDRESS>': a port from 1 to 65535, the path of a Unix socket, which has a slash, or NAME@HOST:PORT",
     ),
     (
         "serve g --site 1",
@@ -571,15 +598,15 @@ const NUMBERS: [(&str, &str); 37] = [
     ),
     (
         "events --to 0",
-        "error: invalid value '0' for '--to <ADDRESS>': a port from 1 to 65535, or the path of a Unix socket, which has a slash",
+        "error: invalid value '0' for '--to <ADDRESS>': a port from 1 to 65535, the path of a Unix socket, which has a slash, or NAME@HOST:PORT",
     ),
     (
         "events --to 65536",
-        "error: invalid value '65536' for '--to <ADDRESS>': a port from 1 to 65535, or the path of a Unix socket, which has a slash",
+        "error: invalid value '65536' for '--to <ADDRESS>': a port from 1 to 65535, the path of a Unix socket, which has a slash, or NAME@HOST:PORT",
     ),
     (
         "events --to x",
-        "error: invalid value 'x' for '--to <ADDRESS>': a port from 1 to 65535, or the path of a Unix socket, which has a slash",
+        "error: invalid value 'x' for '--to <ADDRESS>': a port from 1 to 65535, the path of a Unix socket, which has a slash, or NAME@HOST:PORT",
     ),
 ];
 

@@ -1,7 +1,7 @@
-use Rattle.std.proofs.Common.{take}
-use Rattle.std.specs.List.{AllZip}
-use Rattle.command_line.specs.Values.{NamesPath}
+use Rattle.std.proofs.Common.{◌≡◌, filter, map, take}
+use Rattle.site_address.specs.Address.{has_slash}
 use Rattle.command_line.proofs.addresses.paths_of.Given as goal
 
 abbrev pub invariant-loop-text : goal.invariant-loop-text
-invariant-loop-text l = AllZip (λ text path. NamesPath text.now path) (take l.text-index l.texts) l.paths.items
+invariant-loop-text l =
+    map (λ path. path.now) l.paths.items ≡ filter has_slash (map (λ text. text.now) (take l.text-index l.texts))

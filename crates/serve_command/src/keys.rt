@@ -1,0 +1,55 @@
+//! Judges the keys of a site before it runs, and reads them while it does.
+
+use super::command::Ended;
+use command_line::ServeWords;
+use key_file::{KeyFault, Keys};
+use key_files::KeyReader;
+use site_address::PeerAddress;
+use site_serve::Turn;
+
+/// A host that does nothing before and after a session, and reads keys as this does.
+#[derive(Drop)]
+pub struct Host<'a, L: KeyReader> {
+    pub reader: &'a L,
+}
+
+impl<L: KeyReader> KeyReader for Host<'_, L> {
+    fn keys(&self, name: &str) -> Result<Keys, KeyFault> {
+        self.reader.keys(name)
+    }
+
+    fn nonce(&self) -> Result<[u8; 16], KeyFault> {
+        self.reader.nonce()
+    }
+}
+
+impl<L: KeyReader> Turn for Host<'_, L> {
+    fn enter(&self, _session: u64) {}
+
+    fn left(&self, _session: u64) {}
+}
+
+/// Judges the file of keys that the words name, if they name one: it has to be read, and to have a key of each name that
+/// a peer is to be dialed with.
+pub fn judge_keys<'a, L: KeyReader>(reader: &L, words: &ServeWords<'a>) -> Result<(), Ended<'a>> {
+    let Some(name) = words.keys else {
+        return Ok(());
+    };
+    match reader.keys(name) {
+        Ok(keys) if has_all(&keys, words.peers.as_slice()) => Ok(()),
+        Ok(_) => Err(Ended::Keys(KeyFault::NoKey, name)),
+        Err(fault) => Err(Ended::Keys(fault, name)),
+    }
+}
+
+/// Whether there is a key of each name that a peer is to be dialed with.
+fn has_all(keys: &Keys, peers: &[PeerAddress<'_>]) -> bool {
+    for peer in peers {
+        if let PeerAddress::There { key, at: _ } = peer
+            && keys.dialing(key.as_bytes()).is_none()
+        {
+            return false;
+        }
+    }
+    true
+}

@@ -1,0 +1,65 @@
+-- What the bytes of a connection go through before they are lines of its session, and what is sent of the answers to
+-- these: nothing, or a seal.
+use Rattle.std.specs.Prelude.{◌≡◌, ◌≤◌, ℕ, List, [], ◌∷◌, ◌++◌, Option, None, Result, Ok, Err, drop, length}
+use Rattle.gossip_line.specs.declared.fault.LineFault.TheVariants.{NoMemory}
+use Rattle.sealed_link.specs.Lines.{OpensCame, SealsFront}
+use Rattle.sealed_link.specs.Wires.{Wiring}
+use Rattle.sealed_link.specs.declared.fault.WireFault.{WireFault}
+use Rattle.sealed_link.specs.declared.fault.WireFault.TheVariants as wire
+use Rattle.site_serve.specs.declared.channel.Channel.{Channel}
+use Rattle.site_serve.specs.declared.channel.Passage.{Passage}
+use Rattle.site_serve.specs.declared.channel.Passage.TheVariants.{Locked, Plain, Sealed, Shut}
+use Rattle.site_serve.specs.declared.session_fault.SessionFault.{SessionFault}
+use Rattle.site_serve.specs.declared.session_fault.SessionFault.TheVariants.{BadSeal, Line}
+
+-- how a session fails whose lines can't be sealed or opened
+abbrev pub seal_fault : WireFault → SessionFault
+seal_fault wire.NoMemory = Line NoMemory
+seal_fault fault = BadSeal
+
+abbrev pub seal_result : Result (Unit {0}) WireFault → Result (Unit {0}) SessionFault
+seal_result (Ok done) = Ok done
+seal_result (Err fault) = Err (seal_fault fault)
+
+-- what came comes to what was read of the session: as it is, or the texts of the lines that are sealed in it, up to one
+-- that isn't; nothing before the connection was let in, or once it is shut
+abbrev pub TakesCame : Passage → List ℕ → List ℕ → List ℕ → Result (Unit {0}) SessionFault → Passage → Type 0
+TakesCame Plain came old new (Ok done) after = (new ≡ old ++ came) × (after ≡ Plain)
+TakesCame Plain came old new (Err fault) after = after ≡ Plain
+TakesCame Locked came old new result after = (new ≡ old) × (after ≡ Locked)
+TakesCame (Sealed w) came old new result after =
+    (opened : Wiring) × (after ≡ Sealed opened)
+    × (w.fault ≡ None → (text : List ℕ) × (new ≡ old ++ text)
+    × ((by : Result (Unit {0}) WireFault) × OpensCame w came text by opened × (result ≡ seal_result by)))
+TakesCame Shut came old new result after = (new ≡ old) × (after ≡ Shut)
+
+-- what is sent next where the session was answered this: what is sent as it is, before all else; then the answers, or the
+-- lines that they were sealed to
+abbrev pub sends_of : Passage → List ℕ → List ℕ
+sends_of Plain answers = answers
+sends_of (Sealed w) answers = w.waiting
+sends_of Locked answers = []
+sends_of Shut answers = []
+
+abbrev pub outgoing_of : List ℕ → Passage → List ℕ → List ℕ
+outgoing_of [] passage answers = sends_of passage answers
+outgoing_of (byte ∷ first) passage answers = byte ∷ first
+
+-- so many bytes of what is sent next were sent
+abbrev pub PassesSent : ℕ → Passage → List ℕ → Passage → List ℕ → Type 0
+PassesSent count Plain answers after left = (left ≡ drop count answers) × (after ≡ Plain)
+PassesSent count (Sealed w) answers after left =
+    (left ≡ answers) × (after ≡ Sealed (record w { waiting = drop count w.waiting }))
+PassesSent count passage answers after left = (left ≡ answers) × (after ≡ passage)
+
+abbrev pub IsSent : ℕ → List ℕ → Passage → List ℕ → List ℕ → Passage → List ℕ → Type 0
+IsSent count [] passage answers first after left = (first ≡ []) × PassesSent count passage answers after left
+IsSent count (byte ∷ begun) passage answers first after left =
+    (first ≡ drop count (byte ∷ begun)) × (after ≡ passage) × (left ≡ answers)
+
+-- where all that was sealed is sent, whole lines at the front of the answers are sealed and aren't to be sealed again;
+-- nothing else changes
+abbrev pub SealsMore : List ℕ → Passage → List ℕ → Passage → List ℕ → Result (Unit {0}) SessionFault → Type 0
+SealsMore [] (Sealed w) answers after left (Ok done) =
+    (count : ℕ) × (sealed : Wiring) × (after ≡ Sealed sealed) × SealsFront w answers count sealed × (left ≡ drop count answers)
+SealsMore waiting passage answers after left result = (after ≡ passage) × (left ≡ answers)
