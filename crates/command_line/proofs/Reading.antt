@@ -17,7 +17,7 @@ use Rattle.command_line.specs.declared.asked.RecoverWords.{RecoverWords}
 use Rattle.command_line.specs.declared.asked.ServeWords.{ServeWords}
 use Rattle.command_line.specs.Asking.{AreFeedOptions, AreOptions, ArgumentsSay, IsRecovery, events, footers}
 use Rattle.command_line.specs.Asking.{graph, ready, recover, serve, why}
-use Rattle.command_line.specs.Values.{Finds, HasArgument, GivesAny, GivesItem, GivesNumber, NamesItem, NamesRow}
+use Rattle.command_line.specs.Values.{Finds, HasArgument, GivesAny, GivesItem, GivesNumber, ItemIsNamed, NamesRow}
 use Rattle.command_line.specs.Values.{GivesAnyItem, GivesAnyPeer, GivesHosts, GivesItemAt, GivesPaths, Writes, is_comma}
 use Rattle.command_line.specs.declared.sites.Places.{Places}
 use Rattle.site_address.specs.Peer.{NamesPeer}
@@ -75,13 +75,13 @@ none_unwritten least most texts index d within none numbers all =
 
 pub no_item_before : (text : Text) → position_or_len is_comma text < length text
     → ((number : ℕ) → ¬ Writes 0 4294967295 (before_first is_comma text) number) → (item : ℕ × Option ℕ)
-    → ¬ NamesItem text item.0 item.1
+    → ¬ ItemIsNamed text item.0 item.1
 no_item_before text has none (change, None) names = let lacks = names.0 in omega (arith, has, lacks)
 no_item_before text has none (change, Some set) names = none change names.1
 
 pub no_item_after : (text : Text) → position_or_len is_comma text < length text
     → ((number : ℕ) → ¬ Writes 0 4294967295 (after_first is_comma text) number) → (item : ℕ × Option ℕ)
-    → ¬ NamesItem text item.0 item.1
+    → ¬ ItemIsNamed text item.0 item.1
 no_item_after text has none (change, None) names = let lacks = names.0 in omega (arith, has, lacks)
 no_item_after text has none (change, Some set) names = none set names.2
 
@@ -92,11 +92,11 @@ pub no_row_before : (text : Text) → ((number : ℕ) → ¬ Writes 0 65535 (bef
 no_row_before text none (site, start) names = none site names.1
 
 pub item_found : (rows : List Row) (argument text : Text) (result : Option (ℕ × Option ℕ))
-    → HasArgument rows argument text → Finds (λ item. NamesItem text item.0 item.1) result
+    → HasArgument rows argument text → Finds (λ item. ItemIsNamed text item.0 item.1) result
     → Finds (λ item. GivesItemAt rows argument item.0 item.1) result
 item_found rows argument text (Some item) given names = (text, given, names)
 item_found rows argument text None given none = λ item gives.
-    none item (subst (λ t. NamesItem t item.0 item.1) (same_text rows argument gives.0 text gives.1 given) gives.2)
+    none item (subst (λ t. ItemIsNamed t item.0 item.1) (same_text rows argument gives.0 text gives.1 given) gives.2)
 
 pub any_item_unread : (rows : List Row) (text : Option (Bor Text)) (absent : Bool)
     → first_of (codes "item") rows ≡ option_map (λ t. t.now) text → is_some text ≡ not absent → absent ≡ false

@@ -65,9 +65,9 @@ GivesHosts rows option = AllZip NamesHostPort (filter (λ word. not (has_slash w
 abbrev pub is_comma : ℕ → Bool
 is_comma byte = byte == 44
 
-abbrev pub NamesItem : List ℕ → ℕ → Option ℕ → Type 0
-NamesItem text change None = (position_or_len is_comma text ≡ length text) × Writes 0 4294967295 text change
-NamesItem text change (Some set) =
+abbrev pub ItemIsNamed : List ℕ → ℕ → Option ℕ → Type 0
+ItemIsNamed text change None = (position_or_len is_comma text ≡ length text) × Writes 0 4294967295 text change
+ItemIsNamed text change (Some set) =
     (position_or_len is_comma text < length text) × Writes 0 4294967295 (before_first is_comma text) change
     × Writes 0 4294967295 (after_first is_comma text) set
 
@@ -83,7 +83,7 @@ GivesRows rows option = AllZip NamesRow (unwrap_or (all_of option rows) [])
 
 -- the argument names this item
 abbrev pub GivesItemAt : List Row → List ℕ → ℕ → Option ℕ → Type 0
-GivesItemAt rows argument change set = (text : List ℕ) × HasArgument rows argument text × NamesItem text change set
+GivesItemAt rows argument change set = (text : List ℕ) × HasArgument rows argument text × ItemIsNamed text change set
 
 abbrev pub GivesItem : List Row → ℕ → Option ℕ → Type 0
 GivesItem rows change set = GivesItemAt rows (codes "CHANGE[,SET]") change set

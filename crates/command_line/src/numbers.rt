@@ -4,7 +4,7 @@ ghost use Rattle.std.specs.Prelude.{◌≡◌, ◌<◌, ◌≤◌, ◌^◌, IfOk
 ghost use Rattle.std.specs.List.{AllZip};
 ghost use Rattle.command_tree.specs.Rows.{rows_in};
 ghost use Rattle.command_line.specs.Values.{Finds, GivesAny, GivesAnyItem, GivesItem, GivesItemAt, GivesNumber};
-ghost use Rattle.command_line.specs.Values.{GivesNumbers, GivesRows, NamesItem, NamesRow, Writes};
+ghost use Rattle.command_line.specs.Values.{GivesNumbers, GivesRows, ItemIsNamed, NamesRow, Writes};
 
 use command_tree::{Number, Values};
 use std::alloc::{AllocError, Global};
@@ -186,7 +186,7 @@ fn item_at(values: &Values<'_>, argument: &str) -> Option<(u32, Option<u32>)>
 
 /// The item that a text names.
 fn item_of(text: &str) -> Option<(u32, Option<u32>)>
-    ensures { Finds (λ item. NamesItem text.now item.0 item.1) result }
+    ensures { Finds (λ item. ItemIsNamed text.now item.0 item.1) result }
 {
     let Some((change, set)) = text.split_once(',') else {
         let change = long_of(text)?;

@@ -6,7 +6,7 @@ use Rattle.replica_core.specs.InOrder.{IsInOrderOf}
 use Rattle.snapshot_text.specs.Snapshot.{snapshot_text}
 use Rattle.review_ops.specs.Operation.{Operation}
 use Rattle.console.specs.Printing.{Ended}
-use Rattle.commands.specs.Answers.{IsWhole, MissesNone}
+use Rattle.commands.specs.Answers.{IsPrintedWhole, MissesNone}
 use Rattle.console.specs.Console.{ConsoleState, IsPrinted}
 use Rattle.console.specs.Printing.{Prints, PrintsSnapshot}
 use Rattle.commands.specs.Ending.{Finishes}
@@ -24,13 +24,13 @@ pub nothing_printed : (old : ConsoleState) → IsPrinted [] old old
 nothing_printed old = record { whole = appends_nothing old.printed; after = refl }
 
 -- memory was refused before anything was printed
-pub stops : (IsSo : List ℕ → Type 0) (old : ConsoleState) → Finishes (IsWhole IsSo MissesNone) old old (Err Memory)
+pub stops : (IsSo : List ℕ → Type 0) (old : ConsoleState) → Finishes (IsPrintedWhole IsSo MissesNone) old old (Err Memory)
 stops IsSo old = inl ([], (refl, refl), nothing_printed old)
 
 -- an answer that is so is so in another way
 pub whole_so : (IsOne IsOther : List ℕ → Type 0) (IsMissing : ℕ → Option ℕ → Type 0)
     → ((answer : List ℕ) → IsOne answer → IsOther answer) → (answer : List ℕ) (ended : Ended)
-    → IsWhole IsOne IsMissing answer ended → IsWhole IsOther IsMissing answer ended
+    → IsPrintedWhole IsOne IsMissing answer ended → IsPrintedWhole IsOther IsMissing answer ended
 whole_so IsOne IsOther IsMissing so answer (Ok done) is = so answer is
 whole_so IsOne IsOther IsMissing so answer (Err (NoItem change set)) is = is
 whole_so IsOne IsOther IsMissing so answer (Err refusal) is = is
@@ -46,13 +46,13 @@ finishes IsTheAnswer answer old new (Err refusal) is (inr cut) = inr (answer, Ok
 
 pub finishes_snapshot : (IsSo : List ℕ → Type 0) (journal : List Operation) (old new : ConsoleState) (ended : Ended)
     → ((ops : List Operation) → IsInOrderOf journal ops → IsSo (snapshot_text ops))
-    → PrintsSnapshot journal old new ended → Finishes (IsWhole IsSo MissesNone) old new ended
+    → PrintsSnapshot journal old new ended → Finishes (IsPrintedWhole IsSo MissesNone) old new ended
 finishes_snapshot IsSo journal old new ended is (inl prints) =
-    finishes (IsWhole IsSo MissesNone) (snapshot_text prints.0) old new ended (is prints.0 prints.1) prints.2
+    finishes (IsPrintedWhole IsSo MissesNone) (snapshot_text prints.0) old new ended (is prints.0 prints.1) prints.2
 finishes_snapshot IsSo journal old new (Ok done) is (inr refused) = cc
 finishes_snapshot IsSo journal old new (Err refusal) is (inr refused) =
     let same : refusal ≡ Memory = cc in
-    inl ([], subst (λ r. IsWhole IsSo MissesNone [] (Err r)) (sym same) (refl, refl), subst (λ n. IsPrinted [] old n) (sym refused.1) (nothing_printed old))
+    inl ([], subst (λ r. IsPrintedWhole IsSo MissesNone [] (Err r)) (sym same) (refl, refl), subst (λ n. IsPrinted [] old n) (sym refused.1) (nothing_printed old))
 
 -- ---- two inputs
 

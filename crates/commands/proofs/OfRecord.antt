@@ -14,7 +14,7 @@ use Rattle.console.specs.Inputs.{record_input, snapshot_file}
 use Rattle.console.specs.Pulls.{is_site_name}
 use Rattle.console.specs.declared.refusals.Refusal.{Refusal}
 use Rattle.console.specs.declared.refusals.Refusal.TheVariants.{Memory, NoItem}
-use Rattle.commands.specs.Answers.{IsWhole, Misses}
+use Rattle.commands.specs.Answers.{IsPrintedWhole, Misses}
 use Rattle.commands.proofs.HowItEnds.{both_had, second_refused}
 
 abbrev pub both_inputs : List ℕ → List ℕ → List Input
@@ -49,9 +49,9 @@ pub not_there : (IsSo : List ℕ → Type 0) (IsAskedFor : ℕ → Option ℕ �
     → SaysOperations (lines_of snapshot) ops → state ≡ state_of (all_arrived [] ops)
     → ((number : ℕ) × (other : Option ℕ) × IsAskedFor number other × (refusal ≡ NoItem number other) × ¬ HasIt state)
     ⊎ (refusal ≡ Memory)
-    → IsWhole IsSo (Misses IsAskedFor snapshot HasIt) [] (Err refusal)
+    → IsPrintedWhole IsSo (Misses IsAskedFor snapshot HasIt) [] (Err refusal)
 not_there IsSo IsAskedFor snapshot HasIt refusal ops state says is (inl none) =
-    subst (λ r. IsWhole IsSo (Misses IsAskedFor snapshot HasIt) [] (Err r)) (sym none.3)
+    subst (λ r. IsPrintedWhole IsSo (Misses IsAskedFor snapshot HasIt) [] (Err r)) (sym none.3)
     ((none.2, record { ops = ops; says = says; none = subst (λ s. ¬ HasIt s) is none.4 }), refl)
 not_there IsSo IsAskedFor snapshot HasIt refusal ops state says is (inr memory) =
-    subst (λ r. IsWhole IsSo (Misses IsAskedFor snapshot HasIt) [] (Err r)) (sym memory) (refl, refl)
+    subst (λ r. IsPrintedWhole IsSo (Misses IsAskedFor snapshot HasIt) [] (Err r)) (sym memory) (refl, refl)

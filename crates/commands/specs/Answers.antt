@@ -40,10 +40,10 @@ use Rattle.console.specs.declared.refusals.Refusal.TheVariants.{Memory, NoItem, 
 
 -- the answer is printed; or the change or the patch set that is asked for isn't there, or memory was refused, before
 -- anything was printed
-abbrev pub IsWhole : (List ℕ → Type 0) → (ℕ → Option ℕ → Type 0) → List ℕ → Ended → Type 0
-IsWhole IsSo IsMissing answer (Ok done) = IsSo answer
-IsWhole IsSo IsMissing answer (Err (NoItem change set)) = IsMissing change set × (answer ≡ [])
-IsWhole IsSo IsMissing answer (Err refusal) = (refusal ≡ Memory) × (answer ≡ [])
+abbrev pub IsPrintedWhole : (List ℕ → Type 0) → (ℕ → Option ℕ → Type 0) → List ℕ → Ended → Type 0
+IsPrintedWhole IsSo IsMissing answer (Ok done) = IsSo answer
+IsPrintedWhole IsSo IsMissing answer (Err (NoItem change set)) = IsMissing change set × (answer ≡ [])
+IsPrintedWhole IsSo IsMissing answer (Err refusal) = (refusal ≡ Memory) × (answer ≡ [])
 
 -- the answer is so of the rules that the gate file spells, and of the state of the operations that the snapshot says
 pub record IsOf (gate snapshot : List ℕ) (IsSo : GateRules → State → List ℕ → Type 0) (answer : List ℕ) : Type 0 where
@@ -153,8 +153,8 @@ IsReasonFor gate is_all is_json rules state item answer =
     (verdicts : Judged) × AreVerdicts rules state verdicts
     × IsReasonAs is_json gate is_all rules state verdicts item answer
 
-abbrev pub IsReason : List ℕ → ℕ → Option ℕ → Bool → Bool → GateRules → State → List ℕ → Type 0
-IsReason gate change set is_all is_json rules state answer =
+abbrev pub IsWhyAnswer : List ℕ → ℕ → Option ℕ → Bool → Bool → GateRules → State → List ℕ → Type 0
+IsWhyAnswer gate change set is_all is_json rules state answer =
     (item : Item) × IsItemAsked state change set item × IsReasonFor gate is_all is_json rules state item answer
 
 -- ---- `graph`: the items and what they wait for, around a change of which a patch set is known, where one is named

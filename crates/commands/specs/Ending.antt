@@ -5,8 +5,10 @@ use Rattle.command_line.specs.declared.asked.Command.{Command}
 use Rattle.command_line.specs.declared.asked.Command.TheVariants.{Check, Footers, Graph, Merge, Ready, ReadyItem}
 use Rattle.command_line.specs.declared.asked.Command.TheVariants.{Simulate, Why}
 use Rattle.console.specs.Printing.{Ended}
-use Rattle.commands.specs.Answers.{AreFooterLines, HasAround, HasItem, IsMergedText, IsOf, IsPicture, IsReason, IsReport}
-use Rattle.commands.specs.Answers.{IsAround, IsChecked, IsItemAnswer, IsItemText, IsSimulated, IsWhole, Misses, MissesNone}
+use Rattle.commands.specs.Answers.{AreFooterLines, HasAround, HasItem, IsMergedText, IsOf, IsPicture, IsWhyAnswer}
+use Rattle.commands.specs.Answers.{IsReport}
+use Rattle.commands.specs.Answers.{IsAround, IsChecked, IsItemAnswer, IsItemText, IsSimulated, IsPrintedWhole, Misses}
+use Rattle.commands.specs.Answers.{MissesNone}
 use Rattle.console.specs.Console.{ConsoleState, IsCutShort, IsPrinted}
 use Rattle.console.specs.Inputs.{AreHad, Input, IsFirstRefused, input}
 use Rattle.console.specs.Inputs.{gate_file, message_file, record_input, script_file}
@@ -29,17 +31,19 @@ inputs_of (Check gate (Some snapshot) is_strict is_json) =
 abbrev pub IsAnswer : Command → List (List ℕ) → List ℕ → Ended → Type 0
 IsAnswer (Simulate script gate) (text ∷ gates) answer ended = IsSimulated text gates answer ended
 IsAnswer (Ready gate snapshot is_json) (one ∷ other ∷ []) answer ended =
-    IsWhole (IsOf one other (IsReport is_json)) MissesNone answer ended
+    IsPrintedWhole (IsOf one other (IsReport is_json)) MissesNone answer ended
 IsAnswer (ReadyItem gate snapshot change set is_json) (one ∷ other ∷ []) answer ended =
     IsItemAnswer one other change set is_json answer ended
-IsAnswer (Merge first second) (one ∷ other ∷ []) answer ended = IsWhole (IsMergedText one other) MissesNone answer ended
+IsAnswer (Merge first second) (one ∷ other ∷ []) answer ended =
+    IsPrintedWhole (IsMergedText one other) MissesNone answer ended
 IsAnswer (Footers gate message change is_json) (one ∷ other ∷ []) answer ended =
-    IsWhole (AreFooterLines one other change is_json) MissesNone answer ended
+    IsPrintedWhole (AreFooterLines one other change is_json) MissesNone answer ended
 IsAnswer (Why gate snapshot change set is_all is_json) (one ∷ other ∷ []) answer ended =
-    IsWhole (IsOf one other (IsReason one change set is_all is_json)) (Misses (IsItemText change set) other (HasItem change set))
+    IsPrintedWhole (IsOf one other (IsWhyAnswer one change set is_all is_json))
+    (Misses (IsItemText change set) other (HasItem change set))
     answer ended
 IsAnswer (Graph gate snapshot around) (one ∷ other ∷ []) answer ended =
-    IsWhole (IsOf one other (IsPicture around)) (Misses (IsAround around) other (HasAround around)) answer ended
+    IsPrintedWhole (IsOf one other (IsPicture around)) (Misses (IsAround around) other (HasAround around)) answer ended
 IsAnswer (Check gate snapshot is_strict is_json) (text ∷ snapshots) answer ended =
     IsChecked text snapshots is_strict is_json answer ended
 IsAnswer command texts answer ended = ⊥

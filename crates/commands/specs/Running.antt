@@ -14,8 +14,8 @@ use Rattle.console.specs.declared.refusals.Refusal.TheVariants.{Output, Waits}
 pub data Counts : Type 0 where
   counts : Option (List ℕ) → ℕ → ℕ → ℕ → Counts
 
-abbrev pub counts_of : ConsoleState → Counts
-counts_of console = counts console.printed console.input_failed console.files_failed console.output_failed
+abbrev pub console_counts : ConsoleState → Counts
+console_counts console = counts console.printed console.input_failed console.files_failed console.output_failed
 
 -- the command ends so over a console of this input, these files and these running sites
 pub record Runs (command : Command) (left : Option (List ℕ)) (files : Contents) (sites : Records) (old new : Counts)
@@ -26,9 +26,9 @@ pub record Runs (command : Command) (left : Option (List ℕ)) (files : Contents
   pub input : before.left ≡ left
   pub named : before.files ≡ files
   pub running : before.sites ≡ sites
-  pub begins : counts_of before ≡ old
+  pub begins : console_counts before ≡ old
   pub ends : Ends command before after ended
-  pub leaves : counts_of after ≡ new
+  pub leaves : console_counts after ≡ new
 
 -- what is written, and the status: nothing and 0 of a command that was done, nothing and 3 where the item that is
 -- asked for waits; its line and 1 of a command that was refused, or, where memory is refused for the line, the line of

@@ -1,7 +1,7 @@
 //! Prints the report of a snapshot under a gate.
 
 ghost use Rattle.std.specs.Prelude.{◌≡◌, true, false};
-ghost use Rattle.commands.specs.Answers.{IsWhole, MissesNone, report_as};
+ghost use Rattle.commands.specs.Answers.{IsPrintedWhole, MissesNone, report_as};
 ghost use Rattle.commands.specs.Ending.{Ends, Finishes};
 
 use command_line::Command;
@@ -22,7 +22,8 @@ pub fn ready<'n, C: Console>(
     is_json: bool,
     console: &mut C,
 ) -> Result<(), Refusal<'n>>
-    ensures { Ends (Command.Ready gate.entry snapshot.entry is_json) (C.state console.old) (C.state console.new) result }
+    ensures { Ends (Command.Ready gate.entry snapshot.entry is_json) (C.state console.old)
+        (C.state console.new) result }
 {
     let rules = read_gate(alloc, gate, console)?;
     let replica = read_record(Replica::new(alloc), snapshot, console)?;
@@ -43,7 +44,8 @@ fn print_verdicts<C: Console>(
     is_json: bool,
     console: &mut C,
 ) -> Result<(), Refusal<'static>>
-    ensures { Finishes (IsWhole (λ answer. answer ≡ report_as is_json verdicts.now) MissesNone) (C.state console.old)
+    ensures { Finishes (IsPrintedWhole (λ answer. answer ≡ report_as is_json verdicts.now) MissesNone)
+        (C.state console.old)
         (C.state console.new) result }
 {
     if is_json {
@@ -58,7 +60,8 @@ fn print_line<C: Console>(
     verdicts: &Verdicts,
     console: &mut C,
 ) -> Result<(), Refusal<'static>>
-    ensures { Finishes (IsWhole (λ answer. answer ≡ report_as true verdicts.now) MissesNone) (C.state console.old)
+    ensures { Finishes (IsPrintedWhole (λ answer. answer ≡ report_as true verdicts.now) MissesNone)
+        (C.state console.old)
         (C.state console.new) result }
 {
     match report_line(alloc, verdicts) {
@@ -69,7 +72,8 @@ fn print_line<C: Console>(
 
 /// Prints the text of the report of verdicts.
 fn print_text<C: Console>(verdicts: &Verdicts, console: &mut C) -> Result<(), Refusal<'static>>
-    ensures { Finishes (IsWhole (λ answer. answer ≡ report_as false verdicts.now) MissesNone) (C.state console.old)
+    ensures { Finishes (IsPrintedWhole (λ answer. answer ≡ report_as false verdicts.now) MissesNone)
+        (C.state console.old)
         (C.state console.new) result }
 {
     console.print_report(verdicts)

@@ -6,7 +6,7 @@ ghost use Rattle.ready_core.specs.Verdicts.{AreVerdicts};
 ghost use Rattle.state_core.specs.Items.{IsItem};
 ghost use Rattle.state_core.specs.declared.item.Item.{Item};
 ghost use Rattle.why_text.specs.Asked.{IsItemAsked};
-ghost use Rattle.commands.specs.Answers.{IsReason, IsReasonAs, IsReasonFor, IsReasonText, TellsMore};
+ghost use Rattle.commands.specs.Answers.{IsWhyAnswer, IsReasonAs, IsReasonFor, IsReasonText, TellsMore};
 ghost use Rattle.commands.specs.Ending.{Ends};
 
 use command_line::Command;
@@ -61,7 +61,7 @@ fn reason_of(
 ) -> Result<Vec<u8>, Refusal<'static>>
     requires { SpellsGate file.now.text.items file.now.rules }
     ensures reason { IfOk result
-        (λ text. IsReason file.now.text.items change set is_all is_json file.now.rules state.now text.items) }
+        (λ text. IsWhyAnswer file.now.text.items change set is_all is_json file.now.rules state.now text.items) }
     ensures refused { IfErr result (λ refusal.
         ((refusal ≡ Refusal.NoItem change set) × ((item : Item) → ¬ IsItemAsked state.now change set item))
         ⊎ (refusal ≡ Refusal.Memory)) }

@@ -7,7 +7,7 @@ use Rattle.std.proofs.lemmas.List.Concat.{flat_map-append}
 use Rattle.std.proofs.lemmas.Str.Pattern.{IsSplitOnceResult, split_parts}
 use Rattle.enqueue_lines.specs.declared.fault.TemplateFault.{TemplateFault}
 use Rattle.enqueue_lines.specs.Template.{IsRefusedTemplate, IsWrongBrace, Part, field_spelling, name_of, spelling, spells, text}
-use Rattle.enqueue_lines.specs.Texts.{Lacks}
+use Rattle.enqueue_lines.specs.Texts.{LacksByte}
 use Rattle.enqueue_lines.specs.declared.template.Field.{Field}
 
 pub brace_parts : (rest : List ℕ) (cut : Option (Bor (List ℕ) × Bor (List ℕ))) → IsSplitOnceResult 123 rest cut

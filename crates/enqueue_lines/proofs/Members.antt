@@ -14,15 +14,15 @@ use Rattle.state_core.specs.declared.item.Item.{Item}
 use Rattle.state_core.specs.Items.{item_cmp}
 use Rattle.state_core.specs.ItemLaws.{items_exact, items_total}
 use Rattle.report_changes.specs.Listing.{same_item}
-use Rattle.report_changes.specs.Searching.{one_item, same_itself}
-use Rattle.enqueue_lines.specs.Groups.{AreApart}
+use Rattle.report_changes.specs.Searching.{same_is_one, item_is_itself}
+use Rattle.enqueue_lines.specs.Groups.{AreNamedOnce}
 
 apart_ways : (item : Item) (other : Item) (r : Ordering) → item_cmp item other ≡ r
     → is_lt (ordering_reverse r) ≡ false → same_item item other ≡ false → r ≡ Less
 apart_ways item other Less is behind differ = refl
 apart_ways item other Equal is behind differ =
     let same : item ≡ other = items_exact item other is in
-    let alike : same_item item other ≡ true = subst (λ o. same_item item o ≡ true) same (same_itself item) in
+    let alike : same_item item other ≡ true = subst (λ o. same_item item o ≡ true) same (item_is_itself item) in
     absurd (false≢true (sym differ ∙ alike))
 apart_ways item other Greater is behind differ = absurd (false≢true (sym behind))
 
@@ -35,24 +35,24 @@ comes_before item other behind differ =
 
 pub all_apart : (ordered : List Item) (d : Item)
     → ((k : ℕ) → k + 1 < length ordered → item_cmp (get_or ordered k d) (get_or ordered (k + 1) d) ≡ Less)
-    → AreApart ordered
+    → AreNamedOnce ordered
 all_apart ordered d rising =
     IsDistinct-from_sorted item_cmp ordered (sorted_from_all_adjacent items_total ordered d rising)
 
 pub not_apart : (ordered : List Item) (i j : ℕ) (d : Item) → i < j → j < length ordered
-    → same_item (get_or ordered i d) (get_or ordered j d) ≡ true → ¬ AreApart ordered
+    → same_item (get_or ordered i d) (get_or ordered j d) ≡ true → ¬ AreNamedOnce ordered
 not_apart ordered i j d before within same apart =
-    let one : get_or ordered i d ≡ get_or ordered j d = one_item (get_or ordered i d) (get_or ordered j d) same in
+    let one : get_or ordered i d ≡ get_or ordered j d = same_is_one (get_or ordered i d) (get_or ordered j d) same in
     let differ = apart_from_distinct (eq_by_cmp item_cmp) ordered i j d apart before within in
     let alike : eq_by_cmp item_cmp (get_or ordered i d) (get_or ordered j d) ≡ true =
     subst (λ o. eq_by_cmp item_cmp (get_or ordered i d) o ≡ true) one (ap is_eq (tied_itself items_total (get_or ordered i d))) in
     false≢true (sym differ ∙ alike)
 
-pub moved_apart : (items ordered : List Item) → IsPermutation items ordered → AreApart items → AreApart ordered
+pub moved_apart : (items ordered : List Item) → IsPermutation items ordered → AreNamedOnce items → AreNamedOnce ordered
 moved_apart items ordered moved apart =
     IsDistinct-IsPermutation (eq_by_cmp item_cmp) (λ x y. (eq_by_cmp_equiv items_total).symm x y) items ordered moved apart
 
-pub back_apart : (items ordered : List Item) → IsPermutation items ordered → AreApart ordered → AreApart items
+pub back_apart : (items ordered : List Item) → IsPermutation items ordered → AreNamedOnce ordered → AreNamedOnce items
 back_apart items ordered moved apart = moved_apart ordered items (IsPermutation-sym items ordered moved) apart
 
 pub no_item : Item

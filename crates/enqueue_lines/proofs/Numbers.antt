@@ -14,8 +14,8 @@ use Rattle.std.proofs.lemmas.Str.Parse.{not_in_digits, numerals_by_value, tells_
 use Rattle.std.proofs.lemmas.Str.Pattern.{IsSplitOnceResult, split_after}
 use Rattle.report_text.specs.Report.{item_text}
 use Rattle.state_core.specs.declared.item.Item.{Item}
-use Rattle.enqueue_lines.specs.Lines.{IsShort, IsShortItem, counts_text, rest_of, said_text, word_of}
-use Rattle.enqueue_lines.specs.Texts.{Lacks}
+use Rattle.enqueue_lines.specs.Lines.{NumbersFit, IsShortItem, counts_text, rest_of, said_text, said_word}
+use Rattle.enqueue_lines.specs.Texts.{LacksByte}
 use Rattle.enqueue_lines.specs.declared.said.Said.{Said}
 use Rattle.enqueue_lines.specs.declared.said.Said.TheVariants.{Ready, NowReady, NotReady, End, Nothing}
 
@@ -38,14 +38,14 @@ ascii_tested bytes all = ascii_by bytes all
 -- ---- cutting
 
 pub cut_so : (byte : ℕ) (front rest text : List ℕ) (cut : Option (Bor (List ℕ) × Bor (List ℕ)))
-    → IsSplitOnceResult byte text cut → byte < 128 → Lacks byte front → text ≡ front ++ byte ∷ rest
+    → IsSplitOnceResult byte text cut → byte < 128 → LacksByte byte front → text ≡ front ++ byte ∷ rest
     → IsSomeAnd cut (λ parts. (parts.0.now ≡ front) × (parts.1.now ≡ rest))
 cut_so byte front rest text None cuts small lacks is =
     split_after byte text front rest None cuts small is lacks
 cut_so byte front rest text (Some parts) cuts small lacks is =
     split_after byte text front rest (Some parts) cuts small is lacks
 
-pub lacks_digits : (byte number : ℕ) → number < 2 ^ 64 → byte < 48 → Lacks byte (decimal number)
+pub lacks_digits : (byte number : ℕ) → number < 2 ^ 64 → byte < 48 → LacksByte byte (decimal number)
 lacks_digits byte number fits small =
     not_in_digits (numerals_by_value (AllDigits 10) tells_digits) (decimal number) byte (decimal_is_IsNumeral number fits).0.1
     (λ within. omega (arith, within.0))
@@ -54,14 +54,14 @@ no_first : (byte other : ℕ) → not (other == byte) ≡ true → ¬ (other ≡
 no_first byte other differs same =
     let bad : false ≡ true = sym (ap not (eq-eqb other byte same)) ∙ differs in cc
 
-pub lacks_tested : (byte : ℕ) (bytes : List ℕ) → list_all (λ other. not (other == byte)) bytes ≡ true → Lacks byte bytes
+pub lacks_tested : (byte : ℕ) (bytes : List ℕ) → list_all (λ other. not (other == byte)) bytes ≡ true → LacksByte byte bytes
 lacks_tested byte [] all i within = absurd (omega (arith, within))
 lacks_tested byte (other ∷ bytes) all zero within =
     no_first byte other (both_true (not (other == byte)) (list_all (λ o. not (o == byte)) bytes) all).0
 lacks_tested byte (other ∷ bytes) all (suc i) within =
     lacks_tested byte bytes (both_true (not (other == byte)) (list_all (λ o. not (o == byte)) bytes) all).1 i (omega (arith, within))
 
-pub word_lacks : (said : Said) → Lacks 32 (word_of said)
+pub word_lacks : (said : Said) → LacksByte 32 (said_word said)
 word_lacks (Ready item) = lacks_tested 32 (codes "ready") refl
 word_lacks (NowReady item) = lacks_tested 32 (codes "+ready") refl
 word_lacks (NotReady item) = lacks_tested 32 (codes "-ready") refl
@@ -82,12 +82,12 @@ item_pieces item = append_assoc (decimal item.change) (codes ",") (decimal item.
 pub counts_pieces : (ready out : ℕ) → counts_text ready out ≡ decimal ready ++ 32 ∷ decimal out
 counts_pieces ready out = append_assoc (decimal ready) (codes " ") (decimal out)
 
-pub said_pieces : (said : Said) → said_text said ≡ word_of said ++ 32 ∷ rest_of said
-said_pieces said = append_assoc (word_of said) (codes " ") (rest_of said)
+pub said_pieces : (said : Said) → said_text said ≡ said_word said ++ 32 ∷ rest_of said
+said_pieces said = append_assoc (said_word said) (codes " ") (rest_of said)
 
 -- ---- the texts are ASCII
 
-pub ascii_word : (said : Said) → IsAscii (word_of said ++ codes " ")
+pub ascii_word : (said : Said) → IsAscii (said_word said ++ codes " ")
 ascii_word (Ready item) = ascii_tested (codes "ready ") refl
 ascii_word (NowReady item) = ascii_tested (codes "+ready ") refl
 ascii_word (NotReady item) = ascii_tested (codes "-ready ") refl
@@ -99,7 +99,7 @@ ascii_item item short =
     IsAscii-append _ _ (IsAscii-append _ _ (IsAscii-decimal item.change (omega (arith, short.change))) (ascii_tested (codes ",") refl))
     (IsAscii-decimal item.set (omega (arith, short.set)))
 
-ascii_rest : (said : Said) → IsShort said → IsAscii (rest_of said)
+ascii_rest : (said : Said) → NumbersFit said → IsAscii (rest_of said)
 ascii_rest (Ready item) short = ascii_item item short
 ascii_rest (NowReady item) short = ascii_item item short
 ascii_rest (NotReady item) short = ascii_item item short
@@ -108,9 +108,9 @@ ascii_rest (End ready out) short =
     (IsAscii-decimal out short.1)
 ascii_rest Nothing short = ascii_tested [] refl
 
-pub said_utf8 : (said : Said) → IsShort said → IsUtf8 (said_text said)
+pub said_utf8 : (said : Said) → NumbersFit said → IsUtf8 (said_text said)
 said_utf8 said short =
-    IsUtf8-from_ascii (said_text said) (IsAscii-append (word_of said ++ codes " ") (rest_of said) (ascii_word said) (ascii_rest said short))
+    IsUtf8-from_ascii (said_text said) (IsAscii-append (said_word said ++ codes " ") (rest_of said) (ascii_word said) (ascii_rest said short))
 
 pub item_utf8 : (item : Item) → IsShortItem item → IsUtf8 (item_text item)
 item_utf8 item short = IsUtf8-from_ascii (item_text item) (ascii_item item short)

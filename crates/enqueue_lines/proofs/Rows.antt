@@ -13,7 +13,7 @@ use Rattle.enqueue_lines.specs.Handed.{IsItemLine, IsNoItem, IsRefusedHanded}
 use Rattle.enqueue_lines.specs.declared.fault.EnqueueFault.{EnqueueFault}
 use Rattle.enqueue_lines.specs.declared.fault.EnqueueFault.TheVariants.{BadLine, BadEnd, NoEnd, ReadFault, NoMemory}
 use Rattle.enqueue_lines.specs.declared.fault.EnqueueFault.TheVariants.{WriteFault, BadQuery, BadHanded}
-use Rattle.enqueue_lines.specs.Places.{AddsLine, ArePlaces, IsTold, last_place, place_by, place_of}
+use Rattle.enqueue_lines.specs.Places.{AddsLine, ArePlacesOfRows, IsTold, last_place, place_by, known_place}
 
 -- ---- the next of a list's elements
 
@@ -58,8 +58,8 @@ last_more (first ∷ rows) row change =
     ap (λ p. option_or p (place_by first change)) (last_more rows row change)
     ∙ or_or (place_by row change) (last_place rows change) (place_by first change)
 
-pub places_more : (before : List (List ℕ)) (line : List ℕ) (old new : BTreeMap ℕ ChangePlace) → ArePlaces before old
-    → AddsLine line old new true → ArePlaces (before ++ line ∷ []) new
+pub places_more : (before : List (List ℕ)) (line : List ℕ) (old new : BTreeMap ℕ ChangePlace) → ArePlacesOfRows before old
+    → AddsLine line old new true → ArePlacesOfRows (before ++ line ∷ []) new
 places_more before line old new are adds = record {
   rows = are.rows ++ adds.0 ∷ [];
   tells = zip_push Tells before are.rows line adds.0 are.tells adds.1;

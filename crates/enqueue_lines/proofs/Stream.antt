@@ -7,9 +7,9 @@ use Rattle.std.proofs.lemmas.List.Concat.{flat_map-append}
 use Rattle.std.proofs.lemmas.List.Elements.{All-push}
 use Rattle.byte_ends.specs.Lines.{as_line, without_cr}
 use Rattle.line_reader.specs.Lines.{BeginsWithLine, Hands, Reading}
-use Rattle.enqueue_lines.specs.Groups.{Told, added_by, listed_by, removed_by, told_by}
-use Rattle.enqueue_lines.specs.Lines.{SaysLine}
-use Rattle.enqueue_lines.specs.Running.{GroupComes, IsNoEnd, IsSaid, KeepsSaid, Says, SaysPiece, StepsOn, line_says}
+use Rattle.enqueue_lines.specs.Groups.{GroupTold, added_by, listed_by, removed_by, told_by}
+use Rattle.enqueue_lines.specs.Lines.{LineSays}
+use Rattle.enqueue_lines.specs.Running.{GroupComes, IsNoEnd, IsSaidAs, KeepsSaid, SaysLines, SaysPiece, StepsOn, line_says}
 use Rattle.enqueue_lines.specs.declared.fault.EnqueueFault.{EnqueueFault}
 use Rattle.enqueue_lines.specs.declared.run.Step.{Step}
 use Rattle.enqueue_lines.specs.declared.run.Step.TheVariants.{GoesOn, EndsWith, Stops}
@@ -18,11 +18,11 @@ use Rattle.enqueue_lines.specs.declared.said.Said.TheVariants.{Ready, NowReady, 
 
 -- ---- bytes that say lines
 
-pub nothing_said : (held : List ℕ) → Says (held ++ []) held []
+pub nothing_said : (held : List ℕ) → SaysLines (held ++ []) held []
 nothing_said held = record { pieces = []; whole = append-nil held; each = tt }
 
 pub one_said : (bytes piece rest : List ℕ) (said : Said) → bytes ≡ as_line piece ++ rest
-    → SaysLine (without_cr piece) said → Says bytes rest (said ∷ [])
+    → LineSays (without_cr piece) said → SaysLines bytes rest (said ∷ [])
 one_said bytes piece rest said is says = record {
   pieces = piece ∷ [];
   whole = is ∙ ap (λ l. l ++ rest) (sym (append-nil (as_line piece)));
@@ -36,8 +36,8 @@ zip_append R [] us (b ∷ ys) vs all more = absurd all
 zip_append R (a ∷ xs) us [] vs all more = absurd all
 zip_append R (a ∷ xs) us (b ∷ ys) vs all more = (all.0, zip_append R xs us ys vs all.1 more)
 
-pub says_more : (first came more held rest : List ℕ) (lines others : List Said) → Says (first ++ came) held lines
-    → Says (held ++ more) rest others → Says (first ++ (came ++ more)) rest (lines ++ others)
+pub says_more : (first came more held rest : List ℕ) (lines others : List Said) → SaysLines (first ++ came) held lines
+    → SaysLines (held ++ more) rest others → SaysLines (first ++ (came ++ more)) rest (lines ++ others)
 says_more first came more held rest lines others one two = record {
   pieces = one.pieces ++ two.pieces;
   whole =
@@ -51,15 +51,15 @@ says_more first came more held rest lines others one two = record {
 
 pub line_said : (bytes rest line : List ℕ) (limit : ℕ) (result : Result (Option Said) EnqueueFault)
     → (piece : List ℕ) × BeginsWithLine limit bytes piece rest × (line ≡ without_cr piece)
-    → IfOk result (IsSaid line) → IfOk result (λ read. Says bytes rest (line_says read))
+    → IfOk result (IsSaidAs line) → IfOk result (λ read. SaysLines bytes rest (line_says read))
 line_said bytes rest line limit (Ok None) begins said = absurd said
 line_said bytes rest line limit (Ok (Some said)) begins says =
-    one_said bytes begins.0 rest said begins.1.whole (subst (λ l. SaysLine l said) begins.2 says)
+    one_said bytes begins.0 rest said begins.1.whole (subst (λ l. LineSays l said) begins.2 says)
 line_said bytes rest line limit (Err fault) begins said = tt
 
 -- ---- what is kept of a group
 
-told_plus : Told → Told → Told
+told_plus : GroupTold → GroupTold → GroupTold
 told_plus one two = record {
   listed = one.listed ++ two.listed;
   added = one.added ++ two.added;
@@ -76,12 +76,12 @@ told_more xs ys zs same =
     told_append xs zs ∙ ap (λ told. told_plus told (told_by zs)) same ∙ sym (told_append ys zs)
 
 goes_so : (bytes rest : List ℕ) (old new : List Said) (said : Said) (step : Step) → step ≡ GoesOn
-    → Says bytes rest (said ∷ []) → IsNoEnd said → told_by new ≡ told_by (old ++ said ∷ []) → StepsOn bytes rest old new step
+    → SaysLines bytes rest (said ∷ []) → IsNoEnd said → told_by new ≡ told_by (old ++ said ∷ []) → StepsOn bytes rest old new step
 goes_so bytes rest old new said step is says first told =
     subst (StepsOn bytes rest old new) (sym is) (said, says, first, told)
 
 pub kept_steps : (said : Said) (bytes rest : List ℕ) (old new : List Said) (result : Result Step EnqueueFault)
-    → Says bytes rest (said ∷ []) → IfOk result (KeepsSaid said old new) → IfOk result (StepsOn bytes rest old new)
+    → SaysLines bytes rest (said ∷ []) → IfOk result (KeepsSaid said old new) → IfOk result (StepsOn bytes rest old new)
 kept_steps said bytes rest old new (Err fault) says keeps = tt
 kept_steps (Ready item) bytes rest old new (Ok step) says keeps =
     goes_so bytes rest old new (Ready item) step keeps.0 says tt keeps.1
@@ -147,7 +147,7 @@ module _ (first came more held rest : List ℕ) (old new : List Said) (count now
     lines = comes.lines;
     out = comes.out;
     whole = comes.whole;
-    says = subst (Says (first ++ (came ++ more)) rest) (append-nil comes.lines)
+    says = subst (SaysLines (first ++ (came ++ more)) rest) (append-nil comes.lines)
         (says_more first came more held rest comes.lines [] comes.says steps.0);
     kept_is = ap told_by steps.1 ∙ comes.kept_is;
     begun = λ none. comes.begun (sym same ∙ none);

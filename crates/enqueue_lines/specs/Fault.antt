@@ -27,12 +27,12 @@ fault_number WriteFault = 6
 fault_number (BadQuery line) = 9
 fault_number (BadHanded line) = 10
 
-abbrev pub fault_words : EnqueueFault → List ℕ
-fault_words (BadLine line) = codes "BadLine " ++ decimal line
-fault_words (BadEnd line) = codes "BadEnd " ++ decimal line
-fault_words NoEnd = codes "NoEnd"
-fault_words ReadFault = codes "ReadFault"
-fault_words NoMemory = codes "NoMemory"
-fault_words WriteFault = codes "WriteFault"
-fault_words (BadQuery line) = codes "BadQuery " ++ decimal line
-fault_words (BadHanded line) = codes "BadHanded " ++ decimal line
+abbrev pub enqueue_fault_words : EnqueueFault → List ℕ
+enqueue_fault_words (BadLine line) = codes "BadLine " ++ decimal line
+enqueue_fault_words (BadEnd line) = codes "BadEnd " ++ decimal line
+enqueue_fault_words NoEnd = codes "NoEnd"
+enqueue_fault_words ReadFault = codes "ReadFault"
+enqueue_fault_words NoMemory = codes "NoMemory"
+enqueue_fault_words WriteFault = codes "WriteFault"
+enqueue_fault_words (BadQuery line) = codes "BadQuery " ++ decimal line
+enqueue_fault_words (BadHanded line) = codes "BadHanded " ++ decimal line

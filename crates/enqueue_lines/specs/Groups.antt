@@ -1,4 +1,4 @@
--- What is ready after a group of lines, which is a whole report or says what changed. The lines of both are the
+-- What is ready after a group of lines, which is a whole report or says what ready_following. The lines of both are the
 -- project's own (`report_text`, `report_changes`).
 use Rattle.std.specs.Prelude.{◌≡◌, ◌==◌, ◌&&◌, ◌||◌, ℕ, Bool, true, List, [], ◌∷◌, ◌++◌, filter, flat_map, length, not}
 use Rattle.std.specs.Prelude.{if◌then◌else◌, Contains}
@@ -11,16 +11,16 @@ use Rattle.enqueue_lines.specs.declared.said.Said.TheVariants.{Ready, NowReady, 
 use Rattle.report_changes.specs.Listing.{same_item}
 
 -- whether an item is among these
-abbrev pub has : List Item → Item → Bool
-has items item = list_any (same_item item) items
+abbrev pub is_among : List Item → Item → Bool
+is_among items item = list_any (same_item item) items
 
 -- no two of these are one
-abbrev pub AreApart : List Item → Type 0
-AreApart items = IsDistinct (eq_by_cmp item_cmp) items
+abbrev pub AreNamedOnce : List Item → Type 0
+AreNamedOnce items = IsDistinct (eq_by_cmp item_cmp) items
 
 -- ---- a group: the items that its lines list as ready, say to be ready now, and say not to be any more
 
-pub record Told : Type 0 where
+pub record GroupTold : Type 0 where
   pub listed : List Item
   pub added : List Item
   pub removed : List Item
@@ -37,7 +37,7 @@ abbrev pub removed_by : Said → List Item
 removed_by (NotReady item) = item ∷ []
 removed_by said = []
 
-abbrev pub told_by : List Said → Told
+abbrev pub told_by : List Said → GroupTold
 told_by lines = record {
   listed = flat_map listed_by lines;
   added = flat_map added_by lines;
@@ -51,45 +51,45 @@ told_by lines = record {
 abbrev pub is_none : List Item → Bool
 is_none items = length items == 0
 
-abbrev pub is_report : Told → ℕ → Bool
+abbrev pub is_report : GroupTold → ℕ → Bool
 is_report told count = (count == 0) || not (is_none told.listed)
 
-abbrev pub changed : List Item → Told → List Item
-changed before told = filter (λ item. not (has told.removed item)) before ++ told.added
+abbrev pub ready_following : List Item → GroupTold → List Item
+ready_following before told = filter (λ item. not (is_among told.removed item)) before ++ told.added
 
-abbrev pub ready_after : List Item → Told → ℕ → List Item
-ready_after before told count = if is_report told count then told.listed else changed before told
+abbrev pub ready_after : List Item → GroupTold → ℕ → List Item
+ready_after before told count = if is_report told count then told.listed else ready_following before told
 
--- a report doesn't say what changed: it adds nothing, and takes nothing away from what it lists
-abbrev pub is_one_kind : Told → ℕ → Bool
+-- a report doesn't say what ready_following: it adds nothing, and takes nothing away from what it lists
+abbrev pub is_one_kind : GroupTold → ℕ → Bool
 is_one_kind told count =
     not (is_report told count) || (is_none told.added && (is_none told.listed || is_none told.removed))
 
 -- the end line fits the lines before it: they are of one kind, and make so many items ready, each once
-pub record Fits (before : List Item) (told : Told) (count : ℕ) : Type 0 where
+pub record Fits (before : List Item) (told : GroupTold) (count : ℕ) : Type 0 where
   pub one_kind : is_one_kind told count ≡ true
   pub counted : length (ready_after before told count) ≡ count
-  pub apart : AreApart (ready_after before told count)
+  pub apart : AreNamedOnce (ready_after before told count)
 
 -- ---- what is handed over
 
 -- what is ready, by the lines so far, and what was handed over before the first of them
-pub record Held : Type 0 where
+pub record ReadySoFar : Type 0 where
   pub ready : List Item
   pub earlier : List Item
 
 -- the items that are ready and weren't before, in their order
-abbrev pub fresh : Held → List Item → List Item
-fresh held now = filter (λ item. not (has held.ready item || has held.earlier item)) now
+abbrev pub fresh : ReadySoFar → List Item → List Item
+fresh held now = filter (λ item. not (is_among held.ready item || is_among held.earlier item)) now
 
-abbrev pub holding : List Item → Held
-holding now = record { ready = now; earlier = [] }
+abbrev pub ready_first : List Item → ReadySoFar
+ready_first now = record { ready = now; earlier = [] }
 
 -- ---- over groups, by what is ready after each
 
-abbrev pub handed_over : Held → List (List Item) → List Item
+abbrev pub handed_over : ReadySoFar → List (List Item) → List Item
 handed_over held [] = []
-handed_over held (now ∷ later) = fresh held now ++ handed_over (holding now) later
+handed_over held (now ∷ later) = fresh held now ++ handed_over (ready_first now) later
 
 -- an item that is ready stays so
 abbrev pub StaysReady : Item → List (List Item) → Type 0

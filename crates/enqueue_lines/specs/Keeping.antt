@@ -6,6 +6,6 @@ use Rattle.state_core.specs.declared.item.Item.{Item}
 use Rattle.state_core.specs.Items.{item_cmp}
 
 -- the items are there once more in item order
-pub record AreKept (items ordered : List Item) : Type 0 where
+pub record AreSortedItems (items ordered : List Item) : Type 0 where
   pub same : (test : Item → Bool) → list_any test ordered ≡ list_any test items
   pub ordered_is : IsSorted item_cmp ordered

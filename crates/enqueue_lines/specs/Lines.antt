@@ -12,12 +12,12 @@ pub record IsShortItem (item : Item) : Type 0 where
   pub set : item.set < 2 ^ 32
 
 -- the first word of a line, and what comes after a blank
-abbrev pub word_of : Said → List ℕ
-word_of (Ready item) = codes "ready"
-word_of (NowReady item) = codes "+ready"
-word_of (NotReady item) = codes "-ready"
-word_of (End ready out) = codes "end"
-word_of Nothing = []
+abbrev pub said_word : Said → List ℕ
+said_word (Ready item) = codes "ready"
+said_word (NowReady item) = codes "+ready"
+said_word (NotReady item) = codes "-ready"
+said_word (End ready out) = codes "end"
+said_word Nothing = []
 
 abbrev pub counts_text : ℕ → ℕ → List ℕ
 counts_text ready out = decimal ready ++ codes " " ++ decimal out
@@ -31,26 +31,27 @@ rest_of Nothing = []
 
 -- its line, without the line end
 abbrev pub said_text : Said → List ℕ
-said_text said = word_of said ++ codes " " ++ rest_of said
+said_text said = said_word said ++ codes " " ++ rest_of said
 
 -- why an item waits, that it isn't listed any more, and where a site listens say nothing of what is ready
-abbrev pub Begins : List ℕ → List ℕ → Type 0
-Begins word line = (rest : List ℕ) × (line ≡ word ++ rest)
+abbrev pub BeginsPassed : List ℕ → List ℕ → Type 0
+BeginsPassed word line = (rest : List ℕ) × (line ≡ word ++ rest)
 
-abbrev pub IsPassedOver : List ℕ → Type 0
-IsPassedOver line = Begins (codes "out ") line ⊎ Begins (codes "gone ") line ⊎ Begins (codes "listening ") line
+abbrev pub IsPassedLine : List ℕ → Type 0
+IsPassedLine line =
+    BeginsPassed (codes "out ") line ⊎ BeginsPassed (codes "gone ") line ⊎ BeginsPassed (codes "listening ") line
 
-abbrev pub SaysLine : List ℕ → Said → Type 0
-SaysLine line (Ready item) = line ≡ said_text (Ready item)
-SaysLine line (NowReady item) = line ≡ said_text (NowReady item)
-SaysLine line (NotReady item) = line ≡ said_text (NotReady item)
-SaysLine line (End ready out) = line ≡ said_text (End ready out)
-SaysLine line Nothing = IsPassedOver line
+abbrev pub LineSays : List ℕ → Said → Type 0
+LineSays line (Ready item) = line ≡ said_text (Ready item)
+LineSays line (NowReady item) = line ≡ said_text (NowReady item)
+LineSays line (NotReady item) = line ≡ said_text (NotReady item)
+LineSays line (End ready out) = line ≡ said_text (End ready out)
+LineSays line Nothing = IsPassedLine line
 
 -- the numbers of what is said fit: those of items 32 bits, and counts 64
-abbrev pub IsShort : Said → Type 0
-IsShort (Ready item) = IsShortItem item
-IsShort (NowReady item) = IsShortItem item
-IsShort (NotReady item) = IsShortItem item
-IsShort (End ready out) = (ready < 2 ^ 64) × (out < 2 ^ 64)
-IsShort Nothing = Unit {0}
+abbrev pub NumbersFit : Said → Type 0
+NumbersFit (Ready item) = IsShortItem item
+NumbersFit (NowReady item) = IsShortItem item
+NumbersFit (NotReady item) = IsShortItem item
+NumbersFit (End ready out) = (ready < 2 ^ 64) × (out < 2 ^ 64)
+NumbersFit Nothing = Unit {0}

@@ -14,8 +14,8 @@ use Rattle.enqueue_lines.specs.declared.fault.EnqueueFault.{EnqueueFault}
 use Rattle.enqueue_lines.specs.declared.fault.EnqueueFault.TheVariants.{BadQuery, NoMemory}
 
 -- the place of a change, where it is known
-abbrev pub place_of : BTreeMap ℕ ChangePlace → ℕ → Option Place
-place_of places change = option_map place_shown (get nat_cmp places change)
+abbrev pub known_place : BTreeMap ℕ ChangePlace → ℕ → Option Place
+known_place places change = option_map place_shown (get nat_cmp places change)
 
 -- ---- what lines say
 
@@ -33,11 +33,11 @@ abbrev pub IsTold : QueryLine → Type 0
 IsTold line = ¬ (line ≡ Other)
 
 -- each line is a row, or ends an answer, and the places are those of the rows
-pub record ArePlaces (lines : List (List ℕ)) (places : BTreeMap ℕ ChangePlace) : Type 0 where
+pub record ArePlacesOfRows (lines : List (List ℕ)) (places : BTreeMap ℕ ChangePlace) : Type 0 where
   pub rows : List QueryLine
   pub tells : AllZip Tells lines rows
   pub each : All IsTold rows
-  pub placed : (change : ℕ) → place_of places change ≡ last_place rows change
+  pub placed : (change : ℕ) → known_place places change ≡ last_place rows change
 
 -- the line of this number, from 1, tells nothing; or memory was refused
 abbrev pub IsRefusedQuery : List (List ℕ) → EnqueueFault → Type 0
@@ -48,5 +48,5 @@ IsRefusedQuery lines fault = fault ≡ NoMemory
 -- the line says something, and its place is added; or it says nothing
 abbrev pub AddsLine : List ℕ → BTreeMap ℕ ChangePlace → BTreeMap ℕ ChangePlace → Bool → Type 0
 AddsLine line old new true = (row : QueryLine) × Tells line row × IsTold row
-    × ((change : ℕ) → place_of new change ≡ option_or (place_by row change) (place_of old change))
+    × ((change : ℕ) → known_place new change ≡ option_or (place_by row change) (known_place old change))
 AddsLine line old new false = Tells line Other

@@ -8,7 +8,7 @@ use Rattle.refusal_line.specs.Line.{line_of}
 use Rattle.refusal_line.specs.declared.part.Part.TheVariants.{Enqueue}
 use Rattle.report_text.specs.Report.{item_text}
 use Rattle.state_core.specs.declared.item.Item.{Item}
-use Rattle.enqueue_lines.specs.Places.{place_of}
+use Rattle.enqueue_lines.specs.Places.{known_place}
 use Rattle.enqueue_lines.specs.Template.{Given, Part, filled}
 use Rattle.enqueue_lines.specs.declared.pipeline.Pipeline.{Pipeline}
 
@@ -27,7 +27,7 @@ pipe_shown pipeline = record {
   tenant = pipeline.tenant.now;
   name = pipeline.name.now;
   projects = pipeline.projects.now;
-  place = place_of pipeline.places.now;
+  place = known_place pipeline.places.now;
 }
 
 abbrev pub given_of : Pipe → Place → Item → Given
@@ -54,11 +54,11 @@ abbrev pub item_line : Pipe → Item → List ℕ
 item_line pipe item = line_by pipe item (pipe.place item.change)
 
 -- what is reported where the place of a change isn't known
-abbrev pub unknown_line : Item → List ℕ
-unknown_line item = line_of Enqueue 0 (codes "NoProject " ++ item_text item)
+abbrev pub unplaced_line : Item → List ℕ
+unplaced_line item = line_of Enqueue 0 (codes "NoProject " ++ item_text item)
 
 abbrev pub unknown_by : Item → Option Place → List ℕ
-unknown_by item None = unknown_line item
+unknown_by item None = unplaced_line item
 unknown_by item (Some place) = []
 
 abbrev pub report_line : Pipe → Item → List ℕ

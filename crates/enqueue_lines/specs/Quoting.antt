@@ -8,11 +8,11 @@ use Rattle.std.specs.Char.{is_ascii_alphanumeric}
 -- ---- writing
 
 -- a byte that a shell takes as it is, wherever it stands in a word: a letter, a digit, or one of these
-abbrev pub is_plain_byte : ℕ → Bool
-is_plain_byte byte = is_ascii_alphanumeric byte || list_any (λ other. other == byte) (codes "_./:,@%+=-")
+abbrev pub is_bare_byte : ℕ → Bool
+is_bare_byte byte = is_ascii_alphanumeric byte || list_any (λ other. other == byte) (codes "_./:,@%+=-")
 
 abbrev pub is_plain : List ℕ → Bool
-is_plain word = not (length word == 0) && list_all is_plain_byte word
+is_plain word = not (length word == 0) && list_all is_bare_byte word
 
 -- within single quotes each byte stands for itself, but that none of them can be a single quote (2.2.2): the quotes end
 -- before one, it comes after a backslash (2.2.1), and they begin again
@@ -39,7 +39,7 @@ word_from escaped [] = None
 word_from unquoted (byte ∷ bytes) =
     if byte == 39 then word_from in_quotes bytes else
     if byte == 92 then word_from escaped bytes else
-    if is_plain_byte byte then option_map (λ word. byte ∷ word) (word_from unquoted bytes) else None
+    if is_bare_byte byte then option_map (λ word. byte ∷ word) (word_from unquoted bytes) else None
 word_from in_quotes (byte ∷ bytes) =
     if byte == 39 then word_from unquoted bytes else option_map (λ word. byte ∷ word) (word_from in_quotes bytes)
 word_from escaped (byte ∷ bytes) =

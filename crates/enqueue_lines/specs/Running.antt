@@ -5,8 +5,8 @@ use Rattle.std.specs.Io.KnownBytes.{Appends, Consumes, IsAtEnd}
 use Rattle.std.specs.List.{AllZip}
 use Rattle.byte_ends.specs.Lines.{as_line, without_cr}
 use Rattle.state_core.specs.declared.item.Item.{Item}
-use Rattle.enqueue_lines.specs.Groups.{Fits, Held, fresh, handed_over, holding, ready_after, told_by}
-use Rattle.enqueue_lines.specs.Lines.{SaysLine}
+use Rattle.enqueue_lines.specs.Groups.{Fits, ReadySoFar, fresh, handed_over, ready_first, ready_after, told_by}
+use Rattle.enqueue_lines.specs.Lines.{LineSays}
 use Rattle.enqueue_lines.specs.Printing.{Pipe, item_lines, report_lines}
 use Rattle.enqueue_lines.specs.declared.run.Step.{Step}
 use Rattle.enqueue_lines.specs.declared.run.Step.TheVariants.{GoesOn, EndsWith, Stops}
@@ -55,25 +55,25 @@ AllFit before (group ∷ later) =
     Fits before (told_by group.lines) group.ready × AllFit (ready_then before group) later
 
 -- what is held after these groups
-abbrev pub held_after : Held → List Group → Held
+abbrev pub held_after : ReadySoFar → List Group → ReadySoFar
 held_after held [] = held
-held_after held (group ∷ later) = held_after (holding (ready_then held.ready group)) later
+held_after held (group ∷ later) = held_after (ready_first (ready_then held.ready group)) later
 
 -- the items that groups hand over
-abbrev pub handed_by : Held → List Group → List Item
+abbrev pub handed_by : ReadySoFar → List Group → List Item
 handed_by held groups = handed_over held (ready_in_turn held.ready groups)
 
 -- before the first line
-abbrev pub starting : List Item → Held
+abbrev pub starting : List Item → ReadySoFar
 starting earlier = record { ready = []; earlier = earlier }
 
 -- ---- lines in bytes
 
 abbrev pub SaysPiece : List ℕ → Said → Type 0
-SaysPiece piece said = SaysLine (without_cr piece) said
+SaysPiece piece said = LineSays (without_cr piece) said
 
 -- the bytes are lines that say this, and then a rest
-pub record Says (bytes rest : List ℕ) (lines : List Said) : Type 0 where
+pub record SaysLines (bytes rest : List ℕ) (lines : List Said) : Type 0 where
   pub pieces : List (List ℕ)
   pub whole : bytes ≡ flat_map as_line pieces ++ rest
   pub each : AllZip SaysPiece pieces lines
@@ -81,26 +81,26 @@ pub record Says (bytes rest : List ℕ) (lines : List Said) : Type 0 where
 -- ---- the law of handing over
 
 -- of bytes that are whole groups and then a rest, these lines and these reports are written
-pub record Prints (pipe : Pipe) (earlier : List Item) (bytes rest lines reports : List ℕ) : Type 0 where
+pub record PrintsGroups (pipe : Pipe) (earlier : List Item) (bytes rest lines reports : List ℕ) : Type 0 where
   pub groups : List Group
   pub whole : AreWhole groups
   pub fit : AllFit [] groups
-  pub says : Says bytes rest (all_say groups)
+  pub says : SaysLines bytes rest (all_say groups)
   pub lines_are : lines ≡ item_lines pipe (handed_by (starting earlier) groups)
   pub reports_are : reports ≡ report_lines pipe (handed_by (starting earlier) groups)
 
 -- what is known of an input's rest, and of what both outputs took
-pub record Ends : Type 0 where
+pub record KnownEnds : Type 0 where
   pub left : Option (List ℕ)
   pub printed : Option (List ℕ)
   pub reported : Option (List ℕ)
 
 -- these bytes came in between, whose groups were handed over, and after which there is this rest
-pub record HandsOver (pipe : Pipe) (earlier : List Item) (old new : Ends) (rest : List ℕ) : Type 0 where
+pub record HandsOver (pipe : Pipe) (earlier : List Item) (old new : KnownEnds) (rest : List ℕ) : Type 0 where
   pub came : List ℕ
   pub lines : List ℕ
   pub reports : List ℕ
-  pub prints : Prints pipe earlier came rest lines reports
+  pub prints : PrintsGroups pipe earlier came rest lines reports
   pub consumed : Consumes old.left new.left came
   pub printed : Appends old.printed new.printed lines
   pub reported : Appends old.reported new.reported reports
@@ -112,9 +112,9 @@ abbrev pub line_says : Option Said → List Said
 line_says None = []
 line_says (Some said) = said ∷ []
 
-abbrev pub IsSaid : List ℕ → Option Said → Type 0
-IsSaid line None = ⊥
-IsSaid line (Some said) = SaysLine line said
+abbrev pub IsSaidAs : List ℕ → Option Said → Type 0
+IsSaidAs line None = ⊥
+IsSaidAs line (Some said) = LineSays line said
 
 -- what a line does to the lines of a group that are kept: its end is told, and of any other what it tells is kept
 abbrev pub KeepsSaid : Said → List Said → List Said → Step → Type 0
@@ -126,10 +126,10 @@ KeepsSaid Nothing old new step = (step ≡ GoesOn) × (told_by new ≡ told_by (
 
 -- so the next line is read, of these bytes, after which this is held
 abbrev pub StepsOn : List ℕ → List ℕ → List Said → List Said → Step → Type 0
-StepsOn bytes rest old new GoesOn = (said : Said) × Says bytes rest (said ∷ []) × IsNoEnd said
+StepsOn bytes rest old new GoesOn = (said : Said) × SaysLines bytes rest (said ∷ []) × IsNoEnd said
     × (told_by new ≡ told_by (old ++ said ∷ []))
-StepsOn bytes rest old new (EndsWith ready) = (out : ℕ) × Says bytes rest (End ready out ∷ []) × (new ≡ old)
-StepsOn bytes rest old new Stops = Says bytes rest [] × (new ≡ old)
+StepsOn bytes rest old new (EndsWith ready) = (out : ℕ) × SaysLines bytes rest (End ready out ∷ []) × (new ≡ old)
+StepsOn bytes rest old new Stops = SaysLines bytes rest [] × (new ≡ old)
 
 -- what has come of a group: all its lines, or some
 abbrev pub with_end : List Said → Option ℕ → ℕ → List Said
@@ -141,26 +141,26 @@ pub record GroupComes (bytes rest : List ℕ) (kept : List Said) (count : ℕ) (
   pub lines : List Said
   pub out : ℕ
   pub whole : All IsNoEnd lines
-  pub says : Says bytes rest (with_end lines ended out)
+  pub says : SaysLines bytes rest (with_end lines ended out)
   pub kept_is : told_by kept ≡ told_by lines
   pub begun : count ≡ 0 → lines ≡ []
 
 -- a group was handed over: these bytes say it, its end line fits, and what it makes ready was written
-pub record GroupIsHanded (pipe : Pipe) (bytes rest : List ℕ) (old new : Held) (before after : Ends) : Type 0 where
+pub record GroupIsHanded (pipe : Pipe) (bytes rest : List ℕ) (old new : ReadySoFar) (before after : KnownEnds) : Type 0 where
   pub group : Group
   pub whole : All IsNoEnd group.lines
-  pub says : Says bytes rest (group_says group)
+  pub says : SaysLines bytes rest (group_says group)
   pub fits : Fits old.ready (told_by group.lines) group.ready
-  pub held : new ≡ holding (ready_then old.ready group)
+  pub held : new ≡ ready_first (ready_then old.ready group)
   pub printed : Appends before.printed after.printed (item_lines pipe (fresh old (ready_then old.ready group)))
   pub reported : Appends before.reported after.reported (report_lines pipe (fresh old (ready_then old.ready group)))
 
 -- nothing was written
-abbrev pub IsQuiet : Ends → Ends → Type 0
+abbrev pub IsQuiet : KnownEnds → KnownEnds → Type 0
 IsQuiet before after = (after.printed ≡ before.printed) × (after.reported ≡ before.reported)
 
 -- the next group was handed over; or there is none, nor any line or part of one
-abbrev pub HandsGroup : Pipe → List ℕ → List ℕ → Held → Held → Ends → Ends → Bool → Type 0
+abbrev pub HandsGroup : Pipe → List ℕ → List ℕ → ReadySoFar → ReadySoFar → KnownEnds → KnownEnds → Bool → Type 0
 HandsGroup pipe bytes rest old new before after true = GroupIsHanded pipe bytes rest old new before after
 HandsGroup pipe bytes rest old new before after false =
-    Says bytes [] [] × IsAtEnd after.left × IsQuiet before after
+    SaysLines bytes [] [] × IsAtEnd after.left × IsQuiet before after

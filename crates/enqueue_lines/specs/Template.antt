@@ -2,7 +2,7 @@
 -- the project's own.
 use Rattle.std.specs.Prelude.{◌≡◌, ◌⊎◌, ℕ, List, ◌++◌, codes, decimal, flat_map, string_bytes}
 use Rattle.enqueue_lines.specs.Quoting.{quoted}
-use Rattle.enqueue_lines.specs.Texts.{Lacks}
+use Rattle.enqueue_lines.specs.Texts.{LacksByte}
 use Rattle.enqueue_lines.specs.declared.fault.TemplateFault.{TemplateFault}
 use Rattle.enqueue_lines.specs.declared.fault.TemplateFault.TheVariants.{UnknownField, OpenBrace, NoMemory}
 use Rattle.enqueue_lines.specs.declared.template.Field.{Field}
@@ -26,9 +26,9 @@ pub data Part : Type 0 where
   text : List ℕ → Part
   field : Field → Part
 
-abbrev pub part_of : Piece → Part
-part_of (Plain plain) = text (string_bytes plain)
-part_of (Value named) = field named
+abbrev pub template_part : Piece → Part
+template_part (Plain plain) = text (string_bytes plain)
+template_part (Value named) = field named
 
 abbrev pub field_spelling : Field → List ℕ
 field_spelling named = codes "{" ++ name_of named ++ codes "}"
@@ -50,8 +50,8 @@ pub record Given : Type 0 where
   pub change : ℕ
   pub set : ℕ
 
-abbrev pub given : Values → Given
-given values = record {
+abbrev pub values_given : Values → Given
+values_given values = record {
   tenant = values.tenant.now;
   pipeline = values.pipeline.now;
   project = values.project.now;
@@ -60,17 +60,17 @@ given values = record {
   set = values.set;
 }
 
-abbrev pub value_of : Given → Field → List ℕ
-value_of values Tenant = values.tenant
-value_of values Pipeline = values.pipeline
-value_of values Project = values.project
-value_of values Branch = values.branch
-value_of values Change = decimal values.change
-value_of values Set = decimal values.set
+abbrev pub field_value : Given → Field → List ℕ
+field_value values Tenant = values.tenant
+field_value values Pipeline = values.pipeline
+field_value values Project = values.project
+field_value values Branch = values.branch
+field_value values Change = decimal values.change
+field_value values Set = decimal values.set
 
 abbrev pub filled_part : Given → Part → List ℕ
 filled_part values (text plain) = plain
-filled_part values (field named) = quoted (value_of values named)
+filled_part values (field named) = quoted (field_value values named)
 
 -- the pieces with their values, one after the other
 abbrev pub filled : List Part → Given → List ℕ
@@ -80,9 +80,9 @@ filled parts values = flat_map (filled_part values) parts
 
 -- what follows an open brace has no closing one; or there is one, and what is before the first is no field's name
 abbrev pub IsWrongBrace : List ℕ → TemplateFault → Type 0
-IsWrongBrace after OpenBrace = Lacks 125 after
+IsWrongBrace after OpenBrace = LacksByte 125 after
 IsWrongBrace after (UnknownField name) =
-    (next : List ℕ) × (after ≡ name.now ++ codes "}" ++ next) × Lacks 125 name.now
+    (next : List ℕ) × (after ≡ name.now ++ codes "}" ++ next) × LacksByte 125 name.now
     × ((named : Field) → ¬ (name.now ≡ name_of named))
 IsWrongBrace after NoMemory = ⊥
 

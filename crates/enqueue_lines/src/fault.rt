@@ -1,7 +1,7 @@
 //! Why items aren't handed over.
 
 ghost use Rattle.std.specs.Prelude.{◌≡◌, ◌++◌, OnOk, string_bytes};
-ghost use Rattle.enqueue_lines.specs.Fault.{fault_number, fault_words, template_number, template_words};
+ghost use Rattle.enqueue_lines.specs.Fault.{fault_number, enqueue_fault_words, template_number, template_words};
 
 use std::alloc::AllocError;
 
@@ -90,7 +90,7 @@ impl EnqueueFault {
 
     /// Adds the words of the fault: its name, and the number of the line.
     pub fn write_words(&self, words: &mut String) -> Result<(), AllocError>
-        ensures { OnOk result (string_bytes words.new ≡ string_bytes words.old ++ fault_words self.now) }
+        ensures { OnOk result (string_bytes words.new ≡ string_bytes words.old ++ enqueue_fault_words self.now) }
     {
         match self {
             EnqueueFault::BadLine(line) => write!(words, "BadLine {line}"),

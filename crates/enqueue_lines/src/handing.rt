@@ -2,8 +2,9 @@
 
 ghost use Rattle.std.specs.Prelude.{◌≡◌, ◌++◌, ◌||◌, [], ℕ, List, Contains, IfOk, MatchOption, OnErr, OnOk};
 ghost use Rattle.std.specs.Prelude.{filter, flat_map, length, not};
-ghost use Rattle.enqueue_lines.specs.Groups.{Fits, Held, StaysReady, Told, added_by, changed, fresh, handed_over, has};
-ghost use Rattle.enqueue_lines.specs.Groups.{holding, is_one_kind, is_report, listed_by, ready_after, removed_by};
+ghost use Rattle.enqueue_lines.specs.Groups.{Fits, ReadySoFar, StaysReady, GroupTold, added_by, ready_following, fresh};
+ghost use Rattle.enqueue_lines.specs.Groups.{handed_over, is_among};
+ghost use Rattle.enqueue_lines.specs.Groups.{ready_first, is_one_kind, is_report, listed_by, ready_after, removed_by};
 ghost use Rattle.enqueue_lines.specs.Groups.{told_by};
 ghost use Rattle.enqueue_lines.specs.Telling.{told_shown};
 ghost use Rattle.std.specs.List.Sorted.{IsSorted};
@@ -25,9 +26,9 @@ pub struct Handing {
 }
 
 impl Model for Handing {
-    ghost use Rattle.enqueue_lines.specs.Groups.{Held};
+    ghost use Rattle.enqueue_lines.specs.Groups.{ReadySoFar};
 
-    ghost Value = { Held };
+    ghost Value = { ReadySoFar };
 
     ghost view = { λ handing. record { ready = handing.ready; earlier = handing.earlier } };
 }
@@ -57,7 +58,7 @@ impl Handing {
             ((¬ Fits self.old.ready (told_by lines.now) count) × (self.new ≡ self.old))
             (λ items. Fits self.old.ready (told_by lines.now) count
             × (items.items ≡ fresh self.old (ready_after self.old.ready (told_by lines.now) count))
-            × (self.new ≡ holding (ready_after self.old.ready (told_by lines.now) count)))) }
+            × (self.new ≡ ready_first (ready_after self.old.ready (told_by lines.now) count)))) }
         ensures kept { OnErr result (self.new ≡ self.old) }
     {
         let told = Group::of(alloc, lines)?;
@@ -108,7 +109,7 @@ fn fresh_of(
     now: &[Item],
 ) -> Result<Vec<Item>, AllocError>
     ensures { IfOk result (λ items. items.items
-        ≡ filter (λ item. not (has ready.now item || has earlier.now item)) now.now) }
+        ≡ filter (λ item. not (is_among ready.now item || is_among earlier.now item)) now.now) }
 {
     let mut items = Vec::new(alloc);
     for item in now {
@@ -183,7 +184,7 @@ fn changed(
     added: &[Item],
 ) -> Result<Vec<Item>, AllocError>
     ensures { IfOk result (λ now. now.items
-        ≡ filter (λ item. not (has removed.now item)) before.now ++ added.now) }
+        ≡ filter (λ item. not (is_among removed.now item)) before.now ++ added.now) }
 {
     let ordered = in_order(alloc, removed)?;
     let mut now = without(alloc, before, ordered.as_slice())?;
@@ -194,7 +195,7 @@ fn changed(
 /// Some items without those in order.
 fn without(alloc: Global, before: &[Item], ordered: &[Item]) -> Result<Vec<Item>, AllocError>
     requires { IsSorted item_cmp ordered.now }
-    ensures { IfOk result (λ now. now.items ≡ filter (λ item. not (has ordered.now item)) before.now) }
+    ensures { IfOk result (λ now. now.items ≡ filter (λ item. not (is_among ordered.now item)) before.now) }
 {
     let mut now = Vec::new(alloc);
     for item in before {
@@ -246,6 +247,6 @@ fn removed_in(alloc: Global, lines: &[Said]) -> Result<Vec<Item>, AllocError>
 
 /// A law: an item that is ready is handed over no more while it stays so, however many groups come.
 pub fn ready_items_are_handed_over_once()
-    ensures { (item : Item) → (held : Held) → (later : List (List Item)) → Contains held.ready item
+    ensures { (item : Item) → (held : ReadySoFar) → (later : List (List Item)) → Contains held.ready item
         → StaysReady item later → ¬ Contains (handed_over held later) item }
 {}

@@ -5,7 +5,7 @@ ghost use Rattle.std.specs.List.{list_any};
 ghost use Rattle.std.specs.List.Sorted.{IsPermutation, IsSorted};
 ghost use Rattle.state_core.specs.declared.item.Item.{Item};
 ghost use Rattle.state_core.specs.Items.{item_cmp};
-ghost use Rattle.enqueue_lines.specs.Groups.{AreApart, has};
+ghost use Rattle.enqueue_lines.specs.Groups.{AreNamedOnce, is_among};
 
 use state_core::Item;
 use std::alloc::{AllocError, Global};
@@ -22,14 +22,14 @@ pub struct ItemSet {
 
 impl Model for ItemSet {
     ghost use Rattle.std.specs.Prelude.{List};
-    ghost use Rattle.enqueue_lines.specs.Keeping.{AreKept};
+    ghost use Rattle.enqueue_lines.specs.Keeping.{AreSortedItems};
     ghost use Rattle.state_core.specs.declared.item.Item.{Item};
 
     ghost Value = { List Item };
 
     ghost view = { λ kept. kept.items.items };
 
-    ghost invariant = { λ kept. AreKept kept.items.items kept.ordered.items };
+    ghost invariant = { λ kept. AreSortedItems kept.items.items kept.ordered.items };
 }
 
 impl ItemSet {
@@ -45,8 +45,8 @@ impl ItemSet {
 
     /// These items; none where an item is among them twice. It costs O(n log n) for n items.
     pub fn of(alloc: Global, items: Vec<Item>) -> Result<Option<ItemSet>, AllocError>
-        ensures { IfOk result (λ made. MatchOption made (¬ AreApart items.items)
-            (λ kept. (kept ≡ items.items) × AreApart items.items)) }
+        ensures { IfOk result (λ made. MatchOption made (¬ AreNamedOnce items.items)
+            (λ kept. (kept ≡ items.items) × AreNamedOnce items.items)) }
     {
         let ordered = in_order(alloc, items.as_slice())?;
         if has_twice(ordered.as_slice()) {
@@ -72,7 +72,7 @@ impl ItemSet {
 
     /// Whether an item is among them. It costs O(log n) for n items.
     pub fn has(&self, item: Item) -> bool
-        ensures { result ≡ has self.now item }
+        ensures { result ≡ is_among self.now item }
     {
         has_item(self.ordered.as_slice(), item)
     }
@@ -81,7 +81,7 @@ impl ItemSet {
 /// Whether an item is among some in order. It costs O(log n) for n items.
 pub fn has_item(ordered: &[Item], item: Item) -> bool
     requires { IsSorted item_cmp ordered.now }
-    ensures { result ≡ has ordered.now item }
+    ensures { result ≡ is_among ordered.now item }
 {
     ordered.binary_search(&item).is_ok()
 }
@@ -101,7 +101,7 @@ pub fn in_order(alloc: Global, items: &[Item]) -> Result<Vec<Item>, AllocError>
 /// Whether one of some items in order is there twice.
 fn has_twice(ordered: &[Item]) -> bool
     requires { IsSorted item_cmp ordered.now }
-    ensures { MatchBool result (¬ AreApart ordered.now) (AreApart ordered.now) }
+    ensures { MatchBool result (¬ AreNamedOnce ordered.now) (AreNamedOnce ordered.now) }
 {
     for index in 1..ordered.len() {
         if ordered[index - 1] == ordered[index] {

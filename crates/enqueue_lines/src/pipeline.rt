@@ -5,7 +5,7 @@ ghost use Rattle.gerrit_events.specs.Rows.{place_shown};
 ghost use Rattle.refusal_line.specs.Line.{line_of};
 ghost use Rattle.report_text.specs.Report.{item_text};
 ghost use Rattle.enqueue_lines.specs.Printing.{item_line, item_lines, line_at, pipe_shown, report_line, report_lines};
-ghost use Rattle.enqueue_lines.specs.Printing.{unknown_line};
+ghost use Rattle.enqueue_lines.specs.Printing.{unplaced_line};
 
 use super::places::Places;
 use super::said::add_item;
@@ -135,7 +135,7 @@ fn add_report(
 
 /// Adds the report of an item whose change isn't known.
 fn add_unknown(alloc: Global, text: &mut Vec<u8>, item: Item) -> Result<(), AllocError>
-    ensures { OnOk result (text.new.items ≡ text.old.items ++ unknown_line item) }
+    ensures { OnOk result (text.new.items ≡ text.old.items ++ unplaced_line item) }
 {
     let line = unknown_line_of(alloc, item)?;
     text.extend_from_slice(line.as_bytes())
@@ -143,7 +143,7 @@ fn add_unknown(alloc: Global, text: &mut Vec<u8>, item: Item) -> Result<(), Allo
 
 /// The report of an item whose change isn't known.
 fn unknown_line_of(alloc: Global, item: Item) -> Result<String, AllocError>
-    ensures { IfOk result (λ line. string_bytes line ≡ unknown_line item) }
+    ensures { IfOk result (λ line. string_bytes line ≡ unplaced_line item) }
 {
     let mut words = String::from_str(alloc, "NoProject ")?;
     add_item(&mut words, item)?;

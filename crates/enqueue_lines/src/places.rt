@@ -4,7 +4,7 @@ ghost use Rattle.std.specs.Prelude.{◌≡◌, ℕ, IfErr, IfOk, OnOk, true};
 ghost use Rattle.std.specs.Option.{option_or};
 ghost use Rattle.byte_ends.specs.Lines.{lines_of};
 ghost use Rattle.gerrit_events.specs.declared.row.QueryLine.{QueryLine};
-ghost use Rattle.enqueue_lines.specs.Places.{AddsLine, ArePlaces, IsRefusedQuery, place_by, place_of};
+ghost use Rattle.enqueue_lines.specs.Places.{AddsLine, ArePlacesOfRows, IsRefusedQuery, place_by, known_place};
 
 use super::fault::EnqueueFault;
 use byte_ends::Lines;
@@ -19,7 +19,7 @@ pub type Places = BTreeMap<u32, ChangePlace>;
 /// last row of a change counts. Refusals: 9 `BadQuery`, the line of this number is neither a row with a number, a
 /// project and a branch, nor ends the answer; 5 `NoMemory`. It costs O(n log n) for n bytes.
 pub fn read_places(alloc: Global, text: &[u8]) -> Result<Places, EnqueueFault>
-    ensures read { IfOk result (ArePlaces (lines_of text.now)) }
+    ensures read { IfOk result (ArePlacesOfRows (lines_of text.now)) }
     ensures refused { IfErr result (IsRefusedQuery (lines_of text.now)) }
 {
     let mut places = BTreeMap::new(alloc);
@@ -49,8 +49,8 @@ fn add_line(alloc: Global, places: &mut Places, line: &[u8]) -> Result<bool, Enq
 
 /// Adds a row.
 fn add_row(places: &mut Places, row: ChangePlace) -> Result<bool, EnqueueFault>
-    ensures added { OnOk result ((change : ℕ) → place_of places.new change
-        ≡ option_or (place_by (QueryLine.Row row) change) (place_of places.old change)) }
+    ensures added { OnOk result ((change : ℕ) → known_place places.new change
+        ≡ option_or (place_by (QueryLine.Row row) change) (known_place places.old change)) }
     ensures ok { IfOk result (λ says. says ≡ true) }
     ensures fault { IfErr result (λ fault. fault ≡ EnqueueFault.NoMemory) }
 {

@@ -2,7 +2,7 @@
 
 ghost use Rattle.std.specs.Prelude.{◌≡◌, ◌++◌, List, OnOk, Some, ℕ, flat_map};
 ghost use Rattle.std.specs.List.{list_all};
-ghost use Rattle.enqueue_lines.specs.Quoting.{is_plain, is_plain_byte, quoted, within_quotes, word_read};
+ghost use Rattle.enqueue_lines.specs.Quoting.{is_plain, is_bare_byte, quoted, within_quotes, word_read};
 
 use std::alloc::AllocError;
 
@@ -36,14 +36,14 @@ fn is_plain(word: &[u8]) -> bool
 
 /// Whether a shell takes each of some bytes as it is.
 fn are_plain(bytes: &[u8]) -> bool
-    ensures { result ≡ list_all is_plain_byte bytes.now }
+    ensures { result ≡ list_all is_bare_byte bytes.now }
 {
     bytes.iter().all(|byte| is_plain_byte(*byte))
 }
 
 /// Whether a shell takes a byte as it is.
 fn is_plain_byte(byte: u8) -> bool
-    ensures { result ≡ is_plain_byte byte }
+    ensures { result ≡ is_bare_byte byte }
 {
     byte.is_ascii_alphanumeric() || PLAIN_BYTES.contains(&byte)
 }

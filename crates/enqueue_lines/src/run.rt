@@ -3,10 +3,10 @@
 ghost use Rattle.std.specs.Prelude.{◌≡◌, ◌⊎◌, ◌++◌, ◌<◌, ◌∷◌, ℕ, List, [], IfErr, IfOk, Ok, OnErr, OnOk, None};
 ghost use Rattle.std.specs.Prelude.{false, true};
 ghost use Rattle.std.specs.Io.KnownBytes.{Appends, Consumes, IsAtEnd};
-ghost use Rattle.enqueue_lines.specs.Groups.{Fits, Held, fresh, holding, ready_after, told_by};
-ghost use Rattle.enqueue_lines.specs.Lines.{IsShort, SaysLine};
+ghost use Rattle.enqueue_lines.specs.Groups.{Fits, ReadySoFar, fresh, ready_first, ready_after, told_by};
+ghost use Rattle.enqueue_lines.specs.Lines.{NumbersFit, LineSays};
 ghost use Rattle.enqueue_lines.specs.Printing.{item_lines, pipe_shown, report_lines};
-ghost use Rattle.enqueue_lines.specs.Running.{GroupComes, HandsGroup, HandsOver, IsSaid, KeepsSaid, Says, StepsOn, line_says};
+ghost use Rattle.enqueue_lines.specs.Running.{GroupComes, HandsGroup, HandsOver, IsSaidAs, KeepsSaid, SaysLines, StepsOn, line_says};
 ghost use Rattle.enqueue_lines.specs.declared.said.Said.{Said};
 
 use super::fault::EnqueueFault;
@@ -150,7 +150,7 @@ fn give<O: Drain, E: Drain>(
 ) -> Result<bool, EnqueueFault>
     ensures ok { IfOk result (λ more. let told = told_by coming.now.lines.items in
         let now = ready_after handing.old.ready told ready in
-        (more ≡ true) × Fits handing.old.ready told ready × (handing.new ≡ holding now)
+        (more ≡ true) × Fits handing.old.ready told ready × (handing.new ≡ ready_first now)
         × Appends (O.taken output.old) (O.taken output.new) (item_lines (pipe_shown pipeline.now) (fresh handing.old now))
         × Appends (E.taken errors.old) (E.taken errors.new)
         (report_lines (pipe_shown pipeline.now) (fresh handing.old now))) }
@@ -250,7 +250,7 @@ fn next_said<S: Source>(
     source: &mut S,
 ) -> Result<Option<Said>, EnqueueFault>
     ensures moves { (came : List ℕ) × Consumes (S.left source.old) (S.left source.new) came
-        × IfOk result (λ read. Says (reader.old.held ++ came) reader.new.held (line_says read)) }
+        × IfOk result (λ read. SaysLines (reader.old.held ++ came) reader.new.held (line_says read)) }
     ensures end { result ≡ Ok None → IsAtEnd (S.left source.new) }
     ensures fault { IfErr result (λ fault. ¬ (fault ≡ EnqueueFault.WriteFault)) }
 {
@@ -265,9 +265,9 @@ fn next_said<S: Source>(
 
 /// What the line of this number says.
 fn said_in(alloc: Global, number: u64, line: &[u8]) -> Result<Option<Said>, EnqueueFault>
-    ensures said { IfOk result (IsSaid line.now) }
+    ensures said { IfOk result (IsSaidAs line.now) }
     ensures refused { IfErr result (λ fault. ((fault ≡ EnqueueFault.BadLine number)
-        × ((said : Said) → IsShort said → ¬ SaysLine line.now said)) ⊎ (fault ≡ EnqueueFault.NoMemory)) }
+        × ((said : Said) → NumbersFit said → ¬ LineSays line.now said)) ⊎ (fault ≡ EnqueueFault.NoMemory)) }
 {
     match read_line(alloc, line) {
         Ok(Some(said)) => Ok(Some(said)),
@@ -286,7 +286,7 @@ fn taken(
 ) -> Result<Vec<Item>, EnqueueFault>
     ensures taken { IfOk result (λ items. let told = told_by coming.now.lines.items in
         let now = ready_after handing.old.ready told ready in
-        Fits handing.old.ready told ready × (items.items ≡ fresh handing.old now) × (handing.new ≡ holding now)) }
+        Fits handing.old.ready told ready × (items.items ≡ fresh handing.old now) × (handing.new ≡ ready_first now)) }
     ensures refused { IfErr result (λ fault. ((fault ≡ EnqueueFault.BadEnd number)
         × ¬ Fits handing.old.ready (told_by coming.now.lines.items) ready) ⊎ (fault ≡ EnqueueFault.NoMemory)) }
 {

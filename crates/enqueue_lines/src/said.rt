@@ -2,9 +2,10 @@
 
 ghost use Rattle.std.specs.Prelude.{◌≡◌, ◌<◌, ◌^◌, ◌++◌, ℕ, IfOk, IfSome, MatchBool, MatchOption, OnOk, Some, codes};
 ghost use Rattle.std.specs.Prelude.{◌∷◌, IsSomeAnd, List, decimal, string_bytes};
-ghost use Rattle.enqueue_lines.specs.Texts.{Lacks};
-ghost use Rattle.enqueue_lines.specs.Lines.{Begins, IsPassedOver, IsShort, IsShortItem, SaysLine, counts_text, rest_of};
-ghost use Rattle.enqueue_lines.specs.Lines.{said_text, word_of};
+ghost use Rattle.enqueue_lines.specs.Texts.{LacksByte};
+ghost use Rattle.enqueue_lines.specs.Lines.{BeginsPassed, IsPassedLine, NumbersFit, IsShortItem, LineSays, counts_text};
+ghost use Rattle.enqueue_lines.specs.Lines.{rest_of};
+ghost use Rattle.enqueue_lines.specs.Lines.{said_text, said_word};
 ghost use Rattle.enqueue_lines.specs.declared.said.Said.{Said};
 ghost use Rattle.report_text.specs.Report.{item_text};
 ghost use Rattle.state_core.specs.declared.item.Item.{Item};
@@ -32,7 +33,7 @@ pub enum Said {
 /// `listening ..` the first word is looked at alone. It costs O(n) for n bytes.
 pub fn read_line(alloc: Global, line: &[u8]) -> Result<Option<Said>, AllocError>
     ensures { IfOk result (λ read. MatchOption read
-        ((said : Said) → IsShort said → ¬ SaysLine line.now said) (SaysLine line.now)) }
+        ((said : Said) → NumbersFit said → ¬ LineSays line.now said) (LineSays line.now)) }
 {
     if is_passed_over(line) {
         return Ok(Some(Said::Nothing));
@@ -47,7 +48,7 @@ pub fn read_line(alloc: Global, line: &[u8]) -> Result<Option<Said>, AllocError>
 fn confirmed(alloc: Global, line: &[u8], said: Said) -> Result<Option<Said>, AllocError>
     requires { ¬ (said ≡ Said.Nothing) }
     ensures { IfOk result (λ read. MatchOption read
-        (¬ SaysLine line.now said) (λ other. (other ≡ said) × SaysLine line.now other)) }
+        (¬ LineSays line.now said) (λ other. (other ≡ said) × LineSays line.now other)) }
 {
     let written = text_of(alloc, said)?;
     if written.as_bytes() == line {
@@ -107,21 +108,21 @@ fn add_counts(text: &mut String, ready: u64, out: u64) -> Result<(), AllocError>
 
 /// Whether a line says nothing of which items are ready.
 fn is_passed_over(line: &[u8]) -> bool
-    ensures { MatchBool result (IsPassedOver line.now) (¬ IsPassedOver line.now) }
+    ensures { MatchBool result (IsPassedLine line.now) (¬ IsPassedLine line.now) }
 {
     begins(line, b"out ") || begins(line, b"gone ") || begins(line, b"listening ")
 }
 
 /// Whether a line begins with this.
 fn begins(line: &[u8], word: &[u8]) -> bool
-    ensures { MatchBool result (Begins word.now line.now) (¬ Begins word.now line.now) }
+    ensures { MatchBool result (BeginsPassed word.now line.now) (¬ BeginsPassed word.now line.now) }
 {
     line.starts_with(word)
 }
 
 /// What a line says, where its text is that of what it says.
 fn likely_said(line: &[u8]) -> Option<Said>
-    ensures likely { (said : Said) → IsShort said → ¬ (said ≡ Said.Nothing) → line.now ≡ said_text said
+    ensures likely { (said : Said) → NumbersFit said → ¬ (said ≡ Said.Nothing) → line.now ≡ said_text said
         → result ≡ Some said }
     ensures something { IfSome result (λ said. ¬ (said ≡ Said.Nothing)) }
 {
@@ -134,7 +135,7 @@ fn likely_said(line: &[u8]) -> Option<Said>
 
 /// What a word and what follows it say.
 fn said_by(word: &str, rest: &str) -> Option<Said>
-    ensures likely { (said : Said) → IsShort said → word.now ≡ word_of said → rest.now ≡ rest_of said
+    ensures likely { (said : Said) → NumbersFit said → word.now ≡ said_word said → rest.now ≡ rest_of said
         → ¬ (said ≡ Said.Nothing) → result ≡ Some said }
     ensures something { IfSome result (λ said. ¬ (said ≡ Said.Nothing)) }
 {
@@ -200,7 +201,7 @@ fn confirmed_item(alloc: Global, text: &[u8], item: Item) -> Result<Option<Item>
 
 /// What comes before the first blank of a text, and what comes after it.
 fn cut_at_blank(text: &str) -> Option<(&str, &str)>
-    ensures { (front rest : List ℕ) → Lacks 32 front → text.entry.now ≡ front ++ 32 ∷ rest
+    ensures { (front rest : List ℕ) → LacksByte 32 front → text.entry.now ≡ front ++ 32 ∷ rest
         → IsSomeAnd result (λ parts. (parts.0.now ≡ front) × (parts.1.now ≡ rest)) }
 {
     text.split_once(' ')
@@ -208,7 +209,7 @@ fn cut_at_blank(text: &str) -> Option<(&str, &str)>
 
 /// What comes before the first comma of a text, and what comes after it.
 fn cut_at_comma(text: &str) -> Option<(&str, &str)>
-    ensures { (front rest : List ℕ) → Lacks 44 front → text.entry.now ≡ front ++ 44 ∷ rest
+    ensures { (front rest : List ℕ) → LacksByte 44 front → text.entry.now ≡ front ++ 44 ∷ rest
         → IsSomeAnd result (λ parts. (parts.0.now ≡ front) × (parts.1.now ≡ rest)) }
 {
     text.split_once(',')

@@ -4,7 +4,7 @@ ghost use Rattle.std.specs.Prelude.{◌≡◌, ◌++◌, IfErr, IfOk, IfSome, Is
 ghost use Rattle.std.specs.Prelude.{map};
 ghost use Rattle.enqueue_lines.specs.Quoting.{quoted};
 ghost use Rattle.enqueue_lines.specs.Template.{IsRefusedTemplate, IsWrongBrace, field_spelling, filled, filled_part};
-ghost use Rattle.enqueue_lines.specs.Template.{given, name_of, part_of, spells, value_of};
+ghost use Rattle.enqueue_lines.specs.Template.{values_given, name_of, template_part, spells, field_value};
 ghost use Rattle.enqueue_lines.specs.declared.template.Field.{Field};
 
 use super::fault::TemplateFault;
@@ -32,7 +32,8 @@ pub enum Field {
 impl Field {
     /// The field that a name in braces stands for.
     pub fn named(name: &str) -> Option<Field>
-        ensures { MatchOption result ((field : Field) → ¬ (name.now ≡ name_of field)) (λ field. name.now ≡ name_of field) }
+        ensures { MatchOption result ((field : Field) → ¬ (name.now ≡ name_of field))
+            (λ field. name.now ≡ name_of field) }
     {
         match name {
             "tenant" => Some(Field::Tenant),
@@ -74,11 +75,11 @@ pub struct Template {
 
 impl Model for Template {
     ghost use Rattle.std.specs.Prelude.{List, map};
-    ghost use Rattle.enqueue_lines.specs.Template.{Part, part_of};
+    ghost use Rattle.enqueue_lines.specs.Template.{Part, template_part};
 
     ghost Value = { List Part };
 
-    ghost view = { λ template. map part_of template.pieces.items };
+    ghost view = { λ template. map template_part template.pieces.items };
 }
 
 impl Template {
@@ -110,7 +111,7 @@ impl Template {
         text: &mut Vec<u8>,
         values: &Values<'_>,
     ) -> Result<(), AllocError>
-        ensures { OnOk result (text.new.items ≡ text.old.items ++ filled self.now (given values.now)) }
+        ensures { OnOk result (text.new.items ≡ text.old.items ++ filled self.now (values_given values.now)) }
     {
         add_pieces(alloc, text, self.pieces.as_slice(), values)
     }
@@ -146,8 +147,8 @@ fn add_field(
     plain: &str,
     field: Field,
 ) -> Result<(), AllocError>
-    ensures { OnOk result (spells (map part_of pieces.new.items)
-        ≡ spells (map part_of pieces.old.items) ++ plain.now ++ field_spelling field) }
+    ensures { OnOk result (spells (map template_part pieces.new.items)
+        ≡ spells (map template_part pieces.old.items) ++ plain.now ++ field_spelling field) }
 {
     add_plain(alloc, pieces, plain)?;
     pieces.push(Piece::Value(field))?;
@@ -156,8 +157,8 @@ fn add_field(
 
 /// Adds a text.
 fn add_plain(alloc: Global, pieces: &mut Vec<Piece>, plain: &str) -> Result<(), AllocError>
-    ensures { OnOk result (spells (map part_of pieces.new.items)
-        ≡ spells (map part_of pieces.old.items) ++ plain.now) }
+    ensures { OnOk result (spells (map template_part pieces.new.items)
+        ≡ spells (map template_part pieces.old.items) ++ plain.now) }
 {
     pieces.push(Piece::Plain(String::from_str(alloc, plain)?))?;
     Ok(())
@@ -170,7 +171,8 @@ fn add_pieces(
     pieces: &[Piece],
     values: &Values<'_>,
 ) -> Result<(), AllocError>
-    ensures { OnOk result (text.new.items ≡ text.old.items ++ filled (map part_of pieces.now) (given values.now)) }
+    ensures { OnOk result
+        (text.new.items ≡ text.old.items ++ filled (map template_part pieces.now) (values_given values.now)) }
 {
     for piece in pieces {
         add_piece(alloc, text, piece, values)?;
@@ -185,7 +187,8 @@ fn add_piece(
     piece: &Piece,
     values: &Values<'_>,
 ) -> Result<(), AllocError>
-    ensures { OnOk result (text.new.items ≡ text.old.items ++ filled_part (given values.now) (part_of piece.now)) }
+    ensures { OnOk result
+        (text.new.items ≡ text.old.items ++ filled_part (values_given values.now) (template_part piece.now)) }
 {
     match piece {
         Piece::Plain(plain) => text.extend_from_slice(plain.as_bytes()),
@@ -200,7 +203,7 @@ fn add_value(
     field: Field,
     values: &Values<'_>,
 ) -> Result<(), AllocError>
-    ensures { OnOk result (text.new.items ≡ text.old.items ++ quoted (value_of (given values.now) field)) }
+    ensures { OnOk result (text.new.items ≡ text.old.items ++ quoted (field_value (values_given values.now) field)) }
 {
     match field {
         Field::Tenant => add_quoted(text, values.tenant.as_bytes()),

@@ -142,9 +142,9 @@ module _ {Taker : Type 0} (takes : Taker → ℕ → Told → Result (Unit {0}) 
       ⊎ IsEnd input number old new (Err fault)
       ⊎ BreaksFeed limit old new fault
 
--- nothing is held of a source, known or begun
-abbrev pub begun : {Taker : Type 0} → Option (List ℕ) → ℕ → Taker → Standing Taker
-begun left failed taker =
+-- nothing is held of a source, known or feed_begun
+abbrev pub feed_begun : {Taker : Type 0} → Option (List ℕ) → ℕ → Taker → Standing Taker
+feed_begun left failed taker =
     record { source = record { left = left; failed = failed; held = [] }; known = []; progress = Unbegun; taker = taker }
 
 -- ---- the whole feed
@@ -183,6 +183,6 @@ module _ {Taker : Type 0} (rests : Taker → Result (Unit {0}) FeedFault → Tak
       → Result (Unit {0}) FeedFault → Type 0
   Feeds input choice limit most left failed old left' failed' new result =
       (held : List ℕ) × (known : List Revision) × (progress : Progress)
-      × IsFed input choice limit most (begun left failed old)
+      × IsFed input choice limit most (feed_begun left failed old)
       (record { source = record { left = left'; failed = failed'; held = held }; known = known; progress = progress; taker = new })
       result

@@ -18,7 +18,7 @@ use Rattle.change_core.specs.declared.life.Life.{Life}
 use Rattle.change_core.specs.declared.life.Life.TheVariants as life
 use Rattle.change_core.specs.declared.life.Status.TheVariants.{Merged}
 use Rattle.state_core.specs.State.{State, with_effect}
-use Rattle.event_filter.specs.Recorded.{change_at, score_by, IsRecorded, Records}
+use Rattle.event_filter.specs.Recorded.{change_at, score_by, IsRecorded, HasDeed}
 use Rattle.event_filter.specs.Newest.{CountsFor, IsAbove, IsNewest, IsOpenTo, IsWrittenLast}
 use Rattle.event_filter.proofs.Alike.{change_after, patch_in, status_in}
 use Rattle.event_filter.proofs.Registers.{at_key}
@@ -43,7 +43,7 @@ merges_it true held = refl
 merges_it false held = refl
 
 records_after : (c : Change) (stamp : Timestamp) (deed : Deed) → IsWrittenLast c stamp deed → CountsFor c deed
-    → Records (change_joined c (effect_by stamp deed)) deed
+    → HasDeed (change_joined c (effect_by stamp deed)) deed
 records_after c stamp (patch_set change set message parent) above counts =
     ap patch_in
     (at_key numbers_exact (ord_max patch_order) c.sets set (stamp, record { message = message; parent = parent })
@@ -63,7 +63,7 @@ records_after c stamp (merged change) above counts = merges_it c.merged (option_
 pub said_after : (state : State) (op : Operation) → IsNewest state op → IsOpenTo state op.deed
     → IsRecorded (with_effect state op) op.deed
 said_after state op newest counts =
-    subst (λ c. Records c op.deed)
+    subst (λ c. HasDeed c op.deed)
     (sym (change_after state op (change_of op.deed)
     ∙ ap (λ t. cond t (change_joined (change_at state (change_of op.deed)) (effect_of op)) (change_at state (change_of op.deed))) (test_of_same numbers_exact (change_of op.deed))))
     (records_after (change_at state (change_of op.deed)) op.stamp op.deed newest counts)

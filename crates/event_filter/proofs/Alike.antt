@@ -21,7 +21,7 @@ use Rattle.change_core.specs.declared.life.Status.{Status}
 use Rattle.change_core.specs.declared.life.Status.TheVariants.{New, Abandoned, Merged}
 use Rattle.state_core.specs.State.{State, with_effect}
 use Rattle.event_filter.specs.Recorded.{change_at, change_or_none, patch_at, score_at, score_by, IsRecorded, LookAlike}
-use Rattle.event_filter.specs.Recorded.{Records}
+use Rattle.event_filter.specs.Recorded.{HasDeed}
 use Rattle.event_filter.proofs.Registers.{none_joined, shown_as_before}
 
 abbrev pub patch_in : Option (Timestamp × Patch) → Option Patch
@@ -98,7 +98,7 @@ score_alike c stamp slot value e =
     shown_as_before slots_exact (ord_max vote_order) c.votes slot (stamp, value) score_by
     (score_stays (get c.votes slot) stamp value e)
 
-pub alike_after : (c : Change) (stamp : Timestamp) (deed : Deed) → Records c deed
+pub alike_after : (c : Change) (stamp : Timestamp) (deed : Deed) → HasDeed c deed
     → LookAlike c (change_joined c (effect_by stamp deed))
 alike_after c stamp (patch_set change set message parent) e = record {
   status = status_stays c.merged c.life;

@@ -3,7 +3,7 @@ use Rattle.std.proofs.Common.{◌≡◌, Bool, true, cond, List, [], ◌∷◌, 
 use Rattle.std.proofs.Common.{append-nil, inl, inr, ◌∙◌}
 use Rattle.std.specs.List.{filter}
 use Rattle.review_ops.specs.Deed.{Deed, kept_deed}
-use Rattle.event_filter.specs.Bringing.{Adds, AreBodies}
+use Rattle.event_filter.specs.Bringing.{AddsDeed, AreBodies}
 
 abbrev pub Completes : List Deed → List Deed → List Deed → Type 0
 Completes whole left done = (rest : List Deed) → AreBodies left rest → AreBodies whole (done ++ rest)
@@ -12,7 +12,7 @@ pub completed : (whole done : List Deed) → Completes whole [] done → AreBodi
 completed whole done completes = subst (AreBodies whole) (append-nil done) (completes [] refl)
 
 module _ (whole : List Deed) (deed : Deed) (left done new : List Deed) where
-  one_more : Completes whole (deed ∷ left) done → Adds deed done new → Completes whole left new
+  one_more : Completes whole (deed ∷ left) done → AddsDeed deed done new → Completes whole left new
   one_more completes (inl kept) = λ rest bodies.
       subst (AreBodies whole)
       (sym (append_assoc done (kept_deed deed ∷ []) rest) ∙ ap (λ xs. xs ++ rest) (sym kept.1))
@@ -24,7 +24,7 @@ module _ {X : Type 0} (test : X → Bool) (deed_of : X → Deed) (whole : List D
     (first : before ≡ item ∷ after) (done new : List Deed) where
   -- an item that passes the test
   pub passed_more : test item ≡ true → Completes whole (map deed_of (filter test before)) done
-      → Adds (deed_of item) done new → Completes whole (map deed_of (filter test after)) new
+      → AddsDeed (deed_of item) done new → Completes whole (map deed_of (filter test after)) new
   passed_more passes completes adds =
       one_more whole (deed_of item) (map deed_of (filter test after)) done new
       (subst (λ deeds. Completes whole deeds done)

@@ -12,13 +12,13 @@ use Rattle.change_core.specs.Change.{Change, change_joined, effect_by, effect_of
 use Rattle.change_core.specs.Views.{status_of}
 use Rattle.state_core.specs.State.{State, with_effect}
 use Rattle.event_filter.specs.Recorded.{change_at, patch_at, score_at, score_by}
-use Rattle.event_filter.specs.Truth.{place_of, patch_place, score_place, status_place}
+use Rattle.event_filter.specs.Truth.{place_written, patch_place, score_place, status_place}
 use Rattle.event_filter.proofs.Alike.{change_after, patch_in, patches_stay, scores_stay, status_stays}
 use Rattle.event_filter.proofs.Registers.{at_another}
 
 -- ---- in the change that the deed is on
 
-patches_apart : (c : Change) (stamp : Timestamp) (deed : Deed) (set : ℕ) → place_of deed ≢ patch_place (change_of deed) set
+patches_apart : (c : Change) (stamp : Timestamp) (deed : Deed) (set : ℕ) → place_written deed ≢ patch_place (change_of deed) set
     → patch_at (change_joined c (effect_by stamp deed)) set ≡ patch_at c set
 patches_apart c stamp (patch_set change number message parent) set apart =
     ap patch_in
@@ -33,7 +33,7 @@ patches_apart c stamp (restore change) set apart = sym (patches_stay c stamp (re
 patches_apart c stamp (merged change) set apart = sym (patches_stay c stamp (merged change) set refl)
 
 scores_apart : (c : Change) (stamp : Timestamp) (deed : Deed) (slot : Slot)
-    → place_of deed ≢ score_place (change_of deed) slot
+    → place_written deed ≢ score_place (change_of deed) slot
     → score_at (change_joined c (effect_by stamp deed)) slot ≡ score_at c slot
 scores_apart c stamp (patch_set change number message parent) slot apart =
     sym (scores_stay c stamp (patch_set change number message parent) slot refl)
@@ -49,7 +49,7 @@ scores_apart c stamp (abandon change) slot apart = sym (scores_stay c stamp (aba
 scores_apart c stamp (restore change) slot apart = sym (scores_stay c stamp (restore change) slot refl)
 scores_apart c stamp (merged change) slot apart = sym (scores_stay c stamp (merged change) slot refl)
 
-status_apart : (c : Change) (stamp : Timestamp) (deed : Deed) → place_of deed ≢ status_place (change_of deed)
+status_apart : (c : Change) (stamp : Timestamp) (deed : Deed) → place_written deed ≢ status_place (change_of deed)
     → status_of (change_joined c (effect_by stamp deed)) ≡ status_of c
 status_apart c stamp (patch_set change number message parent) apart = sym (status_stays c.merged c.life)
 status_apart c stamp (vote change number label voter value) apart = sym (status_stays c.merged c.life)
@@ -73,24 +73,24 @@ module _ {Y : Type 0} (view : Change → Y) (state : State) (op : Operation) (nu
         | false ↦ λ e. refl
       ] refl
 
-pub patch_stays_apart : (state : State) (op : Operation) (change set : ℕ) → place_of op.deed ≢ patch_place change set
+pub patch_stays_apart : (state : State) (op : Operation) (change set : ℕ) → place_written op.deed ≢ patch_place change set
     → patch_at (change_at (with_effect state op) change) set ≡ patch_at (change_at state change) set
 patch_stays_apart state op change set apart =
     seen_apart (λ c. patch_at c set) state op change
     (λ is. patches_apart (change_at state change) op.stamp op.deed set
-    (subst (λ n. place_of op.deed ≢ patch_place n set) is apart))
+    (subst (λ n. place_written op.deed ≢ patch_place n set) is apart))
 
 pub score_stays_apart : (state : State) (op : Operation) (change : ℕ) (slot : Slot)
-    → place_of op.deed ≢ score_place change slot
+    → place_written op.deed ≢ score_place change slot
     → score_at (change_at (with_effect state op) change) slot ≡ score_at (change_at state change) slot
 score_stays_apart state op change slot apart =
     seen_apart (λ c. score_at c slot) state op change
     (λ is. scores_apart (change_at state change) op.stamp op.deed slot
-    (subst (λ n. place_of op.deed ≢ score_place n slot) is apart))
+    (subst (λ n. place_written op.deed ≢ score_place n slot) is apart))
 
-pub status_stays_apart : (state : State) (op : Operation) (change : ℕ) → place_of op.deed ≢ status_place change
+pub status_stays_apart : (state : State) (op : Operation) (change : ℕ) → place_written op.deed ≢ status_place change
     → status_of (change_at (with_effect state op) change) ≡ status_of (change_at state change)
 status_stays_apart state op change apart =
     seen_apart status_of state op change
     (λ is. status_apart (change_at state change) op.stamp op.deed
-    (subst (λ n. place_of op.deed ≢ status_place n) is apart))
+    (subst (λ n. place_written op.deed ≢ status_place n) is apart))

@@ -30,36 +30,36 @@ use Rattle.gerrit_events.specs.Claims.{Claim, drafts, lists, bad, brought_claims
 use Rattle.gerrit_events.specs.Claims.{closing_named, first_claims, is_zero, listed_claims, lost_parents, mark_claim}
 use Rattle.gerrit_events.specs.Claims.{older_by, older_claims, opening_claims, opening_named, query_claims, status_part}
 use Rattle.gerrit_events.specs.Claims.{value_under, vote_claim, vote_claims, vote_of, voted, with_change, with_set}
-use Rattle.gerrit_events.specs.Kinds.{approvals_part, change_part, kind_of}
+use Rattle.gerrit_events.specs.Kinds.{approvals_part, change_part, line_kind}
 use Rattle.gerrit_events.specs.Listings.{Ballot, ballot_by, ballot_of, ballots_in, mark_ballot, mark_ballots}
 use Rattle.gerrit_events.specs.Marks.{mark_label, marks_in, reserved_voter}
-use Rattle.gerrit_events.specs.Patches.{Patch, brought_by, message_in, parents_in, patch_in, revision_in, set_in}
+use Rattle.gerrit_events.specs.Patches.{ShownPatch, brought_by, message_in, parents_in, patch_in, revision_in, set_in}
 use Rattle.gerrit_events.specs.Projects.{Choice}
 use Rattle.gerrit_events.specs.Reading.{ClaimsAreSettled, claims_of}
 use Rattle.gerrit_events.specs.Revisions.{Revision}
-use Rattle.gerrit_events.specs.Values.{listed, number_in, text_in, under, unsigned_of, user_in, value_in, whole_in}
+use Rattle.gerrit_events.specs.Values.{listed_values, number_value, text_in, under, unsigned_of, user_in, vote_value, whole_in}
 use Rattle.gerrit_events.specs.Values.{within}
-use Rattle.event_filter.specs.Bringing.{IsSettled, is_ballot_of, is_listed}
+use Rattle.event_filter.specs.Bringing.{IsSaidByRecord, is_ballot_of, is_listed_vote}
 use Rattle.event_filter.specs.Recorded.{HasPatch, IsRecorded, change_at, score_at}
-use Rattle.event_filter.specs.Rows.{HasStatus, IsApproval, IsRow, SaysRow}
-use Rattle.event_filter.specs.Truth.{AgreesWithAll, Place, patch_place, place_of, score_place, status_place}
+use Rattle.event_filter.specs.Rows.{HasStatus, IsApproval, IsFedRow, SaysRow}
+use Rattle.event_filter.specs.Truth.{AgreesWithAll, DeedPlace, patch_place, place_written, score_place, status_place}
 use Rattle.event_filter.proofs.Truth.{one_slot}
 use Rattle.event_filter.proofs.Speaking.{AllOnly, Only, draft_said, only_append, only_weaker, unlisted_said}
 
 -- ---- of what each part of a row's claims speaks
 
--- a score of one who is listed by approvals of a patch set
-abbrev Listed : ℕ → ℕ → List Data → Place → Type 0
+-- a score of one who is listed_values by approvals of a patch set
+abbrev Listed : ℕ → ℕ → List Data → DeedPlace → Type 0
 Listed change set approvals place =
     (label voter : List ℕ) × (score_place change (record { set = set; label = label; voter = voter }) ≡ place)
-    × (is_listed (filter_map ballot_of approvals) label voter ≡ true)
+    × (is_listed_vote (filter_map ballot_of approvals) label voter ≡ true)
 
-abbrev Marked : ℕ → ℕ → List Mark → Place → Type 0
+abbrev Marked : ℕ → ℕ → List Mark → DeedPlace → Type 0
 Marked change set marks place =
     (label : List ℕ) × (score_place change (record { set = set; label = label; voter = reserved_voter }) ≡ place)
-    × (is_listed (map mark_ballot marks) label reserved_voter ≡ true)
+    × (is_listed_vote (map mark_ballot marks) label reserved_voter ≡ true)
 
-abbrev OtherSet : ℕ → ℕ → Place → Type 0
+abbrev OtherSet : ℕ → ℕ → DeedPlace → Type 0
 OtherSet change set place = (slot : Slot) × (score_place change slot ≡ place) × (slot.set ≢ set)
 
 same_text : (text : List ℕ) → bytes_eq text text ≡ true
@@ -73,18 +73,18 @@ or_true : (a b : Bool) → b ≡ true → (a || b) ≡ true
 or_true true b e = refl
 or_true false b e = e
 
-first_listed : (ballot : Ballot) (ballots : List Ballot) → is_listed (ballot ∷ ballots) ballot.label ballot.voter ≡ true
-first_listed ballot ballots = ap (λ t. t || is_listed ballots ballot.label ballot.voter) (self_ballot ballot)
+first_listed : (ballot : Ballot) (ballots : List Ballot) → is_listed_vote (ballot ∷ ballots) ballot.label ballot.voter ≡ true
+first_listed ballot ballots = ap (λ t. t || is_listed_vote ballots ballot.label ballot.voter) (self_ballot ballot)
 
 one_listed : (found : Option Ballot) (ballot : Ballot) (ballots : List Ballot) → found ≡ Some ballot
-    → is_listed (cons_option found ballots) ballot.label ballot.voter ≡ true
+    → is_listed_vote (cons_option found ballots) ballot.label ballot.voter ≡ true
 one_listed found ballot ballots e =
-    ap (λ o. is_listed (cons_option o ballots) ballot.label ballot.voter) e ∙ first_listed ballot ballots
+    ap (λ o. is_listed_vote (cons_option o ballots) ballot.label ballot.voter) e ∙ first_listed ballot ballots
 
 later_listed : (found : Option Ballot) (ballots : List Ballot) (label voter : List ℕ)
-    → is_listed ballots label voter ≡ true → is_listed (cons_option found ballots) label voter ≡ true
+    → is_listed_vote ballots label voter ≡ true → is_listed_vote (cons_option found ballots) label voter ≡ true
 later_listed None ballots label voter e = e
-later_listed (Some ballot) ballots label voter e = or_true (is_ballot_of label voter ballot) (is_listed ballots label voter) e
+later_listed (Some ballot) ballots label voter e = or_true (is_ballot_of label voter ballot) (is_listed_vote ballots label voter) e
 
 -- ---- votes
 
@@ -95,7 +95,7 @@ vote_of_only change set label voter (Some None) = λ place speaks. absurd speaks
 vote_of_only change set label voter (Some (Some value)) =
     elim (is_zero value) as (λ t. Only (λ place. score_place change (record { set = set; label = map to_ascii_lowercase label; voter = voter }) ≡ place) (if t then drafts (withdraw change set label voter) else drafts (vote change set label voter value))) [ true ↦ λ place speaks. speaks | false ↦ λ place speaks. speaks ]
 
-abbrev Balloted : ℕ → ℕ → Option Ballot → Place → Type 0
+abbrev Balloted : ℕ → ℕ → Option Ballot → DeedPlace → Type 0
 Balloted change set found place =
     (ballot : Ballot) × (score_place change (record { set = set; label = ballot.label; voter = ballot.voter }) ≡ place)
     × (found ≡ Some ballot)
@@ -139,7 +139,7 @@ marks_only change set (mark ∷ marks) = (
     first_listed (mark_ballot mark) (map mark_ballot marks),
   ),
   only_weaker (Marked change set marks) (Marked change set (mark ∷ marks))
-      (λ place is. (is.0, is.1, or_true (is_ballot_of is.0 reserved_voter (mark_ballot mark)) (is_listed (map mark_ballot marks) is.0 reserved_voter) is.2))
+      (λ place is. (is.0, is.1, or_true (is_ballot_of is.0 reserved_voter (mark_ballot mark)) (is_listed_vote (map mark_ballot marks) is.0 reserved_voter) is.2))
       (map (mark_claim change set) marks) (marks_only change set marks),
 )
 
@@ -154,10 +154,10 @@ older_only line older change current (Some set) = elim (eqb_tells set current) [
   | inr other ↦
       subst (λ t. AllOnly (OtherSet change current) (if t then [] else listed_claims change set line (get (codes "approvals") older) [])) (sym other.0) (
         λ place speaks. (speaks.0, speaks.2, λ is. other.1 (sym speaks.1 ∙ is)),
-        only_weaker (Listed change set (listed (get (codes "approvals") older))) (OtherSet change current)
+        only_weaker (Listed change set (listed_values (get (codes "approvals") older))) (OtherSet change current)
             (λ place is. (record { set = set; label = is.0; voter = is.1 }, is.2, other.1))
             (vote_claims QueryLine line change set (get (codes "approvals") older))
-            (votes_only line change set (listed (get (codes "approvals") older))),
+            (votes_only line change set (listed_values (get (codes "approvals") older))),
       )
 ]
 
@@ -167,12 +167,12 @@ olders_only line change current [] = tt
 olders_only line change current (older ∷ olders) =
     only_append (OtherSet change current) (older_claims line change current older)
     (flat_map (older_claims line change current) olders)
-    (older_only line older change current (number_in (get (codes "number") older)))
+    (older_only line older change current (number_value (get (codes "number") older)))
     (olders_only line change current olders)
 
 -- ---- the status
 
-abbrev OfStatus : ℕ → Place → Type 0
+abbrev OfStatus : ℕ → DeedPlace → Type 0
 OfStatus change place = status_place change ≡ place
 
 named_only : (change : ℕ) (name : List ℕ) → AllOnly (OfStatus change) (opening_named change name)
@@ -186,7 +186,7 @@ opening_only : (change : ℕ) (name : Option (List ℕ)) → AllOnly (OfStatus c
 opening_only change None = (λ place speaks. absurd speaks, tt)
 opening_only change (Some name) = named_only change name
 
-lost_only : (P : Place → Type 0) (count : ℕ) (key : EventKey) → AllOnly P (replicate count (bad key))
+lost_only : (P : DeedPlace → Type 0) (count : ℕ) (key : EventKey) → AllOnly P (replicate count (bad key))
 lost_only P zero key = tt
 lost_only P (suc count) key = (λ place speaks. absurd speaks, lost_only P count key)
 
@@ -196,8 +196,8 @@ lost_only P (suc count) key = (λ place speaks. absurd speaks, lost_only P count
 abbrev Closing : Data → ℕ → List Claim
 Closing line change = closing_claims change (status_part line)
 
-row_claims : (known : List Revision) (choice : Choice) (line : Data) (change set : ℕ) → IsRow choice line change set
-    → claims_of known choice (kind_of line) line
+row_claims : (known : List Revision) (choice : Choice) (line : Data) (change set : ℕ) → IsFedRow choice line change set
+    → claims_of known choice (line_kind line) line
     ≡ Closing line change ++ (first_claims known QueryLine line ++ query_claims line change set)
 row_claims known choice line change set row =
     ap (λ kind. claims_of known choice kind line) row.kind
@@ -209,11 +209,11 @@ row_claims known choice line change set row =
 abbrev Rest : Data → ℕ → ℕ → List Claim
 Rest line change set =
     map (mark_claim change set) (marks_in QueryLine line)
-    ++ (flat_map (older_claims line change set) (listed (get (codes "patchSets") line))
+    ++ (flat_map (older_claims line change set) (listed_values (get (codes "patchSets") line))
     ++ opening_claims change (status_part line))
 
 -- a score of another patch set, one of the reserved voter, or the status
-abbrev Aside : Data → ℕ → ℕ → Place → Type 0
+abbrev Aside : Data → ℕ → ℕ → DeedPlace → Type 0
 Aside line change set place =
     Marked change set (marks_in QueryLine line) place ⊎ (OtherSet change set place ⊎ OfStatus change place)
 
@@ -223,27 +223,27 @@ rest_only line change set =
     (only_weaker (Marked change set (marks_in QueryLine line)) (Aside line change set) (λ place is. inl is) _
     (marks_only change set (marks_in QueryLine line)))
     (only_append (Aside line change set)
-    (flat_map (older_claims line change set) (listed (get (codes "patchSets") line))) _
+    (flat_map (older_claims line change set) (listed_values (get (codes "patchSets") line))) _
     (only_weaker (OtherSet change set) (Aside line change set) (λ place is. inr (inl is)) _
-    (olders_only line change set (listed (get (codes "patchSets") line))))
+    (olders_only line change set (listed_values (get (codes "patchSets") line))))
     (only_weaker (OfStatus change) (Aside line change set) (λ place is. inr (inr is)) _
     (opening_only change (status_part line))))
 
 -- ---- the commit
 
-abbrev NoCommit : Place → Type 0
+abbrev NoCommit : DeedPlace → Type 0
 NoCommit place = (change set : ℕ) → place ≢ patch_place change set
 
-score_no_commit : (place : Place) (change : ℕ) (slot : Slot) → score_place change slot ≡ place → NoCommit place
+score_no_commit : (place : DeedPlace) (change : ℕ) (slot : Slot) → score_place change slot ≡ place → NoCommit place
 score_no_commit place change slot e other set f = cc
 
 query_no_commit : (line : Data) (change set : ℕ) → AllOnly NoCommit (query_claims line change set)
 query_no_commit line change set = (
   λ place speaks. score_no_commit place change speaks.0 speaks.2,
   only_append NoCommit (vote_claims QueryLine line change set (approvals_part QueryLine line)) (Rest line change set)
-      (only_weaker (Listed change set (listed (approvals_part QueryLine line))) NoCommit
+      (only_weaker (Listed change set (listed_values (approvals_part QueryLine line))) NoCommit
       (λ place is. score_no_commit place change _ is.2) _
-      (votes_only line change set (listed (approvals_part QueryLine line))))
+      (votes_only line change set (listed_values (approvals_part QueryLine line))))
       (only_weaker (Aside line change set) NoCommit
       (λ place is. elim is [
         | inl marked ↦ score_no_commit place change _ marked.1
@@ -261,7 +261,7 @@ commit_parent known line = slice_get (parents_in known QueryLine line) 0
 abbrev after_commit : List Revision → Data → List Claim
 after_commit known line = replicate (lost_parents known QueryLine line) (bad DependsOn) ++ []
 
-row_patch : (choice : Choice) (line : Data) (change set : ℕ) (message : List ℕ) → IsRow choice line change set
+row_patch : (choice : Choice) (line : Data) (change set : ℕ) (message : List ℕ) → IsFedRow choice line change set
     → message_in QueryLine line ≡ Some message
     → patch_in QueryLine line
     ≡ Some (record { change = change; set = set; message = message; revision = revision_in QueryLine line })
@@ -271,8 +271,8 @@ row_patch choice line change set message row has =
     ∙ ap (option_map (λ m. record { change = change; set = set; message = m; revision = revision_in QueryLine line })) has
 
 commit_claims : (known : List Revision) (choice : Choice) (line : Data) (change set : ℕ) (message : List ℕ)
-    → IsRow choice line change set → message_in QueryLine line ≡ Some message
-    → claims_of known choice (kind_of line) line
+    → IsFedRow choice line change set → message_in QueryLine line ≡ Some message
+    → claims_of known choice (line_kind line) line
     ≡ Closing line change
     ++ drafts (patch_set change set message (commit_parent known line)) ∷ (after_commit known line ++ query_claims line change set)
 commit_claims known choice line change set message row has =
@@ -281,7 +281,7 @@ commit_claims known choice line change set message row has =
     (row_patch choice line change set message row has)
 
 commit_said : (known : List Revision) (choice : Choice) (line : Data) (change set : ℕ) (findings : List Finding)
-    (new : State) → IsRow choice line change set → ClaimsAreSettled (claims_of known choice (kind_of line) line) findings
+    (new : State) → IsFedRow choice line change set → ClaimsAreSettled (claims_of known choice (line_kind line) line) findings
     → AgreesWithAll findings new → (message : List ℕ) → message_in QueryLine line ≡ Some message
     → IsFaultless (patch_set change set message (commit_parent known line))
     → HasPatch (change_at new change) set (record { message = message; parent = commit_parent known line })
@@ -301,36 +301,36 @@ Before known line change set =
     (((Closing line change ++ first_claims known QueryLine line)
     ++ listed_claims change set line (approvals_part QueryLine line) (mark_ballots line))
     ++ map (mark_claim change set) (marks_in QueryLine line))
-    ++ flat_map (older_claims line change set) (listed (get (codes "patchSets") line))
+    ++ flat_map (older_claims line change set) (listed_values (get (codes "patchSets") line))
 
 in_order : (a b c d e f : List Claim) → a ++ (b ++ (c ++ (d ++ (e ++ f)))) ≡ (((a ++ b) ++ c) ++ d) ++ e ++ f
 in_order a b c d e f = sym (simp append_assoc)
 
 -- an open status is claimed last
 opening_said : (known : List Revision) (choice : Choice) (line : Data) (change set : ℕ) (findings : List Finding)
-    (new : State) → IsRow choice line change set → ClaimsAreSettled (claims_of known choice (kind_of line) line) findings
+    (new : State) → IsFedRow choice line change set → ClaimsAreSettled (claims_of known choice (line_kind line) line) findings
     → AgreesWithAll findings new → (name : List ℕ) → HasStatus line name → (deed : Deed)
-    → opening_named change name ≡ drafts deed ∷ [] → IsFaultless deed → IsSettled new (kept_deed deed)
+    → opening_named change name ≡ drafts deed ∷ [] → IsFaultless deed → IsSaidByRecord new (kept_deed deed)
 opening_said known choice line change set findings new row settled all name is deed named good =
-    let order : claims_of known choice (kind_of line) line ≡ Before known line change set ++ drafts deed ∷ [] =
+    let order : claims_of known choice (line_kind line) line ≡ Before known line change set ++ drafts deed ∷ [] =
     row_claims known choice line change set row
-    ∙ in_order (Closing line change) (first_claims known QueryLine line) (listed_claims change set line (approvals_part QueryLine line) (mark_ballots line)) (map (mark_claim change set) (marks_in QueryLine line)) (flat_map (older_claims line change set) (listed (get (codes "patchSets") line))) (opening_claims change (status_part line))
+    ∙ in_order (Closing line change) (first_claims known QueryLine line) (listed_claims change set line (approvals_part QueryLine line) (mark_ballots line)) (map (mark_claim change set) (marks_in QueryLine line)) (flat_map (older_claims line change set) (listed_values (get (codes "patchSets") line))) (opening_claims change (status_part line))
     ∙ ap (λ status. Before known line change set ++ opening_claims change status) is
     ∙ ap (λ claims. Before known line change set ++ claims) named in
     draft_said (Before known line change set) deed [] findings new (λ place. ⊥)
     (subst (λ claims. ClaimsAreSettled claims findings) order settled) all good tt (λ none. none)
 
 -- what follows a closed status doesn't speak of it
-abbrev NoStatus : Place → Type 0
+abbrev NoStatus : DeedPlace → Type 0
 NoStatus place = (change : ℕ) → place ≢ status_place change
 
-score_no_status : (place : Place) (change : ℕ) (slot : Slot) → score_place change slot ≡ place → NoStatus place
+score_no_status : (place : DeedPlace) (change : ℕ) (slot : Slot) → score_place change slot ≡ place → NoStatus place
 score_no_status place change slot e other f = cc
 
-commit_no_status : (place : Place) (change set : ℕ) → patch_place change set ≡ place → NoStatus place
+commit_no_status : (place : DeedPlace) (change set : ℕ) → patch_place change set ≡ place → NoStatus place
 commit_no_status place change set e other f = cc
 
-brought_no_status : (known : List Revision) (line : Data) (patch : Option Patch)
+brought_no_status : (known : List Revision) (line : Data) (patch : Option ShownPatch)
     → AllOnly NoStatus (brought_claims known QueryLine line patch)
 brought_no_status known line None = (λ place speaks. absurd speaks, tt)
 brought_no_status known line (Some patch) = (
@@ -344,26 +344,26 @@ query_no_status : (line : Data) (change set : ℕ) → opening_claims change (st
 query_no_status line change set silent = (
   λ place speaks. score_no_status place change speaks.0 speaks.2,
   only_append NoStatus (vote_claims QueryLine line change set (approvals_part QueryLine line)) (Rest line change set)
-      (only_weaker (Listed change set (listed (approvals_part QueryLine line))) NoStatus
+      (only_weaker (Listed change set (listed_values (approvals_part QueryLine line))) NoStatus
       (λ place is. score_no_status place change _ is.2) _
-      (votes_only line change set (listed (approvals_part QueryLine line))))
+      (votes_only line change set (listed_values (approvals_part QueryLine line))))
       (only_append NoStatus (map (mark_claim change set) (marks_in QueryLine line)) _
       (only_weaker (Marked change set (marks_in QueryLine line)) NoStatus
       (λ place is. score_no_status place change _ is.1) _ (marks_only change set (marks_in QueryLine line)))
-      (only_append NoStatus (flat_map (older_claims line change set) (listed (get (codes "patchSets") line))) _
+      (only_append NoStatus (flat_map (older_claims line change set) (listed_values (get (codes "patchSets") line))) _
       (only_weaker (OtherSet change set) NoStatus (λ place is. score_no_status place change is.0 is.1) _
-      (olders_only line change set (listed (get (codes "patchSets") line))))
+      (olders_only line change set (listed_values (get (codes "patchSets") line))))
       (subst (AllOnly NoStatus) (sym silent) tt))),
 )
 
 -- a closed status is claimed first, and nothing later speaks of it
 closing_said : (known : List Revision) (choice : Choice) (line : Data) (change set : ℕ) (findings : List Finding)
-    (new : State) → IsRow choice line change set → ClaimsAreSettled (claims_of known choice (kind_of line) line) findings
+    (new : State) → IsFedRow choice line change set → ClaimsAreSettled (claims_of known choice (line_kind line) line) findings
     → AgreesWithAll findings new → (name : List ℕ) → HasStatus line name → (deed : Deed)
     → closing_named change name ≡ drafts deed ∷ [] → opening_named change name ≡ []
-    → place_of (kept_deed deed) ≡ status_place change → IsFaultless deed → IsSettled new (kept_deed deed)
+    → place_written (kept_deed deed) ≡ status_place change → IsFaultless deed → IsSaidByRecord new (kept_deed deed)
 closing_said known choice line change set findings new row settled all name is deed named silent place good =
-    let order : claims_of known choice (kind_of line) line
+    let order : claims_of known choice (line_kind line) line
     ≡ drafts deed ∷ (first_claims known QueryLine line ++ query_claims line change set) =
     row_claims known choice line change set row
     ∙ ap (λ status. closing_claims change status ++ (first_claims known QueryLine line ++ query_claims line change set)) is
@@ -380,34 +380,34 @@ merged_or New moot = absurd (moot (λ e. cc))
 merged_or Abandoned moot = absurd (moot (λ e. cc))
 merged_or Merged moot = refl
 
--- ---- who isn't listed
+-- ---- who isn't listed_values
 
-is_either : (a b : List Ballot) (label voter : List ℕ) → is_listed (a ++ b) label voter ≡ false
-    → (is_listed a label voter ≡ false) × (is_listed b label voter ≡ false)
+is_either : (a b : List Ballot) (label voter : List ℕ) → is_listed_vote (a ++ b) label voter ≡ false
+    → (is_listed_vote a label voter ≡ false) × (is_listed_vote b label voter ≡ false)
 is_either a b label voter e =
-    neither (is_listed a label voter) (is_listed b label voter) (sym (list_any-append (is_ballot_of label voter) a b) ∙ e) where
+    neither (is_listed_vote a label voter) (is_listed_vote b label voter) (sym (list_any-append (is_ballot_of label voter) a b) ∙ e) where
       neither : (x y : Bool) → (x || y) ≡ false → (x ≡ false) × (y ≡ false)
       neither true y e = absurd (false≢true (sym e))
       neither false y e = (refl, e)
 
--- what follows doesn't speak of a score that isn't listed
-abbrev Spoken : Data → ℕ → ℕ → List Data → Place → Type 0
+-- what follows doesn't speak of a score that isn't listed_values
+abbrev Spoken : Data → ℕ → ℕ → List Data → DeedPlace → Type 0
 Spoken line change set approvals place = Listed change set approvals place ⊎ Aside line change set place
 
 unspoken_score : (line : Data) (change set : ℕ) (approvals : List Data) (label voter : List ℕ)
-    → is_listed (filter_map ballot_of approvals) label voter ≡ false
-    → (voter ≡ reserved_voter → is_listed (mark_ballots line) label voter ≡ false)
+    → is_listed_vote (filter_map ballot_of approvals) label voter ≡ false
+    → (voter ≡ reserved_voter → is_listed_vote (mark_ballots line) label voter ≡ false)
     → ¬ Spoken line change set approvals (score_place change (record { set = set; label = label; voter = voter }))
 unspoken_score line change set approvals label voter unlisted unmarked spoken = elim spoken [
   | inl is ↦
       let same_label : is.0 ≡ label = ap (λ slot. slot.label) (one_slot is.2) in
       let same_voter : is.1 ≡ voter = ap (λ slot. slot.voter) (one_slot is.2) in
-      false≢true (sym unlisted ∙ ap (λ l. is_listed (filter_map ballot_of approvals) l voter) (sym same_label) ∙ ap (is_listed (filter_map ballot_of approvals) is.0) (sym same_voter) ∙ is.3)
+      false≢true (sym unlisted ∙ ap (λ l. is_listed_vote (filter_map ballot_of approvals) l voter) (sym same_label) ∙ ap (is_listed_vote (filter_map ballot_of approvals) is.0) (sym same_voter) ∙ is.3)
   | inr aside ↦ elim aside [
     | inl marked ↦
         let same_label : marked.0 ≡ label = ap (λ slot. slot.label) (one_slot marked.1) in
         let same_voter : reserved_voter ≡ voter = ap (λ slot. slot.voter) (one_slot marked.1) in
-        false≢true (sym (unmarked (sym same_voter)) ∙ ap (λ l. is_listed (mark_ballots line) l voter) (sym same_label) ∙ ap (is_listed (mark_ballots line) marked.0) (sym same_voter) ∙ marked.2)
+        false≢true (sym (unmarked (sym same_voter)) ∙ ap (λ l. is_listed_vote (mark_ballots line) l voter) (sym same_label) ∙ ap (is_listed_vote (mark_ballots line) marked.0) (sym same_voter) ∙ marked.2)
     | inr more ↦ elim more [
       | inl other ↦ other.2 (let e = other.1 in ap (λ s. s.set) (one_slot e))
       | inr of ↦ let clash : status_place change ≡ score_place change (record { set = set; label = label; voter = voter }) = of in cc
@@ -423,22 +423,22 @@ after_listing line change set approvals =
     (only_weaker (Aside line change set) (Spoken line change set approvals) (λ place is. inr is) _ (rest_only line change set))
 
 others_said : (known : List Revision) (choice : Choice) (line : Data) (change set : ℕ) (findings : List Finding)
-    (new : State) → IsRow choice line change set → ClaimsAreSettled (claims_of known choice (kind_of line) line) findings
+    (new : State) → IsFedRow choice line change set → ClaimsAreSettled (claims_of known choice (line_kind line) line) findings
     → AgreesWithAll findings new → (label voter : List ℕ) → IsGood (withdraw change set label voter)
-    → is_listed (ballots_in (approvals_part QueryLine line) ++ mark_ballots line) label voter ≡ false
+    → is_listed_vote (ballots_in (approvals_part QueryLine line) ++ mark_ballots line) label voter ≡ false
     → IsRecorded new (withdraw change set label voter)
 others_said known choice line change set findings new row settled all label voter good unlisted =
     let parts = is_either (ballots_in (approvals_part QueryLine line)) (mark_ballots line) label voter unlisted in
     unlisted_said (Closing line change ++ first_claims known QueryLine line)
     (record { change = change; set = set; ballots = ballots_in (approvals_part QueryLine line) ++ mark_ballots line })
     (vote_claims QueryLine line change set (approvals_part QueryLine line) ++ Rest line change set) findings new
-    (Spoken line change set (listed (approvals_part QueryLine line)))
+    (Spoken line change set (listed_values (approvals_part QueryLine line)))
     (subst (λ claims. ClaimsAreSettled claims findings)
     (row_claims known choice line change set row
     ∙ sym (append_assoc (Closing line change) (first_claims known QueryLine line) (query_claims line change set)))
     settled) all label voter good
-    unlisted (after_listing line change set (listed (approvals_part QueryLine line)))
-    (unspoken_score line change set (listed (approvals_part QueryLine line)) label voter parts.0 (λ same. parts.1))
+    unlisted (after_listing line change set (listed_values (approvals_part QueryLine line)))
+    (unspoken_score line change set (listed_values (approvals_part QueryLine line)) label voter parts.0 (λ same. parts.1))
 
 -- ---- each approval
 
@@ -459,7 +459,7 @@ vote_claimed line change set approval label voter value is =
       by_zero true = refl
       by_zero false = refl
 
-      by_value : (found : Option Data) → value_in found ≡ Some value → vote_of change set label voter (value_under found) ≡ drafts (ballot_deed change set label voter value)
+      by_value : (found : Option Data) → vote_value found ≡ Some value → vote_of change set label voter (value_under found) ≡ drafts (ballot_deed change set label voter value)
       by_value None e = cc
       by_value (Some d) e = ap (λ v. vote_of change set label voter (Some v)) e ∙ by_zero (is_zero value)
 
@@ -468,7 +468,7 @@ zero_is (pos n) e = ap pos (eqb-true n 0 e)
 zero_is (negsuc n) e = absurd (false≢true e)
 
 ballot_place : (change set : ℕ) (label voter : List ℕ) (value : ℤ) (b : Bool)
-    → place_of (kept_deed (if b then withdraw change set label voter else vote change set label voter value))
+    → place_written (kept_deed (if b then withdraw change set label voter else vote change set label voter value))
     ≡ score_place change (record { set = set; label = map to_ascii_lowercase label; voter = voter })
 ballot_place change set label voter value true = refl
 ballot_place change set label voter value false = refl
@@ -487,10 +487,10 @@ ballot_faultless change set label voter value true good = record {
 ballot_faultless change set label voter value false good = good
 
 ballot_scored : (state : State) (change set : ℕ) (label voter : List ℕ) (value : ℤ)
-    → IsSettled state (kept_deed (ballot_deed change set label voter value))
+    → IsSaidByRecord state (kept_deed (ballot_deed change set label voter value))
     → score_at (change_at state change) (record { set = set; label = map to_ascii_lowercase label; voter = voter }) ≡ value
 ballot_scored state change set label voter value =
-    elim (is_zero value) as (λ b. is_zero value ≡ b → IsSettled state (kept_deed (if b then withdraw change set label voter else vote change set label voter value)) → score_at (change_at state change) (record { set = set; label = map to_ascii_lowercase label; voter = voter }) ≡ value) [
+    elim (is_zero value) as (λ b. is_zero value ≡ b → IsSaidByRecord state (kept_deed (if b then withdraw change set label voter else vote change set label voter value)) → score_at (change_at state change) (record { set = set; label = map to_ascii_lowercase label; voter = voter }) ≡ value) [
       | true ↦ λ e settled. elim settled [ inl said ↦ said ∙ sym (zero_is value e) | inr moot ↦ absurd (moot tt) ]
       | false ↦ λ e settled. elim settled [ inl said ↦ said | inr moot ↦ absurd (moot tt) ]
     ] refl
@@ -502,17 +502,17 @@ approval_in_order first before after rest head claim =
     ∙ sym (append_assoc first (head ∷ before) (claim ∷ (after ++ rest)))
 
 approval_said : (known : List Revision) (choice : Choice) (line : Data) (change set : ℕ) (findings : List Finding)
-    (new : State) → IsRow choice line change set → ClaimsAreSettled (claims_of known choice (kind_of line) line) findings
+    (new : State) → IsFedRow choice line change set → ClaimsAreSettled (claims_of known choice (line_kind line) line) findings
     → AgreesWithAll findings new → (before after : List Data) (approval : Data) (label voter : List ℕ) (value : ℤ)
-    → listed (approvals_part QueryLine line) ≡ before ++ approval ∷ after → IsApproval approval label voter value
+    → listed_values (approvals_part QueryLine line) ≡ before ++ approval ∷ after → IsApproval approval label voter value
     → IsFaultless (vote change set label voter value)
-    → is_listed (filter_map ballot_of after) (map to_ascii_lowercase label) voter ≡ false
+    → is_listed_vote (filter_map ballot_of after) (map to_ascii_lowercase label) voter ≡ false
     → score_at (change_at new change) (record { set = set; label = map to_ascii_lowercase label; voter = voter }) ≡ value
 approval_said known choice line change set findings new row settled all before after approval label voter value order is good last =
     let vc = vote_claim QueryLine line change set in
     let head : Claim = lists (record { change = change; set = set; ballots = ballots_in (approvals_part QueryLine line) ++ mark_ballots line }) in
     let first = Closing line change ++ first_claims known QueryLine line in
-    let ordered : claims_of known choice (kind_of line) line ≡ (first ++ head ∷ map vc before) ++ drafts (ballot_deed change set label voter value) ∷ (map vc after ++ Rest line change set) =
+    let ordered : claims_of known choice (line_kind line) line ≡ (first ++ head ∷ map vc before) ++ drafts (ballot_deed change set label voter value) ∷ (map vc after ++ Rest line change set) =
     row_claims known choice line change set row
     ∙ sym (append_assoc (Closing line change) (first_claims known QueryLine line) (query_claims line change set))
     ∙ ap (λ approvals. first ++ ((head ∷ map vc approvals) ++ Rest line change set)) order
@@ -547,7 +547,7 @@ from_one_by (Some (pos m)) n e =
     subst (λ k. 1 ≤ k) parts.1 (low_one m parts.0)
 
 pub says : (known : List Revision) (choice : Choice) (line : Data) (change set : ℕ) (findings : List Finding)
-    (new : State) → IsRow choice line change set → ClaimsAreSettled (claims_of known choice (kind_of line) line) findings
+    (new : State) → IsFedRow choice line change set → ClaimsAreSettled (claims_of known choice (line_kind line) line) findings
     → AgreesWithAll findings new → SaysRow known line change set new
 says known choice line change set findings new row settled all =
     let one : 1 ≤ change = from_one_by (option_and_then whole_in (under (codes "number") (change_part QueryLine line))) change row.of_change in

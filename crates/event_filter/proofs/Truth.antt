@@ -27,23 +27,23 @@ use Rattle.state_core.specs.State.{State, with_effect}
 use Rattle.gerrit_events.specs.Listings.{Listing, listing_shown}
 use Rattle.gerrit_events.specs.declared.finding.Finding.{Finding}
 use Rattle.gerrit_events.specs.declared.finding.Finding.TheVariants.{Brings, Shows, Lists, Refuses}
-use Rattle.event_filter.specs.Bringing.{AreBodies, IsBrought, IsSettled, beyond, is_listed, is_unlisted, withdrawal}
+use Rattle.event_filter.specs.Bringing.{AreBodies, IsBrought, IsSaidByRecord, beyond, is_listed_vote, is_unlisted, withdrawal}
 use Rattle.event_filter.specs.Newest.{IsNewest}
 use Rattle.event_filter.specs.Recorded.{IsRecorded, change_at, score_by}
 use Rattle.event_filter.specs.Truth.{AgreesWithAll, AreMet, AreNothingNew, AreTakenIn, IsNothingNew}
-use Rattle.event_filter.specs.Truth.{OneSpeaksOf, Place, SpeaksOf, place_of, score_place, status_place}
+use Rattle.event_filter.specs.Truth.{OneSpeaksOf, DeedPlace, SpeaksOf, place_written, score_place, status_place}
 use Rattle.event_filter.proofs.After.{said_after}
 use Rattle.event_filter.proofs.Frames.{patch_stays_apart, score_stays_apart, seen_apart, status_stays_apart}
 
 -- ---- what is settled stays so, where nothing is written in its place
 
-moot_stays : (state : State) (op : Operation) (change : ℕ) → place_of op.deed ≢ status_place change
+moot_stays : (state : State) (op : Operation) (change : ℕ) → place_written op.deed ≢ status_place change
     → ¬ (status_of (change_at state change) ≢ Merged) → ¬ (status_of (change_at (with_effect state op) change) ≢ Merged)
 moot_stays state op change apart moot open_now =
     moot (λ is. open_now (status_stays_apart state op change apart ∙ is))
 
-pub settled_stays : (state : State) (op : Operation) (deed : Deed) → place_of op.deed ≢ place_of deed
-    → IsSettled state deed → IsSettled (with_effect state op) deed
+pub settled_stays : (state : State) (op : Operation) (deed : Deed) → place_written op.deed ≢ place_written deed
+    → IsSaidByRecord state deed → IsSaidByRecord (with_effect state op) deed
 settled_stays state op (patch_set change set message parent) apart settled = elim settled [
   | inl said ↦ inl (patch_stays_apart state op change set apart ∙ said)
   | inr moot ↦ inr moot
@@ -98,7 +98,7 @@ either_life {A} state op said =
 
 pub settled_now : (state : State) (stamp : Timestamp) (deed : Deed)
     → IsNewest state (record { stamp = stamp; deed = deed })
-    → IsSettled (with_effect state (record { stamp = stamp; deed = deed })) deed
+    → IsSaidByRecord (with_effect state (record { stamp = stamp; deed = deed })) deed
 settled_now state stamp (patch_set change set message parent) newest =
     inl (said_after state (record { stamp = stamp; deed = patch_set change set message parent }) newest tt)
 settled_now state stamp (vote change set label voter value) newest =
@@ -116,19 +116,19 @@ settled_now state stamp (merged change) newest =
 
 -- ---- through deeds, and through findings
 
-abbrev AllApart : List Deed → Place → Type 0
+abbrev AllApart : List Deed → DeedPlace → Type 0
 AllApart [] place = Unit {0}
-AllApart (deed ∷ deeds) place = (place_of deed ≢ place) × AllApart deeds place
+AllApart (deed ∷ deeds) place = (place_written deed ≢ place) × AllApart deeds place
 
-kept_through : (deeds : List Deed) (state new : State) (deed : Deed) → AllApart deeds (place_of deed)
-    → AreTakenIn state deeds new → IsSettled state deed → IsSettled new deed
-kept_through [] state new deed apart same settled = subst (λ s. IsSettled s deed) (sym same) settled
+kept_through : (deeds : List Deed) (state new : State) (deed : Deed) → AllApart deeds (place_written deed)
+    → AreTakenIn state deeds new → IsSaidByRecord state deed → IsSaidByRecord new deed
+kept_through [] state new deed apart same settled = subst (λ s. IsSaidByRecord s deed) (sym same) settled
 kept_through (other ∷ deeds) state new deed apart taken settled =
     kept_through deeds (with_effect state (record { stamp = taken.0; deed = other })) new deed apart.1 taken.2
     (settled_stays state (record { stamp = taken.0; deed = other }) deed apart.0 settled)
 
 -- a listing's withdrawals are of its patch set
-withdrawals_apart : (listing : Listing) (approvals : List GivenApproval) (bodies : List Deed) (place : Place)
+withdrawals_apart : (listing : Listing) (approvals : List GivenApproval) (bodies : List Deed) (place : DeedPlace)
     → AreBodies (map (withdrawal listing.change listing.set) approvals) bodies
     → ¬ ((slot : Slot) × (slot.set ≡ listing.set) × (score_place listing.change slot ≡ place)) → AllApart bodies place
 withdrawals_apart listing [] bodies place none unspoken = subst (λ ds. AllApart ds place) (sym none) tt
@@ -139,14 +139,14 @@ withdrawals_apart listing (approval ∷ approvals) bodies place are unspoken = e
   | inr faulty ↦ withdrawals_apart listing approvals bodies place faulty.1 unspoken
 ]
 
-alone_apart : (bodies : List Deed) (deed : Deed) (place : Place) → bodies ≡ deed ∷ [] → place_of deed ≢ place
+alone_apart : (bodies : List Deed) (deed : Deed) (place : DeedPlace) → bodies ≡ deed ∷ [] → place_written deed ≢ place
     → AllApart bodies place
 alone_apart bodies deed place alone apart = subst (λ ds. AllApart ds place) (sym alone) (apart, tt)
 
-none_apart : (bodies : List Deed) (place : Place) → bodies ≡ [] → AllApart bodies place
+none_apart : (bodies : List Deed) (place : DeedPlace) → bodies ≡ [] → AllApart bodies place
 none_apart bodies place none = subst (λ ds. AllApart ds place) (sym none) tt
 
-brought_apart : (state : State) (finding : Finding) (bodies : List Deed) (place : Place) → IsBrought state finding bodies
+brought_apart : (state : State) (finding : Finding) (bodies : List Deed) (place : DeedPlace) → IsBrought state finding bodies
     → ¬ SpeaksOf finding place → AllApart bodies place
 brought_apart state (Brings deed) bodies place brought unspoken = elim brought [
   | inl none ↦ none_apart bodies place none.1
@@ -163,23 +163,23 @@ brought_apart state (Lists listing) bodies place brought unspoken =
 brought_apart state (Refuses fault) bodies place none unspoken = none_apart bodies place none
 
 settled_through : (later : List Finding) (state new : State) (deed : Deed) → AreMet state later new
-    → ¬ OneSpeaksOf later (place_of deed) → IsSettled state deed → IsSettled new deed
-settled_through [] state new deed same unspoken settled = subst (λ s. IsSettled s deed) (sym same) settled
+    → ¬ OneSpeaksOf later (place_written deed) → IsSaidByRecord state deed → IsSaidByRecord new deed
+settled_through [] state new deed same unspoken settled = subst (λ s. IsSaidByRecord s deed) (sym same) settled
 settled_through (finding ∷ later) state new deed met unspoken settled =
     settled_through later met.1 new deed met.4 (λ one. unspoken (inr one))
     (kept_through met.0 state met.1 deed
-    (brought_apart state finding met.0 (place_of deed) met.2 (λ speaks. unspoken (inl speaks))) met.3 settled)
+    (brought_apart state finding met.0 (place_written deed) met.2 (λ speaks. unspoken (inl speaks))) met.3 settled)
 
 -- ---- a deed that is brought
 
 said_brought : (state mid : State) (deed : Deed) (bodies : List Deed) → IsBrought state (Brings deed) bodies
-    → AreTakenIn state bodies mid → IsSettled mid deed
+    → AreTakenIn state bodies mid → IsSaidByRecord mid deed
 said_brought state mid deed bodies brought taken = elim brought [
   | inl none ↦
-      subst (λ s. IsSettled s deed) (sym (subst (λ ds. AreTakenIn state ds mid) none.1 taken)) none.0
+      subst (λ s. IsSaidByRecord s deed) (sym (subst (λ ds. AreTakenIn state ds mid) none.1 taken)) none.0
   | inr one ↦
       let alone = subst (λ ds. AreTakenIn state ds mid) one.1 taken in
-      subst (λ s. IsSettled s deed) (sym alone.2) (settled_now state alone.0 deed alone.1)
+      subst (λ s. IsSaidByRecord s deed) (sym alone.2) (settled_now state alone.0 deed alone.1)
 ]
 
 -- ---- a listing
@@ -196,7 +196,7 @@ pub one_slot : {change : ℕ} {a b : Slot} → score_place change a ≡ score_pl
 one_slot e = cc
 
 only_recorded : (state : State) (change set : ℕ) (label voter : List ℕ)
-    → IsSettled state (withdraw change set label voter) → IsRecorded state (withdraw change set label voter)
+    → IsSaidByRecord state (withdraw change set label voter) → IsRecorded state (withdraw change set label voter)
 only_recorded state change set label voter settled = elim settled [
   | inl said ↦ said
   | inr moot ↦ absurd (moot tt)
@@ -283,7 +283,7 @@ zero_or_not value = elim (int_eq value (pos 0)) as (λ t. int_eq value (pos 0) �
 -- a score that isn't 0 and isn't listed is among what is beyond
 is_beyond : (c : Change) (listing : Listing) (label voter : List ℕ) (stamp : Timestamp) (value : ℤ)
     → get c.votes (record { set = listing.set; label = label; voter = voter }) ≡ Some (stamp, value)
-    → not (int_eq value (pos 0)) ≡ true → is_listed listing.ballots label voter ≡ false
+    → not (int_eq value (pos 0)) ≡ true → is_listed_vote listing.ballots label voter ≡ false
     → Contains (filter (is_unlisted listing.ballots) (approvals_of c listing.set))
     (record { label = label; voter = voter; value = value })
 is_beyond c listing label voter stamp value found counts unlisted =
@@ -302,7 +302,7 @@ is_beyond c listing label voter stamp value found counts unlisted =
 listed_now : (state mid : State) (listing : Listing) (bodies : List Deed)
     → AreBodies (beyond (change_at state listing.change) listing) bodies → AreTakenIn state bodies mid
     → (label voter : List ℕ) → IsGood (withdraw listing.change listing.set label voter)
-    → is_listed listing.ballots label voter ≡ false
+    → is_listed_vote listing.ballots label voter ≡ false
     → IsRecorded mid (withdraw listing.change listing.set label voter)
 listed_now state mid listing bodies are taken label voter good unlisted =
     let c = change_at state listing.change in

@@ -89,8 +89,8 @@ AskFor state bases part is_open findings number =
     (finding : Finding) × Contains findings finding × IsAskedBy state bases part is_open finding number
 
 -- what is asked for when a line is met; of a row that does not say so nothing is
-abbrev pub IsAsked : State → Option (List (List ℕ)) → Told → ℕ → Type 0
-IsAsked state bases told number =
+abbrev pub AsksFor : State → Option (List (List ℕ)) → Told → ℕ → Type 0
+AsksFor state bases told number =
     AskFor state bases told.part (list_any says_open told.findings) told.findings number
 
 -- a set gains just these numbers; for private clauses

@@ -16,8 +16,8 @@ use Rattle.event_filter.specs.Recorded.{IsRecorded, change_at, patch_at}
 use Rattle.event_filter.specs.Newest.{IsOpenTo}
 
 -- the record says it, or could not say it: a merged change stays merged
-abbrev pub IsSettled : State → Deed → Type 0
-IsSettled state deed = IsRecorded state deed ⊎ ¬ IsOpenTo state deed
+abbrev pub IsSaidByRecord : State → Deed → Type 0
+IsSaidByRecord state deed = IsRecorded state deed ⊎ ¬ IsOpenTo state deed
 
 -- ---- a patch set that an event shows
 
@@ -38,11 +38,11 @@ IsNews state deed = ⊥
 abbrev pub is_ballot_of : List ℕ → List ℕ → Ballot → Bool
 is_ballot_of label voter ballot = bytes_eq ballot.label label && bytes_eq ballot.voter voter
 
-abbrev pub is_listed : List Ballot → List ℕ → List ℕ → Bool
-is_listed ballots label voter = list_any (is_ballot_of label voter) ballots
+abbrev pub is_listed_vote : List Ballot → List ℕ → List ℕ → Bool
+is_listed_vote ballots label voter = list_any (is_ballot_of label voter) ballots
 
 abbrev pub is_unlisted : List Ballot → GivenApproval → Bool
-is_unlisted ballots approval = not (is_listed ballots approval.label approval.voter)
+is_unlisted ballots approval = not (is_listed_vote ballots approval.label approval.voter)
 
 abbrev pub withdrawal : ℕ → ℕ → GivenApproval → Deed
 withdrawal change set approval = withdraw change set approval.label approval.voter
@@ -61,8 +61,8 @@ AreBodies (deed ∷ deeds) bodies =
     ⊎ ((¬ IsFaultless deed) × AreBodies deeds bodies)
 
 -- the body of one more deed is added
-abbrev pub Adds : Deed → List Deed → List Deed → Type 0
-Adds deed old new =
+abbrev pub AddsDeed : Deed → List Deed → List Deed → Type 0
+AddsDeed deed old new =
     (IsFaultless deed × (new ≡ old ++ kept_deed deed ∷ [])) ⊎ ((¬ IsFaultless deed) × (new ≡ old))
 
 -- ---- any finding
@@ -76,7 +76,7 @@ abbrev pub Unless : Type 0 → List Deed → Deed → Type 0
 Unless is bodies deed = (is × (bodies ≡ [])) ⊎ ((¬ is) × (bodies ≡ deed ∷ []))
 
 abbrev pub IsBrought : State → Finding → List Deed → Type 0
-IsBrought state (Brings deed) bodies = Unless (IsSettled state deed) bodies deed
+IsBrought state (Brings deed) bodies = Unless (IsSaidByRecord state deed) bodies deed
 IsBrought state (Shows deed) bodies = Where (IsNews state deed) bodies deed
 IsBrought state (Lists listing) bodies = AreBodies (beyond (change_at state listing.change) (listing_shown listing)) bodies
 IsBrought state (Refuses fault) bodies = bodies ≡ []

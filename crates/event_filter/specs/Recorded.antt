@@ -33,17 +33,17 @@ abbrev pub score_at : Change → Slot → ℤ
 score_at change slot = score_by (get change.votes slot)
 
 -- the change has what the deed says
-abbrev pub Records : Change → Deed → Type 0
-Records c (patch_set change set message parent) = HasPatch c set (record { message = message; parent = parent })
-Records c (vote change set label voter value) = score_at c (record { set = set; label = label; voter = voter }) ≡ value
-Records c (withdraw change set label voter) = score_at c (record { set = set; label = label; voter = voter }) ≡ pos 0
-Records c (abandon change) = status_of c ≡ Abandoned
-Records c (restore change) = status_of c ≡ New
-Records c (merged change) = status_of c ≡ Merged
+abbrev pub HasDeed : Change → Deed → Type 0
+HasDeed c (patch_set change set message parent) = HasPatch c set (record { message = message; parent = parent })
+HasDeed c (vote change set label voter value) = score_at c (record { set = set; label = label; voter = voter }) ≡ value
+HasDeed c (withdraw change set label voter) = score_at c (record { set = set; label = label; voter = voter }) ≡ pos 0
+HasDeed c (abandon change) = status_of c ≡ Abandoned
+HasDeed c (restore change) = status_of c ≡ New
+HasDeed c (merged change) = status_of c ≡ Merged
 
 -- the record says already what the deed says
 abbrev pub IsRecorded : State → Deed → Type 0
-IsRecorded state deed = Records (change_at state (change_of deed)) deed
+IsRecorded state deed = HasDeed (change_at state (change_of deed)) deed
 
 -- all that a gate looks at: the status, the commits of the patch sets, and the scores
 pub record LookAlike (a b : Change) : Type 0 where

@@ -12,19 +12,19 @@ use Rattle.change_core.specs.declared.life.Status.{Status}
 use Rattle.change_core.specs.declared.life.Status.TheVariants.{New, Abandoned, Merged}
 use Rattle.state_core.specs.State.{State}
 use Rattle.gerrit_events.specs.declared.kind.Kind.TheVariants.{QueryLine}
-use Rattle.gerrit_events.specs.Kinds.{approvals_part, kind_of}
+use Rattle.gerrit_events.specs.Kinds.{approvals_part, line_kind}
 use Rattle.gerrit_events.specs.Listings.{ballot_of, ballots_in, mark_ballots}
 use Rattle.gerrit_events.specs.Marks.{reserved_voter}
 use Rattle.gerrit_events.specs.Patches.{change_in, message_in, parents_in, set_in}
 use Rattle.gerrit_events.specs.Projects.{Choice, feeds}
 use Rattle.gerrit_events.specs.Revisions.{Revision}
-use Rattle.gerrit_events.specs.Values.{listed, text_in, user_in, value_in}
-use Rattle.event_filter.specs.Bringing.{is_listed}
+use Rattle.gerrit_events.specs.Values.{listed_values, text_in, user_in, vote_value}
+use Rattle.event_filter.specs.Bringing.{is_listed_vote}
 use Rattle.event_filter.specs.Recorded.{HasPatch, change_at, score_at}
 
 -- the line is a row of this change, whose current patch set is this one, and its project is fed
-pub record IsRow (choice : Choice) (line : Data) (change set : ℕ) : Type 0 where
-  pub kind : kind_of line ≡ Some QueryLine
+pub record IsFedRow (choice : Choice) (line : Data) (change set : ℕ) : Type 0 where
+  pub kind : line_kind line ≡ Some QueryLine
   pub fed : feeds choice QueryLine line ≡ true
   pub of_change : change_in QueryLine line ≡ Some change
   pub of_set : set_in QueryLine line ≡ Some set
@@ -43,22 +43,25 @@ pub record IsApproval (approval : Data) (label voter : List ℕ) (value : ℤ) :
   pub on_label : text_in (get (codes "type") approval) ≡ Some label
   pub by_voter : user_in (get (codes "by") approval) ≡ Some voter
   pub real : bytes_eq voter reserved_voter ≡ false
-  pub with_value : value_in (get (codes "value") approval) ≡ Some value
+  pub with_value : vote_value (get (codes "value") approval) ≡ Some value
 
--- the record says of the change what the row says: the commit of the current patch set; the status; each approval of the
--- current patch set, of two of one voter on one label the last one; and nobody else has a score on it
+-- the record says of the change what the row says: the commit of the current patch set; the status; each approval of
+-- the current patch set, of two of one voter on one label the last one; and nobody else has a score on it
 pub record SaysRow (known : List Revision) (line : Data) (change set : ℕ) (state : State) : Type 0 where
   pub commit : (message : List ℕ) → message_in QueryLine line ≡ Some message
       → IsFaultless (patch_set change set message (slice_get (parents_in known QueryLine line) 0))
-      → HasPatch (change_at state change) set (record { message = message; parent = slice_get (parents_in known QueryLine line) 0 })
+      → HasPatch (change_at state change) set
+      (record { message = message; parent = slice_get (parents_in known QueryLine line) 0 })
   pub merged : HasStatus line (codes "MERGED") → status_of (change_at state change) ≡ Merged
   pub new : HasStatus line (codes "NEW") → IsOrMerged state change New
   pub abandoned : HasStatus line (codes "ABANDONED") → IsOrMerged state change Abandoned
   pub approvals : (before after : List Data) (approval : Data) (label voter : List ℕ) (value : ℤ)
-      → listed (approvals_part QueryLine line) ≡ before ++ approval ∷ after → IsApproval approval label voter value
+      → listed_values (approvals_part QueryLine line) ≡ before ++ approval ∷ after
+      → IsApproval approval label voter value
       → IsFaultless (vote change set label voter value)
-      → is_listed (filter_map ballot_of after) (map to_ascii_lowercase label) voter ≡ false
-      → score_at (change_at state change) (record { set = set; label = map to_ascii_lowercase label; voter = voter }) ≡ value
+      → is_listed_vote (filter_map ballot_of after) (map to_ascii_lowercase label) voter ≡ false
+      → score_at (change_at state change) (record { set = set; label = map to_ascii_lowercase label; voter = voter })
+      ≡ value
   pub others : (label voter : List ℕ) → IsGood (withdraw change set label voter)
-      → is_listed (ballots_in (approvals_part QueryLine line) ++ mark_ballots line) label voter ≡ false
+      → is_listed_vote (ballots_in (approvals_part QueryLine line) ++ mark_ballots line) label voter ≡ false
       → score_at (change_at state change) (record { set = set; label = label; voter = voter }) ≡ pos 0

@@ -8,7 +8,7 @@ use Rattle.state_core.specs.State.{State, with_effect}
 use Rattle.gerrit_events.specs.Listings.{listing_shown}
 use Rattle.gerrit_events.specs.declared.finding.Finding.{Finding}
 use Rattle.gerrit_events.specs.declared.finding.Finding.TheVariants.{Brings, Shows, Lists, Refuses}
-use Rattle.event_filter.specs.Bringing.{IsBrought, IsNews, IsSettled, beyond, is_listed}
+use Rattle.event_filter.specs.Bringing.{IsBrought, IsNews, IsSaidByRecord, beyond, is_listed_vote}
 use Rattle.event_filter.specs.Newest.{IsNewest}
 use Rattle.event_filter.specs.Recorded.{IsRecorded, change_at}
 
@@ -31,40 +31,42 @@ AreMet state (finding ∷ findings) new =
 -- ---- what is said
 
 -- where a deed is written: the commit of a patch set, a voter's score on a label, or the status
-pub data Place : Type 0 where
-  patch_place : (change set : ℕ) → Place
-  score_place : (change : ℕ) (slot : Slot) → Place
-  status_place : (change : ℕ) → Place
+pub data DeedPlace : Type 0 where
+  patch_place : (change set : ℕ) → DeedPlace
+  score_place : (change : ℕ) (slot : Slot) → DeedPlace
+  status_place : (change : ℕ) → DeedPlace
 
-abbrev pub place_of : Deed → Place
-place_of (patch_set change set message parent) = patch_place change set
-place_of (vote change set label voter value) = score_place change (record { set = set; label = label; voter = voter })
-place_of (withdraw change set label voter) = score_place change (record { set = set; label = label; voter = voter })
-place_of (abandon change) = status_place change
-place_of (restore change) = status_place change
-place_of (merged change) = status_place change
+abbrev pub place_written : Deed → DeedPlace
+place_written (patch_set change set message parent) = patch_place change set
+place_written (vote change set label voter value) =
+    score_place change (record { set = set; label = label; voter = voter })
+place_written (withdraw change set label voter) =
+    score_place change (record { set = set; label = label; voter = voter })
+place_written (abandon change) = status_place change
+place_written (restore change) = status_place change
+place_written (merged change) = status_place change
 
 -- a finding says something of what is there; a listing says something of all scores of its patch set
-abbrev pub SpeaksOf : Finding → Place → Type 0
-SpeaksOf (Brings deed) place = place_of deed ≡ place
-SpeaksOf (Shows deed) place = place_of deed ≡ place
+abbrev pub SpeaksOf : Finding → DeedPlace → Type 0
+SpeaksOf (Brings deed) place = place_written deed ≡ place
+SpeaksOf (Shows deed) place = place_written deed ≡ place
 SpeaksOf (Lists listing) place =
     (slot : Slot) × (slot.set ≡ listing.set) × (score_place listing.change slot ≡ place)
 SpeaksOf (Refuses fault) place = ⊥
 
-abbrev pub OneSpeaksOf : List Finding → Place → Type 0
+abbrev pub OneSpeaksOf : List Finding → DeedPlace → Type 0
 OneSpeaksOf [] place = ⊥
 OneSpeaksOf (finding ∷ findings) place = SpeaksOf finding place ⊎ OneSpeaksOf findings place
 
 -- the record says of a change what a finding says of it, where no later one speaks of the same: a deed is recorded, or
 -- it is an abandon or a restore of a merged change; and who isn't listed has no score
 abbrev pub AgreesWith : Finding → List Finding → State → Type 0
-AgreesWith (Brings deed) later state = ¬ OneSpeaksOf later (place_of deed) → IsSettled state deed
+AgreesWith (Brings deed) later state = ¬ OneSpeaksOf later (place_written deed) → IsSaidByRecord state deed
 AgreesWith (Shows deed) later state = Unit {0}
 AgreesWith (Lists listing) later state =
     (label voter : List ℕ) → IsGood (withdraw listing.change listing.set label voter)
-    → is_listed (listing_shown listing).ballots label voter ≡ false
-    → ¬ OneSpeaksOf later (place_of (withdraw listing.change listing.set label voter))
+    → is_listed_vote (listing_shown listing).ballots label voter ≡ false
+    → ¬ OneSpeaksOf later (place_written (withdraw listing.change listing.set label voter))
     → IsRecorded state (withdraw listing.change listing.set label voter)
 AgreesWith (Refuses fault) later state = Unit {0}
 
@@ -75,7 +77,7 @@ AgreesWithAll (finding ∷ later) state = AgreesWith finding later state × Agre
 -- ---- what is nothing new
 
 abbrev pub IsNothingNew : State → Finding → Type 0
-IsNothingNew state (Brings deed) = IsSettled state deed
+IsNothingNew state (Brings deed) = IsSaidByRecord state deed
 IsNothingNew state (Shows deed) = ¬ IsNews state deed
 IsNothingNew state (Lists listing) = beyond (change_at state listing.change) (listing_shown listing) ≡ []
 IsNothingNew state (Refuses fault) = Unit {0}

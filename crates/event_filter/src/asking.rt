@@ -6,7 +6,7 @@ ghost use Rattle.std.specs.List.{list_any};
 ghost use Rattle.std.specs.Ordering.{nat_cmp};
 ghost use Rattle.footer_text.specs.Footers.{MessageNeeds};
 ghost use Rattle.review_ops.specs.Deed.{change_of};
-ghost use Rattle.event_filter.specs.Asking.{Gains, IsAsked, IsAskedBy, IsAskedByEvent, IsAskedByNews, IsAskedByRow};
+ghost use Rattle.event_filter.specs.Asking.{Gains, AsksFor, IsAskedBy, IsAskedByEvent, IsAskedByNews, IsAskedByRow};
 ghost use Rattle.event_filter.specs.Asking.{HasParent, IsChild, IsNamedByMessage, IsNew, IsOutdated, IsUnknown, LacksNeeded, says_open};
 ghost use Rattle.event_filter.specs.Recorded.{change_at, patch_at};
 ghost use Rattle.change_core.specs.Views.{status_of};
@@ -35,7 +35,7 @@ pub fn asked(
     told: &Told,
 ) -> Result<BTreeSet<u32>, NoMemory>
     ensures { IfOk result (λ asks. (number : ℕ) → (contains nat_cmp asks number ≡ true)
-        ↔ IsAsked state.now (option_map (λ bases. bases.now) bases.entry) told.now number) }
+        ↔ AsksFor state.now (option_map (λ bases. bases.now) bases.entry) told.now number) }
 {
     let mut asks = BTreeSet::new(alloc);
     let is_open = says_open(told.findings.as_slice());

@@ -5,8 +5,8 @@ ghost use Rattle.review_ops.specs.Draft.{deed_of};
 ghost use Rattle.change_core.specs.Views.{IsKnownSet};
 ghost use Rattle.change_core.specs.VoteShown.{approval_shown};
 ghost use Rattle.gerrit_events.specs.Listings.{listing_shown, ballot_shown};
-ghost use Rattle.event_filter.specs.Bringing.{Adds, AddsTo, AreBodies, IsBrought, IsNews, IsSettled, Unless};
-ghost use Rattle.event_filter.specs.Bringing.{Where, beyond, is_ballot_of, is_listed, withdrawal};
+ghost use Rattle.event_filter.specs.Bringing.{AddsDeed, AddsTo, AreBodies, IsBrought, IsNews, IsSaidByRecord, Unless};
+ghost use Rattle.event_filter.specs.Bringing.{Where, beyond, is_ballot_of, is_listed_vote, withdrawal};
 ghost use Rattle.event_filter.specs.Newest.{IsOpenTo};
 ghost use Rattle.event_filter.specs.Recorded.{change_at, patch_at};
 
@@ -37,7 +37,7 @@ pub fn brought(alloc: Global, state: &State, finding: Finding) -> Result<Vec<Bod
 
 /// A body, unless the record says it, or could not say it.
 fn said(alloc: Global, state: &State, body: Body) -> Result<Vec<Body>, NoMemory>
-    ensures { IfOk result (λ bodies. Unless (IsSettled state.now body) bodies.items body) }
+    ensures { IfOk result (λ bodies. Unless (IsSaidByRecord state.now body) bodies.items body) }
 {
     if is_settled(state, &body)? {
         return Ok(Vec::new(alloc));
@@ -66,7 +66,7 @@ fn only(alloc: Global, body: Body) -> Result<Vec<Body>, NoMemory>
 
 /// Whether a record says a body, or could not say it.
 fn is_settled(state: &State, body: &Body) -> Result<bool, NoMemory>
-    ensures { IfOk result (λ settled. IsTrue settled ↔ IsSettled state.now body.now) }
+    ensures { IfOk result (λ settled. IsTrue settled ↔ IsSaidByRecord state.now body.now) }
 {
     if is_moot(state, body) {
         return Ok(true);
@@ -165,7 +165,7 @@ fn add_withdrawal(
     set: u32,
     approval: &Approval<'_>,
 ) -> Result<(), NoMemory>
-    ensures { OnOk result (Adds (withdrawal change set (approval_shown approval.now)) bodies.old.items bodies.new.items) }
+    ensures { OnOk result (AddsDeed (withdrawal change set (approval_shown approval.now)) bodies.old.items bodies.new.items) }
 {
     let draft = Draft::Withdraw {
         change,
@@ -178,7 +178,7 @@ fn add_withdrawal(
 
 /// Adds the body of a draft, where that has no fault.
 pub fn add_body(bodies: &mut Vec<Body>, draft: Draft) -> Result<(), NoMemory>
-    ensures { OnOk result (Adds (deed_of draft) bodies.old.items bodies.new.items) }
+    ensures { OnOk result (AddsDeed (deed_of draft) bodies.old.items bodies.new.items) }
 {
     if let Ok(body) = Body::checked(draft) {
         bodies.push(body)?;
@@ -188,7 +188,7 @@ pub fn add_body(bodies: &mut Vec<Body>, draft: Draft) -> Result<(), NoMemory>
 
 /// Whether a vote is listed.
 fn is_listed(ballots: &[Ballot], label: &str, voter: &str) -> bool
-    ensures { result ≡ is_listed (map ballot_shown ballots.now) label.now voter.now }
+    ensures { result ≡ is_listed_vote (map ballot_shown ballots.now) label.now voter.now }
 {
     for ballot in ballots {
         if is_ballot_of(label, voter, ballot) {

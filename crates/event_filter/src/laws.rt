@@ -9,7 +9,7 @@ ghost use Rattle.gerrit_events.specs.Projects.{Choice};
 ghost use Rattle.gerrit_events.specs.Reading.{IsLineObject, Reads, Told};
 ghost use Rattle.gerrit_events.specs.Revisions.{Revision};
 ghost use Rattle.serde_json.specs.Data.{Members, object};
-ghost use Rattle.event_filter.specs.Rows.{IsRow, SaysRow};
+ghost use Rattle.event_filter.specs.Rows.{IsFedRow, SaysRow};
 ghost use Rattle.review_ops.specs.Operation.{Operation};
 ghost use Rattle.state_core.specs.State.{State, with_effect};
 
@@ -49,6 +49,6 @@ pub fn what_is_nothing_new_brings_nothing()
 pub fn what_a_row_says_is_what_the_record_says()
     ensures { (known after : List Revision) → (choice : Choice) → (text : List ℕ) → (told : Told)
         → Reads known choice text told after → (members : Members) → IsLineObject text members
-        → (change set : ℕ) → IsRow choice (object members) change set
+        → (change set : ℕ) → IsFedRow choice (object members) change set
         → (state new : State) → AreMet state told.findings new → SaysRow known (object members) change set new }
 {}

@@ -2,7 +2,7 @@
 
 ghost use Rattle.std.specs.Prelude.{◌≡◌, ◌↔◌, IsTrue, IfOk, string_bytes};
 ghost use Rattle.change_core.specs.Views.{status_of};
-ghost use Rattle.event_filter.specs.Recorded.{HasPatch, IsRecorded, Records, score_at};
+ghost use Rattle.event_filter.specs.Recorded.{HasPatch, IsRecorded, HasDeed, score_at};
 ghost use Rattle.review_ops.specs.Draft.{deed_of};
 
 use change_core::{ChangeState, Status, VoteSlot};
@@ -26,7 +26,7 @@ pub fn is_recorded<A: Allocator + Copy>(state: &State<A>, body: &Body<A>) -> Res
 
 /// Whether a change has what a draft says.
 fn says<A: Allocator + Copy>(change: &ChangeState<A>, draft: &Draft<A>) -> Result<bool, NoMemory>
-    ensures { IfOk result (λ said. IsTrue said ↔ Records change.now (deed_of draft.now)) }
+    ensures { IfOk result (λ said. IsTrue said ↔ HasDeed change.now (deed_of draft.now)) }
 {
     match draft {
         Draft::PatchSet {

@@ -8,7 +8,7 @@ use Rattle.event_feed.specs.Feed.{Feeds}
 use Rattle.event_feed.specs.declared.fault.FeedFault.{FeedFault}
 use Rattle.event_feed.specs.declared.fault.FeedFault.TheVariants.{WriteFault, NoMemory}
 use Rattle.event_feed.specs.declared.progress.Input.{Input}
-use Rattle.event_filter.specs.Asking.{IsAsked}
+use Rattle.event_filter.specs.Asking.{AsksFor}
 use Rattle.gerrit_events.specs.Projects.{Choice}
 use Rattle.gerrit_events.specs.Reading.{Told}
 use Rattle.review_ops.specs.Deed.{Deed}
@@ -40,7 +40,7 @@ ask_lines changes = flat_map ask_line changes
 
 -- just these changes have to be asked for, where the line is to be met by the record
 abbrev pub AreAsked : Option (List (List ℕ)) → State → Told → BTreeSet ℕ → Type 0
-AreAsked bases state told asks = (change : ℕ) → (contains nat_cmp asks change ≡ true) ↔ IsAsked state bases told change
+AreAsked bases state told asks = (change : ℕ) → (contains nat_cmp asks change ≡ true) ↔ AsksFor state bases told change
 
 -- what came to the site is taken into the state
 abbrev pub LearnsNews : {Site : Type 0} → (Site → Result SiteRound IntakeFault → Site → Type 0) → Seen Site → Seen Site

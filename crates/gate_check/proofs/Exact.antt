@@ -14,7 +14,7 @@ use Rattle.change_core.specs.Votes.{GivenApproval}
 use Rattle.gate_rules.specs.Own.{labels_take, matches, names, some, takes}
 use Rattle.gate_rules.specs.Reading.{each}
 use Rattle.gate_rules.specs.Rules.{LabelRule, PatternRule}
-use Rattle.gate_check.specs.Meeting.{IsRejected, has_none, is_as_wide, rejects_each, rejects_votes, vote_of}
+use Rattle.gate_check.specs.Meeting.{IsRejected, has_none, is_as_wide, rejects_each, rejects_votes, wanted_vote}
 use Rattle.gate_check.proofs.Shut.{all_hold, both, some_at, some_in}
 
 -- ---- a text that differs from each of these: it is longer
@@ -138,10 +138,10 @@ module _ (rejected : List PatternRule) (pattern : PatternRule) (all : IsRejected
       (some_at (λ v. int_eq v value) rule.values k value at ((Decides-int_eq value value).1 refl)) in
       let found = one_takes rule.label value (subst (λ ls. labels_take ls vote ≡ true) same of_rule) in
       some_at
-      (λ (other : PatternRule). is_as_wide other pattern && matches other (vote_of pattern rule.label value))
+      (λ (other : PatternRule). is_as_wide other pattern && matches other (wanted_vote pattern rule.label value))
       rejected found.1 found.0 found.2
-      (all_hold (is_as_wide found.0 pattern) (matches found.0 (vote_of pattern rule.label value)) found.3
-      (all_hold (names found.0.username (unwrap_or pattern.username [])) (labels_take found.0.labels (vote_of pattern rule.label value)) found.4
+      (all_hold (is_as_wide found.0 pattern) (matches found.0 (wanted_vote pattern rule.label value)) found.3
+      (all_hold (names found.0.username (unwrap_or pattern.username [])) (labels_take found.0.labels (wanted_vote pattern rule.label value)) found.4
       (of_any_voter found.0.labels rule.label (voter_for pattern.username rejected) (unwrap_or pattern.username []) value found.5))))
   by_labels (rule ∷ other ∷ rules) same = refl
 

@@ -14,7 +14,7 @@ use Rattle.std.proofs.lemmas.List.{map-append}
 use Rattle.std.proofs.lemmas.Map.Text.{is_eq-slice_cmp}
 use Rattle.review_ops.specs.Timestamp.{Timestamp}
 use Rattle.change_core.specs.Slots.{Slot}
-use Rattle.gate_check.specs.Names.{AreTheSameTexts, has, with_each}
+use Rattle.gate_check.specs.Names.{AreTheSameTexts, has_known, with_each}
 
 -- ---- sets of texts
 
@@ -29,11 +29,11 @@ insert_shown (x ∷ xs) key =
     ]
 
 pub has_shown : {Y : Type 0} (keys : List (String Y)) (text : List ℕ)
-    → list_any (is_at (λ k. slice_cmp nat_cmp text (string_bytes k))) keys ≡ has (map string_bytes keys) text
+    → list_any (is_at (λ k. slice_cmp nat_cmp text (string_bytes k))) keys ≡ has_known (map string_bytes keys) text
 has_shown [] text = refl
 has_shown (x ∷ xs) text =
     ap (λ b. b || list_any (is_at (λ k. slice_cmp nat_cmp text (string_bytes k))) xs) (is_eq-slice_cmp text (string_bytes x))
-    ∙ (elim (bytes_eq text (string_bytes x)) as (λ b. (b || list_any (is_at (λ k. slice_cmp nat_cmp text (string_bytes k))) xs) ≡ (if b then true else has (map string_bytes xs) text)) [ true ↦ refl | false ↦ has_shown xs text ])
+    ∙ (elim (bytes_eq text (string_bytes x)) as (λ b. (b || list_any (is_at (λ k. slice_cmp nat_cmp text (string_bytes k))) xs) ≡ (if b then true else has_known (map string_bytes xs) text)) [ true ↦ refl | false ↦ has_shown xs text ])
 
 -- ---- texts that are added one after another
 
@@ -97,14 +97,14 @@ only_one true = refl
 only_one false = refl
 
 has_more : (known : List (List ℕ)) (text name : List ℕ)
-    → has (insert_key (slice_cmp nat_cmp) known text) name ≡ (has known name || bytes_eq name text)
+    → has_known (insert_key (slice_cmp nat_cmp) known text) name ≡ (has_known known name || bytes_eq name text)
 has_more [] text name = only_one (bytes_eq name text)
 has_more (x ∷ xs) text name =
-    elim (slice_cmp nat_cmp text x) as (λ o. slice_cmp nat_cmp text x ≡ o → has (match_ordering o (text ∷ x ∷ xs) (x ∷ xs) (x ∷ insert_key (slice_cmp nat_cmp) xs text)) name ≡ ((if bytes_eq name x then true else has xs name) || bytes_eq name text)) [
-      | Less ↦ λ e. first_of_two (bytes_eq name text) (bytes_eq name x) (has xs name)
+    elim (slice_cmp nat_cmp text x) as (λ o. slice_cmp nat_cmp text x ≡ o → has_known (match_ordering o (text ∷ x ∷ xs) (x ∷ xs) (x ∷ insert_key (slice_cmp nat_cmp) xs text)) name ≡ ((if bytes_eq name x then true else has_known xs name) || bytes_eq name text)) [
+      | Less ↦ λ e. first_of_two (bytes_eq name text) (bytes_eq name x) (has_known xs name)
       | Equal ↦ λ e. let same = slice_cmp-IsAntisymmetric nat_cmp-IsAntisymmetric text x e in
-          subst (λ t. (if bytes_eq name x then true else has xs name) ≡ ((if bytes_eq name x then true else has xs name) || bytes_eq name t)) (sym same) (there_already (bytes_eq name x) (has xs name))
-      | Greater ↦ λ e. ap (λ b. if bytes_eq name x then true else b) (has_more xs text name) ∙ further_on (bytes_eq name x) (has xs name) (bytes_eq name text)
+          subst (λ t. (if bytes_eq name x then true else has_known xs name) ≡ ((if bytes_eq name x then true else has_known xs name) || bytes_eq name t)) (sym same) (there_already (bytes_eq name x) (has_known xs name))
+      | Greater ↦ λ e. ap (λ b. if bytes_eq name x then true else b) (has_more xs text name) ∙ further_on (bytes_eq name x) (has_known xs name) (bytes_eq name text)
     ] refl
 
 or_first : (a b c : Bool) → ((a || b) || c) ≡ (a || (if b then true else c))
@@ -116,12 +116,12 @@ or_false : (b : Bool) → b ≡ (b || false)
 or_false true = refl
 or_false false = refl
 
-has_each : (known texts : List (List ℕ)) (name : List ℕ) → has (with_each known texts) name ≡ (has known name || has texts name)
-has_each known [] name = or_false (has known name)
+has_each : (known texts : List (List ℕ)) (name : List ℕ) → has_known (with_each known texts) name ≡ (has_known known name || has_known texts name)
+has_each known [] name = or_false (has_known known name)
 has_each known (text ∷ more) name =
     has_each (insert_key (slice_cmp nat_cmp) known text) more name
-    ∙ ap (λ b. b || has more name) (has_more known text name)
-    ∙ or_first (has known name) (bytes_eq name text) (has more name)
+    ∙ ap (λ b. b || has_known more name) (has_more known text name)
+    ∙ or_first (has_known known name) (bytes_eq name text) (has_known more name)
 
 pub the_same_texts : AreTheSameTexts
 the_same_texts texts name = has_each [] texts name

@@ -4,7 +4,7 @@ use Rattle.std.proofs.Common.{None, Some, nat_le, nat_lt}
 use Rattle.std.specs.Prelude.{if◌then◌else◌, MatchOption}
 use Rattle.std.specs.List.{AllByRecursion}
 use Rattle.std.proofs.lemmas.Bool.Decides.{nat_tests}
-use Rattle.gate_check.specs.Nearest.{FindsNearest, IsNearest, edits, if_near, most_edits, nearer, nearest_of}
+use Rattle.gate_check.specs.Nearest.{FindsNearest, IsNearestName, edits, if_near, most_edits, nearer, nearest_of}
 
 -- a test of numbers, either way
 abbrev Below : Bool → ℕ → ℕ → Type 0
@@ -88,7 +88,7 @@ module _ (name : List ℕ) where
 
   -- what is found of names
   whole : (best : List ℕ) (others : List (List ℕ)) (found : List ℕ) → edits name found ≤ most_edits name
-      → Ends best others found → IsNearest name (best ∷ others) found
+      → Ends best others found → IsNearestName name (best ∷ others) found
   whole best others found near (inl (same, all)) = record {
     before = [];
     after = others;
@@ -135,9 +135,9 @@ module _ (name : List ℕ) where
   some_found best (other ∷ others) = some_found (nearer name (Some best) other) others
 
   judged : (best : List ℕ) (others : List (List ℕ)) (found : List ℕ) → Ends best others found
-      → MatchOption (if_near name (Some found)) (AllByRecursion (λ other. most_edits name < edits name other) (best ∷ others)) (IsNearest name (best ∷ others))
+      → MatchOption (if_near name (Some found)) (AllByRecursion (λ other. most_edits name < edits name other) (best ∷ others)) (IsNearestName name (best ∷ others))
   judged best others found h =
-      elim (nat_le (edits name found) (most_edits name)) as (λ b. AtMost b (edits name found) (most_edits name) → MatchOption (if b then Some found else None) (AllByRecursion (λ other. most_edits name < edits name other) (best ∷ others)) (IsNearest name (best ∷ others))) [
+      elim (nat_le (edits name found) (most_edits name)) as (λ b. AtMost b (edits name found) (most_edits name) → MatchOption (if b then Some found else None) (AllByRecursion (λ other. most_edits name < edits name other) (best ∷ others)) (IsNearestName name (best ∷ others))) [
         | true ↦ λ near. whole best others found near h
         | false ↦ λ far. none_near best others found far h
       ] (at_most (edits name found) (most_edits name))
@@ -146,5 +146,5 @@ pub finds_nearest : FindsNearest
 finds_nearest name [] = tt
 finds_nearest name (best ∷ others) =
     let found = some_found name best others in
-    subst (λ o. MatchOption (if_near name o) (AllByRecursion (λ other. most_edits name < edits name other) (best ∷ others)) (IsNearest name (best ∷ others)))
+    subst (λ o. MatchOption (if_near name o) (AllByRecursion (λ other. most_edits name < edits name other) (best ∷ others)) (IsNearestName name (best ∷ others)))
     (sym found.1) (judged name best others found.0 (ends name best others found.0 found.1))

@@ -19,7 +19,7 @@ use Rattle.gate_rules.specs.declared.condition.Condition.{Condition}
 use Rattle.gate_rules.specs.declared.condition.Side.TheVariants.{Reject, Require}
 use Rattle.gate_check.specs.Meeting.{IsRejected, LetsNothingIn, comes_out, has_none, is_as_wide, lets_in, lets_none_in}
 use Rattle.gate_check.specs.Meeting.{is_current_never_met, rejects_each, rejects_votes, same_answer}
-use Rattle.gate_check.specs.Meeting.{standing_with, vote_of}
+use Rattle.gate_check.specs.Meeting.{standing_with, wanted_vote}
 
 -- ---- tests
 
@@ -159,15 +159,15 @@ module _ (rejected : List PatternRule) (pattern : PatternRule) (vote : GivenAppr
     (named : names pattern.username vote.voter ≡ true) where
   -- one takes the vote that takes the pattern's vote of its label and value
   takes_too : (other : PatternRule) (label : List ℕ) (value : ℤ) → label ≡ vote.label → value ≡ vote.value
-      → (is_as_wide other pattern && matches other (vote_of pattern label value)) ≡ true → matches other vote ≡ true
+      → (is_as_wide other pattern && matches other (wanted_vote pattern label value)) ≡ true → matches other vote ≡ true
   takes_too other label value same_label same_value is =
-      let parts = both (is_as_wide other pattern) (matches other (vote_of pattern label value)) is in
-      let takes = both (names other.username (unwrap_or pattern.username [])) (labels_take other.labels (vote_of pattern label value)) parts.1 in
+      let parts = both (is_as_wide other pattern) (matches other (wanted_vote pattern label value)) is in
+      let takes = both (names other.username (unwrap_or pattern.username [])) (labels_take other.labels (wanted_vote pattern label value)) parts.1 in
       all_hold (names other.username vote.voter) (labels_take other.labels vote)
       (wide other.username pattern.username vote.voter parts.0 takes.0 named)
       (labels_so other.labels label value same_label same_value takes.1) where
         labels_so : (labels : List LabelRule) (l : List ℕ) (v : ℤ) → l ≡ vote.label → v ≡ vote.value
-            → labels_take labels (vote_of pattern l v) ≡ true → labels_take labels vote ≡ true
+            → labels_take labels (wanted_vote pattern l v) ≡ true → labels_take labels vote ≡ true
         labels_so [] l v p q takes = refl
         labels_so (rule ∷ []) l v p q takes =
             subst (λ w. (bytes_eq rule.label vote.label && some (λ value. int_eq value w) rule.values) ≡ true) q

@@ -1,4 +1,4 @@
--- Texts that are joined, and lines that are added one after another.
+-- Texts that are joined_by, and lines that are added one after another.
 use Rattle.std.proofs.Common.{◌≡◌, ◌∙◌, ◌+◌, ◌<◌, ℕ, List, [], ◌∷◌, ◌++◌, Bool, false, Result, length, map, flat_map, take, drop, get_or, sym, ap, refl}
 use Rattle.std.proofs.Common.{append-nil, append_assoc, arith, add-one, drop-cons, length-drop, ◌≤◌}
 use Rattle.std.specs.List.{join_by}
@@ -13,8 +13,8 @@ use Rattle.std.proofs.lemmas.List.Folds.{flat_map-map}
 use Rattle.json.proofs.Printed.Tokens.{print_from_push, print_from-append}
 use Rattle.json.specs.Token.{string}
 use Rattle.json.specs.Print.{print, quoted}
-use Rattle.gate_check.specs.Asking.{escaped, joined, numbered}
-use Rattle.gate_check.specs.Checked.{as_warning, count_line}
+use Rattle.gate_check.specs.Asking.{pointer_escaped, joined_by, by_place}
+use Rattle.gate_check.specs.Checked.{as_warning, checked_line}
 use Rattle.gate_check.specs.Warnings.{Found}
 
 print_nothing : print [] ≡ []
@@ -26,7 +26,7 @@ quoted_alone text = print_from_push false [] (string text) ∙ ap (λ l. l ++ qu
 
 pub joined_some : {X : Type 0} (text_of : X → List ℕ) (none separator : List ℕ) (texts : List X) (is_empty : Bool)
     → is_empty ≡ (length texts == 0) → is_empty ≡ false
-    → join_by text_of separator texts ≡ joined none separator (map text_of texts)
+    → join_by text_of separator texts ≡ joined_by none separator (map text_of texts)
 joined_some text_of none separator [] is_empty is not = cc
 joined_some text_of none separator (x ∷ xs) is_empty is not =
     ap (λ l. text_of x ++ l) (sym (flat_map-map (λ other. separator ++ other) text_of xs))
@@ -37,16 +37,16 @@ pub text_left : (bs rest : List ℕ) (letter : ℕ) → IsUtf8 bs → bs ≡ enc
 text_left bs rest letter text starts = IsUtf8-past_char bs rest letter text starts
 
 pub letter_more : (old new whole bs rest : List ℕ) (letter : ℕ) → IsUtf8 bs → bs ≡ encode_utf8 letter ++ rest
-    → new ≡ old ++ escaped letter → old ++ flat_map escaped (chars bs) ≡ whole
-    → new ++ flat_map escaped (chars rest) ≡ whole
+    → new ≡ old ++ pointer_escaped letter → old ++ flat_map pointer_escaped (chars bs) ≡ whole
+    → new ++ flat_map pointer_escaped (chars rest) ≡ whole
 letter_more old new whole bs rest letter text starts is so_far =
-    ap (λ l. l ++ flat_map escaped (chars rest)) is
-    ∙ append_assoc old (escaped letter) (flat_map escaped (chars rest))
-    ∙ ap (λ l. old ++ flat_map escaped l) (sym (chars_past_char bs rest letter text starts)) ∙ so_far
+    ap (λ l. l ++ flat_map pointer_escaped (chars rest)) is
+    ∙ append_assoc old (pointer_escaped letter) (flat_map pointer_escaped (chars rest))
+    ∙ ap (λ l. old ++ flat_map pointer_escaped l) (sym (chars_past_char bs rest letter text starts)) ∙ so_far
 
-pub letters_done : (now whole bs : List ℕ) → length bs ≡ 0 → now ++ flat_map escaped (chars bs) ≡ whole → now ≡ whole
+pub letters_done : (now whole bs : List ℕ) → length bs ≡ 0 → now ++ flat_map pointer_escaped (chars bs) ≡ whole → now ≡ whole
 letters_done now whole bs none so_far =
-    sym (append-nil now) ∙ ap (λ l. now ++ flat_map escaped l) (sym (ap chars (nil_from_length bs none) ∙ chars-nil))
+    sym (append-nil now) ∙ ap (λ l. now ++ flat_map pointer_escaped l) (sym (ap chars (nil_from_length bs none) ∙ chars-nil))
     ∙ so_far
 
 -- one more
@@ -57,7 +57,7 @@ flat_more f xs i d inside =
     ∙ ap (λ l. flat_map f (take i xs) ++ l) (append-nil (f (get_or xs i d)))
 
 pub numbered_more : {X Y : Type 0} (make : ℕ → X → List Y) (xs : List X) (i : ℕ) (d : X) → i < length xs
-    → numbered make i (drop i xs) ≡ make i (get_or xs i d) ++ numbered make (i + 1) (drop (i + 1) xs)
+    → by_place make i (drop i xs) ≡ make i (get_or xs i d) ++ by_place make (i + 1) (drop (i + 1) xs)
 numbered_more make xs i d inside = rw (add-one, drop-cons xs i d) refl
 
 -- lines after lines
@@ -68,16 +68,16 @@ added start done more old new so_far is = is ∙ ap (λ l. l ++ more) so_far ∙
 module _ {X Y : Type 0} (make : ℕ → X → List Y) (xs : List X) (i : ℕ) where
   -- one more is made, and the later ones are left
   pub numbered_step : (d : X) → i < length xs → (old new whole : List Y) → new ≡ old ++ make i (get_or xs i d)
-      → old ++ numbered make i (drop i xs) ≡ whole → new ++ numbered make (i + 1) (drop (i + 1) xs) ≡ whole
+      → old ++ by_place make i (drop i xs) ≡ whole → new ++ by_place make (i + 1) (drop (i + 1) xs) ≡ whole
   numbered_step d inside old new whole is so_far =
-      ap (λ l. l ++ numbered make (i + 1) (drop (i + 1) xs)) is
-      ∙ append_assoc old (make i (get_or xs i d)) (numbered make (i + 1) (drop (i + 1) xs))
+      ap (λ l. l ++ by_place make (i + 1) (drop (i + 1) xs)) is
+      ∙ append_assoc old (make i (get_or xs i d)) (by_place make (i + 1) (drop (i + 1) xs))
       ∙ ap (λ l. old ++ l) (sym (numbered_more make xs i d inside)) ∙ so_far
 
-  pub numbered_done : length xs ≤ i → (now whole : List Y) → now ++ numbered make i (drop i xs) ≡ whole → now ≡ whole
+  pub numbered_done : length xs ≤ i → (now whole : List Y) → now ++ by_place make i (drop i xs) ≡ whole → now ≡ whole
   numbered_done past now whole so_far =
       let none : drop i xs ≡ [] = nil_from_length (drop i xs) (omega (arith, length-drop {A = X})) in
-      sym (append-nil now) ∙ ap (λ l. now ++ numbered make i l) (sym none) ∙ so_far
+      sym (append-nil now) ∙ ap (λ l. now ++ by_place make i l) (sym none) ∙ so_far
 
 -- ---- lines that several calls add
 
@@ -103,9 +103,9 @@ length_mapped f xs = rw length-map refl
 pub check_whole : {Y : Type 0} (conditions : List (String Y)) (found warnings : List Found) (lines : List (List ℕ))
     (text : List ℕ)
     → text ≡ flat_map as_line (map string_bytes conditions) ++ flat_map as_warning found
-    ++ as_line (count_line (length conditions) (length found))
+    ++ as_line (checked_line (length conditions) (length found))
     → map string_bytes conditions ≡ lines → found ≡ warnings
-    → text ≡ flat_map as_line lines ++ flat_map as_warning warnings ++ as_line (count_line (length lines) (length warnings))
+    → text ≡ flat_map as_line lines ++ flat_map as_warning warnings ++ as_line (checked_line (length lines) (length warnings))
 check_whole conditions found warnings lines text is asked warned =
     let as_many : length conditions ≡ length lines = sym (length_mapped string_bytes conditions) ∙ ap length asked in
-    is ∙ (λ i. flat_map as_line (asked i) ++ flat_map as_warning (warned i) ++ as_line (count_line (as_many i) (length (warned i))))
+    is ∙ (λ i. flat_map as_line (asked i) ++ flat_map as_warning (warned i) ++ as_line (checked_line (as_many i) (length (warned i))))

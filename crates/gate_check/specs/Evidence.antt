@@ -3,19 +3,19 @@ use Rattle.std.specs.Prelude.{◌≡◌, List, Bool, MatchBool, Option, None, So
 use Rattle.std.specs.List.{AllZip}
 use Rattle.gate_rules.specs.Rules.{GateRules}
 use Rattle.state_core.specs.State.{State}
-use Rattle.gate_check.specs.Names.{Names, names_in}
-use Rattle.gate_check.specs.Unused.{IsUnused, messages_in}
+use Rattle.gate_check.specs.Names.{KnownNames, names_in}
+use Rattle.gate_check.specs.Unused.{IsUnusedBase, messages_in}
 
 -- the names, and of each base, in the order of the gate file, whether it is unused
 pub record Evidence : Type 0 where
-  pub names : Names
+  pub names : KnownNames
   pub unused : List Bool
 
 pub record IsEvidence (gate : GateRules) (state : State) (evidence : Evidence) : Type 0 where
   pub names : evidence.names ≡ names_in state
   pub unused : AllZip
       (λ base is_so. MatchBool is_so
-      (IsUnused gate.bases (messages_in state) base) (¬ IsUnused gate.bases (messages_in state) base))
+      (IsUnusedBase gate.bases (messages_in state) base) (¬ IsUnusedBase gate.bases (messages_in state) base))
       gate.bases evidence.unused
 
 -- the same with a record or without one
@@ -25,5 +25,5 @@ IsEvidenceIfAny gate None (Some evidence) = ⊥
 IsEvidenceIfAny gate (Some state) None = ⊥
 IsEvidenceIfAny gate (Some state) (Some evidence) = IsEvidence gate state evidence
 
-abbrev pub names_shown_by : Option Evidence → Option Names
+abbrev pub names_shown_by : Option Evidence → Option KnownNames
 names_shown_by evidence = option_map (λ known. known.names) evidence

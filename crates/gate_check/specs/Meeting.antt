@@ -48,8 +48,8 @@ same_answer (Some required) (Some rejected) = same_flag required rejected
 -- ---- approvals
 
 -- the vote of this label and value by the voter whom the pattern names, if it names one
-abbrev pub vote_of : PatternRule → List ℕ → ℤ → GivenApproval
-vote_of pattern label value = record { label = label; voter = unwrap_or pattern.username []; value = value }
+abbrev pub wanted_vote : PatternRule → List ℕ → ℤ → GivenApproval
+wanted_vote pattern label value = record { label = label; voter = unwrap_or pattern.username []; value = value }
 
 -- it takes every voter whom the pattern takes, if it takes the one who is named
 abbrev pub is_as_wide : PatternRule → PatternRule → Bool
@@ -58,7 +58,7 @@ is_as_wide other pattern = not (is_some other.username) || is_some pattern.usern
 -- the votes of this label and value that the pattern takes are rejected
 abbrev pub rejects_votes : List PatternRule → PatternRule → List ℕ → ℤ → Bool
 rejects_votes rejected pattern label value =
-    some (λ other. is_as_wide other pattern && matches other (vote_of pattern label value)) rejected
+    some (λ other. is_as_wide other pattern && matches other (wanted_vote pattern label value)) rejected
 
 abbrev pub has_none : {A : Type 0} → List A → Bool
 has_none [] = true

@@ -1,4 +1,4 @@
--- The labels and the voters of a record: those that some vote has, be it withdrawn or not.
+-- The labels and the voters of a record: those that some vote has_known, be it withdrawn or not.
 use Rattle.std.specs.Prelude.{◌≡◌, ℕ, List, [], ◌∷◌, Bool, map, flat_map}
 use Rattle.std.specs.BTreeSet.{insert_key}
 use Rattle.std.specs.Cmp.Lexicographic.{slice_cmp}
@@ -24,26 +24,26 @@ with_each texts [] = texts
 with_each texts (text ∷ more) = with_each (insert_key (slice_cmp nat_cmp) texts text) more
 
 -- whether a name is among these
-abbrev pub has : List (List ℕ) → List ℕ → Bool
-has names name = some (bytes_eq name) names
+abbrev pub has_known : List (List ℕ) → List ℕ → Bool
+has_known names name = some (bytes_eq name) names
 
 -- what is known of a record: its labels and its voters, in byte order, each once
-pub record Names : Type 0 where
+pub record KnownNames : Type 0 where
   pub labels : List (List ℕ)
   pub voters : List (List ℕ)
 
-abbrev pub labels_of : List Slot → List (List ℕ)
-labels_of slots = map (λ slot. slot.label) slots
+abbrev pub known_labels : List Slot → List (List ℕ)
+known_labels slots = map (λ slot. slot.label) slots
 
 abbrev pub voters_of : List Slot → List (List ℕ)
 voters_of slots = map (λ slot. slot.voter) slots
 
-abbrev pub names_in : State → Names
+abbrev pub names_in : State → KnownNames
 names_in state = record {
-  labels = with_each [] (labels_of (slots_in state));
+  labels = with_each [] (known_labels (slots_in state));
   voters = with_each [] (voters_of (slots_in state));
 }
 
 -- texts that are put in order are the same texts
 abbrev pub AreTheSameTexts : Type 0
-AreTheSameTexts = (texts : List (List ℕ)) (name : List ℕ) → has (with_each [] texts) name ≡ has texts name
+AreTheSameTexts = (texts : List (List ℕ)) (name : List ℕ) → has_known (with_each [] texts) name ≡ has_known texts name

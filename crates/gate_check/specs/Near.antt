@@ -3,5 +3,5 @@ use Rattle.std.specs.Prelude.{◌≡◌, ℕ, List}
 use Rattle.gate_check.specs.Nearest.{edits}
 use Rattle.gate_check.specs.declared.nearest.Near.{Near}
 
-abbrev pub IsNear : List ℕ → Near → Type 0
-IsNear name near = near.edits ≡ edits name near.name.now
+abbrev pub IsNearName : List ℕ → Near → Type 0
+IsNearName name near = near.edits ≡ edits name near.name.now

@@ -34,7 +34,7 @@ nearest name names = if_near name (nearest_of name None names)
 -- ---- what is found so
 
 -- it is one of the names and near enough; each one before it is further, and none after it is nearer
-pub record IsNearest (name : List ℕ) (names : List (List ℕ)) (found : List ℕ) : Type 0 where
+pub record IsNearestName (name : List ℕ) (names : List (List ℕ)) (found : List ℕ) : Type 0 where
   pub before : List (List ℕ)
   pub after : List (List ℕ)
   pub split : names ≡ before ++ found ∷ after
@@ -45,4 +45,4 @@ pub record IsNearest (name : List ℕ) (names : List (List ℕ)) (found : List �
 -- that is found, or nothing where each of the names is too far
 abbrev pub FindsNearest : Type 0
 FindsNearest = (name : List ℕ) (names : List (List ℕ))
-    → MatchOption (nearest name names) (AllByRecursion (λ other. most_edits name < edits name other) names) (IsNearest name names)
+    → MatchOption (nearest name names) (AllByRecursion (λ other. most_edits name < edits name other) names) (IsNearestName name names)

@@ -1,11 +1,11 @@
 -- What the sets of names have.
 use Rattle.std.specs.Prelude.{map, string_bytes}
 use Rattle.gate_check.specs.Evidence.{Evidence}
-use Rattle.gate_check.specs.Names.{Names}
+use Rattle.gate_check.specs.Names.{KnownNames}
 use Rattle.gate_check.specs.declared.names.Names as kept
 use Rattle.gate_check.specs.declared.evidence.Evidence as held
 
-abbrev pub names_shown : kept.Names → Names
+abbrev pub names_shown : kept.Names → KnownNames
 names_shown names = record {
   labels = map string_bytes names.labels.keys;
   voters = map string_bytes names.voters.keys;

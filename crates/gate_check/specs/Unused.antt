@@ -41,15 +41,15 @@ abbrev pub IsUrl : List ℕ → Type 0
 IsUrl value = ((rest : List ℕ) × (value ≡ codes "http://" ++ rest)) ⊎ ((rest : List ℕ) × (value ≡ codes "https://" ++ rest))
 
 -- the value is a URL, and names a change under none of the bases
-abbrev pub IsElsewhere : List (List ℕ) → List ℕ → Type 0
-IsElsewhere bases value = IsUrl value × ((change : ℕ) → ¬ NamesChange bases value change)
+abbrev pub NamesElsewhere : List (List ℕ) → List ℕ → Type 0
+NamesElsewhere bases value = IsUrl value × ((change : ℕ) → ¬ NamesChange bases value change)
 
 -- what is looked for among the values of footers
 abbrev pub IsSought : Sought → List ℕ → Type 0
 IsSought (Under base) value = IsUnder base.now value
-IsSought (Elsewhere bases) value = IsElsewhere bases.now value
+IsSought (Elsewhere bases) value = NamesElsewhere bases.now value
 
 -- no footer of the messages names a change under the base, while one has a URL that names none under any base
-abbrev pub IsUnused : List (List ℕ) → List (List ℕ) → List ℕ → Type 0
-IsUnused bases messages base =
-    (¬ SomeIs (HasFooter (IsUnder base)) messages) × SomeIs (HasFooter (IsElsewhere bases)) messages
+abbrev pub IsUnusedBase : List (List ℕ) → List (List ℕ) → List ℕ → Type 0
+IsUnusedBase bases messages base =
+    (¬ SomeIs (HasFooter (IsUnder base)) messages) × SomeIs (HasFooter (NamesElsewhere bases)) messages

@@ -7,10 +7,10 @@ use Rattle.gate_rules.specs.Own.{some}
 use Rattle.gate_rules.specs.Rules.{GateRules, LabelRule, PatternRule}
 use Rattle.gate_rules.specs.declared.condition.Side.{Side}
 use Rattle.gate_rules.specs.declared.condition.Side.TheVariants.{Require, Reject}
-use Rattle.gate_check.specs.Asking.{approval_key, numbered, place_of}
+use Rattle.gate_check.specs.Asking.{approval_pointer, by_place, pointer_of}
 use Rattle.gate_check.specs.Meeting.{is_current_never_met, is_never_met, is_open_never_met, is_status_never_met}
 use Rattle.gate_check.specs.Evidence.{Evidence, names_shown_by}
-use Rattle.gate_check.specs.Names.{Names, has}
+use Rattle.gate_check.specs.Names.{KnownNames, has_known}
 use Rattle.gate_check.specs.Nearest.{nearest}
 use Rattle.gate_check.specs.declared.warning.Warning.{Warning}
 use Rattle.gate_check.specs.declared.warning.Warning.TheVariants.{Pattern, UnknownLabel, UnknownVoter, NeverMet, UnusedBase}
@@ -65,7 +65,7 @@ not_among warning place names name =
 abbrev pub warned : Bool → Found → List Found
 warned is_so found = if is_so then found ∷ [] else []
 
--- ---- 1 Pattern: the username has a character that a regular expression would have, and is compared as it is
+-- ---- 1 Pattern: the username has_known a character that a regular expression would have, and is compared as it is
 
 abbrev pub is_sign : ℕ → Bool
 is_sign byte = some (nat_eq byte) (codes "^$*+?()[]{}|\\")
@@ -74,20 +74,20 @@ abbrev pub pattern_warnings : List ℕ → Option (List ℕ) → List Found
 pattern_warnings place None = []
 pattern_warnings place (Some voter) = warned (some is_sign voter) (about_text Pattern place voter)
 
--- ---- 2 UnknownLabel and 3 UnknownVoter: no vote of the record has the label, or the voter
+-- ---- 2 UnknownLabel and 3 UnknownVoter: no vote of the record has_known the label, or the voter
 
 abbrev pub unknown_name : Warning → List ℕ → List (List ℕ) → List ℕ → List Found
-unknown_name warning place names name = warned (not (has names name)) (not_among warning place names name)
+unknown_name warning place names name = warned (not (has_known names name)) (not_among warning place names name)
 
-abbrev pub label_warning : List ℕ → Names → LabelRule → List Found
+abbrev pub label_warning : List ℕ → KnownNames → LabelRule → List Found
 label_warning place names rule = unknown_name UnknownLabel place names.labels rule.label
 
-abbrev pub voter_warnings : List ℕ → Names → Option (List ℕ) → List Found
+abbrev pub voter_warnings : List ℕ → KnownNames → Option (List ℕ) → List Found
 voter_warnings place names None = []
 voter_warnings place names (Some voter) = unknown_name UnknownVoter place names.voters voter
 
 -- of a pattern, where a record is named
-abbrev pub unknown_warnings : List ℕ → Option Names → PatternRule → List Found
+abbrev pub unknown_warnings : List ℕ → Option KnownNames → PatternRule → List Found
 unknown_warnings place None pattern = []
 unknown_warnings place (Some names) pattern =
     flat_map (label_warning place names) pattern.labels ++ voter_warnings place names pattern.username
@@ -97,7 +97,7 @@ unknown_warnings place (Some names) pattern =
 abbrev pub never_met : Bool → List ℕ → List Found
 never_met is_so place = warned is_so (of_place NeverMet place)
 
--- ---- 5 UnusedBase: no footer of the record has the base, while one has a URL that is under none
+-- ---- 5 UnusedBase: no footer of the record has_known the base, while one has_known a URL that is under none
 
 abbrev pub base_place : ℕ → List ℕ
 base_place place = codes "/bases/" ++ decimal place
@@ -113,22 +113,22 @@ base_warning gate place is_so = warned is_so (record {
 -- of each base, where a record is named
 abbrev pub base_warnings : GateRules → Option Evidence → List Found
 base_warnings gate None = []
-base_warnings gate (Some evidence) = numbered (base_warning gate) 0 evidence.unused
+base_warnings gate (Some evidence) = by_place (base_warning gate) 0 evidence.unused
 
 -- ---- the warnings of a gate
 
 -- of an approval at a place
-abbrev pub warnings_at : List ℕ → Option Names → Bool → PatternRule → List Found
+abbrev pub warnings_at : List ℕ → Option KnownNames → Bool → PatternRule → List Found
 warnings_at place names is_so pattern =
     pattern_warnings place pattern.username ++ unknown_warnings place names pattern ++ never_met is_so place
 
-abbrev pub approval_warnings : GateRules → Option Names → Side → ℕ → PatternRule → List Found
+abbrev pub approval_warnings : GateRules → Option KnownNames → Side → ℕ → PatternRule → List Found
 approval_warnings gate names side number pattern =
-    warnings_at (place_of gate side (approval_key number)) names (is_never_met gate side pattern) pattern
+    warnings_at (pointer_of gate side (approval_pointer number)) names (is_never_met gate side pattern) pattern
 
 -- of what is required under a key
 abbrev pub key_warnings : GateRules → List ℕ → Bool → List Found
-key_warnings gate key is_so = never_met is_so (place_of gate Require key)
+key_warnings gate key is_so = never_met is_so (pointer_of gate Require key)
 
 -- of the conditions before the approvals
 abbrev pub first_warnings : GateRules → List Found
@@ -138,10 +138,10 @@ first_warnings gate =
     ++ key_warnings gate (codes "status") (is_status_never_met gate)
 
 -- condition by condition, as items are judged by them
-abbrev pub condition_warnings : GateRules → Option Names → List Found
+abbrev pub condition_warnings : GateRules → Option KnownNames → List Found
 condition_warnings gate names =
-    first_warnings gate ++ numbered (approval_warnings gate names Require) 0 gate.require.approvals
-    ++ numbered (approval_warnings gate names Reject) 0 gate.reject.approvals
+    first_warnings gate ++ by_place (approval_warnings gate names Require) 0 gate.require.approvals
+    ++ by_place (approval_warnings gate names Reject) 0 gate.reject.approvals
 
 -- those of the conditions, and then those of the bases
 abbrev pub warnings_of : GateRules → Option Evidence → List Found

@@ -1,8 +1,8 @@
 //! A line for each condition of a gate.
 
 ghost use Rattle.std.specs.Prelude.{◌≡◌, ◌++◌, IfOk, OnOk, map, string_bytes};
-ghost use Rattle.gate_check.specs.Asking.{approval_line, approval_lines, condition_line, condition_lines, current_lines};
-ghost use Rattle.gate_check.specs.Asking.{numbered, open_lines, side_lines, status_lines};
+ghost use Rattle.gate_check.specs.Asking.{asked_line, approval_lines, condition_line, condition_lines, current_lines};
+ghost use Rattle.gate_check.specs.Asking.{by_place, open_lines, side_lines, status_lines};
 
 use super::place::{approval_key, place_of};
 use super::words::{current_words, open_words, pattern_words, status_words};
@@ -87,7 +87,7 @@ fn add_approvals(
     lines: &mut Vec<String>,
 ) -> Result<(), NoMemory>
     ensures { OnOk result (map string_bytes lines.new.items
-        ≡ map string_bytes lines.old.items ++ numbered (approval_lines gate.now side) 0 approvals.now) }
+        ≡ map string_bytes lines.old.items ++ by_place (approval_lines gate.now side) 0 approvals.now) }
 {
     for place in 0..approvals.len() {
         lines.push(approval_line(alloc, gate, side, place, &approvals[place])?)?;
@@ -103,7 +103,7 @@ fn approval_line(
     place: usize,
     pattern: &Pattern,
 ) -> Result<String, NoMemory>
-    ensures { IfOk result (λ line. string_bytes line ≡ approval_line gate.now side place pattern.now) }
+    ensures { IfOk result (λ line. string_bytes line ≡ asked_line gate.now side place pattern.now) }
 {
     let key = approval_key(alloc, place)?;
     let words = pattern_words(alloc, pattern)?;

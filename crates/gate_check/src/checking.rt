@@ -2,7 +2,7 @@
 
 ghost use Rattle.std.specs.Prelude.{◌≡◌, ◌++◌, IfOk, OnOk, flat_map, length, map, option_map, string_bytes};
 ghost use Rattle.byte_ends.specs.Lines.{as_line};
-ghost use Rattle.gate_check.specs.Checked.{IsCheck, as_warning, check_text, count_line};
+ghost use Rattle.gate_check.specs.Checked.{IsCheck, as_warning, check_text, checked_line};
 ghost use Rattle.gate_check.specs.Evidence.{IsEvidenceIfAny};
 ghost use Rattle.gate_check.specs.Shown.{evidence_shown};
 
@@ -47,7 +47,7 @@ pub fn check_gate(alloc: Global, gate: &Gate, state: Option<&State>) -> Result<C
 fn text_with(alloc: Global, conditions: &[String], found: &[Finding]) -> Result<Checked, NoMemory>
     ensures text { IfOk result (λ check. string_bytes check.text
         ≡ flat_map as_line (map string_bytes conditions.now) ++ flat_map as_warning found.now
-        ++ as_line (count_line (length conditions.now) (length found.now))) }
+        ++ as_line (checked_line (length conditions.now) (length found.now))) }
     ensures warnings { IfOk result (λ check. check.warnings ≡ length found.now) }
 {
     let mut text = String::new(alloc);

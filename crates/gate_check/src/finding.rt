@@ -2,7 +2,7 @@
 
 ghost use Rattle.std.specs.Prelude.{◌≡◌, ◌++◌, IfOk, OnOk, flat_map, map, nat_eq, option_map, string_bytes};
 ghost use Rattle.gate_rules.specs.Own.{some};
-ghost use Rattle.gate_check.specs.Asking.{numbered};
+ghost use Rattle.gate_check.specs.Asking.{by_place};
 ghost use Rattle.gate_check.specs.Evidence.{names_shown_by};
 ghost use Rattle.gate_check.specs.Shown.{evidence_shown, names_shown};
 ghost use Rattle.gate_check.specs.Warnings.{approval_warnings, base_place, base_warning, base_warnings};
@@ -116,7 +116,7 @@ fn add_approvals(
     found: &mut Vec<Finding>,
 ) -> Result<(), NoMemory>
     ensures { OnOk result (found.new.items ≡ found.old.items
-        ++ numbered (approval_warnings gate.now (option_map (λ known. names_shown known.now) names.entry) side) 0
+        ++ by_place (approval_warnings gate.now (option_map (λ known. names_shown known.now) names.entry) side) 0
         approvals.now) }
 {
     for number in 0..approvals.len() {
@@ -329,7 +329,7 @@ fn add_bases(
     unused: &[bool],
     found: &mut Vec<Finding>,
 ) -> Result<(), NoMemory>
-    ensures { OnOk result (found.new.items ≡ found.old.items ++ numbered (base_warning gate.now) 0 unused.now) }
+    ensures { OnOk result (found.new.items ≡ found.old.items ++ by_place (base_warning gate.now) 0 unused.now) }
 {
     for place in 0..unused.len() {
         add_base(alloc, gate, place, unused[place], found)?;

@@ -1,7 +1,7 @@
 //! A warning of a gate.
 
 ghost use Rattle.std.specs.Prelude.{◌≡◌, ◌++◌, IfOk, OnOk, option_map, string_bytes};
-ghost use Rattle.json_line.specs.Tokens.{Adds};
+ghost use Rattle.json_line.specs.Tokens.{AddsTokens};
 ghost use Rattle.gate_check.specs.Checked.{detail_tokens, kind_tokens, warning_tokens, worded_if};
 ghost use Rattle.gate_check.specs.Warnings.{Found, about_words, nearest_words, warning_line};
 
@@ -72,7 +72,7 @@ impl Finding {
 
     /// Adds it as a JSON object.
     pub fn put(&self, out: &mut Writer<Global>) -> Result<(), NoMemory>
-        ensures { OnOk result (Adds out.old out.new (warning_tokens self.now)) }
+        ensures { OnOk result (AddsTokens out.old out.new (warning_tokens self.now)) }
     {
         open_object(out)?;
         self.put_kind(out)?;
@@ -83,7 +83,7 @@ impl Finding {
 
     /// Adds its number, its name and its place.
     fn put_kind(&self, out: &mut Writer<Global>) -> Result<(), NoMemory>
-        ensures { OnOk result (Adds out.old out.new (kind_tokens self.now)) }
+        ensures { OnOk result (AddsTokens out.old out.new (kind_tokens self.now)) }
     {
         put_number(out, "number", u64::from(self.warning.number()))?;
         put_text(out, "name", self.warning.name())?;
@@ -93,7 +93,7 @@ impl Finding {
 
     /// Adds what it is about, and the nearest name, where there are these.
     fn put_details(&self, out: &mut Writer<Global>) -> Result<(), NoMemory>
-        ensures { OnOk result (Adds out.old out.new (detail_tokens self.now)) }
+        ensures { OnOk result (AddsTokens out.old out.new (detail_tokens self.now)) }
     {
         put_if(out, "about", &self.about)?;
         put_if(out, "nearest", &self.nearest)?;
@@ -136,7 +136,7 @@ fn nearest_words(alloc: Global, nearest: &Option<String>) -> Result<String, NoMe
 
 /// Adds a text under a key, where there is one.
 fn put_if(out: &mut Writer<Global>, key: &str, text: &Option<String>) -> Result<(), NoMemory>
-    ensures { OnOk result (Adds out.old out.new (worded_if key.now (option_map string_bytes text.now))) }
+    ensures { OnOk result (AddsTokens out.old out.new (worded_if key.now (option_map string_bytes text.now))) }
 {
     match text {
         Some(text) => put_text(out, key, text.as_str()),

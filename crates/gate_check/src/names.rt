@@ -7,7 +7,7 @@ ghost use Rattle.std.specs.FinMap as finite;
 ghost use Rattle.std.specs.Ordering.{nat_cmp};
 ghost use Rattle.change_core.specs.Parts.{votes_shown};
 ghost use Rattle.state_core.specs.State.{state_shown};
-ghost use Rattle.gate_check.specs.Names.{has, labels_of, names_in, voters_of, with_each};
+ghost use Rattle.gate_check.specs.Names.{has_known, known_labels, names_in, voters_of, with_each};
 ghost use Rattle.gate_check.specs.Shown.{names_shown};
 
 use change_core::{ChangeState, VoteSlot};
@@ -58,7 +58,7 @@ impl Names {
         votes: &JoinList<VoteSlot, Register<Stamp, i8>>,
     ) -> Result<(), NoMemory>
         ensures labels { OnOk result ((names_shown self.new).labels ≡ with_each (names_shown self.old).labels
-            (labels_of (map (λ register. register.0) (finite.entries (votes_shown votes.now))))) }
+            (known_labels (map (λ register. register.0) (finite.entries (votes_shown votes.now))))) }
         ensures voters { OnOk result ((names_shown self.new).voters ≡ with_each (names_shown self.old).voters
             (voters_of (map (λ register. register.0) (finite.entries (votes_shown votes.now))))) }
     {
@@ -96,7 +96,7 @@ fn add(alloc: Global, texts: &mut BTreeSet<String>, text: &str) -> Result<(), No
 
 /// Whether a text is in a set.
 pub fn has(texts: &BTreeSet<String>, text: &str) -> bool
-    ensures { result ≡ has (map string_bytes texts.now.keys) text.now }
+    ensures { result ≡ has_known (map string_bytes texts.now.keys) text.now }
 {
     texts.contains(text)
 }

@@ -2,7 +2,7 @@
 
 ghost use Rattle.std.specs.Prelude.{◌≡◌, ℕ, List, IfOk, IfSome, map, option_map, string_bytes};
 ghost use Rattle.gate_check.specs.Nearest.{if_near, most_edits, nearer, nearest};
-ghost use Rattle.gate_check.specs.Near.{IsNear};
+ghost use Rattle.gate_check.specs.Near.{IsNearName};
 
 use lattice_core::NoMemory;
 use std::alloc::Global;
@@ -37,7 +37,8 @@ pub fn nearest<'n>(
 
 /// The nearer of two, and the first where both are as near.
 fn nearer<'n>(best: Option<Near<'n>>, other: Near<'n>) -> Near<'n>
-    ensures { (name : List ℕ) → IfSome best.entry (IsNear name) → IsNear name other.entry → IsNear name result
+    ensures { (name : List ℕ) → IfSome best.entry (IsNearName name) → IsNearName name other.entry
+        → IsNearName name result
         × (result.name.now ≡ nearer name (option_map (λ near. near.name.now) best.entry) other.entry.name.now) }
 {
     match best {
@@ -48,7 +49,7 @@ fn nearer<'n>(best: Option<Near<'n>>, other: Near<'n>) -> Near<'n>
 
 /// The name that was found, unless it is too far.
 fn if_near<'n>(name: &str, best: Option<Near<'n>>) -> Option<&'n str>
-    requires { IfSome best (IsNear name.now) }
+    requires { IfSome best (IsNearName name.now) }
     ensures { option_map (λ text. text.now) result ≡ if_near name.now (option_map (λ near. near.name.now) best.entry) }
 {
     let best = best?;

@@ -1,7 +1,7 @@
 //! What a check says, as JSON.
 
 ghost use Rattle.std.specs.Prelude.{◌≡◌, ◌++◌, IfOk, OnOk, codes, flat_map, map, option_map, string_bytes};
-ghost use Rattle.json_line.specs.Tokens.{Adds, json_line, listed, object_of, texts_listed};
+ghost use Rattle.json_line.specs.Tokens.{AddsTokens, json_line, listed_tokens, object_of, texts_listed};
 ghost use Rattle.gate_check.specs.Checked.{IsCheck, check_line, warning_tokens};
 
 use super::asking::condition_lines;
@@ -47,7 +47,7 @@ pub fn check_line(
 fn line_with(alloc: Global, conditions: &[String], found: &[Finding]) -> Result<Vec<u8>, NoMemory>
     ensures { IfOk result (λ line. line.items ≡ json_line (object_of
         (texts_listed (codes "conditions") (map string_bytes conditions.now)
-        ++ listed (codes "warnings") (flat_map warning_tokens found.now)))) }
+        ++ listed_tokens (codes "warnings") (flat_map warning_tokens found.now)))) }
 {
     let mut out = Writer::new(Vec::new(alloc));
     open_object(&mut out)?;
@@ -59,7 +59,8 @@ fn line_with(alloc: Global, conditions: &[String], found: &[Finding]) -> Result<
 
 /// Adds the list of warnings.
 fn put_warnings(out: &mut Writer<Global>, found: &[Finding]) -> Result<(), NoMemory>
-    ensures { OnOk result (Adds out.old out.new (listed (codes "warnings") (flat_map warning_tokens found.now))) }
+    ensures { OnOk result
+        (AddsTokens out.old out.new (listed_tokens (codes "warnings") (flat_map warning_tokens found.now))) }
 {
     open_list(out, "warnings")?;
     add_all(out, found)?;
@@ -69,7 +70,7 @@ fn put_warnings(out: &mut Writer<Global>, found: &[Finding]) -> Result<(), NoMem
 
 /// Adds the objects of warnings.
 fn add_all(out: &mut Writer<Global>, found: &[Finding]) -> Result<(), NoMemory>
-    ensures { OnOk result (Adds out.old out.new (flat_map warning_tokens found.now)) }
+    ensures { OnOk result (AddsTokens out.old out.new (flat_map warning_tokens found.now)) }
 {
     for finding in found {
         finding.put(out)?;

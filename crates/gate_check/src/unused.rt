@@ -5,7 +5,7 @@ ghost use Rattle.std.specs.List.{AllZip};
 ghost use Rattle.std.specs.FinMap as finite;
 ghost use Rattle.change_core.specs.Parts.{patch_of, sets_shown};
 ghost use Rattle.state_core.specs.State.{state_shown};
-ghost use Rattle.gate_check.specs.Unused.{HasFooter, HasValue, IsSought, IsUnused, IsUrl, SomeIs, messages_in};
+ghost use Rattle.gate_check.specs.Unused.{HasFooter, HasValue, IsSought, IsUnusedBase, IsUrl, SomeIs, messages_in};
 ghost use Rattle.gate_check.specs.Unused.{messages_of};
 
 use change_core::{ChangeState, Commit};
@@ -30,7 +30,7 @@ pub enum Sought<'g> {
 pub fn unused_bases(alloc: Global, bases: &Bases, state: &State) -> Result<Vec<bool>, NoMemory>
     ensures { IfOk result (λ unused. AllZip
         (λ base is_so. MatchBool is_so
-        (IsUnused bases.now (messages_in state.now) base) (¬ IsUnused bases.now (messages_in state.now) base))
+        (IsUnusedBase bases.now (messages_in state.now) base) (¬ IsUnusedBase bases.now (messages_in state.now) base))
         bases.now unused.items) }
 {
     let mut unused = Vec::new(alloc);
@@ -44,7 +44,7 @@ pub fn unused_bases(alloc: Global, bases: &Bases, state: &State) -> Result<Vec<b
 /// Whether no footer of the record names a change under a base, while one has a URL that names none under any.
 fn is_unused(bases: &Bases, base: &str, state: &State) -> bool
     ensures { MatchBool result
-        (IsUnused bases.now (messages_in state.now) base.now) (¬ IsUnused bases.now (messages_in state.now) base.now) }
+        (IsUnusedBase bases.now (messages_in state.now) base.now) (¬ IsUnusedBase bases.now (messages_in state.now) base.now) }
 {
     if Sought::Under(base).is_in_record(state.changes()) {
         return false;

@@ -3,7 +3,8 @@
 ghost use Rattle.std.specs.Prelude.{◌≡◌, ◌++◌, IfOk, OnOk, map, option_map, string_bytes};
 ghost use Rattle.std.specs.Fmt.{signed_decimal};
 ghost use Rattle.json.specs.Print.{quoted};
-ghost use Rattle.gate_check.specs.Asking.{current_words, joined, label_words, open_words, pattern_words, status_words};
+ghost use Rattle.gate_check.specs.Asking.{current_words, joined_by, label_words, open_words, pattern_words};
+ghost use Rattle.gate_check.specs.Asking.{status_words};
 ghost use Rattle.gate_check.specs.Asking.{voter_words};
 
 use gate_rules::{LabelValues, Pattern};
@@ -81,7 +82,7 @@ fn voter_words(alloc: Global, voter: Option<&str>) -> Result<String, NoMemory>
 /// The texts with the separator between each two, or `none` where there are none.
 fn joined(alloc: Global, texts: &[String], none: &str, separator: &str) -> Result<String, NoMemory>
     ensures { IfOk result
-        (λ text. string_bytes text ≡ joined none.now separator.now (map string_bytes texts.now)) }
+        (λ text. string_bytes text ≡ joined_by none.now separator.now (map string_bytes texts.now)) }
 {
     if texts.is_empty() {
         return Ok(String::from_str(alloc, none)?);

@@ -13,9 +13,9 @@ use Rattle.gate_rules.specs.Spelling.{IsObject}
 use Rattle.gate_rules.specs.Words.{side_name}
 
 -- the element of a number, from 1
-abbrev pub numbered : {X : Type 0} → List X → ℕ → Option X
-numbered xs zero = None
-numbered xs (suc place) = slice_get xs place
+abbrev pub element_of_number : {X : Type 0} → List X → ℕ → Option X
+element_of_number xs zero = None
+element_of_number xs (suc place) = slice_get xs place
 
 -- a side's conditions are under its key, and there under the connection's name
 abbrev pub conditions_at : Side → Members → Option Members
@@ -27,7 +27,7 @@ abbrev pub clause_value : Clause → Members → Option Data
 clause_value OpenState conditions = get_member (codes "open") conditions
 clause_value CurrentSet conditions = get_member (codes "current-patchset") conditions
 clause_value StatusIn conditions = get_member (codes "status") conditions
-clause_value (Approval number) conditions = numbered (listed_or_none (get_member (codes "approval") conditions)) number
+clause_value (Approval number) conditions = element_of_number (listed_or_none (get_member (codes "approval") conditions)) number
 
 abbrev pub wanted_value : Condition → Members → Option Data
 wanted_value condition members = option_and_then (clause_value condition.clause) (conditions_at condition.side members)

@@ -28,7 +28,7 @@ use Rattle.gate_rules.specs.declared.condition.Clause.{Clause}
 use Rattle.gate_rules.specs.declared.condition.Clause.TheVariants.{OpenState, CurrentSet, StatusIn, Approval}
 use Rattle.gate_rules.specs.declared.condition.Condition.{Condition}
 use Rattle.gate_rules.specs.Words.{side_name}
-use Rattle.gate_rules.specs.Wanted.{numbered, conditions_at, clause_value, wanted_value}
+use Rattle.gate_rules.specs.Wanted.{element_of_number, conditions_at, clause_value, wanted_value}
 
 -- ---- faults
 or_parts : (a b : Option Fault) → or_later a b ≡ None → (a ≡ None) × (b ≡ None)
@@ -206,9 +206,9 @@ wanted_whole members condition d none is =
     clause_whole condition.clause outer.0 d (conditions_faultless members condition.side outer.0 none outer.1) outer.2
 
 -- ---- values by their numbers
-pub numbered_at : {X Y : Type 0} (shown : X → Y) (xs : List X) (number : ℕ) (x : X) → (number ≡ 0 → ⊥)
-    → number ≤ length xs → x ≡ get_or xs (number - 1) x → Some (shown x) ≡ numbered (map shown xs) number
-numbered_at shown xs zero x some within here = absurd (some refl)
-numbered_at shown xs (suc place) x some within here =
+pub element_at : {X Y : Type 0} (shown : X → Y) (xs : List X) (number : ℕ) (x : X) → (number ≡ 0 → ⊥)
+    → number ≤ length xs → x ≡ get_or xs (number - 1) x → Some (shown x) ≡ element_of_number (map shown xs) number
+element_at shown xs zero x some within here = absurd (some refl)
+element_at shown xs (suc place) x some within here =
     let one_less : suc place - 1 ≡ place = omega arith in
     sym (slice_get-map shown xs place ∙ ap (option_map shown) (slice_get_read xs (length xs) place x refl (omega (arith, within)) (subst (λ k. x ≡ get_or xs k x) one_less here)))

@@ -5,7 +5,7 @@ ghost use Rattle.serde_json.specs.View.{view, members_view};
 ghost use Rattle.serde_json.specs.Written.{compact_text};
 ghost use Rattle.gate_rules.specs.Spelling.{IsObject, SpellsGate};
 ghost use Rattle.gate_rules.specs.Walk.{gate_fault};
-ghost use Rattle.gate_rules.specs.Wanted.{IsWantedText, clause_value, conditions_at, numbered, wanted_value};
+ghost use Rattle.gate_rules.specs.Wanted.{IsWantedText, clause_value, conditions_at, element_of_number, wanted_value};
 
 use super::condition::{Clause, Condition, Side};
 use super::gate::Gate;
@@ -89,7 +89,7 @@ fn clause_in<'a>(conditions: &'a Map<String, Value>, clause: Clause) -> Option<&
 
 /// The value of a number in a list, from 1.
 fn numbered(values: &[Value], number: usize) -> Option<&Value>
-    ensures { option_map (λ value. view value.now) result ≡ numbered (map view values.now) number }
+    ensures { option_map (λ value. view value.now) result ≡ element_of_number (map view values.now) number }
 {
     if number == 0 || values.len() < number {
         return None;

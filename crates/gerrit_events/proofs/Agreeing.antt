@@ -6,7 +6,7 @@ use Rattle.std.specs.Prelude.{String, string_bytes}
 use Rattle.std.specs.Str.{bytes_eq}
 use Rattle.std.specs.String.{string_eq}
 use Rattle.std.specs.declared.alloc.Global.{Global}
-use Rattle.gerrit_events.specs.Revisions.{Revision, place_of}
+use Rattle.gerrit_events.specs.Revisions.{Revision, revision_place}
 use Rattle.gerrit_events.specs.RevisionsKept.{PlacesAgree}
 use Rattle.gerrit_events.proofs.Remembered.{added, removed, undone, AreApart-new}
 
@@ -19,13 +19,13 @@ Sets old new revision place = UpdatesBy string_eq (λ k. bytes_eq revision (stri
 
 looked_up : {S : Type 0} (old new : Places S) (revision : List ℕ) (place : Option (ℕ × ℕ)) → Sets old new revision place
     → (known : List Revision) → PlacesAgree old known → (r : List ℕ)
-    → get_by_text new r ≡ cond (bytes_eq revision r) place (place_of known r)
+    → get_by_text new r ≡ cond (bytes_eq revision r) place (revision_place known r)
 looked_up old new revision place sets known agree r =
     hash_map_updates_text revision old new place sets r ∙ ap (λ found. cond (bytes_eq revision r) place found)
     (agree.same r)
 
 module _ {S : Type 0} (old new : Places S) (revision : List ℕ) (place : ℕ × ℕ) (known : List Revision)
-    (agree : PlacesAgree old known) (unknown : place_of known revision ≡ None) (sets : Sets old new revision (Some place)) where
+    (agree : PlacesAgree old known) (unknown : revision_place known revision ≡ None) (sets : Sets old new revision (Some place)) where
   pub agree_added : (after : List Revision) → after ≡ known ++ (revision, place) ∷ [] → PlacesAgree new after
   agree_added after is =
       let whole : PlacesAgree new (known ++ (revision, place) ∷ []) = record {

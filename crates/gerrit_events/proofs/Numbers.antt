@@ -12,7 +12,7 @@ use Rattle.std.specs.Str.{all_ascii_digits}
 use Rattle.std.specs.Str.Parse.{IsNumeral, ParsesSigned, digits_value, signed_digits_value, without_leading_sign}
 use Rattle.serde_json.specs.Data.{Data, null, boolean, number, string, array, object}
 use Rattle.serde_json.specs.Find.{as_str}
-use Rattle.gerrit_events.specs.Values.{is_numeral, whole_in, within, written}
+use Rattle.gerrit_events.specs.Values.{is_numeral, whole_in, within, digits_written}
 
 own : IsNumeralModel (λ ds. all_ascii_digits ds ≡ true) (digits_value 10)
 own = numerals_by_value (λ ds. all_ascii_digits ds ≡ true) tells_all_ascii_digits
@@ -50,14 +50,14 @@ module _ (low high : ℤ) (fits_low : FitsSigned w64 low) (fits_high : FitsSigne
 
   -- within bounds that fit 64 bits a text writes just what is parsed of it
   pub parsed_within : {E : Type 0} (text : List ℕ) (r : Result ℤ E) → ParsesSigned w64 10 text r
-      → option_and_then (within low high) (result_ok r) ≡ option_and_then (within low high) (written text)
+      → option_and_then (within low high) (result_ok r) ≡ option_and_then (within low high) (digits_written text)
   parsed_within text (Ok z) parses = was_read (is_numeral (without_leading_sign text)) z
       (signed_digits_value 10 text) (numeral_from (without_leading_sign text) parses.0.0) parses.1
   parsed_within text (Err e) parses = unread (is_numeral (without_leading_sign text)) (signed_digits_value 10 text)
       (λ t fits. parses (numeral_is (without_leading_sign text) t, fits))
 
-pub text_is : (d : Data) (text : List ℕ) → as_str d ≡ Some text → written text ≡ whole_in d
-text_is (string s) text is = let same : s ≡ text = cc in ap written (sym same)
+pub text_is : (d : Data) (text : List ℕ) → as_str d ≡ Some text → digits_written text ≡ whole_in d
+text_is (string s) text is = let same : s ≡ text = cc in ap digits_written (sym same)
 text_is null text is = absurd (false≢true (ap is_some is))
 text_is (boolean b) text is = absurd (false≢true (ap is_some is))
 text_is (number n) text is = absurd (false≢true (ap is_some is))

@@ -4,7 +4,7 @@ use Rattle.std.proofs.Common.{sym, ap, ◌∙◌}
 use Rattle.std.proofs.lemmas.Bool.{false≢true, false_from_ne_true}
 use Rattle.std.proofs.lemmas.Slice.Eq.{bytes_eq-Decides}
 use Rattle.std.specs.Str.{bytes_eq}
-use Rattle.gerrit_events.specs.Revisions.{Revision, place_of}
+use Rattle.gerrit_events.specs.Revisions.{Revision, revision_place}
 use Rattle.gerrit_events.specs.RevisionsKept.{NoneTwice}
 
 eq-sym : (xs ys : List ℕ) → bytes_eq xs ys ≡ false → bytes_eq ys xs ≡ false
@@ -26,64 +26,67 @@ not_later false x rest h = h
 not_later true x rest h = absurd (false≢true (ap is_some (sym h)))
 
 -- the new one is found
-pub place_of-new : (known : List Revision) (new : Revision) → place_of known new.0 ≡ None
-    → place_of (known ++ new ∷ []) new.0 ≡ Some new.1
+pub place_of-new : (known : List Revision) (new : Revision) → revision_place known new.0 ≡ None
+    → revision_place (known ++ new ∷ []) new.0 ≡ Some new.1
 place_of-new [] new none = ap (λ b. cond b (Some new.1) None) (eq-refl new.0)
 place_of-new (seen ∷ known) new none =
-    ap (λ b. cond b (Some seen.1) (place_of (known ++ new ∷ []) new.0))
-    (not_first (bytes_eq new.0 seen.0) seen.1 (place_of known new.0) none)
-    ∙ place_of-new known new (not_later (bytes_eq new.0 seen.0) seen.1 (place_of known new.0) none)
+    ap (λ b. cond b (Some seen.1) (revision_place (known ++ new ∷ []) new.0))
+    (not_first (bytes_eq new.0 seen.0) seen.1 (revision_place known new.0) none)
+    ∙ place_of-new known new (not_later (bytes_eq new.0 seen.0) seen.1 (revision_place known new.0) none)
 
 -- and the others are found as before
 pub place_of-others : (known : List Revision) (new : Revision) (revision : List ℕ) → bytes_eq revision new.0 ≡ false
-    → place_of (known ++ new ∷ []) revision ≡ place_of known revision
+    → revision_place (known ++ new ∷ []) revision ≡ revision_place known revision
 place_of-others [] new revision other = ap (λ b. cond b (Some new.1) None) other
 place_of-others (seen ∷ known) new revision other = ap (λ rest. cond (bytes_eq revision seen.0) (Some seen.1) rest)
     (place_of-others known new revision other)
 
-pub AreApart-new : (known : List Revision) (new : Revision) → NoneTwice known → place_of known new.0 ≡ None
+pub AreApart-new : (known : List Revision) (new : Revision) → NoneTwice known → revision_place known new.0 ≡ None
     → NoneTwice (known ++ new ∷ [])
 AreApart-new [] new apart none = (refl, tt)
 AreApart-new (seen ∷ known) new apart none =
-    let differs = not_first (bytes_eq new.0 seen.0) seen.1 (place_of known new.0) none in (
+    let differs = not_first (bytes_eq new.0 seen.0) seen.1 (revision_place known new.0) none in (
       place_of-others known new seen.0 (eq-sym new.0 seen.0 differs)
           ∙ apart.0,
       AreApart-new known new apart.1 (not_later (bytes_eq new.0 seen.0) seen.1
-          (place_of known new.0) none),
+          (revision_place known new.0) none),
     )
 
 -- ---- as the map has it
 
-added_at : (b : Bool) (known : List Revision) (new : Revision) (revision : List ℕ) → place_of known new.0 ≡ None
-    → bytes_eq new.0 revision ≡ b → cond b (Some new.1) (place_of known revision) ≡ place_of
+added_at : (b : Bool) (known : List Revision) (new : Revision) (revision : List ℕ) → revision_place known new.0 ≡ None
+    → bytes_eq new.0 revision ≡ b → cond b (Some new.1) (revision_place known revision) ≡ revision_place
     (known ++ new ∷ []) revision
 added_at true known new revision none is =
     let same = (bytes_eq-Decides new.0 revision).0 is in
-    sym (place_of-new known new none) ∙ ap (place_of (known ++ new ∷ [])) same
+    sym (place_of-new known new none) ∙ ap (revision_place (known ++ new ∷ [])) same
 added_at false known new revision none is = sym (place_of-others known new revision (eq-sym new.0 revision is))
 
-pub added : (known : List Revision) (new : Revision) (revision : List ℕ) → place_of known new.0 ≡ None
-    → cond (bytes_eq new.0 revision) (Some new.1) (place_of known revision) ≡ place_of (known ++ new ∷ []) revision
+pub added : (known : List Revision) (new : Revision) (revision : List ℕ) → revision_place known new.0 ≡ None
+    → cond (bytes_eq new.0 revision) (Some new.1) (revision_place known revision)
+    ≡ revision_place (known ++ new ∷ []) revision
 added known new revision none = added_at (bytes_eq new.0 revision) known new revision none refl
 
-removed_at : (b : Bool) (known : List Revision) (old : Revision) (revision : List ℕ) → place_of known old.0 ≡ None
-    → bytes_eq old.0 revision ≡ b → cond b None (place_of (old ∷ known) revision) ≡ place_of known revision
-removed_at true known old revision none is = sym none ∙ ap (place_of known) ((bytes_eq-Decides old.0 revision).0 is)
-removed_at false known old revision none is = ap (λ b. cond b (Some old.1) (place_of known revision))
+removed_at : (b : Bool) (known : List Revision) (old : Revision) (revision : List ℕ) → revision_place known old.0 ≡ None
+    → bytes_eq old.0 revision ≡ b → cond b None (revision_place (old ∷ known) revision) ≡ revision_place known revision
+removed_at true known old revision none is =
+    sym none ∙ ap (revision_place known) ((bytes_eq-Decides old.0 revision).0 is)
+removed_at false known old revision none is = ap (λ b. cond b (Some old.1) (revision_place known revision))
     (eq-sym old.0 revision is)
 
-pub removed : (known : List Revision) (old : Revision) (revision : List ℕ) → place_of known old.0 ≡ None
-    → cond (bytes_eq old.0 revision) None (place_of (old ∷ known) revision) ≡ place_of known revision
+pub removed : (known : List Revision) (old : Revision) (revision : List ℕ) → revision_place known old.0 ≡ None
+    → cond (bytes_eq old.0 revision) None (revision_place (old ∷ known) revision) ≡ revision_place known revision
 removed known old revision none = removed_at (bytes_eq old.0 revision) known old revision none refl
 
-undone_at : (b : Bool) (known : List Revision) (new : Revision) (revision : List ℕ) → place_of known new.0 ≡ None
+undone_at : (b : Bool) (known : List Revision) (new : Revision) (revision : List ℕ) → revision_place known new.0 ≡ None
     → bytes_eq new.0 revision ≡ b → cond b None (cond b (Some new.1)
-    (place_of known revision)) ≡ place_of known revision
-undone_at true known new revision none is = sym none ∙ ap (place_of known) ((bytes_eq-Decides new.0 revision).0 is)
+    (revision_place known revision)) ≡ revision_place known revision
+undone_at true known new revision none is =
+    sym none ∙ ap (revision_place known) ((bytes_eq-Decides new.0 revision).0 is)
 undone_at false known new revision none is = refl
 
 -- what was added is taken out again
-pub undone : (known : List Revision) (new : Revision) (revision : List ℕ) → place_of known new.0 ≡ None
+pub undone : (known : List Revision) (new : Revision) (revision : List ℕ) → revision_place known new.0 ≡ None
     → cond (bytes_eq new.0 revision) None (cond (bytes_eq new.0 revision) (Some new.1)
-    (place_of known revision)) ≡ place_of known revision
+    (revision_place known revision)) ≡ revision_place known revision
 undone known new revision none = undone_at (bytes_eq new.0 revision) known new revision none refl

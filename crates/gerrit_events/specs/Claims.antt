@@ -21,9 +21,9 @@ use Rattle.gerrit_events.specs.declared.mark.Mark.TheVariants.{WorkInProgress, P
 use Rattle.gerrit_events.specs.Kinds.{account_part, account_key, approvals_part, change_key, set_key}
 use Rattle.gerrit_events.specs.Listings.{Ballot, Listing, ballots_in, mark_ballots}
 use Rattle.gerrit_events.specs.Marks.{is_private, is_wip, mark_label, marks_in, reserved_voter}
-use Rattle.gerrit_events.specs.Patches.{Patch, change_in, set_in, brought_by, parents_part, parents_in}
+use Rattle.gerrit_events.specs.Patches.{ShownPatch, change_in, set_in, brought_by, parents_part, parents_in}
 use Rattle.gerrit_events.specs.Revisions.{Revision}
-use Rattle.gerrit_events.specs.Values.{text_in, number_in, value_in, user_in, listed}
+use Rattle.gerrit_events.specs.Values.{text_in, number_value, vote_value, user_in, listed_values}
 
 pub data Claim : Type 0 where
   -- a body, good or not
@@ -58,20 +58,20 @@ patch_claim PatchSetCreated None deed = shows deed
 patch_claim PatchSetCreated (Some parent) deed = drafts deed
 patch_claim kind parent deed = shows deed
 
-abbrev pub patch_deed : Patch → Option ℕ → Deed
+abbrev pub patch_deed : ShownPatch → Option ℕ → Deed
 patch_deed patch parent = patch_set patch.change patch.set patch.message parent
 
 -- the reserved voter's vote
 abbrev pub mark_claim : ℕ → ℕ → Mark → Claim
 mark_claim change set mark = drafts (vote change set (mark_label mark) reserved_voter (negsuc 0))
 
--- a patch set that an event brings has the marks of its change; a query's are listed with the votes
-abbrev pub patch_marks : Kind → Data → Patch → List Claim
+-- a patch set that an event brings has the marks of its change; a query's are listed_values with the votes
+abbrev pub patch_marks : Kind → Data → ShownPatch → List Claim
 patch_marks QueryLine line patch = []
 patch_marks kind line patch = map (mark_claim patch.change patch.set) (marks_in kind line)
 
 -- a patch set with its first known parent
-abbrev pub patch_claims : List Revision → Kind → Data → Patch → List Claim
+abbrev pub patch_claims : List Revision → Kind → Data → ShownPatch → List Claim
 patch_claims known kind line patch =
     patch_claim kind (slice_get (parents_in known kind line) 0) (patch_deed patch (slice_get (parents_in known kind line) 0))
     ∷ replicate (lost_parents known kind line) (bad (parents_key kind)) ++ patch_marks kind line patch
@@ -82,7 +82,7 @@ without_patch PatchSetCreated = bad CommitMessage ∷ []
 without_patch QueryLine = bad CommitMessage ∷ []
 without_patch kind = []
 
-abbrev pub brought_claims : List Revision → Kind → Data → Option Patch → List Claim
+abbrev pub brought_claims : List Revision → Kind → Data → Option ShownPatch → List Claim
 brought_claims known kind line None = without_patch kind
 brought_claims known kind line (Some patch) = patch_claims known kind line patch
 
@@ -103,7 +103,7 @@ vote_of change set label voter (Some (Some value)) =
 
 abbrev pub value_under : Option Data → Option (Option ℤ)
 value_under None = None
-value_under (Some d) = Some (value_in (Some d))
+value_under (Some d) = Some (vote_value (Some d))
 
 abbrev pub voted : ℕ → ℕ → EventKey → Option (List ℕ) → Option (List ℕ) → Option (Option ℤ) → Claim
 voted change set key None user value = bad TypeName
@@ -118,7 +118,7 @@ vote_claim kind line change set approval =
     (user_in (account_part kind line approval)) (value_under (get (codes "value") approval))
 
 abbrev pub vote_claims : Kind → Data → ℕ → ℕ → Option Data → List Claim
-vote_claims kind line change set approvals = map (vote_claim kind line change set) (listed approvals)
+vote_claims kind line change set approvals = map (vote_claim kind line change set) (listed_values approvals)
 
 -- ---- a query
 
@@ -135,7 +135,7 @@ older_by line older change current (Some set) =
     if set == current then [] else listed_claims change set line (get (codes "approvals") older) []
 
 abbrev pub older_claims : Data → ℕ → ℕ → Data → List Claim
-older_claims line change current older = older_by line older change current (number_in (get (codes "number") older))
+older_claims line change current older = older_by line older change current (number_value (get (codes "number") older))
 
 -- that a change is closed is claimed first of a row, so that a row that is taken up in part never opens one
 abbrev pub closing_named : ℕ → List ℕ → List Claim
@@ -163,7 +163,7 @@ abbrev pub query_claims : Data → ℕ → ℕ → List Claim
 query_claims line change set =
     listed_claims change set line (approvals_part QueryLine line) (mark_ballots line)
     ++ (map (mark_claim change set) (marks_in QueryLine line)
-    ++ (flat_map (older_claims line change set) (listed (get (codes "patchSets") line))
+    ++ (flat_map (older_claims line change set) (listed_values (get (codes "patchSets") line))
     ++ opening_claims change (status_part line)))
 
 -- ---- a state that changed: the reserved voter votes while it is so, and withdraws after

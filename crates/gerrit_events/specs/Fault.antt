@@ -42,10 +42,10 @@ text_of DependsOn = codes "dependsOn"
 text_of Status = codes "status"
 
 -- the key whose value makes a body one that isn't good
-abbrev pub key_of : BodyFault → EventKey
-key_of body.BadChange = Change
-key_of body.BadSet = PatchSet
-key_of body.BadLabel = TypeName
-key_of body.BadVoter = Username
-key_of body.LongMessage = CommitMessage
-key_of body.BadParent = Parents
+abbrev pub event_key_of : BodyFault → EventKey
+event_key_of body.BadChange = Change
+event_key_of body.BadSet = PatchSet
+event_key_of body.BadLabel = TypeName
+event_key_of body.BadVoter = Username
+event_key_of body.LongMessage = CommitMessage
+event_key_of body.BadParent = Parents

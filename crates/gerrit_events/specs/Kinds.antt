@@ -35,8 +35,8 @@ abbrev pub kind_by : Option Data → Option Kind
 kind_by None = Some QueryLine
 kind_by (Some d) = option_map kind_named (as_str d)
 
-abbrev pub kind_of : Data → Option Kind
-kind_of line = kind_by (get (codes "type") line)
+abbrev pub line_kind : Data → Option Kind
+line_kind line = kind_by (get (codes "type") line)
 
 -- ---- where the attributes are: a line of a query is itself a change attribute
 

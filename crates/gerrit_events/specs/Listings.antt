@@ -10,7 +10,7 @@ use Rattle.gerrit_events.specs.declared.listing.Ballot.{Ballot as DeclaredBallot
 use Rattle.gerrit_events.specs.declared.listing.Listing.{Listing as DeclaredListing}
 use Rattle.gerrit_events.specs.declared.mark.Mark.{Mark}
 use Rattle.gerrit_events.specs.Marks.{mark_label, marks_in, reserved_voter}
-use Rattle.gerrit_events.specs.Values.{text_in, user_in, listed}
+use Rattle.gerrit_events.specs.Values.{text_in, user_in, listed_values}
 
 -- who voted on which label, which is in lower case
 pub record Ballot : Type 0 where
@@ -43,7 +43,7 @@ abbrev pub ballot_of : Data → Option Ballot
 ballot_of approval = ballot_by (text_in (get (codes "type") approval)) (user_in (get (codes "by") approval))
 
 abbrev pub ballots_in : Option Data → List Ballot
-ballots_in approvals = filter_map ballot_of (listed approvals)
+ballots_in approvals = filter_map ballot_of (listed_values approvals)
 
 -- the reserved voter's ballot
 abbrev pub mark_ballot : Mark → Ballot

@@ -11,7 +11,7 @@ use Rattle.gerrit_events.specs.declared.kind.Kind.TheVariants.{QueryLine}
 use Rattle.gerrit_events.specs.declared.mark.Mark.{Mark}
 use Rattle.gerrit_events.specs.declared.mark.Mark.TheVariants.{WorkInProgress, Private, OutdatedParent}
 use Rattle.gerrit_events.specs.Kinds.{change_part}
-use Rattle.gerrit_events.specs.Values.{under, listed}
+use Rattle.gerrit_events.specs.Values.{under, listed_values}
 
 abbrev pub reserved_voter : List ℕ
 reserved_voter = codes "gerrit"
@@ -44,7 +44,7 @@ abbrev pub is_outdated_on : Data → Bool
 is_outdated_on parent = says false (get (codes "isCurrentPatchSet") parent)
 
 abbrev pub has_outdated_parent : Data → Bool
-has_outdated_parent line = list_any is_outdated_on (listed (get (codes "dependsOn") line))
+has_outdated_parent line = list_any is_outdated_on (listed_values (get (codes "dependsOn") line))
 
 -- events don't say that
 abbrev pub is_outdated : Kind → Data → Bool

@@ -18,6 +18,6 @@ part_by QueryError line = Error
 part_by kind line = Event (change_in kind line)
 
 -- a line whose `type` is no text is nothing
-abbrev pub part_of : Option Kind → Data → Part
-part_of None line = Nothing
-part_of (Some kind) line = part_by kind line
+abbrev pub line_part : Option Kind → Data → Part
+line_part None line = Nothing
+line_part (Some kind) line = part_by kind line

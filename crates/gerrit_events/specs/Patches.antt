@@ -7,14 +7,14 @@ use Rattle.gerrit_events.specs.declared.kind.Kind.{Kind}
 use Rattle.gerrit_events.specs.declared.kind.Kind.TheVariants.{PatchSetCreated, DroppedOutput, QueryLine, QueryStats}
 use Rattle.gerrit_events.specs.declared.kind.Kind.TheVariants.{QueryError}
 use Rattle.gerrit_events.specs.Kinds.{change_part, set_part}
-use Rattle.gerrit_events.specs.Revisions.{Revision, place_of, with_revision}
-use Rattle.gerrit_events.specs.Values.{under, text_in, number_in, listed}
+use Rattle.gerrit_events.specs.Revisions.{Revision, revision_place, with_revision}
+use Rattle.gerrit_events.specs.Values.{under, text_in, number_value, listed_values}
 
 abbrev pub change_in : Kind → Data → Option ℕ
-change_in kind line = number_in (under (codes "number") (change_part kind line))
+change_in kind line = number_value (under (codes "number") (change_part kind line))
 
 abbrev pub set_in : Kind → Data → Option ℕ
-set_in kind line = number_in (under (codes "number") (set_part kind line))
+set_in kind line = number_value (under (codes "number") (set_part kind line))
 
 abbrev pub message_in : Kind → Data → Option (List ℕ)
 message_in kind line = text_in (under (codes "commitMessage") (change_part kind line))
@@ -23,14 +23,14 @@ abbrev pub revision_in : Kind → Data → Option (List ℕ)
 revision_in kind line = text_in (under (codes "revision") (set_part kind line))
 
 -- a patch set as a line shows it
-pub record Patch : Type 0 where
+pub record ShownPatch : Type 0 where
   pub change : ℕ
   pub set : ℕ
   pub message : List ℕ
   pub revision : Option (List ℕ)
 
 -- the patch set of a line, where it has all that is needed: two numbers and the message
-abbrev pub patch_in : Kind → Data → Option Patch
+abbrev pub patch_in : Kind → Data → Option ShownPatch
 patch_in kind line =
     option_and_then (λ change.
     option_and_then (λ set.
@@ -46,14 +46,14 @@ is_at change set None = false
 is_at change set (Some place) = (place.0 == change) && (place.1 == set)
 
 -- this run has brought the patch set: its revision is known as that of it
-abbrev pub was_brought : List Revision → Patch → Bool
-was_brought known patch = is_at patch.change patch.set (option_and_then (place_of known) patch.revision)
+abbrev pub was_brought : List Revision → ShownPatch → Bool
+was_brought known patch = is_at patch.change patch.set (option_and_then (revision_place known) patch.revision)
 
-abbrev pub unless_brought : List Revision → Patch → Option Patch
+abbrev pub unless_brought : List Revision → ShownPatch → Option ShownPatch
 unless_brought known patch = if was_brought known patch then None else Some patch
 
 -- the patch set that a line brings: a new one and that of a query always, that of another event where it wasn't brought
-abbrev pub brought_by : List Revision → Kind → Data → Option Patch
+abbrev pub brought_by : List Revision → Kind → Data → Option ShownPatch
 brought_by known PatchSetCreated line = patch_in PatchSetCreated line
 brought_by known QueryLine line = patch_in QueryLine line
 brought_by known DroppedOutput line = None
@@ -61,29 +61,29 @@ brought_by known QueryStats line = None
 brought_by known QueryError line = None
 brought_by known kind line = option_and_then (unless_brought known) (patch_in kind line)
 
-abbrev pub with_place : List Revision → ℕ × ℕ → Option (List ℕ) → List Revision
-with_place known place None = known
-with_place known place (Some revision) = with_revision known (revision, place)
+abbrev pub with_shown : List Revision → ℕ × ℕ → Option (List ℕ) → List Revision
+with_shown known place None = known
+with_shown known place (Some revision) = with_revision known (revision, place)
 
 -- what is known after it was brought
-abbrev pub learned : List Revision → Patch → List Revision
-learned known patch = with_place known (patch.change, patch.set) patch.revision
+abbrev pub learned : List Revision → ShownPatch → List Revision
+learned known patch = with_shown known (patch.change, patch.set) patch.revision
 
-abbrev pub after_line : List Revision → Option Patch → List Revision
-after_line known None = known
-after_line known (Some patch) = learned known patch
+abbrev pub patches_after : List Revision → Option ShownPatch → List Revision
+patches_after known None = known
+patches_after known (Some patch) = learned known patch
 
 -- ---- the parent
 
 -- the attributes that name parents: in a query the changes that it depends on, in an event the parents' revisions
 abbrev pub parents_part : Kind → Data → List Data
-parents_part QueryLine line = listed (get (codes "dependsOn") line)
-parents_part kind line = listed (under (codes "parents") (set_part kind line))
+parents_part QueryLine line = listed_values (get (codes "dependsOn") line)
+parents_part kind line = listed_values (under (codes "parents") (set_part kind line))
 
 -- the change of such a parent, where it is known
 abbrev pub parent_in : List Revision → Kind → Data → Option ℕ
-parent_in known QueryLine parent = number_in (get (codes "number") parent)
-parent_in known kind parent = option_map (λ place. place.0) (option_and_then (place_of known) (as_str parent))
+parent_in known QueryLine parent = number_value (get (codes "number") parent)
+parent_in known kind parent = option_map (λ place. place.0) (option_and_then (revision_place known) (as_str parent))
 
 abbrev pub parents_in : List Revision → Kind → Data → List ℕ
 parents_in known kind line = filter_map (parent_in known kind) (parents_part kind line)

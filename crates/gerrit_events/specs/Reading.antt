@@ -16,11 +16,11 @@ use Rattle.gerrit_events.specs.declared.finding.Finding.TheVariants.{Brings, Sho
 use Rattle.gerrit_events.specs.declared.part.Part.{Part}
 use Rattle.gerrit_events.specs.declared.part.Part.TheVariants.{Nothing}
 use Rattle.gerrit_events.specs.Claims.{Claim, drafts, shows, lists, refuses, claims_by}
-use Rattle.gerrit_events.specs.Fault.{key_of}
-use Rattle.gerrit_events.specs.Kinds.{kind_of}
+use Rattle.gerrit_events.specs.Fault.{event_key_of}
+use Rattle.gerrit_events.specs.Kinds.{line_kind}
 use Rattle.gerrit_events.specs.Listings.{listing_shown}
-use Rattle.gerrit_events.specs.Parts.{part_of}
-use Rattle.gerrit_events.specs.Patches.{brought_by, after_line}
+use Rattle.gerrit_events.specs.Parts.{line_part}
+use Rattle.gerrit_events.specs.Patches.{brought_by, patches_after}
 use Rattle.gerrit_events.specs.Projects.{Choice, feeds}
 use Rattle.gerrit_events.specs.Revisions.{Revision}
 
@@ -30,7 +30,7 @@ IsKeptBody deed body = IsFaultless deed × (body ≡ kept_deed deed)
 
 -- of another the key of its first fault is named
 abbrev pub IsLost : Deed → EventFault → Type 0
-IsLost deed (BadEvent key) = (fault : BodyFault) × IsFirstBodyFault fault deed × (key ≡ key_of fault)
+IsLost deed (BadEvent key) = (fault : BodyFault) × IsFirstBodyFault fault deed × (key ≡ event_key_of fault)
 IsLost deed Dropped = ⊥
 
 abbrev pub IsSettled : Claim → Finding → Type 0
@@ -61,7 +61,7 @@ claims_of known choice (Some kind) line = if feeds choice kind line then claims_
 abbrev pub known_after : List Revision → Choice → Option Kind → Data → List Revision
 known_after known choice None line = known
 known_after known choice (Some kind) line =
-    if feeds choice kind line then after_line known (brought_by known kind line) else known
+    if feeds choice kind line then patches_after known (brought_by known kind line) else known
 
 -- what a line is, and what is found in it
 pub record Told : Type 0 where
@@ -73,9 +73,9 @@ pub record IsLineRead (known : List Revision) (choice : Choice) (text : List ℕ
     Type 0 where
   pub members : Members
   pub is_object : IsLineObject text members
-  pub settled : ClaimsAreSettled (claims_of known choice (kind_of (object members)) (object members)) told.findings
-  pub learned : after ≡ known_after known choice (kind_of (object members)) (object members)
-  pub part : told.part ≡ part_of (kind_of (object members)) (object members)
+  pub settled : ClaimsAreSettled (claims_of known choice (line_kind (object members)) (object members)) told.findings
+  pub learned : after ≡ known_after known choice (line_kind (object members)) (object members)
+  pub part : told.part ≡ line_part (line_kind (object members)) (object members)
 
 -- the line is no object
 pub record IsNoEvent (known : List Revision) (text : List ℕ) (told : Told) (after : List Revision) : Type 0 where

@@ -11,13 +11,13 @@ abbrev pub most_revisions : ℕ
 most_revisions = 100000
 
 -- the change and the patch set of a revision, where it is known
-abbrev pub place_of : List Revision → List ℕ → Option (ℕ × ℕ)
-place_of known revision = lookup (bytes_eq revision) known
+abbrev pub revision_place : List Revision → List ℕ → Option (ℕ × ℕ)
+revision_place known revision = lookup (bytes_eq revision) known
 
 -- the last so many of a list
-abbrev pub last_of : {A : Type 0} → ℕ → List A → List A
-last_of count xs = drop (length xs - count) xs
+abbrev pub newest : {A : Type 0} → ℕ → List A → List A
+newest count xs = drop (length xs - count) xs
 
 -- a revision that is known stays as it is; another comes last, and where they are too many the oldest is forgotten
 abbrev pub with_revision : List Revision → Revision → List Revision
-with_revision known new = if is_some (place_of known new.0) then known else last_of most_revisions (known ++ new ∷ [])
+with_revision known new = if is_some (revision_place known new.0) then known else newest most_revisions (known ++ new ∷ [])

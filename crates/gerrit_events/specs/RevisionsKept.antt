@@ -3,7 +3,7 @@ use Rattle.std.specs.Prelude.{◌≡◌, ℕ, ◌≤◌, List, [], ◌∷◌, le
 use Rattle.std.specs.HashMap.{HashMap, get_by_text}
 use Rattle.std.specs.declared.alloc.Global.{Global}
 use Rattle.gerrit_events.specs.declared.known.Seen.{Seen}
-use Rattle.gerrit_events.specs.Revisions.{Revision, place_of, most_revisions}
+use Rattle.gerrit_events.specs.Revisions.{Revision, revision_place, most_revisions}
 
 abbrev pub seen_shown : Seen → Revision
 seen_shown seen = (string_bytes seen.revision, (seen.change, seen.set))
@@ -11,11 +11,11 @@ seen_shown seen = (string_bytes seen.revision, (seen.change, seen.set))
 -- no revision comes twice
 abbrev pub NoneTwice : List Revision → Type 0
 NoneTwice [] = Unit {0}
-NoneTwice (seen ∷ known) = (place_of known seen.0 ≡ None) × NoneTwice known
+NoneTwice (seen ∷ known) = (revision_place known seen.0 ≡ None) × NoneTwice known
 
 -- the map has just what is known
 pub record PlacesAgree {S : Type 0} (places : HashMap (String Global) (ℕ × ℕ) S) (known : List Revision) : Type 0 where
-  pub same : (revision : List ℕ) → get_by_text places revision ≡ place_of known revision
+  pub same : (revision : List ℕ) → get_by_text places revision ≡ revision_place known revision
   pub apart : NoneTwice known
 
 pub record AreKeptRevisions {S : Type 0} (places : HashMap (String Global) (ℕ × ℕ) S) (known : List Revision) : Type 0 where

@@ -2,9 +2,9 @@
 -- Data", change).
 use Rattle.std.specs.Prelude.{◌≡◌, ◌⊎◌, ℕ, List, Option, Some, None, codes, option_and_then, option_map, string_bytes}
 use Rattle.serde_json.specs.Data.{Data, Members, object}
-use Rattle.gerrit_events.specs.Kinds.{kind_of}
+use Rattle.gerrit_events.specs.Kinds.{line_kind}
 use Rattle.gerrit_events.specs.Reading.{IsLineObject}
-use Rattle.gerrit_events.specs.Values.{number_in, text_in, under}
+use Rattle.gerrit_events.specs.Values.{number_value, text_in, under}
 use Rattle.gerrit_events.specs.declared.kind.Kind.{Kind}
 use Rattle.gerrit_events.specs.declared.kind.Kind.TheVariants.{QueryLine, QueryStats}
 use Rattle.gerrit_events.specs.declared.row.ChangePlace.{ChangePlace}
@@ -27,7 +27,7 @@ place_in row =
     option_and_then (λ change. option_and_then (λ project. option_map (place change project)
     (text_in (under (codes "branch") (Some row))))
     (text_in (under (codes "project") (Some row))))
-    (number_in (under (codes "number") (Some row)))
+    (number_value (under (codes "number") (Some row)))
 
 abbrev pub copied : Found → Place
 copied found = place found.change found.project.now found.branch.now
@@ -48,7 +48,7 @@ SaysBy kind value line = line ≡ Other
 
 -- the object says so, by its `type`
 abbrev pub Says : Data → Line → Type 0
-Says value line = SaysBy (kind_of value) value line
+Says value line = SaysBy (line_kind value) value line
 
 -- the bytes are the text of an object that says so; or they are that of none, and the line says nothing
 abbrev pub Tells : List ℕ → Line → Type 0

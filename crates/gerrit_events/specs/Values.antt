@@ -1,4 +1,4 @@
--- What the values of Gerrit's JSON say ("JSON Data"). A number may also be written as a text.
+-- What the values of Gerrit's JSON say ("JSON Data"). A number may also be digits_written as a text.
 use Rattle.std.specs.Prelude.{ℕ, ℤ, pos, negsuc, int_le, List, [], ◌∷◌, length, Bool, ◌&&◌, nat_lt, if◌then◌else◌}
 use Rattle.std.specs.Prelude.{Option, Some, None, option_and_then, option_map, codes}
 use Rattle.std.specs.Option.{option_or}
@@ -27,9 +27,9 @@ alone_or_items (string s) = string s ∷ []
 alone_or_items (array ds) = list_of ds
 alone_or_items (object ms) = object ms ∷ []
 
-abbrev pub listed : Option Data → List Data
-listed None = []
-listed (Some d) = alone_or_items d
+abbrev pub listed_values : Option Data → List Data
+listed_values None = []
+listed_values (Some d) = alone_or_items d
 
 -- ---- numbers
 
@@ -38,14 +38,14 @@ abbrev pub is_numeral : List ℕ → Bool
 is_numeral text = nat_lt 0 (length text) && all_ascii_digits text
 
 -- the whole number that a text writes: digits, which may follow a sign
-abbrev pub written : List ℕ → Option ℤ
-written text = if is_numeral (without_leading_sign text) then Some (signed_digits_value 10 text) else None
+abbrev pub digits_written : List ℕ → Option ℤ
+digits_written text = if is_numeral (without_leading_sign text) then Some (signed_digits_value 10 text) else None
 
 abbrev pub whole_in : Data → Option ℤ
 whole_in null = None
 whole_in (boolean b) = None
 whole_in (number n) = as_i64 n
-whole_in (string s) = written s
+whole_in (string s) = digits_written s
 whole_in (array ds) = None
 whole_in (object ms) = None
 
@@ -62,12 +62,12 @@ unsigned_of (pos n) = n
 unsigned_of (negsuc n) = 0
 
 -- the number of a change or of a patch set: from 1 to 4294967295
-abbrev pub number_in : Option Data → Option ℕ
-number_in found = option_map unsigned_of (whole_within (pos 1) (pos 4294967295) found)
+abbrev pub number_value : Option Data → Option ℕ
+number_value found = option_map unsigned_of (whole_within (pos 1) (pos 4294967295) found)
 
 -- the value of a vote: from -128 to 127
-abbrev pub value_in : Option Data → Option ℤ
-value_in found = whole_within (negsuc 127) (pos 127) found
+abbrev pub vote_value : Option Data → Option ℤ
+vote_value found = whole_within (negsuc 127) (pos 127) found
 
 -- ---- accounts
 

@@ -14,7 +14,7 @@ ghost use Rattle.gerrit_events.specs.Marks.{marks_in};
 ghost use Rattle.gerrit_events.specs.Patches.{brought_by, change_in, parent_in, parents_in, set_in};
 ghost use Rattle.gerrit_events.specs.PatchShown.{patch_shown};
 ghost use Rattle.gerrit_events.specs.Trees.{data_in};
-ghost use Rattle.gerrit_events.specs.Values.{listed};
+ghost use Rattle.gerrit_events.specs.Values.{listed_values};
 ghost use Rattle.std.specs.List.{cons_option};
 ghost use Rattle.serde_json.specs.Find.{get};
 
@@ -364,7 +364,7 @@ impl<'k, 'v, 'a> Event<'k, 'v, 'a> {
         requires { self.now.line.kind ≡ Kind.QueryLine }
         ensures { OnOk result (claims.new.items ≡ claims.old.items
             ++ flat_map (older_claims (data_in self.now.line.value.now) change set)
-            (listed (get (codes "patchSets") (data_in self.now.line.value.now)))) }
+            (listed_values (get (codes "patchSets") (data_in self.now.line.value.now)))) }
     {
         let values = listed(member(self.line.value, "patchSets"));
         for older in values {

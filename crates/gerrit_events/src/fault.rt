@@ -1,7 +1,7 @@
 //! Why something of a line is lost.
 
 ghost use Rattle.std.specs.Prelude.{◌≡◌};
-ghost use Rattle.gerrit_events.specs.Fault.{number_of, name_of, named_key, text_of, key_of};
+ghost use Rattle.gerrit_events.specs.Fault.{number_of, name_of, named_key, text_of, event_key_of};
 
 use review_ops::BodyFault;
 use thiserror::Error;
@@ -114,7 +114,7 @@ impl EventFault {
 
 /// The key whose value makes a body one that isn't good.
 pub fn key_of(fault: BodyFault) -> EventKey
-    ensures { result ≡ key_of fault }
+    ensures { result ≡ event_key_of fault }
 {
     match fault {
         BodyFault::BadChange => EventKey::Change,

@@ -1,7 +1,7 @@
 //! The kinds of lines.
 
 ghost use Rattle.std.specs.Prelude.{◌≡◌};
-ghost use Rattle.gerrit_events.specs.Kinds.{kind_named, kind_of, change_key, set_key, account_key};
+ghost use Rattle.gerrit_events.specs.Kinds.{kind_named, line_kind, change_key, set_key, account_key};
 ghost use Rattle.gerrit_events.specs.Trees.{data_in};
 
 use super::fault::EventKey;
@@ -31,7 +31,7 @@ pub enum Kind {
 impl Kind {
     /// The kind of a line; none where its `type` is no text.
     pub fn of(line: &Value<'_>) -> Option<Kind>
-        ensures { result ≡ kind_of (data_in line.now) }
+        ensures { result ≡ line_kind (data_in line.now) }
     {
         match member(line, "type") {
             None => Some(Kind::QueryLine),

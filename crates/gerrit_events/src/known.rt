@@ -1,7 +1,7 @@
 //! The revisions that a run has seen.
 
 ghost use Rattle.std.specs.Prelude.{◌≡◌, [], ◌∷◌, ◌++◌, None, OnOk, OnErr, map, drop};
-ghost use Rattle.gerrit_events.specs.Revisions.{place_of, with_revision};
+ghost use Rattle.gerrit_events.specs.Revisions.{revision_place, with_revision};
 ghost use Rattle.gerrit_events.specs.RevisionsKept.{seen_shown, PlacesAgree};
 
 use json::Scratch;
@@ -51,7 +51,7 @@ impl Known {
 
     /// The change and the patch set of a revision, where it is known. It is looked up by its hash.
     pub fn place_of(&self, revision: &str) -> Option<(u32, u32)>
-        ensures { result ≡ place_of self.now revision.now }
+        ensures { result ≡ revision_place self.now revision.now }
     {
         self.revisions.place_of(revision)
     }
@@ -101,7 +101,7 @@ impl Revisions {
 
     /// The change and the patch set of a revision, where it is known.
     pub fn place_of(&self, revision: &str) -> Option<(u32, u32)>
-        ensures { result ≡ place_of self.now revision.now }
+        ensures { result ≡ revision_place self.now revision.now }
     {
         self.places.get(revision).copied()
     }
@@ -137,7 +137,7 @@ fn add_seen(
     place: (u32, u32),
 ) -> Result<(), NoMemory>
     requires agree { PlacesAgree places.old (map seen_shown ages.old.items) }
-    requires unknown { place_of (map seen_shown ages.old.items) revision.now ≡ None }
+    requires unknown { revision_place (map seen_shown ages.old.items) revision.now ≡ None }
     ensures agree { PlacesAgree places.new (map seen_shown ages.new.items) }
     ensures ok { OnOk result (map seen_shown ages.new.items
         ≡ map seen_shown ages.old.items ++ (revision.now, place) ∷ []) }

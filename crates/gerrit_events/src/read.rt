@@ -5,7 +5,7 @@ ghost use Rattle.serde_json.specs.Data.{Members, object};
 ghost use Rattle.gerrit_events.specs.declared.fault.EventFault.TheVariants.{BadEvent};
 ghost use Rattle.gerrit_events.specs.declared.finding.Finding.TheVariants.{Refuses};
 ghost use Rattle.gerrit_events.specs.Claims.{claims_by};
-ghost use Rattle.gerrit_events.specs.Patches.{after_line, brought_by, learned};
+ghost use Rattle.gerrit_events.specs.Patches.{patches_after, brought_by, learned};
 ghost use Rattle.gerrit_events.specs.PatchShown.{patch_shown};
 ghost use Rattle.gerrit_events.specs.Parts.{part_by};
 ghost use Rattle.gerrit_events.specs.Reading.{ClaimsAreSettled, IsLineObject, Reads, claims_of, known_after};
@@ -145,7 +145,7 @@ fn read_fed(
     ensures settled { IfOk result (λ findings. ClaimsAreSettled
         (claims_by known.old line.entry.kind (data_in line.entry.value.now)) findings.items) }
     ensures learned { OnOk result (known.new
-        ≡ after_line known.old (brought_by known.old line.entry.kind (data_in line.entry.value.now))) }
+        ≡ patches_after known.old (brought_by known.old line.entry.kind (data_in line.entry.value.now))) }
     ensures kept { OnErr result (known.new ≡ known.old) }
 {
     let event = Event::new(alloc, known, line);

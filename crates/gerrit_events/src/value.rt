@@ -3,8 +3,9 @@
 ghost use Rattle.std.specs.Prelude.{◌≡◌, [], ℤ, FitsSigned, map, option_and_then, option_map};
 ghost use Rattle.std.specs.Int.{w64};
 ghost use Rattle.gerrit_events.specs.Trees.{data_in};
-ghost use Rattle.gerrit_events.specs.Values.{under, text_in, listed, alone_or_items, whole_in, whole_within, within};
-ghost use Rattle.gerrit_events.specs.Values.{number_in, value_in, user_in};
+ghost use Rattle.gerrit_events.specs.Values.{under, text_in, listed_values, alone_or_items, whole_in, whole_within};
+ghost use Rattle.gerrit_events.specs.Values.{within};
+ghost use Rattle.gerrit_events.specs.Values.{number_value, vote_value, user_in};
 
 use super::tree::{items, member, text, whole};
 use json::Value;
@@ -28,7 +29,7 @@ pub fn text_in<'a>(found: Option<&Value<'a>>) -> Option<&'a str>
 
 /// The items of a list; another value is a list of itself, and nothing has no items.
 pub fn listed<'v, 'a>(found: Option<&'v Value<'a>>) -> &'v [Value<'a>]
-    ensures { map data_in result.now ≡ listed (option_map (λ value. data_in value.now) found.entry) }
+    ensures { map data_in result.now ≡ listed_values (option_map (λ value. data_in value.now) found.entry) }
 {
     let Some(value) = found else {
         return no_items();
@@ -78,7 +79,7 @@ fn whole_in(value: &Value<'_>) -> Option<i64>
 
 /// The number of a change or of a patch set.
 pub fn number_in(found: Option<&Value<'_>>) -> Option<u32>
-    ensures { result ≡ number_in (option_map (λ value. data_in value.now) found.entry) }
+    ensures { result ≡ number_value (option_map (λ value. data_in value.now) found.entry) }
 {
     let whole = whole_within(1, 4294967295, found)?;
     Some(whole as u32)
@@ -86,7 +87,7 @@ pub fn number_in(found: Option<&Value<'_>>) -> Option<u32>
 
 /// The value of a vote.
 pub fn value_in(found: Option<&Value<'_>>) -> Option<i8>
-    ensures { result ≡ value_in (option_map (λ value. data_in value.now) found.entry) }
+    ensures { result ≡ vote_value (option_map (λ value. data_in value.now) found.entry) }
 {
     let whole = whole_within(-128, 127, found)?;
     Some(whole as i8)

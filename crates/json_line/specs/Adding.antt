@@ -6,38 +6,41 @@ use Rattle.std.proofs.lemmas.List.{take_more}
 use Rattle.std.proofs.lemmas.List.Concat.{flat_map-append}
 use Rattle.json.specs.Token.{Token, key, number, string}
 use Rattle.json.specs.Written.{Written}
-use Rattle.json_line.specs.Tokens.{Adds, json_line, numbered, signed, worded}
+use Rattle.json_line.specs.Tokens.{AddsTokens, json_line, numbered_tokens, signed, worded}
 
-pub adds_then : {a b c : Written} {xs ys : List Token} → Adds a b xs → Adds b c ys → Adds a c (xs ++ ys)
+pub adds_then : {a b c : Written} {xs ys : List Token} → AddsTokens a b xs → AddsTokens b c ys
+    → AddsTokens a c (xs ++ ys)
 adds_then {a} {b} {c} {xs} {ys} p q = record {
   before = q.before ∙ p.before;
   tokens = q.tokens ∙ ap (λ l. l ++ ys) p.tokens ∙ append_assoc a.tokens xs ys;
 }
 
 -- the same tokens, under another name
-pub adds_same : {a b : Written} {xs ys : List Token} → Adds a b xs → xs ≡ ys → Adds a b ys
-adds_same {a} {b} p e = subst (Adds a b) e p
+pub adds_same : {a b : Written} {xs ys : List Token} → AddsTokens a b xs → xs ≡ ys → AddsTokens a b ys
+adds_same {a} {b} p e = subst (AddsTokens a b) e p
 
-pub counted : {a b : Written} {name : List ℕ} {n m : ℕ} → Adds a b (numbered name n) → n ≡ m → Adds a b (numbered name m)
-counted {a} {b} {name} p e = subst (λ n. Adds a b (key name ∷ number (decimal n) ∷ [])) e p
+pub counted_tokens : {a b : Written} {name : List ℕ} {n m : ℕ} → AddsTokens a b (numbered_tokens name n) → n ≡ m
+    → AddsTokens a b (numbered_tokens name m)
+counted_tokens {a} {b} {name} p e = subst (λ n. AddsTokens a b (key name ∷ number (decimal n) ∷ [])) e p
 
-pub signed_so : {a b : Written} {name : List ℕ} {n m : ℤ} → Adds a b (signed name n) → n ≡ m → Adds a b (signed name m)
-signed_so {a} {b} {name} p e = subst (λ n. Adds a b (key name ∷ number (signed_decimal n) ∷ [])) e p
+pub signed_so : {a b : Written} {name : List ℕ} {n m : ℤ} → AddsTokens a b (signed name n) → n ≡ m
+    → AddsTokens a b (signed name m)
+signed_so {a} {b} {name} p e = subst (λ n. AddsTokens a b (key name ∷ number (signed_decimal n) ∷ [])) e p
 
-pub texted : {a b : Written} {name text other : List ℕ} → Adds a b (worded name text) → text ≡ other
-    → Adds a b (worded name other)
-texted {a} {b} {name} p e = subst (λ t. Adds a b (key name ∷ string t ∷ [])) e p
+pub texted : {a b : Written} {name text other : List ℕ} → AddsTokens a b (worded name text) → text ≡ other
+    → AddsTokens a b (worded name other)
+texted {a} {b} {name} p e = subst (λ t. AddsTokens a b (key name ∷ string t ∷ [])) e p
 
 -- what a writer has that began with nothing
-pub all_written : {a b : Written} {xs : List Token} → a.tokens ≡ [] → Adds a b xs → b.tokens ≡ xs
+pub all_written : {a b : Written} {xs : List Token} → a.tokens ≡ [] → AddsTokens a b xs → b.tokens ≡ xs
 all_written {a} {b} {xs} tokens p = p.tokens ∙ ap (λ l. l ++ xs) tokens
 
 -- the line of a writer that began with nothing
-pub finished : {a b : Written} {xs : List Token} {line : List ℕ} → a.tokens ≡ [] → Adds a b xs
+pub finished : {a b : Written} {xs : List Token} {line : List ℕ} → a.tokens ≡ [] → AddsTokens a b xs
     → line ≡ json_line b.tokens → line ≡ json_line xs
 finished tokens p is = is ∙ ap json_line (all_written tokens p)
 
-pub begun : {a b : Written} {xs : List Token} → a.before ≡ [] → Adds a b xs → b.before ≡ []
+pub begun : {a b : Written} {xs : List Token} → a.before ≡ [] → AddsTokens a b xs → b.before ≡ []
 begun before p = p.before ∙ before
 
 -- one more

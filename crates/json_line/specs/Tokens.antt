@@ -8,13 +8,13 @@ use Rattle.json.specs.Token.{Token, begin_array, begin_object, boolean, end_arra
 use Rattle.json.specs.Written.{Written}
 
 -- just these tokens are added
-pub record Adds (old new : Written) (added : List Token) : Type 0 where
+pub record AddsTokens (old new : Written) (added : List Token) : Type 0 where
   pub before : new.before ≡ old.before
   pub tokens : new.tokens ≡ old.tokens ++ added
 
 -- a number under a key, a text, a flag, and a list of these tokens
-abbrev pub numbered : List ℕ → ℕ → List Token
-numbered name value = key name ∷ number (decimal value) ∷ []
+abbrev pub numbered_tokens : List ℕ → ℕ → List Token
+numbered_tokens name value = key name ∷ number (decimal value) ∷ []
 
 abbrev pub worded : List ℕ → List ℕ → List Token
 worded name value = key name ∷ string value ∷ []
@@ -22,8 +22,8 @@ worded name value = key name ∷ string value ∷ []
 abbrev pub flagged : List ℕ → Bool → List Token
 flagged name value = key name ∷ boolean value ∷ []
 
-abbrev pub listed : List ℕ → List Token → List Token
-listed name items = key name ∷ begin_array ∷ [] ++ (items ++ end_array ∷ [])
+abbrev pub listed_tokens : List ℕ → List Token → List Token
+listed_tokens name items = key name ∷ begin_array ∷ [] ++ (items ++ end_array ∷ [])
 
 -- the items of a list of texts, and of numbers
 abbrev pub text_item : List ℕ → List Token
@@ -34,10 +34,10 @@ number_item value = number (decimal value) ∷ []
 
 -- a list of texts under a key, and of numbers
 abbrev pub texts_listed : List ℕ → List (List ℕ) → List Token
-texts_listed name texts = listed name (flat_map text_item texts)
+texts_listed name texts = listed_tokens name (flat_map text_item texts)
 
 abbrev pub numbers_listed : List ℕ → List ℕ → List Token
-numbers_listed name values = listed name (flat_map number_item values)
+numbers_listed name values = listed_tokens name (flat_map number_item values)
 
 -- an object of these members
 abbrev pub object_of : List Token → List Token

@@ -1,7 +1,7 @@
 //! Lists of texts and of numbers in a JSON object, as they are written.
 
 ghost use Rattle.std.specs.Prelude.{◌≡◌, ◌∷◌, [], OnOk, flat_map, map, string_bytes};
-ghost use Rattle.json_line.specs.Tokens.{Adds, number_item, numbers_listed, text_item, texts_listed};
+ghost use Rattle.json_line.specs.Tokens.{AddsTokens, number_item, numbers_listed, text_item, texts_listed};
 
 use super::members::{close_list, open_list};
 use json::Writer;
@@ -10,7 +10,7 @@ use std::alloc::Global;
 
 /// Adds a list of texts under a key.
 pub fn put_texts(out: &mut Writer<Global>, name: &str, texts: &[String]) -> Result<(), NoMemory>
-    ensures { OnOk result (Adds out.old out.new (texts_listed name.now (map string_bytes texts.now))) }
+    ensures { OnOk result (AddsTokens out.old out.new (texts_listed name.now (map string_bytes texts.now))) }
 {
     open_list(out, name)?;
     add_texts(out, texts)?;
@@ -20,7 +20,7 @@ pub fn put_texts(out: &mut Writer<Global>, name: &str, texts: &[String]) -> Resu
 
 /// Adds the items of a list of texts.
 fn add_texts(out: &mut Writer<Global>, texts: &[String]) -> Result<(), NoMemory>
-    ensures { OnOk result (Adds out.old out.new (flat_map (λ text. text_item (string_bytes text)) texts.now)) }
+    ensures { OnOk result (AddsTokens out.old out.new (flat_map (λ text. text_item (string_bytes text)) texts.now)) }
 {
     for text in texts {
         add_text(out, text.as_str())?;
@@ -30,7 +30,7 @@ fn add_texts(out: &mut Writer<Global>, texts: &[String]) -> Result<(), NoMemory>
 
 /// Adds an item of a list of texts.
 fn add_text(out: &mut Writer<Global>, text: &str) -> Result<(), NoMemory>
-    ensures { OnOk result (Adds out.old out.new (text_item text.now)) }
+    ensures { OnOk result (AddsTokens out.old out.new (text_item text.now)) }
 {
     out.string(text)?;
     Ok(())
@@ -38,7 +38,7 @@ fn add_text(out: &mut Writer<Global>, text: &str) -> Result<(), NoMemory>
 
 /// Adds a list of lent texts under a key.
 pub fn put_words(out: &mut Writer<Global>, name: &str, words: &[&str]) -> Result<(), NoMemory>
-    ensures { OnOk result (Adds out.old out.new (texts_listed name.now (map (λ word. word.now) words.now))) }
+    ensures { OnOk result (AddsTokens out.old out.new (texts_listed name.now (map (λ word. word.now) words.now))) }
 {
     open_list(out, name)?;
     add_words(out, words)?;
@@ -48,7 +48,7 @@ pub fn put_words(out: &mut Writer<Global>, name: &str, words: &[&str]) -> Result
 
 /// Adds the items of a list of lent texts.
 fn add_words(out: &mut Writer<Global>, words: &[&str]) -> Result<(), NoMemory>
-    ensures { OnOk result (Adds out.old out.new (flat_map (λ word. text_item word.now) words.now)) }
+    ensures { OnOk result (AddsTokens out.old out.new (flat_map (λ word. text_item word.now) words.now)) }
 {
     for word in words {
         add_text(out, word)?;
@@ -58,7 +58,7 @@ fn add_words(out: &mut Writer<Global>, words: &[&str]) -> Result<(), NoMemory>
 
 /// Adds a list of numbers under a key.
 pub fn put_numbers(out: &mut Writer<Global>, name: &str, values: &[u32]) -> Result<(), NoMemory>
-    ensures { OnOk result (Adds out.old out.new (numbers_listed name.now values.now)) }
+    ensures { OnOk result (AddsTokens out.old out.new (numbers_listed name.now values.now)) }
 {
     open_list(out, name)?;
     add_numbers(out, values)?;
@@ -68,7 +68,7 @@ pub fn put_numbers(out: &mut Writer<Global>, name: &str, values: &[u32]) -> Resu
 
 /// Adds the items of a list of numbers.
 fn add_numbers(out: &mut Writer<Global>, values: &[u32]) -> Result<(), NoMemory>
-    ensures { OnOk result (Adds out.old out.new (flat_map number_item values.now)) }
+    ensures { OnOk result (AddsTokens out.old out.new (flat_map number_item values.now)) }
 {
     for value in values {
         add_number(out, u64::from(*value))?;
@@ -78,7 +78,7 @@ fn add_numbers(out: &mut Writer<Global>, values: &[u32]) -> Result<(), NoMemory>
 
 /// Adds an item of a list of numbers.
 fn add_number(out: &mut Writer<Global>, value: u64) -> Result<(), NoMemory>
-    ensures { OnOk result (Adds out.old out.new (number_item value)) }
+    ensures { OnOk result (AddsTokens out.old out.new (number_item value)) }
 {
     out.u64(value)?;
     Ok(())

@@ -3,7 +3,7 @@
 ghost use Rattle.std.specs.Prelude.{◌≡◌, ◌∷◌, [], OnOk, IfOk, decimal};
 ghost use Rattle.std.specs.Fmt.{signed_decimal};
 ghost use Rattle.json.specs.Token.{begin_array, begin_object, boolean, end_array, end_object, key, null, number, string};
-ghost use Rattle.json_line.specs.Tokens.{Adds, AreReadBack, json_line, number_if};
+ghost use Rattle.json_line.specs.Tokens.{AddsTokens, AreReadBack, json_line, number_if};
 
 use json::Writer;
 use lattice_core::NoMemory;
@@ -11,7 +11,7 @@ use std::alloc::Global;
 
 /// Begins an object.
 pub fn open_object(out: &mut Writer<Global>) -> Result<(), NoMemory>
-    ensures { OnOk result (Adds out.old out.new (begin_object ∷ [])) }
+    ensures { OnOk result (AddsTokens out.old out.new (begin_object ∷ [])) }
 {
     out.begin_object()?;
     Ok(())
@@ -19,7 +19,7 @@ pub fn open_object(out: &mut Writer<Global>) -> Result<(), NoMemory>
 
 /// Begins an object under a key.
 pub fn open_member(out: &mut Writer<Global>, name: &str) -> Result<(), NoMemory>
-    ensures { OnOk result (Adds out.old out.new (key name.now ∷ begin_object ∷ [])) }
+    ensures { OnOk result (AddsTokens out.old out.new (key name.now ∷ begin_object ∷ [])) }
 {
     out.key(name)?;
     out.begin_object()?;
@@ -28,7 +28,7 @@ pub fn open_member(out: &mut Writer<Global>, name: &str) -> Result<(), NoMemory>
 
 /// Ends an object.
 pub fn close_object(out: &mut Writer<Global>) -> Result<(), NoMemory>
-    ensures { OnOk result (Adds out.old out.new (end_object ∷ [])) }
+    ensures { OnOk result (AddsTokens out.old out.new (end_object ∷ [])) }
 {
     out.end_object()?;
     Ok(())
@@ -36,7 +36,7 @@ pub fn close_object(out: &mut Writer<Global>) -> Result<(), NoMemory>
 
 /// Begins a list under a key.
 pub fn open_list(out: &mut Writer<Global>, name: &str) -> Result<(), NoMemory>
-    ensures { OnOk result (Adds out.old out.new (key name.now ∷ begin_array ∷ [])) }
+    ensures { OnOk result (AddsTokens out.old out.new (key name.now ∷ begin_array ∷ [])) }
 {
     out.key(name)?;
     out.begin_array()?;
@@ -45,7 +45,7 @@ pub fn open_list(out: &mut Writer<Global>, name: &str) -> Result<(), NoMemory>
 
 /// Ends a list.
 pub fn close_list(out: &mut Writer<Global>) -> Result<(), NoMemory>
-    ensures { OnOk result (Adds out.old out.new (end_array ∷ [])) }
+    ensures { OnOk result (AddsTokens out.old out.new (end_array ∷ [])) }
 {
     out.end_array()?;
     Ok(())
@@ -53,7 +53,7 @@ pub fn close_list(out: &mut Writer<Global>) -> Result<(), NoMemory>
 
 /// Adds a number under a key.
 pub fn put_number(out: &mut Writer<Global>, name: &str, value: u64) -> Result<(), NoMemory>
-    ensures { OnOk result (Adds out.old out.new (key name.now ∷ number (decimal value) ∷ [])) }
+    ensures { OnOk result (AddsTokens out.old out.new (key name.now ∷ number (decimal value) ∷ [])) }
 {
     out.key(name)?;
     out.u64(value)?;
@@ -62,7 +62,7 @@ pub fn put_number(out: &mut Writer<Global>, name: &str, value: u64) -> Result<()
 
 /// Adds a number that may have a sign under a key.
 pub fn put_signed(out: &mut Writer<Global>, name: &str, value: i64) -> Result<(), NoMemory>
-    ensures { OnOk result (Adds out.old out.new (key name.now ∷ number (signed_decimal value) ∷ [])) }
+    ensures { OnOk result (AddsTokens out.old out.new (key name.now ∷ number (signed_decimal value) ∷ [])) }
 {
     out.key(name)?;
     out.i64(value)?;
@@ -71,7 +71,7 @@ pub fn put_signed(out: &mut Writer<Global>, name: &str, value: i64) -> Result<()
 
 /// Adds a number under a key, or `null` where there is none.
 pub fn put_option(out: &mut Writer<Global>, name: &str, value: Option<u64>) -> Result<(), NoMemory>
-    ensures { OnOk result (Adds out.old out.new (key name.now ∷ number_if value ∷ [])) }
+    ensures { OnOk result (AddsTokens out.old out.new (key name.now ∷ number_if value ∷ [])) }
 {
     match value {
         Some(value) => put_number(out, name, value),
@@ -81,7 +81,7 @@ pub fn put_option(out: &mut Writer<Global>, name: &str, value: Option<u64>) -> R
 
 /// Adds `null` under a key.
 pub fn put_null(out: &mut Writer<Global>, name: &str) -> Result<(), NoMemory>
-    ensures { OnOk result (Adds out.old out.new (key name.now ∷ null ∷ [])) }
+    ensures { OnOk result (AddsTokens out.old out.new (key name.now ∷ null ∷ [])) }
 {
     out.key(name)?;
     out.null()?;
@@ -90,7 +90,7 @@ pub fn put_null(out: &mut Writer<Global>, name: &str) -> Result<(), NoMemory>
 
 /// Adds a text under a key.
 pub fn put_text(out: &mut Writer<Global>, name: &str, value: &str) -> Result<(), NoMemory>
-    ensures { OnOk result (Adds out.old out.new (key name.now ∷ string value.now ∷ [])) }
+    ensures { OnOk result (AddsTokens out.old out.new (key name.now ∷ string value.now ∷ [])) }
 {
     out.key(name)?;
     out.string(value)?;
@@ -99,7 +99,7 @@ pub fn put_text(out: &mut Writer<Global>, name: &str, value: &str) -> Result<(),
 
 /// Adds `true` or `false` under a key.
 pub fn put_flag(out: &mut Writer<Global>, name: &str, value: bool) -> Result<(), NoMemory>
-    ensures { OnOk result (Adds out.old out.new (key name.now ∷ boolean value ∷ [])) }
+    ensures { OnOk result (AddsTokens out.old out.new (key name.now ∷ boolean value ∷ [])) }
 {
     out.key(name)?;
     out.boolean(value)?;

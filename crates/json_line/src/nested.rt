@@ -3,7 +3,7 @@
 ghost use Rattle.std.specs.Prelude.{◌∷◌, OnOk};
 ghost use Rattle.json.specs.Lex.{tokens};
 ghost use Rattle.json.specs.Token.{key};
-ghost use Rattle.json_line.specs.Tokens.{Adds};
+ghost use Rattle.json_line.specs.Tokens.{AddsTokens};
 
 use json::{Reader, Scratch, Token, Writer};
 use lattice_core::NoMemory;
@@ -17,7 +17,7 @@ pub fn put_json(
     name: &str,
     text: &str,
 ) -> Result<(), NoMemory>
-    ensures { OnOk result (Adds out.old out.new (key name.now ∷ tokens text.now)) }
+    ensures { OnOk result (AddsTokens out.old out.new (key name.now ∷ tokens text.now)) }
 {
     out.key(name)?;
     add_tokens(alloc, out, text)
@@ -25,7 +25,7 @@ pub fn put_json(
 
 /// Adds the tokens of a JSON text.
 fn add_tokens(alloc: Global, out: &mut Writer<Global>, text: &str) -> Result<(), NoMemory>
-    ensures { OnOk result (Adds out.old out.new (tokens text.now)) }
+    ensures { OnOk result (AddsTokens out.old out.new (tokens text.now)) }
 {
     let mut scratch = Scratch::new(alloc);
     let mut reader = Reader::new(text, &mut scratch)?;

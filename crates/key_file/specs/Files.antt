@@ -1,5 +1,6 @@
 -- The file of keys: a key a line, `NAME ROLE SECRET`. Lines that are empty or begin with `#` are passed over.
-use Rattle.std.specs.Prelude.{◌≡◌, ◌⊎◌, ◌<◌, ◌≤◌, ℕ, ◌+◌, ◌==◌, ◌&&◌, ◌||◌, nat_le, Bool, true, List, [], ◌∷◌, ◌++◌, All, codes, length, take, slice_index}
+use Rattle.std.specs.Prelude.{◌≡◌, ◌⊎◌, ◌<◌, ◌≤◌, ℕ, ◌+◌, ◌==◌, ◌&&◌, ◌||◌, nat_le, Bool, true, List, [], ◌∷◌, ◌++◌}
+use Rattle.std.specs.Prelude.{All, codes, length, take, slice_index}
 use Rattle.std.specs.List.{list_all}
 use Rattle.hex.specs.Hex.{IsBytes, encode_lower}
 use Rattle.key_file.specs.declared.key.Role.{Role}
@@ -8,7 +9,7 @@ use Rattle.key_file.specs.declared.fault.KeyFault.{KeyFault}
 use Rattle.key_file.specs.declared.fault.KeyFault.TheVariants.{Open, BadLine, NoKey, ReadFault, NoMemory}
 
 -- what a line says
-pub record Entry : Type 0 where
+pub record KeyEntry : Type 0 where
   pub name : List ℕ
   pub role : Role
   pub secret : List ℕ
@@ -29,41 +30,41 @@ role_text Read = codes "read"
 role_text Feed = codes "feed"
 
 -- the secret is written in hex, in lower case
-abbrev pub entry_text : Entry → List ℕ
+abbrev pub entry_text : KeyEntry → List ℕ
 entry_text entry = entry.name ++ 32 ∷ role_text entry.role ++ 32 ∷ encode_lower entry.secret
 
-pub record IsEntry (entry : Entry) : Type 0 where
+pub record IsKeyEntry (entry : KeyEntry) : Type 0 where
   pub name : IsName entry.name
   pub long : length entry.secret ≡ 32
   pub bytes : IsBytes entry.secret
 
 -- the line says this key
-pub record Says (line : List ℕ) (entry : Entry) : Type 0 where
-  pub good : IsEntry entry
+pub record SaysKey (line : List ℕ) (entry : KeyEntry) : Type 0 where
+  pub good : IsKeyEntry entry
   pub text : line ≡ entry_text entry
 
 abbrev pub IsPassedOver : List ℕ → Type 0
 IsPassedOver line = (line ≡ []) ⊎ (slice_index line 0 ≡ 35)
 
 -- the lines say these keys, in their order
-abbrev pub Say : List (List ℕ) → List Entry → Type 0
+abbrev pub Say : List (List ℕ) → List KeyEntry → Type 0
 Say [] keys = keys ≡ []
 Say (line ∷ lines) keys =
     (IsPassedOver line × Say lines keys)
-    ⊎ ((key : Entry) × (rest : List Entry) × Says line key × (keys ≡ key ∷ rest) × Say lines rest)
+    ⊎ ((key : KeyEntry) × (rest : List KeyEntry) × SaysKey line key × (keys ≡ key ∷ rest) × Say lines rest)
 
 -- the line is neither passed over nor says a key
 pub record IsBad (line : List ℕ) : Type 0 where
   pub not_passed : ¬ IsPassedOver line
-  pub nothing : (key : Entry) → ¬ Says line key
+  pub nothing : (key : KeyEntry) → ¬ SaysKey line key
 
 -- the line adds a key, or none
-abbrev pub SaysMore : List ℕ → List Entry → List Entry → Type 0
-SaysMore line old new = (more : List Entry) × Say (line ∷ []) more × (new ≡ old ++ more)
+abbrev pub SaysMore : List ℕ → List KeyEntry → List KeyEntry → Type 0
+SaysMore line old new = (more : List KeyEntry) × Say (line ∷ []) more × (new ≡ old ++ more)
 
 -- a line is bad, and those before it, of which there are so many, aren't
-pub record IsFirstBad (lines : List (List ℕ)) (before : ℕ) : Type 0 where
-  pub keys : List Entry
+pub record IsFirstBadLine (lines : List (List ℕ)) (before : ℕ) : Type 0 where
+  pub keys : List KeyEntry
   pub good : Say (take before lines) keys
   pub bad : List ℕ
   pub rest : List (List ℕ)
@@ -71,12 +72,12 @@ pub record IsFirstBad (lines : List (List ℕ)) (before : ℕ) : Type 0 where
   pub is_bad : IsBad bad
 
 -- why a text's keys aren't read
-abbrev pub IsUnread : List (List ℕ) → KeyFault → Type 0
-IsUnread lines Open = ⊥
-IsUnread lines (BadLine n) = (before : ℕ) × (n ≡ before + 1) × IsFirstBad lines before
-IsUnread lines NoKey = ⊥
-IsUnread lines ReadFault = ⊥
-IsUnread lines NoMemory = Unit {0}
+abbrev pub AreUnreadKeys : List (List ℕ) → KeyFault → Type 0
+AreUnreadKeys lines Open = ⊥
+AreUnreadKeys lines (BadLine n) = (before : ℕ) × (n ≡ before + 1) × IsFirstBadLine lines before
+AreUnreadKeys lines NoKey = ⊥
+AreUnreadKeys lines ReadFault = ⊥
+AreUnreadKeys lines NoMemory = Unit {0}
 
 -- the numbers of faults are the project's own
 abbrev pub number_of : KeyFault → ℕ
@@ -94,9 +95,9 @@ name_of ReadFault = codes "ReadFault"
 name_of NoMemory = codes "NoMemory"
 
 -- the first of a list of which a fact holds
-pub record IsFirst (P : Entry → Type 0) (keys : List Entry) (found : Entry) : Type 0 where
-  pub before : List Entry
-  pub after : List Entry
+pub record IsFirstKey (P : KeyEntry → Type 0) (keys : List KeyEntry) (found : KeyEntry) : Type 0 where
+  pub before : List KeyEntry
+  pub after : List KeyEntry
   pub whole : keys ≡ before ++ found ∷ after
   pub none : All (λ key. ¬ P key) before
   pub is : P found

@@ -1,7 +1,7 @@
 //! A key.
 
 ghost use Rattle.std.specs.Prelude.{◌≡◌};
-ghost use Rattle.key_file.specs.Files.{Entry};
+ghost use Rattle.key_file.specs.Files.{KeyEntry};
 
 use std::marker::Model;
 
@@ -23,7 +23,7 @@ pub struct Key {
 }
 
 impl Model for Key {
-    ghost Value = { Entry };
+    ghost Value = { KeyEntry };
 
     ghost view = { λ key. record { name = key.name.items; role = key.role; secret = key.secret } };
 }

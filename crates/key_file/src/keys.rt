@@ -2,7 +2,7 @@
 
 ghost use Rattle.std.specs.Prelude.{◌≡◌, ◌≢◌, ◌++◌, ◌∷◌, List, ℕ, All, IfErr, IfOk, MatchBool, MatchOption, MatchResult};
 ghost use Rattle.byte_ends.specs.Lines.{lines_of};
-ghost use Rattle.key_file.specs.Files.{Entry, IsBad, IsFirst, IsUnread, Say, SaysMore};
+ghost use Rattle.key_file.specs.Files.{KeyEntry, IsBad, IsFirstKey, AreUnreadKeys, Say, SaysMore};
 ghost use Rattle.key_file.specs.declared.fault.KeyFault.TheVariants.{NoKey};
 ghost use Rattle.sealed_line.specs.Keys.{id_under};
 
@@ -23,9 +23,9 @@ pub struct Keys {
 
 impl Model for Keys {
     ghost use Rattle.std.specs.Prelude.{List};
-    ghost use Rattle.key_file.specs.Files.{Entry};
+    ghost use Rattle.key_file.specs.Files.{KeyEntry};
 
-    ghost Value = { List Entry };
+    ghost Value = { List KeyEntry };
 
     ghost view = { λ keys. keys.keys.items };
 }
@@ -34,7 +34,7 @@ impl Keys {
     /// The key with which a name is dialed: the first one under that name. It takes no memory.
     pub fn dialing(&self, name: &[u8]) -> Option<&Key>
         ensures { MatchOption result (All (λ key. key.name ≢ name.now) self.now)
-            (λ found. IsFirst (λ key. key.name ≡ name.now) self.now found.now) }
+            (λ found. IsFirstKey (λ key. key.name ≡ name.now) self.now found.now) }
     {
         first_named(self.keys.as_slice(), name)
     }
@@ -43,7 +43,7 @@ impl Keys {
     /// takes no memory.
     pub fn secret_of(&self, name: &[u8]) -> Result<[u8; 32], KeyFault>
         ensures { MatchResult result
-            (λ secret. (key : Entry) × IsFirst (λ key. key.name ≡ name.now) self.now key × (secret ≡ key.secret))
+            (λ secret. (key : KeyEntry) × IsFirstKey (λ key. key.name ≡ name.now) self.now key × (secret ≡ key.secret))
             (λ fault. (fault ≡ NoKey) × All (λ key. key.name ≢ name.now) self.now) }
     {
         match self.dialing(name) {
@@ -55,7 +55,7 @@ impl Keys {
     /// The key that is let in by this ID: the first one whose secret has it. It takes no memory.
     pub fn letting_in(&self, id: &KeyId) -> Option<&Key>
         ensures { MatchOption result (All (λ key. id_under key.secret ≢ id.now) self.now)
-            (λ found. IsFirst (λ key. id_under key.secret ≡ id.now) self.now found.now) }
+            (λ found. IsFirstKey (λ key. id_under key.secret ≡ id.now) self.now found.now) }
     {
         first_with(self.keys.as_slice(), id)
     }
@@ -64,7 +64,7 @@ impl Keys {
 /// The first key under a name.
 fn first_named<'a>(keys: &'a [Key], name: &[u8]) -> Option<&'a Key>
     ensures { MatchOption result (All (λ key. key.name ≢ name.now) keys.now)
-        (λ found. IsFirst (λ key. key.name ≡ name.now) keys.now found.now) }
+        (λ found. IsFirstKey (λ key. key.name ≡ name.now) keys.now found.now) }
 {
     for key in keys {
         if is_same(key.name(), name) {
@@ -77,7 +77,7 @@ fn first_named<'a>(keys: &'a [Key], name: &[u8]) -> Option<&'a Key>
 /// The first key whose secret has an ID.
 fn first_with<'a>(keys: &'a [Key], id: &KeyId) -> Option<&'a Key>
     ensures { MatchOption result (All (λ key. id_under key.secret ≢ id.now) keys.now)
-        (λ found. IsFirst (λ key. id_under key.secret ≡ id.now) keys.now found.now) }
+        (λ found. IsFirstKey (λ key. id_under key.secret ≡ id.now) keys.now found.now) }
 {
     for key in keys {
         if is_same(key_id(key.secret()).as_slice(), id.as_slice()) {
@@ -91,7 +91,7 @@ fn first_with<'a>(keys: &'a [Key], id: &KeyId) -> Option<&'a Key>
 /// passed over nor a key; 5 `NoMemory`. It costs O(n) for n bytes.
 pub fn read_keys(alloc: Global, text: &[u8]) -> Result<Keys, KeyFault>
     ensures ok { IfOk result (λ keys. Say (lines_of text.now) keys) }
-    ensures err { IfErr result (IsUnread (lines_of text.now)) }
+    ensures err { IfErr result (AreUnreadKeys (lines_of text.now)) }
 {
     let mut keys = Vec::new(alloc);
     let mut lines = Lines::new(text);

@@ -2,7 +2,7 @@
 
 ghost use Rattle.std.specs.Prelude.{◌≡◌, ◌≢◌, ◌⊎◌, ◌↔◌, ◌++◌, ◌∷◌, [], List, ℕ, IfErr, IfOk, IsTrue, MatchOption, MatchResult, All};
 ghost use Rattle.std.specs.List.{list_all};
-ghost use Rattle.key_file.specs.Files.{Entry as AnyEntry, IsName, IsPassedOver, Says, is_name_byte, role_text};
+ghost use Rattle.key_file.specs.Files.{KeyEntry as AnyEntry, IsName, IsPassedOver, SaysKey, is_name_byte, role_text};
 ghost use Rattle.key_file.specs.declared.fault.KeyFault.{KeyFault};
 ghost use Rattle.key_file.specs.declared.key.Role.{Role as AnyRole};
 
@@ -23,7 +23,7 @@ pub(super) fn is_passed_over(line: &[u8]) -> bool
 
 /// The key that a line says; nothing where it says none.
 pub(super) fn key_of(alloc: Global, line: &[u8]) -> Result<Option<Key>, AllocError>
-    ensures { IfOk result (λ key. MatchOption key ((entry : AnyEntry) → ¬ Says line.now entry) (Says line.now)) }
+    ensures { IfOk result (λ key. MatchOption key ((entry : AnyEntry) → ¬ SaysKey line.now entry) (SaysKey line.now)) }
 {
     let Some((front, secret)) = last_word(line, 64) else {
         return Ok(None);

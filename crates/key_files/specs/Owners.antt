@@ -1,7 +1,7 @@
 -- Whose a file of keys has to be.
 use Rattle.std.specs.Prelude.{◌≡◌, ℕ, List, bit_and}
 use Rattle.byte_ends.specs.Lines.{lines_of}
-use Rattle.key_file.specs.Files.{IsUnread}
+use Rattle.key_file.specs.Files.{AreUnreadKeys}
 use Rattle.key_file.specs.declared.fault.KeyFault.{KeyFault}
 use Rattle.key_file.specs.declared.fault.KeyFault.TheVariants.{Open, BadLine, NoKey, ReadFault, NoMemory}
 use Rattle.key_files.specs.declared.owned.FileOwner.{FileOwner}
@@ -18,7 +18,7 @@ pub record IsOwn (owner : FileOwner) (user : ℕ) : Type 0 where
 -- why its keys aren't read
 abbrev pub IsNotRead : FileOwner → ℕ → List ℕ → KeyFault → Type 0
 IsNotRead owner user text Open = ¬ IsOwn owner user
-IsNotRead owner user text (BadLine n) = IsOwn owner user × IsUnread (lines_of text) (BadLine n)
+IsNotRead owner user text (BadLine n) = IsOwn owner user × AreUnreadKeys (lines_of text) (BadLine n)
 IsNotRead owner user text NoKey = ⊥
 IsNotRead owner user text ReadFault = ⊥
 IsNotRead owner user text NoMemory = Unit {0}

@@ -7,8 +7,8 @@ use Rattle.std.proofs.lemmas.Bool.{ne_eqb}
 use Rattle.std.proofs.lemmas.Fmt.{decimal_by_steps}
 use Rattle.std.proofs.lemmas.List.{append-nil}
 use Rattle.std.proofs.lemmas.List.Folds.{list_all-append}
-use Rattle.page_routes.specs.Numbers.{IsNumber}
-use Rattle.page_routes.specs.Routes.{IsPlace, set_text}
+use Rattle.page_routes.specs.Numbers.{IsDecimal}
+use Rattle.page_routes.specs.Routes.{IsPlace, change_place_text}
 use Rattle.page_routes.specs.declared.route.Place.{Place}
 
 abbrev pub is_comma : ℕ → Bool
@@ -59,8 +59,8 @@ past_comma front rest = drop-append-add front (44 ∷ rest) 1
 -- ---- a text that isn't read as a place names none
 
 pub no_place : (text : List ℕ) → position_or_len is_comma text ≡ length text
-    → ((number : ℕ) → ¬ IsNumber text number) → (place : Place) → ¬ IsPlace text place
-no_place text none unread place is = elim place.set as (λ set. (text ≡ decimal place.change ++ set_text set) → IfSome set (λ set. set < 2 ^ 32) → ⊥) [
+    → ((number : ℕ) → ¬ IsDecimal text number) → (place : Place) → ¬ IsPlace text place
+no_place text none unread place is = elim place.set as (λ set. (text ≡ decimal place.change ++ change_place_text set) → IfSome set (λ set. set < 2 ^ 32) → ⊥) [
   | None ↦ λ spelt small. unread place.change (is.1.0, spelt ∙ append-nil (decimal place.change))
   | Some set ↦ λ spelt small.
       let at = comma_at place.change (decimal set) is.1.0 in
@@ -71,8 +71,8 @@ no_place text none unread place is = elim place.set as (λ set. (text ≡ decima
 ] is.0 is.1.1
 
 pub no_place_before : (text before : List ℕ) → position_or_len is_comma text < length text → before ≡ before_first is_comma text
-    → ((number : ℕ) → ¬ IsNumber before number) → (place : Place) → ¬ IsPlace text place
-no_place_before text before found cut unread place is = elim place.set as (λ set. (text ≡ decimal place.change ++ set_text set) → IfSome set (λ set. set < 2 ^ 32) → ⊥) [
+    → ((number : ℕ) → ¬ IsDecimal before number) → (place : Place) → ¬ IsPlace text place
+no_place_before text before found cut unread place is = elim place.set as (λ set. (text ≡ decimal place.change ++ change_place_text set) → IfSome set (λ set. set < 2 ^ 32) → ⊥) [
   | None ↦ λ spelt small.
       let plain = spelt ∙ append-nil (decimal place.change) in
       let none = no_comma place.change is.1.0 in
@@ -87,8 +87,8 @@ no_place_before text before found cut unread place is = elim place.set as (λ se
 ] is.0 is.1.1
 
 pub no_place_after : (text after : List ℕ) → position_or_len is_comma text < length text → after ≡ after_first is_comma text
-    → ((number : ℕ) → ¬ IsNumber after number) → (place : Place) → ¬ IsPlace text place
-no_place_after text after found cut unread place is = elim place.set as (λ set. (text ≡ decimal place.change ++ set_text set) → IfSome set (λ set. set < 2 ^ 32) → ⊥) [
+    → ((number : ℕ) → ¬ IsDecimal after number) → (place : Place) → ¬ IsPlace text place
+no_place_after text after found cut unread place is = elim place.set as (λ set. (text ≡ decimal place.change ++ change_place_text set) → IfSome set (λ set. set < 2 ^ 32) → ⊥) [
   | None ↦ λ spelt small.
       let plain = spelt ∙ append-nil (decimal place.change) in
       let none = no_comma place.change is.1.0 in

@@ -4,12 +4,12 @@ use Rattle.std.specs.Fmt.{decimal}
 use Rattle.std.specs.Str.{bytes_eq}
 use Rattle.std.specs.Str.Parse.{ParsesUnsigned}
 use Rattle.std.proofs.lemmas.Fmt.{parse-decimal, decimal_injective}
-use Rattle.page_routes.specs.Numbers.{IsNumber}
-use Rattle.page_routes.specs.Form.{text_of, value_in}
+use Rattle.page_routes.specs.Numbers.{IsDecimal}
+use Rattle.page_routes.specs.Form.{form_text, form_value}
 use Rattle.page_routes.specs.Choices.{IsPageNumber}
 
 pub is_read : {E : Type 0} (text : List ℕ) (read : Result ℕ E) (number : ℕ)
-    → ParsesUnsigned 32 10 text read → IsNumber text number → read ≡ Ok number
+    → ParsesUnsigned 32 10 text read → IsDecimal text number → read ≡ Ok number
 is_read text read number parses is =
     let small : number < 2 ^ 64 = omega (arith, is.0) in
     parse-decimal 32 number text read is.0 small is.1 parses
@@ -26,5 +26,5 @@ no_page text some zero page is = elim is [
 
 -- the first pair has the name
 pub first_found : (name key value : List ℕ) (pairs rest : List (List ℕ × List ℕ)) → pairs ≡ (key, value) ∷ rest
-    → bytes_eq (text_of key) name ≡ true → value_in name pairs ≡ text_of value
+    → bytes_eq (form_text key) name ≡ true → form_value name pairs ≡ form_text value
 first_found name key value pairs rest are same = rw (are, same) refl

@@ -1,21 +1,21 @@
 -- Which routes a path can't have.
 use Rattle.std.proofs.Common.{◌≡◌, ◌≢◌, ◌==◌, false, ◌++◌, ℕ, List, Option, None, Some, option_map, get_or, codes, refl, subst, ap, sym, ◌∙◌}
 use Rattle.std.proofs.lemmas.Bool.{eqb-false}
-use Rattle.page_routes.specs.Numbers.{Finds}
+use Rattle.page_routes.specs.Numbers.{FindsNumber}
 use Rattle.page_routes.specs.Choices.{Chooses, IsChoice}
-use Rattle.page_routes.specs.Routes.{IsPlain, IsRoute, place_text}
+use Rattle.page_routes.specs.Routes.{IsPlainRoute, IsRoute, route_place_text}
 use Rattle.page_routes.specs.declared.route.Choice.{Choice}
 use Rattle.page_routes.specs.declared.route.Route.{Route}
 use Rattle.page_routes.specs.declared.route.Route.TheVariants as route
 
 -- the same values ask for the same items
 pub chosen_from : (show reason words page s r w p : List ℕ) → s ≡ show → r ≡ reason → w ≡ words → p ≡ page
-    → (found : Option Choice) → Finds (Chooses s r w p) found → Finds (Chooses show reason words page) found
+    → (found : Option Choice) → FindsNumber (Chooses s r w p) found → FindsNumber (Chooses show reason words page) found
 chosen_from show reason words page s r w p is_s is_r is_w is_p found holds =
-    subst (λ (x : List ℕ). Finds (Chooses x reason words page) found) is_s
-    (subst (λ (x : List ℕ). Finds (Chooses s x words page) found) is_r
-    (subst (λ (x : List ℕ). Finds (Chooses s r x page) found) is_w
-    (subst (λ (x : List ℕ). Finds (Chooses s r w x) found) is_p holds)))
+    subst (λ (x : List ℕ). FindsNumber (Chooses x reason words page) found) is_s
+    (subst (λ (x : List ℕ). FindsNumber (Chooses s x words page) found) is_r
+    (subst (λ (x : List ℕ). FindsNumber (Chooses s r x page) found) is_w
+    (subst (λ (x : List ℕ). FindsNumber (Chooses s r w x) found) is_p holds)))
 
 -- two texts differ where a byte of theirs does
 differ : (place m n : ℕ) (text other : List ℕ) → get_or text place 0 ≡ m → get_or other place 0 ≡ n → (m == n) ≡ false
@@ -54,22 +54,22 @@ only_items query none route.Icon is = differ 1 97 105 _ _ refl refl refl is.0
 -- ---- what is found of the parts is what is found of the whole
 
 pub list_found : (path : List ℕ) (query : Option (List ℕ)) → path ≡ codes "/" → (found : Option Choice)
-    → Finds (IsChoice query) found → Finds (IsRoute path query) (option_map route.List found)
+    → FindsNumber (IsChoice query) found → FindsNumber (IsRoute path query) (option_map route.List found)
 list_found path query is None none = λ other asked. only_list query none other (sym is ∙ asked.0, asked.1)
 list_found path query is (Some choice) holds = (is, holds)
 
 pub items_found : (path : List ℕ) (query : Option (List ℕ)) → path ≡ codes "/api/v1/items" → (found : Option Choice)
-    → Finds (IsChoice query) found → Finds (IsRoute path query) (option_map route.Items found)
+    → FindsNumber (IsChoice query) found → FindsNumber (IsRoute path query) (option_map route.Items found)
 items_found path query is None none = λ other asked. only_items query none other (sym is ∙ asked.0, asked.1)
 items_found path query is (Some choice) holds = (is, holds)
 
 other_found : (path : List ℕ) (query : Option (List ℕ)) → path ≢ codes "/" → path ≢ codes "/api/v1/items"
     → ((text : List ℕ) → path ≢ codes "/change/" ++ text) → ((text : List ℕ) → path ≢ codes "/api/v1/changes/" ++ text)
-    → ((other : Route) → ¬ IsPlain path other) → (other : Route) → ¬ IsRoute path query other
+    → ((other : Route) → ¬ IsPlainRoute path other) → (other : Route) → ¬ IsRoute path query other
 other_found path query list items change later none (route.List choice) is = list is.0
 other_found path query list items change later none (route.Items choice) is = items is.0
-other_found path query list items change later none (route.Change place) is = change (place_text place) is.0
-other_found path query list items change later none (route.ChangeData place) is = later (place_text place) is.0
+other_found path query list items change later none (route.Change place) is = change (route_place_text place) is.0
+other_found path query list items change later none (route.ChangeData place) is = later (route_place_text place) is.0
 other_found path query list items change later none route.Status is = none route.Status is.0
 other_found path query list items change later none route.Events is = none route.Events is.0
 other_found path query list items change later none route.Metrics is = none route.Metrics is.0
@@ -81,7 +81,7 @@ other_found path query list items change later none route.Icon is = none route.I
 -- no other path is left
 pub plain_found : (path : List ℕ) (query : Option (List ℕ)) → path ≢ codes "/" → path ≢ codes "/api/v1/items"
     → ((text : List ℕ) → path ≢ codes "/change/" ++ text) → ((text : List ℕ) → path ≢ codes "/api/v1/changes/" ++ text)
-    → (found : Option Route) → Finds (IsPlain path) found → Finds (IsRoute path query) found
+    → (found : Option Route) → FindsNumber (IsPlainRoute path) found → FindsNumber (IsRoute path query) found
 plain_found path query list items change later None none = λ other is. other_found path query list items change later none other is
 plain_found path query list items change later (Some route.Status) is = (is, tt)
 plain_found path query list items change later (Some route.Events) is = (is, tt)

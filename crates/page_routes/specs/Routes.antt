@@ -6,12 +6,12 @@ use Rattle.page_routes.specs.declared.route.Route.{Route}
 use Rattle.page_routes.specs.declared.route.Route.TheVariants as route
 
 -- a change, `N`, or one of its patch sets, `N,P`, each number in decimal
-abbrev pub set_text : Option ℕ → List ℕ
-set_text None = []
-set_text (Some set) = codes "," ++ decimal set
+abbrev pub change_place_text : Option ℕ → List ℕ
+change_place_text None = []
+change_place_text (Some set) = codes "," ++ decimal set
 
-abbrev pub place_text : Place → List ℕ
-place_text place = decimal place.change ++ set_text place.set
+abbrev pub route_place_text : Place → List ℕ
+route_place_text place = decimal place.change ++ change_place_text place.set
 
 -- its numbers have at most 32 bits
 abbrev pub IsSmallPlace : Place → Type 0
@@ -20,10 +20,10 @@ IsSmallPlace place = (place.change < 2 ^ 32) × IfSome place.set (λ set. set < 
 -- the path of each route
 abbrev pub path_of : Route → List ℕ
 path_of (route.List choice) = codes "/"
-path_of (route.Change place) = codes "/change/" ++ place_text place
+path_of (route.Change place) = codes "/change/" ++ route_place_text place
 path_of route.Status = codes "/api/v1/status"
 path_of (route.Items choice) = codes "/api/v1/items"
-path_of (route.ChangeData place) = codes "/api/v1/changes/" ++ place_text place
+path_of (route.ChangeData place) = codes "/api/v1/changes/" ++ route_place_text place
 path_of route.Events = codes "/api/v1/events"
 path_of route.Metrics = codes "/metrics"
 path_of route.Health = codes "/healthz"
@@ -41,15 +41,15 @@ HasQuery query other = Unit {0}
 
 -- the text names the place
 abbrev pub IsPlace : List ℕ → Place → Type 0
-IsPlace text place = (text ≡ place_text place) × IsSmallPlace place
+IsPlace text place = (text ≡ route_place_text place) × IsSmallPlace place
 
 -- the path of a route that takes nothing more from its request
-abbrev pub IsPlain : List ℕ → Route → Type 0
-IsPlain path (route.List choice) = ⊥
-IsPlain path (route.Items choice) = ⊥
-IsPlain path (route.Change place) = ⊥
-IsPlain path (route.ChangeData place) = ⊥
-IsPlain path other = path ≡ path_of other
+abbrev pub IsPlainRoute : List ℕ → Route → Type 0
+IsPlainRoute path (route.List choice) = ⊥
+IsPlainRoute path (route.Items choice) = ⊥
+IsPlainRoute path (route.Change place) = ⊥
+IsPlainRoute path (route.ChangeData place) = ⊥
+IsPlainRoute path other = path ≡ path_of other
 
 -- a request with this path and this query asks for the route
 abbrev pub IsRoute : List ℕ → Option (List ℕ) → Route → Type 0

@@ -2,8 +2,8 @@
 
 ghost use Rattle.std.specs.Prelude.{◌≡◌, ◌≢◌, ◌++◌, IfOk, ℕ, List, MatchOption, option_map};
 ghost use Rattle.std.specs.Option.{option_copied};
-ghost use Rattle.page_routes.specs.Numbers.{Finds};
-ghost use Rattle.page_routes.specs.Routes.{IsPlace, IsPlain, IsRoute};
+ghost use Rattle.page_routes.specs.Numbers.{FindsNumber};
+ghost use Rattle.page_routes.specs.Routes.{IsPlace, IsPlainRoute, IsRoute};
 
 use super::choice::choice_of;
 use super::number::{is_text, number_of};
@@ -36,7 +36,7 @@ use std::alloc::{AllocError, Global};
 ///
 /// It costs O(n) for n bytes.
 pub fn route_of(alloc: Global, path: &str, query: Option<&str>) -> Result<Option<Route>, AllocError>
-    ensures { IfOk result (Finds (IsRoute path.now (option_copied query.entry))) }
+    ensures { IfOk result (FindsNumber (IsRoute path.now (option_copied query.entry))) }
 {
     if is_text(path, "/") {
         return Ok(listed(choice_of(alloc, query)?));
@@ -76,7 +76,7 @@ fn after<'a>(path: &'a str, front: &str) -> Option<&'a str>
 
 /// The route of a path that says all of it.
 fn plain_route(path: &str) -> Option<Route>
-    ensures { Finds (IsPlain path.now) result }
+    ensures { FindsNumber (IsPlainRoute path.now) result }
 {
     if is_text(path, "/api/v1/status") {
         return Some(Route::Status);
@@ -104,7 +104,7 @@ fn plain_route(path: &str) -> Option<Route>
 
 /// The change, or the patch set of it, that a text names.
 fn place_of(text: &str) -> Option<Place>
-    ensures { Finds (IsPlace text.now) result }
+    ensures { FindsNumber (IsPlace text.now) result }
 {
     let Some((change, set)) = text.split_once(',') else {
         let change = number_of(text)?;

@@ -2,8 +2,8 @@
 
 ghost use Rattle.std.specs.Prelude.{◌≡◌, IfOk, string_bytes};
 ghost use Rattle.std.specs.Option.{option_copied};
-ghost use Rattle.page_routes.specs.Choices.{Chooses, IsChoice, IsPageNumber, IsReason, IsShown, IsWords};
-ghost use Rattle.page_routes.specs.Numbers.{Finds};
+ghost use Rattle.page_routes.specs.Choices.{Chooses, IsChoice, IsPageNumber, IsReasonValue, IsShowValue, IsWords};
+ghost use Rattle.page_routes.specs.Numbers.{FindsNumber};
 
 use super::form::given;
 use super::number::{is_text, number_of};
@@ -15,7 +15,7 @@ const MAX_WORDS: usize = 200;
 
 /// Which items a query asks for; nothing where a value is none of those that its key takes.
 pub(crate) fn choice_of(alloc: Global, query: Option<&str>) -> Result<Option<Choice>, AllocError>
-    ensures { IfOk result (Finds (IsChoice (option_copied query.entry))) }
+    ensures { IfOk result (FindsNumber (IsChoice (option_copied query.entry))) }
 {
     let show = given(alloc, "show", query)?;
     let reason = given(alloc, "reason", query)?;
@@ -26,7 +26,7 @@ pub(crate) fn choice_of(alloc: Global, query: Option<&str>) -> Result<Option<Cho
 
 /// Which items these values ask for.
 fn chosen(show: &str, reason: &str, words: String, page: &str) -> Option<Choice>
-    ensures { Finds (Chooses show.now reason.now (string_bytes words) page.now) result }
+    ensures { FindsNumber (Chooses show.now reason.now (string_bytes words) page.now) result }
 {
     let shown = shown_of(show)?;
     let reason = reason_of(reason)?;
@@ -42,7 +42,7 @@ fn chosen(show: &str, reason: &str, words: String, page: &str) -> Option<Choice>
 
 /// Which kind of items the value of `show` asks for.
 fn shown_of(text: &str) -> Option<Shown>
-    ensures { Finds (IsShown text.now) result }
+    ensures { FindsNumber (IsShowValue text.now) result }
 {
     if is_text(text, "") || is_text(text, "open") {
         return Some(Shown::Open);
@@ -58,7 +58,7 @@ fn shown_of(text: &str) -> Option<Shown>
 
 /// Which reason the value of `reason` asks for.
 fn reason_of(text: &str) -> Option<Option<Reason>>
-    ensures { Finds (IsReason text.now) result }
+    ensures { FindsNumber (IsReasonValue text.now) result }
 {
     if is_text(text, "") {
         return Some(None);
@@ -83,7 +83,7 @@ fn reason_of(text: &str) -> Option<Option<Reason>>
 
 /// Which words the value of `q` asks for.
 fn words_of(text: String) -> Option<Option<String>>
-    ensures { Finds (IsWords (string_bytes text)) result }
+    ensures { FindsNumber (IsWords (string_bytes text)) result }
 {
     if text.is_empty() {
         return Some(None);
@@ -96,7 +96,7 @@ fn words_of(text: String) -> Option<Option<String>>
 
 /// Which page the value of `page` asks for.
 fn page_of(text: &str) -> Option<u32>
-    ensures { Finds (IsPageNumber text.now) result }
+    ensures { FindsNumber (IsPageNumber text.now) result }
 {
     if is_text(text, "") {
         return Some(1);

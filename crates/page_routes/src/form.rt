@@ -5,7 +5,7 @@ ghost use Rattle.std.specs.Cow.{cow_str_bytes};
 ghost use Rattle.std.specs.Option.{option_copied};
 ghost use Rattle.std.specs.Str.{bytes_eq};
 ghost use Rattle.form_urlencoded.specs.Form.{raw_pairs};
-ghost use Rattle.page_routes.specs.Form.{given, text_of, value_in};
+ghost use Rattle.page_routes.specs.Form.{query_given, form_text, form_value};
 
 use super::number::is_text;
 use form_urlencoded::{decode, raw_pairs};
@@ -15,7 +15,7 @@ use std::borrow::CowStr;
 /// The value of a name in a query; an empty text where there is none. Of a name that is there more than once the first
 /// value counts. It costs O(n) for n bytes.
 pub(crate) fn given(alloc: Global, name: &str, query: Option<&str>) -> Result<String, AllocError>
-    ensures { IfOk result (λ value. string_bytes value ≡ given name.now (option_copied query.entry)) }
+    ensures { IfOk result (λ value. string_bytes value ≡ query_given name.now (option_copied query.entry)) }
 {
     match query {
         None => Ok(String::new(alloc)),
@@ -25,7 +25,7 @@ pub(crate) fn given(alloc: Global, name: &str, query: Option<&str>) -> Result<St
 
 /// The value of a name in the text of a query.
 fn value_in(alloc: Global, name: &str, query: &[u8]) -> Result<String, AllocError>
-    ensures { IfOk result (λ value. string_bytes value ≡ value_in name.now (raw_pairs query.now)) }
+    ensures { IfOk result (λ value. string_bytes value ≡ form_value name.now (raw_pairs query.now)) }
 {
     for (key, value) in raw_pairs(query) {
         if is_name(alloc, key, name)? {
@@ -37,7 +37,7 @@ fn value_in(alloc: Global, name: &str, query: &[u8]) -> Result<String, AllocErro
 
 /// Whether a name that is still encoded stands for a name.
 fn is_name(alloc: Global, key: &[u8], name: &str) -> Result<bool, AllocError>
-    ensures { IfOk result (λ same. same ≡ bytes_eq (text_of key.now) name.now) }
+    ensures { IfOk result (λ same. same ≡ bytes_eq (form_text key.now) name.now) }
 {
     let key = text_of(alloc, key)?;
     Ok(key.as_str() == name)
@@ -45,7 +45,7 @@ fn is_name(alloc: Global, key: &[u8], name: &str) -> Result<bool, AllocError>
 
 /// The text that a name or a value stands for.
 fn text_of(alloc: Global, bytes: &[u8]) -> Result<String, AllocError>
-    ensures { IfOk result (λ text. string_bytes text ≡ text_of bytes.now) }
+    ensures { IfOk result (λ text. string_bytes text ≡ form_text bytes.now) }
 {
     match decode(alloc, bytes)? {
         CowStr::Borrowed(text) => String::from_str(alloc, text),

@@ -1,13 +1,13 @@
 //! Numbers in a request.
 
 ghost use Rattle.std.specs.Prelude.{◌≡◌, ◌↔◌, IsTrue, decimal};
-ghost use Rattle.page_routes.specs.Numbers.{Finds, IsNumber};
+ghost use Rattle.page_routes.specs.Numbers.{FindsNumber, IsDecimal};
 
 use itoa::Buffer;
 
 /// The number that a text is in decimal: at most 4,294,967,295, with no zero in front and no sign.
 pub(crate) fn number_of(text: &str) -> Option<u32>
-    ensures { Finds (IsNumber text.now) result }
+    ensures { FindsNumber (IsDecimal text.now) result }
 {
     match text.parse::<u32>() {
         Ok(number) if is_written(text, number) => Some(number),

@@ -4,7 +4,7 @@ use Rattle.std.specs.List.{list_any}
 use Rattle.std.specs.String.{string_bytes}
 use Rattle.std.specs.declared.alloc.Global.{Global}
 use Rattle.std.specs.Prelude.{String}
-use Rattle.page_server.specs.Hosts.{is_own, names, own_names}
+use Rattle.page_server.specs.Hosts.{is_own, names_host, own_names}
 
 any_of_mapped : {A B : Type 0} (test : B → Bool) (f : A → B) (xs : List A)
     → list_any test (map f xs) ≡ list_any (λ x. test (f x)) xs
@@ -19,12 +19,12 @@ any_of_both test (x ∷ xs) ys = elim (test x) as (λ (b : Bool). (b || list_any
   | false ↦ any_of_both test xs ys
 ]
 
--- the value names this machine, or else one of the hosts that were given
+-- the value names_host this machine, or else one of the hosts that were given
 pub own_or_given : (hosts : List (String Global)) (value : List ℕ)
     → is_own (map string_bytes hosts) value
-    ≡ (list_any (λ host. names host value) own_names || list_any (λ host. names (string_bytes host) value) hosts)
+    ≡ (list_any (λ host. names_host host value) own_names || list_any (λ host. names_host (string_bytes host) value) hosts)
 unfolding is_own
 own_or_given hosts value =
-    any_of_both (λ host. names host value) own_names (map string_bytes hosts)
-    ∙ ap (λ (b : Bool). list_any (λ host. names host value) own_names || b)
-    (any_of_mapped (λ host. names host value) string_bytes hosts)
+    any_of_both (λ host. names_host host value) own_names (map string_bytes hosts)
+    ∙ ap (λ (b : Bool). list_any (λ host. names_host host value) own_names || b)
+    (any_of_mapped (λ host. names_host host value) string_bytes hosts)

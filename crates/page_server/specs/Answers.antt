@@ -14,18 +14,18 @@ use Rattle.page_routes.specs.declared.page.Page.{Page}
 use Rattle.page_routes.specs.declared.page.Status.{Status}
 use Rattle.page_routes.specs.declared.page.Status.TheVariants.{Found, NotFound, Unavailable}
 use Rattle.page_routes.specs.declared.route.Route.{Route}
-use Rattle.page_server.specs.Asked.{IsAsked}
+use Rattle.page_server.specs.Asked.{IsRequestFor}
 use Rattle.page_server.specs.Fields.{fixed_fields, kept_fields, response_fields}
-use Rattle.page_server.specs.Refusals.{code_of, problem_kind, refusal_text}
+use Rattle.page_server.specs.Refusals.{code_of, problem_kind, response_text}
 use Rattle.page_server.specs.Tags.{IsNamed, tag_text}
 use Rattle.page_server.specs.declared.asked.Asked.TheVariants as asked
 use Rattle.page_server.specs.declared.refusal.Refusal.{Refusal}
 use Rattle.page_server.specs.declared.refusal.Refusal.TheVariants.{NoHost, OtherHost, OtherMethod, NoPage, NoMemory}
 
-abbrev pub status_of : Status → ℕ
-status_of Found = 200
-status_of NotFound = 404
-status_of Unavailable = 503
+abbrev pub status_number : Status → ℕ
+status_number Found = 200
+status_number NotFound = 404
+status_number Unavailable = 503
 
 -- texts of these kinds stay the same while the site runs
 abbrev pub is_same : Kind → Bool
@@ -36,17 +36,17 @@ is_same other = false
 
 -- what a request with these fields is shown of a page, at this date. Of a text that stays the same only the tag is sent
 -- where the request names it: status 304 (RFC 9110, section 15.4.5).
-pub data IsPage (headers : Entries FieldValue) (page : Page) (date : Option FieldValue) (response : Response)
+pub data ShowsPage (headers : Entries FieldValue) (page : Page) (date : Option FieldValue) (response : Response)
     : Type 0 where
   Made : is_same page.kind ≡ false
-      → IsResponse (status_of page.status) (response_fields page.kind date) page.body.items response
-      → IsPage headers page date response
+      → IsResponse (status_number page.status) (response_fields page.kind date) page.body.items response
+      → ShowsPage headers page date response
   Fixed : is_same page.kind ≡ true → ¬ IsNamed (tag_text page.body.items) headers
-      → IsResponse (status_of page.status) (fixed_fields page.kind page.body.items date) page.body.items response
-      → IsPage headers page date response
+      → IsResponse (status_number page.status) (fixed_fields page.kind page.body.items date) page.body.items response
+      → ShowsPage headers page date response
   Kept : is_same page.kind ≡ true → IsNamed (tag_text page.body.items) headers
       → IsResponse 304 (kept_fields page.body.items date) [] response
-      → IsPage headers page date response
+      → ShowsPage headers page date response
 
 -- a refused method is told which methods there are
 abbrev pub allow_fields : Refusal → List Header
@@ -54,10 +54,10 @@ allow_fields OtherMethod = (codes "allow", codes "GET, HEAD") ∷ []
 allow_fields other = []
 
 -- the response is the refusal, for programs or for people, at this date
-abbrev pub IsRefusal : Refusal → Bool → Option FieldValue → Response → Type 0
-IsRefusal refusal for_programs date =
+abbrev pub IsRefusalResponse : Refusal → Bool → Option FieldValue → Response → Type 0
+IsRefusalResponse refusal for_programs date =
     IsResponse (code_of refusal) (response_fields (problem_kind for_programs) date ++ allow_fields refusal)
-    (refusal_text for_programs refusal)
+    (response_text for_programs refusal)
 
 -- whether the request is one of a program
 abbrev pub is_for_programs : Parts → Bool
@@ -66,7 +66,7 @@ is_for_programs head = bytes_eq (codes "/api/") (take 5 (uri_path head.uri))
 -- the response is 503, with its text unless there is no memory even for that
 abbrev pub IsFailure : Bool → Option FieldValue → Response → Type 0
 IsFailure for_programs date response =
-    IsRefusal NoMemory for_programs date response ⊎ IsResponse 503 [] [] response
+    IsRefusalResponse NoMemory for_programs date response ⊎ IsResponse 503 [] [] response
 
 -- who makes the pages: which page answers a route, and what a request leaves for which none is made
 module _ {P : Type 0} (pages : P → Route → Page → P → Type 0) (moves : P → P → Type 0) where
@@ -82,19 +82,19 @@ module _ {P : Type 0} (pages : P → Route → Page → P → Type 0) (moves : P
   abbrev pub Shows : Entries FieldValue → Option FieldValue → P → Route → Bool → Response → P → Type 0
   Shows headers date old route for_programs response new =
       ((page : Page) × pages old route page new
-      × (IsPage headers page date response ⊎ IsFailure for_programs date response))
+      × (ShowsPage headers page date response ⊎ IsFailure for_programs date response))
       ⊎ (moves old new × IsFailure for_programs date response)
 
   -- the request asks for no page, and is answered why
   abbrev pub Refuses : List (List ℕ) → Option FieldValue → P → Parts → Response → P → Type 0
   Refuses hosts date old head response new =
-      (refusal : Refusal) × IsAsked hosts head (asked.Refused refusal)
-      × IsRefusal refusal (is_for_programs head) date response × Leaves refusal old new
+      (refusal : Refusal) × IsRequestFor hosts head (asked.Refused refusal)
+      × IsRefusalResponse refusal (is_for_programs head) date response × Leaves refusal old new
 
   -- the request asks for a page: that is sent, or 503
   abbrev pub Answers : List (List ℕ) → Option FieldValue → P → Parts → Response → P → Type 0
   Answers hosts date old head response new =
-      (route : Route) × IsAsked hosts head (asked.Page route)
+      (route : Route) × IsRequestFor hosts head (asked.Page route)
       × Shows head.headers date old route (is_for_programs head) response new
 
   abbrev pub IsAnswered : List (List ℕ) → Option FieldValue → P → Parts → Response → P → Type 0

@@ -36,23 +36,24 @@ abbrev pub are_own : List (List ℕ) → List ℕ → Uri → Bool
 are_own hosts host uri = is_own hosts host && is_own_target hosts uri
 
 -- the request names one host, which is this machine or one of these, and so is that of its target
-abbrev pub IsOwn : List (List ℕ) → Parts → Type 0
-IsOwn hosts head = (host : List ℕ) × (host_field head.headers ≡ Some host) × (are_own hosts host head.uri ≡ true)
+abbrev pub IsForThisHost : List (List ℕ) → Parts → Type 0
+IsForThisHost hosts head =
+    (host : List ℕ) × (host_field head.headers ≡ Some host) × (are_own hosts host head.uri ≡ true)
 
 -- the request names one host, and that or its target's isn't this machine or one of these
 abbrev pub IsOthers : List (List ℕ) → Parts → Type 0
 IsOthers hosts head = (host : List ℕ) × (host_field head.headers ≡ Some host) × (are_own hosts host head.uri ≡ false)
 
 -- the route is what the target names
-abbrev pub IsTarget : Parts → Route → Type 0
-IsTarget head route = IsRoute (uri_path head.uri) (uri_query head.uri) route
+abbrev pub NamesRoute : Parts → Route → Type 0
+NamesRoute head route = IsRoute (uri_path head.uri) (uri_query head.uri) route
 
 -- what the request asks for
-abbrev pub IsAsked : List (List ℕ) → Parts → Asked → Type 0
-IsAsked hosts head (Page route) = IsOwn hosts head × (is_read head.method ≡ true) × IsTarget head route
-IsAsked hosts head (Refused NoHost) = host_field head.headers ≡ None
-IsAsked hosts head (Refused OtherHost) = IsOthers hosts head
-IsAsked hosts head (Refused OtherMethod) = IsOwn hosts head × (is_read head.method ≡ false)
-IsAsked hosts head (Refused NoPage) =
-    IsOwn hosts head × (is_read head.method ≡ true) × ((route : Route) → ¬ IsTarget head route)
-IsAsked hosts head (Refused NoMemory) = ⊥
+abbrev pub IsRequestFor : List (List ℕ) → Parts → Asked → Type 0
+IsRequestFor hosts head (Page route) = IsForThisHost hosts head × (is_read head.method ≡ true) × NamesRoute head route
+IsRequestFor hosts head (Refused NoHost) = host_field head.headers ≡ None
+IsRequestFor hosts head (Refused OtherHost) = IsOthers hosts head
+IsRequestFor hosts head (Refused OtherMethod) = IsForThisHost hosts head × (is_read head.method ≡ false)
+IsRequestFor hosts head (Refused NoPage) =
+    IsForThisHost hosts head × (is_read head.method ≡ true) × ((route : Route) → ¬ NamesRoute head route)
+IsRequestFor hosts head (Refused NoMemory) = ⊥

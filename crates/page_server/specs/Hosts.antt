@@ -9,13 +9,13 @@ abbrev pub is_port : List ℕ → Bool
 is_port rest = (length rest == 0) || ((slice_index rest 0 == 58) && list_all is_ascii_digit (drop 1 rest))
 
 -- the value is the host, in whatever case, with or without a port
-abbrev pub names : List ℕ → List ℕ → Bool
-names host value = str_eq_ignore_ascii_case (take (length host) value) host && is_port (drop (length host) value)
+abbrev pub names_host : List ℕ → List ℕ → Bool
+names_host host value = str_eq_ignore_ascii_case (take (length host) value) host && is_port (drop (length host) value)
 
--- the names of this machine
+-- the names_host of this machine
 abbrev pub own_names : List (List ℕ)
 own_names = codes "localhost" ∷ codes "127.0.0.1" ∷ codes "[::1]" ∷ []
 
 -- the value is a name of this machine, or one of these hosts
 unfoldable pub is_own : List (List ℕ) → List ℕ → Bool
-is_own hosts value = list_any (λ host. names host value) (own_names ++ hosts)
+is_own hosts value = list_any (λ host. names_host host value) (own_names ++ hosts)

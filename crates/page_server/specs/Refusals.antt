@@ -18,14 +18,14 @@ problem_kind true = Problem
 problem_kind false = Plain
 
 -- the text for programs (true) and for people (false)
-abbrev pub refusal_text : Bool → Refusal → List ℕ
-refusal_text true NoHost = codes "{\"type\":\"about:blank\",\"title\":\"Bad Request\",\"status\":400}\n"
-refusal_text true OtherHost = codes "{\"type\":\"about:blank\",\"title\":\"Misdirected Request\",\"status\":421}\n"
-refusal_text true OtherMethod = codes "{\"type\":\"about:blank\",\"title\":\"Method Not Allowed\",\"status\":405}\n"
-refusal_text true NoPage = codes "{\"type\":\"about:blank\",\"title\":\"Not Found\",\"status\":404}\n"
-refusal_text true NoMemory = codes "{\"type\":\"about:blank\",\"title\":\"Service Unavailable\",\"status\":503}\n"
-refusal_text false NoHost = codes "400 Bad Request\n"
-refusal_text false OtherHost = codes "421 Misdirected Request\n"
-refusal_text false OtherMethod = codes "405 Method Not Allowed\n"
-refusal_text false NoPage = codes "404 Not Found\n"
-refusal_text false NoMemory = codes "503 Service Unavailable\n"
+abbrev pub response_text : Bool → Refusal → List ℕ
+response_text true NoHost = codes "{\"type\":\"about:blank\",\"title\":\"Bad Request\",\"status\":400}\n"
+response_text true OtherHost = codes "{\"type\":\"about:blank\",\"title\":\"Misdirected Request\",\"status\":421}\n"
+response_text true OtherMethod = codes "{\"type\":\"about:blank\",\"title\":\"Method Not Allowed\",\"status\":405}\n"
+response_text true NoPage = codes "{\"type\":\"about:blank\",\"title\":\"Not Found\",\"status\":404}\n"
+response_text true NoMemory = codes "{\"type\":\"about:blank\",\"title\":\"Service Unavailable\",\"status\":503}\n"
+response_text false NoHost = codes "400 Bad Request\n"
+response_text false OtherHost = codes "421 Misdirected Request\n"
+response_text false OtherMethod = codes "405 Method Not Allowed\n"
+response_text false NoPage = codes "404 Not Found\n"
+response_text false NoMemory = codes "503 Service Unavailable\n"

@@ -3,9 +3,9 @@
 ghost use Rattle.std.specs.Prelude.{◌≡◌, IfErr, IfOk, OnOk, map, string_bytes};
 ghost use Rattle.std.specs.Option.{option_copied};
 ghost use Rattle.http.specs.Request.{head_of};
-ghost use Rattle.page_routes.specs.Numbers.{Finds};
+ghost use Rattle.page_routes.specs.Numbers.{FindsNumber};
 ghost use Rattle.page_routes.specs.Routes.{IsRoute};
-ghost use Rattle.page_server.specs.Asked.{IsAsked, IsOwn, are_own, host_field, is_own_target, is_read};
+ghost use Rattle.page_server.specs.Asked.{IsRequestFor, IsForThisHost, are_own, host_field, is_own_target, is_read};
 
 use super::hosts::is_own;
 use super::refusal::Refusal;
@@ -33,7 +33,7 @@ pub fn asked_for(
     hosts: &[String],
     request: &Request<Bytes>,
 ) -> Result<Asked, AllocError>
-    ensures { IfOk result (IsAsked (map string_bytes hosts.now) (head_of request.now)) }
+    ensures { IfOk result (IsRequestFor (map string_bytes hosts.now) (head_of request.now)) }
 {
     if let Err(refusal) = trust(hosts, request) {
         return Ok(Asked::Refused(refusal));
@@ -50,9 +50,9 @@ pub fn asked_for(
 
 /// Refuses a request that doesn't name one host, or names another host than this machine or these.
 fn trust(hosts: &[String], request: &Request<Bytes>) -> Result<(), Refusal>
-    ensures own { OnOk result (IsOwn (map string_bytes hosts.now) (head_of request.now)) }
+    ensures own { OnOk result (IsForThisHost (map string_bytes hosts.now) (head_of request.now)) }
     ensures others { IfErr result
-        (λ refusal. IsAsked (map string_bytes hosts.now) (head_of request.now) (Asked.Refused refusal)) }
+        (λ refusal. IsRequestFor (map string_bytes hosts.now) (head_of request.now) (Asked.Refused refusal)) }
 {
     let Some(host) = host_field(request.headers()) else {
         return Err(Refusal::NoHost);

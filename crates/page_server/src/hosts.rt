@@ -4,7 +4,7 @@ ghost use Rattle.std.specs.Prelude.{◌≡◌, map, string_bytes};
 ghost use Rattle.std.specs.Char.{is_ascii_digit};
 ghost use Rattle.std.specs.List.{list_all, list_any};
 ghost use Rattle.std.specs.Str.{str_eq_ignore_ascii_case};
-ghost use Rattle.page_server.specs.Hosts.{is_own, is_port, names, own_names};
+ghost use Rattle.page_server.specs.Hosts.{is_own, is_port, names_host, own_names};
 
 /// Whether the host of a request, with or without a port, is this machine or one of these hosts. Case doesn't matter in
 /// ASCII letters. A page of another site whose name was made to lead here (DNS rebinding) names another host. It costs
@@ -17,21 +17,21 @@ pub fn is_own(hosts: &[String], value: &[u8]) -> bool
 
 /// Whether the host of a request is this machine.
 fn is_here(value: &[u8]) -> bool
-    ensures { result ≡ list_any (λ host. names host value.now) own_names }
+    ensures { result ≡ list_any (λ host. names_host host value.now) own_names }
 {
     names(b"localhost", value) || names(b"127.0.0.1", value) || names(b"[::1]", value)
 }
 
 /// Whether the host of a request is one of these.
 fn is_given(hosts: &[String], value: &[u8]) -> bool
-    ensures { result ≡ list_any (λ host. names (string_bytes host) value.now) hosts.now }
+    ensures { result ≡ list_any (λ host. names_host (string_bytes host) value.now) hosts.now }
 {
     hosts.iter().any(|host| names(host.as_bytes(), value))
 }
 
 /// Whether a value is this host, with or without a port.
 fn names(host: &[u8], value: &[u8]) -> bool
-    ensures { result ≡ names host.now value.now }
+    ensures { result ≡ names_host host.now value.now }
 {
     match value.split_at_checked(host.len()) {
         Some((front, rest)) => is_same(front, host) && is_port(rest),

@@ -1,7 +1,7 @@
 //! Why a request gets no page.
 
 ghost use Rattle.std.specs.Prelude.{◌≡◌, false, true};
-ghost use Rattle.page_server.specs.Refusals.{code_of, problem_kind, refusal_text};
+ghost use Rattle.page_server.specs.Refusals.{code_of, problem_kind, response_text};
 
 use http::StatusCode;
 use page_routes::Kind;
@@ -37,7 +37,7 @@ impl Refusal {
 
     /// Its text, for programs or for people.
     pub fn text(self, for_programs: bool) -> &'static [u8]
-        ensures { result.now ≡ refusal_text for_programs self }
+        ensures { result.now ≡ response_text for_programs self }
     {
         if for_programs {
             self.problem()
@@ -48,7 +48,7 @@ impl Refusal {
 
     /// Its text for programs.
     fn problem(self) -> &'static [u8]
-        ensures { result.now ≡ refusal_text true self }
+        ensures { result.now ≡ response_text true self }
     {
         match self {
             Refusal::NoHost => BAD_REQUEST,
@@ -61,7 +61,7 @@ impl Refusal {
 
     /// Its text for people.
     fn line(self) -> &'static [u8]
-        ensures { result.now ≡ refusal_text false self }
+        ensures { result.now ≡ response_text false self }
     {
         match self {
             Refusal::NoHost => b"400 Bad Request\n",

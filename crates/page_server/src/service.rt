@@ -3,8 +3,9 @@
 ghost use Rattle.std.specs.Prelude.{◌≡◌, ◌++◌, ◌⊎◌, OnOk, OnErr, IfOk};
 ghost use Rattle.http.specs.Request.{head_of};
 ghost use Rattle.http_server.specs.Response.{IsBlank, IsResponse, fields_of};
-ghost use Rattle.page_server.specs.Answers.{IsFailure, IsPage, IsRefusal, allow_fields, is_for_programs, is_same};
-ghost use Rattle.page_server.specs.Answers.{status_of};
+ghost use Rattle.page_server.specs.Answers.{IsFailure, ShowsPage, IsRefusalResponse, allow_fields, is_for_programs};
+ghost use Rattle.page_server.specs.Answers.{is_same};
+ghost use Rattle.page_server.specs.Answers.{status_number};
 ghost use Rattle.page_server.specs.Fields.{fixed_fields, response_fields};
 ghost use Rattle.page_server.specs.Tags.{tag_text};
 
@@ -68,7 +69,7 @@ fn is_for_programs(request: &Request<Bytes>) -> bool
 impl<P: Pages> PageService<'_, P> {
     ghost use Rattle.std.specs.Prelude.{◌≡◌, ◌⊎◌, OnOk, OnErr};
     ghost use Rattle.page_routes.specs.declared.page.Page.{Page};
-    ghost use Rattle.page_server.specs.Answers.{IsFailure, IsPage, IsRefusal, Leaves, Shows};
+    ghost use Rattle.page_server.specs.Answers.{IsFailure, ShowsPage, IsRefusalResponse, Leaves, Shows};
     ghost use Rattle.page_server.specs.declared.refusal.Refusal.TheVariants.{NoMemory};
     ghost use Rattle.http_server.specs.Response.{IsBlank};
 
@@ -101,7 +102,7 @@ impl<P: Pages> PageService<'_, P> {
         response: &mut Response,
     )
         requires { IsBlank response.old }
-        ensures { IsPage headers.now page self.now.date response.new
+        ensures { ShowsPage headers.now page self.now.date response.new
             ⊎ IsFailure for_programs self.now.date response.new }
     {
         if fill(self.alloc, headers, response, page, &self.date).is_err() {
@@ -117,7 +118,7 @@ impl<P: Pages> PageService<'_, P> {
         response: &mut Response,
     ) -> Result<(), AllocError>
         requires { IsBlank response.old }
-        ensures is { OnOk result (IsRefusal refusal for_programs self.old.date response.new) }
+        ensures is { OnOk result (IsRefusalResponse refusal for_programs self.old.date response.new) }
         ensures leaves { OnOk result (Leaves P.pages P.moves refusal self.old.pages self.new.pages) }
         ensures hosts { self.new.hosts ≡ self.old.hosts }
         ensures date { self.new.date ≡ self.old.date }
@@ -152,7 +153,7 @@ fn fill(
     date: &Option<HeaderValue>,
 ) -> Result<(), AllocError>
     requires { IsBlank response.old }
-    ensures { OnOk result (IsPage headers.now page date.now response.new) }
+    ensures { OnOk result (ShowsPage headers.now page date.now response.new) }
 {
     if !is_same(page.kind) {
         return fill_made(response, page, date);
@@ -190,7 +191,7 @@ fn fill_made(
     date: &Option<HeaderValue>,
 ) -> Result<(), AllocError>
     requires { IsBlank response.old }
-    ensures { OnOk result (IsResponse (status_of page.status) (response_fields page.kind date.now) page.body.items
+    ensures { OnOk result (IsResponse (status_number page.status) (response_fields page.kind date.now) page.body.items
         response.new) }
 {
     let Page { status, kind, body } = page;
@@ -208,7 +209,7 @@ fn fill_fixed(
 ) -> Result<(), AllocError>
     requires blank { IsBlank response.old }
     requires tag { tag.bytes ≡ tag_text page.body.items }
-    ensures { OnOk result (IsResponse (status_of page.status) (fixed_fields page.kind page.body.items date.now)
+    ensures { OnOk result (IsResponse (status_number page.status) (fixed_fields page.kind page.body.items date.now)
         page.body.items response.new) }
 {
     let Page { status, kind, body } = page;
@@ -219,7 +220,7 @@ fn fill_fixed(
 
 /// The code of a page's status.
 fn status_of(status: Status) -> StatusCode
-    ensures { result ≡ status_of status }
+    ensures { result ≡ status_number status }
 {
     match status {
         Status::Found => StatusCode::OK,
@@ -236,7 +237,7 @@ fn add_refusal(
     date: &Option<HeaderValue>,
 ) -> Result<(), AllocError>
     requires { IsBlank response.old }
-    ensures { OnOk result (IsRefusal refusal for_programs date.now response.new) }
+    ensures { OnOk result (IsRefusalResponse refusal for_programs date.now response.new) }
 {
     response.status = refusal.status();
     add_fields(response, problem_kind(for_programs), date)?;

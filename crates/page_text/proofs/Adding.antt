@@ -4,10 +4,10 @@ use Rattle.json.specs.Print.{print}
 use Rattle.json.specs.Token.{Token}
 use Rattle.json.specs.Written.{Written}
 use Rattle.json_line.specs.Adding.{flat_more, all_written}
-use Rattle.json_line.specs.Tokens.{Adds}
+use Rattle.json_line.specs.Tokens.{AddsTokens}
 
 -- what a writer gives that began with nothing
-pub finished : {a b : Written} {xs : List Token} {text : List ℕ} → a.before ≡ [] → a.tokens ≡ [] → Adds a b xs
+pub finished : {a b : Written} {xs : List Token} {text : List ℕ} → a.before ≡ [] → a.tokens ≡ [] → AddsTokens a b xs
     → text ≡ b.before ++ print b.tokens → text ≡ print xs
 finished {a} {b} {xs} before tokens p is =
     is ∙ ap (λ l. l ++ print b.tokens) (p.before ∙ before) ∙ ap print (all_written tokens p)

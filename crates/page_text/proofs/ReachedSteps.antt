@@ -12,7 +12,7 @@ use Rattle.state_core.specs.declared.item.Item.{Item}
 use Rattle.change_core.specs.Views.{IsKnownSet}
 use Rattle.graph_core.specs.Dependencies.{Names}
 use Rattle.why_text.specs.Asked.{IsItemAsked}
-use Rattle.page_text.specs.Reached.{AddsAll, AreDistinct, AreNames, AreReached, HasReached, NamesFrom, set_seen}
+use Rattle.page_text.specs.Reached.{AddsAll, AreDistinct, AreNames, AreReachedChanges, HasReached, NamesFrom, set_seen}
 
 nothing : {X : Type 0} (x : X) → ¬ Contains [] x
 nothing x c = let less = c.1 in absurd (omega arith)
@@ -178,7 +178,7 @@ first_there (y ∷ ys) x is = subst (Contains (y ∷ ys)) (same is) (head y ys) 
 
 pub whole : (gate : GateRules) (state : State) (item : Item) (at : ℕ) (changes : List ℕ)
     → (length changes ≤ 60 → length changes ≤ at) → HasReached gate state item at changes
-    → AreReached gate state item changes
+    → AreReachedChanges gate state item changes
 whole gate state item at changes enough reached = record {
   first = reached.first;
   once = reached.once;

@@ -5,13 +5,13 @@ use Rattle.json.specs.Print.{print}
 use Rattle.json.specs.Token.{end_object}
 use Rattle.json.specs.Written.{Written}
 use Rattle.state_core.specs.declared.item.Item.{Item}
-use Rattle.json_line.specs.Tokens.{Adds}
+use Rattle.json_line.specs.Tokens.{AddsTokens}
 use Rattle.page_text.specs.Titles.{IsTitled}
-use Rattle.page_text.specs.Waiting.{HasWaiting, waiting_tokens}
+use Rattle.page_text.specs.Waiting.{EndsInWaiting, waiting_tokens}
 
 -- the text ends with the items
-pub has_waiting : (items : List Item) (a b : Written) (text : List ℕ) → Adds a b (waiting_tokens items ++ end_object ∷ [])
-    → text ≡ b.before ++ print b.tokens → HasWaiting items text
+pub has_waiting : (items : List Item) (a b : Written) (text : List ℕ) → AddsTokens a b (waiting_tokens items ++ end_object ∷ [])
+    → text ≡ b.before ++ print b.tokens → EndsInWaiting items text
 has_waiting items a b text adds is = record {
   before = b.before;
   members = a.tokens;

@@ -22,7 +22,7 @@ use Rattle.page_text.specs.Rows.{chosen_rows, rows_on}
 use Rattle.page_text.specs.Site.{site_tokens}
 use Rattle.page_text.specs.Table.{HasRows}
 use Rattle.page_text.specs.Titles.{IsTitled, item_title}
-use Rattle.page_text.specs.Waiting.{HasWaiting, waiting_for}
+use Rattle.page_text.specs.Waiting.{EndsInWaiting, waiting_for}
 use Rattle.page_text.specs.declared.rows.Row.{Row}
 
 pub record IsPage (status : Status) (kind : Kind) (page : Page) : Type 0 where
@@ -47,7 +47,7 @@ pub record IsItemPage (state : State) (item : Item) (page : Page) : Type 0 where
 -- the data of an item, with those that wait for its change
 pub record IsItemData (verdicts : Judged) (item : Item) (page : Page) : Type 0 where
   pub is : IsPage Found kind.Json page
-  pub waiting : HasWaiting (waiting_for item.change verdicts.out) page.body.items
+  pub waiting : EndsInWaiting (waiting_for item.change verdicts.out) page.body.items
 
 -- the item that is asked for is known, and its page is there; or there is no such item
 pub data IsOfItem (state : State) (place : Place) (found : Item → Page → Type 0) (missing : Page → Type 0) (page : Page)
@@ -65,22 +65,22 @@ event_text ready out operations =
     ++ codes ",\"operations\":" ++ decimal operations ++ codes "}\n\n"
 
 -- the answer under a gate, to a record of so many operations with this state and these verdicts
-abbrev pub IsAnswer : GateRules → State → ℕ → Judged → Facts → Route → Page → Type 0
-IsAnswer gate state operations verdicts facts (route.List choice) page =
+abbrev pub IsPageAnswer : GateRules → State → ℕ → Judged → Facts → Route → Page → Type 0
+IsPageAnswer gate state operations verdicts facts (route.List choice) page =
     IsListPage state (rows_on choice.page (chosen_rows state choice verdicts)) page
-IsAnswer gate state operations verdicts facts (route.Change place) page =
+IsPageAnswer gate state operations verdicts facts (route.Change place) page =
     IsOfItem state place (IsItemPage state) (IsPage NotFound kind.Html) page
-IsAnswer gate state operations verdicts facts route.Status page =
+IsPageAnswer gate state operations verdicts facts route.Status page =
     IsText Found kind.Json (print (site_tokens operations verdicts facts)) page
-IsAnswer gate state operations verdicts facts (route.Items choice) page =
+IsPageAnswer gate state operations verdicts facts (route.Items choice) page =
     IsText Found kind.Json (print (items_tokens state choice.page (chosen_rows state choice verdicts))) page
-IsAnswer gate state operations verdicts facts (route.ChangeData place) page =
+IsPageAnswer gate state operations verdicts facts (route.ChangeData place) page =
     IsOfItem state place (IsItemData verdicts) (IsText NotFound kind.Problem (print problem_tokens)) page
-IsAnswer gate state operations verdicts facts route.Events page =
+IsPageAnswer gate state operations verdicts facts route.Events page =
     IsText Found kind.Events (event_text (length verdicts.ready) (length verdicts.out) operations) page
-IsAnswer gate state operations verdicts facts route.Metrics page =
+IsPageAnswer gate state operations verdicts facts route.Metrics page =
     IsText Found kind.Metrics (metrics_of gate state operations verdicts facts) page
-IsAnswer gate state operations verdicts facts route.Health page = IsText Found kind.Plain (codes "ok\n") page
-IsAnswer gate state operations verdicts facts route.Style page = IsPage Found kind.Style page
-IsAnswer gate state operations verdicts facts route.Script page = IsPage Found kind.Script page
-IsAnswer gate state operations verdicts facts route.Icon page = IsPage Found kind.Icon page
+IsPageAnswer gate state operations verdicts facts route.Health page = IsText Found kind.Plain (codes "ok\n") page
+IsPageAnswer gate state operations verdicts facts route.Style page = IsPage Found kind.Style page
+IsPageAnswer gate state operations verdicts facts route.Script page = IsPage Found kind.Script page
+IsPageAnswer gate state operations verdicts facts route.Icon page = IsPage Found kind.Icon page

@@ -46,7 +46,7 @@ pub record HasReached (gate : GateRules) (state : State) (item : Item) (seen : �
 
 -- just the changes that are reached over names from the item's own one, which is the first; each is there once. Where
 -- there are more than 60 some may be left out.
-pub record AreReached (gate : GateRules) (state : State) (item : Item) (changes : List ℕ) : Type 0 where
+pub record AreReachedChanges (gate : GateRules) (state : State) (item : Item) (changes : List ℕ) : Type 0 where
   pub first : slice_get changes 0 ≡ Some item.change
   pub once : AreDistinct changes
   pub each : (number : ℕ) → Contains changes number → LeadsTo (NamesFrom gate state item) item.change number

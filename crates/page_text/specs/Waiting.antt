@@ -25,7 +25,7 @@ waiting_tokens items =
     ++ end_array ∷ []
 
 -- the text of an object whose last member are these items
-pub record HasWaiting (items : List Item) (text : List ℕ) : Type 0 where
+pub record EndsInWaiting (items : List Item) (text : List ℕ) : Type 0 where
   pub before : List ℕ
   pub members : List Token
   pub is : text ≡ before ++ print (members ++ (waiting_tokens items ++ end_object ∷ []))

@@ -6,7 +6,7 @@ ghost use Rattle.json.specs.Print.{print};
 ghost use Rattle.state_core.specs.Items.{item_cmp};
 ghost use Rattle.state_core.specs.State.{state_of};
 ghost use Rattle.ready_core.specs.Verdicts.{items_out};
-ghost use Rattle.page_text.specs.Answer.{IsAnswer, IsItemData, IsItemPage, IsListPage, IsOfItem, IsPage, IsText};
+ghost use Rattle.page_text.specs.Answer.{IsPageAnswer, IsItemData, IsItemPage, IsListPage, IsOfItem, IsPage, IsText};
 ghost use Rattle.page_text.specs.Answer.{event_text};
 ghost use Rattle.page_text.specs.Items.{items_tokens};
 ghost use Rattle.page_text.specs.Metrics.{metrics_of};
@@ -47,7 +47,7 @@ pub fn page_of(
 ) -> Result<Page, AllocError>
     requires { IsStrictlySortedBy item_cmp (items_out verdicts.now.out) }
     ensures { IfOk result
-        (IsAnswer gate.now (state_of replica.now) (length replica.now) verdicts.now facts.now route.now) }
+        (IsPageAnswer gate.now (state_of replica.now) (length replica.now) verdicts.now facts.now route.now) }
 {
     match answer(alloc, route, gate, replica, verdicts, facts) {
         Ok(page) => Ok(page),
@@ -66,7 +66,7 @@ fn answer(
 ) -> Result<Page, NoMemory>
     requires { IsStrictlySortedBy item_cmp (items_out verdicts.now.out) }
     ensures { IfOk result
-        (IsAnswer gate.now (state_of replica.now) (length replica.now) verdicts.now facts.now route.now) }
+        (IsPageAnswer gate.now (state_of replica.now) (length replica.now) verdicts.now facts.now route.now) }
 {
     match route {
         Route::List(choice) => list_answer(alloc, choice, gate, replica, verdicts, facts),

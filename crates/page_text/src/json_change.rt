@@ -4,7 +4,7 @@ ghost use Rattle.std.specs.Prelude.{IfOk};
 ghost use Rattle.std.specs.List.Sorted.{IsStrictlySortedBy};
 ghost use Rattle.state_core.specs.Items.{IsItem, item_cmp};
 ghost use Rattle.ready_core.specs.Verdicts.{items_out};
-ghost use Rattle.page_text.specs.Waiting.{HasWaiting, waiting_for};
+ghost use Rattle.page_text.specs.Waiting.{EndsInWaiting, waiting_for};
 
 use super::chain::walk_from;
 use super::conditions::put_conditions;
@@ -37,7 +37,7 @@ pub fn change_text(
 ) -> Result<Vec<u8>, NoMemory>
     requires rising { IsStrictlySortedBy item_cmp (items_out verdicts.now.out) }
     requires there { IsItem state.now item }
-    ensures { IfOk result (λ text. HasWaiting (waiting_for item.change verdicts.now.out) text.items) }
+    ensures { IfOk result (λ text. EndsInWaiting (waiting_for item.change verdicts.now.out) text.items) }
 {
     let mut out = Writer::new(Vec::new(alloc));
     open_object(&mut out)?;
@@ -59,7 +59,7 @@ fn end_change(
     verdicts: &Verdicts,
     change: u32,
 ) -> Result<Vec<u8>, NoMemory>
-    ensures { IfOk result (λ text. HasWaiting (waiting_for change verdicts.now.out) text.items) }
+    ensures { IfOk result (λ text. EndsInWaiting (waiting_for change verdicts.now.out) text.items) }
 {
     let mut out = out;
     let waiting = waiting_for(alloc, verdicts.out(), change)?;

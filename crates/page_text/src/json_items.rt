@@ -4,7 +4,7 @@ ghost use Rattle.std.specs.Prelude.{◌≡◌, IfOk, OnOk, flat_map};
 ghost use Rattle.json.specs.Print.{print};
 ghost use Rattle.page_text.specs.Items.{about_tokens, items_tokens, list_tokens, row_tokens};
 ghost use Rattle.page_text.specs.Rows.{chosen_rows};
-ghost use Rattle.json_line.specs.Tokens.{Adds};
+ghost use Rattle.json_line.specs.Tokens.{AddsTokens};
 
 use super::rows::{Row, chosen_rows, rows_of};
 use super::subject::subject_of;
@@ -42,7 +42,7 @@ fn add_items(
     page: u32,
     chosen: &[Row],
 ) -> Result<(), NoMemory>
-    ensures { OnOk result (Adds out.old out.new (items_tokens state.now page chosen.now)) }
+    ensures { OnOk result (AddsTokens out.old out.new (items_tokens state.now page chosen.now)) }
 {
     open_object(out)?;
     put_number(out, "total", chosen.len() as u64)?;
@@ -59,7 +59,7 @@ fn add_list(
     state: &State,
     rows: &[Row],
 ) -> Result<(), NoMemory>
-    ensures { OnOk result (Adds out.old out.new (list_tokens state.now rows.now)) }
+    ensures { OnOk result (AddsTokens out.old out.new (list_tokens state.now rows.now)) }
 {
     open_list(out, "items")?;
     add_rows(alloc, out, state, rows)?;
@@ -74,7 +74,7 @@ fn add_rows(
     state: &State,
     rows: &[Row],
 ) -> Result<(), NoMemory>
-    ensures { OnOk result (Adds out.old out.new (flat_map (row_tokens state.now) rows.now)) }
+    ensures { OnOk result (AddsTokens out.old out.new (flat_map (row_tokens state.now) rows.now)) }
 {
     for row in rows {
         add_row(alloc, out, state, *row)?;
@@ -89,7 +89,7 @@ pub fn add_row(
     state: &State,
     row: Row,
 ) -> Result<(), NoMemory>
-    ensures { OnOk result (Adds out.old out.new (row_tokens state.now row)) }
+    ensures { OnOk result (AddsTokens out.old out.new (row_tokens state.now row)) }
 {
     match row {
         Row::Enters(item, place) => add_ready(out, state, item, place),
@@ -104,7 +104,7 @@ fn add_ready(
     item: Item,
     place: usize,
 ) -> Result<(), NoMemory>
-    ensures { OnOk result (Adds out.old out.new (row_tokens state.now (Row.Enters item place))) }
+    ensures { OnOk result (AddsTokens out.old out.new (row_tokens state.now (Row.Enters item place))) }
 {
     add_about(out, state, item)?;
     put_flag(out, "ready", true)?;
@@ -120,7 +120,7 @@ fn add_left(
     state: &State,
     left: Left,
 ) -> Result<(), NoMemory>
-    ensures { OnOk result (Adds out.old out.new (row_tokens state.now (Row.Waits left))) }
+    ensures { OnOk result (AddsTokens out.old out.new (row_tokens state.now (Row.Waits left))) }
 {
     let words = refusal_words(alloc, left.refusal)?;
     add_about(out, state, left.item)?;
@@ -132,7 +132,7 @@ fn add_left(
 
 /// Begins the object of an item with what is said of each.
 fn add_about(out: &mut Writer<Global>, state: &State, item: Item) -> Result<(), NoMemory>
-    ensures { OnOk result (Adds out.old out.new (about_tokens state.now item)) }
+    ensures { OnOk result (AddsTokens out.old out.new (about_tokens state.now item)) }
 {
     open_object(out)?;
     put_number(out, "change", u64::from(item.change))?;

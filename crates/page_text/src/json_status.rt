@@ -2,7 +2,7 @@
 
 ghost use Rattle.std.specs.Prelude.{◌≡◌, IfOk, OnOk, Some, flat_map, length};
 ghost use Rattle.json.specs.Print.{print};
-ghost use Rattle.json_line.specs.Tokens.{Adds};
+ghost use Rattle.json_line.specs.Tokens.{AddsTokens};
 ghost use Rattle.page_text.specs.Answer.{event_text};
 ghost use Rattle.page_text.specs.Site.{ages_tokens, counts_tokens, journal_tokens, peer_tokens, peers_tokens, site_tokens};
 ghost use Rattle.page_text.specs.Site.{work_tokens};
@@ -48,7 +48,7 @@ fn put_counts(
     replica: &Replica,
     verdicts: &Verdicts,
 ) -> Result<(), NoMemory>
-    ensures { OnOk result (Adds out.old out.new (counts_tokens (length replica.now) verdicts.now)) }
+    ensures { OnOk result (AddsTokens out.old out.new (counts_tokens (length replica.now) verdicts.now)) }
 {
     put_number(out, "operations", replica.len() as u64)?;
     put_number(out, "ready", verdicts.ready().len() as u64)?;
@@ -59,7 +59,7 @@ fn put_counts(
 
 /// Adds how old what is shown is, when something new came, and how many sessions are open.
 fn put_ages(out: &mut Writer<Global>, facts: &Facts) -> Result<(), NoMemory>
-    ensures { OnOk result (Adds out.old out.new (ages_tokens facts.now)) }
+    ensures { OnOk result (AddsTokens out.old out.new (ages_tokens facts.now)) }
 {
     put_number(out, "age_ms", facts.age_ms)?;
     put_option(out, "news_ms", facts.news_ms)?;
@@ -69,7 +69,7 @@ fn put_ages(out: &mut Writer<Global>, facts: &Facts) -> Result<(), NoMemory>
 
 /// Adds the list of the peers.
 fn put_peers(out: &mut Writer<Global>, peers: &[PeerFacts]) -> Result<(), NoMemory>
-    ensures { OnOk result (Adds out.old out.new (peers_tokens peers.now)) }
+    ensures { OnOk result (AddsTokens out.old out.new (peers_tokens peers.now)) }
 {
     open_list(out, "peers")?;
     add_peers(out, peers)?;
@@ -79,7 +79,7 @@ fn put_peers(out: &mut Writer<Global>, peers: &[PeerFacts]) -> Result<(), NoMemo
 
 /// Adds an object for each peer.
 fn add_peers(out: &mut Writer<Global>, peers: &[PeerFacts]) -> Result<(), NoMemory>
-    ensures { OnOk result (Adds out.old out.new (flat_map peer_tokens peers.now)) }
+    ensures { OnOk result (AddsTokens out.old out.new (flat_map peer_tokens peers.now)) }
 {
     for peer in peers {
         add_peer(out, peer)?;
@@ -89,7 +89,7 @@ fn add_peers(out: &mut Writer<Global>, peers: &[PeerFacts]) -> Result<(), NoMemo
 
 /// Adds the object of a peer.
 fn add_peer(out: &mut Writer<Global>, peer: &PeerFacts) -> Result<(), NoMemory>
-    ensures { OnOk result (Adds out.old out.new (peer_tokens peer.now)) }
+    ensures { OnOk result (AddsTokens out.old out.new (peer_tokens peer.now)) }
 {
     open_object(out)?;
     put_text(out, "peer", peer.peer.as_str())?;
@@ -104,7 +104,7 @@ fn add_peer(out: &mut Writer<Global>, peer: &PeerFacts) -> Result<(), NoMemory>
 
 /// Adds what its threads do, and what went wrong since the start.
 fn put_work(out: &mut Writer<Global>, facts: &Facts) -> Result<(), NoMemory>
-    ensures { OnOk result (Adds out.old out.new (work_tokens facts.now)) }
+    ensures { OnOk result (AddsTokens out.old out.new (work_tokens facts.now)) }
 {
     put_number(out, "workers", facts.workers)?;
     put_number(out, "busy_workers", facts.busy_workers)?;
@@ -115,7 +115,7 @@ fn put_work(out: &mut Writer<Global>, facts: &Facts) -> Result<(), NoMemory>
 
 /// Adds the object of the journal, or `null` where there is none.
 fn put_journal(out: &mut Writer<Global>, journal: Option<JournalFacts>) -> Result<(), NoMemory>
-    ensures { OnOk result (Adds out.old out.new (journal_tokens journal)) }
+    ensures { OnOk result (AddsTokens out.old out.new (journal_tokens journal)) }
 {
     match journal {
         Some(journal) => put_one_journal(out, journal),
@@ -125,7 +125,7 @@ fn put_journal(out: &mut Writer<Global>, journal: Option<JournalFacts>) -> Resul
 
 /// Adds the object of the journal.
 fn put_one_journal(out: &mut Writer<Global>, journal: JournalFacts) -> Result<(), NoMemory>
-    ensures { OnOk result (Adds out.old out.new (journal_tokens (Some journal))) }
+    ensures { OnOk result (AddsTokens out.old out.new (journal_tokens (Some journal))) }
 {
     open_member(out, "journal")?;
     put_number(out, "bytes", journal.bytes)?;

@@ -3,7 +3,7 @@
 ghost use Rattle.std.specs.Prelude.{◌≡◌, ◌↔◌, Contains, IfOk, IsTrue, MatchOption, OnOk};
 ghost use Rattle.state_core.specs.declared.item.Item.{Item};
 ghost use Rattle.why_text.specs.Asked.{IsItemAsked};
-ghost use Rattle.page_text.specs.Reached.{AddsAll, AreReached, NamesFrom, set_seen};
+ghost use Rattle.page_text.specs.Reached.{AddsAll, AreReachedChanges, NamesFrom, set_seen};
 
 use super::needs::needs_of;
 use gate_rules::Gate;
@@ -24,7 +24,7 @@ pub fn reached_from(
     state: &State,
     item: Item,
 ) -> Result<Vec<u32>, NoMemory>
-    ensures { IfOk result (λ changes. AreReached gate.now state.now item changes.items) }
+    ensures { IfOk result (λ changes. AreReachedChanges gate.now state.now item changes.items) }
 {
     let mut changes = Vec::new(alloc);
     changes.push(item.change)?;

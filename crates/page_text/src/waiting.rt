@@ -2,7 +2,7 @@
 
 ghost use Rattle.std.specs.Prelude.{◌≡◌, ◌++◌, ◌∷◌, [], IfOk, OnOk, filter, flat_map, map, string_bytes};
 ghost use Rattle.json.specs.Token.{string};
-ghost use Rattle.json_line.specs.Tokens.{Adds};
+ghost use Rattle.json_line.specs.Tokens.{AddsTokens};
 ghost use Rattle.report_text.specs.Report.{item_text};
 ghost use Rattle.page_text.specs.Waiting.{names_change, waiting_for, waiting_tokens};
 
@@ -52,7 +52,7 @@ fn names(refusal: Refusal, change: u32) -> bool
 
 /// Adds the list of these items, as `101,2`.
 pub fn put_waiting(alloc: Global, out: &mut Writer<Global>, items: &[Item]) -> Result<(), NoMemory>
-    ensures { OnOk result (Adds out.old out.new (waiting_tokens items.now)) }
+    ensures { OnOk result (AddsTokens out.old out.new (waiting_tokens items.now)) }
 {
     open_list(out, "waiting")?;
     put_items(alloc, out, items)?;
@@ -62,7 +62,7 @@ pub fn put_waiting(alloc: Global, out: &mut Writer<Global>, items: &[Item]) -> R
 
 /// Adds items.
 fn put_items(alloc: Global, out: &mut Writer<Global>, items: &[Item]) -> Result<(), NoMemory>
-    ensures { OnOk result (Adds out.old out.new (flat_map (λ item. string (item_text item) ∷ []) items.now)) }
+    ensures { OnOk result (AddsTokens out.old out.new (flat_map (λ item. string (item_text item) ∷ []) items.now)) }
 {
     for item in items {
         put_item(alloc, out, *item)?;
@@ -72,7 +72,7 @@ fn put_items(alloc: Global, out: &mut Writer<Global>, items: &[Item]) -> Result<
 
 /// Adds an item.
 fn put_item(alloc: Global, out: &mut Writer<Global>, item: Item) -> Result<(), NoMemory>
-    ensures { OnOk result (Adds out.old out.new (string (item_text item) ∷ [])) }
+    ensures { OnOk result (AddsTokens out.old out.new (string (item_text item) ∷ [])) }
 {
     let text = item_text(alloc, item)?;
     out.string(text.as_str())?;

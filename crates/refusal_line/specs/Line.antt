@@ -23,9 +23,9 @@ name_of Enqueue = codes "enqueue"
 name_of Keys = codes "keys"
 
 -- a name and a number, with a blank after each
-abbrev pub numbered : List ℕ → ℕ → List ℕ
-numbered name number = name ++ codes " " ++ decimal number ++ codes " "
+abbrev pub named_number : List ℕ → ℕ → List ℕ
+named_number name number = name ++ codes " " ++ decimal number ++ codes " "
 
 -- the part, the number of its fault, and the words of that
 abbrev pub line_of : Part → ℕ → List ℕ → List ℕ
-line_of part number words = codes "reviewgate: " ++ numbered (name_of part) number ++ words ++ codes "\n"
+line_of part number words = codes "reviewgate: " ++ named_number (name_of part) number ++ words ++ codes "\n"

@@ -1,7 +1,7 @@
 //! The line of a refusal.
 
 ghost use Rattle.std.specs.Prelude.{◌≡◌, ◌++◌, IfOk, OnOk, codes, string_bytes};
-ghost use Rattle.refusal_line.specs.Line.{line_of, numbered};
+ghost use Rattle.refusal_line.specs.Line.{line_of, named_number};
 ghost use Rattle.refusal_line.specs.declared.part.Part.TheVariants.{Memory};
 
 use super::part::Part;
@@ -26,7 +26,7 @@ pub fn refusal_line(
 
 /// Writes a part's name and a number, with a blank after each.
 fn write_part(line: &mut String, name: &str, number: u8) -> Result<(), AllocError>
-    ensures { OnOk result (string_bytes line.new ≡ string_bytes line.old ++ numbered name.now number) }
+    ensures { OnOk result (string_bytes line.new ≡ string_bytes line.old ++ named_number name.now number) }
 {
     write!(line, "{name} {number} ")
 }

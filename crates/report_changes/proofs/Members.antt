@@ -14,7 +14,7 @@ use Rattle.state_core.specs.ItemLaws.{items_total}
 use Rattle.std.proofs.lemmas.Option.{get_or_from_slice_get, slice_get-map}
 use Rattle.lattice_core.specs.MemberLaws.{Contains-of_map, Contains-to_map}
 use Rattle.lattice_core.specs.PlaceLaws.{Contains-at, at_Contains, one_place}
-use Rattle.lattice_core.specs.PlaceLaws.{one_item as one_at}
+use Rattle.lattice_core.specs.PlaceLaws.{same_is_one as one_at}
 use Rattle.ready_core.specs.declared.verdicts.Left.{Left}
 use Rattle.ready_core.specs.declared.verdicts.Refusal.{Refusal}
 use Rattle.ready_core.specs.Verdicts.{IsOutAt, Judged, items_out}
@@ -23,9 +23,9 @@ use Rattle.gate_rules.specs.declared.condition.Side.{Side}
 use Rattle.gate_rules.specs.declared.condition.Side.TheVariants.{Require, Reject}
 use Rattle.gate_rules.specs.declared.condition.Clause.{Clause}
 use Rattle.gate_rules.specs.declared.condition.Clause.TheVariants.{OpenState, CurrentSet, StatusIn, Approval}
-use Rattle.report_changes.specs.Keeping.{AreKept}
-use Rattle.report_changes.specs.Searching.{both_hold, both_ways, finds, found, one_item, same_itself}
-use Rattle.report_changes.specs.Listing.{IsRefusedFor, is_out, is_out_for, is_ready, is_waiting, same_clause, same_item, same_refusal, same_side}
+use Rattle.report_changes.specs.Keeping.{AreSortedListings}
+use Rattle.report_changes.specs.Searching.{both_hold, both_ways, finds, found, same_is_one, item_is_itself}
+use Rattle.report_changes.specs.Listing.{IsLeftOutFor, is_out, is_out_for, is_ready, is_waiting, same_clause, same_item, same_refusal, same_side}
 
 -- ---- those that are kept of a list in order
 
@@ -69,19 +69,19 @@ neither false q e = (refl, e)
 pub ready_has : (listing : Judged) (item : Item) → is_ready listing item ≡ true → Contains listing.ready item
 ready_has listing item e =
     let there = found (same_item item) listing.ready e in
-    subst (Contains listing.ready) (sym (one_item item there.0 there.2)) there.1
+    subst (Contains listing.ready) (sym (same_is_one item there.0 there.2)) there.1
 
 pub has_ready : (listing : Judged) (item : Item) → Contains listing.ready item → is_ready listing item ≡ true
-has_ready listing item c = finds (same_item item) listing.ready item c (same_itself item)
+has_ready listing item c = finds (same_item item) listing.ready item c (item_is_itself item)
 
 pub out_has : (listing : Judged) (item : Item) → is_out listing item ≡ true
     → (left : Left) × Contains listing.out left × (left.item ≡ item)
 out_has listing item e =
     let there = found (λ left. same_item item left.item) listing.out e in
-    (there.0, there.1, sym (one_item item there.0.item there.2))
+    (there.0, there.1, sym (same_is_one item there.0.item there.2))
 
 pub has_out : (listing : Judged) (left : Left) → Contains listing.out left → is_out listing left.item ≡ true
-has_out listing left c = finds (λ other. same_item left.item other.item) listing.out left c (same_itself left.item)
+has_out listing left c = finds (λ other. same_item left.item other.item) listing.out left c (item_is_itself left.item)
 
 both_true : (p q : Bool) → (p && q) ≡ true → (p ≡ true) × (q ≡ true)
 both_true true q e = (refl, e)
@@ -126,7 +126,7 @@ pub out_for_has : (listing : Judged) (left : Left) → is_out_for listing left �
 out_for_has listing left e =
     let there = found (λ other. same_item left.item other.item && same_refusal left.refusal other.refusal) listing.out e in
     let both = both_true (same_item left.item there.0.item) (same_refusal left.refusal there.0.refusal) there.2 in
-    (there.0, there.1, sym (one_item left.item there.0.item both.0), sym (same_refusals left.refusal there.0.refusal both.1))
+    (there.0, there.1, sym (same_is_one left.item there.0.item both.0), sym (same_refusals left.refusal there.0.refusal both.1))
 
 -- a list in order has one that is left out for each item
 pub one_left : (out : List Left) → IsStrictlySortedBy item_cmp (items_out out) → (a b : Left) → Contains out a
@@ -154,13 +154,13 @@ none_out out item none has =
     none there.0 there.1 there.2
 
 pub refused_at : (out : List Left) (item : Item) (place : ℕ) (d : Left) → IsOutAt out item place
-    → IsRefusedFor out item (get_or out place d).refusal
+    → IsLeftOutFor out item (get_or out place d).refusal
 refused_at out item place d at =
     let read : get_or out place d ≡ at.left = get_or_from_slice_get out place at.left d at.here in
     (at.left, Contains-at out place at.left at.here, at.of, ap (λ (left : Left). left.refusal) (sym read))
 
 pub out_by : (listing : Judged) (item : Item) (r : Option Refusal)
-    → MatchOption r (¬ Contains (items_out listing.out) item) (IsRefusedFor listing.out item) → is_some r ≡ is_out listing item
+    → MatchOption r (¬ Contains (items_out listing.out) item) (IsLeftOutFor listing.out item) → is_some r ≡ is_out listing item
 out_by listing item None none =
     sym (not_so (is_out listing item) (λ e.
     let there = out_has listing item e in
@@ -175,11 +175,11 @@ none_for listing left none = sym (not_so (is_out_for listing left) (λ e.
     none (subst (Contains (items_out listing.out)) there.2 (Contains-to_map (λ (l : Left). l.item) listing.out there.0 there.1))))
 
 pub for_by : (listing : Judged) → IsStrictlySortedBy item_cmp (items_out listing.out) → (left : Left) (refusal : Refusal)
-    → IsRefusedFor listing.out left.item refusal → same_refusal left.refusal refusal ≡ is_out_for listing left
+    → IsLeftOutFor listing.out left.item refusal → same_refusal left.refusal refusal ≡ is_out_for listing left
 for_by listing sorted left refusal refused = both_ways (same_refusal left.refusal refusal) (is_out_for listing left)
     (λ e. finds (λ other. same_item left.item other.item && same_refusal left.refusal other.refusal) listing.out refused.0 refused.1
     (both_hold (same_item left.item refused.0.item) (same_refusal left.refusal refused.0.refusal)
-    (subst (λ i. same_item left.item i ≡ true) (sym refused.2) (same_itself left.item))
+    (subst (λ i. same_item left.item i ≡ true) (sym refused.2) (item_is_itself left.item))
     (subst (λ r. same_refusal left.refusal r ≡ true) (sym refused.3) e)))
     (λ e.
     let there = out_for_has listing left e in
@@ -190,7 +190,7 @@ for_by listing sorted left refusal refused = both_ways (same_refusal left.refusa
 -- ---- how a listing is kept
 
 pub nothing_kept : (ready ordered : List Item) (out : List Left) → ready ≡ [] → ordered ≡ [] → out ≡ []
-    → AreKept ready ordered out
+    → AreSortedListings ready ordered out
 unfolding IsStrictlySortedBy
 nothing_kept ready ordered out no_ready no_ordered no_out = record {
   same = λ test. ap (list_any test) (no_ordered ∙ sym no_ready);
@@ -201,7 +201,7 @@ nothing_kept ready ordered out no_ready no_ordered no_out = record {
 pub kept_so : (verdicts : Judged) (ready ordered : List Item) (out : List Left)
     → IsStrictlySortedBy item_cmp (items_out verdicts.out) → ready ≡ verdicts.ready
     → ((test : Item → Bool) → list_any test ordered ≡ list_any test verdicts.ready) → IsSorted item_cmp ordered
-    → out ≡ filter is_waiting verdicts.out → AreKept ready ordered out
+    → out ≡ filter is_waiting verdicts.out → AreSortedListings ready ordered out
 kept_so verdicts ready ordered out sorted is_ready same in_order is_out = record {
   same = λ test. same test ∙ ap (list_any test) (sym is_ready);
   ordered_is = in_order;

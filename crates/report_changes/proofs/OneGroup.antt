@@ -17,9 +17,9 @@ use Rattle.report_changes.specs.declared.lines.Line.TheVariants.{NotReady, Ready
 use Rattle.report_changes.specs.Listing.{is_listed, is_out, is_out_for, is_ready, is_waiting, listed_of, same_item}
 use Rattle.report_changes.specs.Lines.{changed}
 use Rattle.report_changes.specs.Following.{Held, NamesEachOnce, Stand, StandsIn, after_line, after_lines, all_changed, empty}
-use Rattle.report_changes.specs.Following.{nothing, put}
+use Rattle.report_changes.specs.Following.{nothing_listed, put}
 use Rattle.report_changes.specs.Following.{stands_out, stands_ready}
-use Rattle.report_changes.specs.Searching.{one_item, same_itself}
+use Rattle.report_changes.specs.Searching.{same_is_one, item_is_itself}
 use Rattle.report_changes.proofs.Members.{either, has_out, has_ready, is_false, neither, one_left}
 use Rattle.report_changes.proofs.Members.{out_for_has, out_has, ready_has, sorted_kept}
 
@@ -33,9 +33,9 @@ module _ {X : Type 0} (line : X → Line) (named : X → Item) (gives : X → Op
     (says : (x : X) (held : Held) → after_line (line x) held ≡ put (named x) (gives x) held) where
   put_by : (b : Bool) (x : X) (held : Held) (item : Item) → same_item (named x) item ≡ b
       → ((named x ≡ item) × (put (named x) (gives x) held item ≡ gives x)) ⊎ ((¬ (named x ≡ item)) × (put (named x) (gives x) held item ≡ held item))
-  put_by true x held item e = inl (one_item (named x) item e, ap (λ b. cond b (gives x) (held item)) e)
+  put_by true x held item e = inl (same_is_one (named x) item e, ap (λ b. cond b (gives x) (held item)) e)
   put_by false x held item e = inr (
-    λ same. false≢true (sym e ∙ subst (λ i. same_item (named x) i ≡ true) same (same_itself (named x))),
+    λ same. false≢true (sym e ∙ subst (λ i. same_item (named x) i ≡ true) same (item_is_itself (named x))),
     ap (λ b. cond b (gives x) (held item)) e,
   )
 
@@ -267,6 +267,6 @@ unfolding IsStrictlySortedBy
 nothing_once = record { apart = λ item c. absurd (Contains-none item c); in_order = tt }
 
 pub all_groups : (earlier : List Judged) (last : Judged) → All NamesEachOnce (earlier ++ last ∷ []) → (item : Item)
-    → StandsIn (listed_of last) item (after_lines (all_changed empty (earlier ++ last ∷ [])) nothing item)
+    → StandsIn (listed_of last) item (after_lines (all_changed empty (earlier ++ last ∷ [])) nothing_listed item)
 all_groups earlier last all =
-    follow empty nothing_once earlier last all nothing (λ item. (λ c. Contains-none item c, λ c. Contains-none item c))
+    follow empty nothing_once earlier last all nothing_listed (λ item. (λ c. Contains-none item c, λ c. Contains-none item c))

@@ -13,24 +13,24 @@ use Rattle.report_text.specs.ReportLaws.{head, line_then, same_item, same_number
 use Rattle.report_changes.specs.declared.lines.Line.{Line}
 use Rattle.report_changes.specs.declared.lines.Line.TheVariants.{NotReady, Ready, Out, Gone}
 use Rattle.report_changes.specs.Lines.{group_text, line_text}
-use Rattle.report_changes.specs.Reading.{Entry, IsSmallEntry, ends, entries_of, entries_text, entry_text, read, says}
+use Rattle.report_changes.specs.Reading.{GroupLine, IsSmallEntry, ends, group_lines, entries_text, group_line_text, entry_read, says}
 
 -- its first byte, which shows its kind
-abbrev entry_head : Entry → ℕ
+abbrev entry_head : GroupLine → ℕ
 entry_head (says (NotReady item)) = 45
 entry_head (says (Ready item)) = 43
 entry_head (says (Out left)) = 111
 entry_head (says (Gone item)) = 103
 entry_head (ends ready out) = 101
 
-head-entry : (entry : Entry) (rest : List ℕ) → head (entry_text entry ++ rest) ≡ entry_head entry
+head-entry : (entry : GroupLine) (rest : List ℕ) → head (group_line_text entry ++ rest) ≡ entry_head entry
 head-entry (says (NotReady item)) rest = refl
 head-entry (says (Ready item)) rest = refl
 head-entry (says (Out left)) rest = refl
 head-entry (says (Gone item)) rest = refl
 head-entry (ends ready out) rest = refl
 
-entry_heads : (a b : Entry) (s t : List ℕ) → entry_text a ++ s ≡ entry_text b ++ t → entry_head a ≡ entry_head b
+entry_heads : (a b : GroupLine) (s t : List ℕ) → group_line_text a ++ s ≡ group_line_text b ++ t → entry_head a ≡ entry_head b
 entry_heads a b s t e = sym (head-entry a s) ∙ ap head e ∙ head-entry b t
 
 same_named : (word : List ℕ) (a b : Item) (s t : List ℕ) → IsSmallItem a → IsSmallItem b
@@ -61,7 +61,7 @@ same_end a b c d s t p q e =
     (first.0, second.0, cc (second.1))
 
 same_line : (a b : Line) (s t : List ℕ) → IsSmallEntry (says a) → IsSmallEntry (says b)
-    → line_text a ++ s ≡ line_text b ++ t → (read (says a) ≡ read (says b)) × (s ≡ t)
+    → line_text a ++ s ≡ line_text b ++ t → (entry_read (says a) ≡ entry_read (says b)) × (s ≡ t)
 same_line (NotReady a) (NotReady b) s t p q e =
     let same = same_named (codes "-ready ") a b s t p q e in (ap (λ i. says (NotReady i)) same.0, same.1)
 same_line (Ready a) (Ready b) s t p q e =
@@ -79,39 +79,39 @@ no_end (Ready item) e = omega (arith, e)
 no_end (Out left) e = omega (arith, e)
 no_end (Gone item) e = omega (arith, e)
 
-same_entry : (a b : Entry) (s t : List ℕ) → IsSmallEntry a → IsSmallEntry b → entry_text a ++ s ≡ entry_text b ++ t
-    → (read a ≡ read b) × (s ≡ t)
+same_entry : (a b : GroupLine) (s t : List ℕ) → IsSmallEntry a → IsSmallEntry b → group_line_text a ++ s ≡ group_line_text b ++ t
+    → (entry_read a ≡ entry_read b) × (s ≡ t)
 same_entry (says a) (says b) s t p q e = same_line a b s t p q e
 same_entry (says a) (ends c d) s t p q e = absurd (no_end a (entry_heads (says a) (ends c d) s t e))
 same_entry (ends a b) (says c) s t p q e = absurd (no_end c (sym (entry_heads (ends a b) (says c) s t e)))
 same_entry (ends a b) (ends c d) s t p q e =
     let same = same_end a b c d s t p q e in (ap (λ n. ends n b) same.0 ∙ ap (λ n. ends c n) same.1, same.2)
 
-no_head : (entry : Entry) (rest : List ℕ) → ¬ ([] ≡ entry_text entry ++ rest)
+no_head : (entry : GroupLine) (rest : List ℕ) → ¬ ([] ≡ group_line_text entry ++ rest)
 no_head (says (NotReady item)) rest e = let bad : 0 ≡ 45 = ap head e in omega (arith, bad)
 no_head (says (Ready item)) rest e = let bad : 0 ≡ 43 = ap head e in omega (arith, bad)
 no_head (says (Out left)) rest e = let bad : 0 ≡ 111 = ap head e in omega (arith, bad)
 no_head (says (Gone item)) rest e = let bad : 0 ≡ 103 = ap head e in omega (arith, bad)
 no_head (ends ready out) rest e = let bad : 0 ≡ 101 = ap head e in omega (arith, bad)
 
-pub one_reading : (entries others : List Entry) → AllByRecursion IsSmallEntry entries
-    → AllByRecursion IsSmallEntry others → entries_text entries ≡ entries_text others → map read entries ≡ map read others
+pub one_reading : (entries others : List GroupLine) → AllByRecursion IsSmallEntry entries
+    → AllByRecursion IsSmallEntry others → entries_text entries ≡ entries_text others → map entry_read entries ≡ map entry_read others
 one_reading [] [] p q e = refl
 one_reading [] (b ∷ others) p q e = absurd (no_head b (entries_text others) e)
 one_reading (a ∷ entries) [] p q e = absurd (no_head a (entries_text entries) (sym e))
 one_reading (a ∷ entries) (b ∷ others) p q e =
     let first = same_entry a b (entries_text entries) (entries_text others) p.0 q.0 e in
     let later = one_reading entries others p.1 q.1 first.1 in
-    ap (λ r. r ∷ map read entries) first.0 ∙ ap (λ l. read b ∷ l) later
+    ap (λ r. r ∷ map entry_read entries) first.0 ∙ ap (λ l. entry_read b ∷ l) later
 
-all_says : (lines : List Line) (rest : List Entry)
+all_says : (lines : List Line) (rest : List GroupLine)
     → entries_text (map says lines ++ rest) ≡ flat_map line_text lines ++ entries_text rest
 all_says [] rest = refl
 all_says (line ∷ lines) rest =
     ap (λ l. line_text line ++ l) (all_says lines rest)
     ∙ sym (append_assoc (line_text line) (flat_map line_text lines) (entries_text rest))
 
-pub group_is : (lines : List Line) (ready out : ℕ) → group_text lines ready out ≡ entries_text (entries_of lines ready out)
+pub group_is : (lines : List Line) (ready out : ℕ) → group_text lines ready out ≡ entries_text (group_lines lines ready out)
 group_is [] ready out = refl
 group_is (line ∷ lines) ready out =
     sym (all_says (line ∷ lines) (ends ready out ∷ [])

@@ -7,7 +7,7 @@ use Rattle.ready_core.specs.declared.verdicts.Refusal.{Refusal}
 use Rattle.ready_core.specs.Verdicts.{Judged, items_out}
 use Rattle.report_changes.specs.declared.lines.Line.{Line}
 use Rattle.report_changes.specs.declared.lines.Line.TheVariants.{NotReady, Ready, Out, Gone}
-use Rattle.report_changes.specs.Listing.{listed_of, same_item, IsRefusedFor}
+use Rattle.report_changes.specs.Listing.{listed_of, same_item, IsLeftOutFor}
 use Rattle.report_changes.specs.Lines.{changed}
 
 -- how a listed item stands
@@ -15,12 +15,12 @@ pub data Stand : Type 0 where
   stands_ready : Stand
   stands_out : Refusal → Stand
 
--- how each item stands that is listed; of one that isn't, nothing
+-- how each item stands that is listed; of one that isn't, nothing_listed
 abbrev pub Held : Type 0
 Held = Item → Option Stand
 
-abbrev pub nothing : Held
-nothing item = None
+abbrev pub nothing_listed : Held
+nothing_listed item = None
 
 -- one item stands so from now on
 abbrev pub put : Item → Option Stand → Held → Held
@@ -53,7 +53,7 @@ all_changed before (verdicts ∷ later) = changed before (listed_of verdicts) ++
 abbrev pub StandsIn : Judged → Item → Option Stand → Type 0
 StandsIn listing item None = (¬ Contains listing.ready item) × (¬ Contains (items_out listing.out) item)
 StandsIn listing item (Some stands_ready) = Contains listing.ready item
-StandsIn listing item (Some (stands_out refusal)) = IsRefusedFor listing.out item refusal
+StandsIn listing item (Some (stands_out refusal)) = IsLeftOutFor listing.out item refusal
 
 -- no item is both ready and left out, and none is left out twice
 pub record NamesEachOnce (verdicts : Judged) : Type 0 where

@@ -8,7 +8,7 @@ use Rattle.state_core.specs.Items.{item_cmp}
 use Rattle.ready_core.specs.Verdicts.{items_out}
 
 -- the items that are ready are there once more in item order, and the others are in that order
-pub record AreKept (ready ordered : List Item) (out : List Left) : Type 0 where
+pub record AreSortedListings (ready ordered : List Item) (out : List Left) : Type 0 where
   pub same : (test : Item → Bool) → list_any test ordered ≡ list_any test ready
   pub ordered_is : IsSorted item_cmp ordered
   pub out_is : IsStrictlySortedBy item_cmp (items_out out)

@@ -59,9 +59,9 @@ is_out_for listing left =
 abbrev pub is_listed : Judged → Item → Bool
 is_listed listing item = is_ready listing item || is_out listing item
 
-abbrev pub items_of : Judged → List Item
-items_of listing = listing.ready ++ items_out listing.out
+abbrev pub listed_items : Judged → List Item
+listed_items listing = listing.ready ++ items_out listing.out
 
 -- it is left out for this refusal
-abbrev pub IsRefusedFor : List Left → Item → Refusal → Type 0
-IsRefusedFor out item refusal = (left : Left) × Contains out left × (left.item ≡ item) × (left.refusal ≡ refusal)
+abbrev pub IsLeftOutFor : List Left → Item → Refusal → Type 0
+IsLeftOutFor out item refusal = (left : Left) × Contains out left × (left.item ≡ item) × (left.refusal ≡ refusal)

@@ -8,35 +8,35 @@ use Rattle.report_changes.specs.declared.lines.Line.TheVariants.{NotReady, Ready
 use Rattle.report_changes.specs.Lines.{line_text}
 
 -- a line of the text: one of a group, or one that ends a group
-pub data Entry : Type 0 where
-  says : Line → Entry
-  ends : ℕ → ℕ → Entry
+pub data GroupLine : Type 0 where
+  says : Line → GroupLine
+  ends : ℕ → ℕ → GroupLine
 
-abbrev pub entry_text : Entry → List ℕ
-entry_text (says line) = line_text line
-entry_text (ends ready out) = end_line ready out
+abbrev pub group_line_text : GroupLine → List ℕ
+group_line_text (says line) = line_text line
+group_line_text (ends ready out) = end_line ready out
 
-abbrev pub entries_text : List Entry → List ℕ
-entries_text = flat_map entry_text
+abbrev pub entries_text : List GroupLine → List ℕ
+entries_text = flat_map group_line_text
 
 -- those of a group
-abbrev pub entries_of : List Line → ℕ → ℕ → List Entry
-entries_of [] ready out = []
-entries_of (line ∷ lines) ready out = map says (line ∷ lines) ++ ends ready out ∷ []
+abbrev pub group_lines : List Line → ℕ → ℕ → List GroupLine
+group_lines [] ready out = []
+group_lines (line ∷ lines) ready out = map says (line ∷ lines) ++ ends ready out ∷ []
 
--- what is read of a line
+-- what is entry_read of a line
 abbrev pub read_left : Left → Left
 read_left left = record left { rank = 0 }
 
-abbrev pub read : Entry → Entry
-read (says (NotReady item)) = says (NotReady item)
-read (says (Ready item)) = says (Ready item)
-read (says (Out left)) = says (Out (read_left left))
-read (says (Gone item)) = says (Gone item)
-read (ends ready out) = ends ready out
+abbrev pub entry_read : GroupLine → GroupLine
+entry_read (says (NotReady item)) = says (NotReady item)
+entry_read (says (Ready item)) = says (Ready item)
+entry_read (says (Out left)) = says (Out (read_left left))
+entry_read (says (Gone item)) = says (Gone item)
+entry_read (ends ready out) = ends ready out
 
 -- its numbers have at most 64 bits
-abbrev pub IsSmallEntry : Entry → Type 0
+abbrev pub IsSmallEntry : GroupLine → Type 0
 IsSmallEntry (says (NotReady item)) = IsSmallItem item
 IsSmallEntry (says (Ready item)) = IsSmallItem item
 IsSmallEntry (says (Out left)) = IsSmallLeft left

@@ -23,16 +23,16 @@ both_ways true false f g = sym (f refl)
 both_ways false true f g = g refl
 both_ways false false f g = refl
 
-pub one_item : (a b : Item) → same_item a b ≡ true → a ≡ b
-one_item a b e = items_alike a b (not (same_item a b)) refl (ap not e)
+pub same_is_one : (a b : Item) → same_item a b ≡ true → a ≡ b
+same_is_one a b e = items_alike a b (not (same_item a b)) refl (ap not e)
 
 pub both_hold : (p q : Bool) → p ≡ true → q ≡ true → (p && q) ≡ true
 both_hold true true p q = refl
 both_hold true false p q = q
 both_hold false q p is = p
 
-pub same_itself : (a : Item) → same_item a a ≡ true
-same_itself a = both_hold (eqb a.change a.change) (eqb a.set a.set) (eq-eqb a.change a.change refl) (eq-eqb a.set a.set refl)
+pub item_is_itself : (a : Item) → same_item a a ≡ true
+item_is_itself a = both_hold (eqb a.change a.change) (eqb a.set a.set) (eq-eqb a.change a.change refl) (eq-eqb a.set a.set refl)
 
 pub found : {X : Type 0} (p : X → Bool) (xs : List X) → list_any p xs ≡ true → (x : X) × Contains xs x × (p x ≡ true)
 found p xs any = let a = Any-from_list_any p xs any in (a.1, (a.0, a.2, a.3), a.4)
@@ -53,12 +53,12 @@ pub searched : (item : Item) (ordered : List Item) (r : Result ℕ ℕ) → IsSo
 searched item ordered (Ok i) sorted range at =
     let within : i < length ordered = range in
     let same : get_or ordered i item ≡ item = items_exact (get_or ordered i item) item (at item) in
-    sym (finds (same_item item) ordered item (subst (Contains ordered) same (Contains-get_or ordered i item within)) (same_itself item))
+    sym (finds (same_item item) ordered item (subst (Contains ordered) same (Contains-get_or ordered i item within)) (item_is_itself item))
 searched item ordered (Err i) sorted range parted =
     let point = parted (searchable_from_sorted items_total (λ (x : Item). x) ordered item sorted) in
     both_ways false (list_any (same_item item) ordered) (λ e. absurd (false≢true e)) (λ any.
     let there = found (same_item item) ordered any in
-    let same : item ≡ there.0 = one_item item there.0 there.2 in
+    let same : item ≡ there.0 = same_is_one item there.0 there.2 in
     let has : Contains ordered item = subst (Contains ordered) (sym same) there.1 in
     elim (dec_lt has.0 i) [
       | Prim.yes less ↦ absurd ((differs item (item_cmp item item) refl).0 (subst (λ y. item_cmp y item ≡ Less) has.2 (point.0 has.0 item (omega arith) less)))

@@ -6,17 +6,18 @@ ghost use Rattle.gate_rules.specs.Rules.{GateRules};
 ghost use Rattle.ready_core.specs.Verdicts.{AreVerdicts, Judged};
 ghost use Rattle.state_core.specs.State.{State};
 ghost use Rattle.state_core.specs.declared.item.Item.{Item};
-ghost use Rattle.report_changes.specs.Following.{NamesEachOnce, StandsIn, after_lines, all_changed, empty, nothing};
+ghost use Rattle.report_changes.specs.Following.{NamesEachOnce, StandsIn, after_lines, all_changed, empty};
+ghost use Rattle.report_changes.specs.Following.{nothing_listed};
 ghost use Rattle.report_changes.specs.declared.lines.Line.{Line};
 ghost use Rattle.report_changes.specs.Lines.{group_text};
 ghost use Rattle.report_changes.specs.Listing.{listed_of};
-ghost use Rattle.report_changes.specs.Reading.{Entry, IsSmallEntry, entries_of, entries_text, read};
+ghost use Rattle.report_changes.specs.Reading.{GroupLine, IsSmallEntry, group_lines, entries_text, entry_read};
 
 /// A law: the groups of verdicts in turn, followed line by line from nothing on, give exactly the items that are listed
 /// of the last verdicts: which are ready, and each other one's refusal.
 pub fn groups_give_what_is_listed()
     ensures { (earlier : List Judged) → (last : Judged) → All NamesEachOnce (earlier ++ last ∷ []) → (item : Item)
-        → StandsIn (listed_of last) item (after_lines (all_changed empty (earlier ++ last ∷ [])) nothing item) }
+        → StandsIn (listed_of last) item (after_lines (all_changed empty (earlier ++ last ∷ [])) nothing_listed item) }
 {}
 
 /// A law: the verdicts on a state have no item in both lists, and none twice among those that are left out.
@@ -29,8 +30,8 @@ pub fn verdicts_name_each_once()
 /// and how each group ends.
 pub fn groups_have_one_reading()
     ensures groups { (lines : List Line) → (ready out : ℕ)
-        → group_text lines ready out ≡ entries_text (entries_of lines ready out) }
-    ensures reading { (entries others : List Entry) → AllByRecursion IsSmallEntry entries
+        → group_text lines ready out ≡ entries_text (group_lines lines ready out) }
+    ensures reading { (entries others : List GroupLine) → AllByRecursion IsSmallEntry entries
         → AllByRecursion IsSmallEntry others → entries_text entries ≡ entries_text others
-        → map read entries ≡ map read others }
+        → map entry_read entries ≡ map entry_read others }
 {}

@@ -6,7 +6,7 @@ ghost use Rattle.std.specs.List.Sorted.{IsSorted, IsStrictlySortedBy};
 ghost use Rattle.state_core.specs.declared.item.Item.{Item};
 ghost use Rattle.state_core.specs.Items.{item_cmp};
 ghost use Rattle.ready_core.specs.Verdicts.{items_out};
-ghost use Rattle.report_changes.specs.Listing.{IsRefusedFor, is_listed, is_out_for, is_ready, is_waiting, listed_of};
+ghost use Rattle.report_changes.specs.Listing.{IsLeftOutFor, is_listed, is_out_for, is_ready, is_waiting, listed_of};
 ghost use Rattle.report_changes.specs.Listing.{same_item, same_refusal};
 
 use super::over::is_over;
@@ -29,13 +29,13 @@ pub struct Listed {
 
 impl Model for Listed {
     ghost use Rattle.ready_core.specs.Verdicts.{Judged};
-    ghost use Rattle.report_changes.specs.Keeping.{AreKept};
+    ghost use Rattle.report_changes.specs.Keeping.{AreSortedListings};
 
     ghost Value = { Judged };
 
     ghost view = { λ listed. record { ready = listed.ready.items; out = listed.out.items } };
 
-    ghost invariant = { λ listed. AreKept listed.ready.items listed.ordered.items listed.out.items };
+    ghost invariant = { λ listed. AreSortedListings listed.ready.items listed.ordered.items listed.out.items };
 }
 
 impl Listed {
@@ -89,7 +89,7 @@ impl Listed {
 
     /// The refusal of an item that is left out, if it is.
     pub fn refusal(&self, item: Item) -> Option<Refusal>
-        ensures { MatchOption result (¬ Contains (items_out self.now.out) item) (IsRefusedFor self.now.out item) }
+        ensures { MatchOption result (¬ Contains (items_out self.now.out) item) (IsLeftOutFor self.now.out item) }
     {
         refusal_in(self.out.as_slice(), item)
     }
@@ -115,7 +115,7 @@ impl Listed {
 /// The refusal of an item among those that are left out, if it is among them.
 fn refusal_in(out: &[Left], item: Item) -> Option<Refusal>
     requires { IsStrictlySortedBy item_cmp (items_out out.now) }
-    ensures { MatchOption result (¬ Contains (items_out out.now) item) (IsRefusedFor out.now item) }
+    ensures { MatchOption result (¬ Contains (items_out out.now) item) (IsLeftOutFor out.now item) }
 {
     let place = place_out(out, item)?;
     let left = &out[place];

@@ -1,7 +1,7 @@
 -- The report of a record as JSON, by its tokens, whole or of one item. The keys are the project's own.
 use Rattle.std.specs.Prelude.{List, ◌++◌, codes, flat_map, true, false}
 use Rattle.json.specs.Token.{Token}
-use Rattle.json_line.specs.Tokens.{flagged, listed, numbered, object_of, worded}
+use Rattle.json_line.specs.Tokens.{flagged, listed_tokens, numbered_tokens, object_of, worded}
 use Rattle.ready_core.specs.Verdicts.{Judged}
 use Rattle.ready_core.specs.Words.{refusal_text}
 use Rattle.ready_core.specs.declared.verdicts.Left.{Left}
@@ -10,7 +10,7 @@ use Rattle.state_core.specs.declared.item.Item.{Item}
 
 -- an item: "change":101,"set":2
 abbrev pub item_tokens : Item → List Token
-item_tokens item = numbered (codes "change") item.change ++ numbered (codes "set") item.set
+item_tokens item = numbered_tokens (codes "change") item.change ++ numbered_tokens (codes "set") item.set
 
 -- why it is left out, in the words of a report: "refusal":"require approval 2"
 abbrev pub refusal_tokens : Refusal → List Token
@@ -28,8 +28,8 @@ out_tokens left = object_of (item_tokens left.item ++ refusal_tokens left.refusa
 abbrev pub report_tokens : Judged → List Token
 report_tokens verdicts =
     object_of
-    (listed (codes "ready") (flat_map ready_tokens verdicts.ready)
-    ++ listed (codes "out") (flat_map out_tokens verdicts.out))
+    (listed_tokens (codes "ready") (flat_map ready_tokens verdicts.ready)
+    ++ listed_tokens (codes "out") (flat_map out_tokens verdicts.out))
 
 -- ---- one item: {"change":101,"set":1,"ready":true} or {..,"ready":false,"refusal":"dependency 104"}
 

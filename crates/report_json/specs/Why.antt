@@ -5,7 +5,8 @@ use Rattle.serde_json.specs.Data.{Data}
 use Rattle.serde_json.specs.Written.{compact_text}
 use Rattle.json.specs.Lex.{tokens}
 use Rattle.json.specs.Token.{Token, key}
-use Rattle.json_line.specs.Tokens.{AreReadBack, flagged, json_line, listed, numbered, object_of, signed, worded}
+use Rattle.json_line.specs.Tokens.{AreReadBack, flagged, json_line, listed_tokens, numbered_tokens, object_of, signed}
+use Rattle.json_line.specs.Tokens.{worded}
 use Rattle.change_core.specs.Change.{Change}
 use Rattle.change_core.specs.Status.{status_name}
 use Rattle.change_core.specs.Views.{status_of}
@@ -44,13 +45,13 @@ vote_tokens approval =
     ++ (worded (codes "voter") approval.voter ++ signed (codes "value") approval.value))
 
 abbrev pub votes_listed : List GivenApproval → List Token
-votes_listed approvals = listed (codes "votes") (flat_map vote_tokens approvals)
+votes_listed approvals = listed_tokens (codes "votes") (flat_map vote_tokens approvals)
 
 -- what a change with this current patch set has of what the clause asks: its status, that patch set, or the approvals
 -- on that, by label and voter
 abbrev pub have_tokens : Clause → Change → ℕ → List Token
 have_tokens OpenState change current = worded (codes "status") (status_name (status_of change))
-have_tokens CurrentSet change current = numbered (codes "current") current
+have_tokens CurrentSet change current = numbered_tokens (codes "current") current
 have_tokens StatusIn change current = worded (codes "status") (status_name (status_of change))
 have_tokens (Approval number) change current = votes_listed (approvals_of change current)
 
@@ -68,7 +69,7 @@ pub record SaysCondition (file : List ℕ) (state : State) (item : Item) (condit
 pub record SaysCycle (gate : GateRules) (state : State) (item : Item) (added : List Token) : Type 0 where
   pub others : List Item
   pub cycle : AreOnItsCycle gate state item others
-  pub members : added ≡ listed (codes "with") (flat_map ready_tokens others)
+  pub members : added ≡ listed_tokens (codes "with") (flat_map ready_tokens others)
 
 abbrev pub SaysCause : List ℕ → GateRules → State → Item → Refusal → List Token → Type 0
 SaysCause file gate state item (Own condition) added = SaysCondition file state item condition added
@@ -91,10 +92,10 @@ pub record SaysLeft
   pub shown : SaysCause file gate state cause.item cause.refusal details
   pub members : added
       ≡ verdict_members chain.first
-      ++ listed (codes "why") (flat_map out_tokens waiting ++ cause_tokens cause details)
+      ++ listed_tokens (codes "why") (flat_map out_tokens waiting ++ cause_tokens cause details)
 
 abbrev pub ready_members : Item → List Token
-ready_members item = item_tokens item ++ (flagged (codes "ready") true ++ listed (codes "why") [])
+ready_members item = item_tokens item ++ (flagged (codes "ready") true ++ listed_tokens (codes "why") [])
 
 -- the item is ready; or it is left out, and why
 abbrev pub SaysWhy : List ℕ → GateRules → State → Judged → Item → List Token → Type 0
@@ -119,7 +120,7 @@ pub record SaysConditions (file : List ℕ) (gate : GateRules) (state : State) (
   pub are : AreTried gate state item tried
   pub objects : List Token
   pub each : TellsEach (SaysTried file state item) tried objects
-  pub members : added ≡ listed (codes "conditions") objects
+  pub members : added ≡ listed_tokens (codes "conditions") objects
 
 -- those, where they are asked for
 abbrev pub SaysConditionsIf : Bool → List ℕ → GateRules → State → Item → List Token → Type 0

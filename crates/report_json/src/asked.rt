@@ -7,7 +7,7 @@ ghost use Rattle.change_core.specs.VoteShown.{approval_shown};
 ghost use Rattle.gate_rules.specs.Spelling.{IsObject, SpellsGate};
 ghost use Rattle.gate_rules.specs.Wanted.{wanted_value};
 ghost use Rattle.json.specs.Token.{Token};
-ghost use Rattle.json_line.specs.Tokens.{Adds};
+ghost use Rattle.json_line.specs.Tokens.{AddsTokens};
 ghost use Rattle.state_core.specs.Items.{IsItem};
 ghost use Rattle.report_json.specs.Why.{SaysCondition, have_tokens, vote_tokens, votes_listed, want_tokens};
 
@@ -33,7 +33,7 @@ pub(super) fn put_asked(
 ) -> Result<(), NoMemory>
     requires spelled { SpellsGate file.now gate.now }
     requires there { IsItem state.now item }
-    ensures { OnOk result ((added : List Token) × Adds out.old out.new added
+    ensures { OnOk result ((added : List Token) × AddsTokens out.old out.new added
         × SaysCondition file.now state.now item condition added) }
 {
     put_want(alloc, out, file, gate, condition)?;
@@ -53,7 +53,7 @@ fn put_want(
 ) -> Result<(), NoMemory>
     requires { SpellsGate file.now gate.now }
     ensures { OnOk result ((members : Members) × IsObject file.now members
-        × Adds out.old out.new (want_tokens (wanted_value condition members))) }
+        × AddsTokens out.old out.new (want_tokens (wanted_value condition members))) }
 {
     match wanted_text(alloc, gate, file, condition)? {
         Some(json) => put_json(alloc, out, "want", json.as_str()),
@@ -68,7 +68,7 @@ fn put_have(
     current: u32,
     clause: Clause,
 ) -> Result<(), NoMemory>
-    ensures { OnOk result (Adds out.old out.new (have_tokens clause change.now current)) }
+    ensures { OnOk result (AddsTokens out.old out.new (have_tokens clause change.now current)) }
 {
     match clause {
         Clause::OpenState | Clause::StatusIn => put_text(out, "status", change.status().name()),
@@ -79,7 +79,7 @@ fn put_have(
 
 /// Adds the list of the approvals on a patch set.
 fn put_votes(out: &mut Writer<Global>, change: &ChangeState, set: u32) -> Result<(), NoMemory>
-    ensures { OnOk result (Adds out.old out.new (votes_listed (approvals_of change.now set))) }
+    ensures { OnOk result (AddsTokens out.old out.new (votes_listed (approvals_of change.now set))) }
 {
     open_list(out, "votes")?;
     add_votes(out, change, set)?;
@@ -89,7 +89,7 @@ fn put_votes(out: &mut Writer<Global>, change: &ChangeState, set: u32) -> Result
 
 /// Adds an object for each approval on a patch set.
 fn add_votes(out: &mut Writer<Global>, change: &ChangeState, set: u32) -> Result<(), NoMemory>
-    ensures { OnOk result (Adds out.old out.new (flat_map vote_tokens (approvals_of change.now set))) }
+    ensures { OnOk result (AddsTokens out.old out.new (flat_map vote_tokens (approvals_of change.now set))) }
 {
     for approval in change.approvals(set) {
         add_vote(out, &approval)?;
@@ -99,7 +99,7 @@ fn add_votes(out: &mut Writer<Global>, change: &ChangeState, set: u32) -> Result
 
 /// Adds the object of an approval.
 fn add_vote(out: &mut Writer<Global>, approval: &Approval<'_>) -> Result<(), NoMemory>
-    ensures { OnOk result (Adds out.old out.new (vote_tokens (approval_shown approval.now))) }
+    ensures { OnOk result (AddsTokens out.old out.new (vote_tokens (approval_shown approval.now))) }
 {
     open_object(out)?;
     put_text(out, "label", approval.label)?;

@@ -3,7 +3,7 @@
 ghost use Rattle.std.specs.Prelude.{List, OnOk};
 ghost use Rattle.gate_rules.specs.Spelling.{SpellsGate};
 ghost use Rattle.json.specs.Token.{Token};
-ghost use Rattle.json_line.specs.Tokens.{Adds};
+ghost use Rattle.json_line.specs.Tokens.{AddsTokens};
 ghost use Rattle.state_core.specs.Items.{IsItem};
 ghost use Rattle.why_text.specs.All.{TellsEach};
 ghost use Rattle.report_json.specs.Why.{SaysConditions, SaysConditionsIf, SaysTried};
@@ -30,7 +30,7 @@ pub(super) fn put_more(
 ) -> Result<(), NoMemory>
     requires spelled { SpellsGate file.now gate.now }
     requires there { IsItem state.now item }
-    ensures { OnOk result ((added : List Token) × Adds out.old out.new added
+    ensures { OnOk result ((added : List Token) × AddsTokens out.old out.new added
         × SaysConditionsIf is_all file.now gate.now state.now item added) }
 {
     if !is_all {
@@ -50,7 +50,7 @@ fn put_conditions(
 ) -> Result<(), NoMemory>
     requires spelled { SpellsGate file.now gate.now }
     requires there { IsItem state.now item }
-    ensures { OnOk result ((added : List Token) × Adds out.old out.new added
+    ensures { OnOk result ((added : List Token) × AddsTokens out.old out.new added
         × SaysConditions file.now gate.now state.now item added) }
 {
     let tried = gate.conditions(alloc, state, item)?;
@@ -72,7 +72,7 @@ fn add_all_tried(
 ) -> Result<(), NoMemory>
     requires spelled { SpellsGate file.now gate.now }
     requires there { IsItem state.now item }
-    ensures { OnOk result ((added : List Token) × Adds out.old out.new added
+    ensures { OnOk result ((added : List Token) × AddsTokens out.old out.new added
         × TellsEach (SaysTried file.now state.now item) tried.now added) }
 {
     for one in tried {
@@ -93,7 +93,7 @@ fn add_tried(
 ) -> Result<(), NoMemory>
     requires spelled { SpellsGate file.now gate.now }
     requires there { IsItem state.now item }
-    ensures { OnOk result ((added : List Token) × Adds out.old out.new added
+    ensures { OnOk result ((added : List Token) × AddsTokens out.old out.new added
         × SaysTried file.now state.now item tried added) }
 {
     let words = refusal_words(alloc, Refusal::Own(tried.condition))?;

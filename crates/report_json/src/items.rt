@@ -1,7 +1,7 @@
 //! Items as JSON.
 
 ghost use Rattle.std.specs.Prelude.{◌≡◌, IfOk, OnOk, string_bytes};
-ghost use Rattle.json_line.specs.Tokens.{Adds, json_line};
+ghost use Rattle.json_line.specs.Tokens.{AddsTokens, json_line};
 ghost use Rattle.ready_core.specs.Words.{refusal_text};
 ghost use Rattle.report_json.specs.Report.{item_tokens, out_item_tokens, out_tokens, ready_item_tokens, ready_tokens};
 ghost use Rattle.report_json.specs.Report.{refusal_tokens, verdict_members};
@@ -39,7 +39,7 @@ pub fn out_item_line(alloc: Global, left: &Left) -> Result<Vec<u8>, NoMemory>
 
 /// Adds the object of an item that is ready in a report.
 pub(super) fn add_ready(out: &mut Writer<Global>, item: Item) -> Result<(), NoMemory>
-    ensures { OnOk result (Adds out.old out.new (ready_tokens item)) }
+    ensures { OnOk result (AddsTokens out.old out.new (ready_tokens item)) }
 {
     open_object(out)?;
     put_place(out, item)?;
@@ -49,7 +49,7 @@ pub(super) fn add_ready(out: &mut Writer<Global>, item: Item) -> Result<(), NoMe
 
 /// Adds the object of an item that is left out in a report.
 pub(super) fn add_out(alloc: Global, out: &mut Writer<Global>, left: &Left) -> Result<(), NoMemory>
-    ensures { OnOk result (Adds out.old out.new (out_tokens left.now)) }
+    ensures { OnOk result (AddsTokens out.old out.new (out_tokens left.now)) }
 {
     open_object(out)?;
     put_place(out, left.item)?;
@@ -64,7 +64,7 @@ pub(super) fn put_verdict(
     out: &mut Writer<Global>,
     left: &Left,
 ) -> Result<(), NoMemory>
-    ensures { OnOk result (Adds out.old out.new (verdict_members left.now)) }
+    ensures { OnOk result (AddsTokens out.old out.new (verdict_members left.now)) }
 {
     put_place(out, left.item)?;
     put_flag(out, "ready", false)?;
@@ -74,7 +74,7 @@ pub(super) fn put_verdict(
 
 /// Adds an item's change and patch set.
 pub(super) fn put_place(out: &mut Writer<Global>, item: Item) -> Result<(), NoMemory>
-    ensures { OnOk result (Adds out.old out.new (item_tokens item)) }
+    ensures { OnOk result (AddsTokens out.old out.new (item_tokens item)) }
 {
     put_number(out, "change", u64::from(item.change))?;
     put_number(out, "set", u64::from(item.set))?;
@@ -87,7 +87,7 @@ pub(super) fn put_refusal(
     out: &mut Writer<Global>,
     refusal: Refusal,
 ) -> Result<(), NoMemory>
-    ensures { OnOk result (Adds out.old out.new (refusal_tokens refusal)) }
+    ensures { OnOk result (AddsTokens out.old out.new (refusal_tokens refusal)) }
 {
     let words = refusal_words(alloc, refusal)?;
     put_text(out, "refusal", words.as_str())?;

@@ -1,7 +1,7 @@
 //! A report as JSON.
 
 ghost use Rattle.std.specs.Prelude.{◌≡◌, IfOk, OnOk, codes, flat_map};
-ghost use Rattle.json_line.specs.Tokens.{Adds, json_line, listed};
+ghost use Rattle.json_line.specs.Tokens.{AddsTokens, json_line, listed_tokens};
 ghost use Rattle.report_json.specs.Report.{out_tokens, ready_tokens, report_tokens};
 
 use super::items::{add_out, add_ready};
@@ -27,7 +27,8 @@ pub fn report_line(alloc: Global, verdicts: &Verdicts) -> Result<Vec<u8>, NoMemo
 
 /// Adds the list of the items that are ready.
 fn put_ready(out: &mut Writer<Global>, items: &[Item]) -> Result<(), NoMemory>
-    ensures { OnOk result (Adds out.old out.new (listed (codes "ready") (flat_map ready_tokens items.now))) }
+    ensures { OnOk result
+        (AddsTokens out.old out.new (listed_tokens (codes "ready") (flat_map ready_tokens items.now))) }
 {
     open_list(out, "ready")?;
     add_all_ready(out, items)?;
@@ -37,7 +38,7 @@ fn put_ready(out: &mut Writer<Global>, items: &[Item]) -> Result<(), NoMemory>
 
 /// Adds an object for each item that is ready.
 pub(super) fn add_all_ready(out: &mut Writer<Global>, items: &[Item]) -> Result<(), NoMemory>
-    ensures { OnOk result (Adds out.old out.new (flat_map ready_tokens items.now)) }
+    ensures { OnOk result (AddsTokens out.old out.new (flat_map ready_tokens items.now)) }
 {
     for item in items {
         add_ready(out, *item)?;
@@ -47,7 +48,7 @@ pub(super) fn add_all_ready(out: &mut Writer<Global>, items: &[Item]) -> Result<
 
 /// Adds the list of the items that are left out.
 fn put_out(alloc: Global, out: &mut Writer<Global>, left: &[Left]) -> Result<(), NoMemory>
-    ensures { OnOk result (Adds out.old out.new (listed (codes "out") (flat_map out_tokens left.now))) }
+    ensures { OnOk result (AddsTokens out.old out.new (listed_tokens (codes "out") (flat_map out_tokens left.now))) }
 {
     open_list(out, "out")?;
     add_all_out(alloc, out, left)?;
@@ -61,7 +62,7 @@ pub(super) fn add_all_out(
     out: &mut Writer<Global>,
     left: &[Left],
 ) -> Result<(), NoMemory>
-    ensures { OnOk result (Adds out.old out.new (flat_map out_tokens left.now)) }
+    ensures { OnOk result (AddsTokens out.old out.new (flat_map out_tokens left.now)) }
 {
     for one in left {
         add_out(alloc, out, one)?;

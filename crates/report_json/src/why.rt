@@ -3,7 +3,7 @@
 ghost use Rattle.std.specs.Prelude.{◌≡◌, ◌∷◌, [], ◌++◌, Contains, IfOk, List, OnOk, Some, slice_get};
 ghost use Rattle.gate_rules.specs.Spelling.{SpellsGate};
 ghost use Rattle.json.specs.Token.{Token};
-ghost use Rattle.json_line.specs.Tokens.{Adds};
+ghost use Rattle.json_line.specs.Tokens.{AddsTokens};
 ghost use Rattle.ready_core.specs.Verdicts.{AreVerdicts, items_out};
 ghost use Rattle.state_core.specs.Items.{IsItem};
 ghost use Rattle.report_json.specs.Why.{IsWhyLine, SaysCause, SaysCycle, SaysLeft, SaysWhy, cause_tokens, ready_members};
@@ -62,7 +62,7 @@ fn put_why(
     requires spelled { SpellsGate file.now gate.now }
     requires judged { AreVerdicts gate.now state.now verdicts.now }
     requires there { IsItem state.now item }
-    ensures { OnOk result ((added : List Token) × Adds out.old out.new added
+    ensures { OnOk result ((added : List Token) × AddsTokens out.old out.new added
         × SaysWhy file.now gate.now state.now verdicts.now item added) }
 {
     if verdicts.ready().contains(&item) {
@@ -73,7 +73,7 @@ fn put_why(
 
 /// Adds an item that is ready, and that it waits for none.
 fn put_ready(out: &mut Writer<Global>, item: Item) -> Result<(), NoMemory>
-    ensures { OnOk result (Adds out.old out.new (ready_members item)) }
+    ensures { OnOk result (AddsTokens out.old out.new (ready_members item)) }
 {
     put_place(out, item)?;
     put_flag(out, "ready", true)?;
@@ -95,7 +95,7 @@ fn put_left(
     requires spelled { SpellsGate file.now gate.now }
     requires judged { AreVerdicts gate.now state.now verdicts.now }
     requires there { Contains (items_out verdicts.now.out) item }
-    ensures { OnOk result ((added : List Token) × Adds out.old out.new added
+    ensures { OnOk result ((added : List Token) × AddsTokens out.old out.new added
         × SaysLeft file.now gate.now state.now verdicts.now item added) }
 {
     let chain = chain_of(alloc, gate, state, verdicts, item)?;
@@ -128,7 +128,7 @@ fn add_cause(
 ) -> Result<(), NoMemory>
     requires spelled { SpellsGate file.now gate.now }
     requires there { IsItem state.now cause.item }
-    ensures { OnOk result ((details : List Token) × Adds out.old out.new (cause_tokens cause details)
+    ensures { OnOk result ((details : List Token) × AddsTokens out.old out.new (cause_tokens cause details)
         × SaysCause file.now gate.now state.now cause.item cause.refusal details) }
 {
     open_object(out)?;
@@ -151,7 +151,7 @@ fn put_details(
 ) -> Result<(), NoMemory>
     requires spelled { SpellsGate file.now gate.now }
     requires there { IsItem state.now cause.item }
-    ensures { OnOk result ((details : List Token) × Adds out.old out.new details
+    ensures { OnOk result ((details : List Token) × AddsTokens out.old out.new details
         × SaysCause file.now gate.now state.now cause.item cause.refusal details) }
 {
     match cause.refusal {
@@ -170,7 +170,7 @@ fn put_cycle(
     item: Item,
 ) -> Result<(), NoMemory>
     requires { IsItem state.now item }
-    ensures { OnOk result ((added : List Token) × Adds out.old out.new added
+    ensures { OnOk result ((added : List Token) × AddsTokens out.old out.new added
         × SaysCycle gate.now state.now item added) }
 {
     let others = others_on_cycle(alloc, gate, state, item)?;

@@ -14,25 +14,25 @@ use Rattle.byte_ends.specs.Lines.{as_line}
 use Rattle.keyed_digest.specs.HmacFacts.{bytes-append, bytes-hmac, length-hmac}
 use Rattle.line_reader.specs.Lines.{HasNoLf}
 use Rattle.sealed_line.specs.Sealing.{Opens, Sealing, after_line, crossed, tag_of}
-use Rattle.sealed_ends.specs.Opened.{alike, body_text, left_of, line_text, opened, texts_of, whole_lines}
+use Rattle.sealed_ends.specs.Opened.{alike, opened_body, left_of, opened_line, opened, opened_texts, whole_lines}
 
 alike_same : (bytes : List ℕ) → alike bytes bytes ≡ true
 alike_same [] = refl
 alike_same (b ∷ bytes) = and_from (b == b) (alike bytes bytes) (eq-eqb b b refl) (alike_same bytes)
 
-tagged_text : (s : Sealing) (cipher : List ℕ) → body_text s (cipher ++ tag_of s cipher) ≡ Some (crossed s cipher)
+tagged_text : (s : Sealing) (cipher : List ℕ) → opened_body s (cipher ++ tag_of s cipher) ≡ Some (crossed s cipher)
 tagged_text s cipher =
     let tag = tag_of s cipher in
     let long = length-hmac s.tags (to_be_bytes w64 s.count ++ cipher) in
     let n : length (cipher ++ tag) - 32 ≡ length cipher = omega (arith, length-append cipher tag, long) in
     rw (n, take-append_seam cipher tag, drop-append_seam cipher tag, alike_same tag) refl
 
-pub line_is : (s : Sealing) (line text : List ℕ) → Opens s line text → line_text s line ≡ Some text
+pub line_is : (s : Sealing) (line text : List ℕ) → Opens s line text → opened_line s line ≡ Some text
 line_is s line text is =
     let body = is.cipher ++ tag_of s is.cipher in
     let bytes = bytes-append is.cipher (tag_of s is.cipher) is.bytes (bytes-hmac s.tags (to_be_bytes w64 s.count ++ is.cipher)) in
     let decoded = decoded_of-ok standard line body (rw is.is (decode_of-encode_of standard body refl bytes)) in
-    ap (option_and_then (body_text s)) decoded ∙ tagged_text s is.cipher ∙ ap Some (sym is.text_is)
+    ap (option_and_then (opened_body s)) decoded ∙ tagged_text s is.cipher ∙ ap Some (sym is.text_is)
 
 pub whole_first : (line rest : List ℕ) → HasNoLf line → whole_lines (line ++ 10 ∷ rest) ≡ line ∷ whole_lines rest
 unfolding whole_lines
@@ -44,9 +44,9 @@ whole_first (b ∷ line) rest plain =
 
 pub opened_first : (s : Sealing) (line rest text : List ℕ) → HasNoLf line → Opens s line text
     → opened s (as_line line ++ rest) ≡ as_line text ++ opened (after_line s) rest
-unfolding texts_of
+unfolding opened_texts
 opened_first s line rest text plain is =
-    ap (opened s) (append_assoc line (10 ∷ []) rest) ∙ ap (texts_of s) (whole_first line rest plain) ∙ rw (line_is s line text is) refl
+    ap (opened s) (append_assoc line (10 ∷ []) rest) ∙ ap (opened_texts s) (whole_first line rest plain) ∙ rw (line_is s line text is) refl
 
 pub kept_read : (ready : List ℕ) (s : Sealing) (held came : List ℕ) (a b : Option (List ℕ)) → Consumes a b came
     → Keeps (left_of ready s held a) (left_of ready s (held ++ came) b)
@@ -81,7 +81,7 @@ kept_then (Some x) (Some y) None bytes p q = absurd q
 kept_then (Some x) (Some y) (Some z) bytes p q = sym p ∙ q
 
 pub left_at_end : (s : Sealing) (a : Option (List ℕ)) → IsAtEnd a → IsAtEnd (left_of [] s [] a)
-unfolding texts_of whole_lines
+unfolding opened_texts whole_lines
 left_at_end s None is = tt
 left_at_end s (Some x) is = ap (opened s) is
 

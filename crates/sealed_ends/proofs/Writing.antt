@@ -10,10 +10,10 @@ use Rattle.std.specs.Io.KnownBytes.{Appends, Keeps}
 use Rattle.byte_ends.specs.Lines.{as_line}
 use Rattle.line_reader.specs.Lines.{HasNoLf}
 use Rattle.sealed_line.specs.Sealing.{Sealing, after_line}
-use Rattle.sealed_ends.specs.Opened.{line_text, opened, put_first, texts_of, then_texts, whole_lines}
-use Rattle.sealed_ends.specs.Sent.{IsSent}
+use Rattle.sealed_ends.specs.Opened.{opened_line, opened, put_first, opened_texts, then_texts, whole_lines}
+use Rattle.sealed_ends.specs.Sent.{IsTakenWhole}
 use Rattle.sealed_ends.proofs.Opening.{whole_first}
-use Rattle.sealed_ends.specs.Written.{all_open, ends_line, is_in_step, last_of, written}
+use Rattle.sealed_ends.specs.Written.{all_open, ends_line, is_in_step, sent_last, written_texts}
 
 -- ---- bytes that end with a line end
 
@@ -88,37 +88,37 @@ at_count s n = record { tags = s.tags; cipher = s.cipher; count = n }
 
 record OpensMore (s : Sealing) (lines : List (List ℕ)) (line text : List ℕ) : Type 0 where
   pub open_all : all_open s (lines ++ line ∷ []) ≡ true
-  pub texts : texts_of s (lines ++ line ∷ []) ≡ texts_of s lines ++ as_line text
+  pub texts : opened_texts s (lines ++ line ∷ []) ≡ opened_texts s lines ++ as_line text
 
 opens_more : (s : Sealing) (lines : List (List ℕ)) (line text : List ℕ) → all_open s lines ≡ true
-    → line_text (at_count s (s.count + length lines)) line ≡ Some text → OpensMore s lines line text
-unfolding all_open texts_of
+    → opened_line (at_count s (s.count + length lines)) line ≡ Some text → OpensMore s lines line text
+unfolding all_open opened_texts
 opens_more s [] line text every is =
-    let same : line_text s line ≡ Some text = ap (λ n. line_text (at_count s n) line) (omega arith) ∙ is in
+    let same : opened_line s line ≡ Some text = ap (λ n. opened_line (at_count s n) line) (omega arith) ∙ is in
     record { open_all = rw same refl; texts = rw same (append-nil (as_line text)) }
 opens_more s (first ∷ lines) line text every is =
-    let parts = and_parts (is_some (line_text s first)) (all_open (after_line s) lines) every in
-    let next : line_text (at_count (after_line s) (s.count + 1 + length lines)) line ≡ Some text =
-    ap (λ n. line_text (at_count s n) line) (omega arith) ∙ is in
+    let parts = and_parts (is_some (opened_line s first)) (all_open (after_line s) lines) every in
+    let next : opened_line (at_count (after_line s) (s.count + 1 + length lines)) line ≡ Some text =
+    ap (λ n. opened_line (at_count s n) line) (omega arith) ∙ is in
     let more = opens_more (after_line s) lines line text parts.1 next in
     record {
-      open_all = and_from (is_some (line_text s first)) (all_open (after_line s) (lines ++ line ∷ [])) parts.0 more.open_all;
-      texts = ap (then_texts (line_text s first)) more.texts
-          ∙ then_texts-append (line_text s first) (texts_of (after_line s) lines) (as_line text) parts.0;
+      open_all = and_from (is_some (opened_line s first)) (all_open (after_line s) (lines ++ line ∷ [])) parts.0 more.open_all;
+      texts = ap (then_texts (opened_line s first)) more.texts
+          ∙ then_texts-append (opened_line s first) (opened_texts (after_line s) lines) (as_line text) parts.0;
     }
 
 -- ---- what is taken
 
 module _ (s : Sealing) (next : ℕ) (held since : List ℕ) where
-  module _ (line : List ℕ) (plain : HasNoLf line) (is : line_text (at_count s next) line ≡ Some held) where
+  module _ (line : List ℕ) (plain : HasNoLf line) (is : opened_line (at_count s next) line ≡ Some held) where
     sent_line : (step : Bool) → is_in_step s next since ≡ step
-        → Appends (cond step (Some (opened s since ++ held)) None) (written s (next + 1) false [] (since ++ as_line line)) (10 ∷ [])
+        → Appends (cond step (Some (opened s since ++ held)) None) (written_texts s (next + 1) false [] (since ++ as_line line)) (10 ∷ [])
     sent_line false e = tt
     sent_line true e =
         let parts = and_parts (ends_line 10 since) (all_open s (whole_lines since) && (s.count + length (whole_lines since) == next)) e in
         let inner = and_parts (all_open s (whole_lines since)) (s.count + length (whole_lines since) == next) parts.1 in
         let count : s.count + length (whole_lines since) ≡ next = eqb-true (s.count + length (whole_lines since)) next inner.1 in
-        let here : line_text (at_count s (s.count + length (whole_lines since))) line ≡ Some held = ap (λ n. line_text (at_count s n) line) count ∙ is in
+        let here : opened_line (at_count s (s.count + length (whole_lines since))) line ≡ Some held = ap (λ n. opened_line (at_count s n) line) count ∙ is in
         let more = opens_more s (whole_lines since) line held inner.0 here in
         let lines : whole_lines (since ++ as_line line) ≡ whole_lines since ++ line ∷ [] =
         whole_lines-append since (as_line line) parts.0 ∙ ap (λ l. whole_lines since ++ l) (whole_line line plain) in
@@ -128,7 +128,7 @@ module _ (s : Sealing) (next : ℕ) (held since : List ℕ) where
         rw (lines, ends, more.open_all, counted, more.texts) (append-nil _ ∙ sym (append_assoc (opened s since) held (10 ∷ [])))
 
     -- a line that was sent whole, by what the drain within took before and after
-    pub taken_line : Appends (written s next false held since) (written s (next + 1) false [] (since ++ as_line line)) (10 ∷ [])
+    pub taken_line : Appends (written_texts s next false held since) (written_texts s (next + 1) false [] (since ++ as_line line)) (10 ∷ [])
     taken_line = sent_line (is_in_step s next since) refl
 
   -- a piece of a line
@@ -137,57 +137,57 @@ module _ (s : Sealing) (next : ℕ) (held since : List ℕ) where
   sent_piece false piece = tt
   sent_piece true piece = sym (append_assoc (opened s since) held piece)
 
-  pub taken_piece : (broken : Bool) (piece : List ℕ) → Appends (written s next broken held since) (written s next broken (held ++ piece) since) piece
+  pub taken_piece : (broken : Bool) (piece : List ℕ) → Appends (written_texts s next broken held since) (written_texts s next broken (held ++ piece) since) piece
   taken_piece broken piece = sent_piece (broken || is_in_step s next since) piece
 
   -- a line that was sent in part
   sent_part : (step : Bool) (later : ℕ) (part : List ℕ) → HasNoLf part → is_in_step s next since ≡ step
-      → Keeps (cond step (Some (opened s since ++ held)) None) (written s later true held (since ++ part))
+      → Keeps (cond step (Some (opened s since ++ held)) None) (written_texts s later true held (since ++ part))
   sent_part false later part plain e = tt
   sent_part true later part plain e =
       let parts = and_parts (ends_line 10 since) (all_open s (whole_lines since) && (s.count + length (whole_lines since) == next)) e in
       let lines : whole_lines (since ++ part) ≡ whole_lines since =
       whole_lines-append since part parts.0 ∙ ap (λ l. whole_lines since ++ l) (whole_lines-none part plain) ∙ append-nil (whole_lines since) in
-      ap (λ l. texts_of s l ++ held) lines
+      ap (λ l. opened_texts s l ++ held) lines
 
   pub taken_part : (later : ℕ) (part : List ℕ) → HasNoLf part
-      → Keeps (written s next false held since) (written s later true held (since ++ part))
+      → Keeps (written_texts s next false held since) (written_texts s later true held (since ++ part))
   taken_part later part plain = sent_part (is_in_step s next since) later part plain refl
 
 -- ---- what was sent last
 
-last_of-more : (n : ℕ) (bytes more : List ℕ) → last_of (n + length more) (bytes ++ more) ≡ last_of n bytes ++ more
+last_of-more : (n : ℕ) (bytes more : List ℕ) → sent_last (n + length more) (bytes ++ more) ≡ sent_last n bytes ++ more
 last_of-more n bytes more =
     let long = length-append bytes more in
     let place : length (bytes ++ more) - (n + length more) ≡ length bytes - n = omega (arith, long) in
     ap (λ k. drop k (bytes ++ more)) place ∙ drop-append-le (length bytes - n) bytes more (omega arith)
 
 abbrev pub taken_of : Sealing → ℕ → Bool → List ℕ → ℕ → Option (List ℕ) → Option (List ℕ)
-taken_of s next broken held sent took = option_and_then (λ bytes. written s next broken held (last_of sent bytes)) took
+taken_of s next broken held sent took = option_and_then (λ bytes. written_texts s next broken held (sent_last sent bytes)) took
 
 pub piece_held : (s : Sealing) (next : ℕ) (broken : Bool) (held : List ℕ) (sent : ℕ) (took : Option (List ℕ)) (piece : List ℕ)
     → Appends (taken_of s next broken held sent took) (taken_of s next broken (held ++ piece) sent took) piece
 piece_held s next broken held sent None piece = tt
-piece_held s next broken held sent (Some bytes) piece = taken_piece s next held (last_of sent bytes) broken piece
+piece_held s next broken held sent (Some bytes) piece = taken_piece s next held (sent_last sent bytes) broken piece
 
 pub line_sent : (s : Sealing) (next : ℕ) (held : List ℕ) (sent later : ℕ) (old new : Option (List ℕ)) (line : List ℕ) → HasNoLf line
-    → line_text (at_count s next) line ≡ Some held → IsSent old new sent later (as_line line)
+    → opened_line (at_count s next) line ≡ Some held → IsTakenWhole old new sent later (as_line line)
     → Appends (taken_of s next false held sent old) (taken_of s (next + 1) false [] later new) (10 ∷ [])
 line_sent s next held sent later None new line plain is sends = tt
 line_sent s next held sent later (Some bytes) None line plain is sends = absurd sends.took
 line_sent s next held sent later (Some bytes) (Some more) line plain is sends =
-    let since : last_of later more ≡ last_of sent bytes ++ as_line line =
-    ap (λ n. last_of n more) sends.counted ∙ ap (last_of (sent + length (as_line line))) sends.took ∙ last_of-more sent bytes (as_line line) in
-    rw since (taken_line s next held (last_of sent bytes) line plain is)
+    let since : sent_last later more ≡ sent_last sent bytes ++ as_line line =
+    ap (λ n. sent_last n more) sends.counted ∙ ap (sent_last (sent + length (as_line line))) sends.took ∙ last_of-more sent bytes (as_line line) in
+    rw since (taken_line s next held (sent_last sent bytes) line plain is)
 
 pub part_sent : (s : Sealing) (next after : ℕ) (held : List ℕ) (sent later : ℕ) (old new : Option (List ℕ)) (part : List ℕ) → HasNoLf part
-    → IsSent old new sent later part → Keeps (taken_of s next false held sent old) (taken_of s after true held later new)
+    → IsTakenWhole old new sent later part → Keeps (taken_of s next false held sent old) (taken_of s after true held later new)
 part_sent s next after held sent later None new part plain sends = tt
 part_sent s next after held sent later (Some bytes) None part plain sends = absurd sends.took
 part_sent s next after held sent later (Some bytes) (Some more) part plain sends =
-    let since : last_of later more ≡ last_of sent bytes ++ part =
-    ap (λ n. last_of n more) sends.counted ∙ ap (last_of (sent + length part)) sends.took ∙ last_of-more sent bytes part in
-    rw since (taken_part s next held (last_of sent bytes) after part plain)
+    let since : sent_last later more ≡ sent_last sent bytes ++ part =
+    ap (λ n. sent_last n more) sends.counted ∙ ap (sent_last (sent + length part)) sends.took ∙ last_of-more sent bytes part in
+    rw since (taken_part s next held (sent_last sent bytes) after part plain)
 
 -- nothing of a line that is sent in part is its LF
 pub plain_part : (line : List ℕ) (n : ℕ) → HasNoLf line → n < length (as_line line) → HasNoLf (take n (as_line line))
@@ -197,9 +197,9 @@ plain_part line n plain short =
 
 -- ---- a loop of writes
 
-module _ (a b c : Option (List ℕ)) (line front rest : List ℕ) (start now : ℕ) (whole : line ≡ front ++ rest) (sends : IsSent a b start now front) where
+module _ (a b c : Option (List ℕ)) (line front rest : List ℕ) (start now : ℕ) (whole : line ≡ front ++ rest) (sends : IsTakenWhole a b start now front) where
   pub sent_more : (n : ℕ) (after : List ℕ) → n ≤ length rest → after ≡ drop n rest → Appends b c (take n rest)
-      → (x : List ℕ) × (line ≡ x ++ after) × IsSent a c start (now + n) x
+      → (x : List ℕ) × (line ≡ x ++ after) × IsTakenWhole a c start (now + n) x
   sent_more n after within is more =
       let long = length-take-le n rest within in (
         front ++ take n rest,
@@ -211,7 +211,7 @@ module _ (a b c : Option (List ℕ)) (line front rest : List ℕ) (start now : �
         },
       )
 
-  pub sent_front : 0 < length rest → Keeps b c → (n : ℕ) × (n < length line) × IsSent a c start now (take n line)
+  pub sent_front : 0 < length rest → Keeps b c → (n : ℕ) × (n < length line) × IsTakenWhole a c start now (take n line)
   sent_front some kept =
       let front_is : take (length front) line ≡ front = ap (take (length front)) whole ∙ take-append_seam front rest in (
         length front,
@@ -222,9 +222,9 @@ module _ (a b c : Option (List ℕ)) (line front rest : List ℕ) (start now : �
 -- a drain that took nothing yet
 pub none_taken : (s : Sealing) (first : ℕ) → first ≡ s.count → (held : List ℕ) → held ≡ [] → (took : Option (List ℕ))
     → taken_of (at_count s first) s.count false held 0 took ≡ option_map (λ _. []) took
-unfolding ends_line all_open texts_of whole_lines
+unfolding ends_line all_open opened_texts whole_lines
 none_taken s first is held none None = refl
 none_taken s first is held none (Some bytes) =
-    let nothing : last_of 0 bytes ≡ [] = drop_all (length bytes - 0) bytes (omega arith) in
+    let nothing : sent_last 0 bytes ≡ [] = drop_all (length bytes - 0) bytes (omega arith) in
     let same : (first + 0 == s.count) ≡ true = eq-eqb (first + 0) s.count (omega (arith, is)) in
     rw (nothing, same, none) refl

@@ -4,7 +4,7 @@ use Rattle.base64.specs.Engines.{standard}
 use Rattle.base64.specs.GeneralPurpose.{decoded_of}
 use Rattle.byte_ends.specs.Lines.{as_line}
 use Rattle.sealed_line.specs.Sealing.{Sealing, after_line, crossed, tag_of}
-use Rattle.sealed_ends.specs.Unread.{CountsFault, IsUnread}
+use Rattle.sealed_ends.specs.Unread.{CountsOpenFault, IsUnreadSeal}
 use Rattle.sealed_ends.specs.declared.fault.OpenFault.{OpenFault}
 use Rattle.sealed_ends.specs.declared.source.SealedSource.{SealedSource}
 
@@ -15,15 +15,15 @@ alike (a ∷ left) [] = false
 alike (a ∷ left) (b ∷ right) = (a == b) && alike left right
 
 -- the text of a cipher and a tag of this length, where the tag is that of the cipher
-abbrev pub text_of : Sealing → List ℕ → List ℕ → Option (List ℕ)
-text_of s cipher tag = if alike tag (tag_of s cipher) then Some (crossed s cipher) else None
+abbrev pub opened_text : Sealing → List ℕ → List ℕ → Option (List ℕ)
+opened_text s cipher tag = if alike tag (tag_of s cipher) then Some (crossed s cipher) else None
 
-abbrev pub body_text : Sealing → List ℕ → Option (List ℕ)
-body_text s body = text_of s (take (length body - 32) body) (drop (length body - 32) body)
+abbrev pub opened_body : Sealing → List ℕ → Option (List ℕ)
+opened_body s body = opened_text s (take (length body - 32) body) (drop (length body - 32) body)
 
 -- the text of a line, where it is the seal of one
-abbrev pub line_text : Sealing → List ℕ → Option (List ℕ)
-line_text s line = option_and_then (body_text s) (decoded_of standard line)
+abbrev pub opened_line : Sealing → List ℕ → Option (List ℕ)
+opened_line s line = option_and_then (opened_body s) (decoded_of standard line)
 
 -- the byte before the first of these pieces, where there is one
 abbrev pub put_first : ℕ → List (List ℕ) → List (List ℕ)
@@ -41,12 +41,12 @@ then_texts None rest = []
 then_texts (Some text) rest = as_line text ++ rest
 
 -- the texts of lines up to the first that isn't sealed
-unfoldable pub texts_of : Sealing → List (List ℕ) → List ℕ
-texts_of s [] = []
-texts_of s (line ∷ lines) = then_texts (line_text s line) (texts_of (after_line s) lines)
+unfoldable pub opened_texts : Sealing → List (List ℕ) → List ℕ
+opened_texts s [] = []
+opened_texts s (line ∷ lines) = then_texts (opened_line s line) (opened_texts (after_line s) lines)
 
 abbrev pub opened : Sealing → List ℕ → List ℕ
-opened s bytes = texts_of s (whole_lines bytes)
+opened s bytes = opened_texts s (whole_lines bytes)
 
 -- what is left of a source: what is opened already, and what the bytes that are held, and come, open to
 abbrev pub left_of : List ℕ → Sealing → List ℕ → Option (List ℕ) → Option (List ℕ)
@@ -71,8 +71,8 @@ fault_by s = s.fault
 pub record FailsBy {S : Type 0} (left : S → Option (List ℕ)) (failed : S → ℕ) (old new : SealedSource S) : Type 0 where
   pub fault : OpenFault
   pub is : fault_by new ≡ Some fault
-  pub why : IsUnread new.seal new.held.items (left new.source) fault
-  pub counted : CountsFault (failed old.source) (failed new.source) fault
+  pub why : IsUnreadSeal new.seal new.held.items (left new.source) fault
+  pub counted : CountsOpenFault (failed old.source) (failed new.source) fault
 
 -- what is left, by what is left of the source within
 abbrev pub left_by : {S : Type 0} → (S → Option (List ℕ)) → SealedSource S → Option (List ℕ)

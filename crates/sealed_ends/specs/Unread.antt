@@ -21,41 +21,41 @@ abbrev pub sealed_limit : ℕ
 sealed_limit = 699096
 
 -- why the first line that is held isn't opened
-abbrev pub IsUnopened : Sealing → List ℕ → OpenFault → Type 0
-IsUnopened s held ReadFault = ⊥
-IsUnopened s held BadLine = (line : List ℕ) × (rest : List ℕ) × (held ≡ as_line line ++ rest) × HasNoLf line × IsNoSeal s line
-IsUnopened s held CutLine = ⊥
-IsUnopened s held LongLine = ⊥
-IsUnopened s held Spent = s.count ≡ last_count
-IsUnopened s held NoMemory = Unit {0}
+abbrev pub IsFrontUnopened : Sealing → List ℕ → OpenFault → Type 0
+IsFrontUnopened s held ReadFault = ⊥
+IsFrontUnopened s held BadLine = (line : List ℕ) × (rest : List ℕ) × (held ≡ as_line line ++ rest) × HasNoLf line × IsNoSeal s line
+IsFrontUnopened s held CutLine = ⊥
+IsFrontUnopened s held LongLine = ⊥
+IsFrontUnopened s held Spent = s.count ≡ last_count
+IsFrontUnopened s held NoMemory = Unit {0}
 
 -- why what is held isn't opened, by the bytes that the source has left: its first line isn't the seal of one, it is a piece
 -- of a line at the source's end, or a piece that is too long. That the source failed, its count says
-abbrev pub IsUnread : Sealing → List ℕ → Option (List ℕ) → OpenFault → Type 0
-IsUnread s held left ReadFault = Unit {0}
-IsUnread s held left BadLine = IsUnopened s held BadLine
-IsUnread s held left CutLine = (held ≢ []) × HasNoLf held × IsAtEnd left
-IsUnread s held left LongLine = HasNoLf held × (sealed_limit < length held)
-IsUnread s held left Spent = s.count ≡ last_count
-IsUnread s held left NoMemory = Unit {0}
+abbrev pub IsUnreadSeal : Sealing → List ℕ → Option (List ℕ) → OpenFault → Type 0
+IsUnreadSeal s held left ReadFault = Unit {0}
+IsUnreadSeal s held left BadLine = IsFrontUnopened s held BadLine
+IsUnreadSeal s held left CutLine = (held ≢ []) × HasNoLf held × IsAtEnd left
+IsUnreadSeal s held left LongLine = HasNoLf held × (sealed_limit < length held)
+IsUnreadSeal s held left Spent = s.count ≡ last_count
+IsUnreadSeal s held left NoMemory = Unit {0}
 
 -- no block was read
-abbrev pub IsNotRead : OpenFault → Type 0
-IsNotRead ReadFault = Unit {0}
-IsNotRead BadLine = ⊥
-IsNotRead CutLine = ⊥
-IsNotRead LongLine = ⊥
-IsNotRead Spent = ⊥
-IsNotRead NoMemory = Unit {0}
+abbrev pub IsNoBlockRead : OpenFault → Type 0
+IsNoBlockRead ReadFault = Unit {0}
+IsNoBlockRead BadLine = ⊥
+IsNoBlockRead CutLine = ⊥
+IsNoBlockRead LongLine = ⊥
+IsNoBlockRead Spent = ⊥
+IsNoBlockRead NoMemory = Unit {0}
 
 -- the source failed once where that is why, and else never
-abbrev pub CountsFault : ℕ → ℕ → OpenFault → Type 0
-CountsFault old new ReadFault = OneFailed old new
-CountsFault old new BadLine = new ≡ old
-CountsFault old new CutLine = new ≡ old
-CountsFault old new LongLine = new ≡ old
-CountsFault old new Spent = new ≡ old
-CountsFault old new NoMemory = new ≡ old
+abbrev pub CountsOpenFault : ℕ → ℕ → OpenFault → Type 0
+CountsOpenFault old new ReadFault = OneFailed old new
+CountsOpenFault old new BadLine = new ≡ old
+CountsOpenFault old new CutLine = new ≡ old
+CountsOpenFault old new LongLine = new ≡ old
+CountsOpenFault old new Spent = new ≡ old
+CountsOpenFault old new NoMemory = new ≡ old
 
-abbrev pub CountsRead : {T : Type 0} → ℕ → ℕ → Result T OpenFault → Type 0
-CountsRead old new r = MatchResult r (λ _. new ≡ old) (CountsFault old new)
+abbrev pub CountsOpenRead : {T : Type 0} → ℕ → ℕ → Result T OpenFault → Type 0
+CountsOpenRead old new r = MatchResult r (λ _. new ≡ old) (CountsOpenFault old new)

@@ -2,7 +2,7 @@
 
 ghost use Rattle.std.specs.Prelude.{◌≡◌, ◌<◌, ◌≤◌, ℕ, [], ◌∷◌, IfOk, OnErr, OnOk, length, option_map, take};
 ghost use Rattle.std.specs.Io.KnownBytes.{Appends, Keeps, WriteAppends};
-ghost use Rattle.sealed_ends.specs.Sent.{IsSent};
+ghost use Rattle.sealed_ends.specs.Sent.{IsTakenWhole};
 ghost use Rattle.sealed_ends.specs.Written.{drain_within, seals_under, taken_by, writes_failed_by};
 
 use super::bytes::first_lf;
@@ -112,9 +112,9 @@ impl<D: Drain> SealedDrain<D> {
 
 /// Has a drain take a line, and counts the bytes that it took.
 fn send<D: Drain>(drain: &mut D, sent: &mut usize, line: &[u8]) -> Result<(), Failed>
-    ensures ok { OnOk result (IsSent (D.taken drain.old) (D.taken drain.new) sent.old sent.new line.now) }
+    ensures ok { OnOk result (IsTakenWhole (D.taken drain.old) (D.taken drain.new) sent.old sent.new line.now) }
     ensures err { OnErr result ((count : ℕ) × (count < length line.now)
-        × IsSent (D.taken drain.old) (D.taken drain.new) sent.old sent.new (take count line.now)) }
+        × IsTakenWhole (D.taken drain.old) (D.taken drain.new) sent.old sent.new (take count line.now)) }
 {
     let mut rest = line;
     while !rest.is_empty() {

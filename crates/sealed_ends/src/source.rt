@@ -6,7 +6,7 @@ ghost use Rattle.std.specs.Io.KnownBytes.{IsAtEnd, Keeps, ReadConsumes};
 ghost use Rattle.byte_ends.specs.Failures.{CountsFailure};
 ghost use Rattle.line_reader.specs.Lines.{HasNoLf};
 ghost use Rattle.sealed_ends.specs.Opened.{FailsBy, failed_by, fault_by, held_by, left_by, left_of, opens_under, source_within};
-ghost use Rattle.sealed_ends.specs.Unread.{CountsRead, IsNotRead, IsUnopened, IsUnread};
+ghost use Rattle.sealed_ends.specs.Unread.{CountsOpenRead, IsNoBlockRead, IsFrontUnopened, IsUnreadSeal};
 
 use super::bytes::{drop_front, first_lf};
 use super::fault::OpenFault;
@@ -66,8 +66,8 @@ impl<S: Source> SealedSource<S> {
             (left_of self.new.ready.items self.new.seal self.new.held.items (S.left self.new.source)) }
         ensures counted { self.new.failures ≡ self.old.failures }
         ensures end { OnOk result (self.new.ready.items ≡ [] → (self.new.held.items ≡ []) × IsAtEnd (S.left self.new.source)) }
-        ensures why { IfErr result (IsUnread self.new.seal self.new.held.items (S.left self.new.source)) }
-        ensures read { CountsRead (S.failed self.old.source) (S.failed self.new.source) result }
+        ensures why { IfErr result (IsUnreadSeal self.new.seal self.new.held.items (S.left self.new.source)) }
+        ensures read { CountsOpenRead (S.failed self.old.source) (S.failed self.new.source) result }
     {
         if !self.ready.is_empty() {
             return Ok(());
@@ -87,8 +87,8 @@ impl<S: Source> SealedSource<S> {
         ensures same { self.new.ready.items ≡ self.old.ready.items }
         ensures end { result ≡ Ok false → (self.new.held.items ≡ []) × IsAtEnd (S.left self.new.source) }
         ensures whole { result ≡ Ok true → ¬ HasNoLf self.new.held.items }
-        ensures why { IfErr result (IsUnread self.new.seal self.new.held.items (S.left self.new.source)) }
-        ensures read { CountsRead (S.failed self.old.source) (S.failed self.new.source) result }
+        ensures why { IfErr result (IsUnreadSeal self.new.seal self.new.held.items (S.left self.new.source)) }
+        ensures read { CountsOpenRead (S.failed self.old.source) (S.failed self.new.source) result }
     {
         if first_lf(self.held.as_slice()).is_some() {
             return Ok(true);
@@ -142,8 +142,8 @@ impl<S: Source> SealedSource<S> {
         ensures held { IfOk result (λ count. (came : List ℕ) × (length came ≡ count) × (self.new.held.items ≡ self.old.held.items ++ came)) }
         ensures lost { OnErr result (self.new.held.items ≡ self.old.held.items) }
         ensures end { result ≡ Ok 0 → IsAtEnd (S.left self.new.source) }
-        ensures fault { IfErr result IsNotRead }
-        ensures read { CountsRead (S.failed self.old.source) (S.failed self.new.source) result }
+        ensures fault { IfErr result IsNoBlockRead }
+        ensures read { CountsOpenRead (S.failed self.old.source) (S.failed self.new.source) result }
     {
         let mut block = [0; BLOCK];
         if self.held.try_reserve(BLOCK).is_err() {
@@ -166,7 +166,7 @@ impl<S: Source> SealedSource<S> {
             (left_of self.new.ready.items self.new.seal self.new.held.items (S.left self.new.source)) }
         ensures counted { self.new.failures ≡ self.old.failures }
         ensures some { OnOk result (self.new.ready.items ≢ []) }
-        ensures why { IfErr result (IsUnopened self.new.seal self.new.held.items) }
+        ensures why { IfErr result (IsFrontUnopened self.new.seal self.new.held.items) }
         ensures read { S.failed self.new.source ≡ S.failed self.old.source }
     {
         let Some(at) = first_lf(self.held.as_slice()) else {

@@ -3,14 +3,14 @@ use Rattle.std.proofs.Common.{◌≡◌, ◌≢◌, ℕ, List, codes, length, Re
 use Rattle.hex.specs.Hex.{IsBytes, decode_sized, encode_lower}
 use Rattle.hex.specs.declared.error.FromHexError.{FromHexError}
 use Rattle.hex.proofs.HexLemmas.{decode_sized-encode_lower}
-use Rattle.sealed_line.specs.Greetings.{IsAnswer, IsProof, IsReply, answer_text}
+use Rattle.sealed_line.specs.Greetings.{IsKeyAnswer, IsProof, IsReply, key_answer_text}
 use Rattle.sealed_line.specs.declared.greeting.Answer.{Answer}
 use Rattle.sealed_line.specs.declared.greeting.Answer.TheVariants.{Proved, NoKey}
 use Rattle.sealed_line.specs.declared.greeting.Reply.{Reply}
 
 pub no_answer : (line : List ℕ) → (line ≢ codes "no 12 NoKey")
-    → ((reply : Reply) (proof : List ℕ) → IsReply reply → IsProof proof → line ≢ answer_text (Proved reply proof))
-    → (answer : Answer) → IsAnswer answer → line ≢ answer_text answer
+    → ((reply : Reply) (proof : List ℕ) → IsReply reply → IsProof proof → line ≢ key_answer_text (Proved reply proof))
+    → (answer : Answer) → IsKeyAnswer answer → line ≢ key_answer_text answer
 no_answer line not none (Proved reply proof) is = none reply proof is.0 is.1
 no_answer line not none NoKey is = not
 

@@ -7,8 +7,8 @@ use Rattle.sealed_line.specs.declared.greeting.Greeting.{Greeting}
 use Rattle.sealed_line.specs.declared.greeting.Reply.{Reply}
 
 -- the version and a site
-abbrev pub front_text : ℕ → List ℕ
-front_text site = codes "key 1 " ++ decimal site
+abbrev pub greeting_front : ℕ → List ℕ
+greeting_front site = codes "key 1 " ++ decimal site
 
 -- a text, a blank, and bytes in hex
 abbrev pub then_hex : List ℕ → List ℕ → List ℕ
@@ -16,16 +16,16 @@ then_hex text bytes = text ++ 32 ∷ encode_lower bytes
 
 -- `key 1 SITE ID NONCE`
 abbrev pub greeting_text : Greeting → List ℕ
-greeting_text g = then_hex (then_hex (front_text g.site) g.id) g.nonce
+greeting_text g = then_hex (then_hex (greeting_front g.site) g.id) g.nonce
 
 -- `key 1 SITE NONCE`
-abbrev pub reply_text : Reply → List ℕ
-reply_text r = then_hex (front_text r.site) r.nonce
+abbrev pub key_reply_text : Reply → List ℕ
+key_reply_text r = then_hex (greeting_front r.site) r.nonce
 
 -- `key 1 SITE NONCE PROOF`, or the refusal
-abbrev pub answer_text : Answer → List ℕ
-answer_text (Proved reply proof) = then_hex (reply_text reply) proof
-answer_text NoKey = codes "no 12 NoKey"
+abbrev pub key_answer_text : Answer → List ℕ
+key_answer_text (Proved reply proof) = then_hex (key_reply_text reply) proof
+key_answer_text NoKey = codes "no 12 NoKey"
 
 -- a site is a number below 2 ^ 16, and each of the others has its length
 pub record IsGreeting (g : Greeting) : Type 0 where
@@ -44,6 +44,6 @@ pub record IsProof (proof : List ℕ) : Type 0 where
   pub long : length proof ≡ 32
   pub bytes : IsBytes proof
 
-abbrev pub IsAnswer : Answer → Type 0
-IsAnswer (Proved reply proof) = IsReply reply × IsProof proof
-IsAnswer NoKey = Unit {0}
+abbrev pub IsKeyAnswer : Answer → Type 0
+IsKeyAnswer (Proved reply proof) = IsReply reply × IsProof proof
+IsKeyAnswer NoKey = Unit {0}

@@ -2,7 +2,7 @@
 -- proof. No two labels are the same, and no message of one is a message of another.
 use Rattle.std.specs.Prelude.{◌≡◌, ℕ, List, ◌∷◌, ◌++◌, codes, take}
 use Rattle.keyed_digest.specs.Hmac.{hmac}
-use Rattle.sealed_line.specs.Greetings.{greeting_text, reply_text}
+use Rattle.sealed_line.specs.Greetings.{greeting_text, key_reply_text}
 use Rattle.sealed_line.specs.Sealing.{Sealing}
 use Rattle.sealed_line.specs.declared.greeting.Greeting.{Greeting}
 use Rattle.sealed_line.specs.declared.greeting.Reply.{Reply}
@@ -14,7 +14,7 @@ id_under secret = take 8 (hmac secret (codes "reviewgate keyid"))
 
 -- both first lines, up to the proof, with a line end between them
 abbrev pub both_lines : Greeting → Reply → List ℕ
-both_lines greeting reply = greeting_text greeting ++ 10 ∷ reply_text reply
+both_lines greeting reply = greeting_text greeting ++ 10 ∷ key_reply_text reply
 
 -- what seals the lines of one direction, by the labels of its two keys
 abbrev pub sealing_under : List ℕ → List ℕ → List ℕ → List ℕ → Sealing

@@ -31,8 +31,8 @@ abbrev pub after_line : Sealing → Sealing
 after_line s = record s { count = s.count + 1 }
 
 -- the most bytes of a line of a session, and the greatest count
-abbrev pub most_bytes : ℕ
-most_bytes = 524288
+abbrev pub most_line_bytes : ℕ
+most_line_bytes = 524288
 
 abbrev pub last_count : ℕ
 last_count = 2 ^ 64 - 1
@@ -51,8 +51,8 @@ IsUndecoded line NoMemory = Unit {0}
 -- why a text isn't sealed
 abbrev pub IsUnsealed : Sealing → List ℕ → SealFault → Type 0
 IsUnsealed s text BadSeal = ⊥
-IsUnsealed s text LongLine = most_bytes < length text
-IsUnsealed s text Spent = (s.count ≡ last_count) × (length text ≤ most_bytes)
+IsUnsealed s text LongLine = most_line_bytes < length text
+IsUnsealed s text Spent = (s.count ≡ last_count) × (length text ≤ most_line_bytes)
 IsUnsealed s text NoMemory = Unit {0}
 
 -- why a line isn't opened

@@ -1,7 +1,7 @@
 //! The first lines of a sealed connection.
 
 ghost use Rattle.std.specs.Prelude.{◌≡◌, ◌≢◌, ◌<◌, ◌≤◌, ◌^◌, ◌++◌, ◌∷◌, List, ℕ, MatchOption, OnOk, codes, decimal, length};
-ghost use Rattle.sealed_line.specs.Greetings.{IsAnswer, IsGreeting, answer_text, front_text, greeting_text, reply_text, then_hex};
+ghost use Rattle.sealed_line.specs.Greetings.{IsKeyAnswer, IsGreeting, key_answer_text, greeting_front, greeting_text, key_reply_text, then_hex};
 ghost use Rattle.sealed_line.specs.declared.greeting.Answer.{Answer as AnyAnswer};
 ghost use Rattle.sealed_line.specs.declared.greeting.Greeting.{Greeting as AnyGreeting};
 
@@ -77,7 +77,7 @@ impl Greeting {
 impl Reply {
     /// Adds the beginning of the line of who answers, `key 1 SITE NONCE`.
     pub fn write<A: Allocator + Copy>(&self, into: &mut Vec<u8, A>) -> Result<(), AllocError>
-        ensures { OnOk result (into.new.items ≡ into.old.items ++ reply_text self.now) }
+        ensures { OnOk result (into.new.items ≡ into.old.items ++ key_reply_text self.now) }
     {
         write_front(into, self.site)?;
         write_hex(into, self.nonce.as_slice())
@@ -87,7 +87,7 @@ impl Reply {
 impl Answer {
     /// Adds the line, `key 1 SITE NONCE PROOF` or `no 12 NoKey`, without its line end.
     pub fn write<A: Allocator + Copy>(&self, into: &mut Vec<u8, A>) -> Result<(), AllocError>
-        ensures { OnOk result (into.new.items ≡ into.old.items ++ answer_text self.now) }
+        ensures { OnOk result (into.new.items ≡ into.old.items ++ key_answer_text self.now) }
     {
         match self {
             Answer::Proved(reply, proof) => {
@@ -100,8 +100,8 @@ impl Answer {
 
     /// Reads such a line, given without its line end; nothing where it is none. It takes no memory.
     pub fn read(line: &[u8]) -> Option<Answer>
-        ensures { MatchOption result ((answer : AnyAnswer) → IsAnswer answer → line.now ≢ answer_text answer)
-            (λ answer. line.now ≡ answer_text answer) }
+        ensures { MatchOption result ((answer : AnyAnswer) → IsKeyAnswer answer → line.now ≢ key_answer_text answer)
+            (λ answer. line.now ≡ key_answer_text answer) }
     {
         if is_same(line, b"no 12 NoKey") {
             return Some(Answer::NoKey);
@@ -127,7 +127,7 @@ impl Answer {
 
 /// Adds the version and a site.
 fn write_front<A: Allocator + Copy>(into: &mut Vec<u8, A>, site: u16) -> Result<(), AllocError>
-    ensures { OnOk result (into.new.items ≡ into.old.items ++ front_text site) }
+    ensures { OnOk result (into.new.items ≡ into.old.items ++ greeting_front site) }
 {
     into.extend_from_slice(b"key 1 ")?;
     into.extend_from_slice(Buffer::new().format(site).as_bytes())
@@ -173,8 +173,8 @@ pub fn last_word(text: &[u8], size: usize) -> Option<(&[u8], &[u8])>
 
 /// The site that follows the version.
 fn site_of(text: &[u8]) -> Option<u16>
-    ensures { MatchOption result ((site : ℕ) → site < 2 ^ 16 → text.now ≢ front_text site)
-        (λ site. text.now ≡ front_text site) }
+    ensures { MatchOption result ((site : ℕ) → site < 2 ^ 16 → text.now ≢ greeting_front site)
+        (λ site. text.now ≡ greeting_front site) }
 {
     let Some(digits) = text.strip_prefix(b"key 1 ") else {
         return None;

@@ -2,7 +2,7 @@
 
 ghost use Rattle.std.specs.Prelude.{◌≡◌, ◌++◌, IfOk, codes};
 ghost use Rattle.keyed_digest.specs.Hmac.{hmac};
-ghost use Rattle.sealed_line.specs.Greetings.{greeting_text, reply_text};
+ghost use Rattle.sealed_line.specs.Greetings.{greeting_text, key_reply_text};
 ghost use Rattle.sealed_line.specs.Keys.{AreKeys, both_lines, id_under, sealing_under};
 
 use super::greeting::{Greeting, Reply};

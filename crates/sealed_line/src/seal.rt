@@ -4,7 +4,7 @@ ghost use Rattle.std.specs.Prelude.{◌≡◌, ◌<◌, ◌≤◌, ◌++◌, Err
 ghost use Rattle.base64.specs.Engines.{standard};
 ghost use Rattle.base64.specs.GeneralPurpose.{IsBytes, encode_of};
 ghost use Rattle.byte_ends.specs.Lines.{as_line};
-ghost use Rattle.sealed_line.specs.Sealing.{IsUndecoded, IsUnopened, IsUnsealed, Opens, after_line, crossed, last_count, most_bytes, sealed};
+ghost use Rattle.sealed_line.specs.Sealing.{IsUndecoded, IsUnopened, IsUnsealed, Opens, after_line, crossed, last_count, most_line_bytes, sealed};
 
 use super::cross::cross;
 use super::fault::SealFault;
@@ -70,8 +70,8 @@ impl Seal {
         ensures err { IfErr result (IsUnsealed self.old text.now) }
         ensures opens { OnOk result (Opens self.old (sealed self.old (crossed self.old text.now)) text.now) }
         ensures kept { OnErr result ((self.new ≡ self.old) × (into.new.items ≡ into.old.items)) }
-        ensures long { most_bytes < length text.now → result ≡ Err SealFault.LongLine }
-        ensures spent { length text.now ≤ most_bytes → self.old.count ≡ last_count → result ≡ Err SealFault.Spent }
+        ensures long { most_line_bytes < length text.now → result ≡ Err SealFault.LongLine }
+        ensures spent { length text.now ≤ most_line_bytes → self.old.count ≡ last_count → result ≡ Err SealFault.Spent }
     {
         if text.len() > LINE_LIMIT {
             return Err(SealFault::LongLine);
@@ -123,7 +123,7 @@ impl Seal {
         alloc: A,
         text: &[u8],
     ) -> Result<String<A>, AllocError>
-        requires { length text.now ≤ most_bytes }
+        requires { length text.now ≤ most_line_bytes }
         ensures { IfOk result (λ line. string_bytes line ≡ as_line (sealed self.now (crossed self.now text.now))) }
     {
         let mut body = vec![in alloc; 0u8; text.len() + TAG]?;

@@ -2,14 +2,14 @@
 use Rattle.std.proofs.Common.{◌≡◌, ◌≢◌, ◌⊎◌, inl, inr, ℕ, [], ◌∷◌, List, Option, Result, Ok, Err, refl, sym, ap, ◌∙◌}
 use Rattle.std.specs.Io.KnownBytes.{Appends}
 use Rattle.sealed_line.specs.declared.greeting.Greeting.{Greeting}
-use Rattle.sealed_link.specs.Begins.{CountsReadFault, Dials, Greets, IsUngreeted}
+use Rattle.sealed_link.specs.Begins.{CountsReadFault, Dials, GreetsByKey, IsUnsentGreeting}
 use Rattle.sealed_link.specs.declared.fault.DialFault.{DialFault}
 use Rattle.sealed_link.specs.declared.fault.DialFault.TheVariants.{BadAnswer, NoKey, NoMemory, NotProved, ReadFault, WriteFault}
 use Rattle.std.proofs.Common.{length, take, drop, arith, ◌≤◌}
 use Rattle.std.proofs.lemmas.List.{take_all}
 
 pub greets_all : {T : Type 0} (line : List ℕ) (old new : Option (List ℕ)) (r : Result T DialFault) → Appends old new line → (r ≢ Err WriteFault)
-    → Greets line old new r
+    → GreetsByKey line old new r
 greets_all line old new (Ok x) took other = took
 greets_all line old new (Err WriteFault) took other = absurd (other refl)
 greets_all line old new (Err NoMemory) took other = (length line, rw (take_all (length line) line (omega arith)) took)
@@ -18,7 +18,7 @@ greets_all line old new (Err NoKey) took other = took
 greets_all line old new (Err NotProved) took other = took
 greets_all line old new (Err ReadFault) took other = took
 
-pub ungreeted : (secret : List ℕ) (greeting : Greeting) (left : Option (List ℕ)) (fault : DialFault) → IsUngreeted fault
+pub ungreeted : (secret : List ℕ) (greeting : Greeting) (left : Option (List ℕ)) (fault : DialFault) → IsUnsentGreeting fault
     → Dials secret greeting [] left (Err fault)
 ungreeted secret greeting left WriteFault is = inr refl
 ungreeted secret greeting left NoMemory is = inr tt
@@ -27,7 +27,7 @@ ungreeted secret greeting left NoKey is = absurd is
 ungreeted secret greeting left NotProved is = absurd is
 ungreeted secret greeting left ReadFault is = absurd is
 
-pub ungreeted_reads : (n : ℕ) (fault : DialFault) → IsUngreeted fault → CountsReadFault n n fault
+pub ungreeted_reads : (n : ℕ) (fault : DialFault) → IsUnsentGreeting fault → CountsReadFault n n fault
 ungreeted_reads n WriteFault is = refl
 ungreeted_reads n NoMemory is = refl
 ungreeted_reads n BadAnswer is = absurd is

@@ -6,7 +6,7 @@ use Rattle.std.specs.List.{flat_map}
 use Rattle.byte_ends.specs.Lines.{as_line}
 use Rattle.line_reader.specs.Lines.{HasFirstLf, HasNoLf, IsTooLong}
 use Rattle.sealed_line.specs.Sealing.{Opens, Sealing, after_line}
-use Rattle.sealed_link.specs.Lines.{IsHeldUp, IsRefused, IsRefusedAfter, IsUnheld, IsUnopenable, KeepsRest, OpenTo, OpensAll, OpensFront}
+use Rattle.sealed_link.specs.Lines.{IsHeldUp, IsFrontRefused, IsRefusedAfter, IsUnheld, IsUnopenable, KeepsRest, OpenTo, OpensAll, OpensFront}
 use Rattle.sealed_link.specs.Wires.{Wiring, sealed_limit}
 use Rattle.sealed_link.specs.declared.fault.WireFault.{WireFault}
 use Rattle.sealed_link.specs.declared.fault.WireFault.TheVariants.{BadLine, LongLine, Spent, NoMemory}
@@ -56,14 +56,14 @@ long_piece limit piece plain more = record { more = more; plain = All-take (λ b
 
 -- why the first of these lines isn't opened is why the bytes at which it stands aren't
 pub refused_line : (s : Sealing) (bytes line rest : List ℕ) (fault : WireFault) → bytes ≡ as_line line ++ rest → HasNoLf line
-    → IsUnopenable s line fault → IsRefused s bytes fault
+    → IsUnopenable s line fault → IsFrontRefused s bytes fault
 refused_line s bytes line rest BadLine begins plain is = (line, rest, begins, plain, is)
 refused_line s bytes line rest LongLine begins plain is = long_line sealed_limit bytes line rest begins plain is
 refused_line s bytes line rest Spent begins plain is = is
 refused_line s bytes line rest NoMemory begins plain is = is
 
 -- why a piece at the end isn't held
-pub refused_piece : (s : Sealing) (piece : List ℕ) (fault : WireFault) → HasNoLf piece → IsUnheld piece fault → IsRefused s piece fault
+pub refused_piece : (s : Sealing) (piece : List ℕ) (fault : WireFault) → HasNoLf piece → IsUnheld piece fault → IsFrontRefused s piece fault
 refused_piece s piece BadLine plain is = absurd is
 refused_piece s piece LongLine plain is = long_piece sealed_limit piece plain is
 refused_piece s piece Spent plain is = absurd is

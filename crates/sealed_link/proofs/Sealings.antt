@@ -5,14 +5,14 @@ use Rattle.std.proofs.lemmas.List.Elements.{All-append, All-nil}
 use Rattle.std.specs.List.{flat_map}
 use Rattle.byte_ends.specs.Lines.{as_line}
 use Rattle.line_reader.specs.Lines.{HasNoLf}
-use Rattle.sealed_link.specs.Lines.{SealTo, SealsFirst, SealsFront, with_line}
+use Rattle.sealed_link.specs.Lines.{SealTo, SealsFirst, SealsFront, with_sealed}
 use Rattle.sealed_link.specs.Wires.{Wiring, waiting_limit}
 
 seal_more : (old now new : Wiring) (lines : List (List ℕ)) (line : List ℕ) → SealTo old lines now → length now.waiting < waiting_limit
-    → new ≡ with_line now line → SealTo old (lines ++ line ∷ []) new
+    → new ≡ with_sealed now line → SealTo old (lines ++ line ∷ []) new
 seal_more old now new [] line is few next =
-    (subst (λ (w : Wiring). length w.waiting < waiting_limit) is few, next ∙ ap (λ w. with_line w line) is)
-seal_more old now new (l ∷ lines) line is few next = (is.0, seal_more (with_line old l) now new lines line is.1 few next)
+    (subst (λ (w : Wiring). length w.waiting < waiting_limit) is few, next ∙ ap (λ w. with_sealed w line) is)
+seal_more old now new (l ∷ lines) line is few next = (is.0, seal_more (with_sealed old l) now new lines line is.1 few next)
 
 all_of_one : (line : List ℕ) → HasNoLf line → All HasNoLf (line ∷ [])
 all_of_one line plain zero d lt = plain

@@ -1,8 +1,8 @@
 -- Who is let in.
 use Rattle.std.specs.Prelude.{◌≡◌, [], None}
 use Rattle.byte_ends.specs.Lines.{as_line}
-use Rattle.key_file.specs.Files.{Entry}
-use Rattle.sealed_line.specs.Greetings.{answer_text}
+use Rattle.key_file.specs.Files.{KeyEntry}
+use Rattle.sealed_line.specs.Greetings.{key_answer_text}
 use Rattle.sealed_line.specs.Keys.{AreKeys, both_lines}
 use Rattle.sealed_line.specs.declared.greeting.Answer.TheVariants.{Proved}
 use Rattle.sealed_line.specs.declared.greeting.Greeting.{Greeting}
@@ -16,9 +16,9 @@ abbrev pub new_wire : SessionKeys → Wiring
 new_wire keys = record { inward = keys.inward; held = []; fault = None; outward = keys.outward; waiting = [] }
 
 -- who has this key is let in: it has the role of the key, and the answer and the seals are those of the key over both lines
-pub record IsAdmitted (key : Entry) (greeting : Greeting) (reply : Reply) (admitted : Admitted) : Type 0 where
+pub record IsAdmitted (key : KeyEntry) (greeting : Greeting) (reply : Reply) (admitted : Admitted) : Type 0 where
   pub session : SessionKeys
   pub keys : AreKeys key.secret (both_lines greeting reply) session
   pub role : admitted.role ≡ key.role
-  pub answer : admitted.answer.items ≡ as_line (answer_text (Proved reply session.proof))
+  pub answer : admitted.answer.items ≡ as_line (key_answer_text (Proved reply session.proof))
   pub wire : admitted.wire ≡ new_wire session

@@ -1,5 +1,6 @@
 -- How a sealed connection is dialed.
-use Rattle.std.specs.Prelude.{◌≡◌, ◌≢◌, ◌⊎◌, ◌<◌, ℕ, List, [], ◌++◌, Option, Some, None, Result, Ok, Err, IsErrAnd, MatchResult, codes, length, take, option_map}
+use Rattle.std.specs.Prelude.{◌≡◌, ◌≢◌, ◌⊎◌, ◌<◌, ℕ, List, [], ◌++◌, Option, Some, None, Result, Ok, Err, IsErrAnd}
+use Rattle.std.specs.Prelude.{MatchResult, codes, length, take, option_map}
 use Rattle.std.specs.Io.KnownBytes.{Appends, IsAtEnd}
 use Rattle.byte_ends.specs.Failures.{OneFailed}
 use Rattle.byte_ends.specs.Lines.{as_line}
@@ -12,7 +13,7 @@ use Rattle.sealed_ends.specs.declared.link.LinkSource.{LinkSource}
 use Rattle.sealed_ends.specs.declared.link.LinkSource.TheVariants as from
 use Rattle.sealed_ends.specs.declared.link.LinkDrain.{LinkDrain}
 use Rattle.sealed_ends.specs.declared.link.LinkDrain.TheVariants as to
-use Rattle.sealed_line.specs.Greetings.{IsAnswer, answer_text, greeting_text}
+use Rattle.sealed_line.specs.Greetings.{IsKeyAnswer, key_answer_text, greeting_text}
 use Rattle.sealed_line.specs.Sealing.{Sealing}
 use Rattle.sealed_line.specs.Keys.{AreKeys, both_lines, id_under}
 use Rattle.sealed_line.specs.declared.greeting.Answer.{Answer}
@@ -21,7 +22,8 @@ use Rattle.sealed_line.specs.declared.greeting.Greeting.{Greeting}
 use Rattle.sealed_line.specs.declared.greeting.Reply.{Reply}
 use Rattle.sealed_line.specs.declared.keys.SessionKeys.{SessionKeys}
 use Rattle.sealed_link.specs.declared.fault.DialFault.{DialFault}
-use Rattle.sealed_link.specs.declared.fault.DialFault.TheVariants.{BadAnswer, NoKey, NoMemory, NotProved, ReadFault, WriteFault}
+use Rattle.sealed_link.specs.declared.fault.DialFault.TheVariants.{BadAnswer, NoKey, NoMemory, NotProved, ReadFault}
+use Rattle.sealed_link.specs.declared.fault.DialFault.TheVariants.{WriteFault}
 
 -- the first line of who has a secret
 abbrev pub greeting_of : List ℕ → ℕ → List ℕ → Greeting
@@ -35,23 +37,25 @@ proof_under secret greeting reply = hmac secret (codes "reviewgate proof" ++ bot
 abbrev pub answer_limit : ℕ
 answer_limit = 256
 
-abbrev pub IsNoAnswer : List ℕ → Type 0
-IsNoAnswer line = (answer : Answer) → IsAnswer answer → line ≢ answer_text answer
+abbrev pub IsNoKeyAnswer : List ℕ → Type 0
+IsNoKeyAnswer line = (answer : Answer) → IsKeyAnswer answer → line ≢ key_answer_text answer
 
 -- what the line of who answers comes to
 abbrev pub Judges : List ℕ → Greeting → List ℕ → Result SessionKeys DialFault → Type 0
 Judges secret greeting line (Ok keys) =
-    (reply : Reply) × (line ≡ answer_text (Proved reply keys.proof)) × AreKeys secret (both_lines greeting reply) keys
-Judges secret greeting line (Err NoKey) = line ≡ answer_text HasNoKey
+    (reply : Reply) × (line ≡ key_answer_text (Proved reply keys.proof))
+    × AreKeys secret (both_lines greeting reply) keys
+Judges secret greeting line (Err NoKey) = line ≡ key_answer_text HasNoKey
 Judges secret greeting line (Err NotProved) =
-    (reply : Reply) × (proof : List ℕ) × (line ≡ answer_text (Proved reply proof)) × (proof ≢ proof_under secret greeting reply)
-Judges secret greeting line (Err BadAnswer) = IsNoAnswer line
+    (reply : Reply) × (proof : List ℕ) × (line ≡ key_answer_text (Proved reply proof))
+    × (proof ≢ proof_under secret greeting reply)
+Judges secret greeting line (Err BadAnswer) = IsNoKeyAnswer line
 Judges secret greeting line (Err ReadFault) = ⊥
 Judges secret greeting line (Err WriteFault) = ⊥
 Judges secret greeting line (Err NoMemory) = Unit {0}
 
--- why no line came, where these bytes came and those are left: an end failed, or the line of who answers is too long, or is
--- cut off
+-- why no line came, where these bytes came and those are left: an end failed, or the line of who answers is too long,
+-- or is cut off
 abbrev pub IsUnanswered : List ℕ → Option (List ℕ) → DialFault → Type 0
 IsUnanswered came left ReadFault = HasNoLf came
 IsUnanswered came left WriteFault = came ≡ []
@@ -61,13 +65,13 @@ IsUnanswered came left NotProved = ⊥
 IsUnanswered came left NoMemory = Unit {0}
 
 -- why the greeting isn't sent
-abbrev pub IsUngreeted : DialFault → Type 0
-IsUngreeted ReadFault = ⊥
-IsUngreeted WriteFault = Unit {0}
-IsUngreeted BadAnswer = ⊥
-IsUngreeted NoKey = ⊥
-IsUngreeted NotProved = ⊥
-IsUngreeted NoMemory = Unit {0}
+abbrev pub IsUnsentGreeting : DialFault → Type 0
+IsUnsentGreeting ReadFault = ⊥
+IsUnsentGreeting WriteFault = Unit {0}
+IsUnsentGreeting BadAnswer = ⊥
+IsUnsentGreeting NoKey = ⊥
+IsUnsentGreeting NotProved = ⊥
+IsUnsentGreeting NoMemory = Unit {0}
 
 -- what dialing answers, where these bytes came and those are left
 abbrev pub Dials : List ℕ → Greeting → List ℕ → Option (List ℕ) → Result SessionKeys DialFault → Type 0
@@ -84,8 +88,8 @@ GreetsPart line old new NoKey = Appends old new line
 GreetsPart line old new NotProved = Appends old new line
 GreetsPart line old new ReadFault = Appends old new line
 
-abbrev pub Greets : {T : Type 0} → List ℕ → Option (List ℕ) → Option (List ℕ) → Result T DialFault → Type 0
-Greets line old new r = MatchResult r (λ _. Appends old new line) (GreetsPart line old new)
+abbrev pub GreetsByKey : {T : Type 0} → List ℕ → Option (List ℕ) → Option (List ℕ) → Result T DialFault → Type 0
+GreetsByKey line old new r = MatchResult r (λ _. Appends old new line) (GreetsPart line old new)
 
 -- the source, or the drain, fails once where that is the refusal, and else never
 abbrev pub CountsReadFault : ℕ → ℕ → DialFault → Type 0
@@ -99,16 +103,16 @@ CountsReadFault old new NoMemory = new ≡ old
 abbrev pub CountsReads : {T : Type 0} → ℕ → ℕ → Result T DialFault → Type 0
 CountsReads old new r = MatchResult r (λ _. new ≡ old) (CountsReadFault old new)
 
-abbrev pub CountsWriteFault : ℕ → ℕ → DialFault → Type 0
-CountsWriteFault old new WriteFault = OneFailed old new
-CountsWriteFault old new ReadFault = new ≡ old
-CountsWriteFault old new BadAnswer = new ≡ old
-CountsWriteFault old new NoKey = new ≡ old
-CountsWriteFault old new NotProved = new ≡ old
-CountsWriteFault old new NoMemory = new ≡ old
+abbrev pub CountsDialFault : ℕ → ℕ → DialFault → Type 0
+CountsDialFault old new WriteFault = OneFailed old new
+CountsDialFault old new ReadFault = new ≡ old
+CountsDialFault old new BadAnswer = new ≡ old
+CountsDialFault old new NoKey = new ≡ old
+CountsDialFault old new NotProved = new ≡ old
+CountsDialFault old new NoMemory = new ≡ old
 
 abbrev pub CountsWrites : {T : Type 0} → ℕ → ℕ → Result T DialFault → Type 0
-CountsWrites old new r = MatchResult r (λ _. new ≡ old) (CountsWriteFault old new)
+CountsWrites old new r = MatchResult r (λ _. new ≡ old) (CountsDialFault old new)
 
 -- the ends of who comes in, over these ends
 abbrev pub OpensWith : {S : Type 0} → Sealing → S → LinkSource S → Type 0
@@ -119,9 +123,10 @@ abbrev pub SealsWith : {D : Type 0} → Sealing → D → LinkDrain D → Type 0
 SealsWith seal drain (to.Plain _) = ⊥
 SealsWith seal drain (to.Sealed seals) = (drain_within seals ≡ drain) × (seals_under seals ≡ seal)
 
--- it writes lines that are sealed with the keys of who comes in, and reads those that are sealed with the keys of who answers;
--- none was written or read yet
-pub record AreEnds {S D : Type 0} (left : S → Option (List ℕ)) (taken : D → Option (List ℕ)) (keys : SessionKeys) (source : S) (drain : D)
+-- it writes lines that are sealed with the keys of who comes in, and reads those that are sealed with the keys of who
+-- answers; none was written or read yet
+pub record AreSealedEnds {S D : Type 0} (left : S → Option (List ℕ)) (taken : D → Option (List ℕ)) (keys : SessionKeys)
+    (source : S) (drain : D)
     (reads : LinkSource S) (writes : LinkDrain D) : Type 0 where
   pub opens : OpensWith keys.outward source reads
   pub seals : SealsWith keys.inward drain writes
@@ -129,8 +134,11 @@ pub record AreEnds {S D : Type 0} (left : S → Option (List ℕ)) (taken : D �
   pub nothing_written : link_taken taken writes ≡ option_map (λ _. []) (taken drain)
 
 -- the same of the ends that come of it
-abbrev pub DialsEnds : {S D : Type 0} → (S → Option (List ℕ)) → (D → Option (List ℕ)) → List ℕ → Greeting → List ℕ → S → D
+abbrev pub DialsEnds : {S D : Type 0} → (S → Option (List ℕ)) → (D → Option (List ℕ)) → List ℕ → Greeting → List ℕ → S
+    → D
     → Result (LinkSource S × LinkDrain D) DialFault → Type 0
 DialsEnds left taken secret greeting came source drain (Ok ends) =
-    (keys : SessionKeys) × Dials secret greeting came (left source) (Ok keys) × AreEnds left taken keys source drain ends.0 ends.1
-DialsEnds left taken secret greeting came source drain (Err fault) = Dials secret greeting came (left source) (Err fault)
+    (keys : SessionKeys) × Dials secret greeting came (left source) (Ok keys)
+    × AreSealedEnds left taken keys source drain ends.0 ends.1
+DialsEnds left taken secret greeting came source drain (Err fault) =
+    Dials secret greeting came (left source) (Err fault)

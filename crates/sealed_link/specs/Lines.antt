@@ -1,19 +1,22 @@
 -- How lines that came are opened, and lines that go out are sealed, one after the other.
-use Rattle.std.specs.Prelude.{◌≡◌, ◌⊎◌, ◌<◌, ◌≤◌, ℕ, List, [], ◌∷◌, ◌++◌, All, Option, Some, None, Result, Ok, Err, length, drop, take}
+use Rattle.std.specs.Prelude.{◌≡◌, ◌⊎◌, ◌<◌, ◌≤◌, ℕ, List, [], ◌∷◌, ◌++◌, All, Option, Some, None, Result, Ok, Err}
+use Rattle.std.specs.Prelude.{length, drop, take}
 use Rattle.std.specs.List.{flat_map}
 use Rattle.byte_ends.specs.Lines.{as_line}
 use Rattle.line_reader.specs.Lines.{HasNoLf, IsTooLong}
-use Rattle.sealed_line.specs.Sealing.{IsNoSeal, Opens, Sealing, after_line, crossed, last_count, most_bytes, sealed}
+use Rattle.sealed_line.specs.Sealing.{IsNoSeal, Opens, Sealing, after_line, crossed, last_count, most_line_bytes}
+use Rattle.sealed_line.specs.Sealing.{sealed}
 use Rattle.sealed_link.specs.Wires.{Wiring, sealed_limit, waiting_limit}
 use Rattle.sealed_link.specs.declared.fault.WireFault.{WireFault}
 use Rattle.sealed_link.specs.declared.fault.WireFault.TheVariants.{BadLine, LongLine, Spent, NoMemory}
 
--- each of these lines is the seal of one under its count; their texts, each with its LF, are this text, and the next line
--- is opened under that seal
+-- each of these lines is the seal of one under its count; their texts, each with its LF, are this text, and the next
+-- line is opened under that seal
 abbrev pub OpenTo : Sealing → List (List ℕ) → List ℕ → Sealing → Type 0
 OpenTo s [] text next = (text ≡ []) × (next ≡ s)
 OpenTo s (line ∷ lines) text next =
-    (first : List ℕ) × (rest : List ℕ) × Opens s line first × (text ≡ as_line first ++ rest) × OpenTo (after_line s) lines rest next
+    (first : List ℕ) × (rest : List ℕ) × Opens s line first × (text ≡ as_line first ++ rest)
+    × OpenTo (after_line s) lines rest next
 
 -- the bytes begin with whole lines that open to this text; the rest follows them
 pub record OpensFront (s : Sealing) (bytes text rest : List ℕ) (next : Sealing) : Type 0 where
@@ -37,15 +40,17 @@ IsUnheld piece Spent = ⊥
 IsUnheld piece NoMemory = Unit {0}
 
 -- why the line at the front of these bytes isn't opened
-abbrev pub IsRefused : Sealing → List ℕ → WireFault → Type 0
-IsRefused s bytes BadLine = (line : List ℕ) × (rest : List ℕ) × (bytes ≡ as_line line ++ rest) × HasNoLf line × IsNoSeal s line
-IsRefused s bytes LongLine = IsTooLong sealed_limit bytes
-IsRefused s bytes Spent = s.count ≡ last_count
-IsRefused s bytes NoMemory = Unit {0}
+abbrev pub IsFrontRefused : Sealing → List ℕ → WireFault → Type 0
+IsFrontRefused s bytes BadLine =
+    (line : List ℕ) × (rest : List ℕ) × (bytes ≡ as_line line ++ rest) × HasNoLf line × IsNoSeal s line
+IsFrontRefused s bytes LongLine = IsTooLong sealed_limit bytes
+IsFrontRefused s bytes Spent = s.count ≡ last_count
+IsFrontRefused s bytes NoMemory = Unit {0}
 
 -- whole lines at the front of the bytes open to this text, and what follows them isn't opened
 abbrev pub IsRefusedAfter : Sealing → List ℕ → List ℕ → WireFault → Type 0
-IsRefusedAfter s bytes text fault = (rest : List ℕ) × (next : Sealing) × OpensFront s bytes text rest next × IsRefused next rest fault
+IsRefusedAfter s bytes text fault =
+    (rest : List ℕ) × (next : Sealing) × OpensFront s bytes text rest next × IsFrontRefused next rest fault
 
 -- what a refusal leaves as it was
 pub record KeepsRest (old new : Wiring) : Type 0 where
@@ -53,7 +58,8 @@ pub record KeepsRest (old new : Wiring) : Type 0 where
   pub outward : new.outward ≡ old.outward
   pub waiting : new.waiting ≡ old.waiting
 
--- the bytes that came, after those that were held, are lines that open to this text, and a piece of a line, which is held
+-- the bytes that came, after those that were held, are lines that open to this text, and a piece of a line, which is
+-- held
 pub record OpensAll (old : Wiring) (came text : List ℕ) (new : Wiring) : Type 0 where
   pub front : OpensFront old.inward (old.held ++ came) text new.held new.inward
   pub piece : HasNoLf new.held
@@ -72,14 +78,15 @@ OpensCame old came text (Err fault) new =
     × (new.fault ≡ Some fault) × (new.outward ≡ old.outward) × (new.waiting ≡ old.waiting)
 
 -- a wire after one line more was sealed
-abbrev pub with_line : Wiring → List ℕ → Wiring
-with_line w line =
-    record w { outward = after_line w.outward; waiting = w.waiting ++ as_line (sealed w.outward (crossed w.outward line)) }
+abbrev pub with_sealed : Wiring → List ℕ → Wiring
+with_sealed w line =
+    record w
+    { outward = after_line w.outward; waiting = w.waiting ++ as_line (sealed w.outward (crossed w.outward line)) }
 
 -- these lines were sealed, one after the other, each while less than 65,536 bytes waited
 abbrev pub SealTo : Wiring → List (List ℕ) → Wiring → Type 0
 SealTo old [] new = new ≡ old
-SealTo old (line ∷ lines) new = (length old.waiting < waiting_limit) × SealTo (with_line old line) lines new
+SealTo old (line ∷ lines) new = (length old.waiting < waiting_limit) × SealTo (with_sealed old line) lines new
 
 -- so many bytes of the text are its first line, which was sealed
 pub record SealsFirst (old : Wiring) (text : List ℕ) (count : ℕ) (new : Wiring) : Type 0 where
@@ -88,7 +95,7 @@ pub record SealsFirst (old : Wiring) (text : List ℕ) (count : ℕ) (new : Wiri
   pub within : count ≤ length text
   pub front : take count text ≡ as_line line
   pub few : length old.waiting < waiting_limit
-  pub all : new ≡ with_line old line
+  pub all : new ≡ with_sealed old line
 
 -- so many bytes of the text are lines that were sealed
 pub record SealsFront (old : Wiring) (text : List ℕ) (count : ℕ) (new : Wiring) : Type 0 where
@@ -101,10 +108,11 @@ pub record SealsFront (old : Wiring) (text : List ℕ) (count : ℕ) (new : Wiri
 -- why a line isn't sealed
 abbrev pub IsUnsealable : Sealing → List ℕ → WireFault → Type 0
 IsUnsealable s line BadLine = ⊥
-IsUnsealable s line LongLine = most_bytes < length line
+IsUnsealable s line LongLine = most_line_bytes < length line
 IsUnsealable s line Spent = s.count ≡ last_count
 IsUnsealable s line NoMemory = Unit {0}
 
 -- why the line at the front of this text isn't sealed
 abbrev pub IsHeldUp : Sealing → List ℕ → WireFault → Type 0
-IsHeldUp s text fault = (line : List ℕ) × (rest : List ℕ) × (text ≡ as_line line ++ rest) × HasNoLf line × IsUnsealable s line fault
+IsHeldUp s text fault =
+    (line : List ℕ) × (rest : List ℕ) × (text ≡ as_line line ++ rest) × HasNoLf line × IsUnsealable s line fault

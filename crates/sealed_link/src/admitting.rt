@@ -2,8 +2,8 @@
 
 ghost use Rattle.std.specs.Prelude.{◌≡◌, ◌≢◌, ◌++◌, All, IfOk, MatchOption, codes};
 ghost use Rattle.byte_ends.specs.Lines.{as_line};
-ghost use Rattle.key_file.specs.Files.{Entry, IsFirst};
-ghost use Rattle.sealed_line.specs.Greetings.{answer_text};
+ghost use Rattle.key_file.specs.Files.{KeyEntry, IsFirstKey};
+ghost use Rattle.sealed_line.specs.Greetings.{key_answer_text};
 ghost use Rattle.sealed_line.specs.Keys.{id_under};
 ghost use Rattle.sealed_link.specs.Admits.{IsAdmitted};
 
@@ -30,7 +30,7 @@ pub fn admit(
     nonce: [u8; 16],
 ) -> Result<Option<Admitted>, AllocError>
     ensures { IfOk result (λ found. MatchOption found (All (λ key. id_under key.secret ≢ greeting.now.id) keys.now)
-        (λ admitted. (key : Entry) × IsFirst (λ key. id_under key.secret ≡ greeting.now.id) keys.now key
+        (λ admitted. (key : KeyEntry) × IsFirstKey (λ key. id_under key.secret ≡ greeting.now.id) keys.now key
         × IsAdmitted key greeting.now (record { site = site; nonce = nonce }) admitted)) }
 {
     match keys.letting_in(&greeting.id) {
@@ -69,7 +69,7 @@ pub fn refusal_line(alloc: Global) -> Result<Vec<u8>, AllocError>
 
 /// An answer as a line, with its line end.
 fn line_of(alloc: Global, answer: &Answer) -> Result<Vec<u8>, AllocError>
-    ensures { IfOk result (λ line. line.items ≡ as_line (answer_text answer.now)) }
+    ensures { IfOk result (λ line. line.items ≡ as_line (key_answer_text answer.now)) }
 {
     let mut line = Vec::new(alloc);
     answer.write(&mut line)?;

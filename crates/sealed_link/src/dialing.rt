@@ -4,8 +4,8 @@ ghost use Rattle.std.specs.Prelude.{◌≡◌, ◌≢◌, ◌++◌, [], ◌∷�
 ghost use Rattle.std.specs.Io.KnownBytes.{Consumes, IsAtEnd, Keeps};
 ghost use Rattle.byte_ends.specs.Lines.{as_line};
 ghost use Rattle.line_reader.specs.Lines.{HasNoLf};
-ghost use Rattle.sealed_line.specs.Greetings.{answer_text, greeting_text};
-ghost use Rattle.sealed_link.specs.Begins.{AreEnds, CountsReads, CountsWrites, Dials, DialsEnds, Greets, IsUnanswered, IsUngreeted, Judges, greeting_of};
+ghost use Rattle.sealed_line.specs.Greetings.{key_answer_text, greeting_text};
+ghost use Rattle.sealed_link.specs.Begins.{AreSealedEnds, CountsReads, CountsWrites, Dials, DialsEnds, GreetsByKey, IsUnanswered, IsUnsentGreeting, Judges, greeting_of};
 ghost use Rattle.sealed_line.specs.declared.greeting.Answer.TheVariants.{Proved};
 
 use super::fault::DialFault;
@@ -33,7 +33,7 @@ pub fn dial<S: Source, D: Drain>(
 ) -> Result<SessionKeys, DialFault>
     ensures reads { (came : List ℕ) × Consumes (S.left source.old) (S.left source.new) came
         × Dials secret.now (greeting_of secret.now site nonce) came (S.left source.new) result }
-    ensures writes { Greets (as_line (greeting_text (greeting_of secret.now site nonce))) (D.taken drain.old) (D.taken drain.new) result }
+    ensures writes { GreetsByKey (as_line (greeting_text (greeting_of secret.now site nonce))) (D.taken drain.old) (D.taken drain.new) result }
     ensures read_faults { CountsReads (S.failed source.old) (S.failed source.new) result }
     ensures write_faults { CountsWrites (D.failed drain.old) (D.failed drain.new) result }
 {
@@ -59,7 +59,7 @@ pub fn dialed<S: Source + Drop, D: Drain + Drop>(
     drain: D,
 ) -> Result<(LinkSource<S>, LinkDrain<D>), DialFault>
     ensures { (came : List ℕ) × (later : S) × (end : D) × Consumes (S.left source) (S.left later) came
-        × Greets (as_line (greeting_text (greeting_of secret.now site nonce))) (D.taken drain) (D.taken end) result
+        × GreetsByKey (as_line (greeting_text (greeting_of secret.now site nonce))) (D.taken drain) (D.taken end) result
         × DialsEnds S.left D.taken secret.now (greeting_of secret.now site nonce) came later end result }
 {
     let mut source = source;
@@ -77,7 +77,7 @@ fn sealed_over<S: Source, D: Drain>(
     source: S,
     drain: D,
 ) -> (LinkSource<S>, LinkDrain<D>)
-    ensures { AreEnds S.left D.taken keys source drain result.0 result.1 }
+    ensures { AreSealedEnds S.left D.taken keys source drain result.0 result.1 }
 {
     let SessionKeys {
         proof: _,
@@ -92,9 +92,9 @@ fn sealed_over<S: Source, D: Drain>(
 
 /// Sends the first line.
 fn greet<D: Drain>(alloc: Global, greeting: &Greeting, drain: &mut D) -> Result<(), DialFault>
-    ensures took { Greets (as_line (greeting_text greeting.now)) (D.taken drain.old) (D.taken drain.new) result }
+    ensures took { GreetsByKey (as_line (greeting_text greeting.now)) (D.taken drain.old) (D.taken drain.new) result }
     ensures counted { CountsWrites (D.failed drain.old) (D.failed drain.new) result }
-    ensures fault { IfErr result IsUngreeted }
+    ensures fault { IfErr result IsUnsentGreeting }
 {
     let Ok(line) = greeting_line(alloc, greeting) else {
         return Err(DialFault::NoMemory);
@@ -193,7 +193,7 @@ fn judged(
     greeting: &Greeting,
     answer: &Answer,
 ) -> Result<SessionKeys, DialFault>
-    ensures { Judges secret.now greeting.now (answer_text answer.now) result }
+    ensures { Judges secret.now greeting.now (key_answer_text answer.now) result }
 {
     match answer {
         Answer::Proved(reply, proof) => proved_keys(alloc, secret, greeting, reply, proof),
@@ -209,7 +209,7 @@ fn proved_keys(
     reply: &Reply,
     proof: &[u8; 32],
 ) -> Result<SessionKeys, DialFault>
-    ensures { Judges secret.now greeting.now (answer_text (Proved reply.now proof.now)) result }
+    ensures { Judges secret.now greeting.now (key_answer_text (Proved reply.now proof.now)) result }
 {
     let Ok(keys) = session_keys(alloc, secret, greeting, reply) else {
         return Err(DialFault::NoMemory);

@@ -23,5 +23,5 @@ abbrev pub uptake_by : {T : Type 0} → (T → Uptake) → Result T SinkFault �
 uptake_by says (Ok value) = says value
 uptake_by says (Err fault) = declined fault
 
-abbrev pub taken_by : Result (Unit {0}) SinkFault → Uptake
-taken_by = uptake_by (λ _. took)
+abbrev pub uptake_of : Result (Unit {0}) SinkFault → Uptake
+uptake_of = uptake_by (λ _. took)

@@ -5,7 +5,7 @@ ghost use Rattle.review_ops.specs.Draft.{deed_of};
 ghost use Rattle.site_port.specs.Ports.{Call, Reply, takes_in, lacks, reports, looks, stamped, lacked, judged, looked};
 ghost use Rattle.site_port.specs.Ports.{reply_by, IsLookingFault};
 ghost use Rattle.site_port.specs.Sinks.{Offer, Uptake, at_time, clocks, fronts, hands, reached, took, uptake_by};
-ghost use Rattle.site_port.specs.Sinks.{taken_by};
+ghost use Rattle.site_port.specs.Sinks.{uptake_of};
 
 use super::fault::{PortFault, SinkFault};
 use ready_core::Verdicts;
@@ -55,5 +55,5 @@ pub trait Sink {
 
     /// Takes these operations, in their order. Where it is refused, some of them may have been taken.
     fn take_all(&mut self, ops: Vec<Op>) -> Result<(), SinkFault>
-        ensures { sinks self.old (hands ops.items) (taken_by result) self.new };
+        ensures { sinks self.old (hands ops.items) (uptake_of result) self.new };
 }

@@ -4,7 +4,7 @@ use Rattle.gossip_line.specs.Texts.{refusal_line, stamp_line}
 use Rattle.gossip_line.specs.declared.fault.LineFault.{LineFault}
 use Rattle.review_ops.specs.Timestamp.{Timestamp}
 use Rattle.site_serve.specs.Outboxes.{Adds}
-use Rattle.site_serve.specs.SitePorts.{fault_of}
+use Rattle.site_serve.specs.SitePorts.{port_fault_of}
 use Rattle.site_shared.specs.declared.fault.DeskFault.{DeskFault}
 
 -- the stamp is added to what it was answered, where there is one
@@ -13,4 +13,4 @@ SaysStamp stamp old new = IfSome stamp (λ stamp. (result : Result Bool LineFaul
 
 -- the refusal is added to it
 abbrev pub SaysFault : DeskFault → List ℕ → List ℕ → Type 0
-SaysFault fault old new = (result : Result Bool LineFault) × Adds (refusal_line (fault_of fault)) (Ok true) old new result
+SaysFault fault old new = (result : Result Bool LineFault) × Adds (refusal_line (port_fault_of fault)) (Ok true) old new result

@@ -22,6 +22,6 @@ next_number None = 1
 next_number (Some latest) = min (latest.number + 1) (2 ^ 64 - 1)
 
 -- the gate is in force in place of the latest one, under the next number
-abbrev pub Follows : Option InForce → GateRules → Option InForce → Type 0
-Follows latest gate None = ⊥
-Follows latest gate (Some newer) = (gate_in newer ≡ gate) × (newer.number ≡ next_number latest)
+abbrev pub SucceedsGate : Option InForce → GateRules → Option InForce → Type 0
+SucceedsGate latest gate None = ⊥
+SucceedsGate latest gate (Some newer) = (gate_in newer ≡ gate) × (newer.number ≡ next_number latest)

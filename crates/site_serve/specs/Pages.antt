@@ -4,7 +4,7 @@ use Rattle.gate_rules.specs.Rules.{GateRules}
 use Rattle.page_routes.specs.declared.page.Page.{Page}
 use Rattle.page_routes.specs.declared.page.Status.TheVariants.{Unavailable}
 use Rattle.page_routes.specs.declared.route.Route.{Route}
-use Rattle.page_text.specs.Answer.{IsAnswer}
+use Rattle.page_text.specs.Answer.{IsPageAnswer}
 use Rattle.page_text.specs.declared.facts.Facts.{Facts}
 use Rattle.ready_core.specs.Verdicts.{AreVerdicts, Judged}
 use Rattle.review_ops.specs.Operation.{Operation}
@@ -14,7 +14,7 @@ use Rattle.state_core.specs.State.{state_of}
 -- the page answers the route by a record and the verdicts on just that, with these figures of the site
 abbrev pub IsPageOf : GateRules → Facts → List Operation → Judged → Route → Page → Type 0
 IsPageOf gate facts journal judged route page =
-    IsAnswer gate (state_of journal) (length journal) judged facts route page
+    IsPageAnswer gate (state_of journal) (length journal) judged facts route page
 
 -- the page is of one moment: of what was published up to there, with the verdicts on that
 abbrev pub IsOfMoment : GateRules → Facts → List (List Operation) → Route → Page → Type 0

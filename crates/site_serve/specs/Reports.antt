@@ -26,10 +26,10 @@ pub record AreChangesOf (gate : GateRules) (seen : List (List Operation)) (befor
   pub listed_is : listed ≡ listed_of judged
 
 -- what is printed of a look, and what is listed after it, by what was listed before
-abbrev pub IsShown : Prints → GateRules → List (List Operation) → Judged → List ℕ → Judged → Type 0
-IsShown Report gate seen before text listed = IsReportOf gate seen text
-IsShown Changes gate seen before text listed = AreChangesOf gate seen before text listed
-IsShown Nothing gate seen before text listed = text ≡ []
+abbrev pub IsPrintedOf : Prints → GateRules → List (List Operation) → Judged → List ℕ → Judged → Type 0
+IsPrintedOf Report gate seen before text listed = IsReportOf gate seen text
+IsPrintedOf Changes gate seen before text listed = AreChangesOf gate seen before text listed
+IsPrintedOf Nothing gate seen before text listed = text ≡ []
 
 -- the watch has the gate, and the verdicts on the journal of just these publishes
 pub record IsWatchOn (gate : GateRules) (seen : List (List Operation)) (watch : Watched) : Type 0 where

@@ -22,10 +22,10 @@ use Rattle.site_shared.specs.declared.fault.DeskFault.TheVariants as desk
 use Rattle.state_core.specs.State.{state_of}
 
 -- how a session is answered what the desk refuses
-abbrev pub fault_of : DeskFault → PortFault
-fault_of desk.ClockSpent = port.ClockSpent
-fault_of (desk.BadBody cause) = port.BadBody cause
-fault_of (desk.NoMemory count) = port.NoMemory
+abbrev pub port_fault_of : DeskFault → PortFault
+port_fault_of desk.ClockSpent = port.ClockSpent
+port_fault_of (desk.BadBody cause) = port.BadBody cause
+port_fault_of (desk.NoMemory count) = port.NoMemory
 
 -- what is answered at a moment at which the window has seen so much
 abbrev pub SaysAtMoment : GateRules → List (List Operation) → Call → Reply → Type 0

@@ -8,7 +8,7 @@ ghost use Rattle.report_changes.specs.Lines.{changes_text};
 ghost use Rattle.report_changes.specs.Listing.{listed_of};
 ghost use Rattle.report_text.specs.Report.{report_of};
 ghost use Rattle.site_serve.specs.Fault.{after_window};
-ghost use Rattle.site_serve.specs.Reports.{IsShown};
+ghost use Rattle.site_serve.specs.Reports.{IsPrintedOf};
 ghost use Rattle.site_shared.specs.Accounts.{GoesOn};
 ghost use Rattle.state_core.specs.Items.{item_cmp};
 
@@ -167,7 +167,7 @@ fn next_shown<J: Naming>(
     requires { ForSome kept.old (λ watch. watch.watch.gate ≡ gate.now) }
     ensures gate { ForSome kept.new (λ watch. watch.watch.gate ≡ gate.now) }
     ensures later { GoesOn window.old.window window.new.window }
-    ensures shown { IfOk result (λ shown. IsShown prints gate.now window.new.window.seen before.now shown.text.items
+    ensures shown { IfOk result (λ shown. IsPrintedOf prints gate.now window.new.window.seen before.now shown.text.items
         shown.listed) }
 {
     if prints == Prints::Nothing {
@@ -199,7 +199,7 @@ fn shown_of<J: Naming>(
     watch: &OwnWatch<J>,
     before: &Listed,
 ) -> Result<Shown, ServeFault>
-    ensures { IfOk result (λ shown. IsShown prints watch.now.watch.gate watch.now.watch.seen before.now shown.text.items
+    ensures { IfOk result (λ shown. IsPrintedOf prints watch.now.watch.gate watch.now.watch.seen before.now shown.text.items
         shown.listed) }
 {
     let Some(verdicts) = watch.verdicts() else {

@@ -5,7 +5,7 @@ ghost use Rattle.std.specs.Option.{ForSome};
 ghost use Rattle.replica_core.specs.JournalLaws.{IsPartOf};
 ghost use Rattle.site_port.specs.Ports.{IsLookingFault};
 ghost use Rattle.site_serve.specs.InForce.{ruling_gate};
-ghost use Rattle.site_serve.specs.SitePorts.{HaveStamps, fault_of, stamps_of};
+ghost use Rattle.site_serve.specs.SitePorts.{HaveStamps, port_fault_of, stamps_of};
 ghost use Rattle.site_shared.specs.Accounts.{GoesOn};
 ghost use Rattle.site_shared.specs.Publishes.{arrive};
 
@@ -222,7 +222,7 @@ impl<'a, R: Wait, J: Naming> Sink for PullPort<'a, R, J> {
 
 /// How a port refuses where the desk does.
 pub fn desk_fault(fault: DeskFault) -> PortFault
-    ensures { result ≡ fault_of fault }
+    ensures { result ≡ port_fault_of fault }
 {
     match fault {
         DeskFault::ClockSpent => PortFault::ClockSpent,

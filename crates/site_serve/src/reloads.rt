@@ -2,7 +2,7 @@
 
 ghost use Rattle.std.specs.Prelude.{◌≡◌, ◌<◌, IfOk, IfSome};
 ghost use Rattle.std.specs.Arc.{arc_value};
-ghost use Rattle.site_serve.specs.InForce.{Follows, gate_in};
+ghost use Rattle.site_serve.specs.InForce.{SucceedsGate, gate_in};
 
 use super::bell::Bell;
 use gate_rules::Gate;
@@ -63,7 +63,7 @@ struct Latest {
 impl Latest {
     /// Puts a gate in force in place of the latest.
     fn put(&mut self, gate: Arc<Gate, Global>)
-        ensures { Follows self.old.in_force (arc_value gate) self.new.in_force }
+        ensures { SucceedsGate self.old.in_force (arc_value gate) self.new.in_force }
     {
         let number = match &self.in_force {
             Some(latest) => latest.number.saturating_add(1),

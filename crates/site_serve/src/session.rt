@@ -10,7 +10,7 @@ ghost use Rattle.site_port.specs.Ports.{reply_by, stamped};
 ghost use Rattle.site_serve.specs.Answered.{SaysFault, SaysStamp};
 ghost use Rattle.site_serve.specs.Channels.{IsSent, outgoing_of};
 ghost use Rattle.site_serve.specs.Outboxes.{Adds};
-ghost use Rattle.site_serve.specs.SitePorts.{fault_of};
+ghost use Rattle.site_serve.specs.SitePorts.{port_fault_of};
 
 use super::ask::{Answer, Done};
 use super::channel::{Channel, Knock};

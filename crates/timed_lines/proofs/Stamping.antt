@@ -9,7 +9,7 @@ use Rattle.jiff_core.specs.declared.timestamp.Timestamp.{Timestamp}
 use Rattle.jiff_fmt.specs.declared.temporal.printer.DateTimePrinter.{DateTimePrinter}
 use Rattle.jiff_fmt.specs.Printer.{IsTimestampText, options}
 use Rattle.jiff_fmt.specs.Text.{datetime_text, zulu_text}
-use Rattle.timed_lines.specs.Times.{IsOneLine, IsStamp, Stamps, WritesFront, WritesPart, is_open}
+use Rattle.timed_lines.specs.Times.{IsWithinLine, IsStamp, Stamps, WritesFront, WritesPart, is_open}
 
 -- what a printer with a `T` and three places writes of a moment, and a space, is its stamp
 pub stamped : (printer : DateTimePrinter) (moment : Timestamp) (text stamp : List ℕ)
@@ -49,7 +49,7 @@ module _ {M : Type 0} (reads : M → Option ℤ → M → Type 0) (old new : M) 
   -- the stamp was written, and a front of a part of the bytes
   pub writes_part : (in_line : Bool) (stamp bytes part : List ℕ) (count n : ℕ) (now_in_line : Bool)
       → Stamps reads in_line old stamp new → Appends a c (stamp ++ take count part) → part ≡ take n bytes → count ≤ n
-      → IsOneLine bytes n → now_in_line ≡ is_open (take count part)
+      → IsWithinLine bytes n → now_in_line ≡ is_open (take count part)
       → WritesPart reads bytes count in_line old a now_in_line new c
   writes_part in_line stamp bytes part count n now_in_line stamps written front few line is =
       let same : take count part ≡ take count bytes = ap (take count) front ∙ take-take count n bytes few in (

@@ -14,8 +14,8 @@ IsStamp (Some moment) stamp =
     (date : DateTime) × (civil_nanos date ≡ moment) × (stamp ≡ datetime_text false 84 (Some 3) date ++ codes "Z ")
 
 -- the first bytes, so many of them, are of one line: none but the last is an LF
-abbrev pub IsOneLine : List ℕ → ℕ → Type 0
-IsOneLine bytes count = (at : ℕ) → at + 1 < count → ¬ (slice_index bytes at ≡ 10)
+abbrev pub IsWithinLine : List ℕ → ℕ → Type 0
+IsWithinLine bytes count = (at : ℕ) → at + 1 < count → ¬ (slice_index bytes at ≡ 10)
 
 -- whether a part of a line leaves the line open: it doesn't end with an LF
 abbrev pub is_open : List ℕ → Bool
@@ -33,7 +33,7 @@ module _ {M : Type 0} (reads : M → Option ℤ → M → Type 0) where
   abbrev pub WritesPart : List ℕ → ℕ → Bool → M → Option (List ℕ) → Bool → M → Option (List ℕ) → Type 0
   WritesPart bytes count in_line old taken now_in_line new now_taken =
       (stamp : List ℕ) × Stamps in_line old stamp new × Appends taken now_taken (stamp ++ take count bytes)
-      × IsOneLine bytes count × (now_in_line ≡ is_open (take count bytes))
+      × IsWithinLine bytes count × (now_in_line ≡ is_open (take count bytes))
 
   -- the write fails: a front of the stamp and the bytes is written at most, and a line is begun where one was before
   abbrev pub WritesFront : List ℕ → Bool → M → Option (List ℕ) → Bool → M → Option (List ℕ) → Type 0

@@ -4,7 +4,7 @@ ghost use Rattle.std.specs.Prelude.{◌≡◌, ◌++◌, ◌<◌, ◌≤◌, ℕ
 ghost use Rattle.std.specs.Io.{WritesAtMost};
 ghost use Rattle.std.specs.Io.KnownBytes.{Appends, WriteAppends};
 ghost use Rattle.byte_ends.specs.Failures.{CountsFailure};
-ghost use Rattle.timed_lines.specs.Times.{IsOneLine, Stamps, WritesFront, WritesPart, is_open};
+ghost use Rattle.timed_lines.specs.Times.{IsWithinLine, Stamps, WritesFront, WritesPart, is_open};
 
 use super::moments::Moments;
 use super::stamp::{FRONT, joined, stamp_of};
@@ -110,7 +110,7 @@ fn line_part(bytes: &[u8]) -> &[u8]
     ensures front { result.now ≡ take (length result.now) bytes.now }
     ensures some { 0 < length result.now }
     ensures few { length result.now ≤ length bytes.now }
-    ensures line { IsOneLine bytes.now (length result.now) }
+    ensures line { IsWithinLine bytes.now (length result.now) }
 {
     match memchr(b'\n', bytes) {
         Some(at) => &bytes[..at + 1],

@@ -14,7 +14,7 @@ use Rattle.world_core.specs.declared.event.Event.{Event}
 use Rattle.world_core.specs.declared.event.Event.TheVariants.{Intake, Send, Deliver, Save, Restart}
 use Rattle.world_core.specs.declared.event.Reply.TheVariants.{Took, Packet, Delivered, Saved, Restarted}
 use Rattle.world_core.specs.declared.event.WorldFault.TheVariants.{StartUsed, ClockSpent, BadBody, NoMemory}
-use Rattle.world_core.specs.Convergence.{stamps_of, made, NoTwins, SiteHolds, WorldHolds}
+use Rattle.world_core.specs.Convergence.{stamps_answered, made, NoTwins, SiteHolds, WorldHolds}
 use Rattle.replica_core.specs.Passing.{AreTwins}
 use Rattle.replica_core.specs.JournalLaws.{IsPartOf, has-arrived, has-all_arrived, has-append_cases, has-append_left}
 use Rattle.replica_core.specs.JournalLaws.{has-append_right, one_is, filtered, same_operation_cases, has-first}
@@ -28,7 +28,7 @@ use Rattle.world_core.proofs.Stamps.{took_next}
 
 -- ---- one operation for each stamp
 pub made_stamps : {A : Type 0} (events : List (Event A)) (answers : List Answer) (old new : WorldState)
-    → Run old events answers new → map (λ op. op.stamp) (made events answers) ≡ stamps_of answers
+    → Run old events answers new → map (λ op. op.stamp) (made events answers) ≡ stamps_answered answers
 made_stamps [] [] old new h = refl
 made_stamps (Intake site draft ∷ events) (Ok (Took stamp) ∷ answers) old new h =
     ap (λ l. stamp ∷ l) (made_stamps events answers h.0 new h.2)

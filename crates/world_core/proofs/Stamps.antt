@@ -17,7 +17,7 @@ use Rattle.world_core.specs.declared.event.Event.TheVariants.{Intake, Send, Deli
 use Rattle.world_core.specs.declared.event.Reply.TheVariants.{Took, Delivered, Saved, Restarted}
 use Rattle.world_core.specs.declared.event.WorldFault.TheVariants.{NoSite, NoPacket, StartUsed, ClockSpent, BadBody}
 use Rattle.world_core.specs.declared.event.WorldFault.TheVariants.{NoMemory}
-use Rattle.world_core.specs.Convergence.{stamps_of, NoTwins}
+use Rattle.world_core.specs.Convergence.{stamps_answered, NoTwins}
 use Rattle.replica_core.specs.Passing.{AreTwins}
 use Rattle.replica_core.specs.JournalLaws.{IsPartOf, part_passes, one_passes, kept-arrived, kept-all_arrived}
 use Rattle.replica_core.specs.JournalLaws.{has-arrived, has-append_right}
@@ -245,7 +245,7 @@ differs old stamp other new (at, found, stands) was twins =
 
 answers_differ : {A : Type 0} (stamp : Timestamp) (events : List (Event A)) (answers : List Answer)
     (old new : WorldState) → StandsAfter old stamp → Run old events answers new → AllByRecursion
-    (λ other. ¬ AreTwins stamp other) (stamps_of answers)
+    (λ other. ¬ AreTwins stamp other) (stamps_answered answers)
 answers_differ stamp [] [] old new stands h = tt
 answers_differ stamp (event ∷ events) (Ok (Took other) ∷ answers) old new stands h =
     (differs old stamp other h.0 stands (took_next old event other h.0 h.1).0, answers_differ stamp events answers h.0 new (stands_on old event (Ok (Took other)) h.0 stamp h.1 stands) h.2)
@@ -255,7 +255,7 @@ answers_differ stamp [] (answer ∷ answers) old new stands h = absurd h
 answers_differ stamp (event ∷ events) [] old new stands h = tt
 
 pub run_stamps : {A : Type 0} (events : List (Event A)) (answers : List Answer) (old new : WorldState)
-    → Run old events answers new → NoTwins (stamps_of answers)
+    → Run old events answers new → NoTwins (stamps_answered answers)
 run_stamps [] [] old new h = tt
 run_stamps (event ∷ events) (Ok (Took stamp) ∷ answers) old new h =
     let was = (took_next old event stamp h.0 h.1).0 in

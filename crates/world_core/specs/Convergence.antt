@@ -66,10 +66,10 @@ came_to packets site events answers = (came_on packets site nothing events answe
 -- ---- what intakes made
 
 -- the stamps that a run's intakes answer
-abbrev pub stamps_of : List Answer → List Timestamp
-stamps_of [] = []
-stamps_of (Ok (Took stamp) ∷ answers) = stamp ∷ stamps_of answers
-stamps_of (answer ∷ answers) = stamps_of answers
+abbrev pub stamps_answered : List Answer → List Timestamp
+stamps_answered [] = []
+stamps_answered (Ok (Took stamp) ∷ answers) = stamp ∷ stamps_answered answers
+stamps_answered (answer ∷ answers) = stamps_answered answers
 
 -- the operations that they make
 abbrev pub made : {A : Type 0} → List (Event A) → List Answer → List Operation
@@ -110,7 +110,7 @@ pub record Converges {A : Type 0} (events : List (Event A)) (answers : List Answ
   pub agree : (site other : ℕ)
       → IsSameSet (came_to world.packets site events answers) (came_to world.packets other events answers)
       → IfSome (numbered world.sites site) (λ at. IfSome (numbered world.sites other) (Agree at))
-  pub stamps : NoTwins (stamps_of answers)
+  pub stamps : NoTwins (stamps_answered answers)
   pub made : WorldHolds (λ op. has (made events answers) op ≡ true) world
 
 -- a run from empty sites that led to the world

@@ -3,7 +3,7 @@ use Rattle.std.proofs.lemmas.Result.{err_from_is_err_and}
 use Rattle.std.specs.Prelude.{IsUtf8}
 use Rattle.footer_text.specs.Footers.{AreFooters}
 use Rattle.gate_rules.specs.Spelling.{SpellsGate}
-use Rattle.commands.specs.Answers.{AreFooterLines, IsWhole, MissesNone, footers_as}
+use Rattle.commands.specs.Answers.{AreFooterLines, IsPrintedWhole, MissesNone, footers_as}
 use Rattle.console.specs.Printing.{Prints}
 use Rattle.console.specs.Inputs.{gate_file, input, message_file}
 use Rattle.commands.proofs.HowItEnds.{both_had, finishes, second_refused, stops}
@@ -43,7 +43,7 @@ returns g c =
           (λ text. SpellsGate text c.in_ok-rules.rules) (λ text spells. (c.in_ok-rules.rules, spells))
           (λ text. text ≡ string_bytes c.in_ok-message.message)
           (λ text is. subst IsUtf8 (sym (is ∙ text_is)) c.as_str.utf8) _ _ _ first second,
-      finishes (IsWhole (AreFooterLines first.0 second.0 c.args.change c.args.is_json) MissesNone)
+      finishes (IsPrintedWhole (AreFooterLines first.0 second.0 c.args.change c.args.is_json) MissesNone)
           (footers_as c.args.is_json c.in_ok-rules.rules.bases found.0 found.1) _ _ c.print.result
           (record {
             rules = c.in_ok-rules.rules;

@@ -5,7 +5,7 @@ use Rattle.gate_rules.specs.Spelling.{SpellsGate}
 use Rattle.graph_text.specs.Drawing.{IsGraphText}
 use Rattle.replica_core.specs.Journal.{all_arrived}
 use Rattle.state_core.specs.State.{state_of}
-use Rattle.commands.specs.Answers.{HasAround, IsAround, IsOf, IsPicture, IsWhole, Misses}
+use Rattle.commands.specs.Answers.{HasAround, IsAround, IsOf, IsPicture, IsPrintedWhole, Misses}
 use Rattle.commands.proofs.HowItEnds.{finishes, nothing_printed}
 use Rattle.commands.proofs.OfRecord.{not_there, record_had, snapshot_refused}
 use Rattle.commands.proofs.graph.graph.Goals as goal
@@ -27,7 +27,7 @@ returns-in-Ok g c =
       g.C.Console.state c.read_record.new.console,
       record_had c.args.gate.now c.args.snapshot.now rules (λ text. SpellsGate text rules)
           (λ text spells. spells) second.0 _ _ _ first second.2,
-      finishes (IsWhole (IsOf first.0 second.2.0 (IsPicture c.args.around)) (Misses (IsAround c.args.around) second.2.0 (HasAround c.args.around))) c.as_bytes.result.now _ _ c.print.result
+      finishes (IsPrintedWhole (IsOf first.0 second.2.0 (IsPicture c.args.around)) (Misses (IsAround c.args.around) second.2.0 (HasAround c.args.around))) c.as_bytes.result.now _ _ c.print.result
           (record {
             rules = rules;
             spelled = first.2;

@@ -4,7 +4,7 @@ use Rattle.gate_rules.specs.Spelling.{SpellsGate}
 use Rattle.ready_core.specs.Verdicts.{AreVerdicts}
 use Rattle.replica_core.specs.Journal.{all_arrived}
 use Rattle.state_core.specs.State.{state_of}
-use Rattle.commands.specs.Answers.{IsOf, IsReport, IsWhole, MissesNone, report_as}
+use Rattle.commands.specs.Answers.{IsOf, IsReport, IsPrintedWhole, MissesNone, report_as}
 use Rattle.commands.proofs.HowItEnds.{stops, whole_so}
 use Rattle.commands.proofs.Simulated.{finishes_so}
 use Rattle.commands.proofs.OfRecord.{record_had, snapshot_refused}
@@ -40,7 +40,7 @@ returns g c =
       g.C.Console.state c.read_record.new.console,
       record_had c.args.gate.now c.args.snapshot.now rules (λ text. SpellsGate text rules)
           (λ text spells. spells) second.0 _ _ _ first second.2,
-      finishes_so (IsWhole (λ answer. answer ≡ report_as c.args.is_json c.in-Ok.verdicts) MissesNone) _
+      finishes_so (IsPrintedWhole (λ answer. answer ≡ report_as c.args.is_json c.in-Ok.verdicts) MissesNone) _
           (whole_so (λ answer. answer ≡ report_as c.args.is_json c.in-Ok.verdicts) (IsOf first.0 second.2.0 (IsReport c.args.is_json)) MissesNone
           (λ answer same. record {
             rules = rules;

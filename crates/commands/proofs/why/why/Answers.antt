@@ -7,7 +7,7 @@ use Rattle.state_core.specs.declared.item.Item.{Item}
 use Rattle.why_text.specs.Asked.{IsItemAsked}
 use Rattle.console.specs.declared.refusals.Refusal.{Refusal}
 use Rattle.console.specs.declared.refusals.Refusal.TheVariants.{Memory, NoItem}
-use Rattle.commands.specs.Answers.{HasItem, IsItemText, IsOf, IsReason, IsWhole, Misses}
+use Rattle.commands.specs.Answers.{HasItem, IsItemText, IsOf, IsWhyAnswer, IsPrintedWhole, Misses}
 use Rattle.commands.proofs.HowItEnds.{finishes, nothing_printed}
 use Rattle.commands.proofs.OfRecord.{not_there, record_had, snapshot_refused}
 use Rattle.commands.proofs.why.why.Goals as goal
@@ -31,17 +31,17 @@ returns-in-Ok g c =
       record_had c.args.gate.now c.args.snapshot.now file.rules
           (λ text. SpellsGate text file.rules × (text ≡ file.text.items))
           (λ text is. is.0) second.0 _ _ _ first second.2,
-      finishes (IsWhole (IsOf first.0 second.2.0 (IsReason first.0 c.args.change c.args.set c.args.is_all c.args.is_json)) (Misses (IsItemText c.args.change c.args.set) second.2.0 (HasItem c.args.change c.args.set))) c.as_slice.result.now _ _ c.print.result
+      finishes (IsPrintedWhole (IsOf first.0 second.2.0 (IsWhyAnswer first.0 c.args.change c.args.set c.args.is_all c.args.is_json)) (Misses (IsItemText c.args.change c.args.set) second.2.0 (HasItem c.args.change c.args.set))) c.as_slice.result.now _ _ c.print.result
           (record {
             rules = file.rules;
             spelled = first.2.0;
             ops = second.0;
             says = second.2.2;
             so =
-                subst (IsReason first.0 c.args.change c.args.set c.args.is_all c.args.is_json file.rules (state_of (all_arrived [] second.0)))
+                subst (IsWhyAnswer first.0 c.args.change c.args.set c.args.is_all c.args.is_json file.rules (state_of (all_arrived [] second.0)))
                 (sym c.as_slice.ensures.value)
-                (subst (λ s. IsReason first.0 c.args.change c.args.set c.args.is_all c.args.is_json file.rules s c.in-Ok.text.items) state
-                (subst (λ t. IsReason t c.args.change c.args.set c.args.is_all c.args.is_json file.rules c.state.result.now c.in-Ok.text.items) (sym first.2.1) c.in-Ok.ensures.reason));
+                (subst (λ s. IsWhyAnswer first.0 c.args.change c.args.set c.args.is_all c.args.is_json file.rules s c.in-Ok.text.items) state
+                (subst (λ t. IsWhyAnswer t c.args.change c.args.set c.args.is_all c.args.is_json file.rules c.state.result.now c.in-Ok.text.items) (sym first.2.1) c.in-Ok.ensures.reason));
           })
           c.print.ensures,
     )
@@ -69,7 +69,7 @@ returns g c =
           (λ text is. is.0) second.0 _ _ _ first second.2,
       inl (
         [],
-        not_there (IsOf first.0 second.2.0 (IsReason first.0 c.args.change c.args.set c.args.is_all c.args.is_json))
+        not_there (IsOf first.0 second.2.0 (IsWhyAnswer first.0 c.args.change c.args.set c.args.is_all c.args.is_json))
             (IsItemText c.args.change c.args.set) second.2.0
             (HasItem c.args.change c.args.set) c.in-Err.refusal second.0 c.state.result.now second.2.2 state
             (no_item c.args.change c.args.set c.state.result.now c.in-Err.refusal c.in-Err.ensures.refused),

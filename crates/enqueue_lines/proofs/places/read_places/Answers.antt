@@ -1,7 +1,7 @@
 use Rattle.std.proofs.Common.{◌≡◌, ◌∙◌, ◌-◌, ◌<◌, ◌∷◌, true, false, List, ℕ, Some, arith, sym, subst, ap, suc, take, drop, lit<}
 use Rattle.std.specs.Prelude.{slice_get}
 use Rattle.byte_ends.specs.Lines.{lines_of}
-use Rattle.enqueue_lines.specs.Places.{AddsLine, ArePlaces}
+use Rattle.enqueue_lines.specs.Places.{AddsLine, ArePlacesOfRows}
 use Rattle.enqueue_lines.proofs.Rows.{all_taken, places_more, take_next}
 use Rattle.enqueue_lines.proofs.places.read_places.Goals as goal
 
@@ -23,12 +23,12 @@ loop-line-preserved c =
     let more = places_more (take c.loop-line.number all) c.in-Some.line.now c.loop-line.places c.add_line.new.places c.loop-line.invariant.placed says in
     record {
       left = sym next.1 ∙ ap (λ n. drop n all) (sym place);
-      placed = subst (λ (lines : List (List ℕ)). ArePlaces lines c.add_line.new.places) (sym next.0 ∙ ap (λ n. take n all) (sym place)) more;
+      placed = subst (λ (lines : List (List ℕ)). ArePlacesOfRows lines c.add_line.new.places) (sym next.0 ∙ ap (λ n. take n all) (sym place)) more;
       few = c.loop-line.invariant.few;
     }
 
 pub returns-clause-read : goal.returns-clause-read
 returns-clause-read c =
     let all = lines_of c.args.text.now in
-    subst (λ (lines : List (List ℕ)). ArePlaces lines c.loop-line.places)
+    subst (λ (lines : List (List ℕ)). ArePlacesOfRows lines c.loop-line.places)
     (all_taken c.loop-line.number all (sym c.loop-line.invariant.left ∙ c.in_default.ensures.0)) c.loop-line.invariant.placed

@@ -2,7 +2,7 @@ use Rattle.std.proofs.Common.{◌≡◌, ◌∙◌, sym, ap, subst}
 use Rattle.std.specs.Prelude.{IsTrue, IfOk, ◌↔◌}
 use Rattle.review_ops.specs.Deed.{Deed}
 use Rattle.change_core.specs.Change.{Change, no_change}
-use Rattle.event_filter.specs.Recorded.{Records, change_at, change_or_none}
+use Rattle.event_filter.specs.Recorded.{HasDeed, change_at, change_or_none}
 use Rattle.event_filter.proofs.recorded.is_recorded.Goals as goal
 
 pub returns-in-None : goal.returns-in-None
@@ -11,7 +11,7 @@ returns-in-None g c =
     let deed : Deed = c.args.body.now in
     let answer = c.says-in-None-2.result in
     let absent : change_at state c.change.result ≡ no_change = ap change_or_none (sym c.in-None.ensures) in
-    let of_change : Change → Type 0 = λ change. IfOk answer (λ said. IsTrue said ↔ Records change deed) in
-    let of_deed : Deed → Type 0 = λ d. IfOk answer (λ said. IsTrue said ↔ Records no_change d) in
+    let of_change : Change → Type 0 = λ change. IfOk answer (λ said. IsTrue said ↔ HasDeed change deed) in
+    let of_deed : Deed → Type 0 = λ d. IfOk answer (λ said. IsTrue said ↔ HasDeed no_change d) in
     subst of_change (sym absent ∙ ap (change_at state) c.change.ensures.value)
     (subst of_deed c.draft-in-None.ensures.value (rw c.new.ensures at c.says-in-None-2.ensures))

@@ -1,11 +1,11 @@
 use Rattle.std.proofs.Common.{◌≡◌, ◌++◌, IsUtf8, length, map}
-use Rattle.enqueue_lines.specs.Template.{part_of, spells}
+use Rattle.enqueue_lines.specs.Template.{template_part, spells}
 use Rattle.enqueue_lines.proofs.template.Template.read.Given as goal
 
 -- the pieces so far, and what is left, are the whole text
 abbrev pub invariant-loop-plain : goal.invariant-loop-plain
 invariant-loop-plain l = record {
-  whole : l.text ≡ spells (map part_of l.pieces.items) ++ l.rest;
+  whole : l.text ≡ spells (map template_part l.pieces.items) ++ l.rest;
   text : IsUtf8 l.rest;
 }
 

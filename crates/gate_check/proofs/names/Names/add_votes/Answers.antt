@@ -6,14 +6,14 @@ use Rattle.std.specs.Map.Iter.{deref_pair}
 use Rattle.std.proofs.lemmas.Map.Iter.{rest_more, rest_all}
 use Rattle.change_core.specs.Parts.{slot_of}
 use Rattle.change_core.specs.Slots.{Slot}
-use Rattle.gate_check.specs.Names.{labels_of, voters_of, with_each}
+use Rattle.gate_check.specs.Names.{known_labels, voters_of, with_each}
 use Rattle.gate_check.specs.Shown.{names_shown}
 use Rattle.gate_check.proofs.Gathered.{each_done, each_more, slots_of}
 use Rattle.gate_check.proofs.names.Names.add_votes.Goals as goal
 
 pub loop-slot-init : goal.loop-slot-init
 loop-slot-init c = record {
-  labels = ap (λ l. with_each (names_shown c.args.self.now).labels (labels_of (slots_of l))) c.into_iter-slot-iterator.ensures.into_iter_gives.1;
+  labels = ap (λ l. with_each (names_shown c.args.self.now).labels (known_labels (slots_of l))) c.into_iter-slot-iterator.ensures.into_iter_gives.1;
   voters = ap (λ l. with_each (names_shown c.args.self.now).voters (voters_of (slots_of l))) c.into_iter-slot-iterator.ensures.into_iter_gives.1;
 }
 

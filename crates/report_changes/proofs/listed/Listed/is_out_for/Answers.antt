@@ -2,7 +2,7 @@ use Rattle.std.proofs.Common.{◌≡◌, ◌∙◌, ap, subst, Contains}
 use Rattle.std.specs.List.Sorted.{IsStrictlySortedBy}
 use Rattle.state_core.specs.Items.{item_cmp}
 use Rattle.ready_core.specs.Verdicts.{Judged, items_out}
-use Rattle.report_changes.specs.Listing.{IsRefusedFor}
+use Rattle.report_changes.specs.Listing.{IsLeftOutFor}
 use Rattle.report_changes.proofs.Members.{for_by, none_for}
 use Rattle.report_changes.proofs.listed.Listed.is_out_for.Goals as goal
 
@@ -13,7 +13,7 @@ returns-in-Some c =
     c.is_same.ensures
     ∙ for_by c.args.self.now
     (subst (λ out. IsStrictlySortedBy item_cmp (items_out out)) kept c.self.invariant.out_is) c.args.left c.in-Some.refusal
-    (subst (λ out. IsRefusedFor out c.args.left.item c.in-Some.refusal) shown c.in-Some.ensures)
+    (subst (λ out. IsLeftOutFor out c.args.left.item c.in-Some.refusal) shown c.in-Some.ensures)
 
 pub returns-in-None : goal.returns-in-None
 returns-in-None c =

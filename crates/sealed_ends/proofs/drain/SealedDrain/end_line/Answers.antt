@@ -1,7 +1,7 @@
 use Rattle.std.proofs.Common.{◌≡◌, ◌<◌, ◌+◌, ◌∙◌, ◌++◌, [], List, ℕ, Some, ap, length, sym, take}
 use Rattle.byte_ends.specs.Lines.{as_line}
 use Rattle.sealed_line.specs.Sealing.{crossed, sealed, tag_of}
-use Rattle.sealed_ends.specs.Opened.{line_text}
+use Rattle.sealed_ends.specs.Opened.{opened_line}
 use Rattle.sealed_ends.proofs.Opening.{line_is}
 use Rattle.sealed_ends.proofs.Plain.{plain-encoded}
 use Rattle.sealed_ends.proofs.Writing.{at_count, line_sent, part_sent, plain_part}
@@ -16,7 +16,7 @@ returns-in-Ok-send-clause-ok g c =
     let ok = c.in-Ok.ensures.ok in
     let items : c.as_slice-2.result.now ≡ as_line line =
     c.as_slice-2.ensures.value ∙ ok.0 ∙ ap (λ (l : List ℕ). l ++ as_line line) c.new-line.ensures.items in
-    let opens : line_text s line ≡ Some self.held.items = line_is s line text c.in-Ok.ensures.opens ∙ ap Some c.as_slice.ensures.value in
+    let opens : opened_line s line ≡ Some self.held.items = line_is s line text c.in-Ok.ensures.opens ∙ ap Some c.as_slice.ensures.value in
     rw (c.if-self.false, ok.1, c.clear.ensures.items)
     (line_sent (at_count s self.first) s.count self.held.items self.sent c.send.new.sent (g.D.Drain.taken self.drain) (g.D.Drain.taken c.send.new.drain)
     line (plain-encoded (crossed s text ++ tag_of s (crossed s text))) opens (rw items at c.in-Ok-send.ensures.ok))
