@@ -8,7 +8,7 @@ use Rattle.change_core.specs.Slots.{Slot}
 use Rattle.state_core.specs.State.{State}
 use Rattle.gerrit_events.specs.Claims.{Claim, drafts, shows, lists, refuses}
 use Rattle.gerrit_events.specs.Listings.{Listing}
-use Rattle.gerrit_events.specs.Reading.{ClaimsAreSettled, IsSaidByRecord as Settles}
+use Rattle.gerrit_events.specs.Reading.{ClaimsAreSettled, IsSettled as Settles}
 use Rattle.gerrit_events.specs.declared.fault.EventFault.TheVariants.{BadEvent, Dropped}
 use Rattle.gerrit_events.specs.declared.finding.Finding.{Finding}
 use Rattle.gerrit_events.specs.declared.finding.Finding.TheVariants.{Brings, Shows, Lists, Refuses}

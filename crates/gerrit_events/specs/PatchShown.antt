@@ -1,6 +1,6 @@
 -- A patch set as a line shows it, as contracts see it.
 use Rattle.std.specs.Prelude.{option_map}
-use Rattle.gerrit_events.specs.declared.patch.Patch.{ShownPatch as DeclaredPatch}
+use Rattle.gerrit_events.specs.declared.patch.Patch.{Patch as DeclaredPatch}
 use Rattle.gerrit_events.specs.Patches.{ShownPatch}
 
 abbrev pub patch_shown : DeclaredPatch → ShownPatch

@@ -14,7 +14,7 @@ use Rattle.state_core.specs.ItemLaws.{items_total}
 use Rattle.std.proofs.lemmas.Option.{get_or_from_slice_get, slice_get-map}
 use Rattle.lattice_core.specs.MemberLaws.{Contains-of_map, Contains-to_map}
 use Rattle.lattice_core.specs.PlaceLaws.{Contains-at, at_Contains, one_place}
-use Rattle.lattice_core.specs.PlaceLaws.{same_is_one as one_at}
+use Rattle.lattice_core.specs.PlaceLaws.{one_item as one_at}
 use Rattle.ready_core.specs.declared.verdicts.Left.{Left}
 use Rattle.ready_core.specs.declared.verdicts.Refusal.{Refusal}
 use Rattle.ready_core.specs.Verdicts.{IsOutAt, Judged, items_out}
