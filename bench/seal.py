@@ -110,6 +110,7 @@ class Side:
     def __init__(self, connection, stream, keys_of_both, mine, theirs):
         self.connection, self.stream, self.keys = connection, stream, keys_of_both
         self.mine, self.theirs, self.sent, self.got = mine, theirs, 0, 0
+        self.heard = []
 
     def line(self, text):
         line = sealed(self.keys["tags " + self.mine], self.keys["cipher " + self.mine], self.sent, text)
@@ -121,15 +122,18 @@ class Side:
         self.stream.flush()
 
     def hear(self):
-        """The next text, None at the end. A line that isn't sealed ends with ValueError."""
-        line = self.stream.readline()
-        if not line.endswith(b"\n"):
-            return None
-        text = opened(self.keys["tags " + self.theirs], self.keys["cipher " + self.theirs], self.got, line[:-1])
-        if text is None:
-            raise ValueError(line)
-        self.got += 1
-        return text
+        """The next line, of which a text may have several; None at the end. A line that isn't sealed ends with
+        ValueError."""
+        if not self.heard:
+            line = self.stream.readline()
+            if not line.endswith(b"\n"):
+                return None
+            text = opened(self.keys["tags " + self.theirs], self.keys["cipher " + self.theirs], self.got, line[:-1])
+            if text is None:
+                raise ValueError(line)
+            self.got += 1
+            self.heard = text.split(b"\n")
+        return self.heard.pop(0)
 
 
 def secret_of(keyfile, name):
@@ -251,9 +255,17 @@ def truth(address, secret):
     return None not in told
 
 
+def at_once(address, secret):
+    """Whether two lines that are sealed as one text are both answered."""
+    side = dialed(address, secret)
+    side.say(b"hello 2\nready")
+    return side.hear() is not None and side.hear() is not None
+
+
 def try_all(address, secret):
     """Each check by its name; 1 where one fails."""
-    checks = {"the truth": lambda: truth(address, secret), "a key that isn't there": lambda: unknown(address)}
+    checks = {"the truth": lambda: truth(address, secret), "two lines at once": lambda: at_once(address, secret),
+              "a key that isn't there": lambda: unknown(address)}
     for name in ("a flipped bit", "a repeated line", "a reflected line", "an early line", "a plain line", "no base64",
                  "a short line", "a line that is cut"):
         checks[name] = lambda name=name: told(address, secret, name)

@@ -1,8 +1,8 @@
 -- The file of keys: a key a line, `NAME ROLE SECRET`. Lines that are empty or begin with `#` are passed over.
-use Rattle.std.specs.Prelude.{◌≡◌, ◌⊎◌, ◌<◌, ◌≤◌, ℕ, ◌+◌, ◌==◌, ◌&&◌, ◌||◌, nat_le, Bool, true, List, [], ◌∷◌, ◌++◌}
+use Rattle.std.specs.Prelude.{◌≡◌, ◌⊎◌, ℕ, ◌+◌, List, [], ◌∷◌, ◌++◌}
 use Rattle.std.specs.Prelude.{All, codes, length, take, slice_index}
-use Rattle.std.specs.List.{list_all}
 use Rattle.hex.specs.Hex.{IsBytes, encode_lower}
+use Rattle.site_address.specs.Peer.{IsName}
 use Rattle.key_file.specs.declared.key.Role.{Role}
 use Rattle.key_file.specs.declared.key.Role.TheVariants.{Read, Feed}
 use Rattle.key_file.specs.declared.fault.KeyFault.{KeyFault}
@@ -13,17 +13,6 @@ pub record KeyEntry : Type 0 where
   pub name : List ℕ
   pub role : Role
   pub secret : List ℕ
-
--- a letter, a digit, `-`, `.` or `_`
-abbrev pub is_name_byte : ℕ → Bool
-is_name_byte b = (nat_le 48 b && nat_le b 57) || (nat_le 65 b && nat_le b 90) || (nat_le 97 b && nat_le b 122)
-    || (b == 45) || (b == 46) || (b == 95)
-
--- a name of a host or of a site
-pub record IsName (name : List ℕ) : Type 0 where
-  pub some : 0 < length name
-  pub few : length name ≤ 64
-  pub plain : list_all is_name_byte name ≡ true
 
 abbrev pub role_text : Role → List ℕ
 role_text Read = codes "read"

@@ -2,7 +2,9 @@
 
 ghost use Rattle.std.specs.Prelude.{◌≡◌, ◌≢◌, ◌⊎◌, ◌↔◌, ◌++◌, ◌∷◌, [], List, ℕ, IfErr, IfOk, IsTrue, MatchOption, MatchResult, All};
 ghost use Rattle.std.specs.List.{list_all};
-ghost use Rattle.key_file.specs.Files.{KeyEntry as AnyEntry, IsName, IsPassedOver, SaysKey, is_name_byte, role_text};
+ghost use Rattle.site_address.specs.Host.{is_plain_byte};
+ghost use Rattle.site_address.specs.Peer.{IsName};
+ghost use Rattle.key_file.specs.Files.{KeyEntry as AnyEntry, IsPassedOver, SaysKey, role_text};
 ghost use Rattle.key_file.specs.declared.fault.KeyFault.{KeyFault};
 ghost use Rattle.key_file.specs.declared.key.Role.{Role as AnyRole};
 
@@ -74,14 +76,14 @@ fn is_name(word: &[u8]) -> bool
 
 /// Whether a name may have each byte of a word.
 fn is_plain(word: &[u8]) -> bool
-    ensures { result ≡ list_all is_name_byte word.now }
+    ensures { result ≡ list_all is_plain_byte word.now }
 {
     word.iter().all(|byte| is_name_byte(*byte))
 }
 
 /// Whether a name may have a byte.
 fn is_name_byte(byte: u8) -> bool
-    ensures { result ≡ is_name_byte byte }
+    ensures { result ≡ is_plain_byte byte }
 {
     matches!(byte, b'0'..=b'9' | b'A'..=b'Z' | b'a'..=b'z' | b'-' | b'.' | b'_')
 }

@@ -75,10 +75,9 @@ padded_last byte key block long is =
     (λ k lt. let below : k < 64 = omega (arith, lt, is.long) in at_place byte key block long is k below (cases_lt k 32))
 
 -- the tag, by the two digests
-pub tag_by_digests : (key first second inner outer digest tag : List ℕ)
-    → inner ≡ inner_pad key → outer ≡ outer_pad key → digest ≡ sha256 (inner ++ first ++ second)
-    → tag ≡ sha256 (outer ++ digest ++ []) → tag ≡ hmac key (first ++ second)
+pub tag_by_digests : (key first second digest tag : List ℕ)
+    → digest ≡ sha256 (inner_pad key ++ first ++ second) → tag ≡ sha256 (outer_pad key ++ digest ++ []) → tag ≡ hmac key (first ++ second)
 unfolding hmac
-tag_by_digests key first second inner outer digest tag i o d t =
+tag_by_digests key first second digest tag d t =
     let whole = append_assoc (inner_pad key) first second in
-    t ∙ ap sha256 (append-nil (outer ++ digest)) ∙ rw (o, d, i) (ap (λ m. sha256 (outer_pad key ++ sha256 m)) whole)
+    t ∙ ap sha256 (append-nil (outer_pad key ++ digest)) ∙ rw d (ap (λ m. sha256 (outer_pad key ++ sha256 m)) whole)

@@ -1,2 +1,3 @@
 pub mod Hmac
 pub mod HmacFacts
+pub mod Pads

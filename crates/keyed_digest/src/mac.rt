@@ -1,6 +1,7 @@
 //! Makes tags, and compares them.
 
-ghost use Rattle.std.specs.Prelude.{◌≡◌, ◌++◌, ◌↔◌, IsTrue};
+ghost use Rattle.std.specs.Prelude.{◌≡◌, ◌++◌, ◌↔◌, List, ℕ, IsTrue};
+ghost use Rattle.sha2.specs.Hashers.{Holds256};
 ghost use Rattle.sha2.specs.Sha256.{sha256};
 ghost use Rattle.keyed_digest.specs.Hmac.{hmac, pad};
 
@@ -18,18 +19,26 @@ const INNER: u8 = 0x36;
 
 const OUTER: u8 = 0x5C;
 
-/// A key under which tags are made. Contracts see the key; nothing prints it.
+/// A key under which tags are made. Contracts see the key; nothing prints it. What hashed its pads is kept, so that no tag
+/// hashes them again.
 #[derive(Drop)]
 pub struct Mac {
     key: [u8; 32],
+    /// What has hashed the inner pad.
+    inner: Sha256,
+    /// What has hashed the outer pad.
+    outer: Sha256,
 }
 
 impl Model for Mac {
     ghost use Rattle.std.specs.Prelude.{List, ℕ};
+    ghost use Rattle.keyed_digest.specs.Pads.{HavePads};
 
     ghost Value = { List ℕ };
 
     ghost view = { λ mac. mac.key };
+
+    ghost invariant = { λ mac. HavePads mac.key mac.inner mac.outer };
 }
 
 impl Mac {
@@ -37,7 +46,11 @@ impl Mac {
     pub fn new(key: &[u8; 32]) -> Mac
         ensures { result ≡ key.now }
     {
-        Mac { key: *key }
+        Mac {
+            key: *key,
+            inner: hasher_of(padded(key, INNER).as_slice()),
+            outer: hasher_of(padded(key, OUTER).as_slice()),
+        }
     }
 
     /// The tag of a message, which is given in two parts: HMAC-SHA-256 of the one followed by the other. It takes no
@@ -45,8 +58,8 @@ impl Mac {
     pub fn tag(&self, first: &[u8], second: &[u8]) -> Tag
         ensures { result ≡ hmac self.now (first.now ++ second.now) }
     {
-        let inner = digest_of(padded(&self.key, INNER).as_slice(), first, second);
-        digest_of(padded(&self.key, OUTER).as_slice(), inner.as_slice(), &[])
+        let inner = digest_after(&self.inner, first, second);
+        digest_after(&self.outer, inner.as_slice(), &[])
     }
 
     /// Whether these bytes are the tag of a message in two parts. It looks at each byte of a tag, wherever the first
@@ -74,14 +87,22 @@ pub fn is_same(left: &[u8], right: &[u8]) -> bool
     difference == 0
 }
 
-/// SHA-256 of three parts of a message.
-fn digest_of(first: &[u8], second: &[u8], third: &[u8]) -> [u8; 32]
-    ensures { result ≡ sha256 (first.now ++ second.now ++ third.now) }
+/// What has hashed these bytes.
+fn hasher_of(bytes: &[u8]) -> Sha256
+    ensures { Holds256 result bytes.now }
 {
-    let mut hasher = Sha256::new();
+    Sha256::new_with_prefix(bytes)
+}
+
+/// SHA-256 of what was hashed and of two parts after that.
+fn digest_after(hashed: &Sha256, first: &[u8], second: &[u8]) -> [u8; 32]
+    ensures { (before : List ℕ) → Holds256 hashed.now before → result ≡ sha256 (before ++ first.now ++ second.now) }
+{
+    let Ok(mut hasher) = hashed.clone() else {
+        unreachable!()
+    };
     hasher.update(first);
     hasher.update(second);
-    hasher.update(third);
     hasher.finalize()
 }
 

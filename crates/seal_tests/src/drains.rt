@@ -36,6 +36,8 @@ fn what_is_written_is_read(rt: HostRuntime) -> Result<(), Fail> {
     assert_eq!(rt; written, (true, 0));
     let text = opened(alloc, sent.get_ref().as_slice())?;
     assert_eq!(rt; text.as_slice(), b"hello 2\n\nquit\n".as_slice());
+    let lines = sent.get_ref().iter().filter(|byte| **byte == b'\n');
+    assert_eq!(rt; lines.count(), 1);
     Ok(())
 }
 

@@ -1,7 +1,7 @@
 //! Sources of sealed lines.
 
-use byte_ends::{BytesFault, Ends, read_all};
-use sealed_ends::SealedSource;
+use byte_ends::{Broken, BytesFault, Ends, Source, read_all};
+use sealed_ends::{OpenFault, SealedSource};
 use sealed_line::Seal;
 use std::alloc::Global;
 use std::test::Fail;
@@ -48,5 +48,33 @@ fn a_bad_line_is_a_failed_read(rt: HostRuntime) -> Result<(), Fail> {
             Err(BytesFault::ReadFault)
         )
     );
+    Ok(())
+}
+
+/// Why the reading of a source failed; nothing where it didn't, or where it said so before.
+fn fault_of<S: Source + Drop>(alloc: Global, within: S) -> Option<OpenFault> {
+    let mut source = SealedSource::new(alloc, within, seal());
+    let is_none = source.fault().is_none();
+    let _read = read_all(alloc, &mut source, 80);
+    if is_none { source.fault() } else { None }
+}
+
+#[test]
+fn a_source_says_why_it_failed(rt: HostRuntime) -> Result<(), Fail> {
+    let alloc = rt.alloc();
+    let good = lines_and(alloc, b"")?;
+    let plain = lines_and(alloc, b"hello 2\n")?;
+    let unfinished = lines_and(alloc, b"AAAA")?;
+    let broken = Broken::at_call(Ends::new(good.as_slice()), 1);
+    assert_eq!(rt; fault_of(alloc, Ends::new(good.as_slice())), None);
+    assert_eq!(rt;
+        fault_of(alloc, Ends::new(plain.as_slice())),
+        Some(OpenFault::BadLine)
+    );
+    assert_eq!(rt;
+        fault_of(alloc, Ends::new(unfinished.as_slice())),
+        Some(OpenFault::CutLine)
+    );
+    assert_eq!(rt; fault_of(alloc, broken), Some(OpenFault::ReadFault));
     Ok(())
 }

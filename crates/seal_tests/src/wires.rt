@@ -28,6 +28,23 @@ fn wire(alloc: Global) -> Result<Wire, Fail> {
     Ok(Wire::new(alloc, keys(alloc)?))
 }
 
+/// The wire of who comes in: its keys are those of who answers, the other way round.
+fn other_wire(alloc: Global) -> Result<Wire, Fail> {
+    let SessionKeys {
+        proof,
+        inward,
+        outward,
+    } = keys(alloc)?;
+    Ok(Wire::new(
+        alloc,
+        SessionKeys {
+            proof,
+            inward: outward,
+            outward: inward,
+        },
+    ))
+}
+
 /// What seals the lines of who comes in.
 fn inward(alloc: Global) -> Result<Seal, Fail> {
     let SessionKeys {
@@ -216,30 +233,71 @@ fn note_all(wire: &mut Wire) {
     wire.note_sent(waits);
 }
 
-#[test]
-fn what_waits_is_bounded(rt: HostRuntime) -> Result<(), Fail> {
-    let alloc = rt.alloc();
-    let mut wire = wire(alloc)?;
-    let mut text = times(alloc, b'x', 30_000)?;
-    for at in 0..29_999_usize {
+/// So many bytes, of which each thousandth is a line end.
+fn lines_of_a_thousand(alloc: Global, count: usize) -> Result<Vec<u8>, Fail> {
+    let mut text = times(alloc, b'x', count)?;
+    for at in 0..count {
         if at % 1000 == 999
             && let Some(byte) = text.get_mut(at)
         {
             *byte = b'\n';
         }
     }
+    Ok(text)
+}
+
+#[test]
+fn what_waits_is_bounded(rt: HostRuntime) -> Result<(), Fail> {
+    let alloc = rt.alloc();
+    let mut wire = wire(alloc)?;
+    let text = lines_of_a_thousand(alloc, 89_999)?;
     let all = wire.seal(text.as_slice())?;
-    assert_eq!(rt; all, 29_000);
-    let more = wire.seal(text.as_slice())?;
     let waits = wire.waiting().len();
     let full = wire.seal(text.as_slice())?;
-    assert!(rt; more < 29_000);
-    assert!(rt; waits >= 65_536);
-    assert!(rt; waits < 68_000);
+    assert_eq!(rt; all, 64_000);
+    assert_eq!(rt; waits, 85_508);
     assert_eq!(rt; full, 0);
     note_all(&mut wire);
     assert!(rt; wire.waiting().is_empty());
-    assert!(rt; wire.seal(text.as_slice())? > 0);
+    assert_eq!(rt; wire.seal(text.as_slice())?, 64_000);
+    Ok(())
+}
+
+/// The sealed lines that a new wire makes of a text: how many bytes of it were sealed, the lines, and what they open to.
+#[derive(Drop)]
+struct Sent {
+    count: usize,
+    lines: usize,
+    text: Vec<u8>,
+}
+
+/// What a new wire makes of a text, opened by the seal of the other side.
+fn sent_of(alloc: Global, text: &[u8]) -> Result<Sent, Fail> {
+    let mut wire = wire(alloc)?;
+    let count = wire.seal(text)?;
+    let waits = wire.waiting();
+    let lines = waits.iter().filter(|byte| **byte == b'\n').count();
+    let mut other = other_wire(alloc)?;
+    let mut text = Vec::new(alloc);
+    other.open(waits, &mut text)?;
+    Ok(Sent { count, lines, text })
+}
+
+#[test]
+fn lines_are_sealed_at_once(rt: HostRuntime) -> Result<(), Fail> {
+    let alloc = rt.alloc();
+    let short = sent_of(alloc, b"one\ntwo\n\nthree")?;
+    assert_eq!(rt; (short.count, short.lines), (9, 1));
+    assert_eq!(rt; short.text.as_slice(), b"one\ntwo\n\n".as_slice());
+    let text = lines_of_a_thousand(alloc, 40_000)?;
+    let long = sent_of(alloc, text.as_slice())?;
+    assert_eq!(rt; (long.count, long.lines), (40_000, 3));
+    assert_eq!(rt; long.text.as_slice(), text.as_slice());
+    let mut one = times(alloc, b'y', 30_000)?;
+    one.extend_from_slice(b"\nlast\n")?;
+    let mixed = sent_of(alloc, one.as_slice())?;
+    assert_eq!(rt; (mixed.count, mixed.lines), (30_006, 2));
+    assert_eq!(rt; mixed.text.as_slice(), one.as_slice());
     Ok(())
 }
 

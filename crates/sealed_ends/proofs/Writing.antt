@@ -1,10 +1,10 @@
 -- A line more that was sealed and sent, and one that was sent in part.
-use Rattle.std.proofs.Common.{◌≡◌, ◌≢◌, ℕ, zero, suc, ◌<◌, ◌≤◌, ◌+◌, ◌-◌, ◌*◌, ◌/◌, ◌%◌, ◌==◌, ◌&&◌, ◌||◌, ◌++◌, [], ◌∷◌, true, false, Bool, List, Option, Some, None, sym, ◌∙◌, ap, refl, arith, length, take, drop, length-append, append_assoc, append-nil, take-append-drop, length-drop, length-take, All, cond, subst}
+use Rattle.std.proofs.Common.{◌≡◌, ◌≢◌, ℕ, ◌<◌, ◌≤◌, ◌+◌, ◌-◌, ◌==◌, ◌&&◌, ◌||◌, ◌++◌, [], ◌∷◌, true, false, Bool, List, Option, Some, None, sym, ◌∙◌, ap, refl, arith, length, take, drop, length-append, append_assoc, append-nil, take-append-drop, cond}
 use Rattle.std.specs.Prelude.{is_some, option_and_then, option_map}
 use Rattle.std.proofs.lemmas.List.{drop_all, length-take-le, take-append-le}
 use Rattle.std.proofs.lemmas.List.Elements.{All-take}
-use Rattle.std.proofs.lemmas.Bool.{and_from, and_parts, eq-eqb, eqb-true, ne_eqb}
-use Rattle.std.proofs.Math.Seq.{take-append_seam, drop-append_seam, drop-append-le}
+use Rattle.std.proofs.lemmas.Bool.{and_from, and_parts, eq-eqb, eqb-true}
+use Rattle.std.proofs.Math.Seq.{take-append_seam, drop-append-le}
 use Rattle.std.proofs.KnownBytes.{Appends-trans, Appends-kept}
 use Rattle.std.specs.Io.KnownBytes.{Appends, Keeps}
 use Rattle.byte_ends.specs.Lines.{as_line}
@@ -12,7 +12,7 @@ use Rattle.line_reader.specs.Lines.{HasNoLf}
 use Rattle.sealed_line.specs.Sealing.{Sealing, after_line}
 use Rattle.sealed_ends.specs.Opened.{opened_line, opened, put_first, opened_texts, then_texts, whole_lines}
 use Rattle.sealed_ends.specs.Sent.{IsTakenWhole}
-use Rattle.sealed_ends.proofs.Opening.{whole_first}
+use Rattle.sealed_ends.specs.OpenedFacts.{whole_first, whole_lines-none}
 use Rattle.sealed_ends.specs.Written.{all_open, ends_line, is_in_step, sent_last, written_texts}
 
 -- ---- bytes that end with a line end
@@ -56,14 +56,6 @@ pub whole_lines-append : (bytes more : List ℕ) → ends_line 10 bytes ≡ true
 unfolding ends_line whole_lines
 whole_lines-append [] more e = refl
 whole_lines-append (b ∷ bytes) more e = whole_after b bytes more e
-
-pub whole_lines-none : (piece : List ℕ) → HasNoLf piece → whole_lines piece ≡ []
-unfolding whole_lines
-whole_lines-none [] plain = refl
-whole_lines-none (b ∷ piece) plain =
-    let other : (b == 10) ≡ false = ne_eqb b 10 (plain 0 0 (omega arith)) in
-    let rest = whole_lines-none piece (λ k d lt. plain (suc k) d (omega (arith, lt))) in
-    rw (other, rest) refl
 
 whole_line : (line : List ℕ) → HasNoLf line → whole_lines (as_line line) ≡ line ∷ []
 unfolding whole_lines
@@ -110,25 +102,26 @@ opens_more s (first ∷ lines) line text every is =
 -- ---- what is taken
 
 module _ (s : Sealing) (next : ℕ) (held since : List ℕ) where
-  module _ (line : List ℕ) (plain : HasNoLf line) (is : opened_line (at_count s next) line ≡ Some held) where
+  module _ (piece line : List ℕ) (plain : HasNoLf line) (is : opened_line (at_count s next) line ≡ Some (held ++ piece)) where
     sent_line : (step : Bool) → is_in_step s next since ≡ step
-        → Appends (cond step (Some (opened s since ++ held)) None) (written_texts s (next + 1) false [] (since ++ as_line line)) (10 ∷ [])
+        → Appends (cond step (Some (opened s since ++ held)) None) (written_texts s (next + 1) false [] (since ++ as_line line)) (as_line piece)
     sent_line false e = tt
     sent_line true e =
         let parts = and_parts (ends_line 10 since) (all_open s (whole_lines since) && (s.count + length (whole_lines since) == next)) e in
         let inner = and_parts (all_open s (whole_lines since)) (s.count + length (whole_lines since) == next) parts.1 in
         let count : s.count + length (whole_lines since) ≡ next = eqb-true (s.count + length (whole_lines since)) next inner.1 in
-        let here : opened_line (at_count s (s.count + length (whole_lines since))) line ≡ Some held = ap (λ n. opened_line (at_count s n) line) count ∙ is in
-        let more = opens_more s (whole_lines since) line held inner.0 here in
+        let here : opened_line (at_count s (s.count + length (whole_lines since))) line ≡ Some (held ++ piece) = ap (λ n. opened_line (at_count s n) line) count ∙ is in
+        let more = opens_more s (whole_lines since) line (held ++ piece) inner.0 here in
         let lines : whole_lines (since ++ as_line line) ≡ whole_lines since ++ line ∷ [] =
         whole_lines-append since (as_line line) parts.0 ∙ ap (λ l. whole_lines since ++ l) (whole_line line plain) in
         let ends = ends_line-line since line in
         let counted : (s.count + length (whole_lines since ++ line ∷ []) == next + 1) ≡ true =
         eq-eqb _ _ (omega (arith, count, length-append (whole_lines since) (line ∷ []))) in
-        rw (lines, ends, more.open_all, counted, more.texts) (append-nil _ ∙ sym (append_assoc (opened s since) held (10 ∷ [])))
+        rw (lines, ends, more.open_all, counted, more.texts)
+        (append-nil _ ∙ ap (λ l. opened s since ++ l) (append_assoc held piece (10 ∷ [])) ∙ sym (append_assoc (opened s since) held (as_line piece)))
 
-    -- a line that was sent whole, by what the drain within took before and after
-    pub taken_line : Appends (written_texts s next false held since) (written_texts s (next + 1) false [] (since ++ as_line line)) (10 ∷ [])
+    -- lines that were sealed and sent whole, by what the drain within took before and after
+    pub taken_line : Appends (written_texts s next false held since) (written_texts s (next + 1) false [] (since ++ as_line line)) (as_line piece)
     taken_line = sent_line (is_in_step s next since) refl
 
   -- a piece of a line
@@ -170,15 +163,15 @@ pub piece_held : (s : Sealing) (next : ℕ) (broken : Bool) (held : List ℕ) (s
 piece_held s next broken held sent None piece = tt
 piece_held s next broken held sent (Some bytes) piece = taken_piece s next held (sent_last sent bytes) broken piece
 
-pub line_sent : (s : Sealing) (next : ℕ) (held : List ℕ) (sent later : ℕ) (old new : Option (List ℕ)) (line : List ℕ) → HasNoLf line
-    → opened_line (at_count s next) line ≡ Some held → IsTakenWhole old new sent later (as_line line)
-    → Appends (taken_of s next false held sent old) (taken_of s (next + 1) false [] later new) (10 ∷ [])
-line_sent s next held sent later None new line plain is sends = tt
-line_sent s next held sent later (Some bytes) None line plain is sends = absurd sends.took
-line_sent s next held sent later (Some bytes) (Some more) line plain is sends =
+pub line_sent : (s : Sealing) (next : ℕ) (held piece : List ℕ) (sent later : ℕ) (old new : Option (List ℕ)) (line : List ℕ) → HasNoLf line
+    → opened_line (at_count s next) line ≡ Some (held ++ piece) → IsTakenWhole old new sent later (as_line line)
+    → Appends (taken_of s next false held sent old) (taken_of s (next + 1) false [] later new) (as_line piece)
+line_sent s next held piece sent later None new line plain is sends = tt
+line_sent s next held piece sent later (Some bytes) None line plain is sends = absurd sends.took
+line_sent s next held piece sent later (Some bytes) (Some more) line plain is sends =
     let since : sent_last later more ≡ sent_last sent bytes ++ as_line line =
     ap (λ n. sent_last n more) sends.counted ∙ ap (sent_last (sent + length (as_line line))) sends.took ∙ last_of-more sent bytes (as_line line) in
-    rw since (taken_line s next held (sent_last sent bytes) line plain is)
+    rw since (taken_line s next held (sent_last sent bytes) piece line plain is)
 
 pub part_sent : (s : Sealing) (next after : ℕ) (held : List ℕ) (sent later : ℕ) (old new : Option (List ℕ)) (part : List ℕ) → HasNoLf part
     → IsTakenWhole old new sent later part → Keeps (taken_of s next false held sent old) (taken_of s after true held later new)

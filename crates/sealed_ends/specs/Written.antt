@@ -1,7 +1,7 @@
 -- What a drain of sealed lines took: what the lines that the drain within took since open to, and the text of the line
 -- whose end didn't come.
-use Rattle.std.specs.Prelude.{ℕ, ◌+◌, ◌-◌, ◌==◌, ◌&&◌, ◌||◌, Bool, true, false, if◌then◌else◌, List, [], ◌∷◌, ◌++◌}
-use Rattle.std.specs.Prelude.{length, drop, Option, Some, None, is_some, option_map, option_and_then}
+use Rattle.std.specs.Prelude.{ℕ, ◌+◌, ◌-◌, ◌==◌, ◌&&◌, ◌||◌, Bool, true, if◌then◌else◌, List, [], ◌∷◌, ◌++◌}
+use Rattle.std.specs.Prelude.{length, drop, Option, Some, None, is_some, option_and_then}
 use Rattle.sealed_line.specs.Sealing.{Sealing, after_line}
 use Rattle.sealed_ends.specs.Opened.{opened_line, opened, whole_lines}
 use Rattle.sealed_ends.specs.declared.drain.SealedDrain.{SealedDrain}

@@ -2,14 +2,29 @@
 
 ghost use Rattle.std.specs.Prelude.{◌≡◌, ◌≤◌, drop, length, MatchOption};
 ghost use Rattle.line_reader.specs.Lines.{HasFirstLf, HasNoLf};
+ghost use Rattle.sealed_ends.specs.Batches.{EndsBatch};
 
-use memchr::memchr;
+use memchr::{memchr, memrchr};
+
+/// How many bytes of lines are sealed at once, with their line ends; one line may have more.
+pub const BATCH: usize = 16_384;
 
 /// The place of the first LF. It takes no memory.
 pub fn first_lf(bytes: &[u8]) -> Option<usize>
     ensures { MatchOption result (HasNoLf bytes.now) (HasFirstLf bytes.now) }
 {
     memchr(b'\n', bytes)
+}
+
+/// The place of the line end up to which lines are sealed at once: the last among so many bytes at the front, or the first
+/// of all where none is among these. It takes no memory.
+pub fn batch_end(bytes: &[u8], room: usize) -> Option<usize>
+    ensures { MatchOption result (HasNoLf bytes.now) (EndsBatch room bytes.now) }
+{
+    match memrchr(b'\n', &bytes[..room.min(bytes.len())]) {
+        Some(at) => Some(at),
+        None => memchr(b'\n', bytes),
+    }
 }
 
 /// Gives up so many bytes at the front.

@@ -1,19 +1,21 @@
 //! Writes sealed lines.
 
-ghost use Rattle.std.specs.Prelude.{◌≡◌, ◌<◌, ◌≤◌, ℕ, [], ◌∷◌, IfOk, OnErr, OnOk, length, option_map, take};
+ghost use Rattle.std.specs.Prelude.{◌≡◌, ◌<◌, ◌≤◌, ◌+◌, ◌++◌, ℕ, [], IfOk, OnErr, OnOk, false, length, option_map};
+ghost use Rattle.std.specs.Prelude.{take};
 ghost use Rattle.std.specs.Io.KnownBytes.{Appends, Keeps, WriteAppends};
+ghost use Rattle.byte_ends.specs.Lines.{as_line};
 ghost use Rattle.sealed_ends.specs.Sent.{IsTakenWhole};
 ghost use Rattle.sealed_ends.specs.Written.{drain_within, seals_under, taken_by, writes_failed_by};
 
-use super::bytes::first_lf;
+use super::bytes::{BATCH, batch_end};
 use byte_ends::{Drain, Failed};
 use line_reader::LINE_LIMIT;
 use sealed_line::Seal;
-use std::alloc::Global;
+use std::alloc::{AllocError, Global};
 
-/// Seals each line that is written as the next one. What is written is held until its line end comes, and that is taken
-/// once the drain within took the sealed line whole. Where that fails, a line may have been sent in part: each write fails
-/// from then on.
+/// Seals the lines that are written: those that are written at once, up to 16,384 bytes or one line, as one text. What is
+/// written is held until its line end comes, and that is taken once the drain within took the sealed line whole. Where that
+/// fails, a line may have been sent in part: each write fails from then on.
 #[derive(Drop)]
 pub struct SealedDrain<D> {
     alloc: Global,
@@ -51,29 +53,28 @@ impl<D: Drain> SealedDrain<D> {
         }
     }
 
-    /// Takes what stands before the first line end, or that line end where it is first.
+    /// Takes whole lines at the front, and seals them; or a piece of a line, and holds it.
     fn take(&mut self, bytes: &[u8]) -> Result<usize, Failed>
         requires { 0 < length bytes.now }
         ensures some { IfOk result (λ count. (0 < count) × (count ≤ length bytes.now)) }
         ensures bytes { WriteAppends (taken_by D.taken self.old) (taken_by D.taken self.new) result bytes.now }
         ensures counted { self.new.failures ≡ self.old.failures }
     {
-        match first_lf(bytes) {
-            Some(0) => self.end_line(),
-            Some(at) => self.hold(&bytes[..at]),
+        if self.broken {
+            return Err(Failed);
+        }
+        match batch_end(bytes, BATCH.saturating_sub(self.held.len())) {
+            Some(at) => self.end_lines(&bytes[..at]),
             None => self.hold(bytes),
         }
     }
 
-    /// Holds more of the line.
+    /// Holds more of a line.
     fn hold(&mut self, piece: &[u8]) -> Result<usize, Failed>
         ensures all { IfOk result (λ count. count ≡ length piece.now) }
         ensures bytes { WriteAppends (taken_by D.taken self.old) (taken_by D.taken self.new) result piece.now }
         ensures counted { self.new.failures ≡ self.old.failures }
     {
-        if self.broken {
-            return Err(Failed);
-        }
         if piece.len() > LINE_LIMIT.saturating_sub(self.held.len()) {
             return Err(Failed);
         }
@@ -83,24 +84,25 @@ impl<D: Drain> SealedDrain<D> {
         }
     }
 
-    /// Seals the line that is held, and sends it.
-    fn end_line(&mut self) -> Result<usize, Failed>
-        ensures one { IfOk result (λ count. count ≡ 1) }
-        ensures ok { OnOk result (Appends (taken_by D.taken self.old) (taken_by D.taken self.new) (10 ∷ [])) }
+    /// Seals what is held and this piece, which a line end follows, and sends that.
+    fn end_lines(&mut self, piece: &[u8]) -> Result<usize, Failed>
+        requires { self.old.broken ≡ false }
+        ensures all { IfOk result (λ count. count ≡ length piece.now + 1) }
+        ensures ok { OnOk result (Appends (taken_by D.taken self.old) (taken_by D.taken self.new) (as_line piece.now)) }
         ensures err { OnErr result (Keeps (taken_by D.taken self.old) (taken_by D.taken self.new)) }
         ensures counted { self.new.failures ≡ self.old.failures }
     {
-        if self.broken {
+        let Ok(text) = joined(self.alloc, self.held.as_slice(), piece) else {
             return Err(Failed);
-        }
+        };
         let mut line = Vec::new(self.alloc);
-        let Ok(()) = self.seal.seal(self.alloc, self.held.as_slice(), &mut line) else {
+        let Ok(()) = self.seal.seal(self.alloc, text.as_slice(), &mut line) else {
             return Err(Failed);
         };
         match send(&mut self.drain, &mut self.sent, line.as_slice()) {
             Ok(()) => {
                 self.held.clear();
-                Ok(1)
+                Ok(piece.len() + 1)
             }
             Err(failed) => {
                 self.broken = true;
@@ -108,6 +110,15 @@ impl<D: Drain> SealedDrain<D> {
             }
         }
     }
+}
+
+/// A piece after what is held.
+fn joined(alloc: Global, held: &[u8], piece: &[u8]) -> Result<Vec<u8>, AllocError>
+    ensures { IfOk result (λ text. text.items ≡ held.now ++ piece.now) }
+{
+    let mut text = held.to_vec(alloc)?;
+    text.extend_from_slice(piece)?;
+    Ok(text)
 }
 
 /// Has a drain take a line, and counts the bytes that it took.
@@ -133,7 +144,7 @@ impl<D: Drain> Drain for SealedDrain<D> {
 
     ghost failed = { writes_failed_by };
 
-    /// Takes what stands before the first line end, or that line end where it is first; then the line is sealed and sent.
+    /// Takes whole lines at the front, which are sealed and sent; or a piece of a line, which is held.
     fn write(&mut self, bytes: &[u8]) -> Result<usize, Failed> {
         if bytes.is_empty() {
             return Ok(0);

@@ -1,11 +1,11 @@
 -- What is sent and counted when a connection is dialed.
-use Rattle.std.proofs.Common.{◌≡◌, ◌≢◌, ◌⊎◌, inl, inr, ℕ, [], ◌∷◌, List, Option, Result, Ok, Err, refl, sym, ap, ◌∙◌}
+use Rattle.std.proofs.Common.{◌≢◌, inr, ℕ, [], List, Option, Result, Ok, Err, refl}
 use Rattle.std.specs.Io.KnownBytes.{Appends}
 use Rattle.sealed_line.specs.declared.greeting.Greeting.{Greeting}
 use Rattle.sealed_link.specs.Begins.{CountsReadFault, Dials, GreetsByKey, IsUnsentGreeting}
 use Rattle.sealed_link.specs.declared.fault.DialFault.{DialFault}
 use Rattle.sealed_link.specs.declared.fault.DialFault.TheVariants.{BadAnswer, NoKey, NoMemory, NotProved, ReadFault, WriteFault}
-use Rattle.std.proofs.Common.{length, take, drop, arith, ◌≤◌}
+use Rattle.std.proofs.Common.{length, arith}
 use Rattle.std.proofs.lemmas.List.{take_all}
 
 pub greets_all : {T : Type 0} (line : List ℕ) (old new : Option (List ℕ)) (r : Result T DialFault) → Appends old new line → (r ≢ Err WriteFault)

@@ -1,3 +1,4 @@
 pub mod Opens
 pub mod Dialings
 pub mod Sealings
+pub mod OtherSide

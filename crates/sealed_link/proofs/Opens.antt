@@ -1,13 +1,14 @@
 -- Lines that are opened one after the other.
-use Rattle.std.proofs.Common.{◌≡◌, ◌≢◌, ℕ, zero, suc, ◌<◌, ◌≤◌, ◌+◌, ◌-◌, ◌++◌, [], ◌∷◌, List, sym, ◌∙◌, ap, refl, arith, length, take, drop, length-append, append_assoc, append-nil, take-append-drop, subst, All}
-use Rattle.std.proofs.lemmas.List.{flat_map_more, length-take-le, take-append-le}
+use Rattle.std.proofs.Common.{◌≡◌, ◌≢◌, ℕ, zero, suc, ◌<◌, ◌≤◌, ◌+◌, ◌-◌, ◌++◌, [], ◌∷◌, List, sym, ◌∙◌, ap, refl, arith, length, take, length-append, append_assoc, append-nil, subst, All}
+use Rattle.std.proofs.lemmas.List.{flat_map_more, take-append-le}
 use Rattle.std.proofs.lemmas.List.Elements.{All-append, All-nil, All-take}
 use Rattle.std.specs.List.{flat_map}
 use Rattle.byte_ends.specs.Lines.{as_line}
-use Rattle.line_reader.specs.Lines.{HasFirstLf, HasNoLf, IsTooLong}
+use Rattle.line_reader.specs.Lines.{HasNoLf, IsTooLong}
+use Rattle.sealed_ends.specs.Unread.{sealed_limit}
 use Rattle.sealed_line.specs.Sealing.{Opens, Sealing, after_line}
-use Rattle.sealed_link.specs.Lines.{IsHeldUp, IsFrontRefused, IsRefusedAfter, IsUnheld, IsUnopenable, KeepsRest, OpenTo, OpensAll, OpensFront}
-use Rattle.sealed_link.specs.Wires.{Wiring, sealed_limit}
+use Rattle.sealed_link.specs.Lines.{IsFrontRefused, IsRefusedAfter, IsUnheld, IsUnopenable, KeepsRest, OpenTo, OpensAll, OpensFront}
+use Rattle.sealed_link.specs.Wires.{Wiring}
 use Rattle.sealed_link.specs.declared.fault.WireFault.{WireFault}
 use Rattle.sealed_link.specs.declared.fault.WireFault.TheVariants.{BadLine, LongLine, Spent, NoMemory}
 

@@ -1,5 +1,5 @@
 -- How a sealed connection is dialed.
-use Rattle.std.specs.Prelude.{◌≡◌, ◌≢◌, ◌⊎◌, ◌<◌, ℕ, List, [], ◌++◌, Option, Some, None, Result, Ok, Err, IsErrAnd}
+use Rattle.std.specs.Prelude.{◌≡◌, ◌≢◌, ◌⊎◌, ◌<◌, ℕ, List, [], ◌++◌, Option, Result, Ok, Err, IsErrAnd}
 use Rattle.std.specs.Prelude.{MatchResult, codes, length, take, option_map}
 use Rattle.std.specs.Io.KnownBytes.{Appends, IsAtEnd}
 use Rattle.byte_ends.specs.Failures.{OneFailed}
@@ -13,7 +13,7 @@ use Rattle.sealed_ends.specs.declared.link.LinkSource.{LinkSource}
 use Rattle.sealed_ends.specs.declared.link.LinkSource.TheVariants as from
 use Rattle.sealed_ends.specs.declared.link.LinkDrain.{LinkDrain}
 use Rattle.sealed_ends.specs.declared.link.LinkDrain.TheVariants as to
-use Rattle.sealed_line.specs.Greetings.{IsKeyAnswer, key_answer_text, greeting_text}
+use Rattle.sealed_line.specs.Greetings.{IsKeyAnswer, key_answer_text}
 use Rattle.sealed_line.specs.Sealing.{Sealing}
 use Rattle.sealed_line.specs.Keys.{AreKeys, both_lines, id_under}
 use Rattle.sealed_line.specs.declared.greeting.Answer.{Answer}

@@ -1,12 +1,14 @@
 -- How lines that came are opened, and lines that go out are sealed, one after the other.
-use Rattle.std.specs.Prelude.{◌≡◌, ◌⊎◌, ◌<◌, ◌≤◌, ℕ, List, [], ◌∷◌, ◌++◌, All, Option, Some, None, Result, Ok, Err}
-use Rattle.std.specs.Prelude.{length, drop, take}
+use Rattle.std.specs.Prelude.{◌≡◌, ◌⊎◌, ◌<◌, ◌≤◌, ℕ, List, [], ◌∷◌, ◌++◌, All, Some, Result, Ok, Err}
+use Rattle.std.specs.Prelude.{length, take}
 use Rattle.std.specs.List.{flat_map}
 use Rattle.byte_ends.specs.Lines.{as_line}
 use Rattle.line_reader.specs.Lines.{HasNoLf, IsTooLong}
+use Rattle.sealed_ends.specs.Batches.{batch_bytes}
+use Rattle.sealed_ends.specs.Unread.{sealed_limit}
 use Rattle.sealed_line.specs.Sealing.{IsNoSeal, Opens, Sealing, after_line, crossed, last_count, most_line_bytes}
 use Rattle.sealed_line.specs.Sealing.{sealed}
-use Rattle.sealed_link.specs.Wires.{Wiring, sealed_limit, waiting_limit}
+use Rattle.sealed_link.specs.Wires.{Wiring, waiting_limit}
 use Rattle.sealed_link.specs.declared.fault.WireFault.{WireFault}
 use Rattle.sealed_link.specs.declared.fault.WireFault.TheVariants.{BadLine, LongLine, Spent, NoMemory}
 
@@ -77,33 +79,50 @@ OpensCame old came text (Err fault) new =
     IsRefusedAfter old.inward (old.held ++ came) text fault
     × (new.fault ≡ Some fault) × (new.outward ≡ old.outward) × (new.waiting ≡ old.waiting)
 
--- a wire after one line more was sealed
+-- a wire after one text more was sealed
 abbrev pub with_sealed : Wiring → List ℕ → Wiring
-with_sealed w line =
+with_sealed w text =
     record w
-    { outward = after_line w.outward; waiting = w.waiting ++ as_line (sealed w.outward (crossed w.outward line)) }
+    { outward = after_line w.outward; waiting = w.waiting ++ as_line (sealed w.outward (crossed w.outward text)) }
 
--- these lines were sealed, one after the other, each while less than 65,536 bytes waited
+-- these texts were sealed, one after the other, each while less than 65,536 bytes waited
 abbrev pub SealTo : Wiring → List (List ℕ) → Wiring → Type 0
 SealTo old [] new = new ≡ old
-SealTo old (line ∷ lines) new = (length old.waiting < waiting_limit) × SealTo (with_sealed old line) lines new
+SealTo old (text ∷ texts) new = (length old.waiting < waiting_limit) × SealTo (with_sealed old text) texts new
 
--- so many bytes of the text are its first line, which was sealed
+-- what is sealed as one text, which a line end follows: lines of 16,384 bytes at most, or one line
+pub record IsBatch (text : List ℕ) : Type 0 where
+  pub few : (length text < batch_bytes) ⊎ HasNoLf text
+  pub short : length text ≤ most_line_bytes
+
+-- so many bytes of the text are its first lines, which were sealed at once; they open to these lines
 pub record SealsFirst (old : Wiring) (text : List ℕ) (count : ℕ) (new : Wiring) : Type 0 where
-  pub line : List ℕ
-  pub plain : HasNoLf line
+  pub lines : List ℕ
+  pub batch : IsBatch lines
   pub within : count ≤ length text
-  pub front : take count text ≡ as_line line
+  pub front : take count text ≡ as_line lines
   pub few : length old.waiting < waiting_limit
-  pub all : new ≡ with_sealed old line
+  pub all : new ≡ with_sealed old lines
+  pub opens : Opens old.outward (sealed old.outward (crossed old.outward lines)) lines
 
--- so many bytes of the text are lines that were sealed
+-- so many bytes of the text are texts that were sealed, each with its line end
 pub record SealsFront (old : Wiring) (text : List ℕ) (count : ℕ) (new : Wiring) : Type 0 where
-  pub lines : List (List ℕ)
-  pub plain : All HasNoLf lines
+  pub texts : List (List ℕ)
+  pub batches : All IsBatch texts
   pub within : count ≤ length text
-  pub front : take count text ≡ flat_map as_line lines
-  pub all : SealTo old lines new
+  pub front : take count text ≡ flat_map as_line texts
+  pub all : SealTo old texts new
+
+-- the bytes that wait since then are sealed lines, which open to so many bytes of the text and nothing else
+pub record SendsSealed (old : Wiring) (text : List ℕ) (count : ℕ) (new : Wiring) : Type 0 where
+  pub sent : List ℕ
+  pub waits : new.waiting ≡ old.waiting ++ sent
+  pub opens : OpensFront old.outward sent (take count text) [] new.outward
+
+-- the one is the other side of a wire, where all that was sealed on this one was opened
+pub record IsOtherSide (wire other : Wiring) : Type 0 where
+  pub next : other.inward ≡ wire.outward
+  pub held : other.held ≡ []
 
 -- why a line isn't sealed
 abbrev pub IsUnsealable : Sealing → List ℕ → WireFault → Type 0

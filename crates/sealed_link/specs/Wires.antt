@@ -1,11 +1,12 @@
 -- What a wire shows.
-use Rattle.std.specs.Prelude.{◌≡◌, ◌≤◌, ℕ, List, Option, length}
+use Rattle.std.specs.Prelude.{◌≤◌, ℕ, List, Option, length}
 use Rattle.line_reader.specs.Lines.{HasNoLf}
+use Rattle.sealed_ends.specs.Unread.{sealed_limit}
 use Rattle.sealed_line.specs.Sealing.{Sealing}
 use Rattle.sealed_link.specs.declared.fault.WireFault.{WireFault}
 
--- what opens the next line that comes, what came of it, and why nothing is opened any more; what seals the next line that
--- is sent, and the bytes that wait to be sent
+-- what opens the next line that comes, what came of it, and why nothing is opened any more; what seals the next line
+-- that is sent, and the bytes that wait to be sent
 pub record Wiring : Type 0 where
   pub inward : Sealing
   pub held : List ℕ
@@ -13,10 +14,7 @@ pub record Wiring : Type 0 where
   pub outward : Sealing
   pub waiting : List ℕ
 
--- the most bytes of a sealed line, and the bytes of which no further line is sealed while so many wait
-abbrev pub sealed_limit : ℕ
-sealed_limit = 699096
-
+-- while so many bytes wait no further text is sealed
 abbrev pub waiting_limit : ℕ
 waiting_limit = 65536
 

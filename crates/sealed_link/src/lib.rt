@@ -22,9 +22,11 @@
 mod admitting;
 mod dialing;
 mod fault;
+mod laws;
 mod wire;
 
 pub use admitting::{Admitted, admit, refusal_line};
 pub use dialing::{dial, dialed};
 pub use fault::{DialFault, WireFault};
+pub use laws::what_is_sealed_is_opened;
 pub use wire::Wire;

@@ -1,15 +1,17 @@
 //! A sealed connection on the side that answers, as a value.
 
-ghost use Rattle.std.specs.Prelude.{◌≡◌, ◌⊎◌, ◌<◌, ◌≤◌, ◌++◌, [], List, ℕ, Err, IfErr, IfOk, MatchOption, None, Ok, OnErr, OnOk, Some, drop, length};
+ghost use Rattle.std.specs.Prelude.{◌≡◌, ◌⊎◌, ◌<◌, ◌≤◌, ◌++◌, [], List, ℕ, Err, IfErr, IfOk, MatchOption, None, Ok};
+ghost use Rattle.std.specs.Prelude.{OnErr, OnOk, Some, drop, length};
 ghost use Rattle.byte_ends.specs.Lines.{as_line};
 ghost use Rattle.line_reader.specs.Lines.{HasNoLf};
 ghost use Rattle.sealed_line.specs.Sealing.{Opens, after_line};
-ghost use Rattle.sealed_link.specs.Lines.{IsHeldUp, IsUnheld, IsUnopenable, KeepsRest, OpensCame, OpensLines, SealsFirst, SealsFront};
+ghost use Rattle.sealed_link.specs.Lines.{IsHeldUp, IsUnheld, IsUnopenable, KeepsRest, OpensCame, OpensLines};
+ghost use Rattle.sealed_link.specs.Lines.{SealsFirst, SealsFront, SendsSealed};
 ghost use Rattle.sealed_link.specs.Wires.{waiting_limit};
 ghost use Rattle.sealed_link.specs.declared.fault.WireFault.{WireFault as AnyFault};
 
 use super::fault::WireFault;
-use sealed_ends::first_lf;
+use sealed_ends::{BATCH, batch_end, first_lf};
 use sealed_line::{SEALED_LIMIT, Seal, SessionKeys};
 use std::alloc::Global;
 use std::marker::Model;
@@ -45,7 +47,8 @@ impl Model for Wire {
 impl Wire {
     /// The wire of a connection with these keys, on which nothing came or was sent after both first lines.
     pub fn new(alloc: Global, keys: SessionKeys) -> Wire
-        ensures { result ≡ record { inward = keys.inward; held = []; fault = None; outward = keys.outward; waiting = [] } }
+        ensures { result
+            ≡ record { inward = keys.inward; held = []; fault = None; outward = keys.outward; waiting = [] } }
     {
         let SessionKeys {
             proof: _,
@@ -87,22 +90,25 @@ impl Wire {
     }
 
     /// Seals whole lines at the front of a text until 65,536 bytes or more wait to be sent, or the text has no further
-    /// whole line; answers how many bytes of the text were sealed. Refusals, where the first of those lines isn't sealed:
-    /// `LongLine`, it has more than 524,288 bytes; `Spent`, 2^64 - 1 lines were sealed; `NoMemory`. Where it is refused
-    /// nothing changes; before a later line that isn't sealed it stops. It costs O(n) for n bytes that are sealed or wait.
+    /// whole line; answers how many bytes of the text were sealed. Those of up to 16,384 bytes are sealed at once, as one
+    /// text, and a longer line by itself; none waits for a further one. Refusals, where the first of these texts isn't
+    /// sealed: `LongLine`, the first line has more than 524,288 bytes; `Spent`, 2^64 - 1 texts were sealed; `NoMemory`.
+    /// Where it is refused nothing changes; before a later text that isn't sealed it stops. It costs O(n) for n bytes that
+    /// are sealed or wait.
     pub fn seal(&mut self, text: &[u8]) -> Result<usize, WireFault>
         ensures ok { IfOk result (λ count. SealsFront self.old text.now count self.new) }
+        ensures opens { IfOk result (λ count. SendsSealed self.old text.now count self.new) }
         ensures stops { result ≡ Ok 0 → HasNoLf text.now ⊎ (waiting_limit ≤ length self.old.waiting) }
         ensures err { IfErr result (IsHeldUp self.old.outward text.now) }
         ensures kept { OnErr result (self.new ≡ self.old) }
     {
         self.drop_sent();
-        let first = self.seal_line(text)?;
+        let first = self.seal_batch(text)?;
         if first == 0 {
             return Ok(0);
         }
         let mut done = first;
-        while let Ok(more) = self.seal_line(text.split_at(done).1) {
+        while let Ok(more) = self.seal_batch(text.split_at(done).1) {
             if more == 0 {
                 return Ok(done);
             }
@@ -130,7 +136,8 @@ impl Wire {
 impl Wire {
     /// Opens each line that is whole now, and holds the rest.
     fn open_lines(&mut self, came: &[u8], into: &mut Vec<u8>) -> Result<(), WireFault>
-        ensures { (text : List ℕ) × (into.new.items ≡ into.old.items ++ text) × OpensLines self.old came.now text result self.new }
+        ensures { (text : List ℕ) × (into.new.items ≡ into.old.items ++ text)
+            × OpensLines self.old came.now text result self.new }
     {
         let mut rest = came;
         while let Some((piece, after)) = cut_line(rest) {
@@ -195,10 +202,11 @@ impl Wire {
         }
     }
 
-    /// Seals the first line of a text, and answers how many bytes it has, with its line end; 0 where it has none, or
-    /// enough waits to be sent.
-    fn seal_line(&mut self, text: &[u8]) -> Result<usize, WireFault>
-        ensures none { result ≡ Ok 0 → (self.new ≡ self.old) × (HasNoLf text.now ⊎ (waiting_limit ≤ length self.old.waiting)) }
+    /// Seals lines at the front of a text, as many as are sealed at once, and answers how many bytes these have, with their
+    /// line ends; 0 where it has no whole line, or enough waits to be sent.
+    fn seal_batch(&mut self, text: &[u8]) -> Result<usize, WireFault>
+        ensures none { result ≡ Ok 0
+            → (self.new ≡ self.old) × (HasNoLf text.now ⊎ (waiting_limit ≤ length self.old.waiting)) }
         ensures some { IfOk result (λ count. 0 < count → SealsFirst self.old text.now count self.new) }
         ensures err { IfErr result (IsHeldUp self.old.outward text.now) }
         ensures kept { OnErr result (self.new ≡ self.old) }
@@ -206,7 +214,7 @@ impl Wire {
         if self.waiting().len() >= WAITING {
             return Ok(0);
         }
-        let Some(at) = first_lf(text) else {
+        let Some(at) = batch_end(text, BATCH) else {
             return Ok(0);
         };
         match self.outward.seal(self.alloc, &text[..at], &mut self.sealed) {
@@ -226,7 +234,8 @@ impl Wire {
 
 /// The first line of some bytes, without its LF, and what follows that; nothing where no line is whole.
 fn cut_line(bytes: &[u8]) -> Option<(&[u8], &[u8])>
-    ensures { MatchOption result (HasNoLf bytes.now) (λ cut. HasNoLf cut.0.now × (bytes.now ≡ as_line cut.0.now ++ cut.1.now)) }
+    ensures { MatchOption result (HasNoLf bytes.now)
+        (λ cut. HasNoLf cut.0.now × (bytes.now ≡ as_line cut.0.now ++ cut.1.now)) }
 {
     let at = first_lf(bytes)?;
     Some((&bytes[..at], bytes.split_at(at + 1).1))

@@ -2,7 +2,8 @@
 use Rattle.std.proofs.Common.{◌≡◌, ◌++◌, ◌∷◌, ◌∙◌, ap, drop, length, suc, subst, sym}
 use Rattle.hex.specs.Hex.{encode_lower}
 use Rattle.sealed_line.specs.Words.{last_alike, length-hex, split_alike}
-use Rattle.key_file.specs.Files.{IsName, role_text}
+use Rattle.key_file.specs.Files.{role_text}
+use Rattle.site_address.specs.Peer.{IsName}
 use Rattle.key_file.proofs.Lists.{role_long}
 use Rattle.key_file.proofs.line.key_of.Goals as goal
 

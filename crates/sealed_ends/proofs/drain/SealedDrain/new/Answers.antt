@@ -1,4 +1,3 @@
-use Rattle.std.proofs.Common.{◌∙◌, ap}
 use Rattle.sealed_ends.proofs.Writing.{none_taken}
 use Rattle.sealed_ends.proofs.drain.SealedDrain.new.Goals as goal
 

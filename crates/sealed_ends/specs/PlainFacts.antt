@@ -1,5 +1,6 @@
 -- No sealed line has an LF.
-use Rattle.std.proofs.Common.{◌≡◌, ◌≢◌, ℕ, zero, suc, ◌<◌, ◌==◌, ◌++◌, [], ◌∷◌, true, false, Bool, List, sym, ◌∙◌, ap, refl, arith, length, All, replicate, slice_index}
+use Rattle.std.proofs.Common.{◌≡◌, ◌≢◌, ℕ, zero, suc, ◌==◌, [], ◌∷◌, true, List, ap, refl, arith, length, replicate}
+use Rattle.std.proofs.Common.{slice_index}
 use Rattle.std.specs.Prelude.{◌/◌, ◌%◌, ◌*◌, ◌+◌, not}
 use Rattle.std.specs.List.{list_all}
 use Rattle.std.proofs.lemmas.List.Elements.{All-append, All-nil}
@@ -9,11 +10,11 @@ use Rattle.base64.specs.GeneralPurpose.{encode_of}
 use Rattle.base64.specs.Rfc4648.{encode_group, encode_symbols, padding_len}
 use Rattle.line_reader.specs.Lines.{HasNoLf}
 
-plain-cons : (b : ℕ) (bytes : List ℕ) → b ≢ 10 → HasNoLf bytes → HasNoLf (b ∷ bytes)
+pub plain-cons : (b : ℕ) (bytes : List ℕ) → b ≢ 10 → HasNoLf bytes → HasNoLf (b ∷ bytes)
 plain-cons b bytes other plain zero d lt = other
 plain-cons b bytes other plain (suc k) d lt = plain k d (omega (arith, lt))
 
-plain-nil : HasNoLf []
+pub plain-nil : HasNoLf []
 plain-nil = All-nil (λ b. b ≢ 10)
 
 -- whatever is looked up among these isn't an LF
@@ -29,7 +30,8 @@ none_is_lf (b ∷ table) e (suc i) = let parts = and_parts (not (b == 10)) (list
 then_symbol : (t : List ℕ) (i : ℕ) (rest : List ℕ) → NoneIsLf t → HasNoLf rest → HasNoLf (slice_index t i ∷ rest)
 then_symbol t i rest h plain = plain-cons (slice_index t i) rest (h i) plain
 
-two_symbols : (t : List ℕ) (i j : ℕ) (rest : List ℕ) → NoneIsLf t → HasNoLf rest → HasNoLf (slice_index t i ∷ slice_index t j ∷ rest)
+two_symbols : (t : List ℕ) (i j : ℕ) (rest : List ℕ) → NoneIsLf t → HasNoLf rest
+    → HasNoLf (slice_index t i ∷ slice_index t j ∷ rest)
 two_symbols t i j rest h plain = then_symbol t i (slice_index t j ∷ rest) h (then_symbol t j rest h plain)
 
 plain-symbols : (t m : List ℕ) → NoneIsLf t → HasNoLf (encode_symbols t m)
@@ -37,7 +39,8 @@ unfolding encode_symbols
 plain-symbols t [] h = plain-nil
 plain-symbols t (a ∷ []) h = two_symbols t (a / 4) (a % 4 * 16) [] h plain-nil
 plain-symbols t (a ∷ b ∷ []) h =
-    two_symbols t (a / 4) (a % 4 * 16 + b / 16) (slice_index t (b % 16 * 4) ∷ []) h (then_symbol t (b % 16 * 4) [] h plain-nil)
+    two_symbols t (a / 4) (a % 4 * 16 + b / 16) (slice_index t (b % 16 * 4) ∷ []) h
+    (then_symbol t (b % 16 * 4) [] h plain-nil)
 plain-symbols t (a ∷ b ∷ c ∷ rest) h =
     All-append (λ b. b ≢ 10) (encode_group t a b c) (encode_symbols t rest)
     (two_symbols t (a / 4) (a % 4 * 16 + b / 16) (slice_index t (b % 16 * 4 + c / 64) ∷ slice_index t (c % 64) ∷ []) h
@@ -50,4 +53,5 @@ plain-equals (suc n) = plain-cons 61 (replicate n 61) (λ e. cc) (plain-equals n
 pub plain-encoded : (body : List ℕ) → HasNoLf (encode_of standard body)
 plain-encoded body =
     All-append (λ b. b ≢ 10) (encode_symbols standard.encode_table body) (replicate (padding_len (length body)) 61)
-    (plain-symbols standard.encode_table body (none_is_lf standard.encode_table refl)) (plain-equals (padding_len (length body)))
+    (plain-symbols standard.encode_table body (none_is_lf standard.encode_table refl))
+    (plain-equals (padding_len (length body)))
