@@ -13,12 +13,14 @@ use Rattle.command_line.specs.declared.asked.Asked.{Asked}
 use Rattle.command_line.specs.declared.asked.Asked.TheVariants.{Events, Recover, Run, Serve}
 use Rattle.command_line.specs.declared.asked.Command.TheVariants.{Footers, Graph, Ready, ReadyItem, Why}
 use Rattle.command_line.specs.declared.asked.EventWords.{EventWords}
+use Rattle.command_line.specs.declared.asked.PageAddress.{PageAddress}
 use Rattle.command_line.specs.declared.asked.RecoverWords.{RecoverWords}
 use Rattle.command_line.specs.declared.asked.ServeWords.{ServeWords}
 use Rattle.command_line.specs.Asking.{AreFeedOptions, AreOptions, ArgumentsSay, IsRecovery, events, footers}
 use Rattle.command_line.specs.Asking.{graph, ready, recover, serve, why}
 use Rattle.command_line.specs.Values.{Finds, HasArgument, GivesAny, GivesItem, GivesNumber, ItemIsNamed, NamesRow}
-use Rattle.command_line.specs.Values.{GivesAnyItem, GivesAnyPeer, GivesHosts, GivesItemAt, GivesPaths, Writes, is_comma}
+use Rattle.command_line.specs.Values.{GivesAnyItem, GivesAnyPage, GivesAnyPeer, GivesHosts, GivesItemAt, GivesPaths}
+use Rattle.command_line.specs.Values.{NamesPage, Writes, is_comma}
 use Rattle.command_line.specs.declared.sites.Places.{Places}
 use Rattle.site_address.specs.Peer.{NamesPeer}
 use Rattle.site_address.specs.declared.peer.PeerAddress.{PeerAddress}
@@ -165,6 +167,17 @@ no_peer_in rows option text is none (Some peer) gives =
 pub peer_found : (rows : List Row) (option text : Text) (peer : PeerAddress) → HasArgument rows option text
     → NamesPeer text peer → GivesAnyPeer rows option (Some peer)
 peer_found rows option text peer is names = (text, is, names)
+
+pub no_page_in : (rows : List Row) (option text : Text) → HasArgument rows option text
+    → ((page : PageAddress) → ¬ NamesPage text page) → (given : Option PageAddress)
+    → ¬ GivesAnyPage rows option given
+no_page_in rows option text is none None gives = let bad : None ≡ Some text = sym gives ∙ is in cc
+no_page_in rows option text is none (Some page) gives =
+    none page (subst (λ t. NamesPage t page) (same_text rows option gives.0 text gives.1 is) gives.2)
+
+pub page_found : (rows : List Row) (option text : Text) (page : PageAddress) → HasArgument rows option text
+    → NamesPage text page → GivesAnyPage rows option (Some page)
+page_found rows option text page is names = (text, is, names)
 
 -- ---- those of the texts that pass a test
 

@@ -21,7 +21,8 @@ use Rattle.command_line.specs.declared.asked.SocketMode.TheVariants.{Group, Owne
 use Rattle.command_line.specs.declared.asked.RecoverWords.{RecoverWords}
 use Rattle.command_line.specs.declared.asked.ServeWords.{ServeWords}
 use Rattle.command_line.specs.Values.{HasArgument, GivesAny, GivesItem, GivesNumber, GivesNumbers, GivesRows}
-use Rattle.command_line.specs.Values.{GivesAnyItem, GivesAnyPeer, GivesHosts, GivesPaths, GivesPeers, GivesTexts}
+use Rattle.command_line.specs.Values.{GivesAnyItem, GivesAnyPage, GivesAnyPeer, GivesHosts, GivesPaths, GivesPeers}
+use Rattle.command_line.specs.Values.{GivesTexts}
 use Rattle.site_address.specs.Address.{has_slash}
 use Rattle.site_address.specs.Peer.{is_there}
 
@@ -60,7 +61,7 @@ pub record AreOptions (rows : List Row) (words : ServeWords) : Type 0 where
   pub ending : IsTrue words.until_input_ends ↔ HasFlag rows (codes "until-input-ends")
   pub prints : GivesPrinting rows words.prints
   pub times : IsTrue words.log_time ↔ HasFlag rows (codes "log-time")
-  pub http : GivesAny rows (codes "http") 0 65535 words.http
+  pub http : GivesAnyPage rows (codes "http") words.http
   pub load : first_of (codes "load") rows ≡ option_map (λ name. name.now) words.load
   pub save : first_of (codes "save") rows ≡ option_map (λ name. name.now) words.save
   pub journal : first_of (codes "journal") rows ≡ option_map (λ name. name.now) words.journal

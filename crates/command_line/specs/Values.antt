@@ -1,13 +1,15 @@
 -- What the values of a command's arguments say, over the rows that clap matched.
-use Rattle.std.specs.Prelude.{◌≡◌, ◌≤◌, ◌<◌, ◌==◌, ℕ, Bool, List, [], Option, None, Some, codes, length}
+use Rattle.std.specs.Prelude.{◌≡◌, ◌≤◌, ◌<◌, ◌==◌, ℕ, Bool, true, false, List, [], Option, None, Some, codes, length}
 use Rattle.std.specs.Prelude.{filter, map, not, unwrap_or}
 use Rattle.std.specs.Borrow.{Bor}
 use Rattle.std.specs.List.{AllZip, position_or_len, before_first, after_first}
 use Rattle.std.specs.Str.Parse.{IsNumeral, digits_value, without_leading_plus}
 use Rattle.command_tree.specs.Matching.{Row, all_of, first_of}
 use Rattle.site_address.specs.Address.{has_slash}
-use Rattle.site_address.specs.Host.{NamesHostPort}
+use Rattle.site_address.specs.Host.{IsShort, NamesHostPort}
 use Rattle.site_address.specs.Peer.{NamesPeer}
+use Rattle.command_line.specs.declared.asked.PageAddress.{PageAddress}
+use Rattle.command_line.specs.declared.asked.PageAddress.TheVariants.{Path, Port}
 use Rattle.site_address.specs.declared.host.HostPort.{HostPort}
 use Rattle.site_address.specs.declared.peer.PeerAddress.{PeerAddress}
 
@@ -52,6 +54,16 @@ GivesPeers rows argument = AllZip NamesPeer (unwrap_or (all_of argument rows) []
 abbrev pub GivesAnyPeer : List Row → List ℕ → Option PeerAddress → Type 0
 GivesAnyPeer rows option None = first_of option rows ≡ None
 GivesAnyPeer rows option (Some peer) = (word : List ℕ) × HasArgument rows option word × NamesPeer word peer
+
+-- the word names where a site shows itself: a path has a slash, a port has none; 0 is a port that is free
+abbrev pub NamesPage : List ℕ → PageAddress → Type 0
+NamesPage word (Port port) = (has_slash word ≡ false) × IsShort word port
+NamesPage word (Path path) = (has_slash word ≡ true) × (path.now ≡ word)
+
+-- the option's value names where a site shows itself, if it isn't left out
+abbrev pub GivesAnyPage : List Row → List ℕ → Option PageAddress → Type 0
+GivesAnyPage rows option None = first_of option rows ≡ None
+GivesAnyPage rows option (Some page) = (word : List ℕ) × HasArgument rows option word × NamesPage word page
 
 -- those of the option's values that are paths, as they have a slash, are these
 abbrev pub GivesPaths : List Row → List ℕ → List (Bor (List ℕ)) → Type 0

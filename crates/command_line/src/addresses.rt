@@ -3,12 +3,14 @@
 ghost use Rattle.std.specs.Prelude.{◌≡◌, IfOk, MatchBool, filter, map, not, option_map};
 ghost use Rattle.std.specs.List.{AllZip, list_all, list_any};
 ghost use Rattle.command_line.specs.Asking.{HasKeys, words_of};
-ghost use Rattle.command_line.specs.Values.{Finds, GivesAnyPeer, GivesHosts, GivesPaths, GivesPeers};
+ghost use Rattle.command_line.specs.Values.{Finds, GivesAnyPage, GivesAnyPeer, GivesHosts, GivesPaths, GivesPeers};
+ghost use Rattle.command_line.specs.Values.{NamesPage};
 ghost use Rattle.command_tree.specs.Rows.{rows_in};
 ghost use Rattle.site_address.specs.Address.{has_slash};
 ghost use Rattle.site_address.specs.Host.{NamesHostPort};
 ghost use Rattle.site_address.specs.Peer.{NamesPeer, is_there};
 
+use super::asked::PageAddress;
 use command_tree::Values;
 use site_address::{HostPort, PeerAddress, has_slash, host_port_of, is_there, peer_of};
 use std::alloc::{AllocError, Global};
@@ -22,6 +24,31 @@ pub fn any_peer_in<'a>(values: &Values<'a>, option: &str) -> Option<Option<PeerA
     };
     let peer = peer_of(word)?;
     Some(Some(peer))
+}
+
+/// Where an option has a site show itself, where it isn't left out; none where its word names no such place.
+pub fn any_page_in<'a>(values: &Values<'a>, option: &str) -> Option<Option<PageAddress<'a>>>
+    ensures { Finds (GivesAnyPage (rows_in values.now) option.now) result }
+{
+    let Some(word) = values.text(option) else {
+        return Some(None);
+    };
+    let page = page_of(word)?;
+    Some(Some(page))
+}
+
+/// Where a word has a site show itself: at the path of a Unix socket where it has a slash, else at a port in decimal,
+/// from 0 to 65,535. Nothing where it is neither.
+fn page_of(word: &str) -> Option<PageAddress<'_>>
+    ensures { Finds (NamesPage word.now) result }
+{
+    if has_slash(word) {
+        return Some(PageAddress::Path(word));
+    }
+    match word.parse::<u16>() {
+        Ok(port) => Some(PageAddress::Port(port)),
+        Err(_) => None,
+    }
 }
 
 /// The addresses of an argument that has as many as there are; none where a word names none.
@@ -171,6 +198,9 @@ const PEER: &str =
 /// What an address to listen at has to be.
 const LISTEN: &str = "the path of a Unix socket, which has a slash, or HOST:PORT";
 
+/// What the address of a page has to be.
+const PAGE: &str = "a port from 0 to 65535, or the path of a Unix socket, which has a slash";
+
 /// What is wanted beside an address on another machine.
 const KEYS: &str = "an address on another machine needs --keys";
 
@@ -178,6 +208,8 @@ const KEYS: &str = "an address on another machine needs --keys";
 const PEER_ARGUMENT: &str = "[PEER]...";
 
 const LISTEN_ARGUMENT: &str = "--listen <ADDRESS>";
+
+const HTTP_ARGUMENT: &str = "--http <ADDRESS>";
 
 const TO_ARGUMENT: &str = "--to <ADDRESS>";
 
@@ -209,8 +241,11 @@ fn misnamed<'a>(values: &Values<'a>) -> Option<WrongWord<'a>> {
     if let Some(word) = first_without_place(values.texts("listen")) {
         return Some(wrong(LISTEN_ARGUMENT, word, LISTEN));
     }
-    let word = first_without_peer(values.texts("to"))?;
-    Some(wrong(TO_ARGUMENT, word, PEER))
+    if let Some(word) = first_without_peer(values.texts("to")) {
+        return Some(wrong(TO_ARGUMENT, word, PEER));
+    }
+    let word = first_without_page(values.texts("http"))?;
+    Some(wrong(HTTP_ARGUMENT, word, PAGE))
 }
 
 /// The first word that names an address on another machine.
@@ -258,6 +293,16 @@ fn first_host<'a>(words: Option<&[&'a str]>) -> Option<&'a str> {
 fn first_without_peer<'a>(words: Option<&[&'a str]>) -> Option<&'a str> {
     for word in words? {
         if peer_of(word).is_none() {
+            return Some(*word);
+        }
+    }
+    None
+}
+
+/// The first word that has a site show itself nowhere.
+fn first_without_page<'a>(words: Option<&[&'a str]>) -> Option<&'a str> {
+    for word in words? {
+        if page_of(word).is_none() {
             return Some(*word);
         }
     }

@@ -127,8 +127,8 @@ pub struct ServeWords<'a> {
     pub prints: Printing,
     /// Whether its lines on the error output begin with the time.
     pub log_time: bool,
-    /// The port at which it shows itself to browsers, if it does; 0 for one that is free.
-    pub http: Option<u16>,
+    /// Where it shows itself to browsers, if it does.
+    pub http: Option<PageAddress<'a>>,
     /// The names by which browsers may call this machine, beside `localhost` and the addresses of the loopback.
     pub http_hosts: Vec<String>,
     /// The name of the snapshot to begin with.
@@ -146,6 +146,15 @@ pub enum SocketMode {
     Owner,
     /// Its user and its group: mode 660.
     Group,
+}
+
+/// Where a site shows itself to browsers.
+#[derive(Clone, Copy, Debug, PartialEq, Eq)]
+pub enum PageAddress<'a> {
+    /// A port of 127.0.0.1; 0 for one that is free.
+    Port(u16),
+    /// The path of a Unix socket.
+    Path(&'a str),
 }
 
 /// What a site prints of its verdicts.

@@ -24,7 +24,7 @@ mod sites;
 mod words;
 
 pub use asked::{
-    Answer, Asked, Command, EnqueueWords, EventWords, Printing, RecoverWords, ServeWords,
-    SocketMode,
+    Answer, Asked, Command, EnqueueWords, EventWords, PageAddress, Printing, RecoverWords,
+    ServeWords, SocketMode,
 };
 pub use words::read_words;

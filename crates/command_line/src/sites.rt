@@ -6,13 +6,11 @@ ghost use Rattle.command_line.specs.Asking.{AreOptions, GivesMode, GivesPrinting
 ghost use Rattle.command_line.specs.Values.{Finds, GivesHosts, GivesPaths};
 ghost use Rattle.command_line.specs.declared.asked.ServeWords.{ServeWords};
 
-use super::addresses::{hosts_in, lacks_keys, paths_in, peers_in};
+use super::addresses::{any_page_in, hosts_in, lacks_keys, paths_in, peers_in};
 use super::asked::{Asked, Printing, ServeWords, SocketMode};
 use super::feeds::names_in;
 use super::numbers::{any_long_in, any_short_in, number_in, short_in, shorts_in};
-use command_tree::{
-    CONNECTIONS, HTTP, IDLE, PAUSE, PORT, SESSIONS, SITE, SITES, START, Values, WORKERS,
-};
+use command_tree::{CONNECTIONS, IDLE, PAUSE, PORT, SESSIONS, SITE, SITES, START, Values, WORKERS};
 use site_address::{HostPort, PeerAddress};
 use std::alloc::{AllocError, Global};
 
@@ -93,7 +91,7 @@ fn serving_in<'a>(
         until_input_ends: values.flag("until-input-ends"),
         prints: printing_in(values)?,
         log_time: values.flag("log-time"),
-        http: any_short_in(values, HTTP)?,
+        http: any_page_in(values, "http")?,
         http_hosts,
         load: values.text("load"),
         save: values.text("save"),

@@ -101,7 +101,7 @@ printing_app =
 
 -- with where it shows itself to browsers
 abbrev pub shown_app : App
-shown_app = with_rule (with_rule printing_app (number_rule (codes "http") 0 65535)) (several_rule (codes "http-host"))
+shown_app = with_rule (with_rule printing_app (option_rule (codes "http"))) (several_rule (codes "http-host"))
 
 -- with the files that keep its record
 abbrev pub serve_app : App

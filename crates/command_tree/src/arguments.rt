@@ -45,13 +45,6 @@ pub const PORT: Number = Number {
     most: 65_535,
 };
 
-/// The port at which a site shows itself to browsers.
-pub const HTTP: Number = Number {
-    name: "http",
-    least: 0,
-    most: 65_535,
-};
-
 /// How many threads look at a site's record for its sessions.
 pub const WORKERS: Number = Number {
     name: "workers",

@@ -28,8 +28,8 @@ mod site_options;
 mod values;
 
 pub use arguments::{
-    AROUND, CHANGE, CONNECTIONS, HTTP, IDLE, Number, PAUSE, PORT, SESSIONS, SITE, SITES, START,
-    UNTIL, WORKERS,
+    AROUND, CHANGE, CONNECTIONS, IDLE, Number, PAUSE, PORT, SESSIONS, SITE, SITES, START, UNTIL,
+    WORKERS,
 };
 pub use parsing::{Parsed, parse};
 pub use values::Values;

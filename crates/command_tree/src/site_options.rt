@@ -7,7 +7,7 @@ ghost use Rattle.command_tree.specs.Commands.{peered_app, placed_app, printing_a
 ghost use Rattle.command_tree.specs.Rules.{IsRule, needed_number};
 
 use super::arguments::{
-    CONNECTIONS, HTTP, IDLE, PAUSE, PORT, SESSIONS, SITE, SITES, START, WORKERS, default_option,
+    CONNECTIONS, IDLE, PAUSE, PORT, SESSIONS, SITE, SITES, START, WORKERS, default_option,
     default_text, file, flag, number_option, option, several, several_of, words,
 };
 use super::building::Building;
@@ -40,11 +40,11 @@ pub fn serve_command<'a>(alloc: Global) -> Building<'a>
 fn shown_command<'a>(alloc: Global) -> Building<'a>
     ensures { Builds shown_app result }
 {
-    let http = number_option(
+    let http = option(
         alloc,
-        HTTP,
-        "PORT",
-        "Shows itself to browsers at this port on 127.0.0.1; 0 has the system choose one",
+        "http",
+        "ADDRESS",
+        "Shows itself to browsers at a port on 127.0.0.1, 0 for one that is free, or at a Unix socket",
     );
     let host = several(
         alloc,

@@ -4,11 +4,13 @@ ghost use Rattle.std.specs.Prelude.{◌≡◌};
 
 use http_server::Config;
 use http1::Limits;
-use mio::net::TcpListener as Listener;
+use mio::net::TcpStream;
 use mio::{Interest, Poll, Token, Waker};
 use std::hash::RandomState;
 use std::io;
 use std::net::{Net, TcpListener};
+use std::os::fd::OwnedFd;
+use std::os::unix::net::UnixListener;
 use std::random::RandomSource;
 use thiserror::Error;
 
@@ -25,35 +27,77 @@ pub enum PageFault {
     NoMemory,
 }
 
+/// A listener that is polled.
+#[derive(Drop)]
+enum Polled {
+    /// At a port.
+    Port(mio::net::TcpListener),
+    /// At a Unix socket.
+    Socket(mio::net::UnixListener),
+}
+
 /// Where the connections come in: a listener that is polled, and the keys of the maps of header fields.
 #[derive(Drop)]
 pub struct Door {
     pub(crate) poll: Poll,
-    pub(crate) listener: Listener,
+    listener: Polled,
     pub(crate) keys: RandomState,
 }
 
-/// A door over a listener, and what wakes who serves there: `Waker::wake`, after the stop was asked, ends the wait at
-/// once. It fails where the system refuses a poll or has no random bytes.
+/// A door over the listener of a port, and what wakes who serves there: `Waker::wake`, after the stop was asked, ends
+/// the wait at once. It fails where the system refuses a poll or has no random bytes.
 pub fn open_door<R: Net + RandomSource>(
     rt: &R,
     listener: TcpListener,
 ) -> io::Result<(Door, Waker)> {
     listener.set_nonblocking(true)?;
     let poll = Poll::new(rt)?;
-    let mut listener = Listener::from_std(listener);
+    let mut listener = mio::net::TcpListener::from_std(listener);
     poll.registry()
         .register(&mut listener, DOOR, Interest::READABLE)?;
+    opened(rt, poll, Polled::Port(listener))
+}
+
+/// The same over the listener of a Unix socket.
+pub fn open_socket_door<R: Net + RandomSource>(
+    rt: &R,
+    listener: UnixListener,
+) -> io::Result<(Door, Waker)> {
+    listener.set_nonblocking(true)?;
+    let poll = Poll::new(rt)?;
+    let mut listener = mio::net::UnixListener::from_std(listener);
+    poll.registry()
+        .register(&mut listener, DOOR, Interest::READABLE)?;
+    opened(rt, poll, Polled::Socket(listener))
+}
+
+/// A door over a listener that the poll reports, and what wakes who serves there.
+fn opened<R: RandomSource>(rt: &R, poll: Poll, listener: Polled) -> io::Result<(Door, Waker)> {
     let waker = Waker::new(poll.registry(), BELL)?;
     let keys = RandomState::new(rt)?;
-    Ok((
-        Door {
-            poll,
-            listener,
-            keys,
-        },
-        waker,
-    ))
+    let door = Door {
+        poll,
+        listener,
+        keys,
+    };
+    Ok((door, waker))
+}
+
+impl Door {
+    /// The next connection that waits. One of a Unix socket is a stream like those of ports.
+    pub(crate) fn accept(&self) -> io::Result<TcpStream> {
+        match &self.listener {
+            Polled::Port(listener) => {
+                let (stream, _address) = listener.accept()?;
+                let _nodelay = stream.set_nodelay(true);
+                Ok(stream)
+            }
+            Polled::Socket(listener) => {
+                let (stream, _address) = listener.accept()?;
+                Ok(TcpStream::from(OwnedFd::from(stream)))
+            }
+        }
+    }
 }
 
 /// The limits of a connection: a head of 8,192 bytes (414 where a request line is longer, else 431), a body of 1,024

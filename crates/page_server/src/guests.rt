@@ -46,9 +46,7 @@ impl Guests {
     /// Closes the connections that are over.
     pub(crate) fn close(&mut self, now: Duration) {
         for place in self.places.iter_mut() {
-            if is_over(place, now) {
-                *place = None;
-            }
+            close_if_over(place, now);
         }
     }
 
@@ -86,6 +84,13 @@ impl Guests {
 fn note_ready(place: &mut Option<Guest>) {
     if let Some(guest) = place {
         guest.note_ready();
+    }
+}
+
+/// Closes the connection at a place if it is over.
+fn close_if_over(place: &mut Option<Guest>, now: Duration) {
+    if is_over(place, now) {
+        *place = None;
     }
 }
 

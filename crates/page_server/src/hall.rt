@@ -152,8 +152,8 @@ impl Hall {
             if !self.may_accept {
                 return;
             }
-            match self.door.listener.accept() {
-                Ok((stream, _address)) => self.seat(stream),
+            match self.door.accept() {
+                Ok(stream) => self.seat(stream),
                 // Nothing waits, or the system has no descriptor left: the door is tried again within a second.
                 Err(_) => self.may_accept = false,
             }
@@ -165,7 +165,6 @@ impl Hall {
         let mut stream = stream;
         let place = self.guests.place();
         let both = Interest::READABLE | Interest::WRITABLE;
-        let _nodelay = stream.set_nodelay(true);
         let registry = self.door.poll.registry();
         if registry.register(&mut stream, Token(place), both).is_ok() {
             let guest = Guest::new(self.alloc, self.door.keys, stream, self.now);

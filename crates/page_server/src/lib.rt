@@ -35,7 +35,7 @@ mod service;
 mod tag;
 
 pub use asked::{Asked, asked_for};
-pub use door::{Door, PageFault, limits, open_door};
+pub use door::{Door, PageFault, limits, open_door, open_socket_door};
 pub use hall::serve_pages;
 pub use hosts::is_own;
 pub use pages::Pages;

@@ -3,7 +3,7 @@
 use super::shelf::Shelf;
 use http_server::{Connection, State};
 use page_server::{PageService, Refusal, is_own, limits};
-use std::alloc::Global;
+use std::alloc::{AllocError, Global};
 use std::hash::RandomState;
 use std::io;
 use std::random::RandomSource;
@@ -98,34 +98,72 @@ const GUARDS: &str = "x-content-type-options: nosniff\r\nreferrer-policy: no-ref
     script-src 'self'; connect-src 'self'; img-src 'self'; form-action 'self'; base-uri 'none'; \
     frame-ancestors 'none'\r\n";
 
-/// A request, what it is answered before and after the fields that each page has, and how many pages were taken and
-/// hosts refused then.
-#[derive(Drop)]
+/// The fields of texts of these kinds.
+const PLAIN: &str = "content-type: text/plain; charset=utf-8\r\n";
+
+const HTML: &str = "content-type: text/html; charset=utf-8\r\n";
+
+const PROBLEM: &str = "content-type: application/problem+json\r\n";
+
+const STYLE: &str = "content-type: text/css; charset=utf-8\r\n";
+
+/// A request of a host; the status, the field of the kind and what comes after the fields that each page has, which it is
+/// answered; and how many pages were taken and hosts refused then.
+#[derive(Clone, Copy)]
 struct Row {
-    sent: &'static str,
-    head: &'static str,
+    ask: &'static str,
+    host: &'static str,
+    status: &'static str,
+    kind: &'static str,
     rest: &'static str,
     taken: u64,
     refused: u64,
 }
 
-/// Whether a request is answered as its row says, by a text that may be kept so.
-fn is_right<R: RandomSource>(rt: &R, alloc: Global, cache: &str, row: &Row) -> io::Result<bool> {
-    let reply = reply_to(rt, alloc, row.sent.as_bytes())?;
-    let (head, rest) = (row.head, row.rest);
-    let wanted = format!(in alloc; "{head}cache-control: {cache}\r\n{GUARDS}{rest}")?;
-    Ok(
-        reply.text.as_slice() == wanted.as_bytes()
-            && reply.taken == row.taken
-            && reply.refused == row.refused,
-    )
+/// A request of HTTP/1.1 with a field for the host and these others.
+fn request(alloc: Global, ask: &str, host: &str, fields: &str) -> Result<String, AllocError> {
+    format!(in alloc; "{ask} HTTP/1.1\r\nHost: {host}\r\n{fields}\r\n")
 }
 
-/// How many rows, from the first on, are as they say, by texts that may be kept so.
-fn right<R: RandomSource>(rt: &R, alloc: Global, cache: &str, rows: &[Row]) -> io::Result<usize> {
+/// An answer with the fields that each page has, whose text may be kept so.
+fn answer(
+    alloc: Global,
+    status: &str,
+    kind: &str,
+    cache: &str,
+    rest: &str,
+) -> Result<String, AllocError> {
+    format!(in alloc; "HTTP/1.1 {status}\r\n{kind}cache-control: {cache}\r\n{GUARDS}{rest}")
+}
+
+/// How many pages were taken and hosts refused at a connection that sends this, if it is answered just so.
+fn counts_of<R: RandomSource>(
+    rt: &R,
+    alloc: Global,
+    sent: &str,
+    wanted: &str,
+) -> io::Result<Option<(u64, u64)>> {
+    let reply = reply_to(rt, alloc, sent.as_bytes())?;
+    if reply.text.as_slice() == wanted.as_bytes() {
+        Ok(Some((reply.taken, reply.refused)))
+    } else {
+        Ok(None)
+    }
+}
+
+/// Whether a request is answered as its row says.
+fn is_right<R: RandomSource>(rt: &R, alloc: Global, row: Row) -> io::Result<bool> {
+    let sent = request(alloc, row.ask, row.host, "")?;
+    let wanted = answer(alloc, row.status, row.kind, "no-store", row.rest)?;
+    let counts = counts_of(rt, alloc, sent.as_str(), wanted.as_str())?;
+    Ok(counts == Some((row.taken, row.refused)))
+}
+
+/// How many rows, from the first on, are as they say.
+fn right<R: RandomSource>(rt: &R, alloc: Global, rows: &[Row]) -> io::Result<usize> {
     let mut count = 0usize;
     for row in rows {
-        if !is_right(rt, alloc, cache, row)? {
+        if !is_right(rt, alloc, *row)? {
             return Ok(count);
         }
         count = count.saturating_add(1);
@@ -133,187 +171,251 @@ fn right<R: RandomSource>(rt: &R, alloc: Global, cache: &str, rows: &[Row]) -> i
     Ok(count)
 }
 
+/// Requests of pages, of this machine by each of its names and by the one that was given.
+const PAGES: [Row; 6] = [
+    Row {
+        ask: "GET /healthz",
+        host: "localhost",
+        status: "200 OK",
+        kind: PLAIN,
+        rest: "content-length: 3\r\n\r\nok\n",
+        taken: 1,
+        refused: 0,
+    },
+    Row {
+        ask: "HEAD /healthz",
+        host: "[::1]:8080",
+        status: "200 OK",
+        kind: PLAIN,
+        rest: "content-length: 3\r\n\r\n",
+        taken: 1,
+        refused: 0,
+    },
+    Row {
+        ask: "GET http://127.0.0.1:80/healthz",
+        host: "GATE.example.org:80",
+        status: "200 OK",
+        kind: PLAIN,
+        rest: "content-length: 3\r\n\r\nok\n",
+        taken: 1,
+        refused: 0,
+    },
+    Row {
+        ask: "GET /change/7",
+        host: "localhost",
+        status: "404 Not Found",
+        kind: HTML,
+        rest: "content-length: 13\r\n\r\n<p>no change\n",
+        taken: 1,
+        refused: 0,
+    },
+    Row {
+        ask: "GET /api/v1/status",
+        host: "localhost",
+        status: "503 Service Unavailable",
+        kind: PROBLEM,
+        rest: "content-length: 3\r\n\r\n{}\n",
+        taken: 1,
+        refused: 0,
+    },
+    Row {
+        ask: "GET /",
+        host: "localhost",
+        status: "503 Service Unavailable",
+        kind: PLAIN,
+        rest: "content-length: 24\r\n\r\n503 Service Unavailable\n",
+        taken: 0,
+        refused: 0,
+    },
+];
+
 #[test]
 fn pages(rt: HostRuntime) -> Result<(), Fail> {
-    let rows = [
-        Row {
-            sent: "GET /healthz HTTP/1.1\r\nHost: localhost\r\n\r\n",
-            head: "HTTP/1.1 200 OK\r\ncontent-type: text/plain; charset=utf-8\r\n",
-            rest: "content-length: 3\r\n\r\nok\n",
-            taken: 1,
-            refused: 0,
-        },
-        Row {
-            sent: "HEAD /healthz HTTP/1.1\r\nHost: [::1]:8080\r\n\r\n",
-            head: "HTTP/1.1 200 OK\r\ncontent-type: text/plain; charset=utf-8\r\n",
-            rest: "content-length: 3\r\n\r\n",
-            taken: 1,
-            refused: 0,
-        },
-        Row {
-            sent: "GET http://127.0.0.1:80/healthz HTTP/1.1\r\nHost: GATE.example.org:80\r\n\r\n",
-            head: "HTTP/1.1 200 OK\r\ncontent-type: text/plain; charset=utf-8\r\n",
-            rest: "content-length: 3\r\n\r\nok\n",
-            taken: 1,
-            refused: 0,
-        },
-        Row {
-            sent: "GET /change/7 HTTP/1.1\r\nHost: localhost\r\n\r\n",
-            head: "HTTP/1.1 404 Not Found\r\ncontent-type: text/html; charset=utf-8\r\n",
-            rest: "content-length: 13\r\n\r\n<p>no change\n",
-            taken: 1,
-            refused: 0,
-        },
-        Row {
-            sent: "GET /api/v1/status HTTP/1.1\r\nHost: localhost\r\n\r\n",
-            head: "HTTP/1.1 503 Service Unavailable\r\ncontent-type: application/problem+json\r\n",
-            rest: "content-length: 3\r\n\r\n{}\n",
-            taken: 1,
-            refused: 0,
-        },
-        Row {
-            sent: "GET / HTTP/1.1\r\nHost: localhost\r\n\r\n",
-            head: "HTTP/1.1 503 Service Unavailable\r\ncontent-type: text/plain; charset=utf-8\r\n",
-            rest: "content-length: 24\r\n\r\n503 Service Unavailable\n",
-            taken: 0,
-            refused: 0,
-        },
-    ];
-    let count = right(&rt, rt.alloc(), "no-store", rows.as_slice())?;
-    assert_eq!(rt; count, 6);
+    let count = right(&rt, rt.alloc(), PAGES.as_slice())?;
+    assert_eq!(rt; count, PAGES.len());
     Ok(())
 }
+
+/// What a request of another host is answered.
+const MISDIRECTED: &str = "content-length: 24\r\n\r\n421 Misdirected Request\n";
+
+/// Requests of other hosts.
+const OTHER_HOSTS: [Row; 3] = [
+    Row {
+        ask: "GET /healthz",
+        host: "evil.example.org",
+        status: "421 Misdirected Request",
+        kind: PLAIN,
+        rest: MISDIRECTED,
+        taken: 0,
+        refused: 1,
+    },
+    Row {
+        ask: "GET /api/v1/items",
+        host: "localhost.example.org",
+        status: "421 Misdirected Request",
+        kind: PROBLEM,
+        rest: "content-length: 66\r\n\r\n{\"type\":\"about:blank\",\"title\":\"Misdirected Request\",\"status\":421}\n",
+        taken: 0,
+        refused: 1,
+    },
+    Row {
+        ask: "GET http://evil.example.org/healthz",
+        host: "localhost",
+        status: "421 Misdirected Request",
+        kind: PLAIN,
+        rest: MISDIRECTED,
+        taken: 0,
+        refused: 1,
+    },
+];
 
 #[test]
 fn refusals_of_hosts(rt: HostRuntime) -> Result<(), Fail> {
-    let rows = [
-        Row {
-            sent: "GET /healthz HTTP/1.1\r\nHost: evil.example.org\r\n\r\n",
-            head: "HTTP/1.1 421 Misdirected Request\r\ncontent-type: text/plain; charset=utf-8\r\n",
-            rest: "content-length: 24\r\n\r\n421 Misdirected Request\n",
-            taken: 0,
-            refused: 1,
-        },
-        Row {
-            sent: "GET /api/v1/items HTTP/1.1\r\nHost: localhost.example.org\r\n\r\n",
-            head: "HTTP/1.1 421 Misdirected Request\r\ncontent-type: application/problem+json\r\n",
-            rest: "content-length: 66\r\n\r\n{\"type\":\"about:blank\",\"title\":\"Misdirected Request\",\"status\":421}\n",
-            taken: 0,
-            refused: 1,
-        },
-        Row {
-            sent: "GET http://evil.example.org/healthz HTTP/1.1\r\nHost: localhost\r\n\r\n",
-            head: "HTTP/1.1 421 Misdirected Request\r\ncontent-type: text/plain; charset=utf-8\r\n",
-            rest: "content-length: 24\r\n\r\n421 Misdirected Request\n",
-            taken: 0,
-            refused: 1,
-        },
-        Row {
-            sent: "GET /healthz HTTP/1.0\r\n\r\n",
-            head: "HTTP/1.0 400 Bad Request\r\ncontent-type: text/plain; charset=utf-8\r\n",
-            rest: "content-length: 16\r\nconnection: close\r\n\r\n400 Bad Request\n",
-            taken: 0,
-            refused: 0,
-        },
-    ];
-    let count = right(&rt, rt.alloc(), "no-store", rows.as_slice())?;
-    assert_eq!(rt; count, 4);
+    let count = right(&rt, rt.alloc(), OTHER_HOSTS.as_slice())?;
+    assert_eq!(rt; count, OTHER_HOSTS.len());
     Ok(())
 }
+
+/// What a request of HTTP/1.0 without a host is answered before and after the fields that each page has.
+const NO_HOST: &str =
+    "HTTP/1.0 400 Bad Request\r\ncontent-type: text/plain; charset=utf-8\r\ncache-control: no-store\r\n";
+
+const NO_HOST_END: &str = "content-length: 16\r\nconnection: close\r\n\r\n400 Bad Request\n";
+
+#[test]
+fn a_request_without_a_host_is_refused(rt: HostRuntime) -> Result<(), Fail> {
+    let wanted = format!(in rt.alloc(); "{NO_HOST}{GUARDS}{NO_HOST_END}")?;
+    let sent = "GET /healthz HTTP/1.0\r\n\r\n";
+    let counts = counts_of(&rt, rt.alloc(), sent, wanted.as_str())?;
+    assert_eq!(rt; counts, Some((0u64, 0u64)));
+    Ok(())
+}
+
+/// Requests with other methods, and of what isn't there.
+const OTHERS: [Row; 4] = [
+    Row {
+        ask: "POST /healthz",
+        host: "localhost",
+        status: "405 Method Not Allowed",
+        kind: PLAIN,
+        rest: NOT_ALLOWED,
+        taken: 0,
+        refused: 0,
+    },
+    Row {
+        ask: "DELETE /api/v1/changes/1",
+        host: "localhost",
+        status: "405 Method Not Allowed",
+        kind: PROBLEM,
+        rest: "allow: GET, HEAD\r\ncontent-length: 65\r\n\r\n{\"type\":\"about:blank\",\"title\":\"Method Not Allowed\",\"status\":405}\n",
+        taken: 0,
+        refused: 0,
+    },
+    Row {
+        ask: "GET /favicon.ico",
+        host: "localhost",
+        status: "404 Not Found",
+        kind: PLAIN,
+        rest: "content-length: 14\r\n\r\n404 Not Found\n",
+        taken: 0,
+        refused: 0,
+    },
+    Row {
+        ask: "GET /api/v1/items?page=0",
+        host: "localhost",
+        status: "404 Not Found",
+        kind: PROBLEM,
+        rest: "content-length: 56\r\n\r\n{\"type\":\"about:blank\",\"title\":\"Not Found\",\"status\":404}\n",
+        taken: 0,
+        refused: 0,
+    },
+];
 
 #[test]
 fn refusals_of_methods_and_paths(rt: HostRuntime) -> Result<(), Fail> {
-    let rows = [
-        Row {
-            sent: "POST /healthz HTTP/1.1\r\nHost: localhost\r\nContent-Length: 2\r\n\r\nhi",
-            head: "HTTP/1.1 405 Method Not Allowed\r\ncontent-type: text/plain; charset=utf-8\r\n",
-            rest: "allow: GET, HEAD\r\ncontent-length: 23\r\n\r\n405 Method Not Allowed\n",
-            taken: 0,
-            refused: 0,
-        },
-        Row {
-            sent: "DELETE /api/v1/changes/1 HTTP/1.1\r\nHost: localhost\r\n\r\n",
-            head: "HTTP/1.1 405 Method Not Allowed\r\ncontent-type: application/problem+json\r\n",
-            rest: "allow: GET, HEAD\r\ncontent-length: 65\r\n\r\n{\"type\":\"about:blank\",\"title\":\"Method Not Allowed\",\"status\":405}\n",
-            taken: 0,
-            refused: 0,
-        },
-        Row {
-            sent: "GET /favicon.ico HTTP/1.1\r\nHost: localhost\r\n\r\n",
-            head: "HTTP/1.1 404 Not Found\r\ncontent-type: text/plain; charset=utf-8\r\n",
-            rest: "content-length: 14\r\n\r\n404 Not Found\n",
-            taken: 0,
-            refused: 0,
-        },
-        Row {
-            sent: "GET /api/v1/items?page=0 HTTP/1.1\r\nHost: localhost\r\n\r\n",
-            head: "HTTP/1.1 404 Not Found\r\ncontent-type: application/problem+json\r\n",
-            rest: "content-length: 56\r\n\r\n{\"type\":\"about:blank\",\"title\":\"Not Found\",\"status\":404}\n",
-            taken: 0,
-            refused: 0,
-        },
-    ];
-    let count = right(&rt, rt.alloc(), "no-store", rows.as_slice())?;
-    assert_eq!(rt; count, 4);
+    let count = right(&rt, rt.alloc(), OTHERS.as_slice())?;
+    assert_eq!(rt; count, OTHERS.len());
     Ok(())
 }
 
-// The tag is the SHA-256 of `abc` (FIPS 180-4, the first example).
+/// What a request with another method is answered.
+const NOT_ALLOWED: &str = "allow: GET, HEAD\r\ncontent-length: 23\r\n\r\n405 Method Not Allowed\n";
+
+/// A request that brings a body.
+const WITH_BODY: &str = "POST /healthz HTTP/1.1\r\nHost: localhost\r\nContent-Length: 2\r\n\r\nhi";
+
+#[test]
+fn a_body_is_passed_over(rt: HostRuntime) -> Result<(), Fail> {
+    let wanted = answer(
+        rt.alloc(),
+        "405 Method Not Allowed",
+        PLAIN,
+        "no-store",
+        NOT_ALLOWED,
+    )?;
+    let counts = counts_of(&rt, rt.alloc(), WITH_BODY, wanted.as_str())?;
+    assert_eq!(rt; counts, Some((0u64, 0u64)));
+    Ok(())
+}
+
+/// The tag of the style: the SHA-256 of `abc` (FIPS 180-4, the first example); without its marks, and cut.
+const TAG: &str = "\"ba7816bf8f01cfea414140de5dae2223b00361a396177a9cb410ff61f20015ad\"";
+
+const BARE_TAG: &str = "ba7816bf8f01cfea414140de5dae2223b00361a396177a9cb410ff61f20015ad";
+
+const CUT_TAG: &str = "\"ba7816bf8f01cfea414140de5dae2223b00361a396177a9cb410ff61f20015a\"";
+
+/// The fields of a request of the style before and after a tag, with the tag; and whether who sends them has kept it.
+const NAMED: [(&str, &str, &str, bool); 7] = [
+    ("", "", "", false),
+    ("If-None-Match: ", TAG, "\r\n", true),
+    ("If-None-Match: W/", TAG, "\r\n", true),
+    ("If-None-Match: ", "*", "\r\n", true),
+    (
+        "If-None-Match: \"a\", W/\"b\"\r\nIf-None-Match: \"c\",",
+        TAG,
+        "\r\n",
+        true,
+    ),
+    ("If-None-Match: \"a\", ", CUT_TAG, "\r\n", false),
+    ("If-None-Match: ", BARE_TAG, "\r\n", false),
+];
+
+/// What a request of the style is answered, by who has kept it or not.
+fn style_answer(alloc: Global, is_kept: bool) -> Result<String, AllocError> {
+    let (status, kind, end) = if is_kept {
+        ("304 Not Modified", "", "\r\n")
+    } else {
+        ("200 OK", STYLE, "content-length: 3\r\n\r\nabc")
+    };
+    let rest = format!(in alloc; "etag: {TAG}\r\n{end}")?;
+    answer(alloc, status, kind, "no-cache", rest.as_str())
+}
+
+/// Whether a request of the style with these fields is answered so.
+fn is_style<R: RandomSource>(
+    rt: &R,
+    alloc: Global,
+    fields: &str,
+    is_kept: bool,
+) -> io::Result<bool> {
+    let sent = request(alloc, "GET /style.css", "localhost", fields)?;
+    let wanted = style_answer(alloc, is_kept)?;
+    let counts = counts_of(rt, alloc, sent.as_str(), wanted.as_str())?;
+    Ok(counts == Some((1, 0)))
+}
+
 #[test]
 fn texts_that_stay_the_same(rt: HostRuntime) -> Result<(), Fail> {
-    let rows = [
-        Row {
-            sent: "GET /style.css HTTP/1.1\r\nHost: localhost\r\n\r\n",
-            head: "HTTP/1.1 200 OK\r\ncontent-type: text/css; charset=utf-8\r\n",
-            rest: "etag: \"ba7816bf8f01cfea414140de5dae2223b00361a396177a9cb410ff61f20015ad\"\r\ncontent-length: 3\r\n\r\nabc",
-            taken: 1,
-            refused: 0,
-        },
-        Row {
-            sent: "GET /style.css HTTP/1.1\r\nHost: localhost\r\nIf-None-Match: \"ba7816bf8f01cfea414140de5dae2223b00361a396177a9cb410ff61f20015ad\"\r\n\r\n",
-            head: "HTTP/1.1 304 Not Modified\r\n",
-            rest: "etag: \"ba7816bf8f01cfea414140de5dae2223b00361a396177a9cb410ff61f20015ad\"\r\n\r\n",
-            taken: 1,
-            refused: 0,
-        },
-        Row {
-            sent: "GET /style.css HTTP/1.1\r\nHost: localhost\r\nIf-None-Match: W/\"ba7816bf8f01cfea414140de5dae2223b00361a396177a9cb410ff61f20015ad\"\r\n\r\n",
-            head: "HTTP/1.1 304 Not Modified\r\n",
-            rest: "etag: \"ba7816bf8f01cfea414140de5dae2223b00361a396177a9cb410ff61f20015ad\"\r\n\r\n",
-            taken: 1,
-            refused: 0,
-        },
-        Row {
-            sent: "GET /style.css HTTP/1.1\r\nHost: localhost\r\nIf-None-Match: *\r\n\r\n",
-            head: "HTTP/1.1 304 Not Modified\r\n",
-            rest: "etag: \"ba7816bf8f01cfea414140de5dae2223b00361a396177a9cb410ff61f20015ad\"\r\n\r\n",
-            taken: 1,
-            refused: 0,
-        },
-        Row {
-            sent: "GET /style.css HTTP/1.1\r\nHost: localhost\r\nIf-None-Match: \"a\", W/\"b\"\r\nIf-None-Match: \"c\",\"ba7816bf8f01cfea414140de5dae2223b00361a396177a9cb410ff61f20015ad\"\r\n\r\n",
-            head: "HTTP/1.1 304 Not Modified\r\n",
-            rest: "etag: \"ba7816bf8f01cfea414140de5dae2223b00361a396177a9cb410ff61f20015ad\"\r\n\r\n",
-            taken: 1,
-            refused: 0,
-        },
-        Row {
-            sent: "GET /style.css HTTP/1.1\r\nHost: localhost\r\nIf-None-Match: \"a\", \"ba7816bf8f01cfea414140de5dae2223b00361a396177a9cb410ff61f20015a\"\r\n\r\n",
-            head: "HTTP/1.1 200 OK\r\ncontent-type: text/css; charset=utf-8\r\n",
-            rest: "etag: \"ba7816bf8f01cfea414140de5dae2223b00361a396177a9cb410ff61f20015ad\"\r\ncontent-length: 3\r\n\r\nabc",
-            taken: 1,
-            refused: 0,
-        },
-        Row {
-            sent: "GET /style.css HTTP/1.1\r\nHost: localhost\r\nIf-None-Match: ba7816bf8f01cfea414140de5dae2223b00361a396177a9cb410ff61f20015ad\r\n\r\n",
-            head: "HTTP/1.1 200 OK\r\ncontent-type: text/css; charset=utf-8\r\n",
-            rest: "etag: \"ba7816bf8f01cfea414140de5dae2223b00361a396177a9cb410ff61f20015ad\"\r\ncontent-length: 3\r\n\r\nabc",
-            taken: 1,
-            refused: 0,
-        },
-    ];
-    let count = right(&rt, rt.alloc(), "no-cache", rows.as_slice())?;
-    assert_eq!(rt; count, 7);
+    let mut count = 0usize;
+    for (before, tag, after, is_kept) in NAMED {
+        let fields = format!(in rt.alloc(); "{before}{tag}{after}")?;
+        if is_style(&rt, rt.alloc(), fields.as_str(), is_kept)? {
+            count = count.saturating_add(1);
+        }
+    }
+    assert_eq!(rt; count, NAMED.len());
     Ok(())
 }
 

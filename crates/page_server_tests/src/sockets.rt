@@ -1,17 +1,19 @@
 //! The server over sockets of this machine.
 
 use super::shelf::{LONG, Shelf};
-use page_server::{open_door, serve_pages};
+use page_server::{open_door, open_socket_door, serve_pages};
 use site_net::Stop;
 use std::alloc::Global;
 use std::io::{Read, Write};
 use std::net::{Net, Shutdown, TcpListener, TcpStream};
+use std::os::unix::net::{UnixListener, UnixStream};
 use std::random::RandomSource;
+use std::rt::Files;
 use std::sync::Wait;
 use std::test::Fail;
 use std::thread::Threads;
 use std::time::{Clock, Duration, Instant};
-use std::{io, thread};
+use std::{fs, io, thread};
 
 const ASK: &str = "GET /healthz HTTP/1.1\r\nHost: localhost\r\nConnection: close\r\n\r\n";
 
@@ -186,5 +188,46 @@ fn a_client_that_does_not_read_holds_nobody_up(rt: HostRuntime) -> Result<(), Fa
 fn a_silent_crowd_holds_nobody_up(rt: HostRuntime) -> Result<(), Fail> {
     let is_served = serves(&rt, rt.alloc(), Client::Crowd)?;
     assert!(rt; is_served);
+    Ok(())
+}
+
+/// What a client is answered over a Unix socket.
+fn answer_at<R: Net>(rt: &R, alloc: Global, path: &str) -> io::Result<String> {
+    let mut stream = UnixStream::connect(rt, path)?;
+    stream.set_read_timeout(Some(Duration::from_secs(20)))?;
+    stream.write_all(ASK.as_bytes())?;
+    io::read_to_string(alloc, stream)
+}
+
+/// Runs a server over a Unix socket and a client beside it: what that is answered, if the server ended well.
+fn answered_at<R>(rt: &R, alloc: Global, path: &str) -> io::Result<Option<String>>
+where
+    R: Net + Files + Threads + Wait + Clock + Sync + RandomSource,
+{
+    let listener = UnixListener::bind(rt, path)?;
+    let (door, waker) = open_socket_door(rt, listener)?;
+    let stop = Stop::new();
+    let (ended, answer) = thread::join(
+        rt,
+        || serve_pages(rt, alloc, door, &[], &stop, Shelf::new(alloc)),
+        || {
+            let answer = answer_at(rt, alloc, path);
+            stop.ask(rt);
+            let _woken = waker.wake();
+            answer
+        },
+    );
+    fs::remove_file(rt, path)?;
+    match ended {
+        Ok(()) => Ok(Some(answer?)),
+        Err(_) => Ok(None),
+    }
+}
+
+#[test]
+fn a_client_is_answered_over_a_socket(rt: HostRuntime) -> Result<(), Fail> {
+    let answer = answered_at(&rt, rt.alloc(), "./door.tmp")?.ok_or("an end")?;
+    assert!(rt; answer.as_str().starts_with("HTTP/1.1 200 OK\r\n"));
+    assert!(rt; answer.as_str().ends_with("\r\n\r\nok\n"));
     Ok(())
 }

@@ -1,6 +1,7 @@
 //! Which rows a list has, and which of them a page has.
 
 use super::record::{gate, replica};
+use gate_rules::Gate;
 use page_routes::{Choice, Reason, Shown};
 use page_text::{ROWS, Row, chosen_rows, pages_are_the_report, rows_of};
 use ready_core::{Verdicts, evaluate};
@@ -19,20 +20,28 @@ fn many(alloc: Global, items: u32) -> Result<Verdicts, Fail> {
 
 /// How many rows this page of the list of so many items has, and the place of its first one.
 fn page(alloc: Global, items: u32, number: u32) -> Result<(usize, usize), Fail> {
+    let verdicts = many(alloc, items)?;
+    let state = State::new(alloc);
     let choice = Choice {
         shown: Shown::Open,
         reason: None,
         words: None,
         page: number,
     };
-    let verdicts = many(alloc, items)?;
-    let rows = chosen_rows(alloc, &State::new(alloc), &verdicts, &choice)?;
-    let shown = rows_of(rows.as_slice(), number);
+    match chosen_rows(alloc, &state, &verdicts, &choice) {
+        Ok(rows) => Ok(on_page(rows.as_slice(), number)),
+        Err(error) => Err(Fail::from(error)),
+    }
+}
+
+/// How many of some rows are on this page, and the place of the first one of them.
+fn on_page(rows: &[Row], number: u32) -> (usize, usize) {
+    let shown = rows_of(rows, number);
     let first = match shown.first() {
         Some(Row::Enters(_, place)) => *place,
         Some(Row::Waits(_)) | None => 0,
     };
-    Ok((shown.len(), first))
+    (shown.len(), first)
 }
 
 /// The pages of 250 items: the number of each, how many rows it has, and the place of the first one.
@@ -73,10 +82,34 @@ fn chosen(
         words,
         page: 1,
     };
+    chosen_by(alloc, &choice)
+}
+
+/// The same of a choice as it is.
+fn chosen_by(alloc: Global, choice: &Choice) -> Result<String, Fail> {
+    let gate = gate(alloc)?;
+    chosen_under(alloc, choice, &gate)
+}
+
+/// The same under a gate.
+fn chosen_under(alloc: Global, choice: &Choice, gate: &Gate) -> Result<String, Fail> {
     let replica = replica(alloc)?;
-    let verdicts = evaluate(alloc, replica.state(), &gate(alloc)?)?;
+    chosen_in(alloc, choice, gate, replica.state())
+}
+
+/// The same in a state.
+fn chosen_in(alloc: Global, choice: &Choice, gate: &Gate, state: &State) -> Result<String, Fail> {
+    let verdicts = evaluate(alloc, state, gate)?;
+    match chosen_rows(alloc, state, &verdicts, choice) {
+        Ok(rows) => changes_of(alloc, rows.as_slice()),
+        Err(error) => Err(Fail::from(error)),
+    }
+}
+
+/// The numbers of the changes of rows.
+fn changes_of(alloc: Global, rows: &[Row]) -> Result<String, Fail> {
     let mut text = String::new(alloc);
-    for row in &chosen_rows(alloc, replica.state(), &verdicts, &choice)? {
+    for row in rows {
         let change = row.item().change;
         write!(text, "{change} ")?;
     }

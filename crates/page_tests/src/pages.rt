@@ -2,15 +2,18 @@
 
 use super::record::shows;
 use page_routes::{Choice, Kind, Place, Route, Shown, Status};
+use std::alloc::{AllocError, Global};
 use std::test::Fail;
 
-/// The list of the open items.
-const LIST: &str = r#"<!DOCTYPE html>
+/// What each page has before its title, between that and its own part, and after that.
+const BEFORE_TITLE: &str = r#"<!DOCTYPE html>
 <html lang="en">
 <head>
 <meta charset="utf-8">
 <meta name="viewport" content="width=device-width, initial-scale=1">
-<title>Items</title>
+<title>"#;
+
+const AFTER_TITLE: &str = r#"</title>
 <link rel="icon" href="/icon.svg">
 <link rel="stylesheet" href="/style.css">
 <script src="/script.js" defer></script>
@@ -18,14 +21,43 @@ const LIST: &str = r#"<!DOCTYPE html>
 <body>
 <header><p><a href="/">reviewgate</a>, site 1</p></header>
 <main>
-<h1>Items</h1>
+"#;
+
+const END: &str = "</main>\n</body>\n</html>\n";
+
+/// Whether the page at a route has this status, this title and this part of its own.
+fn is_page(
+    alloc: Global,
+    route: &Route,
+    status: Status,
+    title: &str,
+    main: &str,
+) -> Result<bool, Fail> {
+    let text = format!(in alloc; "{BEFORE_TITLE}{title}{AFTER_TITLE}{main}{END}")?;
+    shows(alloc, route, status, Kind::Html, text.as_str())
+}
+
+/// What differs from list to list: the words that are searched for, the kinds of items, how the caption begins, the rows,
+/// and the links to other pages.
+#[derive(Clone, Copy)]
+struct List {
+    words: &'static str,
+    kinds: &'static str,
+    caption: &'static str,
+    rows: &'static str,
+    links: &'static str,
+}
+
+/// What each list has before, between and after these.
+const FORM: &str = r#"<h1>Items</h1>
 <form action="/" method="get" role="search">
-<p><label for="q">Subject or number</label><input id="q" name="q" type="search" maxlength="200" value=""></p>
+<p><label for="q">Subject or number</label><input id="q" name="q" type="search" maxlength="200" value=""#;
+
+const KINDS: &str = r#""></p>
 <p><label for="show">Items</label><select id="show" name="show">
-<option selected>open</option>
-<option>ready</option>
-<option>all</option>
-</select></p>
+"#;
+
+const NEWS: &str = r#"</select></p>
 <p><label for="reason">Why they wait</label><select id="reason" name="reason">
 <option value="">any reason</option>
 <option>require</option>
@@ -51,126 +83,92 @@ const LIST: &str = r#"<!DOCTYPE html>
 <li><a href="/?reason=dependency">dependency</a>: 1</li>
 </ul>
 <table>
-<caption>Page 1 of 1, 3 items in all</caption>
+<caption>"#;
+
+const HEAD: &str = r#" items in all</caption>
 <thead><tr><th scope="col">Place</th><th scope="col">Item</th><th scope="col">Subject</th>
 <th scope="col">Why it waits</th><th scope="col">Cause</th></tr></thead>
 <tbody>
-<tr><td>1</td><th scope="row"><a href="/change/101,1">101,1</a></th><td>Fix the door</td><td class="ready">ready</td><td></td></tr>
+"#;
+
+const LINKS: &str = "</tbody>\n</table>\n<nav aria-label=\"Pages\">\n";
+
+/// The own part of the page of a list.
+fn main_of(alloc: Global, list: &List) -> Result<String, AllocError> {
+    let List {
+        words,
+        kinds,
+        caption,
+        rows,
+        links,
+    } = list;
+    format!(in alloc;
+        "{FORM}{words}{KINDS}{kinds}{NEWS}{caption}{HEAD}{rows}{LINKS}{links}</nav>\n</div>\n"
+    )
+}
+
+/// Whether what is asked for is shown as this list.
+fn is_list(alloc: Global, choice: Choice, list: &List) -> Result<bool, Fail> {
+    let main = main_of(alloc, list)?;
+    is_page(
+        alloc,
+        &Route::List(choice),
+        Status::Found,
+        "Items",
+        main.as_str(),
+    )
+}
+
+/// The list of the open items.
+const LIST: List = List {
+    words: "",
+    kinds: "<option selected>open</option>\n<option>ready</option>\n<option>all</option>\n",
+    caption: "Page 1 of 1, 3",
+    rows: r#"<tr><td>1</td><th scope="row"><a href="/change/101,1">101,1</a></th><td>Fix the door</td><td class="ready">ready</td><td></td></tr>
 <tr><td></td><th scope="row"><a href="/change/102,1">102,1</a></th><td>Open</td><td class="waits">dependency 103</td><td><a href="/change/103,2">103,2</a> require approval 2</td></tr>
 <tr><td></td><th scope="row"><a href="/change/103,2">103,2</a></th><td>&lt;script&gt;alert(&quot;x&quot;)&amp;&#39;\u{202E}abc</td><td class="waits">require approval 2: verified 1 or 2 by zuul</td><td></td></tr>
-</tbody>
-</table>
-<nav aria-label="Pages">
-</nav>
-</div>
-</main>
-</body>
-</html>
-"#;
+"#,
+    links: "",
+};
 
 #[test]
 fn the_list_shows_open_items_and_why_they_wait(rt: HostRuntime) -> Result<(), Fail> {
-    let route = Route::List(Choice {
+    let open = Choice {
         shown: Shown::Open,
         reason: None,
         words: None,
         page: 1,
-    });
-    let is_shown = shows(rt.alloc(), &route, Status::Found, Kind::Html, LIST)?;
+    };
+    let is_shown = is_list(rt.alloc(), open, &LIST)?;
     assert!(rt; is_shown);
     Ok(())
 }
 
 /// The second page of a list that has one.
-const SECOND: &str = r#"<!DOCTYPE html>
-<html lang="en">
-<head>
-<meta charset="utf-8">
-<meta name="viewport" content="width=device-width, initial-scale=1">
-<title>Items</title>
-<link rel="icon" href="/icon.svg">
-<link rel="stylesheet" href="/style.css">
-<script src="/script.js" defer></script>
-</head>
-<body>
-<header><p><a href="/">reviewgate</a>, site 1</p></header>
-<main>
-<h1>Items</h1>
-<form action="/" method="get" role="search">
-<p><label for="q">Subject or number</label><input id="q" name="q" type="search" maxlength="200" value="A&quot;b"></p>
-<p><label for="show">Items</label><select id="show" name="show">
-<option>open</option>
-<option>ready</option>
-<option selected>all</option>
-</select></p>
-<p><label for="reason">Why they wait</label><select id="reason" name="reason">
-<option value="">any reason</option>
-<option>require</option>
-<option>reject</option>
-<option>cycle</option>
-<option>unknown</option>
-<option>dependency</option>
-</select></p>
-<p><button type="submit">Show</button></p>
-</form>
-<div id="live">
-<p><strong class="ready">1</strong> may enter, <strong class="waits">2</strong> open ones may not.</p>
-<p>As it was 1 s ago.</p>
-<p>The last operation came 1 min ago.</p>
-<p>A feed last heard from Gerrit 7 s ago.</p>
-<p class="waits">The peer /run/&quot;a\&lt;b&gt;&amp;\u{A}&#39; has not been reached for 3 min.</p>
-<h2>Why open items wait</h2>
-<ul>
-<li><a href="/?reason=require">require</a>: 1</li>
-<li><a href="/?reason=reject">reject</a>: 0</li>
-<li><a href="/?reason=cycle">cycle</a>: 0</li>
-<li><a href="/?reason=unknown">unknown</a>: 0</li>
-<li><a href="/?reason=dependency">dependency</a>: 1</li>
-</ul>
-<table>
-<caption>Page 2 of 1, 0 items in all</caption>
-<thead><tr><th scope="col">Place</th><th scope="col">Item</th><th scope="col">Subject</th>
-<th scope="col">Why it waits</th><th scope="col">Cause</th></tr></thead>
-<tbody>
-</tbody>
-</table>
-<nav aria-label="Pages">
-<a href="/?show=all&amp;page=1&amp;q=A%22b" rel="prev">Previous page</a>
-</nav>
-</div>
-</main>
-</body>
-</html>
-"#;
+const SECOND: List = List {
+    words: "A&quot;b",
+    kinds: "<option>open</option>\n<option>ready</option>\n<option selected>all</option>\n",
+    caption: "Page 2 of 1, 0",
+    rows: "",
+    links: r#"<a href="/?show=all&amp;page=1&amp;q=A%22b" rel="prev">Previous page</a>
+"#,
+};
 
 #[test]
 fn what_is_searched_for_stays_in_the_form_and_in_links(rt: HostRuntime) -> Result<(), Fail> {
-    let route = Route::List(Choice {
+    let second = Choice {
         shown: Shown::All,
         reason: None,
         words: Some(String::from_str(rt.alloc(), "A\"b")?),
         page: 2,
-    });
-    let is_shown = shows(rt.alloc(), &route, Status::Found, Kind::Html, SECOND)?;
+    };
+    let is_shown = is_list(rt.alloc(), second, &SECOND)?;
     assert!(rt; is_shown);
     Ok(())
 }
 
-/// The page of an item that waits for another one.
-const WAITING: &str = r#"<!DOCTYPE html>
-<html lang="en">
-<head>
-<meta charset="utf-8">
-<meta name="viewport" content="width=device-width, initial-scale=1">
-<title>Change 102,1: Open</title>
-<link rel="icon" href="/icon.svg">
-<link rel="stylesheet" href="/style.css">
-<script src="/script.js" defer></script>
-</head>
-<body>
-<header><p><a href="/">reviewgate</a>, site 1</p></header>
-<main>
-<h1>Change 102, patch set 1</h1>
+/// The own part of the page of an item that waits for another one.
+const WAITING: &str = r#"<h1>Change 102, patch set 1</h1>
 <p>Open</p>
 <div id="live">
 <h2>Why it waits</h2>
@@ -219,26 +217,13 @@ const WAITING: &str = r#"<!DOCTYPE html>
 </svg>
 </div>
 </div>
-</main>
-</body>
-</html>
 "#;
 
-/// The page of the item with the hostile subject.
-const HOSTILE: &str = r#"<!DOCTYPE html>
-<html lang="en">
-<head>
-<meta charset="utf-8">
-<meta name="viewport" content="width=device-width, initial-scale=1">
-<title>Change 103,2: &lt;script&gt;alert(&quot;x&quot;)&amp;&#39;\u{202E}abc</title>
-<link rel="icon" href="/icon.svg">
-<link rel="stylesheet" href="/style.css">
-<script src="/script.js" defer></script>
-</head>
-<body>
-<header><p><a href="/">reviewgate</a>, site 1</p></header>
-<main>
-<h1>Change 103, patch set 2</h1>
+/// The hostile subject, as a page has it, with its item before; and the own part of the page of that item.
+const HOSTILE_TITLE: &str =
+    r#"Change 103,2: &lt;script&gt;alert(&quot;x&quot;)&amp;&#39;\u{202E}abc"#;
+
+const HOSTILE: &str = r#"<h1>Change 103, patch set 2</h1>
 <p>&lt;script&gt;alert(&quot;x&quot;)&amp;&#39;\u{202E}abc</p>
 <div id="live">
 <h2>Why it waits</h2>
@@ -285,61 +270,44 @@ const HOSTILE: &str = r#"<!DOCTYPE html>
 </svg>
 </div>
 </div>
-</main>
-</body>
-</html>
 "#;
 
-/// What is answered of a change that isn't known.
-const UNKNOWN: &str = r#"<!DOCTYPE html>
-<html lang="en">
-<head>
-<meta charset="utf-8">
-<meta name="viewport" content="width=device-width, initial-scale=1">
-<title>Not found</title>
-<link rel="icon" href="/icon.svg">
-<link rel="stylesheet" href="/style.css">
-<script src="/script.js" defer></script>
-</head>
-<body>
-<header><p><a href="/">reviewgate</a>, site 1</p></header>
-<main>
-<h1>Not found</h1>
+/// The own part of what is answered of a change that isn't known.
+const UNKNOWN: &str = r#"<h1>Not found</h1>
 <p>The record has no change 9 with a patch set 2.</p>
-</main>
-</body>
-</html>
 "#;
+
+/// A patch set of a change, or its current one.
+fn change_route(change: u32, set: Option<u32>) -> Route {
+    Route::Change(Place { change, set })
+}
 
 #[test]
 fn a_change_shows_what_it_waits_for(rt: HostRuntime) -> Result<(), Fail> {
-    let current = Route::Change(Place {
-        change: 102,
-        set: None,
-    });
-    let is_shown = shows(rt.alloc(), &current, Status::Found, Kind::Html, WAITING)?;
+    let current = change_route(102, None);
+    let is_shown = is_page(
+        rt.alloc(),
+        &current,
+        Status::Found,
+        "Change 102,1: Open",
+        WAITING,
+    )?;
     assert!(rt; is_shown);
     Ok(())
 }
 
 #[test]
 fn a_hostile_subject_is_a_text(rt: HostRuntime) -> Result<(), Fail> {
-    let named = Route::Change(Place {
-        change: 103,
-        set: Some(2),
-    });
-    let is_shown = shows(rt.alloc(), &named, Status::Found, Kind::Html, HOSTILE)?;
+    let named = change_route(103, Some(2));
+    let is_shown = is_page(rt.alloc(), &named, Status::Found, HOSTILE_TITLE, HOSTILE)?;
     assert!(rt; is_shown);
     Ok(())
 }
 
 #[test]
 fn an_unknown_change_is_not_found(rt: HostRuntime) -> Result<(), Fail> {
-    let unknown = Route::Change(Place {
-        change: 9,
-        set: Some(2),
-    });
-    let is_shown = shows(rt.alloc(), &unknown, Status::NotFound, Kind::Html, UNKNOWN)?;
+    let unknown = change_route(9, Some(2));
+    let is_shown = is_page(rt.alloc(), &unknown, Status::NotFound, "Not found", UNKNOWN)?;
     assert!(rt; is_shown);
     Ok(())
 }

@@ -44,13 +44,33 @@ const RECORD: [(u32, Deed); 10] = [
 /// The replica of that record.
 pub fn replica(alloc: Global) -> Result<Replica, Fail> {
     let mut replica = Replica::new(alloc);
+    match take_record(alloc, &mut replica) {
+        Ok(()) => Ok(replica),
+        Err(fail) => Err(fail),
+    }
+}
+
+/// Takes that record in.
+fn take_record(alloc: Global, replica: &mut Replica) -> Result<(), Fail> {
     let mut time = 0u64;
     for (change, deed) in RECORD {
         time = time.saturating_add(1);
-        let op = op_of(alloc, time, change, deed).ok_or("an operation")?;
-        let _ = replica.take(op)?;
+        take(alloc, replica, time, change, deed)?;
     }
-    Ok(replica)
+    Ok(())
+}
+
+/// Takes in what is done to a change at a time.
+pub fn take(
+    alloc: Global,
+    replica: &mut Replica,
+    time: u64,
+    change: u32,
+    deed: Deed,
+) -> Result<(), Fail> {
+    let op = op_of(alloc, time, change, deed).ok_or("an operation")?;
+    let _ = replica.take(op)?;
+    Ok(())
 }
 
 /// The gate.
@@ -58,19 +78,31 @@ pub fn gate(alloc: Global) -> Result<Gate, Fail> {
     Ok(Gate::read(alloc, GATE.as_bytes())?)
 }
 
-/// What the site knows of itself, with a peer that can't be reached, at a socket whose path has markup.
-fn facts(alloc: Global) -> Result<Facts, AllocError> {
-    let peer = PeerFacts {
+/// What the site knows of a peer that can't be reached, at a socket whose path has markup.
+fn peer(alloc: Global) -> Result<PeerFacts, AllocError> {
+    Ok(PeerFacts {
         peer: String::from_str(alloc, PEER)?,
         is_reachable: false,
         condition_ms: 200_000,
         good_ms: Some(12_005),
         pulls: 7,
         failures: 2,
-    };
+    })
+}
+
+/// The site's only peer.
+fn peers(alloc: Global) -> Result<Vec<PeerFacts>, AllocError> {
+    let peer = peer(alloc)?;
     let mut peers = Vec::new(alloc);
-    peers.push(peer)?;
-    Ok(Facts {
+    match peers.push(peer) {
+        Ok(()) => Ok(peers),
+        Err(error) => Err(error.into()),
+    }
+}
+
+/// What the site knows of itself, with these peers.
+fn facts(peers: Vec<PeerFacts>) -> Facts {
+    Facts {
         site: 1,
         start: 5,
         age_ms: 1_500,
@@ -90,16 +122,40 @@ fn facts(alloc: Global) -> Result<Facts, AllocError> {
             syncs: 42,
         }),
         heard_ms: Some(7_050),
-    })
+    }
 }
 
 /// What is answered to a route.
-pub fn answer(alloc: Global, route: &Route) -> Result<Page, Fail> {
+fn answer(alloc: Global, route: &Route) -> Result<Page, Fail> {
     let gate = gate(alloc)?;
+    answer_under(alloc, route, &gate)
+}
+
+/// What is answered under a gate.
+fn answer_under(alloc: Global, route: &Route, gate: &Gate) -> Result<Page, Fail> {
     let replica = replica(alloc)?;
-    let verdicts = evaluate(alloc, replica.state(), &gate)?;
-    let facts = facts(alloc)?;
-    Ok(page_of(alloc, route, &gate, &replica, &verdicts, &facts)?)
+    answer_over(alloc, route, gate, &replica)
+}
+
+/// What is answered over a replica.
+fn answer_over(alloc: Global, route: &Route, gate: &Gate, replica: &Replica) -> Result<Page, Fail> {
+    let facts = facts(peers(alloc)?);
+    answer_with(alloc, route, gate, replica, &facts)
+}
+
+/// What a site answers that knows this of itself.
+pub fn answer_with(
+    alloc: Global,
+    route: &Route,
+    gate: &Gate,
+    replica: &Replica,
+    facts: &Facts,
+) -> Result<Page, Fail> {
+    let verdicts = evaluate(alloc, replica.state(), gate)?;
+    match page_of(alloc, route, gate, replica, &verdicts, facts) {
+        Ok(page) => Ok(page),
+        Err(error) => Err(Fail::from(error)),
+    }
 }
 
 /// Whether the answer to a route has this status and kind, and this text.

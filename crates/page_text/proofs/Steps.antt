@@ -18,6 +18,10 @@ first-push : {X : Type 0} (xs : List X) (x y : X)
 first-push [] x y = refl
 first-push (a ∷ xs) x y = refl
 
+-- a walk begins with its first item alone
+pub walk_begins : (state : State) (verdicts : Judged) (first : Left) → IsWalk state verdicts first (first ∷ [])
+walk_begins state verdicts first = record { begins = refl; path = tt }
+
 -- a walk goes on to an item that its last one waits for
 pub walk_on : (state : State) (verdicts : Judged) (first last next : Left) (waiting : List Left)
     → IsWalk state verdicts first (waiting ++ last ∷ []) → WaitsFor state verdicts last next

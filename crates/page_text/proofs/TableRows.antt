@@ -3,7 +3,7 @@ use Rattle.std.proofs.Common.{◌≡◌, ◌∙◌, ◌+◌, ◌<◌, ℕ, List,
 use Rattle.std.proofs.lemmas.List.{take_more}
 use Rattle.state_core.specs.State.{State}
 use Rattle.page_text.specs.declared.rows.Row.{Row}
-use Rattle.page_text.specs.Table.{AddsRow, AddsRows, AreRows, about_html, front_html, place_html}
+use Rattle.page_text.specs.Table.{AddsRow, AddsRows, AreRows, HasRows, about_html, front_html, place_html}
 use Rattle.page_text.specs.Rows.{row_item}
 use Rattle.page_text.proofs.Adding.{then2}
 
@@ -40,3 +40,14 @@ pub rows_more : (state : State) (rows : List Row) (i : ℕ) (d : Row) (a b c : L
 rows_more state rows i d a b c inside so_far added =
     subst (λ l. AddsRows state l a c) (sym (take_more rows i d inside))
     (row_more state (take i rows) (get_or rows i d) a b c so_far added)
+
+-- rows that have something behind them have it, too, where more follows
+pub rows_before : (state : State) (rows : List Row) (html more longer : List ℕ) → HasRows state rows html
+    → longer ≡ html ++ more → HasRows state rows longer
+rows_before state rows html more longer has is = record {
+  before = has.before;
+  through = has.through;
+  after = has.after ++ more;
+  rows_are = has.rows_are;
+  is = is ∙ ap (λ l. l ++ more) has.is ∙ append_assoc has.through has.after more;
+}

@@ -46,8 +46,22 @@ pub fn change_page(
     ensures { IfOk result (λ text. IsTitled (item_title state.now item) text.items) }
 {
     let main = main_of(alloc, item, gate, state, verdicts)?;
-    let mut page = begin_titled(alloc, state, item, facts.site)?;
-    page.append(&main)?;
+    let text = titled_page(alloc, state, item, facts.site, &main)?;
+    Ok(text)
+}
+
+/// The page of an item with this part of its own.
+fn titled_page(
+    alloc: Global,
+    state: &State,
+    item: Item,
+    site: u16,
+    main: &Markup,
+) -> Result<Vec<u8>, NoMemory>
+    ensures { IfOk result (λ text. IsTitled (item_title state.now item) text.items) }
+{
+    let mut page = begin_titled(alloc, state, item, site)?;
+    page.append(main)?;
     let text = end(page)?;
     Ok(text)
 }
@@ -82,27 +96,50 @@ fn main_of(
     requires there { IsItem state.now item }
 {
     let mut page = Markup::new(alloc);
-    add_head(&mut page, state, item)?;
-    add_verdict(alloc, &mut page, gate, state, verdicts, item)?;
-    add_conditions(alloc, &mut page, gate, state, item)?;
-    if let Some(change) = state.change(item.change) {
-        add_change(&mut page, item.change, change)?;
+    match add_main(alloc, &mut page, item, gate, state, verdicts) {
+        Ok(()) => Ok(page),
+        Err(NoMemory) => Err(NoMemory),
     }
-    let needs = needs_of(alloc, gate, state, item)?;
-    add_needs(&mut page, state, needs.as_slice())?;
-    let waiting = waiting_for(alloc, verdicts.out(), item.change)?;
-    add_waiting(&mut page, waiting.as_slice())?;
-    add_drawing(
-        alloc,
-        &mut page,
-        gate,
-        state,
-        verdicts,
-        item,
-        waiting.as_slice(),
-    )?;
+}
+
+/// Adds the part of the page that is the item's own.
+fn add_main(
+    alloc: Global,
+    page: &mut Markup,
+    item: Item,
+    gate: &Gate,
+    state: &State,
+    verdicts: &Verdicts,
+) -> Result<(), NoMemory>
+    requires rising { IsStrictlySortedBy item_cmp (items_out verdicts.now.out) }
+    requires there { IsItem state.now item }
+{
+    add_head(page, state, item)?;
+    add_verdict(alloc, page, gate, state, verdicts, item)?;
+    add_conditions(alloc, page, gate, state, item)?;
+    if let Some(change) = state.change(item.change) {
+        add_change(page, item.change, change)?;
+    }
+    add_needs_of(alloc, page, gate, state, item)?;
+    add_around(alloc, page, gate, state, verdicts, item)?;
     page.add(&[Piece::Markup("</div>\n")])?;
-    Ok(page)
+    Ok(())
+}
+
+/// Adds what waits for the item, and the drawing of that and of what it waits for.
+fn add_around(
+    alloc: Global,
+    page: &mut Markup,
+    gate: &Gate,
+    state: &State,
+    verdicts: &Verdicts,
+    item: Item,
+) -> Result<(), NoMemory>
+    requires { IsStrictlySortedBy item_cmp (items_out verdicts.now.out) }
+{
+    let waiting = waiting_for(alloc, verdicts.out(), item.change)?;
+    add_waiting(page, waiting.as_slice())?;
+    add_drawing(alloc, page, gate, state, verdicts, item, waiting.as_slice())
 }
 
 /// Adds the item and its subject.
@@ -159,15 +196,21 @@ fn add_steps(
 ) -> Result<(), NoMemory> {
     page.add(&[Piece::Markup("<h2>Why it waits</h2>\n<ol>\n")])?;
     for step in steps {
-        page.add(&[Piece::Markup("<li class=\"waits\">")])?;
-        add_left(alloc, page, *step)?;
-        page.add(&[Piece::Markup("</li>\n")])?;
+        add_step(alloc, page, *step)?;
     }
     page.add(&[Piece::Markup("</ol>\n")])?;
     match steps.last() {
         Some(cause) => add_cause(page, gate, cause.refusal),
         None => Ok(()),
     }
+}
+
+/// Adds an item that is left out to the list of those that wait for each other.
+fn add_step(alloc: Global, page: &mut Markup, step: Left) -> Result<(), NoMemory> {
+    page.add(&[Piece::Markup("<li class=\"waits\">")])?;
+    add_left(alloc, page, step)?;
+    page.add(&[Piece::Markup("</li>\n")])?;
+    Ok(())
 }
 
 /// Adds what the gate asks at the place of a condition that is broken.
@@ -247,7 +290,19 @@ fn add_set(page: &mut Markup, item: Item, subject: &str) -> Result<(), NoMemory>
     Ok(())
 }
 
-/// Adds the changes that the item names as its dependencies, with their statuses.
+/// Adds the changes that the item names as its dependencies.
+fn add_needs_of(
+    alloc: Global,
+    page: &mut Markup,
+    gate: &Gate,
+    state: &State,
+    item: Item,
+) -> Result<(), NoMemory> {
+    let needs = needs_of(alloc, gate, state, item)?;
+    add_needs(page, state, needs.as_slice())
+}
+
+/// Adds changes that are named, with their statuses.
 fn add_needs(page: &mut Markup, state: &State, needs: &[u32]) -> Result<(), NoMemory> {
     page.add(&[Piece::Markup("<h2>Depends on</h2>\n<ul>\n")])?;
     for need in needs {

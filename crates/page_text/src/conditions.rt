@@ -2,7 +2,7 @@
 
 ghost use Rattle.state_core.specs.Items.{IsItem};
 
-use super::words::{add_wanted, refusal_words};
+use super::words::add_wanted;
 use gate_rules::{Gate, Tried};
 use json::Writer;
 use json_line::{close_list, close_object, open_list, open_object, put_flag, put_text};
@@ -11,6 +11,7 @@ use markup_text::{Markup, Piece};
 use ready_core::Refusal;
 use state_core::{Item, State};
 use std::alloc::Global;
+use why_text::refusal_words;
 
 /// Adds each condition of the gate to the page of an item, in the order in which it is judged.
 pub fn add_conditions(
@@ -73,8 +74,13 @@ pub fn put_conditions(
 /// Adds the object of a condition.
 fn put_condition(alloc: Global, out: &mut Writer<Global>, tried: Tried) -> Result<(), NoMemory> {
     let words = refusal_words(alloc, Refusal::Own(tried.condition))?;
+    put_words(out, words.as_str(), !tried.is_broken)
+}
+
+/// Adds the object of a condition in words.
+fn put_words(out: &mut Writer<Global>, words: &str, is_met: bool) -> Result<(), NoMemory> {
     open_object(out)?;
-    put_text(out, "condition", words.as_str())?;
-    put_flag(out, "met", !tried.is_broken)?;
+    put_text(out, "condition", words)?;
+    put_flag(out, "met", is_met)?;
     close_object(out)
 }

@@ -56,24 +56,48 @@ pub fn add_drawing(
     }
     page.add(&[Piece::Markup("<h2>Drawing</h2>\n")])?;
     if count > MOST {
-        page.add(&[Piece::Markup(
-            "<p>More than 60 changes would be drawn: the lists have them.</p>\n",
-        )])?;
-        return Ok(());
+        return add_too_many(page);
     }
     let needs = needs_of_all(alloc, gate, state, item, changes.as_slice())?;
-    let mut nodes = nodes_of_waiting(alloc, state, verdicts, waiting, changes.as_slice())?;
-    let waiters = nodes.len();
-    add_reached(
-        &mut nodes,
+    let (nodes, waiters) = nodes_of(
         alloc,
         state,
         verdicts,
         item,
+        waiting,
         changes.as_slice(),
         needs.as_slice(),
     )?;
     add_picture(page, nodes.as_slice(), waiters, needs.as_slice())
+}
+
+/// Adds that there is too much to be drawn.
+fn add_too_many(page: &mut Markup) -> Result<(), NoMemory> {
+    page.add(&[Piece::Markup(
+        "<p>More than 60 changes would be drawn: the lists have them.</p>\n",
+    )])?;
+    Ok(())
+}
+
+/// The nodes of what waits for the item and of these changes, which name these; and how many the first ones are, which
+/// wait for it.
+fn nodes_of(
+    alloc: Global,
+    state: &State,
+    verdicts: &Verdicts,
+    item: Item,
+    waiting: &[Item],
+    changes: &[u32],
+    needs: &[Vec<u32>],
+) -> Result<(Vec<Node>, usize), NoMemory>
+    requires { IsStrictlySortedBy item_cmp (items_out verdicts.now.out) }
+{
+    let mut nodes = nodes_of_waiting(alloc, state, verdicts, waiting, changes)?;
+    let waiters = nodes.len();
+    match add_reached(&mut nodes, alloc, state, verdicts, item, changes, needs) {
+        Ok(()) => Ok((nodes, waiters)),
+        Err(NoMemory) => Err(NoMemory),
+    }
 }
 
 /// What the item of each of these changes names.
@@ -86,13 +110,24 @@ fn needs_of_all(
 ) -> Result<Vec<Vec<u32>>, NoMemory> {
     let mut all = Vec::with_capacity(alloc, changes.len())?;
     for change in changes {
-        let needs = match item_seen(state, item, *change) {
-            Some(from) => needs_of(alloc, gate, state, from)?,
-            None => Vec::new(alloc),
-        };
+        let needs = needs_of_one(alloc, gate, state, item, *change)?;
         all.push(needs)?;
     }
     Ok(all)
+}
+
+/// What the item of a change names.
+fn needs_of_one(
+    alloc: Global,
+    gate: &Gate,
+    state: &State,
+    item: Item,
+    change: u32,
+) -> Result<Vec<u32>, NoMemory> {
+    match item_seen(state, item, change) {
+        Some(from) => needs_of(alloc, gate, state, from),
+        None => Ok(Vec::new(alloc)),
+    }
 }
 
 /// The nodes of those items that wait and whose change isn't reached: they are in the first column.
@@ -131,12 +166,17 @@ fn add_reached(
     let mut columns = Vec::with_capacity(alloc, changes.len())?;
     for change in changes {
         let column = column_of(columns.as_slice(), needs, *change, first);
-        let row = columns.iter().filter(|other| **other == column).count() as u64;
+        let row = count_in(columns.as_slice(), column);
         columns.push(column)?;
         let seen = item_seen(state, item, *change);
         nodes.push(node_at(state, verdicts, *change, seen, column, row))?;
     }
     Ok(())
+}
+
+/// How many of some columns are this one.
+fn count_in(columns: &[u64], column: u64) -> u64 {
+    columns.iter().filter(|other| **other == column).count() as u64
 }
 
 /// The column after that of the first change that names this one, or the first one where none does.
@@ -197,27 +237,58 @@ fn add_picture(
     waiters: usize,
     needs: &[Vec<u32>],
 ) -> Result<(), NoMemory> {
-    begin_picture(page, nodes)?;
-    let (waiting, reached) = nodes.split_at(waiters.min(nodes.len()));
-    if let Some(item) = reached.first() {
-        add_edges(page, waiting, *item)?;
-    }
-    for (node, names) in reached.iter().zip(needs) {
-        add_named(page, *node, reached, names.as_slice())?;
-    }
-    for node in nodes {
-        add_node(page, *node)?;
-    }
+    let width = left_of(last_column(nodes)).saturating_add(WIDTH + 10);
+    let height = top_of(last_row(nodes)).saturating_add(HEIGHT + 10);
+    begin_picture(page, width, height)?;
+    add_lines(page, nodes, waiters, needs)?;
+    add_nodes(page, nodes)?;
     page.add(&[Piece::Markup("</svg>\n</div>\n")])?;
     Ok(())
 }
 
-/// Begins the picture, which is as large as its nodes need.
-fn begin_picture(page: &mut Markup, nodes: &[Node]) -> Result<(), NoMemory> {
-    let columns = nodes.iter().map(|node| node.column).max().unwrap_or(0);
-    let rows = nodes.iter().map(|node| node.row).max().unwrap_or(0);
-    let width = Piece::Number(left_of(columns).saturating_add(WIDTH + 10));
-    let height = Piece::Number(top_of(rows).saturating_add(HEIGHT + 10));
+/// Adds the lines between nodes, of which the first ones, as many as wait, lead to the one after them.
+fn add_lines(
+    page: &mut Markup,
+    nodes: &[Node],
+    waiters: usize,
+    needs: &[Vec<u32>],
+) -> Result<(), NoMemory> {
+    let (waiting, reached) = nodes.split_at(waiters.min(nodes.len()));
+    if let Some(item) = reached.first() {
+        add_edges(page, waiting, *item)?;
+    }
+    add_all_named(page, reached, needs)
+}
+
+/// Adds the lines from each of some nodes to those of them that it names.
+fn add_all_named(page: &mut Markup, nodes: &[Node], needs: &[Vec<u32>]) -> Result<(), NoMemory> {
+    for (node, names) in nodes.iter().zip(needs) {
+        add_named(page, *node, nodes, names.as_slice())?;
+    }
+    Ok(())
+}
+
+/// Adds nodes.
+fn add_nodes(page: &mut Markup, nodes: &[Node]) -> Result<(), NoMemory> {
+    for node in nodes {
+        add_node(page, *node)?;
+    }
+    Ok(())
+}
+
+/// The last column that a node is in.
+fn last_column(nodes: &[Node]) -> u64 {
+    nodes.iter().map(|node| node.column).max().unwrap_or(0)
+}
+
+/// The last row that a node is in.
+fn last_row(nodes: &[Node]) -> u64 {
+    nodes.iter().map(|node| node.row).max().unwrap_or(0)
+}
+
+/// Begins a picture that is so wide and so high.
+fn begin_picture(page: &mut Markup, width: u64, height: u64) -> Result<(), NoMemory> {
+    let (width, height) = (Piece::Number(width), Piece::Number(height));
     page.add(&[
         Piece::Markup(
             "<div class=\"drawing\" role=\"region\" aria-labelledby=\"drawn\" tabindex=\"0\">\n",

@@ -28,20 +28,28 @@ pub fn all_held(alloc: Global, gate: &Gate) -> Result<Vec<Held>, NoMemory>
     ensures { IfOk result (λ all. all.items ≡ all_held gate.now) }
 {
     let mut all = Vec::new(alloc);
+    add_all(&mut all, gate)?;
+    Ok(all)
+}
+
+/// Adds all of these.
+fn add_all(all: &mut Vec<Held>, gate: &Gate) -> Result<(), NoMemory>
+    ensures { OnOk result (all.new.items ≡ all.old.items ++ all_held gate.now) }
+{
     add_approvals(
-        &mut all,
+        all,
         Side::Require,
         gate.clauses(Side::Require).approvals().len(),
     )?;
     add_approvals(
-        &mut all,
+        all,
         Side::Reject,
         gate.clauses(Side::Reject).approvals().len(),
     )?;
     all.push(Held::Cycle)?;
     all.push(Held::Unknown)?;
     all.push(Held::Dependency)?;
-    Ok(all)
+    Ok(())
 }
 
 /// Adds so many approvals of a side.

@@ -40,16 +40,31 @@ pub fn change_text(
     ensures { IfOk result (λ text. EndsInWaiting (waiting_for item.change verdicts.now.out) text.items) }
 {
     let mut out = Writer::new(Vec::new(alloc));
-    open_object(&mut out)?;
-    put_number(&mut out, "change", u64::from(item.change))?;
-    put_number(&mut out, "set", u64::from(item.set))?;
-    if let Some(change) = state.change(item.change) {
-        add_change(&mut out, change)?;
-    }
-    add_steps(alloc, &mut out, state, verdicts, item)?;
-    put_conditions(alloc, &mut out, gate, state, item)?;
-    add_needs(alloc, &mut out, gate, state, item)?;
+    begin_change(alloc, &mut out, item, gate, state, verdicts)?;
     end_change(alloc, out, verdicts, item.change)
+}
+
+/// Begins the object of an item: all but the items that wait for its change.
+fn begin_change(
+    alloc: Global,
+    out: &mut Writer<Global>,
+    item: Item,
+    gate: &Gate,
+    state: &State,
+    verdicts: &Verdicts,
+) -> Result<(), NoMemory>
+    requires rising { IsStrictlySortedBy item_cmp (items_out verdicts.now.out) }
+    requires there { IsItem state.now item }
+{
+    open_object(out)?;
+    put_number(out, "change", u64::from(item.change))?;
+    put_number(out, "set", u64::from(item.set))?;
+    if let Some(change) = state.change(item.change) {
+        add_change(out, change)?;
+    }
+    add_steps(alloc, out, state, verdicts, item)?;
+    put_conditions(alloc, out, gate, state, item)?;
+    add_needs(alloc, out, gate, state, item)
 }
 
 /// The text that ends with the items that wait for a change.

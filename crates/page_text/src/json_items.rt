@@ -8,7 +8,6 @@ ghost use Rattle.json_line.specs.Tokens.{AddsTokens};
 
 use super::rows::{Row, chosen_rows, rows_of};
 use super::subject::subject_of;
-use super::words::refusal_words;
 use json::Writer;
 use json_line::{close_list, close_object, open_list, open_object, put_flag, put_number, put_text};
 use lattice_core::NoMemory;
@@ -16,6 +15,7 @@ use page_routes::Choice;
 use ready_core::{Left, Verdicts};
 use state_core::{Item, State};
 use std::alloc::Global;
+use why_text::refusal_words;
 
 /// The JSON text of a list: how many items are asked for, on all pages, the number of the page, and an object for each
 /// item on it.

@@ -29,17 +29,30 @@ pub fn status_text(
     ensures { IfOk result (λ text. text.items ≡ print (site_tokens (length replica.now) verdicts.now facts.now)) }
 {
     let mut out = Writer::new(Vec::new(alloc));
-    open_object(&mut out)?;
-    put_number(&mut out, "site", u64::from(facts.site))?;
-    put_number(&mut out, "start", u64::from(facts.start))?;
-    put_counts(&mut out, replica, verdicts)?;
-    put_ages(&mut out, facts)?;
-    put_peers(&mut out, facts.peers.as_slice())?;
-    put_work(&mut out, facts)?;
-    put_journal(&mut out, facts.journal)?;
-    put_option(&mut out, "heard_ms", facts.heard_ms)?;
-    close_object(&mut out)?;
+    put_status(&mut out, replica, verdicts, facts)?;
     Ok(out.into_inner())
+}
+
+/// Adds the object of how a site is.
+fn put_status(
+    out: &mut Writer<Global>,
+    replica: &Replica,
+    verdicts: &Verdicts,
+    facts: &Facts,
+) -> Result<(), NoMemory>
+    ensures { OnOk result (AddsTokens out.old out.new (site_tokens (length replica.now) verdicts.now facts.now)) }
+{
+    open_object(out)?;
+    put_number(out, "site", u64::from(facts.site))?;
+    put_number(out, "start", u64::from(facts.start))?;
+    put_counts(out, replica, verdicts)?;
+    put_ages(out, facts)?;
+    put_peers(out, facts.peers.as_slice())?;
+    put_work(out, facts)?;
+    put_journal(out, facts.journal)?;
+    put_option(out, "heard_ms", facts.heard_ms)?;
+    close_object(out)?;
+    Ok(())
 }
 
 /// Adds how many operations, ready items, other items and open ones of these there are.

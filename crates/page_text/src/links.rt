@@ -4,13 +4,13 @@ ghost use Rattle.std.specs.Prelude.{◌≡◌, ◌++◌, OnOk};
 ghost use Rattle.page_text.specs.Table.{link_html};
 
 use super::names::{reason_name, shown_name};
-use super::words::refusal_words;
 use lattice_core::NoMemory;
 use markup_text::{Markup, Piece};
 use page_routes::{Choice, Reason};
-use ready_core::Left;
+use ready_core::{Left, Refusal};
 use state_core::Item;
 use std::alloc::Global;
+use why_text::refusal_words;
 
 /// Adds an item, as `101,2`, with a link to its page.
 pub fn add_item_link(page: &mut Markup, item: Item) -> Result<(), NoMemory>
@@ -35,9 +35,19 @@ pub fn add_item_link(page: &mut Markup, item: Item) -> Result<(), NoMemory>
 
 /// Adds an item that is left out, with a link to its page, and its refusal.
 pub fn add_left(alloc: Global, page: &mut Markup, left: Left) -> Result<(), NoMemory> {
-    let words = refusal_words(alloc, left.refusal)?;
     add_item_link(page, left.item)?;
-    page.add(&[Piece::Markup(" "), Piece::Text(words.as_str())])?;
+    page.add(&[Piece::Markup(" ")])?;
+    add_refusal_words(alloc, page, left.refusal)
+}
+
+/// Adds a refusal in the words of a report.
+pub fn add_refusal_words(
+    alloc: Global,
+    page: &mut Markup,
+    refusal: Refusal,
+) -> Result<(), NoMemory> {
+    let words = refusal_words(alloc, refusal)?;
+    page.add(&[Piece::Text(words.as_str())])?;
     Ok(())
 }
 

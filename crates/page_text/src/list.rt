@@ -1,6 +1,6 @@
 //! The list of the items, as a page for people.
 
-ghost use Rattle.std.specs.Prelude.{IfOk};
+ghost use Rattle.std.specs.Prelude.{IfOk, OnOk};
 ghost use Rattle.std.specs.List.Sorted.{IsStrictlySortedBy};
 ghost use Rattle.state_core.specs.Items.{item_cmp};
 ghost use Rattle.state_core.specs.State.{state_of};
@@ -15,7 +15,7 @@ use super::form::add_form;
 use super::frame::{begin, end};
 use super::links::add_address;
 use super::names::{REASONS, reason_name};
-use super::rows::{ROWS, chosen_rows, rows_of};
+use super::rows::{ROWS, Row, chosen_rows, rows_of};
 use super::table::add_rows;
 use gate_rules::Gate;
 use lattice_core::NoMemory;
@@ -23,6 +23,7 @@ use markup_text::{Markup, Piece};
 use page_routes::Choice;
 use ready_core::Verdicts;
 use replica_core::Replica;
+use state_core::State;
 use std::alloc::Global;
 
 /// What comes between the numbers of a table's caption and its rows.
@@ -47,14 +48,63 @@ pub fn list_page(
         (rows_on choice.now.page (chosen_rows (state_of replica.now) choice.now verdicts.now)) text.items) }
 {
     let chosen = chosen_rows(alloc, replica.state(), verdicts, choice)?;
-    let rows = rows_of(chosen.as_slice(), choice.page);
-    let mut page = begin(alloc, &[Piece::Markup("Items")], facts.site)?;
-    add_top(&mut page, choice, verdicts, facts, chosen.len())?;
+    let top = top_of(alloc, choice, verdicts, facts, chosen.len())?;
     let bottom = bottom_of(alloc, choice, chosen.len())?;
-    add_rows(alloc, &mut page, gate, replica.state(), verdicts, rows)?;
-    page.append(&bottom)?;
+    let rows = rows_of(chosen.as_slice(), choice.page);
+    let text = page_between(alloc, top, &bottom, gate, replica.state(), verdicts, rows)?;
+    Ok(text)
+}
+
+/// The page that has its rows between these.
+fn page_between(
+    alloc: Global,
+    top: Markup,
+    bottom: &Markup,
+    gate: &Gate,
+    state: &State,
+    verdicts: &Verdicts,
+    rows: &[Row],
+) -> Result<Vec<u8>, NoMemory>
+    requires { IsStrictlySortedBy item_cmp (items_out verdicts.now.out) }
+    ensures { IfOk result (λ text. HasRows state.now rows.now text.items) }
+{
+    let mut page = top;
+    add_table(alloc, &mut page, bottom, gate, state, verdicts, rows)?;
     let text = end(page)?;
     Ok(text)
+}
+
+/// Adds the rows, and what comes after them.
+fn add_table(
+    alloc: Global,
+    page: &mut Markup,
+    bottom: &Markup,
+    gate: &Gate,
+    state: &State,
+    verdicts: &Verdicts,
+    rows: &[Row],
+) -> Result<(), NoMemory>
+    requires { IsStrictlySortedBy item_cmp (items_out verdicts.now.out) }
+    ensures { OnOk result (HasRows state.now rows.now page.new) }
+{
+    add_rows(alloc, page, gate, state, verdicts, rows)?;
+    page.append(bottom)?;
+    Ok(())
+}
+
+/// What comes before the rows.
+fn top_of(
+    alloc: Global,
+    choice: &Choice,
+    verdicts: &Verdicts,
+    facts: &Facts,
+    rows: usize,
+) -> Result<Markup, NoMemory> {
+    let mut page = begin(alloc, &[Piece::Markup("Items")], facts.site)?;
+    match add_top(&mut page, choice, verdicts, facts, rows) {
+        Ok(()) => Ok(page),
+        Err(NoMemory) => Err(NoMemory),
+    }
 }
 
 /// Adds what comes before the rows.
@@ -193,19 +243,27 @@ fn pages_of(rows: usize) -> u64 {
     (rows.saturating_sub(1) / ROWS) as u64 + 1
 }
 
-/// What comes after the rows: links to the page before and to the one after, where there are any.
+/// What comes after the rows.
 fn bottom_of(alloc: Global, choice: &Choice, rows: usize) -> Result<Markup, NoMemory> {
-    let number = u64::from(choice.page.max(1));
     let mut bottom = Markup::new(alloc);
+    match add_bottom(&mut bottom, choice, rows) {
+        Ok(()) => Ok(bottom),
+        Err(NoMemory) => Err(NoMemory),
+    }
+}
+
+/// Adds what comes after the rows: links to the page before and to the one after, where there are any.
+fn add_bottom(bottom: &mut Markup, choice: &Choice, rows: usize) -> Result<(), NoMemory> {
+    let number = u64::from(choice.page.max(1));
     bottom.add(&[Piece::Markup("</tbody>\n</table>\n<nav aria-label=\"Pages\">\n")])?;
     if number > 1 {
-        add_link(&mut bottom, choice, "prev\">Previous page", number - 1)?;
+        add_link(bottom, choice, "prev\">Previous page", number - 1)?;
     }
     if number < pages_of(rows) {
-        add_link(&mut bottom, choice, "next\">Next page", number + 1)?;
+        add_link(bottom, choice, "next\">Next page", number + 1)?;
     }
     bottom.add(&[Piece::Markup("</nav>\n</div>\n")])?;
-    Ok(bottom)
+    Ok(())
 }
 
 /// Adds a link to another page of the list.

@@ -7,10 +7,10 @@ ghost use Rattle.ready_core.specs.Verdicts.{items_out};
 ghost use Rattle.page_text.specs.Table.{AddsRow, AddsRows, about_html};
 
 use super::chain::cause_of;
-use super::links::{add_item_link, add_left};
+use super::links::{add_item_link, add_left, add_refusal_words};
 use super::rows::Row;
 use super::subject::subject_of;
-use super::words::{add_wanted, refusal_words};
+use super::words::add_wanted;
 use gate_rules::Gate;
 use lattice_core::NoMemory;
 use markup_text::{Markup, Piece};
@@ -112,13 +112,30 @@ fn waiting_cells(
     requires { IsStrictlySortedBy item_cmp (items_out verdicts.now.out) }
 {
     let mut cells = Markup::new(alloc);
-    add_why(alloc, &mut cells, gate, left.refusal)?;
+    match add_cells(alloc, &mut cells, gate, state, verdicts, left) {
+        Ok(()) => Ok(cells),
+        Err(NoMemory) => Err(NoMemory),
+    }
+}
+
+/// Adds these cells.
+fn add_cells(
+    alloc: Global,
+    cells: &mut Markup,
+    gate: &Gate,
+    state: &State,
+    verdicts: &Verdicts,
+    left: Left,
+) -> Result<(), NoMemory>
+    requires { IsStrictlySortedBy item_cmp (items_out verdicts.now.out) }
+{
+    add_why(alloc, cells, gate, left.refusal)?;
     cells.add(&[Piece::Markup("<td>")])?;
     if let Refusal::Dependency(_) = left.refusal {
-        add_left(alloc, &mut cells, cause_of(state, verdicts, left))?;
+        add_left(alloc, cells, cause_of(state, verdicts, left))?;
     }
     cells.add(&[Piece::Markup("</td></tr>\n")])?;
-    Ok(cells)
+    Ok(())
 }
 
 /// Adds the cell of a refusal, with what the gate asks there.
@@ -128,11 +145,8 @@ fn add_why(
     gate: &Gate,
     refusal: Refusal,
 ) -> Result<(), NoMemory> {
-    let words = refusal_words(alloc, refusal)?;
-    cells.add(&[
-        Piece::Markup("<td class=\"waits\">"),
-        Piece::Text(words.as_str()),
-    ])?;
+    cells.add(&[Piece::Markup("<td class=\"waits\">")])?;
+    add_refusal_words(alloc, cells, refusal)?;
     if let Refusal::Own(condition) = refusal {
         cells.add(&[Piece::Markup(": ")])?;
         add_wanted(cells, gate, condition)?;

@@ -1,20 +1,27 @@
 //! What is answered of a change that isn't known.
 
-ghost use Rattle.std.specs.Prelude.{◌≡◌, IfOk};
+ghost use Rattle.std.specs.Prelude.{◌≡◌, IfOk, OnOk};
 ghost use Rattle.json.specs.Print.{print};
+ghost use Rattle.json_line.specs.Tokens.{AddsTokens};
 ghost use Rattle.page_text.specs.Problem.{problem_tokens};
 
 use super::frame::{begin, end};
 use json::Writer;
 use json_line::{close_object, open_object, put_number, put_text};
 use lattice_core::NoMemory;
-use markup_text::Piece;
+use markup_text::{Markup, Piece};
 use page_routes::Place;
 use std::alloc::Global;
 
 /// The page that says that a change, or one of its patch sets, isn't known.
 pub fn unknown_page(alloc: Global, place: Place, site: u16) -> Result<Vec<u8>, NoMemory> {
     let mut page = begin(alloc, &[Piece::Markup("Not found")], site)?;
+    add_unknown(&mut page, place)?;
+    end(page)
+}
+
+/// Adds that a change, or one of its patch sets, isn't known.
+fn add_unknown(page: &mut Markup, place: Place) -> Result<(), NoMemory> {
     page.add(&[
         Piece::Markup("<h1>Not found</h1>\n<p>The record has no change "),
         Piece::Number(u64::from(place.change)),
@@ -26,7 +33,7 @@ pub fn unknown_page(alloc: Global, place: Place, site: u16) -> Result<Vec<u8>, N
         ])?;
     }
     page.add(&[Piece::Markup(".</p>\n")])?;
-    end(page)
+    Ok(())
 }
 
 /// The same as a problem of RFC 9457.
@@ -34,10 +41,18 @@ pub fn problem_text(alloc: Global) -> Result<Vec<u8>, NoMemory>
     ensures { IfOk result (λ text. text.items ≡ print problem_tokens) }
 {
     let mut out = Writer::new(Vec::new(alloc));
-    open_object(&mut out)?;
-    put_text(&mut out, "type", "about:blank")?;
-    put_text(&mut out, "title", "Not Found")?;
-    put_number(&mut out, "status", 404)?;
-    close_object(&mut out)?;
+    put_problem(&mut out)?;
     Ok(out.into_inner())
+}
+
+/// Adds the object of that problem.
+fn put_problem(out: &mut Writer<Global>) -> Result<(), NoMemory>
+    ensures { OnOk result (AddsTokens out.old out.new problem_tokens) }
+{
+    open_object(out)?;
+    put_text(out, "type", "about:blank")?;
+    put_text(out, "title", "Not Found")?;
+    put_number(out, "status", 404)?;
+    close_object(out)?;
+    Ok(())
 }

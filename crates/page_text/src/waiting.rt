@@ -93,13 +93,25 @@ pub fn add_waiting(page: &mut Markup, items: &[Item]) -> Result<(), NoMemory> {
         return Ok(());
     }
     page.add(&[Piece::Markup("<h2>What waits for it</h2>\n<ul>\n")])?;
-    for item in items.iter().take(SHOWN) {
-        page.add(&[Piece::Markup("<li>")])?;
-        add_item_link(page, *item)?;
-        page.add(&[Piece::Markup("</li>\n")])?;
-    }
+    add_shown(page, items)?;
     page.add(&[Piece::Markup("</ul>\n")])?;
     add_more(page, items.len().saturating_sub(SHOWN))
+}
+
+/// Adds those of the items that are shown.
+fn add_shown(page: &mut Markup, items: &[Item]) -> Result<(), NoMemory> {
+    for item in items.iter().take(SHOWN) {
+        add_one(page, *item)?;
+    }
+    Ok(())
+}
+
+/// Adds an item to the list.
+fn add_one(page: &mut Markup, item: Item) -> Result<(), NoMemory> {
+    page.add(&[Piece::Markup("<li>")])?;
+    add_item_link(page, item)?;
+    page.add(&[Piece::Markup("</li>\n")])?;
+    Ok(())
 }
 
 /// Adds how many more items there are, if there are any.

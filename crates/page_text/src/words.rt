@@ -1,23 +1,8 @@
-//! The words of a refusal, and of what a gate asks.
-
-ghost use Rattle.std.specs.Prelude.{◌≡◌, IfOk, string_bytes};
-ghost use Rattle.ready_core.specs.Words.{refusal_text};
+//! The words of what a gate asks.
 
 use gate_rules::{Clause, Clauses, Condition, Gate, LabelValues, Pattern};
 use lattice_core::NoMemory;
 use markup_text::{Markup, Piece};
-use ready_core::Refusal;
-use std::alloc::Global;
-use why_text::add_refusal;
-
-/// A refusal in the words of a report, as `require approval 2`.
-pub fn refusal_words(alloc: Global, refusal: Refusal) -> Result<String, NoMemory>
-    ensures { IfOk result (λ words. string_bytes words ≡ refusal_text refusal) }
-{
-    let mut words = String::new(alloc);
-    add_refusal(&mut words, refusal)?;
-    Ok(words)
-}
 
 /// Adds what the gate asks at the place of a condition.
 pub fn add_wanted(page: &mut Markup, gate: &Gate, condition: Condition) -> Result<(), NoMemory> {

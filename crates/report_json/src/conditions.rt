@@ -9,7 +9,6 @@ ghost use Rattle.why_text.specs.All.{TellsEach};
 ghost use Rattle.report_json.specs.Why.{SaysConditions, SaysConditionsIf, SaysTried};
 
 use super::asked::put_asked;
-use super::items::refusal_words;
 use gate_rules::{Gate, Tried};
 use json::Writer;
 use json_line::{close_list, close_object, open_list, open_object, put_flag, put_text};
@@ -17,6 +16,7 @@ use lattice_core::NoMemory;
 use ready_core::Refusal;
 use state_core::{Item, State};
 use std::alloc::Global;
+use why_text::refusal_words;
 
 /// Adds each condition of the gate where `is_all`, in the order in which an item is judged by them.
 pub(super) fn put_more(

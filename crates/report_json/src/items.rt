@@ -1,8 +1,7 @@
 //! Items as JSON.
 
-ghost use Rattle.std.specs.Prelude.{◌≡◌, IfOk, OnOk, string_bytes};
+ghost use Rattle.std.specs.Prelude.{◌≡◌, IfOk, OnOk};
 ghost use Rattle.json_line.specs.Tokens.{AddsTokens, json_line};
-ghost use Rattle.ready_core.specs.Words.{refusal_text};
 ghost use Rattle.report_json.specs.Report.{item_tokens, out_item_tokens, out_tokens, ready_item_tokens, ready_tokens};
 ghost use Rattle.report_json.specs.Report.{refusal_tokens, verdict_members};
 
@@ -12,7 +11,7 @@ use lattice_core::NoMemory;
 use ready_core::{Left, Refusal};
 use state_core::Item;
 use std::alloc::Global;
-use why_text::add_refusal;
+use why_text::refusal_words;
 
 /// The line of an item that is ready: an object with its change and its patch set, and that it is ready.
 pub fn ready_item_line(alloc: Global, item: Item) -> Result<Vec<u8>, NoMemory>
@@ -92,13 +91,4 @@ pub(super) fn put_refusal(
     let words = refusal_words(alloc, refusal)?;
     put_text(out, "refusal", words.as_str())?;
     Ok(())
-}
-
-/// A refusal in the words of a report, as `require approval 2`.
-pub(super) fn refusal_words(alloc: Global, refusal: Refusal) -> Result<String, NoMemory>
-    ensures { IfOk result (λ words. string_bytes words ≡ refusal_text refusal) }
-{
-    let mut words = String::new(alloc);
-    add_refusal(&mut words, refusal)?;
-    Ok(words)
 }

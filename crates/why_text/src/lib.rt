@@ -38,4 +38,4 @@ pub use chain::{Chain, chain_of};
 pub use cycle::others_on_cycle;
 pub use laws::broken_conditions_are_wanted;
 pub use why::why_text;
-pub use words::{add_item, add_refusal};
+pub use words::{add_item, add_refusal, refusal_words};

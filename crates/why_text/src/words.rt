@@ -1,6 +1,6 @@
 //! The words of items and refusals.
 
-ghost use Rattle.std.specs.Prelude.{◌≡◌, ◌++◌, OnOk, codes, string_bytes, decimal};
+ghost use Rattle.std.specs.Prelude.{◌≡◌, ◌++◌, IfOk, OnOk, codes, string_bytes, decimal};
 ghost use Rattle.gate_rules.specs.Words.{clause_text};
 ghost use Rattle.ready_core.specs.Words.{refusal_text};
 ghost use Rattle.report_text.specs.Report.{item_text};
@@ -9,6 +9,7 @@ use gate_rules::{Clause, Condition};
 use lattice_core::NoMemory;
 use ready_core::Refusal;
 use state_core::Item;
+use std::alloc::Global;
 
 /// Adds an item to a text, as `101,2`.
 pub fn add_item(text: &mut String, item: Item) -> Result<(), NoMemory>
@@ -17,6 +18,15 @@ pub fn add_item(text: &mut String, item: Item) -> Result<(), NoMemory>
     let Item { change, set } = item;
     write!(text, "{change},{set}")?;
     Ok(())
+}
+
+/// Why an item is left out, in the words of a report, as `require approval 2`.
+pub fn refusal_words(alloc: Global, refusal: Refusal) -> Result<String, NoMemory>
+    ensures { IfOk result (λ words. string_bytes words ≡ refusal_text refusal) }
+{
+    let mut words = String::new(alloc);
+    add_refusal(&mut words, refusal)?;
+    Ok(words)
 }
 
 /// Adds to a text why an item is left out, in the words of a report.

@@ -1,6 +1,6 @@
 //! Sites that words ask for.
 
-use command_line::{Asked, Printing, ServeWords, SocketMode, read_words};
+use command_line::{Asked, PageAddress, Printing, ServeWords, SocketMode, read_words};
 use site_address::{Address, HostPort, PeerAddress, address_of, host_port_of, peer_of};
 use std::alloc::Global;
 use std::process::Abort;
@@ -140,7 +140,7 @@ const ALL: [&str; 53] = [
     "--print",
     "changes",
     "--http",
-    "65535",
+    "/run/page.socket",
     "--http-host",
     "gate.example.org",
     "--http-host",
@@ -182,7 +182,7 @@ fn with_all<'a>(
         until_input_ends: true,
         prints: Printing::Changes,
         log_time: true,
-        http: Some(65_535),
+        http: Some(PageAddress::Path("/run/page.socket")),
         http_hosts,
         load: Some("a"),
         save: Some("b"),
@@ -210,7 +210,7 @@ fn all_options_are_read(rt: HostRuntime) -> Result<(), Fail> {
 }
 
 /// The least and the greatest number of each option that has limits.
-const LIMITS: [(&str, &str, u64); 17] = [
+const LIMITS: [(&str, &str, u64); 15] = [
     ("--site", "1", 1),
     ("--site", "65535", 65_535),
     ("--start", "1", 1),
@@ -230,8 +230,6 @@ const LIMITS: [(&str, &str, u64); 17] = [
     ("--idle", "18446744073709551615", 18_446_744_073_709_551_615),
     ("--connections", "1", 1),
     ("--connections", "65535", 65_535),
-    ("--http", "0", 0),
-    ("--http", "65535", 65_535),
 ];
 
 /// The numbers of a site, in the order of the options above.
@@ -244,7 +242,6 @@ fn number_of(serving: &ServeWords<'_>, option: &str) -> u64 {
         "--pause" => serving.pause_ms,
         "--sessions" => serving.sessions,
         "--connections" => serving.connections as u64,
-        "--http" => u64::from(serving.http.unwrap_or(7)),
         _ => serving.idle_ms,
     }
 }
@@ -416,6 +413,33 @@ fn each_word_says_who_may_connect(rt: HostRuntime) {
         ("666", None),
     ] {
         assert_eq!(rt; mode_of(rt.alloc(), word), wanted);
+    }
+}
+
+/// Whether a site shows itself there by this word; or, where nothing is wanted, the word says nothing of it.
+fn shows_at(alloc: Global, word: &str, wanted: Option<PageAddress<'_>>) -> bool {
+    let words = ["serve", "g", "--site=1", "--start=1", "--http", word];
+    match serving_of(alloc, words.as_slice()) {
+        Some(serving) => wanted.is_some() && serving.http == wanted,
+        None => wanted.is_none(),
+    }
+}
+
+#[test]
+fn each_word_says_where_a_site_shows_itself(rt: HostRuntime) {
+    for (word, wanted) in [
+        ("0", Some(PageAddress::Port(0))),
+        ("+8180", Some(PageAddress::Port(8_180))),
+        ("65535", Some(PageAddress::Port(65_535))),
+        ("/", Some(PageAddress::Path("/"))),
+        ("./8180", Some(PageAddress::Path("./8180"))),
+        ("a:1/b", Some(PageAddress::Path("a:1/b"))),
+        ("65536", None),
+        ("8180 ", None),
+        ("localhost:8180", None),
+        ("", None),
+    ] {
+        assert!(rt; shows_at(rt.alloc(), word, wanted), "{word}");
     }
 }
 

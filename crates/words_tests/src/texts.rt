@@ -200,7 +200,7 @@ Options:
       --until-input-ends  Hears standard input: stop and reload, and stops at its end
       --print <WHAT>      What it prints: report, changes or none [default: report]
       --log-time          Begins each line on standard error with the time, in UTC
-      --http <PORT>       Shows itself to browsers at this port on 127.0.0.1; 0 has the system choose one
+      --http <ADDRESS>    Shows itself to browsers at a port on 127.0.0.1, 0 for one that is free, or at a Unix socket
       --http-host <NAME>  A host name that browsers may use for it, once for each, beside localhost
       --load <FILE>       The snapshot to begin with
       --save <FILE>       The snapshot that is written at the end
@@ -435,7 +435,7 @@ const OPTIONS: [(&str, &str); 14] = [
 ];
 
 /// Numbers one beyond their limits, and what is no number, or no word of an option.
-const NUMBERS: [(&str, &str); 43] = [
+const NUMBERS: [(&str, &str); 44] = [
     (
         "why g s x",
         "error: invalid value 'x' for '<CHANGE[,SET]>': CHANGE and SET are numbers from 0 to 4294967295",
@@ -546,7 +546,11 @@ const NUMBERS: [(&str, &str); 43] = [
     ),
     (
         "serve g --site 1 --start 1 --http 65536",
-        "error: invalid value '65536' for '--http <PORT>': 65536 is not in 0..=65535",
+        "error: invalid value '65536' for '--http <ADDRESS>': a port from 0 to 65535, or the path of a Unix socket, which has a slash",
+    ),
+    (
+        "serve g --site 1 --start 1 --http localhost:8180",
+        "error: invalid value 'localhost:8180' for '--http <ADDRESS>': a port from 0 to 65535, or the path of a Unix socket, which has a slash",
     ),
     (
         "serve g 0 --site 1 --start 1",
