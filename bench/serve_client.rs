@@ -103,6 +103,30 @@ fn passing(here: u16, there: u16, times: u32, first: u32) -> (f64, f64) {
     (sum / f64::from(times), most)
 }
 
+/// How long each of so many takes waited for its answer, in milliseconds: the first, the second, the median and the
+/// greatest; where `looks`, beside another session that asks for its first report.
+fn stalls(port: u16, times: u32, looks: bool, first: u32) -> [f64; 4] {
+    let mut session = Session::open(port);
+    let looker = looks.then(|| {
+        let mut other = Session::open(port);
+        thread::spawn(move || other.report())
+    });
+    let mut waits: Vec<f64> = (first..first + times)
+        .map(|change| {
+            thread::sleep(Duration::from_millis(2));
+            let began = Instant::now();
+            session.take(change);
+            began.elapsed().as_secs_f64() * 1000.0
+        })
+        .collect();
+    if let Some(looker) = looker {
+        looker.join().expect("a report");
+    }
+    let (one, two) = (waits[0], waits[1]);
+    waits.sort_by(f64::total_cmp);
+    [one, two, waits[waits.len() / 2], waits[waits.len() - 1]]
+}
+
 fn main() {
     let words: Vec<String> = env::args().skip(1).collect();
     let number = |place: usize| words[place].parse::<u32>().expect("a number");
@@ -126,6 +150,10 @@ fn main() {
         "passing" => {
             let (mean, most) = passing(number(1) as u16, number(2) as u16, number(3), number(4));
             println!("{mean:.1} {most:.1}");
+        }
+        "stalls" => {
+            let waits = stalls(number(1) as u16, number(2), number(3) > 0, number(4));
+            println!("{:.1} {:.1} {:.2} {:.1}", waits[0], waits[1], waits[2], waits[3]);
         }
         other => panic!("{other}"),
     }

@@ -7,7 +7,7 @@ mod keys;
 mod projects;
 
 use byte_ends::{Drain, Ends, Source};
-use command_line::{Asked, RecoverWords, ServeWords, read_words};
+use command_line::{Asked, Command, EnqueueWords, RecoverWords, ServeWords, read_words};
 use commands::{print_text, report, report_usage, run_command};
 use console::{Named, Refusal, show_line};
 use enqueue::enqueue;
@@ -22,7 +22,7 @@ use site_journal::LeftOut;
 use std::alloc::Global;
 use std::env::Env;
 use std::fs::File;
-use std::io::{ErrorKind, Print};
+use std::io::{ErrorKind, Input, Print};
 use std::net::{Net, TcpListener, TcpStream};
 use std::process::ExitCode;
 use std::random::RandomSource;
@@ -46,14 +46,7 @@ fn main(rt: HostRuntime) -> ExitCode {
         }
     };
     let status = match read_words(alloc, words.as_slice()) {
-        Asked::Run(command) => run_command(
-            alloc,
-            &command,
-            &mut Ends::new(rt.reader()),
-            &mut Ends::new(io::writer(&rt)),
-            &mut Ends::new(rt.stderr()),
-            &mut SystemFiles::new(&rt),
-        ),
+        Asked::Run(command) => run(rt, alloc, &command, &mut Ends::new(rt.stderr())),
         Asked::Serve(words) => {
             let log_time = words.log_time;
             serve_reported(
@@ -67,14 +60,7 @@ fn main(rt: HostRuntime) -> ExitCode {
                 &mut Timed::new(SystemMoments::new(rt, log_time), Ends::new(rt.stderr())),
             )
         }
-        Asked::Recover(words) => recover(
-            &rt,
-            alloc,
-            words,
-            Ends::new(rt.reader()),
-            &mut Ends::new(io::writer(&rt)),
-            &mut Ends::new(rt.stderr()),
-        ),
+        Asked::Recover(words) => recover(rt, alloc, words, &mut Ends::new(rt.stderr())),
         Asked::Events(words) => feed(
             rt,
             alloc,
@@ -83,42 +69,74 @@ fn main(rt: HostRuntime) -> ExitCode {
             &mut Ends::new(io::writer(&rt)),
             &mut Ends::new(rt.stderr()),
         ),
-        Asked::Enqueue(words) => enqueue(
-            alloc,
-            words,
-            &mut Ends::new(rt.reader()),
-            &mut Ends::new(io::writer(&rt)),
-            &mut Ends::new(rt.stderr()),
-            &mut SystemFiles::new(&rt),
-        ),
-        Asked::Help(text) | Asked::Version(text) => print_text(
-            alloc,
-            text.as_str(),
-            &mut Ends::new(io::writer(&rt)),
-            &mut Ends::new(rt.stderr()),
-        ),
+        Asked::Enqueue(words) => hand_over(rt, alloc, words, &mut Ends::new(rt.stderr())),
+        Asked::Help(text) | Asked::Version(text) => {
+            print(&rt, alloc, text.as_str(), &mut Ends::new(rt.stderr()))
+        }
         Asked::Usage(text) => report_usage(text.as_str(), &mut Ends::new(rt.stderr())),
         Asked::NoMemory => report(alloc, &Err(Refusal::Memory), &mut Ends::new(rt.stderr())),
     };
     ExitCode::from(status)
 }
 
+/// Runs a command over files. Answers the status.
+fn run<R, E>(rt: R, alloc: Global, command: &Command<'_>, errors: &mut E) -> u8
+where
+    R: Input + Print + Files + Net<Stream = TcpStream> + Clock + AllocGlobal + Copy + Drop,
+    E: Drain,
+{
+    run_command(
+        alloc,
+        command,
+        &mut Ends::new(rt.reader()),
+        &mut Ends::new(io::writer(&rt)),
+        errors,
+        &mut SystemFiles::new(rt),
+    )
+}
+
+/// Prints a text. Answers the status.
+fn print<R: Print, E: Drain>(rt: &R, alloc: Global, text: &str, errors: &mut E) -> u8 {
+    print_text(alloc, text, &mut Ends::new(io::writer(rt)), errors)
+}
+
+/// Hands items to Zuul as the words ask for. Answers the status.
+fn hand_over<R, E>(rt: R, alloc: Global, words: EnqueueWords<'_>, errors: &mut E) -> u8
+where
+    R: Input + Print + Files + Net<Stream = TcpStream> + Clock + AllocGlobal + Copy + Drop,
+    E: Drain,
+{
+    enqueue(
+        alloc,
+        words,
+        &mut Ends::new(rt.reader()),
+        &mut Ends::new(io::writer(&rt)),
+        errors,
+        &mut SystemFiles::new(rt),
+    )
+}
+
 /// Recovers a journal as the words ask for. Answers the status.
-fn recover<R: Files, I: Source + Drop, O: Drain, E: Drain>(
-    rt: &R,
-    alloc: Global,
-    words: RecoverWords<'_>,
-    input: I,
-    output: &mut O,
-    errors: &mut E,
-) -> u8 {
+fn recover<R, E>(rt: R, alloc: Global, words: RecoverWords<'_>, errors: &mut E) -> u8
+where
+    R: Input + Print + Files + Drop,
+    E: Drain,
+{
     let RecoverWords {
         journal,
         without: rows,
         until,
     } = words;
     let left_out = LeftOut { rows, until };
-    recover_named(rt, alloc, journal, input, &left_out, output, errors)
+    recover_named(
+        &rt,
+        alloc,
+        journal,
+        Ends::new(rt.reader()),
+        &left_out,
+        &mut Ends::new(io::writer(&rt)),
+        errors,
+    )
 }
 
 /// Runs a site as the words ask for, and reports how it ended. Answers the status.

@@ -1,11 +1,12 @@
 -- What survived a crash is in the record that a site begins with.
-use Rattle.std.proofs.Common.{◌≡◌, ◌++◌, ℕ, List, [], Option, None, Some, Result, Ok, Err, IfOk, IfSome, inl, inr, ap, subst, ◌∙◌}
+use Rattle.std.proofs.Common.{◌≡◌, ◌++◌, ℕ, List, [], Option, None, Some, Result, Ok, Err, IfOk, IfSome, inl, inr, ap, subst, sym, ◌∙◌}
 use Rattle.replica_core.specs.Journal.{all_arrived, has}
-use Rattle.replica_core.specs.JournalLaws.{IsPartOf, has-all_arrived, has-append_left}
+use Rattle.replica_core.specs.JournalLaws.{IsPartOf, IsSameSet-append, has-all_arrived, has-append_left}
 use Rattle.review_ops.specs.Operation.{Operation}
 use Rattle.site_journal.specs.Tape.{Image, IsLeftBy}
 use Rattle.site_journal.specs.Text.{IsFresh, SaysJournal}
 use Rattle.serve_command.specs.Beginning.{HasSurvivors, IsBegun}
+use Rattle.serve_command.specs.Restarts.{BeginsAgain}
 
 -- what the text says first is in the record, once all that it says has come
 said_part : (ops published more own begun loaded : List Operation) → ops ≡ published ++ more → own ≡ all_arrived [] ops
@@ -43,3 +44,10 @@ module _ (one : (text : List ℕ) (ops others : List Operation) (rest other : Li
   survivors_are_answered None loaded (Ok begun) whole = tt
   survivors_are_answered (Some i) loaded (Ok begun) whole = survivors_are_begun i.contents loaded begun.1 whole
   survivors_are_answered known loaded (Err fault) whole = tt
+
+-- what a site had begun with and published is in what survived
+pub all_again : (begun first more again : List Operation) → BeginsAgain begun first more again
+    → IsPartOf (all_arrived begun more) again
+all_again begun first more again b op h =
+    b.survivors b.book b.image (first ++ more) b.known b.left b.kept op
+    (sym (IsSameSet-append begun first more b.same op) ∙ sym (has-all_arrived begun more op) ∙ h)

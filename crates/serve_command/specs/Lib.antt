@@ -5,3 +5,4 @@ pub mod Printing
 pub mod LateClock
 pub mod Listening
 pub mod Wishes
+pub mod Restarts

@@ -11,7 +11,7 @@ use super::heard::{Heard, hear};
 use super::journal::open_journal;
 use super::keys::{Host, judge_keys};
 use super::late_clock::show_late_clock;
-use super::listening::{Listening, leave, listen, listen_at};
+use super::listening::{Doors, Listening, leave, listen};
 use super::output::PatientOutput;
 use super::save::save;
 use super::start::start_of;
@@ -22,12 +22,12 @@ use gate_rules::Gate;
 use key_file::KeyFault;
 use key_files::KeyReader;
 use mio::Waker;
-use page_server::{Door, open_door};
+use page_server::Door;
 use replica_core::Replica;
 use site_journal::JournalFault;
 use site_ledger::{Keeps, NoJournal};
-use site_net::{Listener, Stop};
-use site_serve::{Doorstep, Prints, Reloads, ServeFault, Served, Setup, serve_keeping};
+use site_net::Stop;
+use site_serve::{Closed, Doorstep, Prints, Reloads, ServeFault, Served, Setup, serve_keeping};
 use std::alloc::Global;
 use std::fs::File;
 use std::io;
@@ -60,7 +60,7 @@ pub enum Ended<'n> {
 
 /// Runs the site that words ask for. It reads and judges the gate file, then the snapshot and the keys, if they are
 /// named, opens the journal, asks whether the start was used, listens and prints `listening ADDRESS` for each address and, where it
-/// shows itself to browsers, `listening http P`, runs the site and saves what it has. What is wrong while it runs is
+/// shows itself to browsers, `listening http ADDRESS`, runs the site and saves what it has. What is wrong while it runs is
 /// written to `errors`. Where it is to end with its input it ends in order at that end and at a line `stop`, and at a line
 /// `reload` the gate file is read again, by `files` as before; else the input isn't read. Keys are read by `keys`.
 pub fn serve<'n, R, I, N, E, L>(
@@ -175,14 +175,14 @@ where
     let Some(start) = start_of(&rt, serving.start, &replica, serving.site) else {
         return Err(Ended::Site(ServeFault::StartUsed));
     };
-    let Listening { listeners, sockets } = listen(&rt, alloc, &serving)?;
+    let Listening { doors, sockets } = listen(&rt, alloc, &serving)?;
     let site = Site {
         serving,
         gate,
         replica,
     };
     let ended = run_listening(
-        rt, alloc, site, start, listeners, input, files, errors, keys, keeper,
+        rt, alloc, site, start, doors, input, files, errors, keys, keeper,
     );
     leave(&rt, sockets.as_slice());
     ended
@@ -194,7 +194,7 @@ fn run_listening<R, I, N, E, L, K>(
     alloc: Global,
     site: Site<'_>,
     start: u32,
-    listeners: Vec<Listener>,
+    doors: Doors,
     input: I,
     files: N,
     errors: E,
@@ -212,10 +212,7 @@ where
     K: Keeps + Drop,
     requires { (first : List Operation) × K.holds keeper first }
 {
-    let stage = match staged(&rt, alloc, site, start, listeners) {
-        Ok(stage) => stage,
-        Err(ended) => return Err(ended),
-    };
+    let stage = Stage { site, start, doors };
     let serving = &stage.site.serving;
     let (gate, until) = (serving.gate, serving.until_input_ends);
     match hear(rt, alloc, gate, until, input, files, errors) {
@@ -224,35 +221,12 @@ where
     }
 }
 
-/// A site that listens, with its start, and where it shows itself to browsers.
+/// A site that listens, with its start.
 #[derive(Drop)]
 struct Stage<'a> {
     site: Site<'a>,
     start: u32,
-    listeners: Vec<Listener>,
-    page: Option<(Door, Waker)>,
-}
-
-/// A site that listens, also for browsers where it shows itself to them.
-fn staged<'a, R>(
-    rt: &R,
-    alloc: Global,
-    site: Site<'a>,
-    start: u32,
-    listeners: Vec<Listener>,
-) -> Result<Stage<'a>, Ended<'static>>
-where
-    R: Net<Listener = TcpListener, Stream = TcpStream> + RandomSource + Print,
-{
-    match page_of(rt, alloc, site.serving.http) {
-        Ok(page) => Ok(Stage {
-            site,
-            start,
-            listeners,
-            page,
-        }),
-        Err(ended) => Err(ended),
-    }
+    doors: Doors,
 }
 
 /// Runs a site whose input is heard.
@@ -304,18 +278,15 @@ where
         reloads,
         errors,
     } = heard;
-    let Stage {
-        site,
-        start,
-        listeners,
-        page,
-    } = stage;
+    let Stage { site, start, doors } = stage;
+    let Doors { listeners, page } = doors;
     let name = site.serving.save;
     let host = Host { reader: keys };
     let setup = setup_of(site, start, reloads, page);
-    match serve_keeping(
+    let Closed { keeper: _, served } = serve_keeping(
         &rt, alloc, listeners, setup, &stop, output, errors, &host, keeper,
-    ) {
+    );
+    match served {
         Ok(served) => keep(&rt, alloc, name, &served),
         Err(fault) => Err(Ended::Site(fault)),
     }
@@ -334,25 +305,6 @@ fn output_of<R: Print + Threads + Wait + Clock + Copy + Send + 'static>(
         Ok(Some(output)) => Ok(Ends::new(output)),
         Ok(None) => Err(ServeFault::NoPlace),
         Err(_) => Err(ServeFault::NoMemory),
-    }
-}
-
-/// Where the site shows itself to browsers, if it does; its port is printed.
-fn page_of<R>(
-    rt: &R,
-    alloc: Global,
-    http: Option<u16>,
-) -> Result<Option<(Door, Waker)>, Ended<'static>>
-where
-    R: Net<Listener = TcpListener, Stream = TcpStream> + RandomSource + Print,
-{
-    let Some(port) = http else {
-        return Ok(None);
-    };
-    let listener = listen_at(rt, alloc, "http ", port)?;
-    match open_door(rt, listener) {
-        Ok(page) => Ok(Some(page)),
-        Err(_) => Err(Ended::Program(ProgramFault::NoBind)),
     }
 }
 

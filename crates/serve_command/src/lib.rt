@@ -26,6 +26,7 @@ mod input_end;
 mod journal;
 mod keys;
 mod late_clock;
+mod laws;
 mod listening;
 mod output;
 mod save;
@@ -35,3 +36,4 @@ mod tape;
 
 pub use command::{Ended, serve};
 pub use fault::ProgramFault;
+pub use laws::sites_that_begin_again_have_all;

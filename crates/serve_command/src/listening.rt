@@ -1,4 +1,4 @@
-//! Listens for the sessions of a site, and says where.
+//! Listens for the sessions of a site and for browsers, and says where.
 
 ghost use Rattle.std.specs.Prelude.{◌≡◌, ◌++◌, IfOk, codes, string_bytes};
 ghost use Rattle.serve_command.specs.Listening.{bits_of, port_of};
@@ -7,37 +7,50 @@ ghost use Rattle.site_address.specs.Host.{host_port_text};
 use super::command::Ended;
 use super::fault::ProgramFault;
 use byte_ends::{Ends, write_all};
-use command_line::{ServeWords, SocketMode};
+use command_line::{PageAddress, ServeWords, SocketMode};
 use console::Refusal;
+use mio::Waker;
+use page_server::{Door, open_door, open_socket_door};
 use site_address::HostPort;
 use site_net::{Listener, listen_at_host, listen_at_path, listen_at_port};
 use std::alloc::{AllocError, Global};
 use std::io::Print;
 use std::net::{Net, TcpListener, TcpStream};
+use std::os::unix::net::UnixListener;
+use std::random::RandomSource;
 use std::rt::Files;
 use std::{fs, io};
+
+/// What a site listens at.
+#[derive(Drop)]
+pub struct Doors {
+    /// For its sessions.
+    pub listeners: Vec<Listener>,
+    /// For browsers, where it shows itself to them, with what wakes who serves there.
+    pub page: Option<(Door, Waker)>,
+}
 
 /// What a site listens at, and the paths of the sockets that it made for that.
 #[derive(Drop)]
 pub struct Listening<'a> {
-    pub listeners: Vec<Listener>,
+    pub doors: Doors,
     pub sockets: Vec<&'a str>,
 }
 
-/// Listens at the port, the sockets and the hosts that the words name; at a port of this machine that the system chooses
-/// where they name none. The address of each is printed. Where it fails the sockets that it has made are removed.
+/// Listens at the port, the sockets and the hosts that the words name, at a port of this machine that the system
+/// chooses where they name none; then for browsers, where the words say so. The address of each is printed. Where it
+/// fails the sockets that it has made are removed.
 pub fn listen<'a, R>(
     rt: &R,
     alloc: Global,
     words: &ServeWords<'a>,
 ) -> Result<Listening<'a>, Ended<'static>>
 where
-    R: Net<Listener = TcpListener, Stream = TcpStream> + Files + Print,
+    R: Net<Listener = TcpListener, Stream = TcpStream> + RandomSource + Files + Print,
 {
-    let mut listeners = Vec::new(alloc);
     let mut sockets = Vec::new(alloc);
-    match listen_at_all(rt, alloc, words, &mut listeners, &mut sockets) {
-        Ok(()) => Ok(Listening { listeners, sockets }),
+    match doors_of(rt, alloc, words, &mut sockets) {
+        Ok(doors) => Ok(Listening { doors, sockets }),
         Err(ended) => {
             leave(rt, sockets.as_slice());
             Err(ended)
@@ -52,7 +65,56 @@ pub fn leave<R: Files>(rt: &R, sockets: &[&str]) {
     }
 }
 
-/// Listens at all that the words name.
+/// Listens at all that the words name, for sessions and for browsers.
+fn doors_of<'a, R>(
+    rt: &R,
+    alloc: Global,
+    words: &ServeWords<'a>,
+    sockets: &mut Vec<&'a str>,
+) -> Result<Doors, Ended<'static>>
+where
+    R: Net<Listener = TcpListener, Stream = TcpStream> + RandomSource + Files + Print,
+{
+    let mut listeners = Vec::new(alloc);
+    listen_at_all(rt, alloc, words, &mut listeners, sockets)?;
+    match page_of(rt, alloc, words, sockets) {
+        Ok(page) => Ok(Doors { listeners, page }),
+        Err(ended) => Err(ended),
+    }
+}
+
+/// Listens for browsers where the words say so, and prints the address.
+fn page_of<'a, R>(
+    rt: &R,
+    alloc: Global,
+    words: &ServeWords<'a>,
+    sockets: &mut Vec<&'a str>,
+) -> Result<Option<(Door, Waker)>, Ended<'static>>
+where
+    R: Net<Listener = TcpListener, Stream = TcpStream> + RandomSource + Files + Print,
+{
+    match words.http {
+        None => Ok(None),
+        Some(PageAddress::Port(port)) => {
+            let listener = listen_at(rt, alloc, "http ", port)?;
+            opened(open_door(rt, listener))
+        }
+        Some(PageAddress::Path(path)) => {
+            let listener = listen_at_socket(rt, alloc, "http ", path, words.mode, sockets)?;
+            opened(open_socket_door(rt, listener))
+        }
+    }
+}
+
+/// A door, if it could be opened.
+fn opened(page: io::Result<(Door, Waker)>) -> Result<Option<(Door, Waker)>, Ended<'static>> {
+    match page {
+        Ok(page) => Ok(Some(page)),
+        Err(_) => Err(Ended::Program(ProgramFault::NoBind)),
+    }
+}
+
+/// Listens for sessions at all that the words name.
 fn listen_at_all<'a, R>(
     rt: &R,
     alloc: Global,
@@ -69,12 +131,8 @@ where
         add(listeners, Listener::Port(listener))?;
     }
     for path in &words.sockets {
-        let Ok(listener) = listen_at_path(rt, alloc, path, bits_of(words.mode)) else {
-            return Err(Ended::Program(ProgramFault::NoBind));
-        };
-        add(sockets, *path)?;
+        let listener = listen_at_socket(rt, alloc, "", path, words.mode, sockets)?;
         add(listeners, Listener::Socket(listener))?;
-        say(rt, format!(in alloc; "listening {path}\n"))?;
     }
     listen_at_hosts(rt, alloc, words.hosts.as_slice(), listeners)
 }
@@ -139,13 +197,31 @@ fn bits_of(mode: SocketMode) -> u32
     }
 }
 
-/// Listens at a port, and prints it after what it is for.
-pub fn listen_at<R>(
+/// Listens at a Unix socket, notes that it was made, and prints its path after what it is for.
+fn listen_at_socket<'a, R>(
     rt: &R,
     alloc: Global,
     what: &str,
-    port: u16,
-) -> Result<TcpListener, Ended<'static>>
+    path: &'a str,
+    mode: SocketMode,
+    sockets: &mut Vec<&'a str>,
+) -> Result<UnixListener, Ended<'static>>
+where
+    R: Net<Listener = TcpListener, Stream = TcpStream> + Files + Print,
+{
+    let Ok(listener) = listen_at_path(rt, alloc, path, bits_of(mode)) else {
+        return Err(Ended::Program(ProgramFault::NoBind));
+    };
+    if let Err(ended) = add(sockets, path) {
+        leave(rt, [path].as_slice());
+        return Err(ended);
+    }
+    say(rt, format!(in alloc; "listening {what}{path}\n"))?;
+    Ok(listener)
+}
+
+/// Listens at a port, and prints it after what it is for.
+fn listen_at<R>(rt: &R, alloc: Global, what: &str, port: u16) -> Result<TcpListener, Ended<'static>>
 where
     R: Net<Listener = TcpListener, Stream = TcpStream> + Print,
 {

@@ -13,7 +13,7 @@ use serve_command::{Ended, ProgramFault};
 use site_address::{HostPort, PeerAddress};
 use site_ledger::NoJournal;
 use site_net::{Listener, Stop};
-use site_serve::{Setup, Turn, serve_keeping};
+use site_serve::{Closed, Setup, Turn, serve_keeping};
 use std::alloc::Global;
 use std::fs::{File, Permissions};
 use std::io::{Print, Read, Write};
@@ -108,7 +108,7 @@ where
     let (errors, written) = watched_end(*rt, alloc)?;
     let stop = Stop::new();
     let output = Ends::new(Vec::new(alloc));
-    let served = serve_keeping(
+    let Closed { keeper: _, served } = serve_keeping(
         rt, alloc, listeners, setup, &stop, output, errors, host, NoJournal,
     );
     let count = match ending(served) {

@@ -1,17 +1,25 @@
 //! Sites that show themselves to browsers.
 
+use super::programs::{serve_input, site_words};
+use super::restarts::talk_once_up;
 use super::sites::{NoTurn, ending, listening, one_session, run_one, talk, text_of};
+use super::sockets::{bits_of, talk_at};
+use command_line::{PageAddress, SocketMode};
 use page_server::open_door;
+use record_pull::SystemFiles;
+use serve_command::{Ended, ProgramFault};
 use site_address::{Address, PeerAddress};
-use site_net::Stop;
+use site_net::{Stop, listen_at_path};
 use site_serve::{Doorstep, Setup};
 use std::alloc::Global;
 use std::net::{Net, TcpListener, TcpStream};
+use std::process::Abort;
 use std::random::RandomSource;
+use std::rt::Files;
 use std::sync::Wait;
 use std::test::Fail;
 use std::time::{Clock, Duration};
-use std::{io, thread};
+use std::{fs, io, thread};
 
 /// A client that takes in a patch set, whose subject has markup.
 const TAKE_PATCH: &str =
@@ -137,5 +145,62 @@ fn a_site_shows_how_it_is(rt: HostRuntime) -> Result<(), Fail> {
         status.contains("\"peer\":\"./no/such/socket\""),
         "{status}"
     );
+    Ok(())
+}
+
+/// The items of a site that took it under a gate that wants nothing.
+const READY: &str =
+    r#"{"total":1,"page":1,"items":[{"change":101,"set":1,"subject":"<b>&","ready":true,"place":1}]}"#;
+
+/// Takes a patch set in at a site, looks at its page over the socket, and has a second session: what is shown, to this
+/// machine and to another host, and the socket's mode.
+fn look_between<R>(rt: &R, alloc: Global, port: u16) -> io::Result<(String, String, u32)>
+where
+    R: Net<Listener = TcpListener, Stream = TcpStream> + Files + Wait + Clock,
+{
+    let _taken = talk_once_up(rt, alloc, port, TAKE_PATCH);
+    let items = talk_at(rt, alloc, "./page.tmp", ITEMS);
+    let list = talk_at(rt, alloc, "./page.tmp", LIST);
+    let mode = bits_of(rt, "./page.tmp");
+    let _ended = talk(rt, alloc, port, "hello 2\nquit\n");
+    Ok((items?, list?, mode?))
+}
+
+/// A site shows itself at a socket, in place of an old one, with its mode, to those hosts alone that were named; and
+/// removes it at its end.
+#[test]
+fn a_site_shows_itself_at_a_socket(rt: HostRuntime) -> Result<(), Fail> {
+    drop(listen_at_path(&rt, rt.alloc(), "./page.tmp", 0o600)?);
+    let (listener, port) = listening(&rt)?;
+    drop(listener);
+    let mut words = site_words(rt.alloc());
+    words.port = Some(port);
+    words.sessions = 2;
+    words.mode = SocketMode::Group;
+    words.http = Some(PageAddress::Path("./page.tmp"));
+    let browser = thread::spawn(&rt, move || look_between(&rt, rt.alloc(), port))?;
+    let is_well = matches!(&serve_input(rt, words, SystemFiles::new(rt)), Ended::Well);
+    let (items, list, mode) = browser.join(&rt)?;
+    assert!(rt; is_well);
+    assert!(rt; items.as_str().ends_with(READY));
+    assert!(rt; list.as_str().starts_with("HTTP/1.1 421 "));
+    assert_eq!(rt; mode, 0o660);
+    assert!(rt; fs::metadata(&rt, "./page.tmp").is_err());
+    Ok(())
+}
+
+/// A site doesn't run where another file is at the path of its page. That stays, and no socket is left.
+#[test]
+fn a_page_replaces_no_other_file(rt: HostRuntime) -> Result<(), Fail> {
+    fs::write(&rt, "./no_page.tmp", b"contents")?;
+    let mut words = site_words(rt.alloc());
+    words.sockets.push("./beside.tmp")?;
+    words.http = Some(PageAddress::Path("./no_page.tmp"));
+    let ended = serve_input(rt, words, SystemFiles::new(rt));
+    let contents = fs::read(&rt, "./no_page.tmp")?;
+    fs::remove_file(&rt, "./no_page.tmp")?;
+    assert!(rt; matches!(&ended, Ended::Program(ProgramFault::NoBind)));
+    assert_eq!(rt; contents.as_slice(), b"contents".as_slice());
+    assert!(rt; fs::metadata(&rt, "./beside.tmp").is_err());
     Ok(())
 }

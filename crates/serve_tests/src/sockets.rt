@@ -9,7 +9,7 @@ use serve_command::{Ended, ProgramFault};
 use site_address::{Address, PeerAddress};
 use site_ledger::NoJournal;
 use site_net::{Listener, Patience, Stop, connected, listen_at_path};
-use site_serve::{Setup, serve_keeping};
+use site_serve::{Closed, Setup, serve_keeping};
 use std::alloc::Global;
 use std::fs::File;
 use std::io::{Print, Write};
@@ -26,7 +26,7 @@ use std::time::{Clock, Duration};
 use std::{fs, io, thread};
 
 /// The permissions of a file.
-fn bits_of<R: Files>(rt: &R, path: &str) -> io::Result<u32> {
+pub fn bits_of<R: Files>(rt: &R, path: &str) -> io::Result<u32> {
     let mode = fs::metadata(rt, path)?.permissions().mode();
     Ok(mode & 0o777)
 }
@@ -90,7 +90,7 @@ fn what_a_start_left_is_cleared_up(rt: HostRuntime) -> Result<(), Fail> {
 }
 
 /// What the site at a socket answers to these lines, sent at once.
-fn talk_at<R: Net<Stream = TcpStream>>(
+pub fn talk_at<R: Net<Stream = TcpStream>>(
     rt: &R,
     alloc: Global,
     path: &str,
@@ -115,7 +115,7 @@ where
     listeners.push(Listener::Socket(listener)).ok()?;
     let (output, errors) = (Ends::new(Vec::new(alloc)), Ends::new(Vec::new(alloc)));
     let stop = Stop::new();
-    let served = serve_keeping(
+    let Closed { keeper: _, served } = serve_keeping(
         rt, alloc, listeners, setup, &stop, output, errors, &NoTurn, NoJournal,
     );
     let (operations, _written, _taken) = ending(served)?;

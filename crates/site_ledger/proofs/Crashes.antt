@@ -1,6 +1,6 @@
 -- What a crash leaves of a journal says what it has.
 use Rattle.std.proofs.Common.{◌≡◌, ◌∙◌, ℕ, ◌+◌, List, [], ◌∷◌, ◌++◌, Option, Some, None, Result, Ok, Err, ap, arith}
-use Rattle.std.proofs.Common.{length, length-append, append-nil, subst, sym, take}
+use Rattle.std.proofs.Common.{append_assoc, length, length-append, append-nil, subst, sym, take}
 use Rattle.std.specs.Prelude.{IfSome, OnErr}
 use Rattle.review_ops.specs.Operation.{Operation}
 use Rattle.site_journal.specs.Book.{Book, IsHolding, Recovers}
@@ -38,6 +38,14 @@ pub recovered_survives : (image : Option Image) (before ops : List Operation) (a
     → IfSome image (λ i. (left : List ℕ) → IsLeftBy i left → Recovers before ops all left) → IfSome image (Left before)
 recovered_survives None before ops all h = tt
 recovered_survives (Some i) before ops all h = λ left is. let r = h left is in (take r.count ops, r.rest, r.says)
+
+-- what comes first of what a crash leaves
+pub front_survives : (image : Option Image) (ops more : List Operation) → IfSome image (Left (ops ++ more))
+    → IfSome image (Left ops)
+front_survives None ops more h = tt
+front_survives (Some i) ops more h = λ left is.
+    let r = h left is in
+    (more ++ r.0, r.1, subst (λ all. SaysJournal left all r.1) (append_assoc ops more r.0) r.2)
 
 pub on_err : {A E : Type 0} (result : Result A E) (P : Type 0) → P → OnErr result P
 on_err (Ok value) P p = tt

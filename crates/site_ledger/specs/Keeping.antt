@@ -1,6 +1,6 @@
 -- What is published was kept: the write-ahead rule, by which what a change is recorded in is on disk before the change
 -- is shown (Mohan et al., ACM Transactions on Database Systems 17, 1992, 1.1).
-use Rattle.std.specs.Prelude.{◌≡◌, ◌<◌, ◌≤◌, ℕ, Bool, true, false, List, [], ◌++◌, IfSome, drop, flat_map, length, take}
+use Rattle.std.specs.Prelude.{◌≡◌, ◌<◌, ◌≤◌, ℕ, Bool, true, false, List, ◌++◌, IfSome, drop, flat_map, length, take}
 use Rattle.review_ops.specs.Operation.{Operation}
 use Rattle.site_shared.specs.Accounts.{Account}
 use Rattle.site_journal.specs.Book.{Book}
@@ -30,13 +30,25 @@ published_ops account = flat_map (λ ops. ops) (drop 1 account.published)
 abbrev pub kept_ops : {K : Type 0} → Entries K → List Operation
 kept_ops entries = published_ops entries.account ++ take entries.kept entries.account.held
 
--- after what the keeper had at first comes all that was published, and survives; as long as it goes on it has just that
+-- after these operations the keeper has just what was published since the opening and what of the held is kept, as long as
+-- it goes on; and that survives, also where it doesn't
+pub record IsFaithful {K : Type 0} (held_by survives_by : K → List Operation → Type 0) (first : List Operation) (entries : Entries K) : Type 0 where
+  pub survives : survives_by entries.keeper (first ++ kept_ops entries)
+  pub holds : entries.is_over ≡ false → held_by entries.keeper (first ++ kept_ops entries)
+
+-- a site was opened with what its keeper had at first, and all that it published since is kept
 pub record IsKeeping {K : Type 0} (held_by survives_by : K → List Operation → Type 0) (entries : Entries K) : Type 0 where
   pub first : List Operation
   pub opened : 0 < length entries.account.published
   pub within : entries.kept ≤ length entries.account.held
-  pub survives : survives_by entries.keeper (first ++ kept_ops entries)
-  pub holds : entries.is_over ≡ false → held_by entries.keeper (first ++ kept_ops entries)
+  pub faithful : IsFaithful held_by survives_by first entries
+
+-- what was published stays so, in its order; and whatever the keeper had at first, after it still comes just what was
+-- published since, and what of the held is kept
+pub record KeepsOn {K : Type 0} (held_by survives_by : K → List Operation → Type 0) (old new : Entries K) : Type 0 where
+  pub published : (later : List (List Operation)) × (new.account.published ≡ old.account.published ++ later)
+  pub faithful : (first : List Operation) → IsFaithful held_by survives_by first old
+      → IsFaithful held_by survives_by first new
 
 -- why nothing was published: nothing more is kept from now on just where it wasn't for want of memory
 abbrev pub is_over_after : LedgerFault → Bool

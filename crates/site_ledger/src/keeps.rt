@@ -19,6 +19,10 @@ pub trait Keeps {
     fn what_it_has_survives(&self)
         ensures { (ops : List Operation) → holds self.now ops → survives self.now ops };
 
+    /// Of what survives the first operations do, however many.
+    fn what_comes_first_survives(&self)
+        ensures { (ops more : List Operation) → survives self.now (ops ++ more) → survives self.now ops };
+
     /// Keeps the operations, after those that it has, which stay whether the call fails or not. At `Ok` these stay too.
     /// After any fault but want of memory nothing is promised of a later call.
     fn keep(&mut self, ops: &[Op]) -> Result<(), KeepFault>
@@ -43,6 +47,8 @@ impl Keeps for NoJournal {
 
     fn what_it_has_survives(&self) {}
 
+    fn what_comes_first_survives(&self) {}
+
     fn keep(&mut self, _ops: &[Op]) -> Result<(), KeepFault> {
         Ok(())
     }
@@ -61,6 +67,8 @@ impl<T: Tape> Keeps for Journal<T> {
     ghost survives = { Survive };
 
     fn what_it_has_survives(&self) {}
+
+    fn what_comes_first_survives(&self) {}
 
     fn keep(&mut self, ops: &[Op]) -> Result<(), KeepFault> {
         self.append(ops)

@@ -2,20 +2,23 @@
 
 ghost use Rattle.std.specs.Prelude.{◌≡◌, ◌∷◌, ◌<◌, ◌++◌, [], ℕ, List, None, IfErr, IfOk, OnErr, OnOk, false, true};
 ghost use Rattle.std.specs.Prelude.{if◌then◌else◌, drop, length};
+ghost use Rattle.std.specs.Arc.{arc_value};
 ghost use Rattle.replica_core.specs.Journal.{has};
 ghost use Rattle.review_ops.specs.Draft.{deed_of};
 ghost use Rattle.review_ops.specs.Good.{IsFaultless};
 ghost use Rattle.review_ops.specs.Operation.{Operation};
 ghost use Rattle.site_shared.specs.Accounts.{HasStamp, IsSameOpening, RefusesIntake, flushing, holding, next_operation};
 ghost use Rattle.site_shared.specs.Accounts.{receipt_of, record_of};
+ghost use Rattle.site_shared.specs.Publishes.{arrive};
 
 use crate::keeps::Keeps;
 use lattice_core::NoMemory;
+use replica_core::Replica;
 use review_ops::{Draft, Op, Stamp};
 use site_journal::KeepFault;
 use site_shared::{Desk, DeskFault, Receipt};
 use std::marker::Model;
-use std::sync::Wait;
+use std::sync::{Arc, Wait};
 
 /// Why a ledger doesn't publish.
 #[derive(Clone, Copy, Debug, Drop, PartialEq, Eq)]
@@ -24,6 +27,15 @@ pub enum LedgerFault {
     NoMemory,
     /// What is held couldn't be kept. Nothing is published any more.
     NotKept,
+}
+
+/// What remains of a site that has ended.
+#[derive(Drop)]
+pub struct Remains<K> {
+    /// What keeps its operations.
+    pub keeper: K,
+    /// The record that was shown last.
+    pub shown: Arc<Replica>,
 }
 
 /// The desk of a site with what keeps its operations. It holds operations until they are published, all at once, and
@@ -47,13 +59,14 @@ impl<K: Keeps> Model for Ledger<K> {
 }
 
 impl<K: Keeps> Ledger<K> {
-    ghost use Rattle.site_ledger.specs.Keeping.{IsSameKeeping, is_over_after, kept_ops};
+    ghost use Rattle.site_ledger.specs.Keeping.{IsFaithful, IsSameKeeping, KeepsOn, is_over_after, kept_ops};
 
     /// The ledger of a desk that has published nothing since its opening, over what has some operations.
     pub fn new(desk: Desk, keeper: K) -> Ledger<K>
         requires opened { (journal : List Operation) × (desk.published ≡ journal ∷ []) }
         requires keeper { (first : List Operation) × K.holds keeper first }
-        ensures { result ≡ record { account = desk; keeper = keeper; kept = 0; is_over = false } }
+        ensures new { result ≡ record { account = desk; keeper = keeper; kept = 0; is_over = false } }
+        ensures faithful { (first : List Operation) → K.holds keeper first → IsFaithful K.holds K.survives first result }
     {
         keeper.what_it_has_survives();
         Ledger {
@@ -73,6 +86,7 @@ impl<K: Keeps> Ledger<K> {
         ensures err { IfErr result
             (λ fault. (self.new ≡ self.old) × RefusesIntake self.old.account (deed_of draft) fault self.old.account) }
         ensures same { IsSameKeeping self.old self.new }
+        ensures on { KeepsOn K.holds K.survives self.old self.new }
     {
         self.desk.hold(draft)
     }
@@ -83,6 +97,7 @@ impl<K: Keeps> Ledger<K> {
             ≡ (if has (record_of self.old.account) op then self.old.account else holding self.old.account (op ∷ []))) }
         ensures err { OnErr result (self.new ≡ self.old) }
         ensures same { IsSameKeeping self.old self.new }
+        ensures on { KeepsOn K.holds K.survives self.old self.new }
     {
         self.desk.hold_new(op)
     }
@@ -109,6 +124,7 @@ impl<K: Keeps> Ledger<K> {
             (λ fault. (self.new.account ≡ self.old.account) × (self.new.is_over ≡ is_over_after fault)) }
         ensures over { self.old.is_over ≡ true → self.new ≡ self.old }
         ensures opening { IsSameOpening self.old.account self.new.account }
+        ensures on { KeepsOn K.holds K.survives self.old self.new }
     {
         self.keep_held()?;
         match self.desk.flush(rt) {
@@ -128,18 +144,21 @@ impl<K: Keeps> Ledger<K> {
         let _ledger = &self.desk;
     }
 
-    /// Ends the site, as `Desk::end` does. What is held is dropped.
-    pub fn end<R: Wait>(self, rt: &R)
-    where
-        K: Drop,
+    /// Ends the site, as `Desk::end` does, and gives back what keeps its operations. What is held is dropped.
+    pub fn end<R: Wait>(self, rt: &R) -> Remains<K>
+        ensures keeper { result.keeper ≡ self.keeper }
+        ensures shown { arc_value result.shown ≡ arrive self.account.published }
     {
         let Ledger {
             desk,
-            keeper: _,
+            keeper,
             kept: _,
             is_over: _,
         } = self;
-        desk.end(rt);
+        Remains {
+            keeper,
+            shown: desk.end(rt),
+        }
     }
 
     /// Has all that is held kept, as far as it isn't.
@@ -149,6 +168,7 @@ impl<K: Keeps> Ledger<K> {
             ((self.old.is_over ≡ false) × (self.new.is_over ≡ false) × (self.new.kept ≡ length self.new.account.held)) }
         ensures err { IfErr result (λ fault. self.new.is_over ≡ is_over_after fault) }
         ensures over { self.old.is_over ≡ true → self.new ≡ self.old }
+        ensures on { KeepsOn K.holds K.survives self.old self.new }
     {
         if self.is_over {
             return Err(LedgerFault::NotKept);

@@ -12,8 +12,8 @@
 //! let mut ledger = Ledger::new(desk, NoJournal);
 //! let stamp = ledger.hold(Draft::Merged { change: 101 });
 //! let receipt = ledger.publish(&rt);
-//! ledger.end(&rt);
-//! assert!(rt; stamp.is_ok() && receipt.is_ok());
+//! let Remains { keeper: _, shown } = ledger.end(&rt);
+//! assert!(rt; stamp.is_ok() && receipt.is_ok() && shown.len() == 1);
 //! ```
 #![tactic(auto)]
 
@@ -21,4 +21,4 @@ mod keeps;
 mod ledger;
 
 pub use keeps::{Keeps, NoJournal};
-pub use ledger::{Ledger, LedgerFault};
+pub use ledger::{Ledger, LedgerFault, Remains};

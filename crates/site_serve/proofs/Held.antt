@@ -1,11 +1,13 @@
 -- What is held is in the record, stays in it, and is published with it.
 use Rattle.std.proofs.Common.{◌≡◌, append-nil, Bool, true, false, List, [], ◌∷◌, ◌++◌, Option, Some, None, Result, Ok, Err}
-use Rattle.std.proofs.Common.{IfOk, OnOk, OnErr, if◌then◌else◌, get_or, inl, inr, refl, ap, sym, subst, ◌∙◌}
+use Rattle.std.proofs.Common.{IfErr, IfOk, OnOk, OnErr, if◌then◌else◌, get_or, inl, inr, refl, ap, sym, subst, ◌∙◌}
 use Rattle.std.proofs.lemmas.Bool.{or_left}
 use Rattle.std.proofs.lemmas.List.Elements.{All-nil, All-push}
 use Rattle.lattice_core.specs.Exact.{test_of_same}
 use Rattle.std.specs.List.{All}
 use Rattle.std.specs.Ordering.{eq_by_cmp}
+use Rattle.review_ops.specs.Deed.{Deed}
+use Rattle.review_ops.specs.Good.{IsFaultless}
 use Rattle.review_ops.specs.Operation.{Operation}
 use Rattle.review_ops.specs.Timestamp.{Timestamp, timestamp_cmp, timestamps_exact}
 use Rattle.replica_core.specs.InOrder.{same_itself}
@@ -14,7 +16,7 @@ use Rattle.replica_core.specs.JournalLaws.{IsPartOf, all_arrived-push, has-all_a
 use Rattle.replica_core.specs.JournalLaws.{kept-arrived, one_is, one_passes, part_passes}
 use Rattle.site_serve.specs.Acknowledged.{IsHeldBy, IsTakenInto}
 use Rattle.site_ledger.specs.Keeping.{Entries}
-use Rattle.site_shared.specs.Accounts.{Account, Extent, holding, record_of}
+use Rattle.site_shared.specs.Accounts.{Account, Extent, HasStamp, holding, next_operation, record_of}
 use Rattle.site_shared.specs.Publishes.{arrive}
 use Rattle.site_shared.specs.declared.fault.DeskFault.{DeskFault}
 
@@ -55,6 +57,23 @@ held_grows old new op is other h = ap (λ (a : Account). has (record_of a) other
 
 pub same_grows : (old new : Account) → new ≡ old → IsPartOf (record_of old) (record_of new)
 same_grows old new is other h = ap (λ (a : Account). has (record_of a) other) is ∙ h
+
+-- the same where a body was held, or was refused
+abbrev HoldsDeed : {K : Type 0} → Deed → Entries K → Entries K → Timestamp → Type 0
+HoldsDeed deed old new stamp = let op = next_operation old.account deed in
+    HasStamp old.account × IsFaultless deed × (new.account ≡ holding old.account (op ∷ [])) × (stamp ≡ op.stamp)
+
+pub body_has : {K E : Type 0} (deed : Deed) (old new : Entries K) (result : Result Timestamp E)
+    → IfOk result (HoldsDeed deed old new) → IfOk result (λ stamp. has_stamp (record_of new.account) stamp ≡ true)
+body_has deed old new (Ok stamp) ok = held_stamped old.account new.account (next_operation old.account deed) stamp ok.2 ok.3
+body_has deed old new (Err fault) ok = tt
+
+pub body_grows : {K E : Type 0} (deed : Deed) (old new : Entries K) (Refuses : E → Type 0) (result : Result Timestamp E)
+    → IfOk result (HoldsDeed deed old new) → IfErr result (λ fault. (new ≡ old) × Refuses fault)
+    → IsPartOf (record_of old.account) (record_of new.account)
+body_grows deed old new Refuses (Ok stamp) ok err =
+    held_grows old.account new.account (next_operation old.account deed) ok.2
+body_grows deed old new Refuses (Err fault) ok err = same_grows old.account new.account (ap (λ l. l.account) err.0)
 
 chosen_grows : (old new : Account) (op : Operation)
     → new ≡ (if has (record_of old) op then old else holding old (op ∷ [])) → IsPartOf (record_of old) (record_of new)

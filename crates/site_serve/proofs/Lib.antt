@@ -4,3 +4,4 @@ pub mod Waiting
 pub mod Shown
 pub mod PassingOn
 pub mod Seating
+mod Ends

@@ -24,6 +24,10 @@ has_stamped journal (Some stamp) = has_stamp journal stamp
 abbrev pub IsTakenInto : List Operation → Result (Option Timestamp) DeskFault → Type 0
 IsTakenInto journal held = IfOk held (λ stamp. has_stamped journal stamp ≡ true)
 
+-- whatever a crash leaves says an operation of what was stamped
+abbrev pub IsSaidBy : (List Operation → Type 0) → Option Timestamp → Type 0
+IsSaidBy survives stamp = (ops : List Operation) × survives ops × (has_stamped ops stamp ≡ true)
+
 -- what was stamped is among all that was published or is held
 abbrev pub IsHeldBy : Account → Result (Option Timestamp) DeskFault → Type 0
 IsHeldBy account = IsTakenInto (record_of account)

@@ -1,12 +1,12 @@
 -- What the bytes of a connection go through before they are lines of its session, and what is sent of the answers to
 -- these: nothing, or a seal.
-use Rattle.std.specs.Prelude.{◌≡◌, ◌≤◌, ℕ, List, [], ◌∷◌, ◌++◌, Option, None, Result, Ok, Err, drop, length}
+use Rattle.std.specs.Prelude.{◌≡◌, ℕ, List, [], ◌∷◌, ◌++◌, None, Result, Ok, Err, drop}
 use Rattle.gossip_line.specs.declared.fault.LineFault.TheVariants.{NoMemory}
-use Rattle.sealed_link.specs.Lines.{OpensCame, SealsFront}
+use Rattle.line_reader.specs.Lines.{HasNoLf}
+use Rattle.sealed_link.specs.Lines.{IsHeldUp, OpensCame, SealsFront, SendsSealed}
 use Rattle.sealed_link.specs.Wires.{Wiring}
 use Rattle.sealed_link.specs.declared.fault.WireFault.{WireFault}
 use Rattle.sealed_link.specs.declared.fault.WireFault.TheVariants as wire
-use Rattle.site_serve.specs.declared.channel.Channel.{Channel}
 use Rattle.site_serve.specs.declared.channel.Passage.{Passage}
 use Rattle.site_serve.specs.declared.channel.Passage.TheVariants.{Locked, Plain, Sealed, Shut}
 use Rattle.site_serve.specs.declared.session_fault.SessionFault.{SessionFault}
@@ -33,8 +33,8 @@ TakesCame (Sealed w) came old new result after =
     × ((by : Result (Unit {0}) WireFault) × OpensCame w came text by opened × (result ≡ seal_result by)))
 TakesCame Shut came old new result after = (new ≡ old) × (after ≡ Shut)
 
--- what is sent next where the session was answered this: what is sent as it is, before all else; then the answers, or the
--- lines that they were sealed to
+-- what is sent next where the session was answered this: what is sent as it is, before all else; then the answers, or
+-- the lines that they were sealed to
 abbrev pub sends_of : Passage → List ℕ → List ℕ
 sends_of Plain answers = answers
 sends_of (Sealed w) answers = w.waiting
@@ -57,9 +57,13 @@ IsSent count [] passage answers first after left = (first ≡ []) × PassesSent 
 IsSent count (byte ∷ begun) passage answers first after left =
     (first ≡ drop count (byte ∷ begun)) × (after ≡ passage) × (left ≡ answers)
 
--- where all that was sealed is sent, whole lines at the front of the answers are sealed and aren't to be sealed again;
--- nothing else changes
+-- where all that was sealed is sent, whole lines at the front of the answers are sealed, and aren't to be sealed again:
+-- some, unless there is none. They open to these answers on the other side. Or the first isn't sealed, and the session
+-- fails by that. Nothing else changes
 abbrev pub SealsMore : List ℕ → Passage → List ℕ → Passage → List ℕ → Result (Unit {0}) SessionFault → Type 0
 SealsMore [] (Sealed w) answers after left (Ok done) =
-    (count : ℕ) × (sealed : Wiring) × (after ≡ Sealed sealed) × SealsFront w answers count sealed × (left ≡ drop count answers)
-SealsMore waiting passage answers after left result = (after ≡ passage) × (left ≡ answers)
+    (count : ℕ) × (sealed : Wiring) × (after ≡ Sealed sealed) × SealsFront w answers count sealed
+    × SendsSealed w answers count sealed × (left ≡ drop count answers) × (count ≡ 0 → HasNoLf answers)
+SealsMore [] (Sealed w) answers after left (Err fault) =
+    (by : WireFault) × (fault ≡ seal_fault by) × IsHeldUp w.outward answers by × (after ≡ Sealed w) × (left ≡ answers)
+SealsMore waiting passage answers after left result = (result ≡ Ok tt) × (after ≡ passage) × (left ≡ answers)

@@ -12,3 +12,4 @@ pub mod TwoSites
 pub mod InForce
 pub mod SessionFaults
 pub mod Channels
+pub mod Openings

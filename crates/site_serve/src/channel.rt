@@ -1,8 +1,9 @@
 //! What the bytes of a connection go through before they are lines of its session: nothing, or a seal.
 
-ghost use Rattle.std.specs.Prelude.{◌≡◌, ◌≤◌, [], Err, MatchResult, Ok, length};
+ghost use Rattle.std.specs.Prelude.{◌≡◌, ◌≤◌, ◌++◌, [], Err, MatchResult, Ok, OnOk, length};
 ghost use Rattle.gossip_line.specs.declared.fault.LineFault.TheVariants.{NoMemory};
-ghost use Rattle.site_serve.specs.Channels.{IsSent, SealsMore, TakesCame, outgoing_of, seal_fault, seal_result, sends_of};
+ghost use Rattle.site_serve.specs.Channels.{IsSent, SealsMore, TakesCame, outgoing_of, seal_fault, seal_result};
+ghost use Rattle.site_serve.specs.Channels.{sends_of};
 ghost use Rattle.site_serve.specs.declared.channel.Passage.TheVariants.{Sealed, Shut};
 ghost use Rattle.site_serve.specs.declared.session_fault.SessionFault.TheVariants.{Line};
 
@@ -93,7 +94,8 @@ impl Channel {
 
     /// Is let in, and answered so: its session's lines are sealed from now on.
     pub(super) fn let_in(&mut self, answer: Vec<u8>, wire: Wire) -> Result<(), SessionFault>
-        ensures { self.new.passage ≡ Sealed wire }
+        ensures passage { self.new.passage ≡ Sealed wire }
+        ensures first { OnOk result (self.new.first ≡ self.old.first ++ answer.items) }
     {
         self.passage = Passage::Sealed(wire);
         kept(self.first.add(answer))
@@ -101,14 +103,16 @@ impl Channel {
 
     /// Is answered that it isn't let in.
     pub(super) fn keep_out(&mut self, answer: Vec<u8>) -> Result<(), SessionFault>
-        ensures { self.new.passage ≡ self.old.passage }
+        ensures passage { self.new.passage ≡ self.old.passage }
+        ensures first { OnOk result (self.new.first ≡ self.old.first ++ answer.items) }
     {
         kept(self.first.add(answer))
     }
 
     /// Seals more of what its session was answered, where all that was sealed is sent.
     pub(super) fn seal(&mut self, outbox: &mut Outbox) -> Result<(), SessionFault>
-        ensures more { SealsMore (sends_of self.old.passage []) self.old.passage outbox.old self.new.passage outbox.new result }
+        ensures more { SealsMore
+            (sends_of self.old.passage []) self.old.passage outbox.old self.new.passage outbox.new result }
         ensures first { self.new.first ≡ self.old.first }
     {
         match &mut self.passage {
@@ -210,6 +214,7 @@ fn fault_of(fault: WireFault) -> SessionFault
 
 /// Seals what a session was answered, as much as is sent at once.
 fn sealed(wire: &mut Wire, outbox: &mut Outbox) -> Result<(), SessionFault>
+    requires { length wire.old.waiting ≡ 0 }
     ensures { SealsMore [] (Sealed wire.old) outbox.old (Sealed wire.new) outbox.new result }
 {
     match wire.seal(outbox.as_slice()) {

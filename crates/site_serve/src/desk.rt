@@ -11,7 +11,7 @@ ghost use Rattle.site_shared.specs.Accounts.{receipt_of, record_of};
 ghost use Rattle.site_shared.specs.Publishes.{arrive};
 
 use super::ask::{Answer, Ask, Asker, Done};
-use super::opening::OwnLedger;
+use super::opening::{Opening, OwnLedger};
 use super::places::Places;
 use crossbeam_channel::Sender;
 use review_ops::{Draft, Op, Stamp};
@@ -61,15 +61,15 @@ impl<'a, J: Naming> Replies<'a, J> {
 pub type Published<J> = Result<Arc<BrandedReceipt<J>, Global>, DeskFault>;
 
 /// Holds what is asked: who asked waits from now on, after those who wait already.
-pub fn hold_more<J: Naming, K: Keeps>(
+pub fn hold_more<J: Opening, K: Keeps>(
     ledger: &mut OwnLedger<J, K>,
     ask: Ask,
     waiters: &mut Vec<Waiter>,
 )
-    requires held { All (λ waiter. IsHeldBy ledger.old.ledger.account waiter.held) waiters.old.items }
+    requires held { All (λ waiter. IsHeldBy ledger.old.account waiter.held) waiters.old.items }
     requires room { vec_len waiters.old < vec_capacity waiters.old }
-    ensures held { All (λ waiter. IsHeldBy ledger.new.ledger.account waiter.held) waiters.new.items }
-    ensures last { AddsOne (asker_of ask) (HoldsAsk ask ledger.old.ledger.account ledger.new.ledger.account)
+    ensures held { All (λ waiter. IsHeldBy ledger.new.account waiter.held) waiters.new.items }
+    ensures last { AddsOne (asker_of ask) (HoldsAsk ask ledger.old.account ledger.new.account)
         waiters.old.items waiters.new.items }
     ensures one { vec_len waiters.new ≡ vec_len waiters.old + 1 }
     ensures room { vec_capacity waiters.new ≡ vec_capacity waiters.old }
@@ -79,11 +79,11 @@ pub fn hold_more<J: Naming, K: Keeps>(
 }
 
 /// Holds what is asked.
-fn hold_ask<J: Naming, K: Keeps>(ledger: &mut OwnLedger<J, K>, ask: Ask) -> Waiter
+fn hold_ask<J: Opening, K: Keeps>(ledger: &mut OwnLedger<J, K>, ask: Ask) -> Waiter
     ensures asker { result.asker ≡ asker_of ask }
-    ensures asked { HoldsAsk ask ledger.old.ledger.account ledger.new.ledger.account result.held }
-    ensures held { IsHeldBy ledger.new.ledger.account result.held }
-    ensures grows { IsPartOf (record_of ledger.old.ledger.account) (record_of ledger.new.ledger.account) }
+    ensures asked { HoldsAsk ask ledger.old.account ledger.new.account result.held }
+    ensures held { IsHeldBy ledger.new.account result.held }
+    ensures grows { IsPartOf (record_of ledger.old.account) (record_of ledger.new.account) }
 {
     match ask {
         Ask::Intake { asker, draft } => Waiter {
@@ -98,13 +98,13 @@ fn hold_ask<J: Naming, K: Keeps>(ledger: &mut OwnLedger<J, K>, ask: Ask) -> Wait
 }
 
 /// Stamps a body and holds it.
-fn hold_draft<J: Naming, K: Keeps>(
+fn hold_draft<J: Opening, K: Keeps>(
     ledger: &mut OwnLedger<J, K>,
     draft: Draft,
 ) -> Result<Option<Stamp>, DeskFault>
-    ensures body { HoldsBody (deed_of draft) ledger.old.ledger.account ledger.new.ledger.account result }
-    ensures held { IsHeldBy ledger.new.ledger.account result }
-    ensures grows { IsPartOf (record_of ledger.old.ledger.account) (record_of ledger.new.ledger.account) }
+    ensures body { HoldsBody (deed_of draft) ledger.old.account ledger.new.account result }
+    ensures held { IsHeldBy ledger.new.account result }
+    ensures grows { IsPartOf (record_of ledger.old.account) (record_of ledger.new.account) }
 {
     match ledger.hold(draft) {
         Ok(stamp) => Ok(Some(stamp)),
@@ -114,13 +114,13 @@ fn hold_draft<J: Naming, K: Keeps>(
 
 /// Holds those operations that were neither published nor are held.
 #[tactic(auto, using(crate::proofs::Held::whole_part))]
-fn hold_all_new<J: Naming, K: Keeps>(
+fn hold_all_new<J: Opening, K: Keeps>(
     ledger: &mut OwnLedger<J, K>,
     ops: Vec<Op>,
 ) -> Result<Option<Stamp>, DeskFault>
-    ensures all { HoldsAll ops.items ledger.new.ledger.account result }
-    ensures held { IsHeldBy ledger.new.ledger.account result }
-    ensures grows { IsPartOf (record_of ledger.old.ledger.account) (record_of ledger.new.ledger.account) }
+    ensures all { HoldsAll ops.items ledger.new.account result }
+    ensures held { IsHeldBy ledger.new.account result }
+    ensures grows { IsPartOf (record_of ledger.old.account) (record_of ledger.new.account) }
 {
     for op in ops {
         match ledger.hold_new(op) {
@@ -132,16 +132,16 @@ fn hold_all_new<J: Naming, K: Keeps>(
 }
 
 /// Has what is held kept, and publishes it.
-pub fn publish_held<R: Wait, J: Naming, K: Keeps>(
+pub fn publish_held<R: Wait, J: Opening, K: Keeps>(
     rt: &R,
     alloc: Global,
     ledger: &mut OwnLedger<J, K>,
 ) -> Result<Published<J>, NotKept>
     ensures last { IfOk result
-        (λ published. IfOk published (λ receipt. arc_value receipt ≡ receipt_of ledger.new.ledger.account None)) }
+        (λ published. IfOk published (λ receipt. arc_value receipt ≡ receipt_of ledger.new.account None)) }
     ensures shown { IfOk result (λ published. IfOk published
-        (λ receipt. IsPartOf (record_of ledger.old.ledger.account) (arrive (arc_value receipt).published))) }
-    ensures over { OnErr result (ledger.new.ledger.is_over ≡ true) }
+        (λ receipt. IsPartOf (record_of ledger.old.account) (arrive (arc_value receipt).published))) }
+    ensures over { OnErr result (ledger.new.is_over ≡ true) }
 {
     match ledger.publish(rt) {
         Ok(receipt) => Ok(shared(alloc, receipt)),
@@ -151,15 +151,15 @@ pub fn publish_held<R: Wait, J: Naming, K: Keeps>(
 }
 
 /// Has what is held kept, publishes it, and then answers all who wait. Where it can't be kept nobody is answered.
-pub fn publish_and_answer<R: Wait, J: Naming, K: Keeps>(
+pub fn publish_and_answer<R: Wait, J: Opening, K: Keeps>(
     rt: &R,
     alloc: Global,
     ledger: &mut OwnLedger<J, K>,
     replies: &mut Replies<'_, J>,
     waiters: &[Waiter],
 ) -> Result<Published<J>, NotKept>
-    requires { All (λ waiter. IsHeldBy ledger.old.ledger.account waiter.held) waiters.now }
-    ensures over { OnErr result (ledger.new.ledger.is_over ≡ true) }
+    requires { All (λ waiter. IsHeldBy ledger.old.account waiter.held) waiters.now }
+    ensures over { OnErr result (ledger.new.is_over ≡ true) }
 {
     match publish_held(rt, alloc, ledger) {
         Ok(published) => {

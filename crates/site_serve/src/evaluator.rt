@@ -44,8 +44,7 @@ const LONGEST_REST_S: u64 = 60;
 
 /// What the printing of reports leaves.
 #[derive(Drop)]
-pub struct Printed<J: Naming> {
-    pub window: OwnWindow<J>,
+pub struct Printed {
     /// Whether all that was to be printed was written.
     pub written: bool,
     pub fault: Option<ServeFault>,
@@ -74,13 +73,12 @@ pub fn print_reports<R: Wait + Clock, W: Drain + Drop, E: Drain, J: Naming>(
     window: OwnWindow<J>,
     output: W,
     errors: &Errors<E>,
-) -> Printed<J> {
+) -> Printed {
     let mut printed = Printed {
-        window,
         written: true,
         fault: None,
     };
-    let (mut ruling, mut output) = (ruling, output);
+    let (mut ruling, mut window, mut output) = (ruling, window, output);
     let mut last = nothing_shown(alloc);
     let mut kept = None;
     let mut is_over = false;
@@ -91,7 +89,7 @@ pub fn print_reports<R: Wait + Clock, W: Drain + Drop, E: Drain, J: Naming>(
             alloc,
             ruling.gate(),
             prints,
-            &mut printed.window,
+            &mut window,
             &mut kept,
             &last.listed,
         );
@@ -110,7 +108,7 @@ pub fn print_reports<R: Wait + Clock, W: Drain + Drop, E: Drain, J: Naming>(
         }
         match news.next(rt, rest) {
             Stir::Published(receipt) => {
-                let _own = printed.window.learn(&receipt);
+                let _own = window.learn(&receipt);
             }
             Stir::Reloaded => {}
             Stir::Over => is_over = true,
@@ -246,7 +244,7 @@ fn changes_shown(alloc: Global, verdicts: &Verdicts, before: &Listed) -> Result<
 }
 
 /// How a site fails where a window of its own does.
-pub fn serve_fault(fault: WindowFault) -> ServeFault
+fn serve_fault(fault: WindowFault) -> ServeFault
     ensures { result ≡ after_window fault }
 {
     match fault {

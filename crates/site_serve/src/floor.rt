@@ -15,7 +15,7 @@ use super::jobs::{Job, Task};
 use super::lines::{Means, do_lines};
 use super::listeners::Listeners;
 use super::news::News;
-use super::opening::OwnLedger;
+use super::opening::{Opening, OwnLedger};
 use super::places::Places;
 use super::seats::Lines;
 use super::session::{Guest, Session};
@@ -234,7 +234,7 @@ impl Floor {
     }
 
     /// Does the lines of all listed sessions.
-    fn do_sessions<R: Wait, J: Naming, K: Keeps>(
+    fn do_sessions<R: Wait, J: Opening, K: Keeps>(
         &mut self,
         rt: &R,
         board: &Board,
@@ -243,9 +243,9 @@ impl Floor {
         ledger: &mut OwnLedger<J, K>,
         waiters: &mut Vec<Waiter>,
     )
-        requires held { All (λ waiter. IsHeldBy ledger.old.ledger.account waiter.held) waiters.old.items }
+        requires held { All (λ waiter. IsHeldBy ledger.old.account waiter.held) waiters.old.items }
         requires room { BATCH ≤ vec_capacity waiters.old }
-        ensures held { All (λ waiter. IsHeldBy ledger.new.ledger.account waiter.held) waiters.new.items }
+        ensures held { All (λ waiter. IsHeldBy ledger.new.account waiter.held) waiters.new.items }
         ensures room { BATCH ≤ vec_capacity waiters.new }
     {
         for at in 0..places.listed() {
@@ -334,15 +334,15 @@ fn send_job<R: Wait, J: Naming>(rt: &R, lines: &Lines<J>, place: usize, session:
 }
 
 /// Holds what the pullers hand over.
-fn hold_pulled<R: Wait, J: Naming, K: Keeps>(
+fn hold_pulled<R: Wait, J: Opening, K: Keeps>(
     rt: &R,
     lines: &Lines<J>,
     ledger: &mut OwnLedger<J, K>,
     waiters: &mut Vec<Waiter>,
 )
-    requires held { All (λ waiter. IsHeldBy ledger.old.ledger.account waiter.held) waiters.old.items }
+    requires held { All (λ waiter. IsHeldBy ledger.old.account waiter.held) waiters.old.items }
     requires room { BATCH ≤ vec_capacity waiters.old }
-    ensures held { All (λ waiter. IsHeldBy ledger.new.ledger.account waiter.held) waiters.new.items }
+    ensures held { All (λ waiter. IsHeldBy ledger.new.account waiter.held) waiters.new.items }
     ensures room { BATCH ≤ vec_capacity waiters.new }
 {
     for _ask in 0..GUESTS {
@@ -358,7 +358,7 @@ fn hold_pulled<R: Wait, J: Naming, K: Keeps>(
 
 /// Publishes what is held where somebody waits for that, and answers all who wait. It brings news where anything was
 /// held since news was brought: a pull that handed over nothing new brings none.
-fn publish<R: Wait, J: Naming, K: Keeps, E: Drain>(
+fn publish<R: Wait, J: Opening, K: Keeps, E: Drain>(
     rt: &R,
     site: &Site<'_, E, J>,
     floor: &mut Floor,
@@ -366,8 +366,8 @@ fn publish<R: Wait, J: Naming, K: Keeps, E: Drain>(
     replies: &mut Replies<'_, J>,
     waiters: &[Waiter],
 ) -> Result<(), NotKept>
-    requires { All (λ waiter. IsHeldBy ledger.old.ledger.account waiter.held) waiters.now }
-    ensures over { OnErr result (ledger.new.ledger.is_over ≡ true) }
+    requires { All (λ waiter. IsHeldBy ledger.old.account waiter.held) waiters.now }
+    ensures over { OnErr result (ledger.new.is_over ≡ true) }
 {
     if waiters.is_empty() {
         return Ok(());
@@ -399,7 +399,7 @@ pub(super) struct Site<'a, E: Drain, J: Naming> {
 
 /// A turn of the loop. Nobody waits after it.
 #[tactic(auto, using(crate::proofs::Held::none_waits))]
-fn turn<R: Wait + Clock, J: Naming, K: Keeps, E: Drain>(
+fn turn<R: Wait + Clock, J: Opening, K: Keeps, E: Drain>(
     rt: &R,
     site: &Site<'_, E, J>,
     floor: &mut Floor,
@@ -412,7 +412,7 @@ fn turn<R: Wait + Clock, J: Naming, K: Keeps, E: Drain>(
     requires room { BATCH ≤ vec_capacity waiters.old }
     ensures none { (waiters.new.items ≡ []) × (vec_len waiters.new ≡ 0) }
     ensures room { BATCH ≤ vec_capacity waiters.new }
-    ensures over { OnErr result (ledger.new.ledger.is_over ≡ true) }
+    ensures over { OnErr result (ledger.new.is_over ≡ true) }
 {
     floor.accept(rt, site, places, lines);
     if floor.is_rung {
@@ -435,7 +435,7 @@ fn turn<R: Wait + Clock, J: Naming, K: Keeps, E: Drain>(
 
 /// Serves until the site stops, and then does what the pullers still ask. Answers the last publish, which has shown all
 /// that was taken.
-pub(super) fn serve_floor<R: Wait + Clock, J: Naming, K: Keeps, E: Drain>(
+pub(super) fn serve_floor<R: Wait + Clock, J: Opening, K: Keeps, E: Drain>(
     rt: &R,
     site: Site<'_, E, J>,
     floor: Floor,
@@ -443,8 +443,8 @@ pub(super) fn serve_floor<R: Wait + Clock, J: Naming, K: Keeps, E: Drain>(
     ledger: &mut OwnLedger<J, K>,
 ) -> Result<Published<J>, NotKept>
     ensures last { IfOk result
-        (λ last. IfOk last (λ receipt. arc_value receipt ≡ receipt_of ledger.new.ledger.account None)) }
-    ensures over { OnErr result (ledger.new.ledger.is_over ≡ true) }
+        (λ last. IfOk last (λ receipt. arc_value receipt ≡ receipt_of ledger.new.account None)) }
+    ensures over { OnErr result (ledger.new.is_over ≡ true) }
 {
     let mut floor = floor;
     let alloc = floor.alloc;
@@ -480,7 +480,7 @@ pub(super) fn serve_floor<R: Wait + Clock, J: Naming, K: Keeps, E: Drain>(
 
 /// Does what the pullers ask until all of them have ended.
 #[tactic(auto, using(crate::proofs::Held::none_waits))]
-fn end_asks<R: Wait, J: Naming, K: Keeps>(
+fn end_asks<R: Wait, J: Opening, K: Keeps>(
     rt: &R,
     alloc: Global,
     places: Places<J>,
@@ -491,8 +491,8 @@ fn end_asks<R: Wait, J: Naming, K: Keeps>(
     requires none { (waiters.items ≡ []) × (vec_len waiters ≡ 0) }
     requires room { BATCH ≤ vec_capacity waiters }
     ensures last { IfOk result
-        (λ last. IfOk last (λ receipt. arc_value receipt ≡ receipt_of ledger.new.ledger.account None)) }
-    ensures over { OnErr result (ledger.new.ledger.is_over ≡ true) }
+        (λ last. IfOk last (λ receipt. arc_value receipt ≡ receipt_of ledger.new.account None)) }
+    ensures over { OnErr result (ledger.new.is_over ≡ true) }
 {
     let Lines {
         jobs,

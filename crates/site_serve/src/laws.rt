@@ -1,17 +1,23 @@
-//! What holds of running sites that pull from each other, over the definitions alone.
+//! What holds of running sites, of what they answer and of what they pull from each other, over the definitions alone.
 
-ghost use Rattle.std.specs.Prelude.{List};
+ghost use Rattle.std.specs.Prelude.{◌≡◌, List, Option, true};
 ghost use Rattle.gossip_line.specs.PassingOn.{AreNumbered, ShareNoTwins};
 ghost use Rattle.gossip_line.specs.Session.{Moment};
 ghost use Rattle.pull_guard.specs.declared.guard.Guard.{Guard};
 ghost use Rattle.replica_core.specs.JournalLaws.{IsPartOf};
 ghost use Rattle.review_ops.specs.Operation.{Operation};
+ghost use Rattle.review_ops.specs.Timestamp.{Timestamp};
+ghost use Rattle.site_ledger.specs.Keeping.{Entries};
+ghost use Rattle.site_serve.specs.Acknowledged.{IsSaidBy, has_stamped};
+ghost use Rattle.site_serve.specs.Openings.{IsOfOpening};
 ghost use Rattle.site_serve.specs.TwoSites.{AreApartAndNumbered, GotNoMore, HoldTheSame, IsShownBy, PullsAllOf, Side};
 ghost use Rattle.site_serve.specs.TwoSites.{record_seen, union};
 ghost use Rattle.site_shared.specs.Accounts.{Outlook};
 ghost use Rattle.site_shared.specs.Publishes.{arrive};
 
+use super::opening::Opening;
 use report_text::equal_states_print_the_same;
+use site_ledger::Keeps;
 use site_shared::later_journals_go_on;
 
 /// A law: a running site whose pull ended well, the last answer having reported that nothing is left, sees all that the
@@ -37,3 +43,12 @@ pub fn sites_that_pulled_print_the_same()
     later_journals_go_on();
     equal_states_print_the_same();
 }
+
+/// A law: whatever a crash leaves of what keeps a site's operations says an operation of each stamp that the site has
+/// answered, where that had the record of the opening. `OwnLedger` is always one of its opening, and a stamp is answered with the
+/// receipt of a publish, which shows what its ledger has published.
+pub fn answered_stamps_survive<J: Opening, K: Keeps>()
+    ensures { (entries : Entries K) → (first : List Operation) → (stamp : Option Timestamp)
+        → IsOfOpening K.holds K.survives J.book J.journal J.had entries → J.had first → IsPartOf J.journal first
+        → has_stamped (arrive entries.account.published) stamp ≡ true → IsSaidBy (K.survives entries.keeper) stamp }
+{}

@@ -56,6 +56,7 @@ mod ask;
 mod bell;
 mod board;
 mod channel;
+mod closed;
 mod desk;
 mod doorman;
 mod errors;
@@ -83,7 +84,10 @@ mod session;
 mod session_fault;
 mod setup;
 
-pub use laws::{pulls_of_sites_pass_on_all, sites_that_pulled_print_the_same};
+pub use closed::Closed;
+pub use laws::{
+    answered_stamps_survive, pulls_of_sites_pass_on_all, sites_that_pulled_print_the_same,
+};
 pub use reloads::Reloads;
 pub use run::{serve_keeping, serve_run};
 pub use setup::{Doorstep, Prints, ServeFault, Served, Setup, Turn};

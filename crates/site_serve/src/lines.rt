@@ -16,7 +16,7 @@ use super::board::Board;
 use super::channel::Knock;
 use super::desk::{BATCH, Waiter, hold_more};
 use super::jobs::{Job, Task};
-use super::opening::OwnLedger;
+use super::opening::{Opening, OwnLedger};
 use super::session::Session;
 use crossbeam_channel::Sender;
 use gossip_line::{Look, Saying, Step, is_take, step_of};
@@ -47,7 +47,7 @@ pub(super) struct Means<'a, J: Naming> {
 
 /// Does the lines of a session that are there, so many in a turn at most. Who asks to take in a body waits for the
 /// publish.
-pub(super) fn do_lines<R: Wait, J: Naming, K: Keeps>(
+pub(super) fn do_lines<R: Wait, J: Opening, K: Keeps>(
     rt: &R,
     means: &Means<'_, J>,
     buffer: &mut [u8],
@@ -55,9 +55,9 @@ pub(super) fn do_lines<R: Wait, J: Naming, K: Keeps>(
     ledger: &mut OwnLedger<J, K>,
     waiters: &mut Vec<Waiter>,
 )
-    requires held { All (λ waiter. IsHeldBy ledger.old.ledger.account waiter.held) waiters.old.items }
+    requires held { All (λ waiter. IsHeldBy ledger.old.account waiter.held) waiters.old.items }
     requires room { BATCH ≤ vec_capacity waiters.old }
-    ensures held { All (λ waiter. IsHeldBy ledger.new.ledger.account waiter.held) waiters.new.items }
+    ensures held { All (λ waiter. IsHeldBy ledger.new.account waiter.held) waiters.new.items }
     ensures room { BATCH ≤ vec_capacity waiters.new }
 
     // Nobody else waits for an answer to a line of the session.
@@ -78,7 +78,7 @@ pub(super) fn do_lines<R: Wait, J: Naming, K: Keeps>(
 
 /// Does the next line of a session, or reads on where none is there: false where it has to wait.
 #[tactic(auto, using(crate::proofs::Waiting::none_own))]
-fn do_next<R: Wait, J: Naming, K: Keeps>(
+fn do_next<R: Wait, J: Opening, K: Keeps>(
     rt: &R,
     means: &Means<'_, J>,
     buffer: &mut [u8],
@@ -86,9 +86,9 @@ fn do_next<R: Wait, J: Naming, K: Keeps>(
     ledger: &mut OwnLedger<J, K>,
     waiters: &mut Vec<Waiter>,
 ) -> bool
-    requires held { All (λ waiter. IsHeldBy ledger.old.ledger.account waiter.held) waiters.old.items }
+    requires held { All (λ waiter. IsHeldBy ledger.old.account waiter.held) waiters.old.items }
     requires room { vec_len waiters.old < vec_capacity waiters.old }
-    ensures held { All (λ waiter. IsHeldBy ledger.new.ledger.account waiter.held) waiters.new.items }
+    ensures held { All (λ waiter. IsHeldBy ledger.new.account waiter.held) waiters.new.items }
     ensures room { vec_capacity waiters.new ≡ vec_capacity waiters.old }
     ensures own { AddsOwn (session_at means.now.place means.now.number) waiters.old.items waiters.new.items }
     ensures order { 0 < session.old.waiting → session.new.outbox ≡ session.old.outbox }
@@ -145,7 +145,7 @@ fn ask_for<R: Wait, J: Naming>(rt: &R, means: &Means<'_, J>, session: &mut Sessi
 
 /// Does a line of a session: false where it has to wait, or the session ends at it.
 #[tactic(auto, using(crate::proofs::Waiting::none_own, crate::proofs::Waiting::says_does, crate::proofs::Waiting::takes_does, crate::proofs::Waiting::looks_does))]
-fn do_line<R: Wait, J: Naming, K: Keeps>(
+fn do_line<R: Wait, J: Opening, K: Keeps>(
     rt: &R,
     means: &Means<'_, J>,
     session: &mut Session<J>,
@@ -154,9 +154,9 @@ fn do_line<R: Wait, J: Naming, K: Keeps>(
     size: usize,
 ) -> bool
     requires line { HasFirstLf session.old.inbox size }
-    requires held { All (λ waiter. IsHeldBy ledger.old.ledger.account waiter.held) waiters.old.items }
+    requires held { All (λ waiter. IsHeldBy ledger.old.account waiter.held) waiters.old.items }
     requires room { vec_len waiters.old < vec_capacity waiters.old }
-    ensures held { All (λ waiter. IsHeldBy ledger.new.ledger.account waiter.held) waiters.new.items }
+    ensures held { All (λ waiter. IsHeldBy ledger.new.account waiter.held) waiters.new.items }
     ensures room { vec_capacity waiters.new ≡ vec_capacity waiters.old }
 
     // The next line is done, or none is.
@@ -164,10 +164,10 @@ fn do_line<R: Wait, J: Naming, K: Keeps>(
         ((session.new.inbox ≡ drop (size + 1) session.old.inbox)
         × DoesLine session.old.may_take (nat_eq session.old.lines 0) (without_cr (take size session.old.inbox))
         (session_at means.now.place means.now.number)
-        (record { answers = session.old.outbox; waiters = waiters.old.items; account = ledger.old.ledger.account })
-        (record { answers = session.new.outbox; waiters = waiters.new.items; account = ledger.new.ledger.account }))
+        (record { answers = session.old.outbox; waiters = waiters.old.items; account = ledger.old.account })
+        (record { answers = session.new.outbox; waiters = waiters.new.items; account = ledger.new.account }))
         ((session.new.inbox ≡ session.old.inbox) × (waiters.new.items ≡ waiters.old.items)
-        × (ledger.new.ledger.account ≡ ledger.old.ledger.account)) }
+        × (ledger.new.account ≡ ledger.old.account)) }
     ensures own { AddsOwn (session_at means.now.place means.now.number) waiters.old.items waiters.new.items }
     ensures order { 0 < session.old.waiting → session.new.outbox ≡ session.old.outbox }
     ensures waits { 0 < session.old.waiting → 0 < session.new.waiting }
@@ -211,7 +211,7 @@ fn do_line<R: Wait, J: Naming, K: Keeps>(
 /// Has the body of the line of this size held, where the session may have bodies taken in, and goes on past that line:
 /// false where it has to wait.
 #[tactic(auto, using(crate::proofs::Waiting::none_own, crate::proofs::Waiting::one_own))]
-fn take_body<J: Naming, K: Keeps>(
+fn take_body<J: Opening, K: Keeps>(
     means: &Means<'_, J>,
     session: &mut Session<J>,
     ledger: &mut OwnLedger<J, K>,
@@ -220,17 +220,17 @@ fn take_body<J: Naming, K: Keeps>(
     size: usize,
 ) -> bool
     requires line { size < length session.old.inbox }
-    requires held { All (λ waiter. IsHeldBy ledger.old.ledger.account waiter.held) waiters.old.items }
+    requires held { All (λ waiter. IsHeldBy ledger.old.account waiter.held) waiters.old.items }
     requires room { vec_len waiters.old < vec_capacity waiters.old }
-    ensures held { All (λ waiter. IsHeldBy ledger.new.ledger.account waiter.held) waiters.new.items }
+    ensures held { All (λ waiter. IsHeldBy ledger.new.account waiter.held) waiters.new.items }
     ensures room { vec_capacity waiters.new ≡ vec_capacity waiters.old }
     ensures does { MatchBool result
         ((session.new.inbox ≡ drop (size + 1) session.old.inbox)
         × DoesBody session.old.may_take (deed_of draft) (session_at means.now.place means.now.number)
-        (record { answers = session.old.outbox; waiters = waiters.old.items; account = ledger.old.ledger.account })
-        (record { answers = session.new.outbox; waiters = waiters.new.items; account = ledger.new.ledger.account }))
+        (record { answers = session.old.outbox; waiters = waiters.old.items; account = ledger.old.account })
+        (record { answers = session.new.outbox; waiters = waiters.new.items; account = ledger.new.account }))
         ((session.new.inbox ≡ session.old.inbox) × (waiters.new.items ≡ waiters.old.items)
-        × (ledger.new.ledger.account ≡ ledger.old.ledger.account)) }
+        × (ledger.new.account ≡ ledger.old.account)) }
     ensures own { AddsOwn (session_at means.now.place means.now.number) waiters.old.items waiters.new.items }
     ensures order { 0 < session.old.waiting → session.new.outbox ≡ session.old.outbox }
     ensures waits { 0 < session.old.waiting → 0 < session.new.waiting }

@@ -3,6 +3,7 @@
 
 ghost use Rattle.std.specs.Prelude.{◌≡◌, ◌<◌, ◌∷◌, ◌⊎◌, ◌↔◌, [], Err, IfErr, IfOk, IfSome, IsOk, List, MatchResult};
 ghost use Rattle.std.specs.Prelude.{None, OnErr, OnOk, false, if◌then◌else◌, length, nat_lt, take, true};
+ghost use Rattle.std.specs.Arc.{arc_value};
 ghost use Rattle.std.specs.List.{list_all, list_any};
 ghost use Rattle.std.specs.Option.{option_copied};
 ghost use Rattle.ready_core.specs.Verdicts.{AreVerdicts};
@@ -27,12 +28,12 @@ use lattice_core::NoMemory;
 use ready_core::Verdicts;
 use replica_core::{Front, Missing, Replica};
 use review_ops::{Draft, Op, Stamp};
-use site_ledger::{Keeps, Ledger, LedgerFault};
+use site_ledger::{Keeps, Ledger, LedgerFault, Remains};
 use site_shared::{
     BrandedReceipt, DeskFault, Naming, RefreshFault, Stranger, Viewer, Watch, Window, WindowFault,
     later_journals_go_on,
 };
-use std::marker::PhantomData;
+use std::marker::{Brand, Model, PhantomData};
 use std::sync::Wait;
 
 /// A window of the opening.
@@ -189,19 +190,52 @@ impl<J: Naming> OwnWatch<J> {
     }
 }
 
-/// The ledger of the opening.
-pub struct OwnLedger<J: Naming, K: Keeps> {
-    ledger: Ledger<K>,
-    of: PhantomData<J>,
-    ghost ours: { ledger.account.book ≡ J.book },
-    ghost opened: { 0 < length ledger.account.published },
+/// What an opening of a site begins with, and what keeps its operations then. Each call of a program picks it, with
+/// `Brand`.
+pub trait Opening: Naming {
+    ghost use Rattle.std.specs.Prelude.{List};
+    ghost use Rattle.review_ops.specs.Operation.{Operation};
+
+    /// The record that the site is opened with.
+    ghost journal: { List Operation };
+
+    /// Which operations what keeps them had then.
+    ghost had: { List Operation → Type 0 };
 }
 
-impl<J: Naming, K: Keeps> OwnLedger<J, K> {
+impl Opening for Brand {
+    ghost use Rattle.std.specs.Prelude.{[]};
+
+    ghost journal = { [] };
+
+    ghost had = { λ _. ⊥ };
+}
+
+/// The ledger of the opening: after whatever its keeper had at first comes just what was published since, and survives.
+/// Contracts see what a `Ledger` has.
+pub struct OwnLedger<J: Opening, K: Keeps> {
+    ledger: Ledger<K>,
+    of: PhantomData<J>,
+}
+
+impl<J: Opening, K: Keeps> Model for OwnLedger<J, K> {
+    ghost use Rattle.site_ledger.specs.Keeping.{Entries};
+    ghost use Rattle.site_serve.specs.Openings.{IsOfOpening};
+
+    ghost Value = { Entries K };
+
+    ghost view = { λ own. own.ledger };
+
+    ghost invariant = { λ own. IsOfOpening K.holds K.survives J.book J.journal J.had own.ledger };
+}
+
+impl<J: Opening, K: Keeps> OwnLedger<J, K> {
+    ghost use Rattle.site_serve.specs.Openings.{HasShown, IsOfOpening};
+
     /// The ledger, of this opening.
     pub fn new(ledger: Ledger<K>) -> OwnLedger<J, K>
-        requires ours { ledger.account.book ≡ J.book }
-        requires opened { 0 < length ledger.account.published }
+        requires { IsOfOpening K.holds K.survives J.book J.journal J.had ledger }
+        ensures { result ≡ ledger }
     {
         OwnLedger {
             ledger,
@@ -211,36 +245,33 @@ impl<J: Naming, K: Keeps> OwnLedger<J, K> {
 
     /// Stamps a body and holds it, without a publish, as `Ledger::hold` does.
     pub fn hold(&mut self, draft: Draft) -> Result<Stamp, DeskFault>
-        ensures ok { IfOk result (λ stamp. let op = next_operation self.old.ledger.account (deed_of draft) in
-            HasStamp self.old.ledger.account × IsFaultless (deed_of draft)
-            × (self.new.ledger.account ≡ holding self.old.ledger.account (op ∷ [])) × (stamp ≡ op.stamp)) }
-        ensures has { IfOk result (λ stamp. has_stamp (record_of self.new.ledger.account) stamp ≡ true) }
-        ensures grows { IsPartOf (record_of self.old.ledger.account) (record_of self.new.ledger.account) }
-        ensures err { IfErr result (λ fault. (self.new.ledger ≡ self.old.ledger)
-            × RefusesIntake self.old.ledger.account (deed_of draft) fault self.old.ledger.account) }
-        ensures same { IsSameKeeping self.old.ledger self.new.ledger }
+        ensures ok { IfOk result (λ stamp. let op = next_operation self.old.account (deed_of draft) in
+            HasStamp self.old.account × IsFaultless (deed_of draft)
+            × (self.new.account ≡ holding self.old.account (op ∷ [])) × (stamp ≡ op.stamp)) }
+        ensures has { IfOk result (λ stamp. has_stamp (record_of self.new.account) stamp ≡ true) }
+        ensures grows { IsPartOf (record_of self.old.account) (record_of self.new.account) }
+        ensures err { IfErr result (λ fault. (self.new ≡ self.old)
+            × RefusesIntake self.old.account (deed_of draft) fault self.old.account) }
+        ensures same { IsSameKeeping self.old self.new }
     {
-        match self.ledger.hold(draft) {
-            Ok(stamp) => Ok(stamp),
-            Err(fault) => Err(fault),
-        }
+        self.ledger.hold(draft)
     }
 
     /// Holds an operation, unless it was published or is held, as `Ledger::hold_new` does.
     pub fn hold_new(&mut self, op: Op) -> Result<(), NoMemory>
-        ensures ok { OnOk result (self.new.ledger.account ≡ (if has (record_of self.old.ledger.account) op
-            then self.old.ledger.account else holding self.old.ledger.account (op ∷ []))) }
-        ensures has { OnOk result (has (record_of self.new.ledger.account) op ≡ true) }
-        ensures grows { IsPartOf (record_of self.old.ledger.account) (record_of self.new.ledger.account) }
-        ensures err { OnErr result (self.new.ledger ≡ self.old.ledger) }
-        ensures same { IsSameKeeping self.old.ledger self.new.ledger }
+        ensures ok { OnOk result (self.new.account ≡ (if has (record_of self.old.account) op
+            then self.old.account else holding self.old.account (op ∷ []))) }
+        ensures has { OnOk result (has (record_of self.new.account) op ≡ true) }
+        ensures grows { IsPartOf (record_of self.old.account) (record_of self.new.account) }
+        ensures err { OnErr result (self.new ≡ self.old) }
+        ensures same { IsSameKeeping self.old self.new }
     {
         self.ledger.hold_new(op)
     }
 
     /// How many operations are held.
     pub fn held_count(&self) -> usize
-        ensures { result ≡ length self.now.ledger.account.held }
+        ensures { result ≡ length self.now.account.held }
     {
         self.ledger.held_count()
     }
@@ -253,14 +284,14 @@ impl<J: Naming, K: Keeps> OwnLedger<J, K> {
     /// Has what is held kept, and then publishes it, as `Ledger::publish` does: all of it is in what the receipt has
     /// seen published.
     pub fn publish<R: Wait>(&mut self, rt: &R) -> Result<BrandedReceipt<J>, LedgerFault>
-        ensures ok { IfOk result (λ receipt. (self.old.ledger.is_over ≡ false) × (self.new.ledger.is_over ≡ false)
-            × (self.new.ledger.account ≡ flushing self.old.ledger.account)
-            × (receipt ≡ receipt_of self.new.ledger.account None)) }
+        ensures ok { IfOk result (λ receipt. (self.old.is_over ≡ false) × (self.new.is_over ≡ false)
+            × (self.new.account ≡ flushing self.old.account)
+            × (receipt ≡ receipt_of self.new.account None)) }
         ensures shown { IfOk result
-            (λ receipt. IsPartOf (record_of self.old.ledger.account) (arrive receipt.published)) }
-        ensures err { IfErr result (λ fault. (self.new.ledger.account ≡ self.old.ledger.account)
-            × (self.new.ledger.is_over ≡ is_over_after fault)) }
-        ensures over { self.old.ledger.is_over ≡ true → self.new.ledger ≡ self.old.ledger }
+            (λ receipt. IsPartOf (record_of self.old.account) (arrive receipt.published)) }
+        ensures err { IfErr result (λ fault. (self.new.account ≡ self.old.account)
+            × (self.new.is_over ≡ is_over_after fault)) }
+        ensures over { self.old.is_over ≡ true → self.new ≡ self.old }
     {
         match self.ledger.publish(rt) {
             Ok(receipt) => Ok(BrandedReceipt::new(receipt)),
@@ -268,12 +299,13 @@ impl<J: Naming, K: Keeps> OwnLedger<J, K> {
         }
     }
 
-    /// Ends the ledger.
-    pub fn end<R: Wait>(self, rt: &R)
-    where
-        K: Drop,
+    /// Ends the ledger, and gives back what keeps its operations, of which all that was published survives.
+    pub fn end<R: Wait>(self, rt: &R) -> Remains<K>
+        ensures { HasShown K.survives J.had J.journal result.keeper (arc_value result.shown) }
     {
         let OwnLedger { ledger, of: _ } = self;
-        ledger.end(rt);
+        let remains = ledger.end(rt);
+        remains.keeper.what_comes_first_survives();
+        remains
     }
 }

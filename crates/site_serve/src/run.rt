@@ -3,24 +3,27 @@
 ghost use Rattle.std.specs.Prelude.{◌≡◌, ◌∷◌, [], true, All, IfOk, IsErr, List};
 ghost use Rattle.std.specs.List.{list_any};
 ghost use Rattle.std.specs.Thread.{IsSend, IsSync};
+ghost use Rattle.replica_core.specs.Journal.{all_arrived};
 ghost use Rattle.review_ops.specs.Operation.{Operation};
 ghost use Rattle.site_serve.specs.Fault.{after_opening};
 ghost use Rattle.site_serve.specs.InForce.{gate_in, ruling_gate};
+ghost use Rattle.site_serve.specs.Openings.{HasKept};
 ghost use Rattle.site_shared.specs.Accounts.{is_used};
 
 use super::ask::Place;
 use super::board::Board;
+use super::closed::{Closed, Left, served_of, unserved};
 use super::desk::{NotKept, Published};
 use super::doorman::Doorman;
 use super::errors::Errors;
-use super::evaluator::{Printed, print_reports, serve_fault};
+use super::evaluator::{Printed, print_reports};
 use super::floor::{BELL, DOOR, Floor, House, Site, serve_floor};
 use super::gossip::{Peer, Pulling, pull_from_peers};
 use super::jobs::Worker;
 use super::listeners::Listeners;
 use super::looks::do_jobs;
 use super::news::News;
-use super::opening::{OwnLedger, OwnWindow};
+use super::opening::{Opening, OwnLedger, OwnWindow};
 use super::pages::{Shower, show_pages};
 use super::port::PullPort;
 use super::reloads::{InForce, Reloads};
@@ -32,7 +35,7 @@ use mio::{Poll, Waker};
 use page_server::Door;
 use pull_guard::Guard;
 use site_address::PeerAddress;
-use site_ledger::{Keeps, Ledger, NoJournal};
+use site_ledger::{Keeps, Ledger, NoJournal, Remains};
 use site_net::{Listener, Patience, Stop};
 use site_port::Guarded;
 use site_shared::{Desk, Naming, OpenFault, Window, open_site};
@@ -100,14 +103,17 @@ where
     E: Drain + Send + Drop,
     T: Turn + Sync,
     ensures used { list_any (is_used setup.entry.site setup.entry.start) setup.entry.replica ≡ true → IsErr result }
+    ensures record { (more : List Operation)
+        × IfOk result (λ served. served.replica ≡ all_arrived setup.entry.replica more) }
 {
     let mut listeners = Vec::new(alloc);
     if listeners.push(Listener::Port(listener)).is_err() {
         return Err(ServeFault::NoMemory);
     }
-    serve_keeping(
+    let Closed { keeper: _, served } = serve_keeping(
         rt, alloc, listeners, setup, stop, output, errors, turn, NoJournal,
-    )
+    );
+    served
 }
 
 /// Runs a site until it is asked to stop, or until all its sessions have ended: its sessions, its pulls and its reports
@@ -117,7 +123,8 @@ where
 /// `StartUsed`, the replica has a stamp of the site under this start or a later one; 3 `NoMemory`; 4 `NoPlace`, the
 /// system refused a thread or a place for one; 6 `NoJournal`, what was taken in couldn't be kept, and was neither shown
 /// nor acknowledged. Whatever the site takes in is kept first, then shown, then acknowledged. The keeper has to be one
-/// that has some operations, all of which stay: a journal that was just opened is, and `NoJournal`.
+/// that has some operations, all of which stay: a journal that was just opened is, and `NoJournal`. It is given back:
+/// what it had survives in it, and after that all that came to the record.
 pub fn serve_keeping<R, W, E, T, K>(
     rt: &R,
     alloc: Global,
@@ -128,15 +135,20 @@ pub fn serve_keeping<R, W, E, T, K>(
     errors: E,
     turn: &T,
     keeper: K,
-) -> Result<Served, ServeFault>
+) -> Closed<K>
 where
     R: Net<Listener = TcpListener, Stream = TcpStream> + Threads + Wait + Clock + Sync,
     W: Drain + Send + Drop,
     E: Drain + Send + Drop,
     T: Turn + Sync,
-    K: Keeps + Drop,
+    K: Keeps,
     requires { (first : List Operation) × K.holds keeper first }
-    ensures used { list_any (is_used setup.entry.site setup.entry.start) setup.entry.replica ≡ true → IsErr result }
+    ensures used { list_any (is_used setup.entry.site setup.entry.start) setup.entry.replica ≡ true
+        → IsErr result.served }
+
+    // Whatever the keeper had survives in what is given back, with `more` after it; and the record is the first one with
+    // just `more`.
+    ensures keeps { HasKept K.survives (K.holds keeper) setup.entry.replica result.keeper result.served }
 {
     let Setup {
         gate,
@@ -158,14 +170,14 @@ where
     let workers = workers.max(1).min(MOST_WORKERS);
     let pullers = peers.len().max(1).min(WINDOWS - 2 - workers);
     let Ok((poll, listeners)) = polled(rt, alloc, listeners) else {
-        return Err(ServeFault::NoPlace);
+        return unserved(keeper, ServeFault::NoPlace);
     };
     let (Ok(shares), Ok(board), Ok(first)) = (
         shares_of(alloc, peers.len(), pullers),
         Board::new(rt, alloc, peers.len()),
         InForce::first(alloc, gate),
     ) else {
-        return Err(ServeFault::NoMemory);
+        return unserved(keeper, ServeFault::NoMemory);
     };
     let common = Common {
         alloc,
@@ -197,7 +209,7 @@ where
         Ok((desk, windows)) => run_opened::<Brand, R, W, E, T, K>(
             rt, &common, loft, shares, desk, windows, output, keeper,
         ),
-        Err(fault) => Err(open_fault(fault)),
+        Err(fault) => unserved(keeper, open_fault(fault)),
     }
 }
 
@@ -276,27 +288,32 @@ fn run_opened<J, R, W, E, T, K>(
     windows: Vec<Window>,
     output: W,
     keeper: K,
-) -> Result<Served, ServeFault>
+) -> Closed<K>
 where
-    J: Naming + Send + Sync,
+    J: Opening + Send + Sync,
     R: Net<Listener = TcpListener, Stream = TcpStream> + Threads + Wait + Clock + Sync,
     W: Drain + Send + Drop,
     E: Drain + Send + Drop,
     T: Turn + Sync,
-    K: Keeps + Drop,
+    K: Keeps,
     requires desk { desk.book ≡ J.book }
-    requires opened { (journal : List Operation) × (desk.published ≡ journal ∷ []) }
+    requires opened { desk.published ≡ J.journal ∷ [] }
     requires windows { All (λ window. window.book ≡ J.book) windows.items }
     requires keeper { (first : List Operation) × K.holds keeper first }
+    requires had { (first : List Operation) → J.had first → K.holds keeper first }
+    ensures { HasKept K.survives J.had J.journal result.keeper result.served }
 {
     let mut ledger: OwnLedger<J, K> = OwnLedger::new(Ledger::new(desk, keeper));
-    let served = match seated(common.alloc, windows, loft.workers, loft.connections) {
+    let left = match seated(common.alloc, windows, loft.workers, loft.connections) {
         Ok(Some(seats)) => { run_seated(rt, common, loft, shares, &mut ledger, seats, output) }
         Ok(None) => Err(ServeFault::NoPlace),
         Err(_) => Err(ServeFault::NoMemory),
     };
-    ledger.end(rt);
-    served
+    let Remains { keeper, shown } = ledger.end(rt);
+    Closed {
+        keeper,
+        served: served_of(left, shown),
+    }
 }
 
 /// Runs a site whose threads have their seats.
@@ -308,9 +325,9 @@ fn run_seated<J, R, W, E, T, K>(
     ledger: &mut OwnLedger<J, K>,
     seats: Seats<J>,
     output: W,
-) -> Result<Served, ServeFault>
+) -> Result<Left, ServeFault>
 where
-    J: Naming + Send + Sync,
+    J: Opening + Send + Sync,
     R: Net<Listener = TcpListener, Stream = TcpStream> + Threads + Wait + Clock + Sync,
     W: Drain + Send + Drop,
     E: Drain + Send + Drop,
@@ -420,7 +437,7 @@ struct Ended<J: Naming> {
     /// The last publish; or that the journal failed.
     flushed: Result<Published<J>, NotKept>,
     /// What the printing of reports left; none where it never began.
-    printed: Option<Printed<J>>,
+    printed: Option<Printed>,
     /// Whether the system refused a thread.
     is_refused: bool,
 }
@@ -438,7 +455,7 @@ fn run_threads<J, R, W, E, T, K>(
     output: W,
 ) -> Ended<J>
 where
-    J: Naming + Send + Sync,
+    J: Opening + Send + Sync,
     R: Net<Listener = TcpListener, Stream = TcpStream> + Threads + Wait + Clock + Sync,
     W: Drain + Send + Drop,
     E: Drain + Send + Drop,
@@ -523,7 +540,7 @@ fn print_all<R: Wait + Clock, W: Drain + Drop, E: Drain, T: Turn, J: Naming>(
     news: &News<J>,
     window: OwnWindow<J>,
     output: W,
-) -> Printed<J> {
+) -> Printed {
     print_reports(
         rt,
         common.alloc,
@@ -651,8 +668,8 @@ fn close<R: Wait, J: Naming>(rt: &R, news: &News<J>, flushed: &Result<Published<
     news.close(rt);
 }
 
-/// What a site leaves once its threads have ended: all that it took in, also what could only be held.
-fn left_of<J: Naming>(ended: Ended<J>, is_start_taken: bool) -> Result<Served, ServeFault> {
+/// How the threads of a site left it, where the last publish showed all that it took in, also what could only be held.
+fn left_of<J: Naming>(ended: Ended<J>, is_start_taken: bool) -> Result<Left, ServeFault> {
     let Ended {
         flushed,
         printed,
@@ -667,25 +684,15 @@ fn left_of<J: Naming>(ended: Ended<J>, is_start_taken: bool) -> Result<Served, S
     if is_refused {
         return Err(ServeFault::NoPlace);
     }
-    let Printed {
-        window,
-        written,
-        fault,
-    } = printed;
+    let Printed { written, fault } = printed;
     if let Some(fault) = fault {
         return Err(fault);
     }
-    let Ok(receipt) = flushed else {
+    if flushed.is_err() {
         return Err(ServeFault::NoMemory);
-    };
-    let mut window = window;
-    let _own = window.learn(&receipt);
-    match window.snapshot() {
-        Ok(replica) => Ok(Served {
-            replica,
-            written,
-            is_start_taken,
-        }),
-        Err(fault) => Err(serve_fault(fault)),
     }
+    Ok(Left {
+        written,
+        is_start_taken,
+    })
 }

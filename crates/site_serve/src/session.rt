@@ -402,6 +402,7 @@ impl<J: Naming> Session<J> {
             self.seal_more();
             let text = self.channel.next(&self.outbox);
             if text.is_empty() {
+                self.drop_rest();
                 self.stuck = now;
                 return;
             }
@@ -418,6 +419,13 @@ impl<J: Naming> Session<J> {
             }
         }
         self.takes_more = true;
+    }
+
+    /// Gives up a part of an answer for which memory was refused, and which is no line that could be sealed, once it ends.
+    fn drop_rest(&mut self) {
+        if self.ending.is_some() {
+            self.outbox.clear();
+        }
     }
 
     /// Seals more of what it was answered, where its lines are sealed.

@@ -55,6 +55,7 @@ impl Desk {
     ghost use Rattle.site_shared.specs.Accounts.{HasStamp, IsSameOpening, RefusesAll, RefusesIntake, flushing, holding};
     ghost use Rattle.site_shared.specs.Accounts.{next_operation, receipt_of, record_of};
     ghost use Rattle.site_shared.specs.Law.{head_of};
+    ghost use Rattle.site_shared.specs.Publishes.{arrive};
     ghost use Rattle.site_shared.specs.Showing.{Goes};
 
     /// The desk of a site that was just opened.
@@ -179,13 +180,15 @@ impl Desk {
         self.held.as_slice()
     }
 
-    /// Ends the site: a window that is asked from now on answers what was shown last, or `Closed`. What is held is
-    /// dropped. Waits for windows that look.
-    pub fn end<R: Wait>(self, rt: &R) {
+    /// Ends the site, and answers the record that was shown last: a window that is asked from now on answers that, or
+    /// `Closed`. What is held is dropped. Waits for windows that look.
+    pub fn end<R: Wait>(self, rt: &R) -> Arc<Replica>
+        ensures { arc_value result ≡ arrive self.published }
+    {
         let Desk {
             show,
             head: _,
-            latest: _,
+            latest,
             spares: _,
             next: _,
             held: _,
@@ -193,6 +196,8 @@ impl Desk {
             start: _,
         } = self;
         drop(show.take(rt));
+        let Shown { replica, sight: _ } = latest;
+        replica
     }
 
     /// The operation of a body, under the next stamp.

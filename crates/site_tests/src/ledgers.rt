@@ -25,6 +25,8 @@ impl Keeps for Failing {
 
     fn what_it_has_survives(&self) {}
 
+    fn what_comes_first_survives(&self) {}
+
     fn keep(&mut self, _ops: &[Op]) -> Result<(), KeepFault> {
         match self.faults.pop() {
             Some(fault) => Err(fault),

@@ -7,7 +7,7 @@ pub loop-op-preserved : goal.loop-op-preserved
 loop-op-preserved g c =
     let before = c.loop-op.yielded in
     let op = c.in-Some.op in
-    let journal = record_of c.hold_new.new.self.ledger.account in (
+    let journal = record_of c.hold_new.new.self.account in (
       tt,
       tt,
       λ x h. c.in-Ok.ensures.grows x (c.loop-op.invariant.2 x h),

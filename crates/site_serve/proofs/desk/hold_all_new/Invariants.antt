@@ -7,6 +7,6 @@ use Rattle.site_serve.proofs.desk.hold_all_new.Given as goal
 abbrev pub invariant-loop-op : goal.invariant-loop-op
 invariant-loop-op g l =
     (goal.iterator-loop-op g).can_next l.op-iterator × (goal.iterator-loop-op g).is_finite l.op-iterator
-    × IsPartOf (record_of l.initial.ledger.ledger.account) (record_of l.ledger.ledger.account)
-    × IsPartOf l.yielded (record_of l.ledger.ledger.account)
+    × IsPartOf (record_of l.initial.ledger.account) (record_of l.ledger.account)
+    × IsPartOf l.yielded (record_of l.ledger.account)
     × (l.fn.ops.items ≡ l.yielded ++ l.op-iterator.rest.items)

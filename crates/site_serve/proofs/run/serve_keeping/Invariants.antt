@@ -1,5 +1,10 @@
+use Rattle.site_shared.specs.Publishes.{arrive}
 use Rattle.site_serve.proofs.run.serve_keeping.Given as goal
 
 -- the opening's list of publishes
-abbrev pub ghosts-run_opened : goal.ghosts-run_opened
-ghosts-run_opened g a = record { book = a.desk.book }
+abbrev pub ghosts-run_opened-J-Naming : goal.ghosts-run_opened-J-Naming
+ghosts-run_opened-J-Naming g a = record { book = a.desk.book }
+
+-- the record that it begins with, and what the keeper has
+abbrev pub ghosts-run_opened-J-Opening : goal.ghosts-run_opened-J-Opening
+ghosts-run_opened-J-Opening g a = record { journal = arrive a.desk.published; had = g.K.Keeps.holds a.keeper }

@@ -1,4 +1,4 @@
-use Rattle.std.proofs.Common.{◌≡◌, List}
+use Rattle.std.proofs.Common.{List}
 use Rattle.std.specs.Prelude.{IsOk}
 use Rattle.review_ops.specs.Operation.{Operation}
 use Rattle.site_journal.specs.Book.{IsHolding}

@@ -1,0 +1,70 @@
+//! What a site gives back once it has ended.
+
+ghost use Rattle.std.specs.Prelude.{◌≡◌, IfOk, List};
+ghost use Rattle.std.specs.Arc.{arc_value};
+ghost use Rattle.review_ops.specs.Operation.{Operation};
+ghost use Rattle.site_serve.specs.Openings.{HasKept};
+
+use super::setup::{ServeFault, Served};
+use lattice_core::NoMemory;
+use replica_core::Replica;
+use site_ledger::Keeps;
+use std::sync::Arc;
+
+/// A site that has ended.
+#[derive(Drop)]
+pub struct Closed<K> {
+    /// What keeps its operations.
+    pub keeper: K,
+    /// What it leaves, or why it didn't run to its end.
+    pub served: Result<Served, ServeFault>,
+}
+
+/// How the threads of a site left it.
+#[derive(Clone, Copy, Debug)]
+pub struct Left {
+    /// Whether all that it was to print was written.
+    pub written: bool,
+    /// Whether it ended because another process runs as this site.
+    pub is_start_taken: bool,
+}
+
+/// A site that wasn't run.
+pub fn unserved<K: Keeps>(keeper: K, fault: ServeFault) -> Closed<K>
+    ensures keeps { (begun : List Operation) → HasKept K.survives (K.holds keeper) begun result.keeper result.served }
+    ensures fault { result.served ≡ Err fault }
+{
+    keeper.what_it_has_survives();
+    Closed {
+        keeper,
+        served: Err(fault),
+    }
+}
+
+/// What a site leaves that its threads left so, and that showed this record last.
+pub fn served_of(left: Result<Left, ServeFault>, shown: Arc<Replica>) -> Result<Served, ServeFault>
+    ensures { IfOk result (λ served. served.replica ≡ arc_value shown) }
+{
+    let Left {
+        written,
+        is_start_taken,
+    } = left?;
+    match unshared(shown) {
+        Ok(replica) => Ok(Served {
+            replica,
+            written,
+            is_start_taken,
+        }),
+        Err(_) => Err(ServeFault::NoMemory),
+    }
+}
+
+/// The record itself, or a copy where somebody else has it, too.
+fn unshared(shown: Arc<Replica>) -> Result<Replica, NoMemory>
+    ensures { IfOk result (λ replica. replica ≡ arc_value shown) }
+{
+    match Arc::try_unwrap(shown) {
+        Ok(replica) => Ok(replica),
+        Err(shared) => shared.copy(),
+    }
+}
