@@ -60,35 +60,62 @@ impl<A: Allocator + Copy> ChangeState<A> {
     }
 
     /// Joins the effect of an operation into the state. The operation's change isn't looked at. Where memory is refused
-    /// nothing changes.
+    /// nothing changes. Its texts are copied, the message only where its commit wins.
     pub fn take(&mut self, op: &Op<A>) -> Result<(), NoMemory>
         ensures ok { OnOk result (self.new ≡ change_joined self.old (effect_of op.now)) }
         ensures err { OnErr result (self.new ≡ self.old) }
     {
-        let stamp = op.stamp();
-        match op.body().draft() {
+        if self.has_outdone(op) {
+            return Ok(());
+        }
+        self.consume(op.copy()?)
+    }
+
+    /// Joins the effect of an operation into the state, as `take` does, and keeps the texts of the operation itself. Where
+    /// memory is refused nothing changes but that the operation is dropped.
+    pub fn consume(&mut self, op: Op<A>) -> Result<(), NoMemory>
+        ensures ok { OnOk result (self.new ≡ change_joined self.old (effect_of op)) }
+        ensures err { OnErr result (self.new ≡ self.old) }
+    {
+        let (stamp, body) = op.into_parts();
+        match body.into_draft() {
             Draft::PatchSet {
                 set,
                 message,
                 parent,
                 ..
-            } => write_set(&mut self.sets, stamp, *set, message, *parent),
+            } => write_set(&mut self.sets, stamp, set, message, parent),
             Draft::Vote {
                 set,
                 label,
                 voter,
                 value,
                 ..
-            } => write_vote(&mut self.votes, stamp, *set, label, voter, *value),
+            } => write_vote(&mut self.votes, stamp, set, label, voter, value),
             Draft::Withdraw {
                 set,
                 label,
                 voter,
                 ..
-            } => write_vote(&mut self.votes, stamp, *set, label, voter, 0),
+            } => write_vote(&mut self.votes, stamp, set, label, voter, 0),
             Draft::Abandon { .. } => self.life.join(Greatest::of(stamp, Life::Abandoned)),
             Draft::Restore { .. } => self.life.join(Greatest::of(stamp, Life::Restored)),
             Draft::Merged { .. } => self.merged.join(Flag::new(true)),
+        }
+    }
+
+    /// Whether an operation is a patch set whose register holds as great a commit already.
+    fn has_outdone(&self, op: &Op<A>) -> bool
+        ensures { IsTrue result → self.now ≡ change_joined self.now (effect_of op.now) }
+    {
+        match op.body().draft() {
+            Draft::PatchSet {
+                set,
+                message,
+                parent,
+                ..
+            } => is_outdone(&self.sets, op.stamp(), *set, message.as_str(), *parent),
+            _ => false,
         }
     }
 
@@ -252,23 +279,18 @@ impl<A: Allocator + Copy> Join for ChangeState<A> {
     }
 }
 
-/// Writes a commit to the register of its patch set. The message is copied only where the commit wins.
+/// Writes a commit to the register of its patch set.
 fn write_set<A: Allocator + Copy>(
     sets: &mut JoinList<u32, Register<Stamp, Commit<A>>, A>,
     stamp: Stamp,
     set: u32,
-    message: &String<A>,
+    message: String<A>,
     parent: Option<u32>,
 ) -> Result<(), NoMemory>
-    ensures ok { OnOk result (sets_shown sets.new ≡ put_joined (ord_max patch_order) (sets_shown sets.old) set (stamp, record { message = string_bytes message.now; parent = parent })) }
+    ensures ok { OnOk result (sets_shown sets.new ≡ put_joined (ord_max patch_order) (sets_shown sets.old) set (stamp, record { message = string_bytes message; parent = parent })) }
     ensures err { OnErr result (sets_shown sets.new ≡ sets_shown sets.old) }
 {
-    if is_outdone(sets, stamp, set, message.as_str(), parent) {
-        return Ok(());
-    }
-    let message = message.copy()?;
-    let register = Register::new(stamp, Commit { message, parent });
-    sets.join_at(set, register)
+    sets.join_at(set, Register::new(stamp, Commit { message, parent }))
 }
 
 /// Whether the register of a patch set holds as great a commit already, so that to write this one would change nothing.
@@ -336,14 +358,12 @@ fn write_vote<A: Allocator + Copy>(
     votes: &mut JoinList<VoteSlot<A>, Register<Stamp, i8>, A>,
     stamp: Stamp,
     set: u32,
-    label: &String<A>,
-    voter: &String<A>,
+    label: String<A>,
+    voter: String<A>,
     value: i8,
 ) -> Result<(), NoMemory>
-    ensures ok { OnOk result (votes_shown votes.new ≡ put_joined (ord_max vote_order) (votes_shown votes.old) (record { set = set; label = string_bytes label.now; voter = string_bytes voter.now }) (stamp, value)) }
+    ensures ok { OnOk result (votes_shown votes.new ≡ put_joined (ord_max vote_order) (votes_shown votes.old) (record { set = set; label = string_bytes label; voter = string_bytes voter }) (stamp, value)) }
     ensures err { OnErr result (votes_shown votes.new ≡ votes_shown votes.old) }
 {
-    let label = label.copy()?;
-    let voter = voter.copy()?;
     votes.join_at(VoteSlot { set, label, voter }, Register::new(stamp, value))
 }

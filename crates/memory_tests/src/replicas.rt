@@ -2,8 +2,10 @@
 
 use super::operations::{Deed, op_of};
 use super::turns::{Call, Memory, Seen, assert_each, assert_none};
+use lattice_core::Join;
 use replica_core::{Front, Gathering, Missing, Partly, Replica, Row};
 use review_ops::Op;
+use state_core::State;
 use std::alloc::Allocator;
 
 /// Operations in the order of their times.
@@ -175,6 +177,47 @@ fn joined<'a>(
         refused,
         stated: has_first_if_any(memory, &replica, count),
         whole: is_joined(memory, again, count),
+    }
+}
+
+/// The first operations, gathered, of which only the state is asked for.
+#[derive(Clone, Copy)]
+struct States(usize);
+
+impl Call for States {
+    fn seen(self, memory: &Memory, granted: u32) -> Option<Seen> {
+        let gathering = gathering_of(memory, self.0)?;
+        let again = gathering_of(memory, self.0)?;
+        let wanted = replica_of(memory, self.0)?;
+        Some(stated(memory, gathering, again, wanted, granted))
+    }
+}
+
+/// What is seen where the state of what was gathered is asked for, and of what was gathered again.
+fn stated<'a>(
+    memory: &'a Memory,
+    gathering: Gathering<&'a Memory>,
+    again: Gathering<&'a Memory>,
+    wanted: Replica<&'a Memory>,
+    granted: u32,
+) -> Seen {
+    memory.refuse_after(granted);
+    let state = gathering.into_state().ok();
+    let refused = memory.grant_all();
+    let whole = again.into_state().ok();
+    Seen {
+        failed: state.is_none(),
+        refused,
+        stated: is_state_if_any(&state, wanted.state()),
+        whole: whole.is_some() && is_state_if_any(&whole, wanted.state()),
+    }
+}
+
+/// Whether a state, where there is one, is the one that is wanted.
+fn is_state_if_any<A: Allocator + Copy>(state: &Option<State<A>>, wanted: &State<A>) -> bool {
+    match state {
+        Some(state) => state.same(wanted),
+        None => true,
     }
 }
 
@@ -364,6 +407,13 @@ fn what_was_gathered_is_joined_whole_or_not_at_all(rt: HostRuntime) {
     assert_none(&rt, rt.alloc(), Joins(0));
     assert_none(&rt, rt.alloc(), Joins(1));
     assert_each(&rt, rt.alloc(), Joins(4), 3);
+}
+
+#[test]
+fn a_state_of_what_was_gathered_is_whole_or_not_at_all(rt: HostRuntime) {
+    assert_none(&rt, rt.alloc(), States(0));
+    assert_none(&rt, rt.alloc(), States(1));
+    assert_each(&rt, rt.alloc(), States(4), 1);
 }
 
 #[test]

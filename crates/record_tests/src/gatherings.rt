@@ -1,6 +1,7 @@
 //! Records whose state is joined after all operations came.
 
 use deeds::{Deed, op_of};
+use lattice_core::Join;
 use replica_core::{Gathering, Replica, Taken};
 use review_ops::Op;
 use std::alloc::Global;
@@ -56,13 +57,14 @@ fn one_by_one(alloc: Global, places: &[usize]) -> Option<Replica> {
     Some(replica)
 }
 
-/// The replica of the operations at the first places, to which those at the later ones were gathered.
-fn gathered(alloc: Global, first: &[usize], later: &[usize]) -> Option<Replica> {
+/// The operations at these places, gathered onto a replica of the first so many.
+fn gathering_of(alloc: Global, places: &[usize], before: usize) -> Option<Gathering> {
+    let first = places.get(..before)?;
     let mut gathering = Gathering::onto(one_by_one(alloc, first)?);
-    for place in later {
+    for place in places.get(before..)? {
         gather_at(alloc, &mut gathering, *place)?;
     }
-    gathering.joined().ok()
+    Some(gathering)
 }
 
 /// Whether two replicas have the same operations in the same order, and one state.
@@ -82,16 +84,21 @@ fn stay_alike(alloc: Global, mut replica: Replica, mut other: Replica) -> bool {
 
 /// Whether what was gathered is what was taken one by one, where so many of the operations at these places came before.
 fn is_gathered(alloc: Global, places: &[usize], before: usize) -> Option<bool> {
-    let first = places.get(..before)?;
-    let later = places.get(before..)?;
-    let gathered = gathered(alloc, first, later)?;
+    let gathered = gathering_of(alloc, places, before)?.joined().ok()?;
     Some(stay_alike(alloc, gathered, one_by_one(alloc, places)?))
+}
+
+/// Whether the state of what was gathered is that of what was taken one by one.
+fn is_stated(alloc: Global, places: &[usize], before: usize) -> Option<bool> {
+    let state = gathering_of(alloc, places, before)?.into_state().ok()?;
+    Some(state.same(one_by_one(alloc, places)?.state()))
 }
 
 /// Of the operations at these places those from each one on may be gathered.
 fn assert_gathered(rt: &impl Abort, alloc: Global, places: &[usize]) {
     for before in 0..=places.len() {
         assert_eq!(rt; is_gathered(alloc, places, before), Some(true));
+        assert_eq!(rt; is_stated(alloc, places, before), Some(true));
     }
 }
 
@@ -115,4 +122,22 @@ fn answers(alloc: Global) -> Option<([Taken; 3], usize)> {
 fn a_gathering_says_what_it_had(rt: HostRuntime) {
     let (taken, len) = answers(rt.alloc()).expect(&rt, MEMORY);
     assert_eq!(rt; (taken, len), ([Taken::Known, Taken::New, Taken::Known], 2));
+}
+
+/// Whether a new gathering is empty, and then has the operations at these places as a replica has them.
+fn is_listed(alloc: Global, places: &[usize]) -> Option<bool> {
+    let mut gathering = Gathering::new(alloc);
+    let is_empty = gathering.as_slice().is_empty();
+    for place in places {
+        gather_at(alloc, &mut gathering, *place)?;
+    }
+    let replica = one_by_one(alloc, places)?;
+    Some(is_empty && gathering.as_slice() == replica.as_slice())
+}
+
+#[test]
+fn a_gathering_lists_what_came(rt: HostRuntime) {
+    for places in ORDERS {
+        assert_eq!(rt; is_listed(rt.alloc(), places), Some(true));
+    }
 }

@@ -1,9 +1,9 @@
 //! A journal that is gathered before its state is joined.
 
-ghost use Rattle.std.specs.Prelude.{◌≡◌, ◌++◌, List, IfOk, OnOk, OnErr, length, map};
+ghost use Rattle.std.specs.Prelude.{◌≡◌, ◌++◌, [], List, IfOk, OnOk, OnErr, length, map};
 ghost use Rattle.std.specs.List.Sorted.{IsPermutation};
 ghost use Rattle.review_ops.specs.Operation.{Operation};
-ghost use Rattle.replica_core.specs.Journal.{arrived, has, taken_of};
+ghost use Rattle.replica_core.specs.Journal.{AreApart, arrived, has, taken_of};
 ghost use Rattle.state_core.specs.State.{state_of};
 
 use super::arriving::{Later, arrive};
@@ -12,10 +12,11 @@ use super::replica::Replica;
 use super::taken::Taken;
 use chunk_list::ChunkList;
 use lattice_core::NoMemory;
-use review_ops::Op;
+use review_ops::{Body, Draft, Op};
 use state_core::State;
 use std::alloc::{Allocator, Global};
 use std::marker::Model;
+use std::mem;
 
 /// A replica to which many operations come before its state is asked for: each is filed as it comes, and `joined` joins
 /// the effects of all of them at the end, change by change. Contracts see the arrivals, as those of a replica.
@@ -42,6 +43,13 @@ impl<A: Allocator + Copy> Model for Gathering<A> {
 }
 
 impl<A: Allocator + Copy> Gathering<A> {
+    /// Of the empty journal. It takes no memory.
+    pub fn new(alloc: A) -> Gathering<A>
+        ensures { result ≡ [] }
+    {
+        Gathering::onto(Replica::new(alloc))
+    }
+
     /// Of a replica, with all that it has. It takes no memory.
     pub fn onto(replica: Replica<A>) -> Gathering<A>
         ensures { result ≡ replica }
@@ -87,6 +95,14 @@ impl<A: Allocator + Copy> Gathering<A> {
         self.arrivals.len()
     }
 
+    /// The operations of the journal, each once, in the order in which they first came.
+    pub fn as_slice(&self) -> &[Op<A>]
+        ensures arrivals { result.now ≡ self.now }
+        ensures apart { AreApart self.now }
+    {
+        self.arrivals.as_slice()
+    }
+
     /// The allocator that the journal and the state take memory from.
     pub fn allocator(&self) -> A {
         self.alloc
@@ -114,6 +130,29 @@ impl<A: Allocator + Copy> Gathering<A> {
             state,
             alloc,
         })
+    }
+
+    /// The state of all that came, for whoever needs no journal: the texts of operations become those of the state, and
+    /// the journal's memory is given back. Where memory is refused all of it is dropped. It costs what `joined` costs but
+    /// for the copies of texts.
+    pub fn into_state(self) -> Result<State<A>, NoMemory>
+        ensures { IfOk result (λ state. state ≡ state_of self) }
+    {
+        let Gathering {
+            mut arrivals,
+            lines,
+            latest: _,
+            mut state,
+            joined,
+            alloc,
+        } = self;
+        drop(lines);
+        consume_later(
+            &mut state,
+            alloc,
+            arrivals.as_mut_slice().split_at_mut(joined).1,
+        )?;
+        Ok(state)
     }
 }
 
@@ -146,4 +185,46 @@ fn by_change<A: Allocator + Copy>(
     }
     sorted.sort_unstable_by_key(|one| one.0);
     Ok(sorted)
+}
+
+/// Joins the effects of operations into the state of those before, change by change, with their texts.
+fn consume_later<A: Allocator + Copy>(
+    state: &mut State<A>,
+    alloc: A,
+    ops: &mut [Op<A>],
+) -> Result<(), NoMemory>
+    ensures { OnOk result ((before : List Operation) → state.old ≡ state_of before
+        → state.new ≡ state_of (before ++ ops.old)) }
+{
+    for (_, op) in each_by_change(alloc, ops)? {
+        state.consume(taken_out(op))?;
+    }
+    Ok(())
+}
+
+/// Mutable references to the operations in the order of their changes.
+fn each_by_change<A: Allocator + Copy>(
+    alloc: A,
+    ops: &mut [Op<A>],
+) -> Result<Vec<(u32, &mut Op<A>), A>, NoMemory>
+    ensures { IfOk result (λ sorted. IsPermutation ops.old (map (λ one. one.1.now) sorted.items)) }
+{
+    let mut sorted = Vec::with_capacity(alloc, ops.len())?;
+    for op in ops {
+        sorted.push((op.body().change(), op))?;
+    }
+    sorted.sort_unstable_by_key(|one| one.0);
+    Ok(sorted)
+}
+
+/// An operation out of a journal that is given up. In its place it leaves one that has no texts.
+fn taken_out<A: Allocator + Copy>(op: &mut Op<A>) -> Op<A>
+    ensures { result ≡ op.old }
+{
+    let change = op.body().change();
+    let Ok(body) = Body::checked(Draft::Abandon { change }) else {
+        unreachable!()
+    };
+    let stamp = op.stamp();
+    mem::replace(op, Op::new(stamp, body))
 }

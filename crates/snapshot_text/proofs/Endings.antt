@@ -1,6 +1,6 @@
 -- What is known when a snapshot was read to its end, or too much of it came.
 use Rattle.std.proofs.Common.{◌≡◌, ◌⊎◌, ◌<◌, ◌≤◌, ◌∙◌, ℕ, List, Option, None, Some, Result, Ok, Err, length}
-use Rattle.std.proofs.Common.{inr, ap, refl, subst, arith, length-append}
+use Rattle.std.proofs.Common.{inr, ap, refl, sym, subst, arith, length-append}
 use Rattle.std.proofs.KnownBytes.{Consumes-whole}
 use Rattle.std.specs.Prelude.{IfSome, IfOk, IfErr, MatchResult}
 use Rattle.std.specs.Io.KnownBytes.{Consumes, IsAtEnd}
@@ -81,3 +81,22 @@ refused_by known text AfterEnd whole is = (text, whole, is)
 refused_by known text TooLong whole is = absurd is
 refused_by known text ReadFault whole is = absurd is
 refused_by known text NoMemory whole is = tt
+
+-- ---- a journal whose state was joined, unless memory was refused for that
+abbrev pub Joins : Result (List Operation) SnapFault → List Operation → Type 0
+Joins r journal = MatchResult r (λ joined. joined ≡ journal) (λ fault. fault ≡ NoMemory)
+
+pub joined_ok : (P : List Operation → Type 0) (r : Result (List Operation) SnapFault) (journal : List Operation)
+    → Joins r journal → P journal → IfOk r P
+joined_ok P (Ok joined) journal is p = subst P (sym is) p
+joined_ok P (Err fault) journal is p = tt
+
+pub joined_err : (Q : SnapFault → Type 0) (r : Result (List Operation) SnapFault) (journal : List Operation)
+    → Joins r journal → Q NoMemory → IfErr r Q
+joined_err Q (Ok joined) journal is q = tt
+joined_err Q (Err fault) journal is q = subst Q (sym is) q
+
+pub joined_both : (P : List Operation → Type 0) (Q : SnapFault → Type 0) (r : Result (List Operation) SnapFault)
+    (journal : List Operation) → Joins r journal → P journal → Q NoMemory → MatchResult r P Q
+joined_both P Q (Ok joined) journal is p q = subst P (sym is) p
+joined_both P Q (Err fault) journal is p q = subst Q (sym is) q

@@ -13,7 +13,7 @@ use super::fault::SnapFault;
 use super::progress::Progress;
 use byte_ends::Lines;
 use memchr::memchr;
-use replica_core::Replica;
+use replica_core::Gathering;
 use std::alloc::Global;
 
 /// How far the text of a snapshot was read, or its first fault, after which nothing more of it is kept.
@@ -24,13 +24,13 @@ pub(super) struct Blocks {
 }
 
 impl Blocks {
-    /// Before the text: operations will arrive after what the replica has.
-    pub(super) fn onto(replica: Replica) -> Blocks
-        ensures read { HasRead replica [] result }
+    /// Before the text: operations will arrive after what was gathered.
+    pub(super) fn onto(gathering: Gathering) -> Blocks
+        ensures read { HasRead gathering [] result }
         ensures count { result.cutter.progress.count ≡ 0 }
     {
         Blocks {
-            cutter: Cutter::onto(replica),
+            cutter: Cutter::onto(gathering),
             fault: None,
         }
     }
@@ -48,11 +48,11 @@ impl Blocks {
         self.fault = self.cutter.take_block(block).err();
     }
 
-    /// The replica to which all operations came, where no byte is left.
-    pub(super) fn end(self) -> Result<Replica, SnapFault>
+    /// All that was gathered, where no byte is left.
+    pub(super) fn end(self) -> Result<Gathering, SnapFault>
         requires { self.cutter.progress.count < 2 ^ 64 - 2 }
-        ensures ok { IfOk result (λ replica. (base : List Operation) → (came : List ℕ) → HasRead base came self
-            → (ops : List Operation) × SaysOperations (lines_of came) ops × (replica ≡ all_arrived base ops)) }
+        ensures ok { IfOk result (λ both. (base : List Operation) → (came : List ℕ) → HasRead base came self
+            → (ops : List Operation) × SaysOperations (lines_of came) ops × (both ≡ all_arrived base ops)) }
         ensures err { IfErr result (λ fault. (base : List Operation) → (came : List ℕ) → HasRead base came self
             → IsFaultIn (lines_of came) fault) }
     {
@@ -73,13 +73,13 @@ pub(super) struct Cutter {
 
 impl Cutter {
     /// Before the text.
-    fn onto(replica: Replica) -> Cutter
-        ensures cut { HasCut replica [] result }
+    fn onto(gathering: Gathering) -> Cutter
+        ensures cut { HasCut gathering [] result }
         ensures count { result.progress.count ≡ 0 }
     {
-        let alloc = replica.allocator();
+        let alloc = gathering.allocator();
         Cutter {
-            progress: Progress::onto(replica),
+            progress: Progress::onto(gathering),
             held: Vec::new(alloc),
         }
     }
@@ -146,11 +146,11 @@ impl Cutter {
         }
     }
 
-    /// The replica to which all operations came: what is held is the last line, which has no LF.
-    fn end(mut self) -> Result<Replica, SnapFault>
+    /// All that was gathered: what is held is the last line, which has no LF.
+    fn end(mut self) -> Result<Gathering, SnapFault>
         requires { self.progress.count < 2 ^ 64 - 2 }
-        ensures ok { IfOk result (λ replica. (base : List Operation) → (came : List ℕ) → HasCut base came self
-            → (ops : List Operation) × SaysOperations (lines_of came) ops × (replica ≡ all_arrived base ops)) }
+        ensures ok { IfOk result (λ both. (base : List Operation) → (came : List ℕ) → HasCut base came self
+            → (ops : List Operation) × SaysOperations (lines_of came) ops × (both ≡ all_arrived base ops)) }
         ensures err { IfErr result (λ fault. (base : List Operation) → (came : List ℕ) → HasCut base came self
             → IsFaultIn (lines_of came) fault) }
     {

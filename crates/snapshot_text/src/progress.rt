@@ -12,7 +12,7 @@ ghost use Rattle.snapshot_text.specs.Snapshot.{IsHeader, SaysOperations};
 use super::end_line::claimed;
 use super::fault::SnapFault;
 use op_text::{OpTextFault, read_op};
-use replica_core::{Gathering, Replica};
+use replica_core::Gathering;
 use std::alloc::Global;
 
 /// Which line comes next.
@@ -35,13 +35,13 @@ pub(super) struct Progress {
 }
 
 impl Progress {
-    /// Before the first line: operations will arrive after what the replica has.
-    pub(super) fn onto(replica: Replica) -> Progress
-        ensures taken { HasTaken replica [] result }
+    /// Before the first line: operations will arrive after what was gathered.
+    pub(super) fn onto(gathering: Gathering) -> Progress
+        ensures taken { HasTaken gathering [] result }
         ensures count { result.count ≡ 0 }
     {
         Progress {
-            gathering: Gathering::onto(replica),
+            gathering,
             stage: Stage::Header,
             count: 0,
         }
@@ -67,18 +67,18 @@ impl Progress {
         }
     }
 
-    /// The replica to which all operations came, where no line is left.
-    pub(super) fn end(self) -> Result<Replica, SnapFault>
-        ensures ok { IfOk result (λ replica. (base : List Operation) → (lines : List (List ℕ))
+    /// All that was gathered, where no line is left.
+    pub(super) fn end(self) -> Result<Gathering, SnapFault>
+        ensures ok { IfOk result (λ both. (base : List Operation) → (lines : List (List ℕ))
             → HasTaken base lines self
-            → (ops : List Operation) × SaysOperations lines ops × (replica ≡ all_arrived base ops)) }
+            → (ops : List Operation) × SaysOperations lines ops × (both ≡ all_arrived base ops)) }
         ensures err { IfErr result (λ fault. (base : List Operation) → (lines : List (List ℕ))
             → HasTaken base lines self → IsFaultIn lines fault) }
     {
         match self.stage {
             Stage::Header => Err(SnapFault::BadHeader),
             Stage::Operations => Err(SnapFault::NoEnd),
-            Stage::Ended => joined(self.gathering),
+            Stage::Ended => Ok(self.gathering),
         }
     }
 
@@ -155,15 +155,4 @@ fn is_header(line: &[u8]) -> bool
     ensures { IsTrue result ↔ IsHeader line.now }
 {
     line == b"reviewgate 1".as_slice() || line == b"reviewgate 2".as_slice()
-}
-
-/// The replica to which all came that was taken.
-fn joined(gathering: Gathering) -> Result<Replica, SnapFault>
-    ensures { MatchResult result
-        (λ replica. replica ≡ gathering) (λ fault. fault ≡ SnapFault.NoMemory) }
-{
-    match gathering.joined() {
-        Ok(replica) => Ok(replica),
-        Err(_) => Err(SnapFault::NoMemory),
-    }
 }

@@ -13,7 +13,7 @@ ghost use Rattle.snapshot_text.specs.Snapshot.{Brings, IsOutside, IsRefusedBy, C
 use super::blocks::Blocks;
 use super::fault::SnapFault;
 use byte_ends::Source;
-use replica_core::Replica;
+use replica_core::{Gathering, Replica};
 use std::alloc::Global;
 
 /// The most bytes that a snapshot has: 1 GiB.
@@ -43,14 +43,9 @@ pub fn read_snapshot<S: Source>(alloc: Global, source: &mut S) -> Result<Replica
     read_onto(Replica::new(alloc), source)
 }
 
-/// Reads a snapshot to the end of its source, into a replica that is given up for it: its operations arrive, in the
-/// order of their lines, after what the replica has. Lines may come in any order and be repeated. The first line says
-/// version 1 or 2; the end line has 1 to 20 digits. Refusals, of which the first in line order counts: 1 `BadHeader`,
-/// 2 `BadLine` with the line's number from 1 and the cause, 3 `NoEnd`, 4 `BadCount`, 5 `AfterEnd`; and before any of
-/// them 6 `TooLong`, more than 1,073,741,824 bytes, and 7 `ReadFault`, the source failed; 8 `NoMemory`. So what comes
-/// after a line that is refused is read to its end. Neither the replica nor anything of a refused snapshot is handed
-/// out. It reads up to 64 KiB at once, and holds no more of the text than that and the beginning of a line. It costs
-/// O(n) for n bytes, beside what a gathering's `take` costs for each operation and its `joined` for all.
+/// Reads a snapshot to the end of its source, into a replica that is given up for it, as `gather_onto` does: its operations
+/// arrive, in the order of their lines, after what the replica has, and are joined into its state. It reads and refuses
+/// what that does, and costs what that does and a gathering's `joined`.
 pub fn read_onto<S: Source>(replica: Replica, source: &mut S) -> Result<Replica, SnapFault>
     ensures ok { IfOk result (λ both. Brings (S.left source.old) replica both) }
     ensures err { IfErr result (λ fault. IsRefusedBy (S.left source.old) fault) }
@@ -67,10 +62,40 @@ pub fn read_onto<S: Source>(replica: Replica, source: &mut S) -> Result<Replica,
         (λ _. S.failed source.new ≡ S.failed source.old)
         (CountsSnapFault (S.failed source.old) (S.failed source.new)) }
 {
-    let Ok(mut block) = vec![in replica.allocator(); 0u8; BLOCK] else {
+    match gather_onto(Gathering::onto(replica), source) {
+        Ok(gathering) => joined(gathering),
+        Err(fault) => Err(fault),
+    }
+}
+
+/// Reads a snapshot to the end of its source, into a gathering that is given up for it: its operations arrive, in the
+/// order of their lines, after those of the gathering, and none is joined into a state. Lines may come in any order and be
+/// repeated. The first line says version 1 or 2; the end line has 1 to 20 digits. Refusals, of which the first in line
+/// order counts: 1 `BadHeader`, 2 `BadLine` with the line's number from 1 and the cause, 3 `NoEnd`, 4 `BadCount`,
+/// 5 `AfterEnd`; and before any of them 6 `TooLong`, more than 1,073,741,824 bytes, and 7 `ReadFault`, the source failed;
+/// 8 `NoMemory`. So what comes after a line that is refused is read to its end. Neither the gathering nor anything of a
+/// refused snapshot is handed out. It reads up to 64 KiB at once, and holds no more of the text than that and the beginning
+/// of a line. It costs O(n) for n bytes, beside what a gathering's `take` costs for each operation.
+pub fn gather_onto<S: Source>(gathering: Gathering, source: &mut S) -> Result<Gathering, SnapFault>
+    ensures ok { IfOk result (λ both. Brings (S.left source.old) gathering both) }
+    ensures err { IfErr result (λ fault. IsRefusedBy (S.left source.old) fault) }
+
+    // What says operations is read.
+    ensures only { (text : List ℕ) → (ops : List Operation)
+        → S.left source.old ≡ Some text → SaysOperations (lines_of text) ops
+        → MatchResult result (λ both. both ≡ all_arrived gathering ops) IsOutside }
+
+    // Unless it is refused for another reason than its text, it was read to its end.
+    ensures end { MatchResult result (λ _. IsAtEnd (S.left source.new))
+        (λ fault. IsOutside fault ⊎ IsAtEnd (S.left source.new)) }
+    ensures counted { MatchResult result
+        (λ _. S.failed source.new ≡ S.failed source.old)
+        (CountsSnapFault (S.failed source.old) (S.failed source.new)) }
+{
+    let Ok(mut block) = vec![in gathering.allocator(); 0u8; BLOCK] else {
         return Err(SnapFault::NoMemory);
     };
-    let mut blocks = Blocks::onto(replica);
+    let mut blocks = Blocks::onto(gathering);
     let mut seen = 0usize;
     while seen <= SNAPSHOT_LIMIT {
         match read_block(source, block.as_mut_slice(), &mut blocks)? {
@@ -136,7 +161,21 @@ pub fn snapshot_onto(replica: Replica, text: &[u8]) -> Result<Replica, SnapFault
         → MatchResult result
         (λ both. both ≡ all_arrived replica ops) (λ fault. fault ≡ SnapFault.NoMemory) }
 {
-    let mut blocks = Blocks::onto(replica);
+    let mut blocks = Blocks::onto(Gathering::onto(replica));
     blocks.take_block(text);
-    blocks.end()
+    match blocks.end() {
+        Ok(gathering) => joined(gathering),
+        Err(fault) => Err(fault),
+    }
+}
+
+/// The replica of all that was gathered.
+fn joined(gathering: Gathering) -> Result<Replica, SnapFault>
+    ensures { MatchResult result
+        (λ replica. replica ≡ gathering) (λ fault. fault ≡ SnapFault.NoMemory) }
+{
+    match gathering.joined() {
+        Ok(replica) => Ok(replica),
+        Err(_) => Err(SnapFault::NoMemory),
+    }
 }

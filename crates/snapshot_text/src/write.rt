@@ -5,6 +5,7 @@ ghost use Rattle.std.specs.Io.KnownBytes.{Appends};
 ghost use Rattle.byte_ends.specs.Lines.{lines_of};
 ghost use Rattle.review_ops.specs.Operation.{Operation};
 ghost use Rattle.replica_core.specs.InOrder.{IsInOrderOf};
+ghost use Rattle.replica_core.specs.Journal.{AreApart};
 ghost use Rattle.snapshot_text.specs.Snapshot.{SaysOperations, snapshot_text, CountsWriteFault};
 
 use super::fault::WriteSnapFault;
@@ -12,7 +13,7 @@ use super::laws::snapshots_say_their_operations;
 use byte_ends::{Drain, write_all};
 use lattice_core::NoMemory;
 use op_text::append_op;
-use replica_core::Replica;
+use replica_core::{Gathering, Replica};
 use review_ops::Op;
 use std::alloc::Global;
 
@@ -39,17 +40,61 @@ pub fn write_snapshot<D: Drain>(
         (λ _. D.failed drain.new ≡ D.failed drain.old)
         (CountsWriteFault (D.failed drain.old) (D.failed drain.new)) }
 {
-    let ops = in_order(alloc, replica)?;
+    write_ops(alloc, replica.as_slice(), drain)
+}
+
+/// Writes the snapshot of what was gathered, as `write_snapshot` writes that of a replica.
+pub fn write_gathered<D: Drain>(
+    alloc: Global,
+    gathering: &Gathering,
+    drain: &mut D,
+) -> Result<(), WriteSnapFault>
+    // What was written says these operations when it is read.
+    ensures ok { OnOk result ((ops : List Operation) × IsInOrderOf gathering.now ops
+        × Appends (D.taken drain.old) (D.taken drain.new) (snapshot_text ops)
+        × SaysOperations (lines_of (snapshot_text ops)) ops) }
+    // Some prefix of the text was taken, not all.
+    ensures cut { IsErrOf result WriteSnapFault.WriteFault
+        → (ops : List Operation) × IsInOrderOf gathering.now ops
+        × (count : ℕ) × (count < length (snapshot_text ops))
+        × Appends (D.taken drain.old) (D.taken drain.new) (take count (snapshot_text ops)) }
+    ensures unwritten { IsErrOf result WriteSnapFault.NoMemory → D.taken drain.new ≡ D.taken drain.old }
+    ensures counted { MatchResult result
+        (λ _. D.failed drain.new ≡ D.failed drain.old)
+        (CountsWriteFault (D.failed drain.old) (D.failed drain.new)) }
+{
+    write_ops(alloc, gathering.as_slice(), drain)
+}
+
+/// Writes the snapshot of the operations of a journal, as `write_snapshot` does.
+fn write_ops<D: Drain>(alloc: Global, journal: &[Op], drain: &mut D) -> Result<(), WriteSnapFault>
+    requires { AreApart journal.now }
+    // What was written says these operations when it is read.
+    ensures ok { OnOk result ((ops : List Operation) × IsInOrderOf journal.now ops
+        × Appends (D.taken drain.old) (D.taken drain.new) (snapshot_text ops)
+        × SaysOperations (lines_of (snapshot_text ops)) ops) }
+    // Some prefix of the text was taken, not all.
+    ensures cut { IsErrOf result WriteSnapFault.WriteFault
+        → (ops : List Operation) × IsInOrderOf journal.now ops
+        × (count : ℕ) × (count < length (snapshot_text ops))
+        × Appends (D.taken drain.old) (D.taken drain.new) (take count (snapshot_text ops)) }
+    ensures unwritten { IsErrOf result WriteSnapFault.NoMemory → D.taken drain.new ≡ D.taken drain.old }
+    ensures counted { MatchResult result
+        (λ _. D.failed drain.new ≡ D.failed drain.old)
+        (CountsWriteFault (D.failed drain.old) (D.failed drain.new)) }
+{
+    let ops = in_order(alloc, journal)?;
     let text = text_of(alloc, &ops)?;
     write_all(drain, &text)?;
     Ok(())
 }
 
-/// References to the operations of a replica, in their order.
-fn in_order(alloc: Global, replica: &Replica) -> Result<Vec<&Op>, NoMemory>
-    ensures { IfOk result (λ sorted. IsInOrderOf replica.now (map (λ op. op.now) sorted.items)) }
+/// References to the operations of a journal, in their order.
+fn in_order(alloc: Global, journal: &[Op]) -> Result<Vec<&Op>, NoMemory>
+    requires { AreApart journal.now }
+    ensures { IfOk result (λ sorted. IsInOrderOf journal.now (map (λ op. op.now) sorted.items)) }
 {
-    let mut sorted = references(alloc, replica.as_slice())?;
+    let mut sorted = references(alloc, journal)?;
     sorted.sort_unstable();
     Ok(sorted)
 }

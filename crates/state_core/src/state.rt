@@ -50,6 +50,16 @@ impl<A: Allocator + Copy> State<A> {
         join_effect(&mut self.changes, self.alloc, op)
     }
 
+    /// Joins the effect of an operation into the state of its change, as `take` does, and keeps the texts of the operation
+    /// itself. Where memory is refused nothing changes but that the operation is dropped. It costs what `take` costs but
+    /// for the copies of texts.
+    pub fn consume(&mut self, op: Op<A>) -> Result<(), NoMemory>
+        ensures ok { OnOk result (self.new ≡ with_effect self.old op) }
+        ensures err { OnErr result (self.new ≡ self.old) }
+    {
+        consume_effect(&mut self.changes, self.alloc, op)
+    }
+
     /// The state of a change, if an operation is on it. In O(log n) for n changes, as `is_known` and `is_merged`.
     pub fn change(&self, number: u32) -> Option<&ChangeState<A>>
         ensures { option_copied result ≡ get self.now number }
@@ -150,5 +160,23 @@ fn join_effect<A: Allocator + Copy>(
     }
     let mut change = ChangeState::new(alloc);
     change.take(op)?;
+    changes.put(number, change)
+}
+
+/// Joins the effect of an operation into the state of its change, with the operation's texts.
+fn consume_effect<A: Allocator + Copy>(
+    changes: &mut JoinMap<u32, ChangeState<A>, A>,
+    alloc: A,
+    op: Op<A>,
+) -> Result<(), NoMemory>
+    ensures ok { OnOk result (state_shown changes.new ≡ with_effect (state_shown changes.old) op) }
+    ensures err { OnErr result (state_shown changes.new ≡ state_shown changes.old) }
+{
+    let number = op.body().change();
+    if let Some(change) = changes.get_mut(&number) {
+        return change.consume(op);
+    }
+    let mut change = ChangeState::new(alloc);
+    change.consume(op)?;
     changes.put(number, change)
 }

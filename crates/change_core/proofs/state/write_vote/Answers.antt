@@ -1,4 +1,4 @@
-use Rattle.std.proofs.Common.{◌∙◌, ap, ap₂, w8}
+use Rattle.std.proofs.Common.{◌∙◌, ap, w8}
 use Rattle.std.specs.Ordering.{ord_max}
 use Rattle.std.proofs.lemmas.Int.{to_z-of_z}
 use Rattle.std.proofs.lemmas.Result.{on_ok_weaker}
@@ -9,9 +9,6 @@ use Rattle.change_core.proofs.state.write_vote.Goals as goal
 
 pub returns-clause-ok : goal.returns-clause-ok
 returns-clause-ok g c =
-    let slot = ap₂ (λ l v. record { set = c.args.set; label = l; voter = v }) c.in_ok-label.ensures c.in_ok-voter.ensures in
     let written = c.new.ensures ∙ ap (λ v. (c.args.stamp, v)) (to_z-of_z w8 c.args.value c.ranges.value) in
-    on_ok_weaker c.join_at.result (λ e. e ∙ ap₂ (put_joined (ord_max vote_order) (votes_shown c.args.votes.now)) slot written) c.join_at.ensures.ok
-
-pub returns-clause-err : goal.returns-clause-err
-returns-clause-err g c = c.join_at.ensures.unchanged tt
+    on_ok_weaker c.join_at.result
+    (λ e. e ∙ ap (put_joined (ord_max vote_order) (votes_shown c.args.votes.now) _) written) c.join_at.ensures.ok

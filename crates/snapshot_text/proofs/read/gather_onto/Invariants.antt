@@ -2,7 +2,7 @@ use Rattle.std.proofs.Common.{◌≡◌, ◌≤◌, ◌+◌, ◌-◌, List, ℕ,
 use Rattle.std.specs.Io.KnownBytes.{Consumes}
 use Rattle.snapshot_text.specs.Snapshot.{most_bytes}
 use Rattle.snapshot_text.specs.Progress.{HasRead}
-use Rattle.snapshot_text.proofs.read.read_onto.Given as goal
+use Rattle.snapshot_text.proofs.read.gather_onto.Given as goal
 
 -- what came was read, and no read failed
 abbrev pub invariant-loop-seen : goal.invariant-loop-seen
@@ -10,7 +10,7 @@ invariant-loop-seen g l = record {
   came : List ℕ;
   read : Consumes (g.S.Source.left l.initial.source) (g.S.Source.left l.source) came;
   seen : l.seen ≡ length came;
-  has : HasRead l.fn.replica came l.blocks;
+  has : HasRead l.fn.gathering came l.blocks;
   few : l.blocks.cutter.progress.count ≤ l.seen;
   most : l.seen ≤ most_bytes + 65536;
   some : vec_len l.block ≡ 65536;

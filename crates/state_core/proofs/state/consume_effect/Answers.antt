@@ -1,0 +1,43 @@
+use Rattle.std.proofs.Common.{◌∙◌, ap, refl, subst}
+use Rattle.std.proofs.lemmas.Result.{on_ok_weaker, on_err_weaker}
+use Rattle.std.specs.Prelude.{IsSome}
+use Rattle.std.specs.FinMap.{insert}
+use Rattle.review_ops.specs.Deed.{change_of}
+use Rattle.change_core.specs.Change.{change_joined, effect_of}
+use Rattle.state_core.specs.State.{state_shown}
+use Rattle.state_core.proofs.Joining.{effect_in_place, effect_added, unchanged_in_place}
+use Rattle.state_core.proofs.state.consume_effect.Goals as goal
+
+pub returns-in-Some-clause-ok : goal.returns-in-Some-clause-ok
+returns-in-Some-clause-ok g c =
+    let old = state_shown c.args.changes.now in
+    let new = c.consume.new.self in
+    let shown = c.get_mut.follows.holds new (subst IsSome c.in-Some.ensures.value refl) in
+    on_ok_weaker c.consume.result
+    (λ e. effect_in_place old _ c.args.op c.change-number.result c.in-Some.change.now new (c.change-number.ensures.value ∙ ap change_of c.body.ensures.value) c.in-Some.ensures.value e shown)
+    c.consume.ensures.ok
+
+pub returns-in-Some-clause-err : goal.returns-in-Some-clause-err
+returns-in-Some-clause-err g c =
+    let old = state_shown c.args.changes.now in
+    let new = c.consume.new.self in
+    let shown = c.get_mut.follows.holds new (subst IsSome c.in-Some.ensures.value refl) in
+    on_err_weaker c.consume.result
+    (λ e. unchanged_in_place old _ c.change-number.result c.in-Some.change.now new c.in-Some.ensures.value e shown)
+    c.consume.ensures.err
+
+pub returns-clause-ok : goal.returns-clause-ok
+returns-clause-ok g c =
+    let old = state_shown c.args.changes.now in
+    let number = c.change-number.result in
+    let new = c.consume-2.new.self in
+    let none = c.get_mut.follows.holds-at-none in
+    on_ok_weaker c.put.result
+    (λ e. effect_added old _ c.args.op number new (c.change-number.ensures.value ∙ ap change_of c.body.ensures.value) c.in_default.ensures.value
+    (c.in_ok-consume.ensures.ok ∙ ap (λ was. change_joined was (effect_of c.args.op)) c.new-change.ensures)
+    (e ∙ ap (λ m. insert (state_shown m) number new) none))
+    c.put.ensures.ok
+
+pub returns-clause-err : goal.returns-clause-err
+returns-clause-err g c =
+    on_err_weaker c.put.result (λ e. ap state_shown (e ∙ c.get_mut.follows.holds-at-none)) c.put.ensures.err
