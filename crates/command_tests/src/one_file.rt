@@ -5,9 +5,9 @@ ghost use Rattle.std.specs.Prelude.{[], ◌∷◌, decimal};
 use byte_ends::{Broken, BytesFault, Ends};
 use console::{Named, PullFault};
 use gossip_line::LineFault;
-use replica_core::Replica;
+use replica_core::Gathering;
 use site_address::Address;
-use snapshot_text::{SnapFault, read_onto};
+use snapshot_text::{SnapFault, gather_onto};
 use std::alloc::Global;
 
 /// The only file that is there.
@@ -40,9 +40,9 @@ impl Named for OneFile<'_> {
         }
     }
 
-    fn read_snapshot(&mut self, replica: Replica, name: &str) -> Result<Replica, SnapFault> {
+    fn read_snapshot(&mut self, gathering: Gathering, name: &str) -> Result<Gathering, SnapFault> {
         let answer = if name == self.name {
-            read_onto(replica, &mut Ends::new(self.text))
+            gather_onto(gathering, &mut Ends::new(self.text))
         } else {
             Err(SnapFault::ReadFault)
         };
@@ -52,7 +52,11 @@ impl Named for OneFile<'_> {
         answer
     }
 
-    fn pull(&mut self, _replica: Replica, _address: Address<'_>) -> Result<Replica, PullFault> {
+    fn pull(
+        &mut self,
+        _gathering: Gathering,
+        _address: Address<'_>,
+    ) -> Result<Gathering, PullFault> {
         Err(PullFault::Unreachable)
     }
 
@@ -81,16 +85,20 @@ impl Named for BrokenFile<'_> {
         Err(BytesFault::ReadFault)
     }
 
-    fn read_snapshot(&mut self, replica: Replica, _name: &str) -> Result<Replica, SnapFault> {
+    fn read_snapshot(&mut self, gathering: Gathering, _name: &str) -> Result<Gathering, SnapFault> {
         let mut source = Broken::before_byte(Ends::new(self.text), self.byte);
-        let answer = read_onto(replica, &mut source);
+        let answer = gather_onto(gathering, &mut source);
         if matches!(&answer, Err(SnapFault::ReadFault)) {
             self.failures = self.failures.saturating_add(1);
         }
         answer
     }
 
-    fn pull(&mut self, _replica: Replica, _address: Address<'_>) -> Result<Replica, PullFault> {
+    fn pull(
+        &mut self,
+        _gathering: Gathering,
+        _address: Address<'_>,
+    ) -> Result<Gathering, PullFault> {
         Err(PullFault::Unreachable)
     }
 
@@ -120,16 +128,20 @@ impl Named for OneSite<'_> {
         Err(BytesFault::ReadFault)
     }
 
-    fn read_snapshot(&mut self, _replica: Replica, _name: &str) -> Result<Replica, SnapFault> {
+    fn read_snapshot(
+        &mut self,
+        _gathering: Gathering,
+        _name: &str,
+    ) -> Result<Gathering, SnapFault> {
         self.failures = self.failures.saturating_add(1);
         Err(SnapFault::ReadFault)
     }
 
-    fn pull(&mut self, replica: Replica, address: Address<'_>) -> Result<Replica, PullFault> {
+    fn pull(&mut self, gathering: Gathering, address: Address<'_>) -> Result<Gathering, PullFault> {
         if address != Address::Port(self.port) {
             return Err(PullFault::Unreachable);
         }
-        match read_onto(replica, &mut Ends::new(self.record)) {
+        match gather_onto(gathering, &mut Ends::new(self.record)) {
             Ok(both) => Ok(both),
             Err(_) => Err(PullFault::Failed(LineFault::BadAnswer)),
         }

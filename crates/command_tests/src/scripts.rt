@@ -5,7 +5,7 @@ ghost use Rattle.std.specs.Prelude.{[]};
 use super::program::run_words;
 use byte_ends::{Broken, BytesFault, Ends};
 use console::{Named, PullFault};
-use replica_core::Replica;
+use replica_core::Gathering;
 use site_address::Address;
 use snapshot_text::SnapFault;
 use std::alloc::Global;
@@ -30,12 +30,20 @@ impl Named for NoFiles {
         Err(BytesFault::ReadFault)
     }
 
-    fn read_snapshot(&mut self, _replica: Replica, _name: &str) -> Result<Replica, SnapFault> {
+    fn read_snapshot(
+        &mut self,
+        _gathering: Gathering,
+        _name: &str,
+    ) -> Result<Gathering, SnapFault> {
         self.failures = self.failures.saturating_add(1);
         Err(SnapFault::ReadFault)
     }
 
-    fn pull(&mut self, _replica: Replica, _address: Address<'_>) -> Result<Replica, PullFault> {
+    fn pull(
+        &mut self,
+        _gathering: Gathering,
+        _address: Address<'_>,
+    ) -> Result<Gathering, PullFault> {
         Err(PullFault::Unreachable)
     }
 

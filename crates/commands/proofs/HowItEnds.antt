@@ -24,7 +24,8 @@ pub nothing_printed : (old : ConsoleState) → IsPrinted [] old old
 nothing_printed old = record { whole = appends_nothing old.printed; after = refl }
 
 -- memory was refused before anything was printed
-pub stops : (IsSo : List ℕ → Type 0) (old : ConsoleState) → Finishes (IsPrintedWhole IsSo MissesNone) old old (Err Memory)
+pub stops : {IsMissing : ℕ → Option ℕ → Type 0} (IsSo : List ℕ → Type 0) (old : ConsoleState)
+    → Finishes (IsPrintedWhole IsSo IsMissing) old old (Err Memory)
 stops IsSo old = inl ([], (refl, refl), nothing_printed old)
 
 -- an answer that is so is so in another way

@@ -7,12 +7,13 @@ ghost use Rattle.state_core.specs.State.{state_of};
 ghost use Rattle.commands.specs.Answers.{EndsChecked, IsCheckText, IsRecordHad, check_as};
 ghost use Rattle.commands.specs.Ending.{Ends, Finishes};
 
+use super::record::state_from;
 use command_line::Command;
 use console::{Console, Refusal, read_gate, read_record};
 use gate_check::{CheckedLine, check_gate, check_line};
 use gate_rules::Gate;
 use lattice_core::NoMemory;
-use replica_core::Replica;
+use replica_core::Gathering;
 use state_core::State;
 use std::alloc::Global;
 use std::mem::ManuallyDrop;
@@ -34,16 +35,10 @@ pub fn check<'n, C: Console>(
 {
     let rules = read_gate(alloc, gate, console)?;
     let record = read_any_record(alloc, snapshot, console)?;
-    let ended = print_check(
-        alloc,
-        &rules,
-        state_in(&record),
-        is_strict,
-        is_json,
-        console,
-    );
+    let state = state_in(record)?;
+    let ended = print_check(alloc, &rules, state.as_ref(), is_strict, is_json, console);
     // The program ends now, and the record's memory goes with it.
-    let _kept = ManuallyDrop::new(record);
+    let _kept = ManuallyDrop::new(state);
     ended
 }
 
@@ -52,7 +47,7 @@ fn read_any_record<'n, C: Console>(
     alloc: Global,
     name: Option<&'n str>,
     console: &mut C,
-) -> Result<Option<Replica>, Refusal<'n>>
+) -> Result<Option<Gathering>, Refusal<'n>>
     ensures had { IfOk result (λ read. IsRecordHad (option_map (λ snapshot. snapshot.now) name.entry)
         (option_map state_of read) (C.state console.old) (C.state console.new)) }
     ensures refused { IfErr result (λ refusal. IsSomeAnd name.entry (λ snapshot.
@@ -61,17 +56,18 @@ fn read_any_record<'n, C: Console>(
     let Some(name) = name else {
         return Ok(None);
     };
-    let record = read_record(Replica::new(alloc), name, console)?;
+    let record = read_record(Gathering::new(alloc), name, console)?;
     Ok(Some(record))
 }
 
 /// The state of a record, where there is one.
-fn state_in(replica: &Option<Replica>) -> Option<&State>
-    ensures { option_map (λ state. state.now) result ≡ option_map state_of replica.now }
+fn state_in(read: Option<Gathering>) -> Result<Option<State>, Refusal<'static>>
+    ensures state { IfOk result (λ state. state ≡ option_map state_of read) }
+    ensures refused { IfErr result (λ refusal. refusal ≡ Refusal.Memory) }
 {
-    match replica {
-        Some(replica) => Some(replica.state()),
-        None => None,
+    match read {
+        Some(gathering) => Ok(Some(state_from(gathering)?)),
+        None => Ok(None),
     }
 }
 

@@ -5,11 +5,12 @@ ghost use Rattle.graph_text.specs.Drawing.{IsGraphText};
 ghost use Rattle.commands.specs.Answers.{HasAround, IsRefusedAround};
 ghost use Rattle.commands.specs.Ending.{Ends};
 
+use super::record::state_from;
 use command_line::Command;
 use console::{Console, Refusal, read_gate, read_record};
 use gate_rules::Gate;
 use graph_text::graph_text;
-use replica_core::Replica;
+use replica_core::Gathering;
 use state_core::State;
 use std::alloc::Global;
 use std::mem::ManuallyDrop;
@@ -29,10 +30,11 @@ pub fn graph<'n, C: Console>(
         (C.state console.old) (C.state console.new) result }
 {
     let rules = read_gate(alloc, gate, console)?;
-    let replica = read_record(Replica::new(alloc), snapshot, console)?;
-    let picture = picture_of(alloc, &rules, replica.state(), around);
+    let gathering = read_record(Gathering::new(alloc), snapshot, console)?;
+    let state = state_from(gathering)?;
+    let picture = picture_of(alloc, &rules, &state, around);
     // The program ends now, and the record's memory goes with it.
-    let _kept = ManuallyDrop::new(replica);
+    let _kept = ManuallyDrop::new(state);
     match picture {
         Ok(text) => console.print(text.as_bytes()),
         Err(refusal) => Err(refusal),

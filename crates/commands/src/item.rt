@@ -11,12 +11,13 @@ ghost use Rattle.why_text.specs.Asked.{IsItemAsked};
 ghost use Rattle.commands.specs.Answers.{EndsItem, IsItemPrinted, IsLeftSo, IsStanding, StandsSo, out_as, ready_as};
 ghost use Rattle.commands.specs.Ending.{Ends, Finishes};
 
+use super::record::state_from;
 use command_line::Command;
 use console::{Console, Refusal, read_gate, read_record};
 use gate_rules::Gate;
 use lattice_core::NoMemory;
 use ready_core::{Left, Verdicts, evaluate, place_out};
-use replica_core::Replica;
+use replica_core::Gathering;
 use report_json::{out_item_line, ready_item_line};
 use report_text::{Page, add_item, add_out};
 use state_core::{Item, State};
@@ -48,18 +49,11 @@ pub fn ready_item<'n, C: Console>(
         (C.state console.old) (C.state console.new) result }
 {
     let rules = read_gate(alloc, gate, console)?;
-    let replica = read_record(Replica::new(alloc), snapshot, console)?;
-    let printed = print_item(
-        alloc,
-        &rules,
-        replica.state(),
-        change,
-        set,
-        is_json,
-        console,
-    );
+    let gathering = read_record(Gathering::new(alloc), snapshot, console)?;
+    let state = state_from(gathering)?;
+    let printed = print_item(alloc, &rules, &state, change, set, is_json, console);
     // The program ends now, and the record's memory goes with it.
-    let _kept = ManuallyDrop::new(replica);
+    let _kept = ManuallyDrop::new(state);
     printed
 }
 

@@ -27,6 +27,7 @@ mod graph;
 mod item;
 mod merge;
 mod ready;
+mod record;
 mod run;
 mod simulate;
 mod why;

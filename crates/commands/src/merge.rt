@@ -4,12 +4,12 @@ ghost use Rattle.commands.specs.Ending.{Ends};
 
 use command_line::Command;
 use console::{Console, Refusal, read_record};
-use replica_core::{Replica, operations_arrive_as_a_set};
+use replica_core::{Gathering, operations_arrive_as_a_set};
 use std::alloc::Global;
 use std::mem::ManuallyDrop;
 
-/// Prints the snapshot of two together: of the operations of either, each once. The second is read into the replica of
-/// the first, so that one journal and one state are held. Refusals: those of the first snapshot, then of the second;
+/// Prints the snapshot of two together: of the operations of either, each once. The second is read into the journal of
+/// the first, so that one journal is held, and no state. Refusals: those of the first snapshot, then of the second;
 /// `Memory`, memory was refused once both were read; `Output`. It costs what reading both costs, and what writing
 /// costs.
 pub fn merge<'n, C: Console>(
@@ -21,8 +21,8 @@ pub fn merge<'n, C: Console>(
     ensures { Ends (Command.Merge first.entry second.entry) (C.state console.old) (C.state console.new) result }
 {
     operations_arrive_as_a_set();
-    let replica = read_record(Replica::new(alloc), first, console)?;
-    let both = read_record(replica, second, console)?;
+    let gathering = read_record(Gathering::new(alloc), first, console)?;
+    let both = read_record(gathering, second, console)?;
     let printed = console.print_snapshot(alloc, &both);
     // The program ends now, and the record's memory goes with it.
     let _kept = ManuallyDrop::new(both);

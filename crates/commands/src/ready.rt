@@ -4,10 +4,11 @@ ghost use Rattle.std.specs.Prelude.{◌≡◌, true, false};
 ghost use Rattle.commands.specs.Answers.{IsPrintedWhole, MissesNone, report_as};
 ghost use Rattle.commands.specs.Ending.{Ends, Finishes};
 
+use super::record::state_from;
 use command_line::Command;
 use console::{Console, Refusal, read_gate, read_record};
 use ready_core::{Verdicts, evaluate};
-use replica_core::Replica;
+use replica_core::Gathering;
 use report_json::report_line;
 use std::alloc::Global;
 use std::mem::ManuallyDrop;
@@ -26,14 +27,14 @@ pub fn ready<'n, C: Console>(
         (C.state console.new) result }
 {
     let rules = read_gate(alloc, gate, console)?;
-    let replica = read_record(Replica::new(alloc), snapshot, console)?;
-    let Ok(verdicts) = evaluate(alloc, replica.state(), &rules) else {
+    let gathering = read_record(Gathering::new(alloc), snapshot, console)?;
+    let state = state_from(gathering)?;
+    let Ok(verdicts) = evaluate(alloc, &state, &rules) else {
         return Err(Refusal::Memory);
     };
     let printed = print_verdicts(alloc, &verdicts, is_json, console);
-    // The program ends now, and the record's memory goes with it: giving back each operation takes a seventh of the
-    // whole time.
-    let _kept = ManuallyDrop::new(replica);
+    // The program ends now, and the record's memory goes with it: giving back each text costs time.
+    let _kept = ManuallyDrop::new(state);
     printed
 }
 

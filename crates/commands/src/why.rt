@@ -9,11 +9,12 @@ ghost use Rattle.why_text.specs.Asked.{IsItemAsked};
 ghost use Rattle.commands.specs.Answers.{IsWhyAnswer, IsReasonAs, IsReasonFor, IsReasonText, TellsMore};
 ghost use Rattle.commands.specs.Ending.{Ends};
 
+use super::record::state_from;
 use command_line::Command;
 use console::{Console, GateFile, Refusal, read_gate_file, read_record};
 use lattice_core::NoMemory;
 use ready_core::{Verdicts, evaluate};
-use replica_core::Replica;
+use replica_core::Gathering;
 use report_json::why_line;
 use state_core::{Item, State};
 use std::alloc::Global;
@@ -39,10 +40,11 @@ pub fn why<'n, C: Console>(
         (C.state console.old) (C.state console.new) result }
 {
     let file = read_gate_file(alloc, gate, console)?;
-    let replica = read_record(Replica::new(alloc), snapshot, console)?;
-    let reason = reason_of(alloc, &file, replica.state(), change, set, is_all, is_json);
+    let gathering = read_record(Gathering::new(alloc), snapshot, console)?;
+    let state = state_from(gathering)?;
+    let reason = reason_of(alloc, &file, &state, change, set, is_all, is_json);
     // The program ends now, and the record's memory goes with it.
-    let _kept = ManuallyDrop::new(replica);
+    let _kept = ManuallyDrop::new(state);
     match reason {
         Ok(text) => console.print(text.as_slice()),
         Err(refusal) => Err(refusal),

@@ -1,6 +1,6 @@
 -- A snapshot on the input that is refused, as an input of a command.
 use Rattle.std.proofs.Common.{◌≡◌, ◌∙◌, ℕ, true, cond, List, [], Option, Some, Result, Ok, Err}
-use Rattle.std.proofs.Common.{refl, sym, ap, subst, inl, inr}
+use Rattle.std.proofs.Common.{arith, refl, sym, ap, subst, inl, inr}
 use Rattle.std.specs.Prelude.{IfErr, MatchResult}
 use Rattle.byte_ends.specs.Failures.{OneFailed}
 use Rattle.byte_ends.specs.declared.faults.BytesFault.TheVariants as bytes
@@ -58,3 +58,13 @@ module _ (name : List ℕ) (old : ConsoleState) (failed : ℕ) (is : is_input na
       let contents : known ≡ contents_of name old =
       left ∙ sym (ap (λ t. cond t old.left (file_of old.files name)) is) in
       refused fault (subst (λ k. IsRefusedBy k fault) contents by) counts
+
+-- an input that is spent has no header
+pub spent_refused : (name : List ℕ) (old : ConsoleState) → is_input name ≡ true → Some [] ≡ old.left
+    → IsRefused (input snapshot_file name) old old (Snapshot BadHeader)
+spent_refused name old is none =
+    let says : IsRefusedBy (Some []) BadHeader =
+    ([], record { same = refl; within = omega arith }, λ first rest e. cc) in
+    let by : Result (Unit {0}) SnapFault = Err BadHeader in
+    subst (λ l. IsRefused (input snapshot_file name) old (record old { left = l }) (Snapshot BadHeader)) none
+    (input_refused name old old.input_failed is by (Some []) none says refl)

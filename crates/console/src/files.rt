@@ -9,7 +9,7 @@ ghost use Rattle.console.specs.Pulls.{BringsRecord, IsPullFault};
 
 use super::pulls::PullFault;
 use byte_ends::BytesFault;
-use replica_core::Replica;
+use replica_core::Gathering;
 use site_address::Address;
 use snapshot_text::SnapFault;
 
@@ -37,11 +37,11 @@ pub trait Named {
         ensures sites { sites self.new ≡ sites self.old }
         ensures counted { CountsRead (failed self.old) (failed self.new) result };
 
-    /// The replica to which the operations of the snapshot in the file of a name came, after those that it has. The
-    /// text is read in blocks. The refusals and costs are those of `snapshot_text::read_onto`; 7 `ReadFault` also where
+    /// The gathering to which the operations of the snapshot in the file of a name came, after those that it has. The
+    /// text is read in blocks. The refusals and costs are those of `snapshot_text::gather_onto`; 7 `ReadFault` also where
     /// the file can't be opened.
-    fn read_snapshot(&mut self, replica: Replica, name: &str) -> Result<Replica, SnapFault>
-        ensures ok { IfOk result (λ both. Brings (file_of (files self.old) name.now) replica both) }
+    fn read_snapshot(&mut self, gathering: Gathering, name: &str) -> Result<Gathering, SnapFault>
+        ensures ok { IfOk result (λ both. Brings (file_of (files self.old) name.now) gathering both) }
         ensures err { IfErr result (λ fault. IsRefusedBy (file_of (files self.old) name.now) fault) }
         ensures kept { files self.new ≡ files self.old }
         ensures sites { sites self.new ≡ sites self.old }
@@ -49,11 +49,11 @@ pub trait Named {
             (λ _. failed self.new ≡ failed self.old)
             (CountsSnapFault (failed self.old) (failed self.new)) };
 
-    /// The replica to which the operations of the record of the running site at an address of this machine came, after
+    /// The gathering to which the operations of the record of the running site at an address of this machine came, after
     /// those that it has. Refusals: those of a pull, but for `Closed`; 8 `Unreachable`; 10 `NoEnd`, the site says again
     /// and again that more is left. It is no call of a file.
-    fn pull(&mut self, replica: Replica, address: Address<'_>) -> Result<Replica, PullFault>
-        ensures ok { IfOk result (λ both. BringsRecord (record_at (sites self.old) address.entry) replica both) }
+    fn pull(&mut self, gathering: Gathering, address: Address<'_>) -> Result<Gathering, PullFault>
+        ensures ok { IfOk result (λ both. BringsRecord (record_at (sites self.old) address.entry) gathering both) }
         ensures err { IfErr result IsPullFault }
         ensures kept { files self.new ≡ files self.old }
         ensures sites { sites self.new ≡ sites self.old }

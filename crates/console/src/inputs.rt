@@ -15,7 +15,7 @@ use super::addresses::{is_site_name, site_of};
 use super::refusals::Refusal;
 use super::streams::Console;
 use gate_rules::Gate;
-use replica_core::Replica;
+use replica_core::Gathering;
 use std::alloc::Global;
 use std::str;
 
@@ -123,53 +123,53 @@ pub fn read_script<'n, C: Console>(
     Ok(text)
 }
 
-/// The replica to which the operations of the snapshot of a name came, after those that it has. Refusal: `Snapshot`, it
+/// The gathering to which the operations of the snapshot of a name came, after those that it has. Refusal: `Snapshot`, it
 /// isn't read, or says no operations.
 pub fn read_snapshot<'n, C: Console>(
-    replica: Replica,
+    gathering: Gathering,
     name: &'n str,
     console: &mut C,
-) -> Result<Replica, Refusal<'n>>
-    ensures had { IfOk result (λ both. (ops : List Operation) × (both ≡ all_arrived replica ops)
+) -> Result<Gathering, Refusal<'n>>
+    ensures had { IfOk result (λ both. (ops : List Operation) × (both ≡ all_arrived gathering ops)
         × IsHad (input snapshot_file name.now) (λ text. SaysOperations (lines_of text) ops) (C.state console.old)
         (C.state console.new)) }
     ensures refused { IfErr result
         (IsRefused (input snapshot_file name.now) (C.state console.old) (C.state console.new)) }
 {
-    match console.read_snapshot(replica, name) {
+    match console.read_snapshot(gathering, name) {
         Ok(both) => Ok(both),
         Err(fault) => Err(Refusal::Snapshot(fault)),
     }
 }
 
-/// The replica to which the operations of the record of a name came, after those that it has: for `@ADDRESS` the record
+/// The gathering to which the operations of the record of a name came, after those that it has: for `@ADDRESS` the record
 /// of the running site at that address of this machine, for any other name that of a snapshot. Refusals: those of
 /// `read_snapshot`; `NoAddress`, there is no address behind the `@`; `Peer`, the record isn't pulled.
 pub fn read_record<'n, C: Console>(
-    replica: Replica,
+    gathering: Gathering,
     name: &'n str,
     console: &mut C,
-) -> Result<Replica, Refusal<'n>>
-    ensures had { IfOk result (λ both. (ops : List Operation) × (both ≡ all_arrived replica ops)
+) -> Result<Gathering, Refusal<'n>>
+    ensures had { IfOk result (λ both. (ops : List Operation) × (both ≡ all_arrived gathering ops)
         × IsHad (record_input name.now) (λ text. SaysOperations (lines_of text) ops) (C.state console.old)
         (C.state console.new)) }
     ensures refused { IfErr result
         (IsRefused (record_input name.now) (C.state console.old) (C.state console.new)) }
 {
     if is_site_name(name) {
-        pull_record(replica, name, console)
+        pull_record(gathering, name, console)
     } else {
-        read_snapshot(replica, name, console)
+        read_snapshot(gathering, name, console)
     }
 }
 
 /// The same of a name that begins with `@`.
 fn pull_record<'n, C: Console>(
-    replica: Replica,
+    gathering: Gathering,
     name: &'n str,
     console: &mut C,
-) -> Result<Replica, Refusal<'n>>
-    ensures had { IfOk result (λ both. (ops : List Operation) × (both ≡ all_arrived replica ops)
+) -> Result<Gathering, Refusal<'n>>
+    ensures had { IfOk result (λ both. (ops : List Operation) × (both ≡ all_arrived gathering ops)
         × IsHad (input pulled name.now) (λ text. SaysOperations (lines_of text) ops) (C.state console.old)
         (C.state console.new)) }
     ensures refused { IfErr result
@@ -178,7 +178,7 @@ fn pull_record<'n, C: Console>(
     let Some(address) = site_of(name) else {
         return Err(Refusal::NoAddress(name));
     };
-    match console.pull(replica, address) {
+    match console.pull(gathering, address) {
         Ok(both) => Ok(both),
         Err(fault) => Err(Refusal::Peer(fault, address)),
     }

@@ -18,10 +18,10 @@ use super::pulls::PullFault;
 use super::refusals::Refusal;
 use byte_ends::{BytesFault, Drain, Source, read_all, write_all};
 use ready_core::Verdicts;
-use replica_core::Replica;
+use replica_core::Gathering;
 use report_text::{WriteReportFault, write_report};
 use site_address::Address;
-use snapshot_text::{SnapFault, WriteSnapFault, read_onto, write_snapshot};
+use snapshot_text::{SnapFault, WriteSnapFault, gather_onto, write_gathered};
 use std::alloc::Global;
 
 /// What a command reads from and prints to.
@@ -36,21 +36,21 @@ pub trait Console {
         ensures read { IfOk result (λ bytes. IsRead name.now limit (state self.old) (state self.new) bytes.items) }
         ensures unread { IfErr result (IsUnread name.now limit (state self.old) (state self.new)) };
 
-    /// The replica to which the operations of the snapshot of a name came, after those that it has: of the file of the
+    /// The gathering to which the operations of the snapshot of a name came, after those that it has: of the file of the
     /// name, or for `-` of what the input has left. A second `-` has nothing, and so no header. The text is read in
-    /// blocks. The refusals and costs are those of `snapshot_text::read_onto`; 7 `ReadFault` also where the file can't
+    /// blocks. The refusals and costs are those of `snapshot_text::gather_onto`; 7 `ReadFault` also where the file can't
     /// be opened.
-    fn read_snapshot(&mut self, replica: Replica, name: &str) -> Result<Replica, SnapFault>
-        ensures had { IfOk result (λ both. (ops : List Operation) × (both ≡ all_arrived replica ops)
+    fn read_snapshot(&mut self, gathering: Gathering, name: &str) -> Result<Gathering, SnapFault>
+        ensures had { IfOk result (λ both. (ops : List Operation) × (both ≡ all_arrived gathering ops)
             × IsHad (input snapshot_file name.now) (λ text. SaysOperations (lines_of text) ops)
             (state self.old) (state self.new)) }
         ensures refused { IfErr result (λ fault. IsRefused (input snapshot_file name.now)
             (state self.old) (state self.new) (Refusal.Snapshot fault)) };
 
-    /// The replica to which the operations of the record of the running site at an address of this machine came, after
+    /// The gathering to which the operations of the record of the running site at an address of this machine came, after
     /// those that it has. Refusals: those of `Named::pull`.
-    fn pull(&mut self, replica: Replica, address: Address<'_>) -> Result<Replica, PullFault>
-        ensures pulled { IfOk result (λ both. BringsRecord (record_at (state self.old).sites address.entry) replica both) }
+    fn pull(&mut self, gathering: Gathering, address: Address<'_>) -> Result<Gathering, PullFault>
+        ensures pulled { IfOk result (λ both. BringsRecord (record_at (state self.old).sites address.entry) gathering both) }
         ensures unpulled { IfErr result IsPullFault }
         ensures kept { state self.new ≡ state self.old };
 
@@ -62,10 +62,14 @@ pub trait Console {
     fn print_report(&mut self, verdicts: &Verdicts) -> Result<(), Refusal<'static>>
         ensures { Prints (report_of verdicts.now) (state self.old) (state self.new) result };
 
-    /// Prints the snapshot of a replica, as `write_snapshot` writes it. Refusals: `Output`, the output failed;
+    /// Prints the snapshot of what was gathered, as `write_gathered` writes it. Refusals: `Output`, the output failed;
     /// `Memory`, nothing was printed.
-    fn print_snapshot(&mut self, alloc: Global, replica: &Replica) -> Result<(), Refusal<'static>>
-        ensures { PrintsSnapshot replica.now (state self.old) (state self.new) result };
+    fn print_snapshot(
+        &mut self,
+        alloc: Global,
+        gathering: &Gathering,
+    ) -> Result<(), Refusal<'static>>
+        ensures { PrintsSnapshot gathering.now (state self.old) (state self.new) result };
 }
 
 /// A console over a source, a drain and files. The input is spent once it was read.
@@ -107,19 +111,19 @@ impl<'i, 'o, 'f, I: Source, O: Drain, N: Named> Console for Streams<'i, 'o, 'f, 
         read_all(alloc, self.input, limit)
     }
 
-    fn read_snapshot(&mut self, replica: Replica, name: &str) -> Result<Replica, SnapFault> {
+    fn read_snapshot(&mut self, gathering: Gathering, name: &str) -> Result<Gathering, SnapFault> {
         if !is_input(name) {
-            return self.files.read_snapshot(replica, name);
+            return self.files.read_snapshot(gathering, name);
         }
         if self.is_spent {
             return Err(SnapFault::BadHeader);
         }
         self.is_spent = true;
-        read_onto(replica, self.input)
+        gather_onto(gathering, self.input)
     }
 
-    fn pull(&mut self, replica: Replica, address: Address<'_>) -> Result<Replica, PullFault> {
-        self.files.pull(replica, address)
+    fn pull(&mut self, gathering: Gathering, address: Address<'_>) -> Result<Gathering, PullFault> {
+        self.files.pull(gathering, address)
     }
 
     fn print(&mut self, text: &[u8]) -> Result<(), Refusal<'static>> {
@@ -136,8 +140,12 @@ impl<'i, 'o, 'f, I: Source, O: Drain, N: Named> Console for Streams<'i, 'o, 'f, 
         }
     }
 
-    fn print_snapshot(&mut self, alloc: Global, replica: &Replica) -> Result<(), Refusal<'static>> {
-        match write_snapshot(alloc, replica, self.output) {
+    fn print_snapshot(
+        &mut self,
+        alloc: Global,
+        gathering: &Gathering,
+    ) -> Result<(), Refusal<'static>> {
+        match write_gathered(alloc, gathering, self.output) {
             Ok(()) => Ok(()),
             Err(WriteSnapFault::WriteFault) => Err(Refusal::Output),
             Err(WriteSnapFault::NoMemory) => Err(Refusal::Memory),

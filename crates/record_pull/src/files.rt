@@ -7,9 +7,9 @@ use super::connection::pull_from;
 use super::joining::joined;
 use byte_ends::{BytesFault, Ends, read_all};
 use console::{Named, PullFault};
-use replica_core::Replica;
+use replica_core::Gathering;
 use site_address::Address;
-use snapshot_text::{SnapFault, read_onto};
+use snapshot_text::{SnapFault, gather_onto};
 use std::alloc::Global;
 use std::fs;
 use std::net::{Net, TcpStream};
@@ -58,9 +58,9 @@ impl<R: Files + Net<Stream = TcpStream> + Clock + AllocGlobal + Drop> Named for 
         answer
     }
 
-    fn read_snapshot(&mut self, replica: Replica, name: &str) -> Result<Replica, SnapFault> {
+    fn read_snapshot(&mut self, gathering: Gathering, name: &str) -> Result<Gathering, SnapFault> {
         let answer = match fs::open(&self.rt, name) {
-            Ok(file) => read_onto(replica, &mut Ends::new(file)),
+            Ok(file) => gather_onto(gathering, &mut Ends::new(file)),
             Err(_) => Err(SnapFault::ReadFault),
         };
         if matches!(&answer, Err(SnapFault::ReadFault)) {
@@ -69,9 +69,9 @@ impl<R: Files + Net<Stream = TcpStream> + Clock + AllocGlobal + Drop> Named for 
         answer
     }
 
-    fn pull(&mut self, replica: Replica, address: Address<'_>) -> Result<Replica, PullFault> {
+    fn pull(&mut self, gathering: Gathering, address: Address<'_>) -> Result<Gathering, PullFault> {
         let pulled = pull_from(&self.rt, self.rt.alloc(), address)?;
-        joined(replica, pulled)
+        joined(gathering, pulled)
     }
 
     fn failures(&self) -> u64 {

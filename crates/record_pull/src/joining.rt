@@ -8,31 +8,31 @@ ghost use Rattle.replica_core.specs.Journal.{all_arrived};
 use console::PullFault;
 use gossip_line::LineFault;
 use lattice_core::NoMemory;
-use replica_core::Replica;
+use replica_core::{Gathering, Replica};
 use snapshot_text::snapshots_say_their_operations;
 
-/// A replica with the operations of a record that was pulled after its own. Refusal: 5 `NoMemory`. Where the replica is
-/// empty it costs nothing; else what a copy and `Replica::take` cost for each operation.
-pub fn joined(replica: Replica, pulled: Replica) -> Result<Replica, PullFault>
+/// A gathering with the operations of a record that was pulled after its own. Refusal: 5 `NoMemory`. Where the gathering is
+/// empty it costs nothing; else what a copy and `Gathering::take` cost for each operation.
+pub fn joined(gathering: Gathering, pulled: Replica) -> Result<Gathering, PullFault>
     requires { Comes pulled }
-    ensures ok { IfOk result (BringsRecord None replica) }
+    ensures ok { IfOk result (BringsRecord None gathering) }
     ensures err { IfErr result IsPullFault }
 {
     snapshots_say_their_operations();
-    if replica.len() == 0 {
-        return Ok(pulled);
+    if gathering.len() == 0 {
+        return Ok(Gathering::onto(pulled));
     }
-    match with_all(replica, &pulled) {
+    match with_all(gathering, &pulled) {
         Ok(both) => Ok(both),
         Err(_) => Err(PullFault::Failed(LineFault::NoMemory)),
     }
 }
 
-/// A replica that has taken the operations of another, in the order in which they came there.
-fn with_all(replica: Replica, other: &Replica) -> Result<Replica, NoMemory>
-    ensures { IfOk result (λ both. both ≡ all_arrived replica other.now) }
+/// A gathering that has taken the operations of a replica, in the order in which they came there.
+fn with_all(gathering: Gathering, other: &Replica) -> Result<Gathering, NoMemory>
+    ensures { IfOk result (λ both. both ≡ all_arrived gathering other.now) }
 {
-    let mut both = replica;
+    let mut both = gathering;
     for op in other.as_slice() {
         both.take(op.copy()?)?;
     }

@@ -3,10 +3,12 @@
 use super::sips::Sips;
 use byte_ends::{Broken, Ends, Source};
 use op_text::OpTextFault;
+use replica_core::Gathering;
 use review_ops::Op;
 use snapshot_text::{
-    SnapFault, WriteSnapFault, lines_have_one_reading, read_snapshot, snapshot_of, snapshot_onto,
-    snapshots_are_one, snapshots_say_their_operations, write_snapshot,
+    SnapFault, WriteSnapFault, gather_onto, lines_have_one_reading, read_snapshot, snapshot_of,
+    snapshot_onto, snapshots_are_one, snapshots_say_their_operations, write_gathered,
+    write_snapshot,
 };
 use std::alloc::{AllocError, Global};
 use std::process::Abort;
@@ -190,6 +192,21 @@ fn a_text_is_read_onto_a_replica(rt: HostRuntime) -> Result<(), Fail> {
     let replica = snapshot_onto(snapshot_of(rt.alloc(), one.as_bytes())?, both.as_bytes())?;
     assert_times(&rt, replica.as_slice(), &[3, 2]);
     assert_eq!(rt; number_of(snapshot_onto(replica, b"reviewgate 2\n")), 3);
+    Ok(())
+}
+
+// Two texts are gathered and written, with no state between.
+#[test]
+fn what_is_gathered_is_written(rt: HostRuntime) -> Result<(), Fail> {
+    let one = format!(in rt.alloc(); "reviewgate 2\n{SECOND}\nend 1")?;
+    let both = format!(in rt.alloc(); "reviewgate 2\n{FIRST}\n{SECOND}\n{FIRST}\nend 3")?;
+    let first = gather_onto(Gathering::new(rt.alloc()), &mut Ends::new(one.as_bytes()))?;
+    let gathering = gather_onto(first, &mut Ends::new(both.as_bytes()))?;
+    assert_times(&rt, gathering.as_slice(), &[3, 2]);
+    let mut drain = Ends::new(Vec::new(rt.alloc()));
+    write_gathered(rt.alloc(), &gathering, &mut drain)?;
+    let wanted = format!(in rt.alloc(); "reviewgate 2\n{FIRST}\n{SECOND}\nend 2\n")?;
+    assert_eq!(rt; drain.get_ref().as_slice(), wanted.as_bytes());
     Ok(())
 }
 

@@ -6,22 +6,36 @@ use Rattle.graph_text.specs.Drawing.{IsGraphText}
 use Rattle.replica_core.specs.Journal.{all_arrived}
 use Rattle.state_core.specs.State.{state_of}
 use Rattle.commands.specs.Answers.{HasAround, IsAround, IsOf, IsPicture, IsPrintedWhole, Misses}
-use Rattle.commands.proofs.HowItEnds.{finishes, nothing_printed}
+use Rattle.commands.proofs.HowItEnds.{finishes, nothing_printed, stops}
 use Rattle.commands.proofs.OfRecord.{not_there, record_had, snapshot_refused}
 use Rattle.commands.proofs.graph.graph.Goals as goal
 
-pub returns-in_err-replica : goal.returns-in_err-replica
-returns-in_err-replica g c =
+pub returns-in_err-gathering : goal.returns-in_err-gathering
+returns-in_err-gathering g c =
     let rules = c.in_ok-rules.rules in
-    let p = err_from_is_err_and c.from_residual-in_err-replica.result c.from_residual-in_err-replica.ensures.1 in
-    rw (p.1, p.2) (inl (snapshot_refused c.args.gate.now c.args.snapshot.now rules (λ text. SpellsGate text rules) (λ text spells. spells) _ _ _ _ c.in_ok-rules.ensures.had c.in_err-replica.ensures.refused))
+    let p = err_from_is_err_and c.from_residual-in_err-gathering.result c.from_residual-in_err-gathering.ensures.1 in
+    rw (p.1, p.2) (inl (snapshot_refused c.args.gate.now c.args.snapshot.now rules (λ text. SpellsGate text rules) (λ text spells. spells) _ _ _ _ c.in_ok-rules.ensures.had c.in_err-gathering.ensures.refused))
+
+pub returns-in_err-state : goal.returns-in_err-state
+returns-in_err-state g c =
+    let rules = c.in_ok-rules.rules in
+    let first = c.in_ok-rules.ensures.had in
+    let second = c.in_ok-gathering.ensures.had in
+    let p = err_from_is_err_and c.from_residual-in_err-state.result c.from_residual-in_err-state.ensures.1 in
+    rw (p.1, p.2, c.in_err-state.ensures.refused)
+    (inr (
+      first.0 ∷ second.2.0 ∷ [],
+      g.C.Console.state c.read_record.new.console,
+      record_had c.args.gate.now c.args.snapshot.now rules (λ text. SpellsGate text rules) (λ text spells. spells) second.0 _ _ _ first second.2,
+      stops (IsOf first.0 second.2.0 (IsPicture c.args.around)) _,
+    ))
 
 pub returns-in-Ok : goal.returns-in-Ok
 returns-in-Ok g c =
     let rules = c.in_ok-rules.rules in
     let first = c.in_ok-rules.ensures.had in
-    let second = c.in_ok-replica.ensures.had in
-    let state = c.state.ensures ∙ ap state_of (second.1 ∙ ap (λ j. all_arrived j second.0) c.new.ensures) in
+    let second = c.in_ok-gathering.ensures.had in
+    let state = c.in_ok-state.ensures.state ∙ ap state_of (second.1 ∙ ap (λ j. all_arrived j second.0) c.new.ensures) in
     inr (
       first.0 ∷ second.2.0 ∷ [],
       g.C.Console.state c.read_record.new.console,
@@ -47,8 +61,8 @@ pub returns : goal.returns
 returns g c =
     let rules = c.in_ok-rules.rules in
     let first = c.in_ok-rules.ensures.had in
-    let second = c.in_ok-replica.ensures.had in
-    let state = c.state.ensures ∙ ap state_of (second.1 ∙ ap (λ j. all_arrived j second.0) c.new.ensures) in
+    let second = c.in_ok-gathering.ensures.had in
+    let state = c.in_ok-state.ensures.state ∙ ap state_of (second.1 ∙ ap (λ j. all_arrived j second.0) c.new.ensures) in
     inr (
       first.0 ∷ second.2.0 ∷ [],
       g.C.Console.state c.read_record.new.console,
@@ -56,7 +70,7 @@ returns g c =
           (λ text spells. spells) second.0 _ _ _ first second.2,
       inl (
         [],
-        not_there (IsOf first.0 second.2.0 (IsPicture c.args.around)) (IsAround c.args.around) second.2.0 (HasAround c.args.around) c.in-Err.refusal second.0 c.state.result.now second.2.2 state c.in-Err.ensures.refused,
+        not_there (IsOf first.0 second.2.0 (IsPicture c.args.around)) (IsAround c.args.around) second.2.0 (HasAround c.args.around) c.in-Err.refusal second.0 c.in_ok-state.state second.2.2 state c.in-Err.ensures.refused,
         nothing_printed (g.C.Console.state c.read_record.new.console),
       ),
     )

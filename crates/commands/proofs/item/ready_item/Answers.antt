@@ -3,24 +3,43 @@ use Rattle.std.proofs.lemmas.Result.{err_from_is_err_and}
 use Rattle.gate_rules.specs.Spelling.{SpellsGate}
 use Rattle.replica_core.specs.Journal.{all_arrived}
 use Rattle.state_core.specs.State.{State, state_of}
+use Rattle.console.specs.declared.refusals.Refusal.TheVariants.{Memory}
 use Rattle.commands.specs.Answers.{IsItemPrinted}
 use Rattle.commands.specs.Ending.{Finishes}
+use Rattle.commands.proofs.HowItEnds.{nothing_printed}
+use Rattle.commands.proofs.ItemEnds.{none_ends}
 use Rattle.commands.proofs.OfRecord.{record_had, snapshot_refused}
 use Rattle.commands.proofs.Simulated.{finishes_so}
 use Rattle.commands.proofs.item.ready_item.Goals as goal
 
-pub returns-in_err-replica : goal.returns-in_err-replica
-returns-in_err-replica g c =
-    let p = err_from_is_err_and c.from_residual-in_err-replica.result c.from_residual-in_err-replica.ensures.1 in
+pub returns-in_err-gathering : goal.returns-in_err-gathering
+returns-in_err-gathering g c =
+    let p = err_from_is_err_and c.from_residual-in_err-gathering.result c.from_residual-in_err-gathering.ensures.1 in
     let rules = c.in_ok-rules.rules in
-    rw (p.1, p.2) (inl (snapshot_refused c.args.gate.now c.args.snapshot.now rules (λ text. SpellsGate text rules) (λ text spells. spells) _ _ _ _ c.in_ok-rules.ensures.had c.in_err-replica.ensures.refused))
+    rw (p.1, p.2) (inl (snapshot_refused c.args.gate.now c.args.snapshot.now rules (λ text. SpellsGate text rules) (λ text spells. spells) _ _ _ _ c.in_ok-rules.ensures.had c.in_err-gathering.ensures.refused))
+
+pub returns-in_err-state : goal.returns-in_err-state
+returns-in_err-state g c =
+    let rules = c.in_ok-rules.rules in
+    let first = c.in_ok-rules.ensures.had in
+    let second = c.in_ok-gathering.ensures.had in
+    let p = err_from_is_err_and c.from_residual-in_err-state.result c.from_residual-in_err-state.ensures.1 in
+    rw (p.1, p.2, c.in_err-state.ensures.refused)
+    (inr (
+      first.0 ∷ second.2.0 ∷ [],
+      g.C.Console.state c.read_record.new.console,
+      record_had c.args.gate.now c.args.snapshot.now rules (λ text. SpellsGate text rules) (λ text spells. spells) second.0 _ _ _ first second.2,
+      finishes_so (IsItemPrinted c.args.change c.args.set c.args.is_json rules (state_of (all_arrived [] second.0))) _
+          (λ answer end is. (rules, first.2, second.0, second.2.2, is)) _ _ _
+          (inl ([], none_ends c.args.change c.args.set c.args.is_json rules (state_of (all_arrived [] second.0)) Memory (inr refl), nothing_printed _)),
+    ))
 
 pub returns : goal.returns
 returns g c =
     let rules = c.in_ok-rules.rules in
     let first = c.in_ok-rules.ensures.had in
-    let second = c.in_ok-replica.ensures.had in
-    let state = c.state.ensures ∙ ap state_of (second.1 ∙ ap (λ j. all_arrived j second.0) c.new.ensures) in
+    let second = c.in_ok-gathering.ensures.had in
+    let state = c.in_ok-state.ensures.state ∙ ap state_of (second.1 ∙ ap (λ j. all_arrived j second.0) c.new.ensures) in
     inr (
       first.0 ∷ second.2.0 ∷ [],
       g.C.Console.state c.read_record.new.console,

@@ -10,17 +10,31 @@ use Rattle.commands.proofs.Simulated.{finishes_so}
 use Rattle.commands.proofs.OfRecord.{record_had, snapshot_refused}
 use Rattle.commands.proofs.ready.ready.Goals as goal
 
-pub returns-in_err-replica : goal.returns-in_err-replica
-returns-in_err-replica g c =
-    let p = err_from_is_err_and c.from_residual-in_err-replica.result c.from_residual-in_err-replica.ensures.1 in
+pub returns-in_err-gathering : goal.returns-in_err-gathering
+returns-in_err-gathering g c =
+    let p = err_from_is_err_and c.from_residual-in_err-gathering.result c.from_residual-in_err-gathering.ensures.1 in
     let rules = c.in_ok-rules.rules in
-    rw (p.1, p.2) (inl (snapshot_refused c.args.gate.now c.args.snapshot.now rules (λ text. SpellsGate text rules) (λ text spells. spells) _ _ _ _ c.in_ok-rules.ensures.had c.in_err-replica.ensures.refused))
+    rw (p.1, p.2) (inl (snapshot_refused c.args.gate.now c.args.snapshot.now rules (λ text. SpellsGate text rules) (λ text spells. spells) _ _ _ _ c.in_ok-rules.ensures.had c.in_err-gathering.ensures.refused))
+
+pub returns-in_err-state : goal.returns-in_err-state
+returns-in_err-state g c =
+    let rules = c.in_ok-rules.rules in
+    let first = c.in_ok-rules.ensures.had in
+    let second = c.in_ok-gathering.ensures.had in
+    let p = err_from_is_err_and c.from_residual-in_err-state.result c.from_residual-in_err-state.ensures.1 in
+    rw (p.1, p.2, c.in_err-state.ensures.refused)
+    (inr (
+      first.0 ∷ second.2.0 ∷ [],
+      g.C.Console.state c.read_record.new.console,
+      record_had c.args.gate.now c.args.snapshot.now rules (λ text. SpellsGate text rules) (λ text spells. spells) second.0 _ _ _ first second.2,
+      stops (IsOf first.0 second.2.0 (IsReport c.args.is_json)) _,
+    ))
 
 pub returns-in_default : goal.returns-in_default
 returns-in_default g c =
     let rules = c.in_ok-rules.rules in
     let first = c.in_ok-rules.ensures.had in
-    let second = c.in_ok-replica.ensures.had in
+    let second = c.in_ok-gathering.ensures.had in
     inr (
       first.0 ∷ second.2.0 ∷ [],
       g.C.Console.state c.read_record.new.console,
@@ -33,8 +47,8 @@ pub returns : goal.returns
 returns g c =
     let rules = c.in_ok-rules.rules in
     let first = c.in_ok-rules.ensures.had in
-    let second = c.in_ok-replica.ensures.had in
-    let state = c.state.ensures ∙ ap state_of (second.1 ∙ ap (λ j. all_arrived j second.0) c.new.ensures) in
+    let second = c.in_ok-gathering.ensures.had in
+    let state = c.in_ok-state.ensures.state ∙ ap state_of (second.1 ∙ ap (λ j. all_arrived j second.0) c.new.ensures) in
     inr (
       first.0 ∷ second.2.0 ∷ [],
       g.C.Console.state c.read_record.new.console,

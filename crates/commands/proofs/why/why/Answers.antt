@@ -8,23 +8,37 @@ use Rattle.why_text.specs.Asked.{IsItemAsked}
 use Rattle.console.specs.declared.refusals.Refusal.{Refusal}
 use Rattle.console.specs.declared.refusals.Refusal.TheVariants.{Memory, NoItem}
 use Rattle.commands.specs.Answers.{HasItem, IsItemText, IsOf, IsWhyAnswer, IsPrintedWhole, Misses}
-use Rattle.commands.proofs.HowItEnds.{finishes, nothing_printed}
+use Rattle.commands.proofs.HowItEnds.{finishes, nothing_printed, stops}
 use Rattle.commands.proofs.OfRecord.{not_there, record_had, snapshot_refused}
 use Rattle.commands.proofs.why.why.Goals as goal
 
-pub returns-in_err-replica : goal.returns-in_err-replica
-returns-in_err-replica g c =
+pub returns-in_err-gathering : goal.returns-in_err-gathering
+returns-in_err-gathering g c =
     let file = c.in_ok-file.file in
-    let p = err_from_is_err_and c.from_residual-in_err-replica.result c.from_residual-in_err-replica.ensures.1 in
+    let p = err_from_is_err_and c.from_residual-in_err-gathering.result c.from_residual-in_err-gathering.ensures.1 in
     rw (p.1, p.2) (inl (snapshot_refused c.args.gate.now c.args.snapshot.now file.rules (λ text. SpellsGate text file.rules × (text ≡ file.text.items)) (λ text is. is.0) _ _ _ _
-    c.in_ok-file.ensures.had c.in_err-replica.ensures.refused))
+    c.in_ok-file.ensures.had c.in_err-gathering.ensures.refused))
+
+pub returns-in_err-state : goal.returns-in_err-state
+returns-in_err-state g c =
+    let file = c.in_ok-file.file in
+    let first = c.in_ok-file.ensures.had in
+    let second = c.in_ok-gathering.ensures.had in
+    let p = err_from_is_err_and c.from_residual-in_err-state.result c.from_residual-in_err-state.ensures.1 in
+    rw (p.1, p.2, c.in_err-state.ensures.refused)
+    (inr (
+      first.0 ∷ second.2.0 ∷ [],
+      g.C.Console.state c.read_record.new.console,
+      record_had c.args.gate.now c.args.snapshot.now file.rules (λ text. SpellsGate text file.rules × (text ≡ file.text.items)) (λ text is. is.0) second.0 _ _ _ first second.2,
+      stops (IsOf first.0 second.2.0 (IsWhyAnswer first.0 c.args.change c.args.set c.args.is_all c.args.is_json)) _,
+    ))
 
 pub returns-in-Ok : goal.returns-in-Ok
 returns-in-Ok g c =
     let file = c.in_ok-file.file in
     let first = c.in_ok-file.ensures.had in
-    let second = c.in_ok-replica.ensures.had in
-    let state = c.state.ensures ∙ ap state_of (second.1 ∙ ap (λ j. all_arrived j second.0) c.new.ensures) in
+    let second = c.in_ok-gathering.ensures.had in
+    let state = c.in_ok-state.ensures.state ∙ ap state_of (second.1 ∙ ap (λ j. all_arrived j second.0) c.new.ensures) in
     inr (
       first.0 ∷ second.2.0 ∷ [],
       g.C.Console.state c.read_record.new.console,
@@ -41,7 +55,7 @@ returns-in-Ok g c =
                 subst (IsWhyAnswer first.0 c.args.change c.args.set c.args.is_all c.args.is_json file.rules (state_of (all_arrived [] second.0)))
                 (sym c.as_slice.ensures.value)
                 (subst (λ s. IsWhyAnswer first.0 c.args.change c.args.set c.args.is_all c.args.is_json file.rules s c.in-Ok.text.items) state
-                (subst (λ t. IsWhyAnswer t c.args.change c.args.set c.args.is_all c.args.is_json file.rules c.state.result.now c.in-Ok.text.items) (sym first.2.1) c.in-Ok.ensures.reason));
+                (subst (λ t. IsWhyAnswer t c.args.change c.args.set c.args.is_all c.args.is_json file.rules c.in_ok-state.state c.in-Ok.text.items) (sym first.2.1) c.in-Ok.ensures.reason));
           })
           c.print.ensures,
     )
@@ -59,8 +73,8 @@ pub returns : goal.returns
 returns g c =
     let file = c.in_ok-file.file in
     let first = c.in_ok-file.ensures.had in
-    let second = c.in_ok-replica.ensures.had in
-    let state = c.state.ensures ∙ ap state_of (second.1 ∙ ap (λ j. all_arrived j second.0) c.new.ensures) in
+    let second = c.in_ok-gathering.ensures.had in
+    let state = c.in_ok-state.ensures.state ∙ ap state_of (second.1 ∙ ap (λ j. all_arrived j second.0) c.new.ensures) in
     inr (
       first.0 ∷ second.2.0 ∷ [],
       g.C.Console.state c.read_record.new.console,
@@ -71,8 +85,8 @@ returns g c =
         [],
         not_there (IsOf first.0 second.2.0 (IsWhyAnswer first.0 c.args.change c.args.set c.args.is_all c.args.is_json))
             (IsItemText c.args.change c.args.set) second.2.0
-            (HasItem c.args.change c.args.set) c.in-Err.refusal second.0 c.state.result.now second.2.2 state
-            (no_item c.args.change c.args.set c.state.result.now c.in-Err.refusal c.in-Err.ensures.refused),
+            (HasItem c.args.change c.args.set) c.in-Err.refusal second.0 c.in_ok-state.state second.2.2 state
+            (no_item c.args.change c.args.set c.in_ok-state.state c.in-Err.refusal c.in-Err.ensures.refused),
         nothing_printed (g.C.Console.state c.read_record.new.console),
       ),
     )

@@ -7,12 +7,12 @@ use Rattle.record_pull.proofs.joining.joined.Goals as goal
 pub returns-then-len-eq0-clause-ok : goal.returns-then-len-eq0-clause-ok
 returns-then-len-eq0-clause-ok c =
     let came = c.requires in
-    let none : c.args.replica ≡ [] = none_of c.args.replica (sym c.len.ensures ∙ c.if-len-eq0.true) in (
+    let none : c.args.gathering ≡ [] = none_of c.args.gathering (sym c.len.ensures ∙ c.if-len-eq0.true) in (
       snapshot_text came.ops,
       tt,
       came.ops,
       c.snapshots_say_their_operations.ensures came.ops came.sound came.few,
-      came.is ∙ sym (ap (λ journal. all_arrived journal came.ops) none),
+      c.onto.ensures ∙ came.is ∙ sym (ap (λ journal. all_arrived journal came.ops) none),
     )
 
 pub returns-in-Ok-clause-ok : goal.returns-in-Ok-clause-ok

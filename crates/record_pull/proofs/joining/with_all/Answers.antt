@@ -11,12 +11,12 @@ loop-op-preserved c =
     let op = c.op-item.result in
     c.in_ok-take.ensures.ok.0
     ∙ ap (λ journal. arrived journal c.in_ok-copy.field-0) c.loop-op.invariant
-    ∙ ap (arrived (all_arrived c.args.replica before)) (c.in_ok-copy.ensures ∙ c.op-item.is)
-    ∙ sym (all_arrived-push c.args.replica before _)
-    ∙ ap (all_arrived c.args.replica) (sym (take_more ops c.loop-op.op-index op c.loop-op-test.true))
+    ∙ ap (arrived (all_arrived c.args.gathering before)) (c.in_ok-copy.ensures ∙ c.op-item.is)
+    ∙ sym (all_arrived-push c.args.gathering before _)
+    ∙ ap (all_arrived c.args.gathering) (sym (take_more ops c.loop-op.op-index op c.loop-op-test.true))
 
 pub returns : goal.returns
 returns c =
     let ops = c.as_slice-op-items.result.now in
     c.loop-op.invariant
-    ∙ ap (all_arrived c.args.replica) (take_all c.loop-op.op-index ops c.loop-op-test.false ∙ c.as_slice-op-items.ensures.arrivals)
+    ∙ ap (all_arrived c.args.gathering) (take_all c.loop-op.op-index ops c.loop-op-test.false ∙ c.as_slice-op-items.ensures.arrivals)
