@@ -2,3 +2,5 @@ pub mod Shown
 pub mod Html
 pub mod Reading
 pub mod Pieces
+pub mod Growing
+pub mod Adding

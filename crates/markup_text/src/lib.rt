@@ -3,15 +3,16 @@
 //! Its tests are in the crate `page_tests`.
 //!
 //! It is a crate of its own so that no page can take a text for markup: only texts of the program itself pass as they
-//! are. Not taken: templates, whose holes would have to be proved escaped one by one; removing what looks dangerous
-//! from a text, which changes what it says.
+//! are. Refused memory is answered once, at the end, so that what writes a page has no exit for each piece. Not taken:
+//! templates, whose holes would have to be proved escaped one by one; removing what looks dangerous from a text, which
+//! changes what it says.
 //!
 //! An example of its use:
 //!
 //! ```
 //! let mut page = Markup::new(alloc);
-//! page.add(&[Piece::Markup("<p>"), Piece::Text("1 < 2"), Piece::Markup("</p>")])?;
-//! assert_eq!(rt; page.into_bytes().as_slice(), b"<p>1 &lt; 2</p>".as_slice());
+//! page.add(&[Piece::Markup("<p>"), Piece::Text("1 < 2"), Piece::Markup("</p>")]);
+//! assert_eq!(rt; page.end()?.as_slice(), b"<p>1 &lt; 2</p>".as_slice());
 //! ```
 #![tactic(auto)]
 

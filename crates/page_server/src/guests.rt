@@ -76,7 +76,7 @@ impl Guests {
         requires { place < 200 }
         ensures { self.new.places.items ≡ slice_set self.old.places.items place (Some guest) }
     {
-        self.places[place] = Some(guest);
+        put(&mut self.places[place], Some(guest));
     }
 }
 
@@ -90,8 +90,15 @@ fn note_ready(place: &mut Option<Guest>) {
 /// Closes the connection at a place if it is over.
 fn close_if_over(place: &mut Option<Guest>, now: Duration) {
     if is_over(place, now) {
-        *place = None;
+        put(place, None);
     }
+}
+
+/// Puts a connection at a place, or none. What was there is closed.
+fn put(place: &mut Option<Guest>, guest: Option<Guest>)
+    ensures { place.new ≡ guest }
+{
+    *place = guest;
 }
 
 /// Whether the connection at a place is over.

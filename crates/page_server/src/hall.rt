@@ -30,14 +30,20 @@ const EVENTS: usize = 256;
 /// How many bytes are dropped at once.
 const BLOCK: usize = 4_096;
 
+/// What a hall needs memory for.
+#[derive(Drop)]
+struct Room {
+    scratch: Vec<u8>,
+    events: Events,
+    guests: Guests,
+}
+
 /// Where the connections are served.
 #[derive(Drop)]
 struct Hall {
     alloc: Global,
     door: Door,
-    events: Events,
-    guests: Guests,
-    scratch: Vec<u8>,
+    room: Room,
     begun: Option<Instant>,
     /// How long the loop has run, and when the date was last looked at.
     now: Duration,
@@ -58,9 +64,10 @@ pub fn serve_pages<R: Wait + Clock, P: Pages + Drop>(
     stop: &Stop,
     pages: P,
 ) -> Result<(), PageFault> {
-    let Ok(mut hall) = Hall::new(rt, alloc, door) else {
+    let Ok(room) = Room::new(alloc) else {
         return Err(PageFault::NoMemory);
     };
+    let mut hall = Hall::new(rt, alloc, door, room);
     let mut service = PageService {
         alloc,
         hosts,
@@ -76,20 +83,29 @@ pub fn serve_pages<R: Wait + Clock, P: Pages + Drop>(
     unreachable!()
 }
 
-impl Hall {
-    /// A hall with no connection.
-    fn new<R: Clock>(rt: &R, alloc: Global, door: Door) -> Result<Hall, AllocError> {
-        Ok(Hall {
-            alloc,
-            door,
+impl Room {
+    /// A room with no connection.
+    fn new(alloc: Global) -> Result<Room, AllocError> {
+        Ok(Room {
+            scratch: vec![in alloc; 0u8; BLOCK]?,
             events: Events::with_capacity(alloc, EVENTS)?,
             guests: Guests::new(alloc)?,
-            scratch: vec![in alloc; 0u8; BLOCK]?,
+        })
+    }
+}
+
+impl Hall {
+    /// A hall in this room.
+    fn new<R: Clock>(rt: &R, alloc: Global, door: Door, room: Room) -> Hall {
+        Hall {
+            alloc,
+            door,
+            room,
             begun: Instant::now(rt).ok(),
             now: Duration::ZERO,
             dated: None,
             may_accept: true,
-        })
+        }
     }
 
     /// Waits for something to do, and does it.
@@ -102,19 +118,25 @@ impl Hall {
         self.wait(rt, stop);
         self.note_time(rt, service);
         self.accept();
-        self.guests
-            .work(service, self.scratch.as_mut_slice(), self.now);
-        self.guests.close(self.now);
+        self.room
+            .guests
+            .work(service, self.room.scratch.as_mut_slice(), self.now);
+        self.room.guests.close(self.now);
     }
 
     /// Waits until there is something to do, for a second at most.
     fn wait<R: Wait + Clock>(&mut self, rt: &R, stop: &Stop) {
-        let limit = if self.guests.have_more() {
+        let limit = if self.room.guests.have_more() {
             Duration::ZERO
         } else {
             Duration::from_secs(TICK)
         };
-        if self.door.poll.poll(&mut self.events, Some(limit)).is_err() {
+        if self
+            .door
+            .poll
+            .poll(&mut self.room.events, Some(limit))
+            .is_err()
+        {
             stop.rest(rt, Duration::from_millis(PAUSE_MS));
         }
         self.note_events();
@@ -122,12 +144,12 @@ impl Hall {
 
     /// Notes which sockets have something to do.
     fn note_events(&mut self) {
-        for event in self.events.iter() {
+        for event in self.room.events.iter() {
             let token = event.token();
             if token == DOOR {
                 self.may_accept = true;
             } else {
-                self.guests.note_ready(token.0);
+                self.room.guests.note_ready(token.0);
             }
         }
     }
@@ -163,12 +185,12 @@ impl Hall {
     /// Begins to serve a connection.
     fn seat(&mut self, stream: TcpStream) {
         let mut stream = stream;
-        let place = self.guests.place();
+        let place = self.room.guests.place();
         let both = Interest::READABLE | Interest::WRITABLE;
         let registry = self.door.poll.registry();
         if registry.register(&mut stream, Token(place), both).is_ok() {
             let guest = Guest::new(self.alloc, self.door.keys, stream, self.now);
-            self.guests.seat(place, guest);
+            self.room.guests.seat(place, guest);
         }
     }
 }

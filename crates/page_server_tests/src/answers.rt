@@ -38,8 +38,18 @@ fn reply_with(
         date: None,
         pages: Shelf::new(alloc),
     };
+    reply_by(alloc, keys, &mut service, sent)
+}
+
+/// What a connection to a service is answered that sends these bytes.
+fn reply_by(
+    alloc: Global,
+    keys: RandomState,
+    service: &mut PageService<'_, Shelf>,
+    sent: &[u8],
+) -> io::Result<Reply> {
     let mut connection = Connection::new(alloc, keys, limits());
-    let text = read_all(alloc, &mut connection, &mut service, sent);
+    let text = read_all(alloc, &mut connection, service, sent);
     reply_of(text, &connection, &service.pages)
 }
 
@@ -172,7 +182,7 @@ fn right<R: RandomSource>(rt: &R, alloc: Global, rows: &[Row]) -> io::Result<usi
 }
 
 /// Requests of pages, of this machine by each of its names and by the one that was given.
-const PAGES: [Row; 6] = [
+static PAGES: [Row; 6] = [
     Row {
         ask: "GET /healthz",
         host: "localhost",
@@ -231,7 +241,7 @@ const PAGES: [Row; 6] = [
 
 #[test]
 fn pages(rt: HostRuntime) -> Result<(), Fail> {
-    let count = right(&rt, rt.alloc(), PAGES.as_slice())?;
+    let count = right(&rt, rt.alloc(), &PAGES)?;
     assert_eq!(rt; count, PAGES.len());
     Ok(())
 }
@@ -240,7 +250,7 @@ fn pages(rt: HostRuntime) -> Result<(), Fail> {
 const MISDIRECTED: &str = "content-length: 24\r\n\r\n421 Misdirected Request\n";
 
 /// Requests of other hosts.
-const OTHER_HOSTS: [Row; 3] = [
+static OTHER_HOSTS: [Row; 3] = [
     Row {
         ask: "GET /healthz",
         host: "evil.example.org",
@@ -272,7 +282,7 @@ const OTHER_HOSTS: [Row; 3] = [
 
 #[test]
 fn refusals_of_hosts(rt: HostRuntime) -> Result<(), Fail> {
-    let count = right(&rt, rt.alloc(), OTHER_HOSTS.as_slice())?;
+    let count = right(&rt, rt.alloc(), &OTHER_HOSTS)?;
     assert_eq!(rt; count, OTHER_HOSTS.len());
     Ok(())
 }
@@ -293,7 +303,7 @@ fn a_request_without_a_host_is_refused(rt: HostRuntime) -> Result<(), Fail> {
 }
 
 /// Requests with other methods, and of what isn't there.
-const OTHERS: [Row; 4] = [
+static OTHERS: [Row; 4] = [
     Row {
         ask: "POST /healthz",
         host: "localhost",
@@ -334,7 +344,7 @@ const OTHERS: [Row; 4] = [
 
 #[test]
 fn refusals_of_methods_and_paths(rt: HostRuntime) -> Result<(), Fail> {
-    let count = right(&rt, rt.alloc(), OTHERS.as_slice())?;
+    let count = right(&rt, rt.alloc(), &OTHERS)?;
     assert_eq!(rt; count, OTHERS.len());
     Ok(())
 }
@@ -367,7 +377,9 @@ const BARE_TAG: &str = "ba7816bf8f01cfea414140de5dae2223b00361a396177a9cb410ff61
 const CUT_TAG: &str = "\"ba7816bf8f01cfea414140de5dae2223b00361a396177a9cb410ff61f20015a\"";
 
 /// The fields of a request of the style before and after a tag, with the tag; and whether who sends them has kept it.
-const NAMED: [(&str, &str, &str, bool); 7] = [
+type Named = (&'static str, &'static str, &'static str, bool);
+
+static NAMED: [Named; 7] = [
     ("", "", "", false),
     ("If-None-Match: ", TAG, "\r\n", true),
     ("If-None-Match: W/", TAG, "\r\n", true),
@@ -406,15 +418,28 @@ fn is_style<R: RandomSource>(
     Ok(counts == Some((1, 0)))
 }
 
+/// Whether a request of the style is answered as its fields say.
+fn is_right_style<R: RandomSource>(rt: &R, alloc: Global, named: Named) -> io::Result<bool> {
+    let (before, tag, after, is_kept) = named;
+    let fields = format!(in alloc; "{before}{tag}{after}")?;
+    is_style(rt, alloc, fields.as_str(), is_kept)
+}
+
+/// How many requests of the style, from the first on, are answered as their fields say.
+fn right_styles<R: RandomSource>(rt: &R, alloc: Global, rows: &[Named]) -> io::Result<usize> {
+    let mut count = 0usize;
+    for row in rows {
+        if !is_right_style(rt, alloc, *row)? {
+            return Ok(count);
+        }
+        count = count.saturating_add(1);
+    }
+    Ok(count)
+}
+
 #[test]
 fn texts_that_stay_the_same(rt: HostRuntime) -> Result<(), Fail> {
-    let mut count = 0usize;
-    for (before, tag, after, is_kept) in NAMED {
-        let fields = format!(in rt.alloc(); "{before}{tag}{after}")?;
-        if is_style(&rt, rt.alloc(), fields.as_str(), is_kept)? {
-            count = count.saturating_add(1);
-        }
-    }
+    let count = right_styles(&rt, rt.alloc(), &NAMED)?;
     assert_eq!(rt; count, NAMED.len());
     Ok(())
 }
@@ -457,28 +482,42 @@ fn heads_and_bodies_have_limits(rt: HostRuntime) -> Result<(), Fail> {
     Ok(())
 }
 
+/// Three requests that are sent at once, of which the last one ends the connection.
+const THREE: &str = "GET /healthz HTTP/1.1\r\nHost: localhost\r\n\r\n\
+    HEAD /change/7 HTTP/1.1\r\nHost: localhost\r\n\r\n\
+    GET /healthz HTTP/1.1\r\nHost: localhost\r\nConnection: close\r\n\r\n";
+
+/// Whether all three are answered so.
+fn are_answered(reply: &Reply) -> bool {
+    let is_last = reply.text.ends_with(b"\r\nconnection: close\r\n\r\nok\n");
+    reply.taken == 3 && !reply.is_open && is_last
+}
+
 #[test]
 fn requests_may_come_at_once(rt: HostRuntime) -> Result<(), Fail> {
-    let sent =
-        b"GET /healthz HTTP/1.1\r\nHost: localhost\r\n\r\nHEAD /change/7 HTTP/1.1\r\nHost: localhost\r\n\r\n\
-        GET /healthz HTTP/1.1\r\nHost: localhost\r\nConnection: close\r\n\r\n";
-    let reply = reply_to(&rt, rt.alloc(), sent.as_slice())?;
-    let is_three = reply.taken == 3 && !reply.is_open;
-    let is_last = reply.text.ends_with(b"\r\nconnection: close\r\n\r\nok\n");
-    assert!(rt; is_three && is_last);
+    let reply = reply_to(&rt, rt.alloc(), THREE.as_bytes())?;
+    assert!(rt; are_answered(&reply));
     Ok(())
+}
+
+/// Whether these values of `Host` are of this machine or of this host, and these are not.
+fn are_told_apart(hosts: &[String]) -> bool {
+    let are_own = is_own(hosts, b"Gate.Example.org:8443") && is_own(hosts, b"127.0.0.1");
+    let is_other = is_own(hosts, b"127.0.0.1.example.org") || is_own(hosts, b"localhost:80x");
+    are_own && !is_other
 }
 
 #[test]
 fn own_hosts(rt: HostRuntime) -> Result<(), Fail> {
     let hosts = [String::from_str(rt.alloc(), "gate.example.org")?];
-    let hosts = hosts.as_slice();
-    let are_own = is_own(hosts, b"Gate.Example.org:8443") && is_own(hosts, b"127.0.0.1");
-    let is_other = is_own(hosts, b"127.0.0.1.example.org") || is_own(hosts, b"localhost:80x");
-    assert!(rt; are_own && !is_other);
+    assert!(rt; are_told_apart(hosts.as_slice()));
+    Ok(())
+}
+
+#[test]
+fn a_refusal_has_its_text(rt: HostRuntime) {
     assert_eq!(rt;
         Refusal::OtherHost.text(false),
         b"421 Misdirected Request\n".as_slice()
     );
-    Ok(())
 }

@@ -14,9 +14,15 @@ fn is_written(alloc: Global, text: &str, html: &str) -> Result<bool, Fail> {
         Piece::Markup("<p>"),
         Piece::Text(text),
         Piece::Markup("</p>"),
-    ])?;
+    ]);
     let wanted = format!(in alloc; "<p>{html}</p>")?;
-    Ok(page.into_bytes().as_slice() == wanted.as_bytes())
+    is_text(page, wanted.as_str())
+}
+
+/// Whether HTML has this text at its end.
+fn is_text(page: Markup, wanted: &str) -> Result<bool, Fail> {
+    let text = page.end()?;
+    Ok(text.as_slice() == wanted.as_bytes())
 }
 
 /// Texts with their HTML.
@@ -49,13 +55,38 @@ fn numbers_and_queries_have_no_markup(rt: HostRuntime) -> Result<(), Fail> {
         Piece::Number(u64::MAX),
         Piece::Signed(-2),
         Piece::Query("a b&<\u{e9}"),
-    ])?;
-    let bytes = page.into_bytes();
-    assert_eq!(rt;
-        bytes.as_slice(),
-        b"18446744073709551615-2a%20b%26%3C%C3%A9".as_slice()
-    );
+    ]);
+    let is_written = is_text(page, "18446744073709551615-2a%20b%26%3C%C3%A9")?;
+    assert!(rt; is_written);
     Ok(())
+}
+
+/// HTML with a piece, for which memory is refused then or not.
+fn one_piece(alloc: Global, is_refused: bool) -> Markup {
+    let mut page = Markup::new(alloc);
+    page.add(&[Piece::Markup("<p>")]);
+    if is_refused {
+        page.refuse();
+    }
+    page
+}
+
+/// Whether HTML has its text at its end, with another one behind it, for which of both memory may be refused.
+fn ends(alloc: Global, is_refused: bool, is_other_refused: bool) -> bool {
+    let mut page = one_piece(alloc, is_refused);
+    page.append(&one_piece(alloc, is_other_refused));
+    page.add(&[Piece::Number(1)]);
+    match page.end() {
+        Ok(text) => text.as_slice() == b"<p><p>1".as_slice(),
+        Err(_) => false,
+    }
+}
+
+#[test]
+fn refused_memory_is_answered_at_the_end(rt: HostRuntime) {
+    assert!(rt; ends(rt.alloc(), false, false));
+    assert!(rt; !ends(rt.alloc(), true, false));
+    assert!(rt; !ends(rt.alloc(), false, true));
 }
 
 #[test]

@@ -1,12 +1,14 @@
 -- The items that wait for a change, and titles.
 use Rattle.std.proofs.Common.{◌≡◌, ◌∙◌, ℕ, List, [], ◌∷◌, ◌++◌, ap, append_assoc}
-use Rattle.std.specs.Prelude.{codes}
+use Rattle.std.specs.Prelude.{IfSome, Option, None, Some, codes}
 use Rattle.json.specs.Print.{print}
 use Rattle.json.specs.Token.{end_object}
 use Rattle.json.specs.Written.{Written}
 use Rattle.state_core.specs.declared.item.Item.{Item}
 use Rattle.json_line.specs.Tokens.{AddsTokens}
-use Rattle.page_text.specs.Titles.{IsTitled}
+use Rattle.markup_text.specs.Adding.{none_is_some}
+use Rattle.markup_text.specs.Growing.{Adds, AddsAll}
+use Rattle.page_text.specs.Titles.{IsEnded, IsTitled}
 use Rattle.page_text.specs.Waiting.{EndsInWaiting, waiting_tokens}
 
 -- the text ends with the items
@@ -19,16 +21,19 @@ has_waiting items a b text adds is = record {
 }
 
 -- ---- titles
-pub titled : (title first second third rest : List ℕ) → second ≡ first ++ (codes "<title>" ++ title ++ codes "</title>")
-    → third ≡ second ++ rest → IsTitled title third
-titled title first second third rest is_second is_third = record {
-  before = first;
+pub titled : (title rest : List ℕ) (first second third : Option (List ℕ))
+    → Adds (codes "<title>" ++ title ++ codes "</title>") first second → Adds rest second third
+    → IfSome third (IsTitled title)
+titled title rest first second None p q = tt
+titled title rest first None (Some html) p q = absurd q
+titled title rest None (Some begun) (Some html) p q = absurd p
+titled title rest (Some before) (Some begun) (Some html) p q = record {
+  before = before;
   after = rest;
-  is = is_third ∙ ap (λ l. l ++ rest) is_second
-      ∙ append_assoc first (codes "<title>" ++ title ++ codes "</title>") rest;
+  is = q ∙ ap (λ l. l ++ rest) p ∙ append_assoc before (codes "<title>" ++ title ++ codes "</title>") rest;
 }
 
-pub titled_on : (title page more longer : List ℕ) → IsTitled title page → longer ≡ page ++ more → IsTitled title longer
+titled_on : (title page more longer : List ℕ) → IsTitled title page → longer ≡ page ++ more → IsTitled title longer
 titled_on title page more longer is_titled is = record {
   before = is_titled.before;
   after = is_titled.after ++ more;
@@ -36,3 +41,12 @@ titled_on title page more longer is_titled is = record {
       ∙ append_assoc is_titled.before ((codes "<title>" ++ title ++ codes "</title>") ++ is_titled.after) more
       ∙ ap (λ l. is_titled.before ++ l) (append_assoc (codes "<title>" ++ title ++ codes "</title>") is_titled.after more);
 }
+
+-- a page that has its title has it to the end
+pub titled_whole : (title : List ℕ) (main page longer : Option (List ℕ)) (text : List ℕ)
+    → IfSome page (IsTitled title) → AddsAll main page longer → IsEnded longer text → IsTitled title text
+titled_whole title main page None text has added ended = absurd ended
+titled_whole title None page (Some own) text has added ended = absurd (none_is_some added)
+titled_whole title (Some html) None (Some own) text has added ended = absurd added
+titled_whole title (Some html) (Some begun) (Some own) text has added ended =
+    titled_on title own (codes "</main>\n</body>\n</html>\n") text (titled_on title begun html own has added) ended

@@ -1,5 +1,5 @@
--- The title of a page (WCAG 2.2, success criterion 2.4.2 "Page Titled").
-use Rattle.std.specs.Prelude.{◌≡◌, List, ℕ, [], ◌∷◌, ◌++◌, codes, decimal}
+-- The title of a page (WCAG 2.2, success criterion 2.4.2 "Page Titled"), and its end.
+use Rattle.std.specs.Prelude.{◌≡◌, List, ℕ, [], ◌∷◌, ◌++◌, Option, None, Some, codes, decimal}
 use Rattle.markup_text.specs.Html.{html_of}
 use Rattle.state_core.specs.State.{State}
 use Rattle.state_core.specs.declared.item.Item.{Item}
@@ -17,3 +17,8 @@ pub record IsTitled (title html : List ℕ) : Type 0 where
   pub before : List ℕ
   pub after : List ℕ
   pub is : html ≡ before ++ (codes "<title>" ++ title ++ codes "</title>" ++ after)
+
+-- the text is what was written, up to the end of its own part, with the end of each page behind it
+abbrev pub IsEnded : Option (List ℕ) → List ℕ → Type 0
+IsEnded None text = ⊥
+IsEnded (Some own) text = text ≡ own ++ codes "</main>\n</body>\n</html>\n"

@@ -1,6 +1,6 @@
 //! The page of a change, for people.
 
-ghost use Rattle.std.specs.Prelude.{IfOk};
+ghost use Rattle.std.specs.Prelude.{IfOk, IfSome};
 ghost use Rattle.std.specs.List.Sorted.{IsStrictlySortedBy};
 ghost use Rattle.state_core.specs.Items.{IsItem, item_cmp};
 ghost use Rattle.ready_core.specs.Verdicts.{items_out};
@@ -45,7 +45,7 @@ pub fn change_page(
     requires there { IsItem state.now item }
     ensures { IfOk result (λ text. IsTitled (item_title state.now item) text.items) }
 {
-    let main = main_of(alloc, item, gate, state, verdicts)?;
+    let main = main_of(alloc, item, gate, state, verdicts);
     let text = titled_page(alloc, state, item, facts.site, &main)?;
     Ok(text)
 }
@@ -60,15 +60,15 @@ fn titled_page(
 ) -> Result<Vec<u8>, NoMemory>
     ensures { IfOk result (λ text. IsTitled (item_title state.now item) text.items) }
 {
-    let mut page = begin_titled(alloc, state, item, site)?;
-    page.append(main)?;
+    let mut page = begin_titled(alloc, state, item, site);
+    page.append(main);
     let text = end(page)?;
     Ok(text)
 }
 
 /// The page of an item up to where its own part begins.
-fn begin_titled(alloc: Global, state: &State, item: Item, site: u16) -> Result<Markup, NoMemory>
-    ensures { IfOk result (IsTitled (item_title state.now item)) }
+fn begin_titled(alloc: Global, state: &State, item: Item, site: u16) -> Markup
+    ensures { IfSome result (IsTitled (item_title state.now item)) }
 {
     begin(
         alloc,
@@ -85,21 +85,13 @@ fn begin_titled(alloc: Global, state: &State, item: Item, site: u16) -> Result<M
 }
 
 /// The part of the page that is the item's own.
-fn main_of(
-    alloc: Global,
-    item: Item,
-    gate: &Gate,
-    state: &State,
-    verdicts: &Verdicts,
-) -> Result<Markup, NoMemory>
+fn main_of(alloc: Global, item: Item, gate: &Gate, state: &State, verdicts: &Verdicts) -> Markup
     requires rising { IsStrictlySortedBy item_cmp (items_out verdicts.now.out) }
     requires there { IsItem state.now item }
 {
     let mut page = Markup::new(alloc);
-    match add_main(alloc, &mut page, item, gate, state, verdicts) {
-        Ok(()) => Ok(page),
-        Err(NoMemory) => Err(NoMemory),
-    }
+    add_main(alloc, &mut page, item, gate, state, verdicts);
+    page
 }
 
 /// Adds the part of the page that is the item's own.
@@ -110,20 +102,19 @@ fn add_main(
     gate: &Gate,
     state: &State,
     verdicts: &Verdicts,
-) -> Result<(), NoMemory>
+)
     requires rising { IsStrictlySortedBy item_cmp (items_out verdicts.now.out) }
     requires there { IsItem state.now item }
 {
-    add_head(page, state, item)?;
-    add_verdict(alloc, page, gate, state, verdicts, item)?;
-    add_conditions(alloc, page, gate, state, item)?;
+    add_head(page, state, item);
+    add_verdict(alloc, page, gate, state, verdicts, item);
+    add_conditions(alloc, page, gate, state, item);
     if let Some(change) = state.change(item.change) {
-        add_change(page, item.change, change)?;
+        add_change(page, item.change, change);
     }
-    add_needs_of(alloc, page, gate, state, item)?;
-    add_around(alloc, page, gate, state, verdicts, item)?;
-    page.add(&[Piece::Markup("</div>\n")])?;
-    Ok(())
+    add_needs_of(alloc, page, gate, state, item);
+    add_around(alloc, page, gate, state, verdicts, item);
+    page.add(&[Piece::Markup("</div>\n")]);
 }
 
 /// Adds what waits for the item, and the drawing of that and of what it waits for.
@@ -134,16 +125,41 @@ fn add_around(
     state: &State,
     verdicts: &Verdicts,
     item: Item,
-) -> Result<(), NoMemory>
+)
     requires { IsStrictlySortedBy item_cmp (items_out verdicts.now.out) }
 {
-    let waiting = waiting_for(alloc, verdicts.out(), item.change)?;
-    add_waiting(page, waiting.as_slice())?;
-    add_drawing(alloc, page, gate, state, verdicts, item, waiting.as_slice())
+    match waiting_for(alloc, verdicts.out(), item.change) {
+        Ok(waiting) => add_those_around(
+            alloc,
+            page,
+            gate,
+            state,
+            verdicts,
+            item,
+            waiting.as_slice(),
+        ),
+        Err(_) => page.refuse(),
+    }
+}
+
+/// Adds these items, which wait for the item, and the drawing.
+fn add_those_around(
+    alloc: Global,
+    page: &mut Markup,
+    gate: &Gate,
+    state: &State,
+    verdicts: &Verdicts,
+    item: Item,
+    waiting: &[Item],
+)
+    requires { IsStrictlySortedBy item_cmp (items_out verdicts.now.out) }
+{
+    add_waiting(page, waiting);
+    add_drawing(alloc, page, gate, state, verdicts, item, waiting);
 }
 
 /// Adds the item and its subject.
-fn add_head(page: &mut Markup, state: &State, item: Item) -> Result<(), NoMemory> {
+fn add_head(page: &mut Markup, state: &State, item: Item) {
     page.add(&[
         Piece::Markup("<h1>Change "),
         Piece::Number(u64::from(item.change)),
@@ -152,8 +168,7 @@ fn add_head(page: &mut Markup, state: &State, item: Item) -> Result<(), NoMemory
         Piece::Markup("</h1>\n<p>"),
         Piece::Text(subject_of(state, item)),
         Piece::Markup("</p>\n<div id=\"live\">\n"),
-    ])?;
-    Ok(())
+    ]);
 }
 
 /// Adds whether the item may enter, and if not, why.
@@ -164,90 +179,96 @@ fn add_verdict(
     state: &State,
     verdicts: &Verdicts,
     item: Item,
-) -> Result<(), NoMemory>
+)
     requires { IsStrictlySortedBy item_cmp (items_out verdicts.now.out) }
 {
     match verdict_on(verdicts, item) {
-        None => Ok(()),
+        None => {}
         Some(Row::Enters(_, place)) => add_ready(page, place),
-        Some(Row::Waits(left)) => {
-            let steps = walk_from(alloc, state, verdicts, left)?;
-            add_steps(alloc, page, gate, steps.as_slice())
-        }
+        Some(Row::Waits(left)) => add_walk(alloc, page, gate, state, verdicts, left),
+    }
+}
+
+/// Adds why the item waits.
+fn add_walk(
+    alloc: Global,
+    page: &mut Markup,
+    gate: &Gate,
+    state: &State,
+    verdicts: &Verdicts,
+    left: Left,
+)
+    requires { IsStrictlySortedBy item_cmp (items_out verdicts.now.out) }
+{
+    match walk_from(alloc, state, verdicts, left) {
+        Ok(steps) => add_steps(alloc, page, gate, steps.as_slice()),
+        Err(_) => page.refuse(),
     }
 }
 
 /// Adds that the item is ready.
-fn add_ready(page: &mut Markup, place: usize) -> Result<(), NoMemory> {
+fn add_ready(page: &mut Markup, place: usize) {
     page.add(&[
         Piece::Markup("<p class=\"ready\">It is ready, at place "),
         Piece::Number(place as u64),
         Piece::Markup(" in gate order.</p>\n"),
-    ])?;
-    Ok(())
+    ]);
 }
 
 /// Adds the items that wait for each other, down to the cause, and what the gate asks there.
-fn add_steps(
-    alloc: Global,
-    page: &mut Markup,
-    gate: &Gate,
-    steps: &[Left],
-) -> Result<(), NoMemory> {
-    page.add(&[Piece::Markup("<h2>Why it waits</h2>\n<ol>\n")])?;
+fn add_steps(alloc: Global, page: &mut Markup, gate: &Gate, steps: &[Left]) {
+    page.add(&[Piece::Markup("<h2>Why it waits</h2>\n<ol>\n")]);
     for step in steps {
-        add_step(alloc, page, *step)?;
+        add_step(alloc, page, *step);
     }
-    page.add(&[Piece::Markup("</ol>\n")])?;
+    page.add(&[Piece::Markup("</ol>\n")]);
     match steps.last() {
         Some(cause) => add_cause(page, gate, cause.refusal),
-        None => Ok(()),
+        None => {}
     }
 }
 
 /// Adds an item that is left out to the list of those that wait for each other.
-fn add_step(alloc: Global, page: &mut Markup, step: Left) -> Result<(), NoMemory> {
-    page.add(&[Piece::Markup("<li class=\"waits\">")])?;
-    add_left(alloc, page, step)?;
-    page.add(&[Piece::Markup("</li>\n")])?;
-    Ok(())
+fn add_step(alloc: Global, page: &mut Markup, step: Left) {
+    page.add(&[Piece::Markup("<li class=\"waits\">")]);
+    add_left(alloc, page, step);
+    page.add(&[Piece::Markup("</li>\n")]);
 }
 
 /// Adds what the gate asks at the place of a condition that is broken.
-fn add_cause(page: &mut Markup, gate: &Gate, refusal: Refusal) -> Result<(), NoMemory> {
+fn add_cause(page: &mut Markup, gate: &Gate, refusal: Refusal) {
     let Refusal::Own(condition) = refusal else {
-        return Ok(());
+        return;
     };
     page.add(&[
         Piece::Markup("<p>The gate has there: "),
         Piece::Markup(condition.side.name()),
         Piece::Markup(" "),
-    ])?;
-    add_wanted(page, gate, condition)?;
-    page.add(&[Piece::Markup(".</p>\n")])?;
-    Ok(())
+    ]);
+    add_wanted(page, gate, condition);
+    page.add(&[Piece::Markup(".</p>\n")]);
 }
 
 /// Adds what is known of a change: its status, its votes and its patch sets.
-fn add_change(page: &mut Markup, number: u32, change: &ChangeState) -> Result<(), NoMemory> {
+fn add_change(page: &mut Markup, number: u32, change: &ChangeState) {
     page.add(&[
         Piece::Markup("<p>The status of the change is "),
         Piece::Markup(change.status().name()),
         Piece::Markup(".</p>\n"),
-    ])?;
+    ]);
     if let Some(current) = change.current() {
-        add_votes(page, change, current)?;
+        add_votes(page, change, current);
     }
-    add_sets(page, number, change)
+    add_sets(page, number, change);
 }
 
 /// Adds the approvals of the current patch set.
-fn add_votes(page: &mut Markup, change: &ChangeState, current: u32) -> Result<(), NoMemory> {
+fn add_votes(page: &mut Markup, change: &ChangeState, current: u32) {
     page.add(&[
         Piece::Markup("<table>\n<caption>Votes on the current patch set, "),
         Piece::Number(u64::from(current)),
         Piece::Markup(VOTES_HEAD),
-    ])?;
+    ]);
     for approval in change.approvals(current) {
         page.add(&[
             Piece::Markup("<tr><td>"),
@@ -257,54 +278,47 @@ fn add_votes(page: &mut Markup, change: &ChangeState, current: u32) -> Result<()
             Piece::Markup("</td><td>"),
             Piece::Signed(i64::from(approval.value)),
             Piece::Markup("</td></tr>\n"),
-        ])?;
+        ]);
     }
-    page.add(&[Piece::Markup("</tbody>\n</table>\n")])?;
-    Ok(())
+    page.add(&[Piece::Markup("</tbody>\n</table>\n")]);
 }
 
 /// Adds the patch sets of a change with their subjects.
-fn add_sets(page: &mut Markup, number: u32, change: &ChangeState) -> Result<(), NoMemory> {
-    page.add(&[Piece::Markup("<h2>Patch sets</h2>\n<ul>\n")])?;
+fn add_sets(page: &mut Markup, number: u32, change: &ChangeState) {
+    page.add(&[Piece::Markup("<h2>Patch sets</h2>\n<ul>\n")]);
     for (set, register) in change.sets() {
         let subject = first_line(register.value().message.as_str());
         let item = Item {
             change: number,
             set: *set,
         };
-        add_set(page, item, subject)?;
+        add_set(page, item, subject);
     }
-    page.add(&[Piece::Markup("</ul>\n")])?;
-    Ok(())
+    page.add(&[Piece::Markup("</ul>\n")]);
 }
 
 /// Adds a patch set with its subject.
-fn add_set(page: &mut Markup, item: Item, subject: &str) -> Result<(), NoMemory> {
-    page.add(&[Piece::Markup("<li>")])?;
-    add_item_link(page, item)?;
+fn add_set(page: &mut Markup, item: Item, subject: &str) {
+    page.add(&[Piece::Markup("<li>")]);
+    add_item_link(page, item);
     page.add(&[
         Piece::Markup(": "),
         Piece::Text(subject),
         Piece::Markup("</li>\n"),
-    ])?;
-    Ok(())
+    ]);
 }
 
 /// Adds the changes that the item names as its dependencies.
-fn add_needs_of(
-    alloc: Global,
-    page: &mut Markup,
-    gate: &Gate,
-    state: &State,
-    item: Item,
-) -> Result<(), NoMemory> {
-    let needs = needs_of(alloc, gate, state, item)?;
-    add_needs(page, state, needs.as_slice())
+fn add_needs_of(alloc: Global, page: &mut Markup, gate: &Gate, state: &State, item: Item) {
+    match needs_of(alloc, gate, state, item) {
+        Ok(needs) => add_needs(page, state, needs.as_slice()),
+        Err(_) => page.refuse(),
+    }
 }
 
 /// Adds changes that are named, with their statuses.
-fn add_needs(page: &mut Markup, state: &State, needs: &[u32]) -> Result<(), NoMemory> {
-    page.add(&[Piece::Markup("<h2>Depends on</h2>\n<ul>\n")])?;
+fn add_needs(page: &mut Markup, state: &State, needs: &[u32]) {
+    page.add(&[Piece::Markup("<h2>Depends on</h2>\n<ul>\n")]);
     for need in needs {
         let number = Piece::Number(u64::from(*need));
         page.add(&[
@@ -315,10 +329,9 @@ fn add_needs(page: &mut Markup, state: &State, needs: &[u32]) -> Result<(), NoMe
             Piece::Markup("</a> "),
             Piece::Markup(status_of(state, *need)),
             Piece::Markup("</li>\n"),
-        ])?;
+        ]);
     }
-    page.add(&[Piece::Markup("</ul>\n")])?;
-    Ok(())
+    page.add(&[Piece::Markup("</ul>\n")]);
 }
 
 /// The status of a change in a word.

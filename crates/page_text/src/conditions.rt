@@ -14,34 +14,33 @@ use std::alloc::Global;
 use why_text::refusal_words;
 
 /// Adds each condition of the gate to the page of an item, in the order in which it is judged.
-pub fn add_conditions(
-    alloc: Global,
-    page: &mut Markup,
-    gate: &Gate,
-    state: &State,
-    item: Item,
-) -> Result<(), NoMemory>
+pub fn add_conditions(alloc: Global, page: &mut Markup, gate: &Gate, state: &State, item: Item)
     requires { IsItem state.now item }
 {
-    let tried = gate.conditions(alloc, state, item)?;
-    page.add(&[Piece::Markup("<h2>What the gate asks</h2>\n<ul>\n")])?;
-    for one in &tried {
-        add_condition(page, gate, *one)?;
+    match gate.conditions(alloc, state, item) {
+        Ok(tried) => add_tried(page, gate, tried.as_slice()),
+        Err(_) => page.refuse(),
     }
-    page.add(&[Piece::Markup("</ul>\n")])?;
-    Ok(())
+}
+
+/// Adds the list of these conditions.
+fn add_tried(page: &mut Markup, gate: &Gate, tried: &[Tried]) {
+    page.add(&[Piece::Markup("<h2>What the gate asks</h2>\n<ul>\n")]);
+    for one in tried {
+        add_condition(page, gate, *one);
+    }
+    page.add(&[Piece::Markup("</ul>\n")]);
 }
 
 /// Adds a condition, and whether it is met.
-fn add_condition(page: &mut Markup, gate: &Gate, tried: Tried) -> Result<(), NoMemory> {
+fn add_condition(page: &mut Markup, gate: &Gate, tried: Tried) {
     page.add(&[
         Piece::Markup(mark_of(tried.is_broken)),
         Piece::Markup(tried.condition.side.name()),
         Piece::Markup(" "),
-    ])?;
-    add_wanted(page, gate, tried.condition)?;
-    page.add(&[Piece::Markup("</li>\n")])?;
-    Ok(())
+    ]);
+    add_wanted(page, gate, tried.condition);
+    page.add(&[Piece::Markup("</li>\n")]);
 }
 
 /// What comes before a condition.

@@ -46,37 +46,112 @@ pub fn add_drawing(
     verdicts: &Verdicts,
     item: Item,
     waiting: &[Item],
-) -> Result<(), NoMemory>
+)
     requires { IsStrictlySortedBy item_cmp (items_out verdicts.now.out) }
 {
-    let changes = reached_from(alloc, gate, state, item)?;
+    match reached_from(alloc, gate, state, item) {
+        Ok(changes) => add_drawing_of(
+            alloc,
+            page,
+            gate,
+            state,
+            verdicts,
+            item,
+            waiting,
+            changes.as_slice(),
+        ),
+        Err(_) => page.refuse(),
+    }
+}
+
+/// Adds the drawing of what waits for the item and of these changes, which are reached from it.
+fn add_drawing_of(
+    alloc: Global,
+    page: &mut Markup,
+    gate: &Gate,
+    state: &State,
+    verdicts: &Verdicts,
+    item: Item,
+    waiting: &[Item],
+    changes: &[u32],
+)
+    requires { IsStrictlySortedBy item_cmp (items_out verdicts.now.out) }
+{
     let count = changes.len().saturating_add(waiting.len());
     if count < 2 {
-        return Ok(());
+        return;
     }
-    page.add(&[Piece::Markup("<h2>Drawing</h2>\n")])?;
+    page.add(&[Piece::Markup("<h2>Drawing</h2>\n")]);
     if count > MOST {
-        return add_too_many(page);
+        add_too_many(page);
+        return;
     }
-    let needs = needs_of_all(alloc, gate, state, item, changes.as_slice())?;
-    let (nodes, waiters) = nodes_of(
+    match picture_of(alloc, gate, state, verdicts, item, waiting, changes) {
+        Ok(picture) => add_picture(page, &picture),
+        Err(_) => page.refuse(),
+    }
+}
+
+/// What is drawn: nodes, how many the first ones are, which wait for the one after them, and what each of the others
+/// names.
+#[derive(Drop)]
+struct Picture {
+    nodes: Vec<Node>,
+    waiters: usize,
+    needs: Vec<Vec<u32>>,
+}
+
+/// The picture of what waits for the item and of these changes, which are reached from it.
+fn picture_of(
+    alloc: Global,
+    gate: &Gate,
+    state: &State,
+    verdicts: &Verdicts,
+    item: Item,
+    waiting: &[Item],
+    changes: &[u32],
+) -> Result<Picture, NoMemory>
+    requires { IsStrictlySortedBy item_cmp (items_out verdicts.now.out) }
+{
+    let needs = needs_of_all(alloc, gate, state, item, changes)?;
+    picture_with(alloc, state, verdicts, item, waiting, changes, needs)
+}
+
+/// The picture of what waits for the item and of these changes, which name these.
+fn picture_with(
+    alloc: Global,
+    state: &State,
+    verdicts: &Verdicts,
+    item: Item,
+    waiting: &[Item],
+    changes: &[u32],
+    needs: Vec<Vec<u32>>,
+) -> Result<Picture, NoMemory>
+    requires { IsStrictlySortedBy item_cmp (items_out verdicts.now.out) }
+{
+    match nodes_of(
         alloc,
         state,
         verdicts,
         item,
         waiting,
-        changes.as_slice(),
+        changes,
         needs.as_slice(),
-    )?;
-    add_picture(page, nodes.as_slice(), waiters, needs.as_slice())
+    ) {
+        Ok((nodes, waiters)) => Ok(Picture {
+            nodes,
+            waiters,
+            needs,
+        }),
+        Err(NoMemory) => Err(NoMemory),
+    }
 }
 
 /// Adds that there is too much to be drawn.
-fn add_too_many(page: &mut Markup) -> Result<(), NoMemory> {
+fn add_too_many(page: &mut Markup) {
     page.add(&[Piece::Markup(
         "<p>More than 60 changes would be drawn: the lists have them.</p>\n",
-    )])?;
-    Ok(())
+    )]);
 }
 
 /// The nodes of what waits for the item and of these changes, which name these; and how many the first ones are, which
@@ -229,51 +304,38 @@ fn word_of(state: &State, verdicts: &Verdicts, item: Option<Item>) -> &'static s
     }
 }
 
-/// Adds the picture of some nodes: the first ones, as many as wait, lead to the one after them, and the others to what
-/// they name.
-fn add_picture(
-    page: &mut Markup,
-    nodes: &[Node],
-    waiters: usize,
-    needs: &[Vec<u32>],
-) -> Result<(), NoMemory> {
+/// Adds a picture: the first nodes, as many as wait, lead to the one after them, and the others to what they name.
+fn add_picture(page: &mut Markup, picture: &Picture) {
+    let nodes = picture.nodes.as_slice();
     let width = left_of(last_column(nodes)).saturating_add(WIDTH + 10);
     let height = top_of(last_row(nodes)).saturating_add(HEIGHT + 10);
-    begin_picture(page, width, height)?;
-    add_lines(page, nodes, waiters, needs)?;
-    add_nodes(page, nodes)?;
-    page.add(&[Piece::Markup("</svg>\n</div>\n")])?;
-    Ok(())
+    begin_picture(page, width, height);
+    add_lines(page, nodes, picture.waiters, picture.needs.as_slice());
+    add_nodes(page, nodes);
+    page.add(&[Piece::Markup("</svg>\n</div>\n")]);
 }
 
 /// Adds the lines between nodes, of which the first ones, as many as wait, lead to the one after them.
-fn add_lines(
-    page: &mut Markup,
-    nodes: &[Node],
-    waiters: usize,
-    needs: &[Vec<u32>],
-) -> Result<(), NoMemory> {
+fn add_lines(page: &mut Markup, nodes: &[Node], waiters: usize, needs: &[Vec<u32>]) {
     let (waiting, reached) = nodes.split_at(waiters.min(nodes.len()));
     if let Some(item) = reached.first() {
-        add_edges(page, waiting, *item)?;
+        add_edges(page, waiting, *item);
     }
-    add_all_named(page, reached, needs)
+    add_all_named(page, reached, needs);
 }
 
 /// Adds the lines from each of some nodes to those of them that it names.
-fn add_all_named(page: &mut Markup, nodes: &[Node], needs: &[Vec<u32>]) -> Result<(), NoMemory> {
+fn add_all_named(page: &mut Markup, nodes: &[Node], needs: &[Vec<u32>]) {
     for (node, names) in nodes.iter().zip(needs) {
-        add_named(page, *node, nodes, names.as_slice())?;
+        add_named(page, *node, nodes, names.as_slice());
     }
-    Ok(())
 }
 
 /// Adds nodes.
-fn add_nodes(page: &mut Markup, nodes: &[Node]) -> Result<(), NoMemory> {
+fn add_nodes(page: &mut Markup, nodes: &[Node]) {
     for node in nodes {
-        add_node(page, *node)?;
+        add_node(page, *node);
     }
-    Ok(())
 }
 
 /// The last column that a node is in.
@@ -287,7 +349,7 @@ fn last_row(nodes: &[Node]) -> u64 {
 }
 
 /// Begins a picture that is so wide and so high.
-fn begin_picture(page: &mut Markup, width: u64, height: u64) -> Result<(), NoMemory> {
+fn begin_picture(page: &mut Markup, width: u64, height: u64) {
     let (width, height) = (Piece::Number(width), Piece::Number(height));
     page.add(&[
         Piece::Markup(
@@ -304,8 +366,7 @@ fn begin_picture(page: &mut Markup, width: u64, height: u64) -> Result<(), NoMem
         Piece::Markup(
             "\">\n<title id=\"drawn\">What waits for the item, and what it waits for</title>\n",
         ),
-    ])?;
-    Ok(())
+    ]);
 }
 
 /// Where a column begins.
@@ -319,25 +380,23 @@ fn top_of(row: u64) -> u64 {
 }
 
 /// Adds a line from each of some nodes to another one.
-fn add_edges(page: &mut Markup, from: &[Node], to: Node) -> Result<(), NoMemory> {
+fn add_edges(page: &mut Markup, from: &[Node], to: Node) {
     for node in from {
-        add_edge(page, *node, to)?;
+        add_edge(page, *node, to);
     }
-    Ok(())
 }
 
 /// Adds a line from a node to each of those that are named.
-fn add_named(page: &mut Markup, from: Node, nodes: &[Node], names: &[u32]) -> Result<(), NoMemory> {
+fn add_named(page: &mut Markup, from: Node, nodes: &[Node], names: &[u32]) {
     for node in nodes {
         if names.contains(&node.change) {
-            add_edge(page, from, *node)?;
+            add_edge(page, from, *node);
         }
     }
-    Ok(())
 }
 
 /// Adds a line from the right side of a node to the left side of another one.
-fn add_edge(page: &mut Markup, from: Node, to: Node) -> Result<(), NoMemory> {
+fn add_edge(page: &mut Markup, from: Node, to: Node) {
     page.add(&[
         Piece::Markup("<line x1=\""),
         Piece::Number(left_of(from.column).saturating_add(WIDTH)),
@@ -348,15 +407,14 @@ fn add_edge(page: &mut Markup, from: Node, to: Node) -> Result<(), NoMemory> {
         Piece::Markup("\" y2=\""),
         Piece::Number(top_of(to.row).saturating_add(HEIGHT / 2)),
         Piece::Markup("\"/>\n"),
-    ])?;
-    Ok(())
+    ]);
 }
 
 /// Adds a node with a link to its page.
-fn add_node(page: &mut Markup, node: Node) -> Result<(), NoMemory> {
+fn add_node(page: &mut Markup, node: Node) {
     let (left, top) = (left_of(node.column), top_of(node.row));
-    page.add(&[Piece::Markup("<a href=\"/change/")])?;
-    add_name(page, node)?;
+    page.add(&[Piece::Markup("<a href=\"/change/")]);
+    add_name(page, node);
     page.add(&[
         Piece::Markup("\"><rect class=\""),
         Piece::Markup(node.word),
@@ -369,21 +427,19 @@ fn add_node(page: &mut Markup, node: Node) -> Result<(), NoMemory> {
         Piece::Markup("\" y=\""),
         Piece::Number(top.saturating_add(19)),
         Piece::Markup("\">"),
-    ])?;
-    add_name(page, node)?;
+    ]);
+    add_name(page, node);
     page.add(&[
         Piece::Markup(" "),
         Piece::Markup(node.word),
         Piece::Markup("</text></a>\n"),
-    ])?;
-    Ok(())
+    ]);
 }
 
 /// Adds what a node is called: its item, or its change where no patch set is known.
-fn add_name(page: &mut Markup, node: Node) -> Result<(), NoMemory> {
-    page.add(&[Piece::Number(u64::from(node.change))])?;
+fn add_name(page: &mut Markup, node: Node) {
+    page.add(&[Piece::Number(u64::from(node.change))]);
     if let Some(set) = node.set {
-        page.add(&[Piece::Markup(","), Piece::Number(u64::from(set))])?;
+        page.add(&[Piece::Markup(","), Piece::Number(u64::from(set))]);
     }
-    Ok(())
 }

@@ -1,7 +1,6 @@
 //! The form in which a list is asked for.
 
 use super::names::{KINDS, REASONS, reason_name, shown_name};
-use lattice_core::NoMemory;
 use markup_text::{Markup, Piece};
 use page_routes::{Choice, Reason, Shown};
 
@@ -27,7 +26,7 @@ const LAST: &str = r#"</select></p>
 "#;
 
 /// Adds the form, with what is asked for filled in.
-pub fn add_form(page: &mut Markup, choice: &Choice) -> Result<(), NoMemory> {
+pub fn add_form(page: &mut Markup, choice: &Choice) {
     let words = match &choice.words {
         Some(words) => words.as_str(),
         None => "",
@@ -36,32 +35,29 @@ pub fn add_form(page: &mut Markup, choice: &Choice) -> Result<(), NoMemory> {
         Piece::Markup(FIRST),
         Piece::Text(words),
         Piece::Markup(KINDS_BEGIN),
-    ])?;
-    add_kinds(page, choice.shown)?;
-    page.add(&[Piece::Markup(REASONS_BEGIN)])?;
-    add_reasons(page, choice.reason)?;
-    page.add(&[Piece::Markup(LAST)])?;
-    Ok(())
+    ]);
+    add_kinds(page, choice.shown);
+    page.add(&[Piece::Markup(REASONS_BEGIN)]);
+    add_reasons(page, choice.reason);
+    page.add(&[Piece::Markup(LAST)]);
 }
 
 /// Adds the kinds of items that can be chosen.
-fn add_kinds(page: &mut Markup, shown: Shown) -> Result<(), NoMemory> {
+fn add_kinds(page: &mut Markup, shown: Shown) {
     for kind in KINDS {
-        add_option(page, shown_name(kind), kind == shown)?;
+        add_option(page, shown_name(kind), kind == shown);
     }
-    Ok(())
 }
 
 /// Adds the reasons that can be chosen.
-fn add_reasons(page: &mut Markup, asked: Option<Reason>) -> Result<(), NoMemory> {
+fn add_reasons(page: &mut Markup, asked: Option<Reason>) {
     for reason in REASONS {
-        add_option(page, reason_name(reason), asked == Some(reason))?;
+        add_option(page, reason_name(reason), asked == Some(reason));
     }
-    Ok(())
 }
 
 /// Adds what can be chosen.
-fn add_option(page: &mut Markup, name: &'static str, is_chosen: bool) -> Result<(), NoMemory> {
+fn add_option(page: &mut Markup, name: &'static str, is_chosen: bool) {
     let begin = if is_chosen {
         "<option selected>"
     } else {
@@ -71,6 +67,5 @@ fn add_option(page: &mut Markup, name: &'static str, is_chosen: bool) -> Result<
         Piece::Markup(begin),
         Piece::Markup(name),
         Piece::Markup("</option>\n"),
-    ])?;
-    Ok(())
+    ]);
 }

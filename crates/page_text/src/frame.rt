@@ -1,8 +1,9 @@
 //! What all pages for people have in common.
 
-ghost use Rattle.std.specs.Prelude.{◌≡◌, ◌++◌, IfOk, OnOk, codes, flat_map};
+ghost use Rattle.std.specs.Prelude.{◌++◌, IfOk, IfSome, codes, flat_map};
+ghost use Rattle.markup_text.specs.Growing.{Adds};
 ghost use Rattle.markup_text.specs.Pieces.{piece_html};
-ghost use Rattle.page_text.specs.Titles.{IsTitled};
+ghost use Rattle.page_text.specs.Titles.{IsEnded, IsTitled};
 
 use lattice_core::NoMemory;
 use markup_text::{Markup, Piece};
@@ -26,36 +27,35 @@ const AFTER_TITLE: &str = r#"
 <header><p><a href="/">reviewgate</a>, site "#;
 
 /// A page with a title up to where its own part begins.
-pub fn begin(alloc: Global, title: &[Piece<'_>], site: u16) -> Result<Markup, NoMemory>
-    ensures { IfOk result (IsTitled (flat_map piece_html title.now)) }
+pub fn begin(alloc: Global, title: &[Piece<'_>], site: u16) -> Markup
+    ensures { IfSome result (IsTitled (flat_map piece_html title.now)) }
 {
     let mut page = Markup::new(alloc);
-    page.add(&[Piece::Markup(BEFORE_TITLE)])?;
-    add_title(&mut page, title)?;
+    page.add(&[Piece::Markup(BEFORE_TITLE)]);
+    add_title(&mut page, title);
     page.add(&[
         Piece::Markup(AFTER_TITLE),
         Piece::Number(u64::from(site)),
         Piece::Markup("</p></header>\n<main>\n"),
-    ])?;
-    Ok(page)
+    ]);
+    page
 }
 
 /// Adds the title.
-fn add_title(page: &mut Markup, title: &[Piece<'_>]) -> Result<(), NoMemory>
-    ensures { OnOk result (page.new
-        ≡ page.old ++ (codes "<title>" ++ flat_map piece_html title.now ++ codes "</title>")) }
+fn add_title(page: &mut Markup, title: &[Piece<'_>])
+    ensures { Adds (codes "<title>" ++ flat_map piece_html title.now ++ codes "</title>") page.old page.new }
 {
-    page.add(&[Piece::Markup("<title>")])?;
-    page.add(title)?;
-    page.add(&[Piece::Markup("</title>")])?;
-    Ok(())
+    page.add(&[Piece::Markup("<title>")]);
+    page.add(title);
+    page.add(&[Piece::Markup("</title>")]);
 }
 
 /// The bytes of a page whose own part ends here.
 pub fn end(page: Markup) -> Result<Vec<u8>, NoMemory>
-    ensures { IfOk result (λ text. text.items ≡ page ++ codes "</main>\n</body>\n</html>\n") }
+    ensures { IfOk result (λ text. IsEnded page text.items) }
 {
     let mut page = page;
-    page.add(&[Piece::Markup("</main>\n</body>\n</html>\n")])?;
-    Ok(page.into_bytes())
+    page.add(&[Piece::Markup("</main>\n</body>\n</html>\n")]);
+    let text = page.end()?;
+    Ok(text)
 }

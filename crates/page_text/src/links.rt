@@ -1,10 +1,9 @@
 //! Links from one page to another.
 
-ghost use Rattle.std.specs.Prelude.{◌≡◌, ◌++◌, OnOk};
+ghost use Rattle.markup_text.specs.Growing.{Adds};
 ghost use Rattle.page_text.specs.Table.{link_html};
 
 use super::names::{reason_name, shown_name};
-use lattice_core::NoMemory;
 use markup_text::{Markup, Piece};
 use page_routes::{Choice, Reason};
 use ready_core::{Left, Refusal};
@@ -13,8 +12,8 @@ use std::alloc::Global;
 use why_text::refusal_words;
 
 /// Adds an item, as `101,2`, with a link to its page.
-pub fn add_item_link(page: &mut Markup, item: Item) -> Result<(), NoMemory>
-    ensures { OnOk result (page.new ≡ page.old ++ link_html item) }
+pub fn add_item_link(page: &mut Markup, item: Item)
+    ensures { Adds (link_html item) page.old page.new }
 {
     let change = Piece::Number(u64::from(item.change));
     let set = Piece::Number(u64::from(item.set));
@@ -29,57 +28,51 @@ pub fn add_item_link(page: &mut Markup, item: Item) -> Result<(), NoMemory>
         comma,
         set,
         Piece::Markup("</a>"),
-    ])?;
-    Ok(())
+    ]);
 }
 
 /// Adds an item that is left out, with a link to its page, and its refusal.
-pub fn add_left(alloc: Global, page: &mut Markup, left: Left) -> Result<(), NoMemory> {
-    add_item_link(page, left.item)?;
-    page.add(&[Piece::Markup(" ")])?;
-    add_refusal_words(alloc, page, left.refusal)
+pub fn add_left(alloc: Global, page: &mut Markup, left: Left) {
+    add_item_link(page, left.item);
+    page.add(&[Piece::Markup(" ")]);
+    add_refusal_words(alloc, page, left.refusal);
 }
 
 /// Adds a refusal in the words of a report.
-pub fn add_refusal_words(
-    alloc: Global,
-    page: &mut Markup,
-    refusal: Refusal,
-) -> Result<(), NoMemory> {
-    let words = refusal_words(alloc, refusal)?;
-    page.add(&[Piece::Text(words.as_str())])?;
-    Ok(())
+pub fn add_refusal_words(alloc: Global, page: &mut Markup, refusal: Refusal) {
+    match refusal_words(alloc, refusal) {
+        Ok(words) => page.add(&[Piece::Text(words.as_str())]),
+        Err(_) => page.refuse(),
+    }
 }
 
 /// Adds the address of a page of a list.
-pub fn add_address(page: &mut Markup, choice: &Choice, number: u64) -> Result<(), NoMemory> {
+pub fn add_address(page: &mut Markup, choice: &Choice, number: u64) {
     page.add(&[
         Piece::Markup("/?show="),
         Piece::Markup(shown_name(choice.shown)),
         Piece::Markup("&amp;page="),
         Piece::Number(number),
-    ])?;
-    add_reason(page, choice.reason)?;
-    add_words(page, choice)
+    ]);
+    add_reason(page, choice.reason);
+    add_words(page, choice);
 }
 
 /// Adds the reason that is asked for, if one is.
-fn add_reason(page: &mut Markup, reason: Option<Reason>) -> Result<(), NoMemory> {
+fn add_reason(page: &mut Markup, reason: Option<Reason>) {
     let Some(reason) = reason else {
-        return Ok(());
+        return;
     };
     page.add(&[
         Piece::Markup("&amp;reason="),
         Piece::Markup(reason_name(reason)),
-    ])?;
-    Ok(())
+    ]);
 }
 
 /// Adds the words that are searched for, if some are.
-fn add_words(page: &mut Markup, choice: &Choice) -> Result<(), NoMemory> {
+fn add_words(page: &mut Markup, choice: &Choice) {
     let Some(words) = &choice.words else {
-        return Ok(());
+        return;
     };
-    page.add(&[Piece::Markup("&amp;q="), Piece::Query(words.as_str())])?;
-    Ok(())
+    page.add(&[Piece::Markup("&amp;q="), Piece::Query(words.as_str())]);
 }

@@ -1,6 +1,6 @@
 //! The list of the items, as a page for people.
 
-ghost use Rattle.std.specs.Prelude.{IfOk, OnOk};
+ghost use Rattle.std.specs.Prelude.{IfOk, IfSome};
 ghost use Rattle.std.specs.List.Sorted.{IsStrictlySortedBy};
 ghost use Rattle.state_core.specs.Items.{item_cmp};
 ghost use Rattle.state_core.specs.State.{state_of};
@@ -48,8 +48,8 @@ pub fn list_page(
         (rows_on choice.now.page (chosen_rows (state_of replica.now) choice.now verdicts.now)) text.items) }
 {
     let chosen = chosen_rows(alloc, replica.state(), verdicts, choice)?;
-    let top = top_of(alloc, choice, verdicts, facts, chosen.len())?;
-    let bottom = bottom_of(alloc, choice, chosen.len())?;
+    let top = top_of(alloc, choice, verdicts, facts, chosen.len());
+    let bottom = bottom_of(alloc, choice, chosen.len());
     let rows = rows_of(chosen.as_slice(), choice.page);
     let text = page_between(alloc, top, &bottom, gate, replica.state(), verdicts, rows)?;
     Ok(text)
@@ -69,7 +69,7 @@ fn page_between(
     ensures { IfOk result (λ text. HasRows state.now rows.now text.items) }
 {
     let mut page = top;
-    add_table(alloc, &mut page, bottom, gate, state, verdicts, rows)?;
+    add_table(alloc, &mut page, bottom, gate, state, verdicts, rows);
     let text = end(page)?;
     Ok(text)
 }
@@ -83,13 +83,12 @@ fn add_table(
     state: &State,
     verdicts: &Verdicts,
     rows: &[Row],
-) -> Result<(), NoMemory>
+)
     requires { IsStrictlySortedBy item_cmp (items_out verdicts.now.out) }
-    ensures { OnOk result (HasRows state.now rows.now page.new) }
+    ensures { IfSome page.new (HasRows state.now rows.now) }
 {
-    add_rows(alloc, page, gate, state, verdicts, rows)?;
-    page.append(bottom)?;
-    Ok(())
+    add_rows(alloc, page, gate, state, verdicts, rows);
+    page.append(bottom);
 }
 
 /// What comes before the rows.
@@ -99,62 +98,52 @@ fn top_of(
     verdicts: &Verdicts,
     facts: &Facts,
     rows: usize,
-) -> Result<Markup, NoMemory> {
-    let mut page = begin(alloc, &[Piece::Markup("Items")], facts.site)?;
-    match add_top(&mut page, choice, verdicts, facts, rows) {
-        Ok(()) => Ok(page),
-        Err(NoMemory) => Err(NoMemory),
-    }
+) -> Markup {
+    let mut page = begin(alloc, &[Piece::Markup("Items")], facts.site);
+    add_top(&mut page, choice, verdicts, facts, rows);
+    page
 }
 
 /// Adds what comes before the rows.
-fn add_top(
-    page: &mut Markup,
-    choice: &Choice,
-    verdicts: &Verdicts,
-    facts: &Facts,
-    rows: usize,
-) -> Result<(), NoMemory> {
-    page.add(&[Piece::Markup("<h1>Items</h1>\n")])?;
-    add_form(page, choice)?;
-    add_counts(page, verdicts)?;
-    add_age(page, facts.age_ms)?;
-    add_news(page, facts.news_ms)?;
-    add_heard(page, facts.heard_ms)?;
-    add_peers(page, facts.peers.as_slice())?;
-    add_reasons(page, verdicts)?;
-    add_caption(page, choice.page, rows)
+fn add_top(page: &mut Markup, choice: &Choice, verdicts: &Verdicts, facts: &Facts, rows: usize) {
+    page.add(&[Piece::Markup("<h1>Items</h1>\n")]);
+    add_form(page, choice);
+    add_counts(page, verdicts);
+    add_age(page, facts.age_ms);
+    add_news(page, facts.news_ms);
+    add_heard(page, facts.heard_ms);
+    add_peers(page, facts.peers.as_slice());
+    add_reasons(page, verdicts);
+    add_caption(page, choice.page, rows);
 }
 
 /// Adds how many items may enter, and how many open ones may not.
-fn add_counts(page: &mut Markup, verdicts: &Verdicts) -> Result<(), NoMemory> {
+fn add_counts(page: &mut Markup, verdicts: &Verdicts) {
     page.add(&[
         Piece::Markup("<div id=\"live\">\n<p><strong class=\"ready\">"),
         Piece::Number(verdicts.ready().len() as u64),
         Piece::Markup("</strong> may enter, <strong class=\"waits\">"),
         Piece::Number(open_count(verdicts.out()) as u64),
         Piece::Markup("</strong> open ones may not.</p>\n"),
-    ])?;
-    Ok(())
+    ]);
 }
 
 /// Adds how old what is shown is.
-fn add_age(page: &mut Markup, age_ms: u64) -> Result<(), NoMemory> {
+fn add_age(page: &mut Markup, age_ms: u64) {
     let (number, unit) = in_unit(age_ms);
     page.add(&[
         Piece::Markup("<p>As it was "),
         Piece::Number(number),
         Piece::Markup(unit),
         Piece::Markup(" ago.</p>\n"),
-    ])?;
-    Ok(())
+    ]);
 }
 
 /// Adds when the last operation came.
-fn add_news(page: &mut Markup, news_ms: Option<u64>) -> Result<(), NoMemory> {
+fn add_news(page: &mut Markup, news_ms: Option<u64>) {
     let Some(news_ms) = news_ms else {
-        page.add(&[Piece::Markup("<p>No operation came since the start.</p>\n")])?;
-        return Ok(());
+        page.add(&[Piece::Markup("<p>No operation came since the start.</p>\n")]);
+        return;
     };
     let (number, unit) = in_unit(news_ms);
     page.add(&[
@@ -162,14 +151,13 @@ fn add_news(page: &mut Markup, news_ms: Option<u64>) -> Result<(), NoMemory> {
         Piece::Number(number),
         Piece::Markup(unit),
         Piece::Markup(" ago.</p>\n"),
-    ])?;
-    Ok(())
+    ]);
 }
 
 /// Adds when a feed last heard from Gerrit, where one did.
-fn add_heard(page: &mut Markup, heard_ms: Option<u64>) -> Result<(), NoMemory> {
+fn add_heard(page: &mut Markup, heard_ms: Option<u64>) {
     let Some(heard_ms) = heard_ms else {
-        return Ok(());
+        return;
     };
     let (number, unit) = in_unit(heard_ms);
     page.add(&[
@@ -177,22 +165,20 @@ fn add_heard(page: &mut Markup, heard_ms: Option<u64>) -> Result<(), NoMemory> {
         Piece::Number(number),
         Piece::Markup(unit),
         Piece::Markup(" ago.</p>\n"),
-    ])?;
-    Ok(())
+    ]);
 }
 
 /// Adds the peers that can't be reached.
-fn add_peers(page: &mut Markup, peers: &[PeerFacts]) -> Result<(), NoMemory> {
+fn add_peers(page: &mut Markup, peers: &[PeerFacts]) {
     for peer in peers {
         if !peer.is_reachable {
-            add_peer(page, peer)?;
+            add_peer(page, peer);
         }
     }
-    Ok(())
 }
 
 /// Adds a peer that can't be reached.
-fn add_peer(page: &mut Markup, peer: &PeerFacts) -> Result<(), NoMemory> {
+fn add_peer(page: &mut Markup, peer: &PeerFacts) {
     let (number, unit) = in_unit(peer.condition_ms);
     page.add(&[
         Piece::Markup("<p class=\"waits\">The peer "),
@@ -201,13 +187,12 @@ fn add_peer(page: &mut Markup, peer: &PeerFacts) -> Result<(), NoMemory> {
         Piece::Number(number),
         Piece::Markup(unit),
         Piece::Markup(".</p>\n"),
-    ])?;
-    Ok(())
+    ]);
 }
 
 /// Adds the reasons for which open items wait, with their numbers.
-fn add_reasons(page: &mut Markup, verdicts: &Verdicts) -> Result<(), NoMemory> {
-    page.add(&[Piece::Markup("<h2>Why open items wait</h2>\n<ul>\n")])?;
+fn add_reasons(page: &mut Markup, verdicts: &Verdicts) {
+    page.add(&[Piece::Markup("<h2>Why open items wait</h2>\n<ul>\n")]);
     for reason in REASONS {
         let name = Piece::Markup(reason_name(reason));
         page.add(&[
@@ -218,14 +203,13 @@ fn add_reasons(page: &mut Markup, verdicts: &Verdicts) -> Result<(), NoMemory> {
             Piece::Markup("</a>: "),
             Piece::Number(reason_count(verdicts.out(), reason) as u64),
             Piece::Markup("</li>\n"),
-        ])?;
+        ]);
     }
-    page.add(&[Piece::Markup("</ul>\n")])?;
-    Ok(())
+    page.add(&[Piece::Markup("</ul>\n")]);
 }
 
 /// Adds the caption and the head of the table.
-fn add_caption(page: &mut Markup, number: u32, rows: usize) -> Result<(), NoMemory> {
+fn add_caption(page: &mut Markup, number: u32, rows: usize) {
     page.add(&[
         Piece::Markup("<table>\n<caption>Page "),
         Piece::Number(u64::from(number.max(1))),
@@ -234,8 +218,7 @@ fn add_caption(page: &mut Markup, number: u32, rows: usize) -> Result<(), NoMemo
         Piece::Markup(", "),
         Piece::Number(rows as u64),
         Piece::Markup(HEAD),
-    ])?;
-    Ok(())
+    ]);
 }
 
 /// How many pages so many rows have, at least one.
@@ -244,41 +227,32 @@ fn pages_of(rows: usize) -> u64 {
 }
 
 /// What comes after the rows.
-fn bottom_of(alloc: Global, choice: &Choice, rows: usize) -> Result<Markup, NoMemory> {
+fn bottom_of(alloc: Global, choice: &Choice, rows: usize) -> Markup {
     let mut bottom = Markup::new(alloc);
-    match add_bottom(&mut bottom, choice, rows) {
-        Ok(()) => Ok(bottom),
-        Err(NoMemory) => Err(NoMemory),
-    }
+    add_bottom(&mut bottom, choice, rows);
+    bottom
 }
 
 /// Adds what comes after the rows: links to the page before and to the one after, where there are any.
-fn add_bottom(bottom: &mut Markup, choice: &Choice, rows: usize) -> Result<(), NoMemory> {
+fn add_bottom(bottom: &mut Markup, choice: &Choice, rows: usize) {
     let number = u64::from(choice.page.max(1));
-    bottom.add(&[Piece::Markup("</tbody>\n</table>\n<nav aria-label=\"Pages\">\n")])?;
+    bottom.add(&[Piece::Markup("</tbody>\n</table>\n<nav aria-label=\"Pages\">\n")]);
     if number > 1 {
-        add_link(bottom, choice, "prev\">Previous page", number - 1)?;
+        add_link(bottom, choice, "prev\">Previous page", number - 1);
     }
     if number < pages_of(rows) {
-        add_link(bottom, choice, "next\">Next page", number + 1)?;
+        add_link(bottom, choice, "next\">Next page", number + 1);
     }
-    bottom.add(&[Piece::Markup("</nav>\n</div>\n")])?;
-    Ok(())
+    bottom.add(&[Piece::Markup("</nav>\n</div>\n")]);
 }
 
 /// Adds a link to another page of the list.
-fn add_link(
-    page: &mut Markup,
-    choice: &Choice,
-    words: &'static str,
-    number: u64,
-) -> Result<(), NoMemory> {
-    page.add(&[Piece::Markup("<a href=\"")])?;
-    add_address(page, choice, number)?;
+fn add_link(page: &mut Markup, choice: &Choice, words: &'static str, number: u64) {
+    page.add(&[Piece::Markup("<a href=\"")]);
+    add_address(page, choice, number);
     page.add(&[
         Piece::Markup("\" rel=\""),
         Piece::Markup(words),
         Piece::Markup("</a>\n"),
-    ])?;
-    Ok(())
+    ]);
 }

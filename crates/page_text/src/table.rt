@@ -1,7 +1,7 @@
 //! The rows of the table of a list.
 
-ghost use Rattle.std.specs.Prelude.{◌≡◌, ◌++◌, OnOk};
 ghost use Rattle.std.specs.List.Sorted.{IsStrictlySortedBy};
+ghost use Rattle.markup_text.specs.Growing.{Adds, Grows};
 ghost use Rattle.state_core.specs.Items.{item_cmp};
 ghost use Rattle.ready_core.specs.Verdicts.{items_out};
 ghost use Rattle.page_text.specs.Table.{AddsRow, AddsRows, about_html};
@@ -12,7 +12,6 @@ use super::rows::Row;
 use super::subject::subject_of;
 use super::words::add_wanted;
 use gate_rules::Gate;
-use lattice_core::NoMemory;
 use markup_text::{Markup, Piece};
 use ready_core::{Left, Refusal, Verdicts};
 use state_core::{Item, State};
@@ -26,14 +25,13 @@ pub fn add_rows(
     state: &State,
     verdicts: &Verdicts,
     rows: &[Row],
-) -> Result<(), NoMemory>
+)
     requires { IsStrictlySortedBy item_cmp (items_out verdicts.now.out) }
-    ensures { OnOk result (AddsRows state.now rows.now page.old page.new) }
+    ensures { Grows (AddsRows state.now rows.now) page.old page.new }
 {
     for row in rows {
-        add_row(alloc, page, gate, state, verdicts, *row)?;
+        add_row(alloc, page, gate, state, verdicts, *row);
     }
-    Ok(())
 }
 
 /// Adds a row.
@@ -44,9 +42,9 @@ fn add_row(
     state: &State,
     verdicts: &Verdicts,
     row: Row,
-) -> Result<(), NoMemory>
+)
     requires { IsStrictlySortedBy item_cmp (items_out verdicts.now.out) }
-    ensures { OnOk result (AddsRow state.now row page.old page.new) }
+    ensures { Grows (AddsRow state.now row) page.old page.new }
 {
     match row {
         Row::Enters(item, place) => add_ready(page, state, item, place),
@@ -55,17 +53,16 @@ fn add_row(
 }
 
 /// Adds the row of an item that is ready.
-fn add_ready(page: &mut Markup, state: &State, item: Item, place: usize) -> Result<(), NoMemory>
-    ensures { OnOk result (AddsRow state.now (Row.Enters item place) page.old page.new) }
+fn add_ready(page: &mut Markup, state: &State, item: Item, place: usize)
+    ensures { Grows (AddsRow state.now (Row.Enters item place)) page.old page.new }
 {
     page.add(&[
         Piece::Markup("<tr><td>"),
         Piece::Number(place as u64),
         Piece::Markup("</td>"),
-    ])?;
-    add_about(page, state, item)?;
-    page.add(&[Piece::Markup("<td class=\"ready\">ready</td><td></td></tr>\n")])?;
-    Ok(())
+    ]);
+    add_about(page, state, item);
+    page.add(&[Piece::Markup("<td class=\"ready\">ready</td><td></td></tr>\n")]);
 }
 
 /// Adds the row of an item that waits.
@@ -76,29 +73,27 @@ fn add_waiting(
     state: &State,
     verdicts: &Verdicts,
     left: Left,
-) -> Result<(), NoMemory>
+)
     requires { IsStrictlySortedBy item_cmp (items_out verdicts.now.out) }
-    ensures { OnOk result (AddsRow state.now (Row.Waits left) page.old page.new) }
+    ensures { Grows (AddsRow state.now (Row.Waits left)) page.old page.new }
 {
-    let cells = waiting_cells(alloc, gate, state, verdicts, left)?;
-    page.add(&[Piece::Markup("<tr><td></td>")])?;
-    add_about(page, state, left.item)?;
-    page.append(&cells)?;
-    Ok(())
+    let cells = waiting_cells(alloc, gate, state, verdicts, left);
+    page.add(&[Piece::Markup("<tr><td></td>")]);
+    add_about(page, state, left.item);
+    page.append(&cells);
 }
 
 /// Adds the cells of an item and its subject.
-fn add_about(page: &mut Markup, state: &State, item: Item) -> Result<(), NoMemory>
-    ensures { OnOk result (page.new ≡ page.old ++ about_html state.now item) }
+fn add_about(page: &mut Markup, state: &State, item: Item)
+    ensures { Adds (about_html state.now item) page.old page.new }
 {
-    page.add(&[Piece::Markup("<th scope=\"row\">")])?;
-    add_item_link(page, item)?;
+    page.add(&[Piece::Markup("<th scope=\"row\">")]);
+    add_item_link(page, item);
     page.add(&[
         Piece::Markup("</th><td>"),
         Piece::Text(subject_of(state, item)),
         Piece::Markup("</td>"),
-    ])?;
-    Ok(())
+    ]);
 }
 
 /// The cells of why an item waits, and of the item at the end of those that it waits for, if it waits for one.
@@ -108,14 +103,12 @@ fn waiting_cells(
     state: &State,
     verdicts: &Verdicts,
     left: Left,
-) -> Result<Markup, NoMemory>
+) -> Markup
     requires { IsStrictlySortedBy item_cmp (items_out verdicts.now.out) }
 {
     let mut cells = Markup::new(alloc);
-    match add_cells(alloc, &mut cells, gate, state, verdicts, left) {
-        Ok(()) => Ok(cells),
-        Err(NoMemory) => Err(NoMemory),
-    }
+    add_cells(alloc, &mut cells, gate, state, verdicts, left);
+    cells
 }
 
 /// Adds these cells.
@@ -126,31 +119,24 @@ fn add_cells(
     state: &State,
     verdicts: &Verdicts,
     left: Left,
-) -> Result<(), NoMemory>
+)
     requires { IsStrictlySortedBy item_cmp (items_out verdicts.now.out) }
 {
-    add_why(alloc, cells, gate, left.refusal)?;
-    cells.add(&[Piece::Markup("<td>")])?;
+    add_why(alloc, cells, gate, left.refusal);
+    cells.add(&[Piece::Markup("<td>")]);
     if let Refusal::Dependency(_) = left.refusal {
-        add_left(alloc, cells, cause_of(state, verdicts, left))?;
+        add_left(alloc, cells, cause_of(state, verdicts, left));
     }
-    cells.add(&[Piece::Markup("</td></tr>\n")])?;
-    Ok(())
+    cells.add(&[Piece::Markup("</td></tr>\n")]);
 }
 
 /// Adds the cell of a refusal, with what the gate asks there.
-fn add_why(
-    alloc: Global,
-    cells: &mut Markup,
-    gate: &Gate,
-    refusal: Refusal,
-) -> Result<(), NoMemory> {
-    cells.add(&[Piece::Markup("<td class=\"waits\">")])?;
-    add_refusal_words(alloc, cells, refusal)?;
+fn add_why(alloc: Global, cells: &mut Markup, gate: &Gate, refusal: Refusal) {
+    cells.add(&[Piece::Markup("<td class=\"waits\">")]);
+    add_refusal_words(alloc, cells, refusal);
     if let Refusal::Own(condition) = refusal {
-        cells.add(&[Piece::Markup(": ")])?;
-        add_wanted(cells, gate, condition)?;
+        cells.add(&[Piece::Markup(": ")]);
+        add_wanted(cells, gate, condition);
     }
-    cells.add(&[Piece::Markup("</td>")])?;
-    Ok(())
+    cells.add(&[Piece::Markup("</td>")]);
 }

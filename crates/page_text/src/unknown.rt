@@ -15,25 +15,24 @@ use std::alloc::Global;
 
 /// The page that says that a change, or one of its patch sets, isn't known.
 pub fn unknown_page(alloc: Global, place: Place, site: u16) -> Result<Vec<u8>, NoMemory> {
-    let mut page = begin(alloc, &[Piece::Markup("Not found")], site)?;
-    add_unknown(&mut page, place)?;
+    let mut page = begin(alloc, &[Piece::Markup("Not found")], site);
+    add_unknown(&mut page, place);
     end(page)
 }
 
 /// Adds that a change, or one of its patch sets, isn't known.
-fn add_unknown(page: &mut Markup, place: Place) -> Result<(), NoMemory> {
+fn add_unknown(page: &mut Markup, place: Place) {
     page.add(&[
         Piece::Markup("<h1>Not found</h1>\n<p>The record has no change "),
         Piece::Number(u64::from(place.change)),
-    ])?;
+    ]);
     if let Some(set) = place.set {
         page.add(&[
             Piece::Markup(" with a patch set "),
             Piece::Number(u64::from(set)),
-        ])?;
+        ]);
     }
-    page.add(&[Piece::Markup(".</p>\n")])?;
-    Ok(())
+    page.add(&[Piece::Markup(".</p>\n")]);
 }
 
 /// The same as a problem of RFC 9457.

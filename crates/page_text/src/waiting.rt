@@ -88,41 +88,38 @@ fn item_text(alloc: Global, item: Item) -> Result<String, NoMemory>
 }
 
 /// Adds these items to the page of the change that they wait for, at most 100, and how many more there are.
-pub fn add_waiting(page: &mut Markup, items: &[Item]) -> Result<(), NoMemory> {
+pub fn add_waiting(page: &mut Markup, items: &[Item]) {
     if items.is_empty() {
-        return Ok(());
+        return;
     }
-    page.add(&[Piece::Markup("<h2>What waits for it</h2>\n<ul>\n")])?;
-    add_shown(page, items)?;
-    page.add(&[Piece::Markup("</ul>\n")])?;
-    add_more(page, items.len().saturating_sub(SHOWN))
+    page.add(&[Piece::Markup("<h2>What waits for it</h2>\n<ul>\n")]);
+    add_shown(page, items);
+    page.add(&[Piece::Markup("</ul>\n")]);
+    add_more(page, items.len().saturating_sub(SHOWN));
 }
 
 /// Adds those of the items that are shown.
-fn add_shown(page: &mut Markup, items: &[Item]) -> Result<(), NoMemory> {
+fn add_shown(page: &mut Markup, items: &[Item]) {
     for item in items.iter().take(SHOWN) {
-        add_one(page, *item)?;
+        add_one(page, *item);
     }
-    Ok(())
 }
 
 /// Adds an item to the list.
-fn add_one(page: &mut Markup, item: Item) -> Result<(), NoMemory> {
-    page.add(&[Piece::Markup("<li>")])?;
-    add_item_link(page, item)?;
-    page.add(&[Piece::Markup("</li>\n")])?;
-    Ok(())
+fn add_one(page: &mut Markup, item: Item) {
+    page.add(&[Piece::Markup("<li>")]);
+    add_item_link(page, item);
+    page.add(&[Piece::Markup("</li>\n")]);
 }
 
 /// Adds how many more items there are, if there are any.
-fn add_more(page: &mut Markup, more: usize) -> Result<(), NoMemory> {
+fn add_more(page: &mut Markup, more: usize) {
     if more == 0 {
-        return Ok(());
+        return;
     }
     page.add(&[
         Piece::Markup("<p>And "),
         Piece::Number(more as u64),
         Piece::Markup(" more.</p>\n"),
-    ])?;
-    Ok(())
+    ]);
 }

@@ -1,11 +1,8 @@
-use Rattle.std.proofs.Common.{codes}
 use Rattle.page_text.specs.Titles.{item_title}
-use Rattle.page_text.proofs.WaitingSteps.{titled_on}
+use Rattle.page_text.proofs.WaitingSteps.{titled_whole}
 use Rattle.page_text.proofs.change.titled_page.Goals as goal
 
 pub returns : goal.returns
 returns c =
-    let title = item_title c.args.state.now c.args.item in
-    titled_on title c.append.new.self (codes "</main>\n</body>\n</html>\n") _
-    (titled_on title c.in_ok-page.page c.args.main.now c.append.new.self c.in_ok-page.ensures c.in_ok-append.ensures)
-    c.in_ok-text.ensures
+    titled_whole (item_title c.args.state.now c.args.item) c.args.main.now c.begin_titled-page.result c.append.new.self _
+    c.begin_titled-page.ensures c.append.ensures c.in_ok-text.ensures

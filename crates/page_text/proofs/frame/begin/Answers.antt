@@ -5,5 +5,5 @@ use Rattle.page_text.proofs.frame.begin.Goals as goal
 
 pub returns : goal.returns
 returns c =
-    titled (flat_map piece_html c.args.title.now) c.add.new.self c.add_title.new.page c.add-2.new.self _
-    c.in_ok-add_title.ensures c.in_ok-add-2.ensures
+    titled (flat_map piece_html c.args.title.now) _ c.add.new.self c.add_title.new.page c.add-2.new.self
+    c.add_title.ensures c.add-2.ensures

@@ -1,4 +1,4 @@
 use Rattle.page_text.proofs.links.add_item_link.Goals as goal
 
 pub returns : goal.returns
-returns c = rw (c.in_ok-add.ensures, c.from.ensures, c.from-2.ensures)
+returns c = rw (c.from.ensures, c.from-2.ensures) at c.add.ensures

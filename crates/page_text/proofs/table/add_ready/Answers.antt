@@ -8,4 +8,4 @@ pub returns : goal.returns
 returns c =
     row_added c.args.state.now (Enters c.args.item c.args.place) c.args.page.now c.add.new.self c.add_about.new.page
     c.add-2.new.self (joined (codes "<td class=\"ready\">ready</td><td></td></tr>\n" ∷ []))
-    c.in_ok-add.ensures c.in_ok-add_about.ensures c.in_ok-add-2.ensures
+    c.add.ensures c.add_about.ensures c.add-2.ensures

@@ -1,7 +1,8 @@
 use Rattle.std.proofs.Common.{take}
+use Rattle.markup_text.specs.Growing.{Grows}
 use Rattle.page_text.specs.Table.{AddsRows}
 use Rattle.page_text.proofs.table.add_rows.Given as goal
 
 -- the rows so far are added
 abbrev pub invariant-loop-row : goal.invariant-loop-row
-invariant-loop-row l = AddsRows l.state (take l.row-index l.rows) l.initial.page l.page
+invariant-loop-row l = Grows (AddsRows l.state (take l.row-index l.rows)) l.initial.page l.page
