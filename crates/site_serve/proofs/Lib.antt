@@ -4,4 +4,5 @@ pub mod Waiting
 pub mod Shown
 pub mod PassingOn
 pub mod Seating
+pub mod Replies
 mod Ends

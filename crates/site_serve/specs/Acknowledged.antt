@@ -7,6 +7,7 @@ use Rattle.review_ops.specs.Deed.{Deed}
 use Rattle.review_ops.specs.Draft.{deed_of}
 use Rattle.review_ops.specs.Operation.{Operation}
 use Rattle.review_ops.specs.Timestamp.{Timestamp}
+use Rattle.site_ledger.specs.Keeping.{Entries}
 use Rattle.site_serve.specs.declared.ask.Ask.{Ask}
 use Rattle.site_serve.specs.declared.ask.Ask.TheVariants as ask
 use Rattle.site_serve.specs.declared.ask.Asker.{Asker}
@@ -31,6 +32,11 @@ IsSaidBy survives stamp = (ops : List Operation) × survives ops × (has_stamped
 -- what was stamped is among all that was published or is held
 abbrev pub IsHeldBy : Account → Result (Option Timestamp) DeskFault → Type 0
 IsHeldBy account = IsTakenInto (record_of account)
+
+-- a ledger, and those who wait for what it holds
+pub record Group (K : Type 0) : Type 0 where
+  pub entries : Entries K
+  pub waiters : List Waiter
 
 -- a body is held: the next operation with it comes to what is held, and has the stamp that is noted; or it is refused,
 -- and nothing comes

@@ -1,25 +1,25 @@
 //! The thread that has all sockets and the desk of a site: in each turn it reads what is there, holds what is to be
 //! taken in, publishes that, and only then writes the answers.
 
-ghost use Rattle.std.specs.Prelude.{◌≡◌, ◌≤◌, [], All, IfOk, None, OnErr, true, vec_capacity, vec_len};
+ghost use Rattle.std.specs.Prelude.{◌≡◌, [], IfOk, None, OnErr, true};
 ghost use Rattle.std.specs.Arc.{arc_value};
-ghost use Rattle.site_serve.specs.Acknowledged.{IsHeldBy};
 ghost use Rattle.site_shared.specs.Accounts.{receipt_of};
 
+use super::ask::Answer;
 use super::board::Board;
-use super::desk::{
-    BATCH, NotKept, Published, Replies, Waiter, hold_more, publish_and_answer, publish_held,
-};
+use super::desk::Published;
 use super::errors::Errors;
+use super::group_commit::{GroupCommit, NotKept};
 use super::jobs::{Job, Task};
 use super::lines::{Means, do_lines};
 use super::listeners::Listeners;
 use super::news::News;
-use super::opening::{Opening, OwnLedger};
+use super::opening::Opening;
 use super::places::Places;
 use super::seats::Lines;
 use super::session::{Guest, Session};
 use byte_ends::Drain;
+use crossbeam_channel::Sender;
 use mio::{Events, Interest, Poll, Token};
 use site_ledger::Keeps;
 use site_net::{Patience, Stop};
@@ -240,14 +240,8 @@ impl Floor {
         board: &Board,
         places: &mut Places<J>,
         lines: &Lines<J>,
-        ledger: &mut OwnLedger<J, K>,
-        waiters: &mut Vec<Waiter>,
-    )
-        requires held { All (λ waiter. IsHeldBy ledger.old.account waiter.held) waiters.old.items }
-        requires room { BATCH ≤ vec_capacity waiters.old }
-        ensures held { All (λ waiter. IsHeldBy ledger.new.account waiter.held) waiters.new.items }
-        ensures room { BATCH ≤ vec_capacity waiters.new }
-    {
+        group: &mut GroupCommit<J, K>,
+    ) {
         for at in 0..places.listed() {
             let place = places.listed_at(at).unwrap_or(usize::MAX);
             if let Some(session) = places.session(place) {
@@ -261,7 +255,7 @@ impl Floor {
                     jobs: &lines.jobs,
                 };
                 let buffer = self.buffer.as_mut_slice();
-                do_lines(rt, &means, buffer, session, ledger, waiters);
+                do_lines(rt, &means, buffer, session, group);
             }
         }
     }
@@ -337,46 +331,40 @@ fn send_job<R: Wait, J: Naming>(rt: &R, lines: &Lines<J>, place: usize, session:
 fn hold_pulled<R: Wait, J: Opening, K: Keeps>(
     rt: &R,
     lines: &Lines<J>,
-    ledger: &mut OwnLedger<J, K>,
-    waiters: &mut Vec<Waiter>,
-)
-    requires held { All (λ waiter. IsHeldBy ledger.old.account waiter.held) waiters.old.items }
-    requires room { BATCH ≤ vec_capacity waiters.old }
-    ensures held { All (λ waiter. IsHeldBy ledger.new.account waiter.held) waiters.new.items }
-    ensures room { BATCH ≤ vec_capacity waiters.new }
-{
+    group: &mut GroupCommit<J, K>,
+) {
     for _ask in 0..GUESTS {
-        if waiters.len() >= BATCH {
+        if !group.has_room() {
             return;
         }
         let Ok(ask) = lines.asks.try_recv(rt) else {
             return;
         };
-        hold_more(ledger, ask, waiters);
+        group.hold(ask);
     }
 }
 
-/// Publishes what is held where somebody waits for that, and answers all who wait. It brings news where anything was
-/// held since news was brought: a pull that handed over nothing new brings none.
+/// Publishes what is held where somebody waits for that, and answers all who wait, so that nobody waits after it. It
+/// brings news where anything was held since news was brought: a pull that handed over nothing new brings none.
 fn publish<R: Wait, J: Opening, K: Keeps, E: Drain>(
     rt: &R,
     site: &Site<'_, E, J>,
     floor: &mut Floor,
-    ledger: &mut OwnLedger<J, K>,
-    replies: &mut Replies<'_, J>,
-    waiters: &[Waiter],
+    places: &mut Places<J>,
+    pullers: &[Sender<Answer<J>, Global>],
+    group: &mut GroupCommit<J, K>,
 ) -> Result<(), NotKept>
-    requires { All (λ waiter. IsHeldBy ledger.old.account waiter.held) waiters.now }
-    ensures over { OnErr result (ledger.new.is_over ≡ true) }
+    ensures none { group.new.waiters ≡ [] }
+    ensures over { OnErr result (group.new.entries.is_over ≡ true) }
 {
-    if waiters.is_empty() {
+    if group.is_idle() {
         return Ok(());
     }
-    let is_more = ledger.held_count() > 0;
+    let is_more = group.held_count() > 0;
     floor.is_news_due |= is_more;
-    let published = publish_and_answer(rt, floor.alloc, ledger, replies, waiters)?;
+    let published = group.publish(rt, floor.alloc, places, pullers)?;
     if is_more {
-        site.board.note_kept(ledger.kept_bytes());
+        site.board.note_kept(group.kept_bytes());
     }
     if let Ok(receipt) = &published
         && floor.is_news_due
@@ -398,38 +386,27 @@ pub(super) struct Site<'a, E: Drain, J: Naming> {
 }
 
 /// A turn of the loop. Nobody waits after it.
-#[tactic(auto, using(crate::proofs::Held::none_waits))]
 fn turn<R: Wait + Clock, J: Opening, K: Keeps, E: Drain>(
     rt: &R,
     site: &Site<'_, E, J>,
     floor: &mut Floor,
     places: &mut Places<J>,
     lines: &Lines<J>,
-    ledger: &mut OwnLedger<J, K>,
-    waiters: &mut Vec<Waiter>,
+    group: &mut GroupCommit<J, K>,
 ) -> Result<(), NotKept>
-    requires none { (waiters.old.items ≡ []) × (vec_len waiters.old ≡ 0) }
-    requires room { BATCH ≤ vec_capacity waiters.old }
-    ensures none { (waiters.new.items ≡ []) × (vec_len waiters.new ≡ 0) }
-    ensures room { BATCH ≤ vec_capacity waiters.new }
-    ensures over { OnErr result (ledger.new.is_over ≡ true) }
+    ensures none { group.new.waiters ≡ [] }
+    ensures over { OnErr result (group.new.entries.is_over ≡ true) }
 {
     floor.accept(rt, site, places, lines);
     if floor.is_rung {
         floor.is_rung = false;
         floor.take_replies(rt, places, lines);
-        hold_pulled(rt, lines, ledger, waiters);
+        hold_pulled(rt, lines, group);
     }
     floor.look_at_clock(places);
-    floor.do_sessions(rt, site.board, places, lines, ledger, waiters);
-    let mut replies = Replies {
-        places,
-        pullers: lines.answers.as_slice(),
-    };
-    let published = publish(rt, site, floor, ledger, &mut replies, waiters.as_slice());
-    waiters.clear();
-    published?;
-    floor.write_all(rt, replies.places, lines);
+    floor.do_sessions(rt, site.board, places, lines, group);
+    publish(rt, site, floor, places, lines.answers.as_slice(), group)?;
+    floor.write_all(rt, places, lines);
     Ok(())
 }
 
@@ -440,59 +417,44 @@ pub(super) fn serve_floor<R: Wait + Clock, J: Opening, K: Keeps, E: Drain>(
     site: Site<'_, E, J>,
     floor: Floor,
     lines: Lines<J>,
-    ledger: &mut OwnLedger<J, K>,
+    group: &mut GroupCommit<J, K>,
 ) -> Result<Published<J>, NotKept>
-    ensures last { IfOk result
-        (λ last. IfOk last (λ receipt. arc_value receipt ≡ receipt_of ledger.new.account None)) }
-    ensures over { OnErr result (ledger.new.is_over ≡ true) }
+    ensures last { IfOk result (λ last. IfOk last
+        (λ receipt. arc_value receipt ≡ receipt_of group.new.entries.account None)) }
+    ensures over { OnErr result (group.new.entries.is_over ≡ true) }
 {
     let mut floor = floor;
     let alloc = floor.alloc;
-    let (Ok(mut places), Ok(mut waiters)) = (
-        Places::new(alloc, floor.connections),
-        Vec::with_capacity(alloc, BATCH),
-    ) else {
+    let Ok(mut places) = Places::new(alloc, floor.connections) else {
         return Ok(Err(DeskFault::NoMemory(0)));
     };
-    site.board.note_journal(ledger.kept_bytes());
+    site.board.note_journal(group.kept_bytes());
     for _ in rt.forever() {
         floor.wait(&mut places);
         floor.note_turn(rt, site.board);
-        let turned = turn(
-            rt,
-            &site,
-            &mut floor,
-            &mut places,
-            &lines,
-            ledger,
-            &mut waiters,
-        );
-        if let Err(fault) = turned {
+        if let Err(fault) = turn(rt, &site, &mut floor, &mut places, &lines, group) {
             places.refuse_waiting(alloc, floor.now);
             return Err(fault);
         }
         if floor.is_over(rt, &mut places, site.stop) {
-            return end_asks(rt, alloc, places, lines, ledger, waiters);
+            return end_asks(rt, alloc, places, lines, group);
         }
     }
     unreachable!()
 }
 
 /// Does what the pullers ask until all of them have ended.
-#[tactic(auto, using(crate::proofs::Held::none_waits))]
 fn end_asks<R: Wait, J: Opening, K: Keeps>(
     rt: &R,
     alloc: Global,
     places: Places<J>,
     lines: Lines<J>,
-    ledger: &mut OwnLedger<J, K>,
-    waiters: Vec<Waiter>,
+    group: &mut GroupCommit<J, K>,
 ) -> Result<Published<J>, NotKept>
-    requires none { (waiters.items ≡ []) × (vec_len waiters ≡ 0) }
-    requires room { BATCH ≤ vec_capacity waiters }
-    ensures last { IfOk result
-        (λ last. IfOk last (λ receipt. arc_value receipt ≡ receipt_of ledger.new.account None)) }
-    ensures over { OnErr result (ledger.new.is_over ≡ true) }
+    requires { group.old.waiters ≡ [] }
+    ensures last { IfOk result (λ last. IfOk last
+        (λ receipt. arc_value receipt ≡ receipt_of group.new.entries.account None)) }
+    ensures over { OnErr result (group.new.entries.is_over ≡ true) }
 {
     let Lines {
         jobs,
@@ -501,15 +463,10 @@ fn end_asks<R: Wait, J: Opening, K: Keeps>(
         answers,
     } = lines;
     drop(jobs);
-    let (mut places, mut waiters) = (places, waiters);
+    let mut places = places;
     for ask in asks.iter(rt) {
-        hold_more(ledger, ask, &mut waiters);
-        let mut replies = Replies {
-            places: &mut places,
-            pullers: answers.as_slice(),
-        };
-        let _published = publish_and_answer(rt, alloc, ledger, &mut replies, waiters.as_slice())?;
-        waiters.clear();
+        group.hold(ask);
+        let _published = group.publish(rt, alloc, &mut places, answers.as_slice())?;
     }
-    publish_held(rt, alloc, ledger)
+    group.publish(rt, alloc, &mut places, answers.as_slice())
 }

@@ -63,6 +63,7 @@ mod errors;
 mod evaluator;
 mod floor;
 mod gossip;
+mod group_commit;
 mod inbox;
 mod jobs;
 mod kept;

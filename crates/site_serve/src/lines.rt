@@ -1,12 +1,11 @@
 //! Does the lines of a session.
 
-ghost use Rattle.std.specs.Prelude.{◌≡◌, ◌⊎◌, ◌<◌, ◌≤◌, ◌+◌, All, Bool, MatchBool, Ok, Result, drop, length, nat_eq, take, true};
-ghost use Rattle.std.specs.Prelude.{vec_capacity, vec_len};
+ghost use Rattle.std.specs.Prelude.{◌≡◌, ◌⊎◌, ◌<◌, ◌+◌, Bool, MatchBool, Ok, Result, drop, length, nat_eq, take, true};
 ghost use Rattle.byte_ends.specs.Lines.{without_cr};
 ghost use Rattle.gossip_line.specs.Texts.{no_memory_line};
 ghost use Rattle.gossip_line.specs.declared.fault.LineFault.{LineFault};
 ghost use Rattle.line_reader.specs.Lines.{HasFirstLf};
-ghost use Rattle.site_serve.specs.Acknowledged.{AddsOwn, IsHeldBy, session_at};
+ghost use Rattle.site_serve.specs.Acknowledged.{AddsOwn, session_at};
 ghost use Rattle.site_serve.specs.Outboxes.{Adds};
 ghost use Rattle.review_ops.specs.Draft.{deed_of};
 ghost use Rattle.site_serve.specs.Doing.{DoesBody, DoesLine};
@@ -14,9 +13,9 @@ ghost use Rattle.site_serve.specs.Doing.{DoesBody, DoesLine};
 use super::ask::{Ask, Asker};
 use super::board::Board;
 use super::channel::Knock;
-use super::desk::{BATCH, Waiter, hold_more};
+use super::group_commit::{BATCH, GroupCommit};
 use super::jobs::{Job, Task};
-use super::opening::{Opening, OwnLedger};
+use super::opening::Opening;
 use super::session::Session;
 use crossbeam_channel::Sender;
 use gossip_line::{Look, Saying, Step, is_take, step_of};
@@ -52,25 +51,19 @@ pub(super) fn do_lines<R: Wait, J: Opening, K: Keeps>(
     means: &Means<'_, J>,
     buffer: &mut [u8],
     session: &mut Session<J>,
-    ledger: &mut OwnLedger<J, K>,
-    waiters: &mut Vec<Waiter>,
+    group: &mut GroupCommit<J, K>,
 )
-    requires held { All (λ waiter. IsHeldBy ledger.old.account waiter.held) waiters.old.items }
-    requires room { BATCH ≤ vec_capacity waiters.old }
-    ensures held { All (λ waiter. IsHeldBy ledger.new.account waiter.held) waiters.new.items }
-    ensures room { BATCH ≤ vec_capacity waiters.new }
-
     // Nobody else waits for an answer to a line of the session.
-    ensures own { AddsOwn (session_at means.now.place means.now.number) waiters.old.items waiters.new.items }
+    ensures own { AddsOwn (session_at means.now.place means.now.number) group.old.waiters group.new.waiters }
 
     // Nothing is answered before what was asked earlier is.
     ensures order { 0 < session.old.waiting → session.new.outbox ≡ session.old.outbox }
 {
     for _line in 0..LINES_A_TURN {
-        if !session.is_open() || waiters.len() >= BATCH {
+        if !session.is_open() || !group.has_room() {
             return;
         }
-        if !do_next(rt, means, buffer, session, ledger, waiters) {
+        if !do_next(rt, means, buffer, session, group) {
             return;
         }
     }
@@ -83,19 +76,15 @@ fn do_next<R: Wait, J: Opening, K: Keeps>(
     means: &Means<'_, J>,
     buffer: &mut [u8],
     session: &mut Session<J>,
-    ledger: &mut OwnLedger<J, K>,
-    waiters: &mut Vec<Waiter>,
+    group: &mut GroupCommit<J, K>,
 ) -> bool
-    requires held { All (λ waiter. IsHeldBy ledger.old.account waiter.held) waiters.old.items }
-    requires room { vec_len waiters.old < vec_capacity waiters.old }
-    ensures held { All (λ waiter. IsHeldBy ledger.new.account waiter.held) waiters.new.items }
-    ensures room { vec_capacity waiters.new ≡ vec_capacity waiters.old }
-    ensures own { AddsOwn (session_at means.now.place means.now.number) waiters.old.items waiters.new.items }
+    requires room { length group.old.waiters < BATCH }
+    ensures own { AddsOwn (session_at means.now.place means.now.number) group.old.waiters group.new.waiters }
     ensures order { 0 < session.old.waiting → session.new.outbox ≡ session.old.outbox }
     ensures waits { 0 < session.old.waiting → 0 < session.new.waiting }
 {
     match session.inbox.next_line() {
-        Some(size) => do_line(rt, means, session, ledger, waiters, size),
+        Some(size) => do_line(rt, means, session, group, size),
         None => read_on(rt, means, buffer, session),
     }
 }
@@ -149,26 +138,22 @@ fn do_line<R: Wait, J: Opening, K: Keeps>(
     rt: &R,
     means: &Means<'_, J>,
     session: &mut Session<J>,
-    ledger: &mut OwnLedger<J, K>,
-    waiters: &mut Vec<Waiter>,
+    group: &mut GroupCommit<J, K>,
     size: usize,
 ) -> bool
     requires line { HasFirstLf session.old.inbox size }
-    requires held { All (λ waiter. IsHeldBy ledger.old.account waiter.held) waiters.old.items }
-    requires room { vec_len waiters.old < vec_capacity waiters.old }
-    ensures held { All (λ waiter. IsHeldBy ledger.new.account waiter.held) waiters.new.items }
-    ensures room { vec_capacity waiters.new ≡ vec_capacity waiters.old }
+    requires room { length group.old.waiters < BATCH }
 
     // The next line is done, or none is.
     ensures does { MatchBool result
         ((session.new.inbox ≡ drop (size + 1) session.old.inbox)
         × DoesLine session.old.may_take (nat_eq session.old.lines 0) (without_cr (take size session.old.inbox))
         (session_at means.now.place means.now.number)
-        (record { answers = session.old.outbox; waiters = waiters.old.items; account = ledger.old.account })
-        (record { answers = session.new.outbox; waiters = waiters.new.items; account = ledger.new.account }))
-        ((session.new.inbox ≡ session.old.inbox) × (waiters.new.items ≡ waiters.old.items)
-        × (ledger.new.account ≡ ledger.old.account)) }
-    ensures own { AddsOwn (session_at means.now.place means.now.number) waiters.old.items waiters.new.items }
+        (record { answers = session.old.outbox; waiters = group.old.waiters; account = group.old.entries.account })
+        (record { answers = session.new.outbox; waiters = group.new.waiters; account = group.new.entries.account }))
+        ((session.new.inbox ≡ session.old.inbox) × (group.new.waiters ≡ group.old.waiters)
+        × (group.new.entries.account ≡ group.old.entries.account)) }
+    ensures own { AddsOwn (session_at means.now.place means.now.number) group.old.waiters group.new.waiters }
     ensures order { 0 < session.old.waiting → session.new.outbox ≡ session.old.outbox }
     ensures waits { 0 < session.old.waiting → 0 < session.new.waiting }
 {
@@ -187,7 +172,7 @@ fn do_line<R: Wait, J: Opening, K: Keeps>(
         return false;
     }
     match step_of(means.alloc, session.is_first(), line) {
-        Step::Takes(draft) => take_body(means, session, ledger, waiters, draft, size),
+        Step::Takes(draft) => take_body(means, session, group, draft, size),
         _ if session.is_waiting() => false,
         Step::Says(saying) => {
             if saying == Saying::Noted {
@@ -214,24 +199,20 @@ fn do_line<R: Wait, J: Opening, K: Keeps>(
 fn take_body<J: Opening, K: Keeps>(
     means: &Means<'_, J>,
     session: &mut Session<J>,
-    ledger: &mut OwnLedger<J, K>,
-    waiters: &mut Vec<Waiter>,
+    group: &mut GroupCommit<J, K>,
     draft: Draft,
     size: usize,
 ) -> bool
     requires line { size < length session.old.inbox }
-    requires held { All (λ waiter. IsHeldBy ledger.old.account waiter.held) waiters.old.items }
-    requires room { vec_len waiters.old < vec_capacity waiters.old }
-    ensures held { All (λ waiter. IsHeldBy ledger.new.account waiter.held) waiters.new.items }
-    ensures room { vec_capacity waiters.new ≡ vec_capacity waiters.old }
+    requires room { length group.old.waiters < BATCH }
     ensures does { MatchBool result
         ((session.new.inbox ≡ drop (size + 1) session.old.inbox)
         × DoesBody session.old.may_take (deed_of draft) (session_at means.now.place means.now.number)
-        (record { answers = session.old.outbox; waiters = waiters.old.items; account = ledger.old.account })
-        (record { answers = session.new.outbox; waiters = waiters.new.items; account = ledger.new.account }))
-        ((session.new.inbox ≡ session.old.inbox) × (waiters.new.items ≡ waiters.old.items)
-        × (ledger.new.account ≡ ledger.old.account)) }
-    ensures own { AddsOwn (session_at means.now.place means.now.number) waiters.old.items waiters.new.items }
+        (record { answers = session.old.outbox; waiters = group.old.waiters; account = group.old.entries.account })
+        (record { answers = session.new.outbox; waiters = group.new.waiters; account = group.new.entries.account }))
+        ((session.new.inbox ≡ session.old.inbox) × (group.new.waiters ≡ group.old.waiters)
+        × (group.new.entries.account ≡ group.old.entries.account)) }
+    ensures own { AddsOwn (session_at means.now.place means.now.number) group.old.waiters group.new.waiters }
     ensures order { 0 < session.old.waiting → session.new.outbox ≡ session.old.outbox }
     ensures waits { 0 < session.old.waiting → 0 < session.new.waiting }
 {
@@ -240,7 +221,7 @@ fn take_body<J: Opening, K: Keeps>(
             place: means.place,
             session: means.number,
         };
-        hold_more(ledger, Ask::Intake { asker, draft }, waiters);
+        group.hold(Ask::Intake { asker, draft });
         session.await_publish();
         session.pass(size);
         return true;

@@ -31,8 +31,9 @@ use std::{io, thread};
 /// For how many milliseconds the desk may take no turn before the site isn't well.
 const ASLEEP_MS: u64 = 1_000;
 
-/// How many times as long as a page took to make its thread looks at nothing before the next one. A publish may have to
-/// wait for a window that is looked through, so that pages hold up takes for a tenth of the time.
+/// How many times as long as a page took to make its thread looks at nothing before the next one, if anything was
+/// published since. A publish may have to wait for a window that is looked through, so that pages hold up takes for a
+/// tenth of the time.
 const REST: u32 = 9;
 
 /// The longest such rest in milliseconds.
@@ -69,6 +70,7 @@ pub(super) fn show_pages<R: Wait + Clock, J: Naming>(
         window,
         kept: None,
         next: Duration::ZERO,
+        publishes: 0,
         requests: 0,
         refused_hosts: 0,
         update_us: 0,
@@ -83,8 +85,10 @@ struct SitePages<'a, R: Wait + Clock, J: Naming> {
     ruling: Ruling<'a>,
     window: OwnWindow<J>,
     kept: Option<OwnWatch<J>>,
-    /// When the next look may begin, from the beginning of the site.
+    /// When the next look may begin, from the beginning of the site, unless nothing was published since the last one.
     next: Duration,
+    /// How many publishes there were when the last look ended.
+    publishes: u64,
     requests: u64,
     refused_hosts: u64,
     update_us: u64,
@@ -102,7 +106,7 @@ impl<R: Wait + Clock, J: Naming> Pages for SitePages<'_, R, J> {
 
     fn page(&mut self, route: &Route) -> Result<Page, AllocError> {
         self.requests = self.requests.saturating_add(1);
-        let now = awaited(self.shower.rt, self.shower.board, self.next);
+        let now = self.awaited();
         if matches!(route, Route::Health) && self.is_asleep(now) {
             let page = unwell(self.shower.alloc, "the desk takes no turn\n")?;
             return Ok(page);
@@ -110,6 +114,7 @@ impl<R: Wait + Clock, J: Naming> Pages for SitePages<'_, R, J> {
         let facts = self.facts(now)?;
         let shown = self.show(route, &facts);
         self.next = next_look(self.shower.rt, self.shower.board, now);
+        self.publishes = self.shower.board.publishes();
         let page = shown?;
         Ok(page)
     }
@@ -166,6 +171,17 @@ impl<R: Wait + Clock, J: Naming> SitePages<'_, R, J> {
                 no_page(self.shower.alloc, WindowFault::Closed)
             }
         }
+    }
+
+    /// How long the site has run, once the next look may begin.
+    fn awaited(&self) -> Duration {
+        let Shower { rt, board, .. } = self.shower;
+        let now = board.now(rt).unwrap_or(self.next);
+        if now >= self.next || board.publishes() == self.publishes {
+            return now;
+        }
+        thread::sleep(rt, self.next.saturating_sub(now));
+        self.next
     }
 
     /// Whether the desk has taken no turn for a second.
@@ -231,16 +247,6 @@ impl Viewer for Viewing<'_> {
             Err(_) => None,
         };
     }
-}
-
-/// How long the site has run, once it has run so long as the next look waits for.
-fn awaited<R: Clock>(rt: &R, board: &Board, next: Duration) -> Duration {
-    let now = board.now(rt).unwrap_or(next);
-    if now >= next {
-        return now;
-    }
-    thread::sleep(rt, next.saturating_sub(now));
-    next
 }
 
 /// When the next look may begin after one that was begun then.

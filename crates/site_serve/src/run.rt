@@ -1,24 +1,26 @@
 //! Runs a site.
 
 ghost use Rattle.std.specs.Prelude.{◌≡◌, ◌∷◌, [], true, All, IfOk, IsErr, List};
+ghost use Rattle.std.specs.Arc.{arc_value};
 ghost use Rattle.std.specs.List.{list_any};
 ghost use Rattle.std.specs.Thread.{IsSend, IsSync};
 ghost use Rattle.replica_core.specs.Journal.{all_arrived};
 ghost use Rattle.review_ops.specs.Operation.{Operation};
 ghost use Rattle.site_serve.specs.Fault.{after_opening};
 ghost use Rattle.site_serve.specs.InForce.{gate_in, ruling_gate};
-ghost use Rattle.site_serve.specs.Openings.{HasKept};
+ghost use Rattle.site_serve.specs.Openings.{HasKept, HasShown};
 ghost use Rattle.site_shared.specs.Accounts.{is_used};
 
 use super::ask::Place;
 use super::board::Board;
 use super::closed::{Closed, Left, served_of, unserved};
-use super::desk::{NotKept, Published};
+use super::desk::Published;
 use super::doorman::Doorman;
 use super::errors::Errors;
 use super::evaluator::{Printed, print_reports};
 use super::floor::{BELL, DOOR, Floor, House, Site, serve_floor};
 use super::gossip::{Peer, Pulling, pull_from_peers};
+use super::group_commit::{GroupCommit, NotKept};
 use super::jobs::Worker;
 use super::listeners::Listeners;
 use super::looks::do_jobs;
@@ -303,16 +305,51 @@ where
     requires had { (first : List Operation) → J.had first → K.holds keeper first }
     ensures { HasKept K.survives J.had J.journal result.keeper result.served }
 {
-    let mut ledger: OwnLedger<J, K> = OwnLedger::new(Ledger::new(desk, keeper));
-    let left = match seated(common.alloc, windows, loft.workers, loft.connections) {
-        Ok(Some(seats)) => { run_seated(rt, common, loft, shares, &mut ledger, seats, output) }
-        Ok(None) => Err(ServeFault::NoPlace),
-        Err(_) => Err(ServeFault::NoMemory),
-    };
-    let Remains { keeper, shown } = ledger.end(rt);
+    let ledger: OwnLedger<J, K> = OwnLedger::new(Ledger::new(desk, keeper));
+    match GroupCommit::new(common.alloc, ledger) {
+        Ok(mut group) => {
+            let left = run_group(rt, common, loft, shares, windows, &mut group, output);
+            closed::<J, K>(left, group.end(rt))
+        }
+        Err(ledger) => closed::<J, K>(Err(ServeFault::NoMemory), ledger.end(rt)),
+    }
+}
+
+/// How a site ends of which this is left, and what remains of its ledger.
+fn closed<J: Opening, K: Keeps>(left: Result<Left, ServeFault>, remains: Remains<K>) -> Closed<K>
+    requires { HasShown K.survives J.had J.journal remains.keeper (arc_value remains.shown) }
+    ensures { HasKept K.survives J.had J.journal result.keeper result.served }
+{
+    let Remains { keeper, shown } = remains;
     Closed {
         keeper,
         served: served_of(left, shown),
+    }
+}
+
+/// Runs a site that can hold what it is asked.
+fn run_group<J, R, W, E, T, K>(
+    rt: &R,
+    common: &Common<'_, E, T>,
+    loft: Loft,
+    shares: Vec<Vec<Peer>>,
+    windows: Vec<Window>,
+    group: &mut GroupCommit<J, K>,
+    output: W,
+) -> Result<Left, ServeFault>
+where
+    J: Opening + Send + Sync,
+    R: Net<Listener = TcpListener, Stream = TcpStream> + Threads + Wait + Clock + Sync,
+    W: Drain + Send + Drop,
+    E: Drain + Send + Drop,
+    T: Turn + Sync,
+    K: Keeps,
+    requires windows { All (λ window. window.book ≡ J.book) windows.items }
+{
+    match seated(common.alloc, windows, loft.workers, loft.connections) {
+        Ok(Some(seats)) => run_seated(rt, common, loft, shares, group, seats, output),
+        Ok(None) => Err(ServeFault::NoPlace),
+        Err(_) => Err(ServeFault::NoMemory),
     }
 }
 
@@ -322,7 +359,7 @@ fn run_seated<J, R, W, E, T, K>(
     common: &Common<'_, E, T>,
     loft: Loft,
     shares: Vec<Vec<Peer>>,
-    ledger: &mut OwnLedger<J, K>,
+    group: &mut GroupCommit<J, K>,
     seats: Seats<J>,
     output: W,
 ) -> Result<Left, ServeFault>
@@ -380,7 +417,7 @@ where
         waker: &waker,
     };
     let ended = run_threads(
-        rt, common, shares, ledger, &news, hands, floor, lines, output,
+        rt, common, shares, group, &news, hands, floor, lines, output,
     );
     left_of(ended, common.is_start_taken.load(Ordering::SeqCst))
 }
@@ -447,7 +484,7 @@ fn run_threads<J, R, W, E, T, K>(
     rt: &R,
     common: &Common<'_, E, T>,
     shares: Vec<Vec<Peer>>,
-    ledger: &mut OwnLedger<J, K>,
+    group: &mut GroupCommit<J, K>,
     news: &News<J>,
     hands: Hands<'_, J>,
     floor: Floor,
@@ -513,7 +550,7 @@ where
                 errors: &common.errors,
                 stop: common.stop,
             };
-            let flushed = serve_floor(rt, site, floor, lines, ledger);
+            let flushed = serve_floor(rt, site, floor, lines, group);
             common.stop.ask(rt);
             if let Some(bell) = &bell {
                 let _woken = bell.wake();

@@ -6,11 +6,9 @@ pub loop-line-preserved : goal.loop-line-preserved
 loop-line-preserved g c =
     let before = c.loop-line.invariant in
     let done = c.do_next.ensures in (
-      done.held,
-      search (c.do_next.ensures.room, before.1),
-      both_own _ _ _ _ before.2 done.own,
-      λ some. (done.order (before.3 some).1 ∙ (before.3 some).0, done.waits (before.3 some).1),
+      both_own _ _ _ _ before.0 done.own,
+      λ some. (done.order (before.1 some).1 ∙ (before.1 some).0, done.waits (before.1 some).1),
     )
 
 pub returns-then-not-do_next-clause-own : goal.returns-then-not-do_next-clause-own
-returns-then-not-do_next-clause-own g c = both_own _ _ _ _ c.loop-line.invariant.2 c.do_next.ensures.own
+returns-then-not-do_next-clause-own g c = both_own _ _ _ _ c.loop-line.invariant.0 c.do_next.ensures.own
