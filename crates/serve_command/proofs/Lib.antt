@@ -2,3 +2,4 @@ pub mod Adding
 pub mod Ending
 mod Starts
 mod Restarting
+mod Leaving

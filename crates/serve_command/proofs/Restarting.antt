@@ -1,12 +1,12 @@
 -- What survived a crash is in the record that a site begins with.
 use Rattle.std.proofs.Common.{◌≡◌, ◌++◌, ℕ, List, [], Option, None, Some, Result, Ok, Err, IfOk, IfSome, inl, inr, ap, subst, sym, ◌∙◌}
 use Rattle.replica_core.specs.Journal.{all_arrived, has}
-use Rattle.replica_core.specs.JournalLaws.{IsPartOf, IsSameSet-append, has-all_arrived, has-append_left}
+use Rattle.replica_core.specs.JournalLaws.{IsPartOf, IsSameSet-append, has-all_arrived, has-append_left, kept-all_arrived}
 use Rattle.review_ops.specs.Operation.{Operation}
 use Rattle.site_journal.specs.Tape.{Image, IsLeftBy}
 use Rattle.site_journal.specs.Text.{IsFresh, SaysJournal}
 use Rattle.serve_command.specs.Beginning.{HasSurvivors, IsBegun}
-use Rattle.serve_command.specs.Restarts.{BeginsAgain}
+use Rattle.serve_command.specs.Restarts.{BeginsAgain, RunsAgain}
 
 -- what the text says first is in the record, once all that it says has come
 said_part : (ops published more own begun loaded : List Operation) → ops ≡ published ++ more → own ≡ all_arrived [] ops
@@ -51,3 +51,39 @@ pub all_again : (begun first more again : List Operation) → BeginsAgain begun 
 all_again begun first more again b op h =
     b.survivors b.book b.image (first ++ more) b.known b.left b.kept op
     (sym (IsSameSet-append begun first more b.same op) ∙ sym (has-all_arrived begun more op) ∙ h)
+
+-- a site that runs again begins again
+begins_again : (left begun : List Operation) (later : Option (List Operation)) (r : RunsAgain left begun later)
+    → BeginsAgain r.ran.begun r.ran.first r.ran.more r.runs.begun
+begins_again left begun later r = record {
+  same = r.ran.same;
+  book = r.journal;
+  kept = r.ran.kept;
+  image = r.image;
+  known = r.known;
+  text = r.reopened.contents;
+  left = r.crashed;
+  survivors = r.runs.survivors;
+}
+
+-- what was left comes back, and stays
+left_begun : (left begun : List Operation) (later : Option (List Operation)) → RunsAgain left begun later
+    → IsPartOf left begun
+left_begun left begun later r op h =
+    ap (λ ops. has ops op) r.begins
+    ∙ all_again r.ran.begun r.ran.first r.ran.more r.runs.begun (begins_again left begun later r) op
+    (ap (λ ops. has ops op) (sym r.ran.leaves) ∙ h)
+
+left_later : (left begun further : List Operation) (later : Option (List Operation)) → IsPartOf left begun
+    → IfSome later (λ ops. ops ≡ all_arrived begun further) → IfSome later (λ ops. IsPartOf left ops)
+left_later left begun further None part is = tt
+left_later left begun further (Some ops) part is = λ op h.
+    ap (λ all. has all op) is ∙ kept-all_arrived begun further op (part op h)
+
+pub left_again : (left begun : List Operation) (later : Option (List Operation)) → RunsAgain left begun later
+    → IsPartOf left begun × IfSome later (λ ops. IsPartOf left ops)
+left_again left begun later r = (
+  left_begun left begun later r,
+  left_later left begun r.runs.more later (left_begun left begun later r)
+      (subst (λ one. IfSome later (λ ops. ops ≡ all_arrived one r.runs.more)) (sym r.begins) r.runs.leaves),
+)

@@ -1,6 +1,7 @@
 pub mod Fault
 pub mod Beginning
 pub mod Endings
+pub mod Leaving
 pub mod Printing
 pub mod LateClock
 pub mod Listening

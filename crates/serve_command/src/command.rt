@@ -1,33 +1,26 @@
 //! Runs a site over sockets of this machine, as the words of the command line ask for.
 
-ghost use Rattle.std.specs.Prelude.{◌≡◌, IfOk, List, option_map};
-ghost use Rattle.review_ops.specs.Operation.{Operation};
-ghost use Rattle.serve_command.specs.Beginning.{AreInputs};
-ghost use Rattle.serve_command.specs.Endings.{EndsAs};
-ghost use Rattle.serve_command.specs.Printing.{prints_of};
+ghost use Rattle.std.specs.Prelude.{◌≡◌, Err, IfErr, IfOk, option_map};
+ghost use Rattle.serve_command.specs.Beginning.{AreInputs, IsLoaded};
 
 use super::fault::ProgramFault;
-use super::heard::{Heard, hear};
-use super::journal::open_journal;
-use super::keys::{Host, judge_keys};
-use super::late_clock::show_late_clock;
-use super::listening::{Doors, Listening, leave, listen};
-use super::output::PatientOutput;
-use super::save::save;
-use super::start::start_of;
+use super::finished::Finished;
+use super::journal::tape_fault;
+use super::keys::judge_keys;
+use super::prepared::{Outside, Site};
+use super::running::{run_kept, run_taped};
+use super::save::SnapshotFile;
+use super::tape::FileTape;
 use byte_ends::{Drain, Ends, Source};
-use command_line::{Printing, ServeWords};
+use command_line::ServeWords;
 use console::{Console, Named, Refusal, Streams, read_gate, read_snapshot};
 use gate_rules::Gate;
 use key_file::KeyFault;
 use key_files::KeyReader;
-use mio::Waker;
-use page_server::Door;
-use replica_core::Replica;
+use replica_core::{Gathering, Replica};
 use site_journal::JournalFault;
-use site_ledger::{Keeps, NoJournal};
-use site_net::Stop;
-use site_serve::{Closed, Doorstep, Prints, Reloads, ServeFault, Served, Setup, serve_keeping};
+use site_ledger::NoJournal;
+use site_serve::ServeFault;
 use std::alloc::Global;
 use std::fs::File;
 use std::io;
@@ -35,7 +28,7 @@ use std::io::Print;
 use std::net::{Net, TcpListener, TcpStream};
 use std::random::RandomSource;
 use std::rt::Files;
-use std::sync::{Arc, Wait};
+use std::sync::Wait;
 use std::thread::Threads;
 use std::time::Clock;
 
@@ -115,274 +108,60 @@ where
         &mut Ends::new(io::writer(&rt)),
         &mut files,
     );
-    let (gate, loaded) = inputs.map_err(Ended::Refused)?;
+    let (gate, replica) = inputs.map_err(Ended::Refused)?;
     judge_keys(keys, &serving)?;
-    let Some(name) = serving.journal else {
-        let site = Site {
-            serving,
-            gate,
-            replica: loaded,
-        };
-        return run_kept(rt, alloc, site, input, files, errors, keys, NoJournal);
-    };
-    let mut errors = errors;
-    let (journal, replica) = open_journal(&rt, alloc, name, loaded, &mut errors)?;
+    let journal = serving.journal;
     let site = Site {
         serving,
         gate,
         replica,
     };
-    run_kept(rt, alloc, site, input, files, errors, keys, journal)
-}
-
-/// What a site is run with, once its inputs are read.
-#[derive(Drop)]
-struct Site<'a> {
-    serving: ServeWords<'a>,
-    gate: Gate,
-    replica: Replica,
-}
-
-/// Runs a site over what keeps its operations, from its start to its snapshot.
-fn run_kept<R, I, N, E, L, K>(
-    rt: R,
-    alloc: Global,
-    site: Site<'_>,
-    input: I,
-    files: N,
-    errors: E,
-    keys: &L,
-    keeper: K,
-) -> Result<(), Ended<'static>>
-where
-    R: Net<Listener = TcpListener, Stream = TcpStream> + RandomSource,
-    R: Files<File = File> + Print + Threads + Wait + Clock + AllocGlobal,
-    R: Copy + Send + Sync + 'static,
-    I: Source + Send + Drop + 'static,
-    N: Named + Send + Drop + 'static,
-    E: Drain + Send + Drop + 'static,
-    L: KeyReader + Sync,
-    K: Keeps + Drop,
-    requires { (first : List Operation) × K.holds keeper first }
-{
-    let Site {
-        serving,
-        gate,
-        replica,
-    } = site;
-    let mut errors = errors;
-    show_late_clock(alloc, &replica, &mut errors);
-    let Some(start) = start_of(&rt, serving.start, &replica, serving.site) else {
-        return Err(Ended::Site(ServeFault::StartUsed));
-    };
-    let Listening { doors, sockets } = listen(&rt, alloc, &serving)?;
-    let site = Site {
-        serving,
-        gate,
-        replica,
-    };
-    let ended = run_listening(
-        rt, alloc, site, start, doors, input, files, errors, keys, keeper,
-    );
-    leave(&rt, sockets.as_slice());
-    ended
-}
-
-/// Runs a site that listens, until it has saved its snapshot.
-fn run_listening<R, I, N, E, L, K>(
-    rt: R,
-    alloc: Global,
-    site: Site<'_>,
-    start: u32,
-    doors: Doors,
-    input: I,
-    files: N,
-    errors: E,
-    keys: &L,
-    keeper: K,
-) -> Result<(), Ended<'static>>
-where
-    R: Net<Listener = TcpListener, Stream = TcpStream> + RandomSource,
-    R: Files<File = File> + Print + Threads + Wait + Clock + AllocGlobal,
-    R: Copy + Send + Sync + 'static,
-    I: Source + Send + Drop + 'static,
-    N: Named + Send + Drop + 'static,
-    E: Drain + Send + Drop + 'static,
-    L: KeyReader + Sync,
-    K: Keeps + Drop,
-    requires { (first : List Operation) × K.holds keeper first }
-{
-    let stage = Stage { site, start, doors };
-    let serving = &stage.site.serving;
-    let (gate, until) = (serving.gate, serving.until_input_ends);
-    match hear(rt, alloc, gate, until, input, files, errors) {
-        Ok(heard) => run_staged(rt, alloc, stage, heard, keys, keeper),
-        Err(fault) => Err(Ended::Site(fault)),
-    }
-}
-
-/// A site that listens, with its start.
-#[derive(Drop)]
-struct Stage<'a> {
-    site: Site<'a>,
-    start: u32,
-    doors: Doors,
-}
-
-/// Runs a site whose input is heard.
-fn run_staged<R, E, L, K>(
-    rt: R,
-    alloc: Global,
-    stage: Stage<'_>,
-    heard: Heard<R, E>,
-    keys: &L,
-    keeper: K,
-) -> Result<(), Ended<'static>>
-where
-    R: Net<Listener = TcpListener, Stream = TcpStream> + RandomSource,
-    R: Files<File = File> + Print + Threads + Wait + Clock + AllocGlobal,
-    R: Copy + Send + Sync + 'static,
-    E: Drain + Send + Drop + 'static,
-    L: KeyReader + Sync,
-    K: Keeps + Drop,
-    requires { (first : List Operation) × K.holds keeper first }
-{
-    match output_of(rt, alloc, &heard.stop) {
-        Ok(output) => run_printing(rt, alloc, stage, heard, keys, keeper, output),
-        Err(fault) => Err(Ended::Site(fault)),
-    }
-}
-
-/// Runs a site that prints to this output, and saves what it has left.
-fn run_printing<R, E, L, K, O>(
-    rt: R,
-    alloc: Global,
-    stage: Stage<'_>,
-    heard: Heard<R, E>,
-    keys: &L,
-    keeper: K,
-    output: O,
-) -> Result<(), Ended<'static>>
-where
-    R: Net<Listener = TcpListener, Stream = TcpStream> + RandomSource,
-    R: Files<File = File> + Threads + Wait + Clock,
-    R: Copy + Send + Sync + 'static,
-    E: Drain + Send + Drop + 'static,
-    L: KeyReader + Sync,
-    K: Keeps + Drop,
-    O: Drain + Send + Drop,
-    requires { (first : List Operation) × K.holds keeper first }
-{
-    let Heard {
-        stop,
-        reloads,
+    let outside = Outside {
+        input,
+        files,
         errors,
-    } = heard;
-    let Stage { site, start, doors } = stage;
-    let Doors { listeners, page } = doors;
-    let name = site.serving.save;
-    let host = Host { reader: keys };
-    let setup = setup_of(site, start, reloads, page);
-    let Closed { keeper: _, served } = serve_keeping(
-        &rt, alloc, listeners, setup, &stop, output, errors, &host, keeper,
-    );
-    match served {
-        Ok(served) => keep(&rt, alloc, name, &served),
-        Err(fault) => Err(Ended::Site(fault)),
-    }
+    };
+    run_named(rt, alloc, journal, site, outside, keys)
 }
 
-/// The output that its reports are printed to.
-fn output_of<R: Print + Threads + Wait + Clock + Copy + Send + 'static>(
+/// Runs a site with the journal of this name, if it has one, and saves what it has left.
+fn run_named<R, I, N, E, L>(
     rt: R,
     alloc: Global,
-    stop: &Arc<Stop, Global>,
-) -> Result<Ends<PatientOutput<R>>, ServeFault> {
-    let Ok(theirs) = Arc::try_clone(stop) else {
-        return Err(ServeFault::NoMemory);
+    journal: Option<&str>,
+    site: Site<'_>,
+    outside: Outside<I, N, E>,
+    keys: &L,
+) -> Result<(), Ended<'static>>
+where
+    R: Net<Listener = TcpListener, Stream = TcpStream> + RandomSource,
+    R: Files<File = File> + Print + Threads + Wait + Clock + AllocGlobal,
+    R: Copy + Send + Sync + 'static,
+    I: Source + Send + Drop + 'static,
+    N: Named + Send + Drop + 'static,
+    E: Drain + Send + Drop + 'static,
+    L: KeyReader + Sync,
+{
+    let Ok(mut shelf) = SnapshotFile::new(rt, alloc, site.serving.save) else {
+        return Err(Ended::Site(ServeFault::NoMemory));
     };
-    match PatientOutput::new(rt, alloc, theirs) {
-        Ok(Some(output)) => Ok(Ends::new(output)),
-        Ok(None) => Err(ServeFault::NoPlace),
-        Err(_) => Err(ServeFault::NoMemory),
+    let Some(name) = journal else {
+        return run_kept(rt, alloc, site, outside, keys, &mut shelf, NoJournal).ended;
+    };
+    match FileTape::open(&rt, name) {
+        Ok(tape) => ended_of(run_taped(rt, alloc, site, outside, keys, &mut shelf, tape)),
+        Err(fault) => Err(tape_fault(fault)),
     }
 }
 
-/// What a site is run with.
-fn setup_of<'a>(
-    site: Site<'a>,
-    start: u32,
-    reloads: Arc<Reloads, Global>,
-    page: Option<(Door, Waker)>,
-) -> Setup<'a>
-    ensures held { (result.gate ≡ site.entry.gate) × (result.reloads ≡ reloads)
-        × (result.replica ≡ site.entry.replica) }
-    ensures stamps { (result.site ≡ site.entry.serving.site) × (result.start ≡ start) }
-    ensures peers { (result.peers ≡ site.entry.serving.peers) × (result.keys ≡ site.entry.serving.keys)
-        × (result.pause_ms ≡ site.entry.serving.pause_ms) × (result.sites ≡ site.entry.serving.sites) }
-    ensures sessions { (result.workers ≡ site.entry.serving.workers) × (result.sessions ≡ site.entry.serving.sessions)
-        × (result.idle_ms ≡ site.entry.serving.idle_ms) × (result.connections ≡ site.entry.serving.connections) }
-    ensures prints { result.prints ≡ prints_of site.entry.serving.prints }
-    ensures page { result.page ≡ option_map
-        (λ opened. record { door = opened.0; waker = opened.1; hosts = site.entry.serving.http_hosts }) page }
+/// How a site with a journal ended, which may not have been opened.
+fn ended_of<K: Drop>(ran: Result<Finished<K>, Ended<'static>>) -> Result<(), Ended<'static>>
+    ensures ran { IfOk ran.entry (λ finished. result ≡ finished.ended) }
+    ensures refused { IfErr ran.entry (λ ended. result ≡ Err ended) }
 {
-    let Site {
-        serving,
-        gate,
-        replica,
-    } = site;
-    let ServeWords {
-        peers,
-        keys,
-        sites,
-        site,
-        workers,
-        pause_ms,
-        sessions,
-        idle_ms,
-        connections,
-        prints,
-        http_hosts,
-        ..
-    } = serving;
-    Setup {
-        gate,
-        reloads,
-        replica,
-        site,
-        start,
-        peers,
-        keys,
-        sites,
-        workers,
-        pause_ms,
-        sessions,
-        idle_ms,
-        connections,
-        prints: prints_of(prints),
-        page: doorstep(page, http_hosts),
-    }
-}
-
-/// Where browsers connect to, with the names by which they may call this machine.
-fn doorstep(page: Option<(Door, Waker)>, hosts: Vec<String>) -> Option<Doorstep>
-    ensures { result
-        ≡ option_map (λ opened. record { door = opened.0; waker = opened.1; hosts = hosts }) page }
-{
-    match page {
-        Some((door, waker)) => Some(Doorstep { door, waker, hosts }),
-        None => None,
-    }
-}
-
-/// What a site prints, as the words say.
-fn prints_of(printing: Printing) -> Prints
-    ensures { result ≡ prints_of printing }
-{
-    match printing {
-        Printing::Report => Prints::Report,
-        Printing::Changes => Prints::Changes,
-        Printing::Nothing => Prints::Nothing,
+    match ran {
+        Ok(finished) => finished.ended,
+        Err(ended) => Err(ended),
     }
 }
 
@@ -415,38 +194,25 @@ fn read_inputs<'n, C: Console>(
         (C.state console.old) (C.state console.new)) }
 {
     let rules = read_gate(alloc, gate, console)?;
-    let replica = match load {
-        Some(name) => read_snapshot(Replica::new(alloc), name, console)?,
-        None => Replica::new(alloc),
-    };
+    let replica = read_loaded(alloc, load, console)?;
     Ok((rules, replica))
 }
 
-/// Saves what a site has left, where a file is named, also where the output failed, or where the site ended
-/// because its start is taken.
-fn keep<R: Files>(
-    rt: &R,
+/// The record of the snapshot of a name, or an empty one where none is named.
+fn read_loaded<'n, C: Console>(
     alloc: Global,
-    name: Option<&str>,
-    served: &Served,
-) -> Result<(), Ended<'static>> {
-    if let Some(name) = name
-        && save(rt, alloc, name, &served.replica).is_err()
-    {
-        return Err(Ended::Program(ProgramFault::NoSave));
-    }
-    ending_of(served.is_start_taken, served.written)
-}
-
-/// How a site ends whose start is taken or not, and whose output took all that was printed or failed.
-fn ending_of(is_start_taken: bool, written: bool) -> Result<(), Ended<'static>>
-    ensures { EndsAs is_start_taken written result }
+    load: Option<&'n str>,
+    console: &mut C,
+) -> Result<Replica, Refusal<'n>>
+    ensures { IfOk result (λ replica. IsLoaded (option_map (λ name. name.now) load.entry) replica (C.state console.old)
+        (C.state console.new)) }
 {
-    if is_start_taken {
-        Err(Ended::Program(ProgramFault::StartTaken))
-    } else if written {
-        Ok(())
-    } else {
-        Err(Ended::Unprinted)
+    let Some(name) = load else {
+        return Ok(Replica::new(alloc));
+    };
+    let gathering = read_snapshot(Gathering::new(alloc), name, console)?;
+    match gathering.joined() {
+        Ok(replica) => Ok(replica),
+        Err(_) => Err(Refusal::Memory),
     }
 }

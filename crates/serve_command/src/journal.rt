@@ -9,7 +9,7 @@ ghost use Rattle.serve_command.specs.Beginning.{HasSurvivors, IsAdded, IsBegun, 
 
 use super::command::Ended;
 use super::fault::ProgramFault;
-use super::tape::{FileTape, TapeFault};
+use super::tape::TapeFault;
 use byte_ends::Drain;
 use console::show_torn;
 use replica_core::Replica;
@@ -17,27 +17,9 @@ use review_ops::Op;
 use site_journal::{Journal, JournalFault, KeepFault, Tape, journals_have_one_reading};
 use site_serve::ServeFault;
 use std::alloc::Global;
-use std::fs::File;
-use std::rt::Files;
 
 /// How many operations of a snapshot are added to a journal at once.
 const BATCH: usize = 4096;
-
-/// Opens the journal of this name, and begins a record by it, as `begin` does.
-pub fn open_journal<R: Files<File = File>, E: Drain>(
-    rt: &R,
-    alloc: Global,
-    name: &str,
-    loaded: Replica,
-    errors: &mut E,
-) -> Result<(Journal<FileTape>, Replica), Ended<'static>>
-    ensures { IfOk result (λ begun. (ops : List Operation) × IsHolding begun.0 ops × IsSameSet begun.1 ops) }
-{
-    match FileTape::open(rt, name) {
-        Ok(tape) => begin(alloc, tape, loaded, errors),
-        Err(fault) => Err(tape_fault(fault)),
-    }
-}
 
 /// Begins a site's record by a journal on a tape that was just opened: it has what the journal says and what was loaded
 /// beside, which is added to the journal where that lacks it, and synced. So the journal says just the record, and the
@@ -101,7 +83,7 @@ fn add_loaded<T: Tape + Drop>(
 }
 
 /// How a site ends whose journal isn't opened.
-fn tape_fault(fault: TapeFault) -> Ended<'static> {
+pub fn tape_fault(fault: TapeFault) -> Ended<'static> {
     match fault {
         TapeFault::Locked => Ended::Program(ProgramFault::Locked),
         TapeFault::Failed => Ended::Journal(JournalFault::Failed),

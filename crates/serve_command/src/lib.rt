@@ -21,6 +21,7 @@
 
 mod command;
 mod fault;
+mod finished;
 mod heard;
 mod input_end;
 mod journal;
@@ -29,6 +30,8 @@ mod late_clock;
 mod laws;
 mod listening;
 mod output;
+mod prepared;
+mod running;
 mod save;
 mod shared_errors;
 mod start;
@@ -36,4 +39,4 @@ mod tape;
 
 pub use command::{Ended, serve};
 pub use fault::ProgramFault;
-pub use laws::sites_that_begin_again_have_all;
+pub use laws::{sites_that_begin_again_have_all, what_a_site_left_is_there_again};

@@ -1,19 +1,62 @@
 //! Saves a record as a snapshot, so that the file of that name holds the old one whole or the new one whole.
 
+ghost use Rattle.std.specs.Prelude.{List, OnOk};
+ghost use Rattle.review_ops.specs.Operation.{Operation};
+
 use super::tape::sync_folder;
 use byte_ends::Ends;
 use replica_core::Replica;
 use snapshot_text::write_snapshot;
-use std::alloc::Global;
+use std::alloc::{AllocError, Global};
 use std::fs::{OpenFile, OpenOptions};
 use std::io::ErrorKind;
 use std::os::unix::fs::OpenOptionsExt;
 use std::rt::Files;
 use std::{fs, io};
 
+/// Where the record of a site is saved once it has ended.
+pub trait Saves {
+    /// What it means that this record was saved in between.
+    ghost saves: { Self → List Operation → Self → Type 0 };
+
+    /// Saves a record, in the place of one that was saved before, if a record is to be saved at all.
+    fn save(&mut self, replica: &Replica) -> io::Result<()>
+        ensures { OnOk result (saves self.old replica.now self.new) };
+}
+
+/// A file of the system for a snapshot, if one is named. What the system does with it isn't modelled.
+#[derive(Drop)]
+pub struct SnapshotFile<R> {
+    rt: R,
+    alloc: Global,
+    name: Option<String>,
+}
+
+impl<R: Copy> SnapshotFile<R> {
+    /// The file of a name, if one is given.
+    pub fn new(rt: R, alloc: Global, name: Option<&str>) -> Result<SnapshotFile<R>, AllocError> {
+        let name = match name {
+            Some(name) => Some(String::from_str(alloc, name)?),
+            None => None,
+        };
+        Ok(SnapshotFile { rt, alloc, name })
+    }
+}
+
+impl<R: Files> Saves for SnapshotFile<R> {
+    ghost saves = { λ _ _ _. Unit {0} };
+
+    fn save(&mut self, replica: &Replica) -> io::Result<()> {
+        match &self.name {
+            Some(name) => save(&self.rt, self.alloc, name.as_str(), replica),
+            None => Ok(()),
+        }
+    }
+}
+
 /// Writes the snapshot beside the file, readable by its owner alone, has the system keep it, and puts it in the file's
 /// place.
-pub fn save<R: Files>(rt: &R, alloc: Global, name: &str, replica: &Replica) -> io::Result<()> {
+fn save<R: Files>(rt: &R, alloc: Global, name: &str, replica: &Replica) -> io::Result<()> {
     let beside = format!(in alloc; "{name}.new")?;
     let file = OpenOptions::new()
         .write(true)

@@ -1,0 +1,83 @@
+//! How a site of the program ends: what is saved of it, and what is given back.
+
+ghost use Rattle.std.specs.Prelude.{◌≡◌, Err, List, None, Ok};
+ghost use Rattle.review_ops.specs.Operation.{Operation};
+ghost use Rattle.serve_command.specs.Endings.{EndsAs};
+ghost use Rattle.serve_command.specs.Leaving.{EndsBy, HasSaved, IsLeftOf, IsSavedOr, LeavesKept};
+
+use super::command::Ended;
+use super::fault::ProgramFault;
+use super::save::Saves;
+use replica_core::Replica;
+use site_ledger::Keeps;
+use site_serve::{Closed, Served};
+
+/// A site of the program that has ended.
+#[derive(Drop)]
+pub struct Finished<K> {
+    /// What keeps its operations.
+    pub keeper: K,
+    /// What it had in the end, where it was run to its end.
+    pub left: Option<Replica>,
+    pub ended: Result<(), Ended<'static>>,
+}
+
+/// A site that wasn't run.
+pub fn unrun<K: Keeps>(keeper: K, ended: Ended<'static>) -> Finished<K>
+    ensures kept { (begun : List Operation) → LeavesKept K.survives (K.holds keeper) begun result.keeper result.left }
+    ensures left { result.left ≡ None }
+    ensures ended { result.ended ≡ Err ended.entry }
+{
+    keeper.what_it_has_survives();
+    Finished {
+        keeper,
+        left: None,
+        ended: Err(ended),
+    }
+}
+
+/// Saves what a site has left, also where its output failed, or where it ended because its start is taken.
+pub fn finish<S: Saves, K>(shelf: &mut S, closed: Closed<K>) -> Finished<K>
+    ensures keeper { result.keeper ≡ closed.keeper }
+    ensures left { IsLeftOf closed.served result.left }
+    ensures saved { HasSaved S.saves shelf.old result.left result.ended shelf.new }
+    ensures ends { EndsBy closed.served result.ended }
+{
+    let Closed { keeper, served } = closed;
+    match served {
+        Ok(served) => Finished {
+            keeper,
+            ended: saved(shelf, &served),
+            left: Some(served.replica),
+        },
+        Err(fault) => Finished {
+            keeper,
+            left: None,
+            ended: Err(Ended::Site(fault)),
+        },
+    }
+}
+
+/// Saves what a site has left. How the site ends.
+fn saved<S: Saves>(shelf: &mut S, served: &Served) -> Result<(), Ended<'static>>
+    ensures saved { IsSavedOr S.saves shelf.old served.now.replica result shelf.new }
+    ensures ends { EndsBy (Ok served.now) result }
+{
+    match shelf.save(&served.replica) {
+        Ok(()) => ending_of(served.is_start_taken, served.written),
+        Err(_) => Err(Ended::Program(ProgramFault::NoSave)),
+    }
+}
+
+/// How a site ends whose start is taken or not, and whose output took all that was printed or failed.
+fn ending_of(is_start_taken: bool, written: bool) -> Result<(), Ended<'static>>
+    ensures { EndsAs is_start_taken written result }
+{
+    if is_start_taken {
+        Err(Ended::Program(ProgramFault::StartTaken))
+    } else if written {
+        Ok(())
+    } else {
+        Err(Ended::Unprinted)
+    }
+}

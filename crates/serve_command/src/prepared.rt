@@ -1,0 +1,190 @@
+//! Makes what a site runs with: its start, what it listens at, what hears its input and its output.
+
+ghost use Rattle.std.specs.Prelude.{◌≡◌, IfOk};
+
+use super::command::Ended;
+use super::heard::{Heard, hear};
+use super::late_clock::show_late_clock;
+use super::listening::{Listening, leave, listen};
+use super::output::PatientOutput;
+use super::start::start_of;
+use byte_ends::{Drain, Ends, Source};
+use command_line::ServeWords;
+use console::Named;
+use gate_rules::Gate;
+use replica_core::Replica;
+use site_net::Stop;
+use site_serve::ServeFault;
+use std::alloc::Global;
+use std::fs::File;
+use std::io::Print;
+use std::net::{Net, TcpListener, TcpStream};
+use std::random::RandomSource;
+use std::rt::Files;
+use std::sync::{Arc, Wait};
+use std::thread::Threads;
+use std::time::Clock;
+
+/// What a site is run with, once its inputs are read.
+#[derive(Drop)]
+pub struct Site<'a> {
+    pub serving: ServeWords<'a>,
+    pub gate: Gate,
+    pub replica: Replica,
+}
+
+/// What a site hears and says beside its sockets and its reports: its input, the files that it reads, and where what is
+/// wrong is written.
+#[derive(Drop)]
+pub struct Outside<I, N, E> {
+    pub input: I,
+    pub files: N,
+    pub errors: E,
+}
+
+/// A site with its start, and what it listens at.
+#[derive(Drop)]
+pub struct Opened<'a> {
+    pub site: Site<'a>,
+    pub start: u32,
+    pub listening: Listening<'a>,
+}
+
+/// A site that listens, whose input is heard and whose output is made.
+#[derive(Drop)]
+pub struct Prepared<'a, R, E, O> {
+    pub opened: Opened<'a>,
+    pub heard: Heard<R, E>,
+    pub output: O,
+}
+
+/// Makes all that a site runs with and that may fail: says if its clock is late, finds its start, listens, has its input
+/// heard and makes its output. Where one of these fails the sockets that were made are removed. Refusals: `Site` with
+/// `StartUsed`, its start was used; `NoPlace`, the system refused a thread; `NoMemory`; and those of `listen`.
+pub fn prepare<'a, R, I, N, E>(
+    rt: R,
+    alloc: Global,
+    site: Site<'a>,
+    outside: Outside<I, N, E>,
+) -> Result<Prepared<'a, R, E, Ends<PatientOutput<R>>>, Ended<'static>>
+where
+    R: Net<Listener = TcpListener, Stream = TcpStream> + RandomSource,
+    R: Files<File = File> + Print + Threads + Wait + Clock,
+    R: Copy + Send + 'static,
+    I: Source + Send + Drop + 'static,
+    N: Named + Send + Drop + 'static,
+    E: Drain + Send + Drop + 'static,
+    ensures { IfOk result (λ prepared. prepared.opened.site.replica ≡ site.entry.replica) }
+{
+    let mut outside = outside;
+    show_late_clock(alloc, &site.replica, &mut outside.errors);
+    match open(&rt, alloc, site) {
+        Ok(opened) => attended(rt, alloc, opened, outside),
+        Err(ended) => Err(ended),
+    }
+}
+
+/// A site with its start that listens.
+fn open<'a, R>(rt: &R, alloc: Global, site: Site<'a>) -> Result<Opened<'a>, Ended<'static>>
+where
+    R: Net<Listener = TcpListener, Stream = TcpStream> + RandomSource,
+    R: Files + Print + Clock,
+    ensures { IfOk result (λ opened. opened.site.replica ≡ site.entry.replica) }
+{
+    match start_of(rt, site.serving.start, &site.replica, site.serving.site) {
+        Some(start) => match listen(rt, alloc, &site.serving) {
+            Ok(listening) => Ok(Opened {
+                site,
+                start,
+                listening,
+            }),
+            Err(ended) => Err(ended),
+        },
+        None => Err(Ended::Site(ServeFault::StartUsed)),
+    }
+}
+
+/// A site that listens, with its input heard and its output made, or without its sockets.
+fn attended<'a, R, I, N, E>(
+    rt: R,
+    alloc: Global,
+    opened: Opened<'a>,
+    outside: Outside<I, N, E>,
+) -> Result<Prepared<'a, R, E, Ends<PatientOutput<R>>>, Ended<'static>>
+where
+    R: Files + Print + Threads + Wait + Clock + Copy + Send + 'static,
+    I: Source + Send + Drop + 'static,
+    N: Named + Send + Drop + 'static,
+    E: Drain + Send + Drop + 'static,
+    ensures { IfOk result (λ prepared. prepared.opened.site.replica ≡ opened.entry.site.replica) }
+{
+    let serving = &opened.site.serving;
+    match attend(rt, alloc, serving.gate, serving.until_input_ends, outside) {
+        Ok((heard, output)) => Ok(Prepared {
+            opened,
+            heard,
+            output,
+        }),
+        Err(fault) => {
+            leave(&rt, opened.listening.sockets.as_slice());
+            Err(Ended::Site(fault))
+        }
+    }
+}
+
+/// Has the input of a site heard, and makes its output.
+fn attend<R, I, N, E>(
+    rt: R,
+    alloc: Global,
+    gate: &str,
+    until_input_ends: bool,
+    outside: Outside<I, N, E>,
+) -> Result<(Heard<R, E>, Ends<PatientOutput<R>>), ServeFault>
+where
+    R: Print + Threads + Wait + Clock + Copy + Send + 'static,
+    I: Source + Send + Drop + 'static,
+    N: Named + Send + Drop + 'static,
+    E: Drain + Send + Drop + 'static,
+{
+    let Outside {
+        input,
+        files,
+        errors,
+    } = outside;
+    match hear(rt, alloc, gate, until_input_ends, input, files, errors) {
+        Ok(heard) => with_output(rt, alloc, heard),
+        Err(fault) => Err(fault),
+    }
+}
+
+/// What is heard, with the output that ends when a stop is heard.
+fn with_output<R, E>(
+    rt: R,
+    alloc: Global,
+    heard: Heard<R, E>,
+) -> Result<(Heard<R, E>, Ends<PatientOutput<R>>), ServeFault>
+where
+    R: Print + Threads + Wait + Clock + Copy + Send + 'static,
+    E: Drain + Send + Drop + 'static,
+{
+    match output_of(rt, alloc, &heard.stop) {
+        Ok(output) => Ok((heard, output)),
+        Err(fault) => Err(fault),
+    }
+}
+
+/// The output that its reports are printed to.
+fn output_of<R: Print + Threads + Wait + Clock + Copy + Send + 'static>(
+    rt: R,
+    alloc: Global,
+    stop: &Arc<Stop, Global>,
+) -> Result<Ends<PatientOutput<R>>, ServeFault> {
+    let Ok(theirs) = Arc::try_clone(stop) else {
+        return Err(ServeFault::NoMemory);
+    };
+    match PatientOutput::new(rt, alloc, theirs) {
+        Ok(Some(output)) => Ok(Ends::new(output)),
+        Ok(None) => Err(ServeFault::NoPlace),
+        Err(_) => Err(ServeFault::NoMemory),
+    }
+}

@@ -1,0 +1,240 @@
+//! Runs a site over what keeps its operations, to the snapshot that is saved of it.
+
+ghost use Rattle.std.specs.Prelude.{◌≡◌, IfOk, List, OnErr, option_map};
+ghost use Rattle.review_ops.specs.Operation.{Operation};
+ghost use Rattle.site_journal.specs.Tape.{IsAtStart};
+ghost use Rattle.serve_command.specs.Leaving.{HasRun, HasSaved, LeavesKept};
+ghost use Rattle.serve_command.specs.Printing.{prints_of};
+
+use super::command::Ended;
+use super::finished::{Finished, finish, unrun};
+use super::heard::Heard;
+use super::journal::begin;
+use super::keys::Host;
+use super::listening::{Doors, Listening, leave};
+use super::prepared::{Opened, Outside, Prepared, Site, prepare};
+use super::save::Saves;
+use byte_ends::{Drain, Source};
+use command_line::{Printing, ServeWords};
+use console::Named;
+use key_files::KeyReader;
+use mio::Waker;
+use page_server::Door;
+use site_journal::{Journal, Tape};
+use site_ledger::Keeps;
+use site_serve::{Doorstep, Prints, Reloads, Setup, serve_keeping};
+use std::alloc::Global;
+use std::fs::File;
+use std::io::Print;
+use std::net::{Net, TcpListener, TcpStream};
+use std::random::RandomSource;
+use std::rt::Files;
+use std::sync::{Arc, Wait};
+use std::thread::Threads;
+use std::time::Clock;
+
+/// Runs a site by a journal on a tape that was just opened, and saves what it has left. It begins with what the journal
+/// says and what was loaded, as `begin` does; and whatever a crash leaves of the journal that is given back says all that
+/// it began with and published. Refused where the journal isn't opened; then nothing is run or saved.
+pub fn run_taped<R, I, N, E, L, S, T>(
+    rt: R,
+    alloc: Global,
+    site: Site<'_>,
+    outside: Outside<I, N, E>,
+    keys: &L,
+    shelf: &mut S,
+    tape: T,
+) -> Result<Finished<Journal<T>>, Ended<'static>>
+where
+    R: Net<Listener = TcpListener, Stream = TcpStream> + RandomSource,
+    R: Files<File = File> + Print + Threads + Wait + Clock,
+    R: Copy + Send + Sync + 'static,
+    I: Source + Send + Drop + 'static,
+    N: Named + Send + Drop + 'static,
+    E: Drain + Send + Drop + 'static,
+    L: KeyReader + Sync,
+    S: Saves,
+    T: Tape + Drop,
+    requires { IsAtStart (T.image tape) (T.left tape) }
+    ensures ran { IfOk result
+        (λ finished. HasRun (T.image tape) site.entry.replica finished.keeper finished.left) }
+    ensures saved { IfOk result (λ finished. HasSaved S.saves shelf.old finished.left finished.ended shelf.new) }
+    ensures refused { OnErr result (shelf.new ≡ shelf.old) }
+{
+    let Site {
+        serving,
+        gate,
+        replica: loaded,
+    } = site;
+    let mut outside = outside;
+    match begin(alloc, tape, loaded, &mut outside.errors) {
+        Ok((journal, replica)) => {
+            let site = Site {
+                serving,
+                gate,
+                replica,
+            };
+            Ok(run_kept(rt, alloc, site, outside, keys, shelf, journal))
+        }
+        Err(ended) => Err(ended),
+    }
+}
+
+/// Runs a site over what keeps its operations, and saves what it has left. Whatever that had at first survives in what
+/// is given back, with all that came to the record; and what is left is the first record with just these. A site whose
+/// start, doors, input or output can't be had isn't run; then nothing is saved.
+pub fn run_kept<R, I, N, E, L, S, K>(
+    rt: R,
+    alloc: Global,
+    site: Site<'_>,
+    outside: Outside<I, N, E>,
+    keys: &L,
+    shelf: &mut S,
+    keeper: K,
+) -> Finished<K>
+where
+    R: Net<Listener = TcpListener, Stream = TcpStream> + RandomSource,
+    R: Files<File = File> + Print + Threads + Wait + Clock,
+    R: Copy + Send + Sync + 'static,
+    I: Source + Send + Drop + 'static,
+    N: Named + Send + Drop + 'static,
+    E: Drain + Send + Drop + 'static,
+    L: KeyReader + Sync,
+    S: Saves,
+    K: Keeps,
+    requires { (first : List Operation) × K.holds keeper first }
+    ensures kept { LeavesKept K.survives (K.holds keeper) site.entry.replica result.keeper result.left }
+    ensures saved { HasSaved S.saves shelf.old result.left result.ended shelf.new }
+{
+    match prepare(rt, alloc, site, outside) {
+        Ok(prepared) => run_prepared(rt, alloc, prepared, keys, shelf, keeper),
+        Err(ended) => unrun(keeper, ended),
+    }
+}
+
+/// Runs a site that is prepared, and saves what it has left. The sockets that were made for it are removed.
+fn run_prepared<R, E, O, L, S, K>(
+    rt: R,
+    alloc: Global,
+    prepared: Prepared<'_, R, E, O>,
+    keys: &L,
+    shelf: &mut S,
+    keeper: K,
+) -> Finished<K>
+where
+    R: Net<Listener = TcpListener, Stream = TcpStream>,
+    R: Files<File = File> + Threads + Wait + Clock,
+    R: Copy + Send + Sync + 'static,
+    E: Drain + Send + Drop + 'static,
+    O: Drain + Send + Drop,
+    L: KeyReader + Sync,
+    S: Saves,
+    K: Keeps,
+    requires { (first : List Operation) × K.holds keeper first }
+    ensures kept { LeavesKept K.survives (K.holds keeper) prepared.entry.opened.site.replica result.keeper result.left }
+    ensures saved { HasSaved S.saves shelf.old result.left result.ended shelf.new }
+{
+    let Prepared {
+        opened,
+        heard,
+        output,
+    } = prepared;
+    let Opened {
+        site,
+        start,
+        listening,
+    } = opened;
+    let Heard {
+        stop,
+        reloads,
+        errors,
+    } = heard;
+    let Listening { doors, sockets } = listening;
+    let Doors { listeners, page } = doors;
+    let host = Host { reader: keys };
+    let setup = setup_of(site, start, reloads, page);
+    let closed = serve_keeping(
+        &rt, alloc, listeners, setup, &stop, output, errors, &host, keeper,
+    );
+    let finished = finish(shelf, closed);
+    leave(&rt, sockets.as_slice());
+    finished
+}
+
+/// What a site is run with.
+fn setup_of<'a>(
+    site: Site<'a>,
+    start: u32,
+    reloads: Arc<Reloads, Global>,
+    page: Option<(Door, Waker)>,
+) -> Setup<'a>
+    ensures held { (result.gate ≡ site.entry.gate) × (result.reloads ≡ reloads)
+        × (result.replica ≡ site.entry.replica) }
+    ensures stamps { (result.site ≡ site.entry.serving.site) × (result.start ≡ start) }
+    ensures peers { (result.peers ≡ site.entry.serving.peers) × (result.keys ≡ site.entry.serving.keys)
+        × (result.pause_ms ≡ site.entry.serving.pause_ms) × (result.sites ≡ site.entry.serving.sites) }
+    ensures sessions { (result.workers ≡ site.entry.serving.workers) × (result.sessions ≡ site.entry.serving.sessions)
+        × (result.idle_ms ≡ site.entry.serving.idle_ms) × (result.connections ≡ site.entry.serving.connections) }
+    ensures prints { result.prints ≡ prints_of site.entry.serving.prints }
+    ensures page { result.page ≡ option_map
+        (λ opened. record { door = opened.0; waker = opened.1; hosts = site.entry.serving.http_hosts }) page }
+{
+    let Site {
+        serving,
+        gate,
+        replica,
+    } = site;
+    let ServeWords {
+        peers,
+        keys,
+        sites,
+        site,
+        workers,
+        pause_ms,
+        sessions,
+        idle_ms,
+        connections,
+        prints,
+        http_hosts,
+        ..
+    } = serving;
+    Setup {
+        gate,
+        reloads,
+        replica,
+        site,
+        start,
+        peers,
+        keys,
+        sites,
+        workers,
+        pause_ms,
+        sessions,
+        idle_ms,
+        connections,
+        prints: prints_of(prints),
+        page: doorstep(page, http_hosts),
+    }
+}
+
+/// Where browsers connect to, with the names by which they may call this machine.
+fn doorstep(page: Option<(Door, Waker)>, hosts: Vec<String>) -> Option<Doorstep>
+    ensures { result
+        ≡ option_map (λ opened. record { door = opened.0; waker = opened.1; hosts = hosts }) page }
+{
+    match page {
+        Some((door, waker)) => Some(Doorstep { door, waker, hosts }),
+        None => None,
+    }
+}
+
+/// What a site prints, as the words say.
+fn prints_of(printing: Printing) -> Prints
+    ensures { result ≡ prints_of printing }
+{
+    match printing {
+        Printing::Report => Prints::Report,
+        Printing::Changes => Prints::Changes,
+        Printing::Nothing => Prints::Nothing,
+    }
+}
