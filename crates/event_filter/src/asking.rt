@@ -194,7 +194,7 @@ fn add_children(state: &State, parent: u32, asks: &mut BTreeSet<u32>) -> Result<
     ensures { OnOk result (Gains (λ number. IsChild (change_at state.now number) parent) asks.old asks.new) }
 {
     for (number, change) in state.changes() {
-        add_child(*number, change, parent, asks)?;
+        add_child(*number, change.get(), parent, asks)?;
     }
     Ok(())
 }

@@ -19,7 +19,7 @@ pub fn vanished(alloc: Global, state: &State, listed: &BTreeSet<u32>) -> Result<
 {
     let mut bodies = Vec::new(alloc);
     for (number, change) in state.changes() {
-        if is_new(change.status()) && !listed.contains(number) {
+        if is_new(change.get().status()) && !listed.contains(number) {
             add_body(&mut bodies, Draft::Abandon { change: *number })?;
         }
     }

@@ -10,11 +10,11 @@ ghost use Rattle.state_core.specs.State.{state_shown};
 ghost use Rattle.gate_check.specs.Names.{has_known, known_labels, names_in, voters_of, with_each};
 ghost use Rattle.gate_check.specs.Shown.{names_shown};
 
-use change_core::{ChangeState, VoteSlot};
+use change_core::VoteSlot;
 use chunk_list::JoinList;
 use lattice_core::{JoinMap, NoMemory, Register};
 use review_ops::Stamp;
-use state_core::State;
+use state_core::{SharedChange, State};
 use std::alloc::Global;
 use std::collections::BTreeSet;
 
@@ -36,7 +36,7 @@ impl Names {
     /// Those of changes.
     fn of_changes(
         alloc: Global,
-        changes: &JoinMap<u32, ChangeState, Global>,
+        changes: &JoinMap<u32, SharedChange, Global>,
     ) -> Result<Names, NoMemory>
         ensures { IfOk result (λ names. names_shown names ≡ names_in (state_shown changes.now)) }
     {
@@ -46,7 +46,7 @@ impl Names {
         };
         for (number, change) in changes {
             let _of = number;
-            names.add_votes(alloc, change.all_votes())?;
+            names.add_votes(alloc, change.get().all_votes())?;
         }
         Ok(names)
     }

@@ -8,12 +8,12 @@ ghost use Rattle.state_core.specs.State.{state_shown};
 ghost use Rattle.gate_check.specs.Unused.{HasFooter, HasValue, IsSought, IsUnusedBase, IsUrl, SomeIs, messages_in};
 ghost use Rattle.gate_check.specs.Unused.{messages_of};
 
-use change_core::{ChangeState, Commit};
+use change_core::Commit;
 use chunk_list::JoinList;
 use footer_text::{Bases, footer_value, footers_are_unique, read_value};
 use lattice_core::{JoinMap, NoMemory, Register};
 use review_ops::Stamp;
-use state_core::State;
+use state_core::{SharedChange, State};
 use std::alloc::Global;
 
 /// What is looked for among the footers of a record.
@@ -54,14 +54,14 @@ fn is_unused(bases: &Bases, base: &str, state: &State) -> bool
 
 impl<'g> Sought<'g> {
     /// Whether it is in a message of a record.
-    fn is_in_record(self, changes: &JoinMap<u32, ChangeState, Global>) -> bool
+    fn is_in_record(self, changes: &JoinMap<u32, SharedChange, Global>) -> bool
         ensures { MatchBool result
             (SomeIs (HasFooter (IsSought self.entry)) (messages_in (state_shown changes.now)))
             (¬ SomeIs (HasFooter (IsSought self.entry)) (messages_in (state_shown changes.now))) }
     {
         for (number, change) in changes {
             let _of = number;
-            if self.is_in_change(change.sets()) {
+            if self.is_in_change(change.get().sets()) {
                 return true;
             }
         }

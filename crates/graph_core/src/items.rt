@@ -18,7 +18,7 @@ pub fn items_of(alloc: Global, state: &State) -> Result<Vec<Item>, NoMemory>
 {
     let mut items = Vec::new(alloc);
     for (number, change) in state.changes() {
-        add_items(&mut items, *number, change)?;
+        add_items(&mut items, *number, change.get())?;
     }
     Ok(items)
 }

@@ -4,7 +4,7 @@ ghost use Rattle.std.specs.Prelude.{◌≡◌, count_by};
 ghost use Rattle.page_text.specs.Statuses.{has_status, status_count};
 
 use change_core::{ChangeState, Status};
-use state_core::State;
+use state_core::{SharedChange, State};
 use std::collections::btree_map::Iter;
 
 /// How many changes of a state have a status. It costs O(n) for n changes.
@@ -15,10 +15,12 @@ pub fn status_count(state: &State, status: Status) -> usize
 }
 
 /// How many of these changes have a status.
-fn count_among(changes: Iter<'_, u32, ChangeState>, status: Status) -> usize
+fn count_among(changes: Iter<'_, u32, SharedChange>, status: Status) -> usize
     ensures { result ≡ count_by (λ entry. has_status status entry.1) changes.entry }
 {
-    changes.filter(|pair| has_status(pair.1, status)).count()
+    changes
+        .filter(|pair| has_status(pair.1.get(), status))
+        .count()
 }
 
 /// Whether a change has a status.

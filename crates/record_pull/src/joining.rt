@@ -33,8 +33,8 @@ fn with_all(gathering: Gathering, other: &Replica) -> Result<Gathering, NoMemory
     ensures { IfOk result (λ both. both ≡ all_arrived gathering other.now) }
 {
     let mut both = gathering;
-    for op in other.as_slice() {
-        both.take(op.copy()?)?;
+    for place in 0..other.len() {
+        both.take(other.arrival(place).copy()?)?;
     }
     Ok(both)
 }

@@ -10,6 +10,7 @@ pub mod Lookups
 pub mod Reaching
 pub mod Effects
 pub mod Absorbing
+pub mod Sorting
 pub mod Fronts
 pub mod Lacking
 pub mod Gathered

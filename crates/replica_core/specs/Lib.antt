@@ -1,4 +1,5 @@
 pub mod Journal
+pub mod Arrivals
 pub mod Clock
 pub mod InOrder
 pub mod Sets

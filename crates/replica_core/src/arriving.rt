@@ -9,6 +9,7 @@ ghost use Rattle.replica_core.specs.Record.{IsKept};
 ghost use Rattle.replica_core.specs.Searches.{with_place};
 ghost use Rattle.state_core.specs.State.{with_effect};
 
+use super::arrivals::Arrivals;
 use super::line::{Line, climbed};
 use super::lines::{exchange, open_line, row_of};
 use super::probes::Below;
@@ -54,7 +55,7 @@ impl<A: Allocator + Copy> Follows<A> for Later {
 /// there. Where memory is refused nothing changes, but that the row may have got a line without operations.
 pub(super) fn arrive<A: Allocator + Copy, F: Follows<A>>(
     lines: &mut ChunkList<Line<A>, A>,
-    arrivals: &mut Vec<Op<A>, A>,
+    arrivals: &mut Arrivals<A>,
     latest: &mut u64,
     follower: &mut F,
     alloc: A,
@@ -82,7 +83,7 @@ pub(super) fn arrive<A: Allocator + Copy, F: Follows<A>>(
 /// is refused nothing changes.
 fn file_in<A: Allocator + Copy, F: Follows<A>>(
     lines: &mut ChunkList<Line<A>, A>,
-    arrivals: &mut Vec<Op<A>, A>,
+    arrivals: &mut Arrivals<A>,
     follower: &mut F,
     alloc: A,
     op: Op<A>,
@@ -108,7 +109,7 @@ fn file_in<A: Allocator + Copy, F: Follows<A>>(
 /// nothing changes.
 fn file<A: Allocator + Copy, F: Follows<A>>(
     line: &mut Line<A>,
-    arrivals: &mut Vec<Op<A>, A>,
+    arrivals: &mut Arrivals<A>,
     follower: &mut F,
     op: Op<A>,
 ) -> Result<Taken, NoMemory>
@@ -122,13 +123,13 @@ fn file<A: Allocator + Copy, F: Follows<A>>(
     ensures err { OnErr result ((arrivals.new.items ≡ arrivals.old.items) × (line.new ≡ line.old)
         × (follower.new ≡ follower.old)) }
 {
-    if line.has(arrivals.as_slice(), &op) {
+    if line.has(arrivals, &op) {
         return Ok(Taken::Known);
     }
-    arrivals.try_reserve(1)?;
-    enter(line, arrivals.as_slice(), follower, &op)?;
-    arrivals.push(op)?;
-    line.reach = climbed(arrivals.as_slice(), line);
+    arrivals.reserve()?;
+    enter(line, arrivals, follower, &op)?;
+    arrivals.push_reserved(op);
+    line.reach = climbed(arrivals, line);
     Ok(Taken::New)
 }
 
@@ -136,12 +137,12 @@ fn file<A: Allocator + Copy, F: Follows<A>>(
 /// memory is refused nothing changes.
 fn enter<A: Allocator + Copy, F: Follows<A>>(
     line: &mut Line<A>,
-    arrivals: &[Op<A>],
+    arrivals: &Arrivals<A>,
     follower: &mut F,
     op: &Op<A>,
 ) -> Result<(), NoMemory>
-    requires { IsFiled arrivals.now line.old }
-    ensures ok { OnOk result ((line.new ≡ with_place arrivals.now line.old op.now)
+    requires { IsFiled arrivals.now.items line.old }
+    ensures ok { OnOk result ((line.new ≡ with_place arrivals.now.items line.old op.now)
         × (follower.new ≡ F.after follower.old op.now)) }
     ensures err { OnErr result ((line.new ≡ line.old) × (follower.new ≡ follower.old)) }
 {

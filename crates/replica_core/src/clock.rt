@@ -32,7 +32,7 @@ impl<A: Allocator + Copy> Replica<A> {
         ensures { result ≡ greatest (seqs row.site row.start self.now) }
     {
         match find_line(&self.lines, row) {
-            Some(line) => line.last_seq(self.arrivals.as_slice()),
+            Some(line) => line.last_seq(&self.arrivals),
             None => 0,
         }
     }

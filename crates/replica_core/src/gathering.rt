@@ -6,6 +6,7 @@ ghost use Rattle.review_ops.specs.Operation.{Operation};
 ghost use Rattle.replica_core.specs.Journal.{AreApart, arrived, has, taken_of};
 ghost use Rattle.state_core.specs.State.{state_of};
 
+use super::arrivals::{Arrivals, Iter};
 use super::arriving::{Later, arrive};
 use super::line::Line;
 use super::replica::Replica;
@@ -22,7 +23,7 @@ use std::mem;
 /// the effects of all of them at the end, change by change. Contracts see the arrivals, as those of a replica.
 #[derive(Drop)]
 pub struct Gathering<A: Allocator + Copy = Global> {
-    arrivals: Vec<Op<A>, A>,
+    arrivals: Arrivals<A>,
     lines: ChunkList<Line<A>, A>,
     latest: u64,
     state: State<A>,
@@ -96,11 +97,11 @@ impl<A: Allocator + Copy> Gathering<A> {
     }
 
     /// The operations of the journal, each once, in the order in which they first came.
-    pub fn as_slice(&self) -> &[Op<A>]
-        ensures arrivals { result.now ≡ self.now }
+    pub fn iter(&self) -> Iter<'_, A>
+        ensures arrivals { result ≡ self.now }
         ensures apart { AreApart self.now }
     {
-        self.arrivals.as_slice()
+        self.arrivals.iter()
     }
 
     /// The allocator that the journal and the state take memory from.
@@ -122,7 +123,12 @@ impl<A: Allocator + Copy> Gathering<A> {
             joined,
             alloc,
         } = self;
-        join_later(&mut state, alloc, arrivals.as_slice().split_at(joined).1)?;
+        join_later(
+            &mut state,
+            alloc,
+            arrivals.since(joined),
+            arrivals.len() - joined,
+        )?;
         Ok(Replica {
             arrivals,
             lines,
@@ -139,7 +145,7 @@ impl<A: Allocator + Copy> Gathering<A> {
         ensures { IfOk result (λ state. state ≡ state_of self) }
     {
         let Gathering {
-            mut arrivals,
+            arrivals,
             lines,
             latest: _,
             mut state,
@@ -147,6 +153,7 @@ impl<A: Allocator + Copy> Gathering<A> {
             alloc,
         } = self;
         drop(lines);
+        let mut arrivals = arrivals.into_vec(alloc)?;
         consume_later(
             &mut state,
             alloc,
@@ -161,25 +168,27 @@ impl<A: Allocator + Copy> Gathering<A> {
 fn join_later<A: Allocator + Copy>(
     state: &mut State<A>,
     alloc: A,
-    ops: &[Op<A>],
+    ops: Iter<'_, A>,
+    room: usize,
 ) -> Result<(), NoMemory>
     ensures { OnOk result ((before : List Operation) → state.old ≡ state_of before
-        → state.new ≡ state_of (before ++ ops.now)) }
+        → state.new ≡ state_of (before ++ ops.entry)) }
 {
-    for (_, op) in &by_change(alloc, ops)? {
+    for (_, op) in &by_change(alloc, ops, room)? {
         state.take(op)?;
     }
     Ok(())
 }
 
-/// References to the operations in the order of their changes, with these.
-fn by_change<A: Allocator + Copy>(
+/// References to the operations in the order of their changes, with these, in a vector that has room for so many.
+fn by_change<'a, A: Allocator + Copy>(
     alloc: A,
-    ops: &[Op<A>],
-) -> Result<Vec<(u32, &Op<A>), A>, NoMemory>
-    ensures { IfOk result (λ sorted. IsPermutation ops.now (map (λ one. one.1.now) sorted.items)) }
+    ops: Iter<'a, A>,
+    room: usize,
+) -> Result<Vec<(u32, &'a Op<A>), A>, NoMemory>
+    ensures { IfOk result (λ sorted. IsPermutation ops.entry (map (λ one. one.1.now) sorted.items)) }
 {
-    let mut sorted = Vec::with_capacity(alloc, ops.len())?;
+    let mut sorted = Vec::with_capacity(alloc, room)?;
     for op in ops {
         sorted.push((op.body().change(), op))?;
     }

@@ -19,6 +19,7 @@
 //! ```
 #![tactic(auto)]
 
+mod arrivals;
 mod arriving;
 mod clock;
 mod front;
@@ -33,6 +34,7 @@ mod replica;
 mod starts;
 mod taken;
 
+pub use arrivals::Iter;
 pub use front::{Front, Reach, Row};
 pub use gathering::Gathering;
 pub use laws::{equal_journals_agree, operations_arrive_as_a_set};

@@ -10,6 +10,7 @@ ghost use Rattle.replica_core.specs.Journal.{has, has_stamp};
 ghost use Rattle.replica_core.specs.Lines.{ops_at, ops_of, IsFiled};
 ghost use Rattle.replica_core.specs.Searches.{is_below, is_before, is_within, ops_past};
 
+use super::arrivals::Arrivals;
 use super::front::Row;
 use super::probes::{Before, Below, Within};
 use chunk_list::{ChunkList, Iter};
@@ -74,9 +75,9 @@ impl<A: Allocator + Copy> Line<A> {
 
     /// The first of the row's operations that isn't below this one. It costs O(log n) for n operations of the row, and
     /// O(1) where all are below.
-    fn from_op<'a>(&self, arrivals: &'a [Op<A>], op: &Op<A>) -> Option<&'a Op<A>>
-        requires { IsFiled arrivals.now self.now }
-        ensures { let ops = ops_of arrivals.now self.now in option_copied result
+    fn from_op<'a>(&self, arrivals: &'a Arrivals<A>, op: &Op<A>) -> Option<&'a Op<A>>
+        requires { IsFiled arrivals.now.items self.now }
+        ensures { let ops = ops_of arrivals.now.items self.now in option_copied result
             ≡ slice_get ops (rank (is_below op.now) ops) }
     {
         let place = *self.places.first_failing(&Below { arrivals, op })?;
@@ -85,9 +86,9 @@ impl<A: Allocator + Copy> Line<A> {
 
     /// The first of the row's operations with a sequence number and time not below a stamp's. It costs O(log n) for n
     /// operations of the row.
-    fn from_stamp<'a>(&self, arrivals: &'a [Op<A>], stamp: Stamp) -> Option<&'a Op<A>>
-        requires { IsFiled arrivals.now self.now }
-        ensures { let ops = ops_of arrivals.now self.now in option_copied result
+    fn from_stamp<'a>(&self, arrivals: &'a Arrivals<A>, stamp: Stamp) -> Option<&'a Op<A>>
+        requires { IsFiled arrivals.now.items self.now }
+        ensures { let ops = ops_of arrivals.now.items self.now in option_copied result
             ≡ slice_get ops (rank (is_before stamp) ops) }
     {
         let place = *self.places.first_failing(&Before { arrivals, stamp })?;
@@ -95,9 +96,9 @@ impl<A: Allocator + Copy> Line<A> {
     }
 
     /// The first of the row's operations past a sequence number. It costs O(log n) for n operations of the row.
-    fn from_past<'a>(&self, arrivals: &'a [Op<A>], seq: u64) -> Option<&'a Op<A>>
-        requires { IsFiled arrivals.now self.now }
-        ensures { let ops = ops_of arrivals.now self.now in option_copied result
+    fn from_past<'a>(&self, arrivals: &'a Arrivals<A>, seq: u64) -> Option<&'a Op<A>>
+        requires { IsFiled arrivals.now.items self.now }
+        ensures { let ops = ops_of arrivals.now.items self.now in option_copied result
             ≡ slice_get ops (rank (is_within seq) ops) }
     {
         let place = *self.places.first_failing(&Within { arrivals, seq })?;
@@ -105,18 +106,18 @@ impl<A: Allocator + Copy> Line<A> {
     }
 
     /// The last of the row's operations. It costs O(1).
-    fn last_op<'a>(&self, arrivals: &'a [Op<A>]) -> Option<&'a Op<A>>
-        requires { IsFiled arrivals.now self.now }
-        ensures { let ops = ops_of arrivals.now self.now in option_copied result ≡ slice_get ops (length ops - 1) }
+    fn last_op<'a>(&self, arrivals: &'a Arrivals<A>) -> Option<&'a Op<A>>
+        requires { IsFiled arrivals.now.items self.now }
+        ensures { let ops = ops_of arrivals.now.items self.now in option_copied result ≡ slice_get ops (length ops - 1) }
     {
         let place = *self.places.last()?;
         arrivals.get(place)
     }
 
     /// Whether this is one of the row's operations. It costs O(log n) for n of them.
-    pub(super) fn has(&self, arrivals: &[Op<A>], op: &Op<A>) -> bool
-        requires { IsFiled arrivals.now self.now }
-        ensures { result ≡ has (ops_of arrivals.now self.now) op.now }
+    pub(super) fn has(&self, arrivals: &Arrivals<A>, op: &Op<A>) -> bool
+        requires { IsFiled arrivals.now.items self.now }
+        ensures { result ≡ has (ops_of arrivals.now.items self.now) op.now }
     {
         match self.from_op(arrivals, op) {
             Some(other) => other == op,
@@ -125,9 +126,9 @@ impl<A: Allocator + Copy> Line<A> {
     }
 
     /// Whether one of the row's operations has this stamp. It costs O(log n) for n of them.
-    pub(super) fn has_stamp(&self, arrivals: &[Op<A>], stamp: Stamp) -> bool
-        requires { IsFiled arrivals.now self.now }
-        ensures { result ≡ has_stamp (ops_of arrivals.now self.now) stamp }
+    pub(super) fn has_stamp(&self, arrivals: &Arrivals<A>, stamp: Stamp) -> bool
+        requires { IsFiled arrivals.now.items self.now }
+        ensures { result ≡ has_stamp (ops_of arrivals.now.items self.now) stamp }
     {
         match self.from_stamp(arrivals, stamp) {
             Some(other) => other.stamp().cmp(&stamp).is_eq(),
@@ -136,9 +137,9 @@ impl<A: Allocator + Copy> Line<A> {
     }
 
     /// The greatest sequence number of the row's operations, or 0.
-    pub(super) fn last_seq(&self, arrivals: &[Op<A>]) -> u64
-        requires { IsFiled arrivals.now self.now }
-        ensures { result ≡ greatest (seqs self.now.site self.now.start arrivals.now) }
+    pub(super) fn last_seq(&self, arrivals: &Arrivals<A>) -> u64
+        requires { IsFiled arrivals.now.items self.now }
+        ensures { result ≡ greatest (seqs self.now.site self.now.start arrivals.now.items) }
     {
         match self.last_op(arrivals) {
             Some(op) => op.stamp().seq(),
@@ -148,10 +149,10 @@ impl<A: Allocator + Copy> Line<A> {
 
     /// Whether one of the row's operations has the number after this one. It costs O(1) where that is its last, else
     /// O(log n) for n operations of the row.
-    fn follows(&self, arrivals: &[Op<A>], seq: u64) -> bool
-        requires filed { IsFiled arrivals.now self.now }
+    fn follows(&self, arrivals: &Arrivals<A>, seq: u64) -> bool
+        requires filed { IsFiled arrivals.now.items self.now }
         requires next { seq < 2 ^ 64 - 1 }
-        ensures { result ≡ holds arrivals.now self.now.site self.now.start (seq + 1) }
+        ensures { result ≡ holds arrivals.now.items self.now.site self.now.start (seq + 1) }
     {
         let last = self.last_seq(arrivals);
         if last <= seq + 1 {
@@ -165,10 +166,10 @@ impl<A: Allocator + Copy> Line<A> {
 
     /// The places of the row's operations past a sequence number. It costs O(log n) for n operations of the row to find
     /// the first.
-    pub(super) fn past(&self, arrivals: &[Op<A>], seq: u64) -> Iter<'_, usize, A>
-        requires { IsFiled arrivals.now self.now }
-        ensures ops { ops_at arrivals.now result ≡ ops_past seq (ops_of arrivals.now self.now) }
-        ensures inside { All (λ place. place < length arrivals.now) result }
+    pub(super) fn past(&self, arrivals: &Arrivals<A>, seq: u64) -> Iter<'_, usize, A>
+        requires { IsFiled arrivals.now.items self.now }
+        ensures ops { ops_at arrivals.now.items result ≡ ops_past seq (ops_of arrivals.now.items self.now) }
+        ensures inside { All (λ place. place < length arrivals.now.items) result }
     {
         self.places.failing(&Within { arrivals, seq })
     }
@@ -190,11 +191,11 @@ fn copy_places<A: Allocator + Copy>(
 
 /// The number up to which a row has no gap, where it has none up to the line's reach. It costs O(log n) for each number
 /// that it climbs, for n operations of the row.
-pub(super) fn climbed<A: Allocator + Copy>(arrivals: &[Op<A>], line: &Line<A>) -> u64
-    requires filed { IsFiled arrivals.now line.now }
+pub(super) fn climbed<A: Allocator + Copy>(arrivals: &Arrivals<A>, line: &Line<A>) -> u64
+    requires filed { IsFiled arrivals.now.items line.now }
     requires gapless { (seq : ℕ) → 1 ≤ seq → seq ≤ line.now.reach
-        → holds arrivals.now line.now.site line.now.start seq ≡ true }
-    ensures { IsGapless (holds arrivals.now line.now.site line.now.start) result }
+        → holds arrivals.now.items line.now.site line.now.start seq ≡ true }
+    ensures { IsGapless (holds arrivals.now.items line.now.site line.now.start) result }
 {
     let last = line.last_seq(arrivals);
     let mut reach = line.reach();

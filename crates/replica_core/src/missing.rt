@@ -7,6 +7,7 @@ ghost use Rattle.replica_core.specs.Lines.{ops_at, ops_of, IsFiled};
 ghost use Rattle.replica_core.specs.Missing.{IsMissing};
 ghost use Rattle.replica_core.specs.Searches.{ops_past};
 
+use super::arrivals::Arrivals;
 use super::front::Front;
 use super::line::Line;
 use super::replica::Replica;
@@ -34,7 +35,7 @@ impl<A: Allocator + Copy> Replica<A> {
         let mut ops = Vec::new(self.allocator());
         for line in self.lines.iter() {
             let reach = front.reach(line.row());
-            if copy_past(&mut ops, self.arrivals.as_slice(), line, reach, limit)? {
+            if copy_past(&mut ops, &self.arrivals, line, reach, limit)? {
                 return Ok(Missing { ops, more: true });
             }
         }
@@ -45,22 +46,22 @@ impl<A: Allocator + Copy> Replica<A> {
 /// Adds copies of a row's operations past a sequence number, up to the limit, and says whether others are left.
 fn copy_past<A: Allocator + Copy>(
     copies: &mut Vec<Op<A>, A>,
-    arrivals: &[Op<A>],
+    arrivals: &Arrivals<A>,
     line: &Line<A>,
     reach: u64,
     limit: usize,
 ) -> Result<bool, NoMemory>
-    requires filed { IsFiled arrivals.now line.now }
+    requires filed { IsFiled arrivals.now.items line.now }
     requires room { length copies.old.items ≤ limit }
     ensures { IfOk result (λ more.
-        (copies.new.items ≡ take limit (copies.old.items ++ ops_past reach (ops_of arrivals.now line.now)))
-        × (more ≡ nat_lt limit (length (copies.old.items ++ ops_past reach (ops_of arrivals.now line.now))))) }
+        (copies.new.items ≡ take limit (copies.old.items ++ ops_past reach (ops_of arrivals.now.items line.now)))
+        × (more ≡ nat_lt limit (length (copies.old.items ++ ops_past reach (ops_of arrivals.now.items line.now))))) }
 {
     for place in line.past(arrivals, reach) {
         if copies.len() == limit {
             return Ok(true);
         }
-        copies.push(arrivals[*place].copy()?)?;
+        copies.push(arrivals.at(*place).copy()?)?;
     }
     Ok(false)
 }

@@ -4,6 +4,7 @@ ghost use Rattle.std.specs.Prelude.{◌≡◌};
 ghost use Rattle.replica_core.specs.Missing.{row_by_row};
 ghost use Rattle.replica_core.specs.Searches.{is_below, is_before, is_earlier, is_within, passes_at};
 
+use super::arrivals::Arrivals;
 use chunk_list::Probe;
 use review_ops::{Op, Stamp};
 use std::alloc::Allocator;
@@ -12,12 +13,12 @@ use std::cmp::Ordering;
 /// The operations below this one.
 #[derive(Drop)]
 pub(super) struct Below<'a, A: Allocator + Copy> {
-    pub(super) arrivals: &'a [Op<A>],
+    pub(super) arrivals: &'a Arrivals<A>,
     pub(super) op: &'a Op<A>,
 }
 
 impl<'a, A: Allocator + Copy> Probe<usize> for Below<'a, A> {
-    ghost passes = { λ below place. passes_at (is_below below.op.now) below.arrivals.now place };
+    ghost passes = { λ below place. passes_at (is_below below.op.now) below.arrivals.now.items place };
 
     fn passes(&self, place: &usize) -> bool {
         match self.arrivals.get(*place) {
@@ -30,12 +31,12 @@ impl<'a, A: Allocator + Copy> Probe<usize> for Below<'a, A> {
 /// The operations with a sequence number and time below a stamp's.
 #[derive(Drop)]
 pub(super) struct Before<'a, A: Allocator + Copy> {
-    pub(super) arrivals: &'a [Op<A>],
+    pub(super) arrivals: &'a Arrivals<A>,
     pub(super) stamp: Stamp,
 }
 
 impl<'a, A: Allocator + Copy> Probe<usize> for Before<'a, A> {
-    ghost passes = { λ before place. passes_at (is_before before.stamp) before.arrivals.now place };
+    ghost passes = { λ before place. passes_at (is_before before.stamp) before.arrivals.now.items place };
 
     fn passes(&self, place: &usize) -> bool {
         match self.arrivals.get(*place) {
@@ -48,12 +49,12 @@ impl<'a, A: Allocator + Copy> Probe<usize> for Before<'a, A> {
 /// The operations with at most a sequence number.
 #[derive(Drop)]
 pub(super) struct Within<'a, A: Allocator + Copy> {
-    pub(super) arrivals: &'a [Op<A>],
+    pub(super) arrivals: &'a Arrivals<A>,
     pub(super) seq: u64,
 }
 
 impl<'a, A: Allocator + Copy> Probe<usize> for Within<'a, A> {
-    ghost passes = { λ within place. passes_at (is_within within.seq) within.arrivals.now place };
+    ghost passes = { λ within place. passes_at (is_within within.seq) within.arrivals.now.items place };
 
     fn passes(&self, place: &usize) -> bool {
         match self.arrivals.get(*place) {

@@ -1,6 +1,6 @@
 //! The replica of a site: its journal, and the state of that.
 
-ghost use Rattle.std.specs.Prelude.{◌≡◌, ◌↔◌, ◌<◌, Some, IsTrue, IfOk, slice_get, MatchResult, List, take, OnOk, OnErr};
+ghost use Rattle.std.specs.Prelude.{◌≡◌, ◌↔◌, ◌<◌, Some, IsTrue, IfOk, slice_get, MatchResult, List, drop, take, OnOk, OnErr};
 ghost use Rattle.std.specs.Prelude.{[], length, ℕ, slice_index_or, if◌then◌else◌};
 ghost use Rattle.std.specs.List.{Contains};
 ghost use Rattle.std.specs.Option.{option_copied};
@@ -12,6 +12,7 @@ ghost use Rattle.replica_core.specs.Lines.{rows_of, row_of, IsFiled, IsLine, Are
 ghost use Rattle.replica_core.specs.Searches.{with_place};
 ghost use Rattle.state_core.specs.State.{state_of, state_shown, with_effect};
 
+use super::arrivals::{Arrivals, Iter};
 use super::arriving::arrive;
 use super::front::Row;
 use super::line::Line;
@@ -21,7 +22,7 @@ use change_core::ChangeState;
 use chunk_list::ChunkList;
 use lattice_core::{Join, JoinMap, NoMemory};
 use review_ops::{Op, Stamp};
-use state_core::State;
+use state_core::{SharedChange, State};
 use std::alloc::{Allocator, Global};
 use std::marker::Model;
 
@@ -30,7 +31,7 @@ use std::marker::Model;
 /// are among them, so that only `absorb` and `copy` walk the whole.
 #[derive(Drop)]
 pub struct Replica<A: Allocator + Copy = Global> {
-    pub(super) arrivals: Vec<Op<A>, A>,
+    pub(super) arrivals: Arrivals<A>,
     pub(super) lines: ChunkList<Line<A>, A>,
     pub(super) latest: u64,
     pub(super) state: State<A>,
@@ -55,7 +56,7 @@ impl<A: Allocator + Copy> Replica<A> {
         ensures { result ≡ [] }
     {
         Replica {
-            arrivals: Vec::new(alloc),
+            arrivals: Arrivals::new(alloc),
             lines: ChunkList::new(alloc),
             latest: 0,
             state: State::new(alloc),
@@ -82,24 +83,38 @@ impl<A: Allocator + Copy> Replica<A> {
     }
 
     /// Takes in every operation of another replica, in the order of operations. Where memory is refused the first
-    /// `taken` of them are in, not all, and nothing else. It sorts the n arrivals of the other in place, which takes no
-    /// memory and costs O(n log n), or O(n) where they came in order, and then takes one after the other.
+    /// `taken` of them are in, not all, and nothing else. It sorts the n arrivals of the other, in place where they
+    /// aren't shared, which then takes no memory and costs O(n log n), or O(n) where they came in order, and takes one
+    /// after the other.
     pub fn absorb(&mut self, other: Replica<A>) -> Result<(), Partly>
         ensures { (whole : List Operation) × IsInOrderOf other whole × MatchResult result
             (λ _. self.new ≡ all_arrived self.old whole)
             (λ partly. (self.new ≡ all_arrived self.old (take partly.taken whole)) × (partly.taken < length whole)) }
     {
         let Replica {
-            mut arrivals,
+            arrivals,
             lines: _,
             latest: _,
             state: _,
-            alloc: _,
+            alloc,
         } = other;
-        arrivals.sort_unstable();
-        arrivals.reverse();
+        match arrivals.into_vec(alloc) {
+            Ok(ops) => self.take_in_order(ops),
+            Err(_) => Err(Partly { taken: 0 }),
+        }
+    }
+
+    /// Takes in operations, none of them twice, in the order of operations, as `absorb` does.
+    fn take_in_order(&mut self, mut ops: Vec<Op<A>, A>) -> Result<(), Partly>
+        requires { AreApart ops.items }
+        ensures { (whole : List Operation) × IsInOrderOf ops.items whole × MatchResult result
+            (λ _. self.new ≡ all_arrived self.old whole)
+            (λ partly. (self.new ≡ all_arrived self.old (take partly.taken whole)) × (partly.taken < length whole)) }
+    {
+        ops.sort_unstable();
+        ops.reverse();
         let mut taken = 0;
-        while let Some(op) = arrivals.pop() {
+        while let Some(op) = ops.pop() {
             if self.take(op).is_err() {
                 return Err(Partly { taken });
             }
@@ -113,7 +128,7 @@ impl<A: Allocator + Copy> Replica<A> {
         ensures { result ≡ has self.now op.now }
     {
         match find_line(&self.lines, row_of(op)) {
-            Some(line) => line.has(self.arrivals.as_slice(), op),
+            Some(line) => line.has(&self.arrivals, op),
             None => false,
         }
     }
@@ -128,7 +143,7 @@ impl<A: Allocator + Copy> Replica<A> {
             start: stamp.start(),
         };
         match find_line(&self.lines, row) {
-            Some(line) => line.has_stamp(self.arrivals.as_slice(), stamp),
+            Some(line) => line.has_stamp(&self.arrivals, stamp),
             None => false,
         }
     }
@@ -140,11 +155,21 @@ impl<A: Allocator + Copy> Replica<A> {
         self.state.same(&other.state)
     }
 
-    /// An equal replica: the same arrivals in the same order. It costs O(n) for n bytes of the journal and the state.
+    /// Lets copies share what the journal has now, unless something of it is shared already. Where memory is refused
+    /// nothing is shared. It costs O(1).
+    pub fn share(&mut self) -> Result<(), NoMemory>
+        ensures { self.new ≡ self.old }
+    {
+        self.arrivals.share(self.alloc)
+    }
+
+    /// An equal replica: the same arrivals in the same order. It shares the states of changes and the operations that
+    /// `share` made shared, and copies the other operations. It costs O(n) for n operations and changes and the bytes of
+    /// the operations that it copies.
     pub fn copy(&self) -> Result<Replica<A>, NoMemory>
         ensures { IfOk result (λ copied. copied ≡ self.now) }
     {
-        let arrivals = copy_ops(self.alloc, self.as_slice())?;
+        let arrivals = self.arrivals.copy(self.alloc)?;
         let lines = copy_lines(self.alloc, &self.lines)?;
         let state = self.state.copy()?;
         Ok(Replica {
@@ -173,17 +198,25 @@ impl<A: Allocator + Copy> Replica<A> {
     /// The operation that came at a place, from 0 on, in the order in which they first came.
     pub fn arrival(&self, place: usize) -> &Op<A>
         requires { place < length self.now }
-        ensures { slice_get self.now place ≡ Some result.now }
+        ensures operation { slice_get self.now place ≡ Some result.now }
+        ensures apart { AreApart self.now }
     {
-        &self.arrivals[place]
+        self.arrivals.at(place)
     }
 
     /// The operations of the journal, each once, in the order in which they first came.
-    pub fn as_slice(&self) -> &[Op<A>]
-        ensures arrivals { result.now ≡ self.now }
+    pub fn iter(&self) -> Iter<'_, A>
+        ensures arrivals { result ≡ self.now }
         ensures apart { AreApart self.now }
     {
-        self.arrivals.as_slice()
+        self.arrivals.iter()
+    }
+
+    /// The operations that came after so many of them, in the order in which they first came.
+    pub fn since(&self, count: usize) -> Iter<'_, A>
+        ensures { result ≡ drop count self.now }
+    {
+        self.arrivals.since(count)
     }
 
     /// The allocator that the journal and the state take memory from.
@@ -206,7 +239,7 @@ impl<A: Allocator + Copy> Replica<A> {
     }
 
     /// The state of each change that an operation is on, in number order.
-    pub fn changes(&self) -> &JoinMap<u32, ChangeState<A>, A>
+    pub fn changes(&self) -> &JoinMap<u32, SharedChange<A>, A>
         ensures { state_shown result.now ≡ state_of self.now }
     {
         self.state.changes()
@@ -223,17 +256,6 @@ fn copy_lines<A: Allocator + Copy>(
     let mut copies = ChunkList::new(alloc);
     for line in lines.iter() {
         copies.push(line.copy(alloc)?)?;
-    }
-    Ok(copies)
-}
-
-/// Copies of operations, in their order.
-fn copy_ops<A: Allocator + Copy>(alloc: A, ops: &[Op<A>]) -> Result<Vec<Op<A>, A>, NoMemory>
-    ensures { IfOk result (λ copies. copies.items ≡ ops.now) }
-{
-    let mut copies = Vec::with_capacity(alloc, ops.len())?;
-    for op in ops {
-        copies.push(op.copy()?)?;
     }
     Ok(copies)
 }

@@ -10,8 +10,8 @@ pub fn latest_start(replica: &Replica, site: u16) -> u32
     ensures { IsLatest site result replica.now }
 {
     let mut latest = 0;
-    for op in replica.as_slice() {
-        let stamp = op.stamp();
+    for place in 0..replica.len() {
+        let stamp = replica.arrival(place).stamp();
         if stamp.site() == site && stamp.start() > latest {
             latest = stamp.start();
         }

@@ -17,7 +17,7 @@ use chunk_list::JoinList;
 use json::Writer;
 use lattice_core::{JoinMap, Register};
 use review_ops::Stamp;
-use state_core::State;
+use state_core::{SharedChange, State};
 use std::alloc::{AllocError, Allocator};
 
 /// Writes the state text: for each change a line with its status, and then lines for its newest abandon or restore, its
@@ -48,13 +48,13 @@ pub fn write_state<A: Allocator + Copy, D: Drain>(
 /// The state text of changes.
 fn text_of<A: Allocator + Copy>(
     alloc: A,
-    changes: &JoinMap<u32, ChangeState<A>, A>,
+    changes: &JoinMap<u32, SharedChange<A>, A>,
 ) -> Result<String<A>, AllocError>
     ensures { IfOk result (λ text. string_bytes text ≡ state_text (state_shown changes.now)) }
 {
     let mut text = String::new(alloc);
     for (number, change) in changes {
-        write_change(&mut text, alloc, *number, change)?;
+        write_change(&mut text, alloc, *number, change.get())?;
     }
     let count = changes.len();
     write!(text, "end {count}\n")?;

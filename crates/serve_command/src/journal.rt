@@ -100,7 +100,8 @@ fn add_lacking<T: Tape>(
     ensures { OnOk result (IsAdded journal.old (lacking_of replica.now loaded.now) journal.new []) }
 {
     let mut lacking = Vec::new(alloc);
-    for op in loaded.as_slice() {
+    for place in 0..loaded.len() {
+        let op = loaded.arrival(place);
         if !replica.has(op) {
             gather(journal, &mut lacking, op)?;
         }

@@ -8,6 +8,7 @@
 //! An example of its use:
 //!
 //! ```
+//! use record_pull::SystemFiles;
 //! let words = ["serve", "-", "--site", "1", "--start", "1"];
 //! let Asked::Serve(words) = read_words(alloc, &words) else {
 //!     return Err(Fail::from("a site"));

@@ -88,7 +88,8 @@ fn kept(alloc: Global, replica: &Replica, left_out: &LeftOut) -> Result<Replica,
     ensures err { IfErr result (λ fault. fault ≡ JournalFault.NoMemory) }
 {
     let mut gathering = Gathering::onto(Replica::new(alloc));
-    for op in replica.as_slice() {
+    for place in 0..replica.len() {
+        let op = replica.arrival(place);
         if !left_out.has(op) {
             let _new = gathering.take(op.copy()?)?;
         }

@@ -16,13 +16,13 @@ use crate::sight::{Head, Opened, Sight};
 use crate::stage::shown_by;
 use crate::window::Window;
 use lattice_core::NoMemory;
-use replica_core::Replica;
-use review_ops::Op;
+use replica_core::{Iter, Replica};
 use std::alloc::Global;
 use std::sync::{Arc, Wait};
 
 /// Opens a site over a replica, with one desk and so many windows. Where the replica holds a stamp of the site under
-/// this start or a later one it answers `StartUsed`, before all else. Walks the journal once.
+/// this start or a later one it answers `StartUsed`, before all else. Copies of the replica share what it has. Walks the journal
+/// once.
 pub fn open_site<R: Wait>(
     rt: &R,
     site: u16,
@@ -37,7 +37,7 @@ pub fn open_site<R: Wait>(
     ensures windows { IfOk result
         (λ opened. (vec_len opened.1 ≡ windows) × All (λ window. window ≡ watching opened.0) opened.1.items) }
 {
-    if is_start_used(replica.as_slice(), site, start) {
+    if is_start_used(replica.iter(), site, start) {
         return Err(OpenFault::StartUsed);
     }
     let alloc = replica.allocator();
@@ -57,17 +57,18 @@ pub fn open_site<R: Wait>(
 }
 
 /// Whether an operation has a stamp of the site under this start or a later one.
-fn is_start_used(ops: &[Op], site: u16, start: u32) -> bool
-    ensures { result ≡ list_any (is_used site start) ops.now }
+fn is_start_used(mut ops: Iter<'_>, site: u16, start: u32) -> bool
+    ensures { result ≡ list_any (is_used site start) ops.entry }
 {
-    ops.iter().any(|op| op.stamp().site() == site && start <= op.stamp().start())
+    ops.any(|op| op.stamp().site() == site && start <= op.stamp().start())
 }
 
 /// The list of publishes, which begins with a journal, and the replica that has it.
-fn opening(alloc: Global, replica: Replica) -> Result<(Head, Shown), NoMemory>
+fn opening(alloc: Global, mut replica: Replica) -> Result<(Head, Shown), NoMemory>
     ensures { IfOk result
         (λ opened. (opened.0 ≡ head_of opened.1.sight.seen.book) × (opened.1.sight.seen.log ≡ replica ∷ [])) }
 {
+    replica.share()?;
     let Opened { head, sight } = Opened::new();
     let Some(sight) = sight.with::<Replica, Opens>(&head, &replica) else {
         return Err(NoMemory);

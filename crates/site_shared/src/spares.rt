@@ -32,7 +32,7 @@ impl Spares {
     }
 
     /// A replica that is equal to the one which is shown: the older spare brought up, where nobody looks at it, which
-    /// costs O(m log n) for the m operations of n that it lacks, and else a copy.
+    /// costs O(m log n) for the m operations of n that it lacks, and else a copy, which shares what the site began with.
     pub fn brought_up(&mut self, shown: &Replica) -> Result<Replica, NoMemory>
         requires { AreSpares shown.now self.old }
         ensures spares { AreSpares shown.now self.new }
@@ -61,9 +61,8 @@ fn caught_up(mut replica: Replica, shown: &Replica) -> Result<Replica, NoMemory>
     requires { IsFrontPart replica shown.now }
     ensures { IfOk result (λ same. same ≡ shown.now) }
 {
-    let arrivals = shown.as_slice();
-    for place in replica.len()..arrivals.len() {
-        let _new = replica.take(arrivals[place].copy()?)?;
+    for place in replica.len()..shown.len() {
+        let _new = replica.take(shown.arrival(place).copy()?)?;
     }
     Ok(replica)
 }

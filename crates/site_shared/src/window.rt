@@ -31,6 +31,7 @@ use replica_core::{Front, Missing, Replica};
 use review_ops::{Op, Stamp};
 use std::alloc::AllocError;
 use std::marker::Model;
+use std::sync::Arc;
 use watch_core::Evaluator;
 
 /// A place from which one thread looks at a running site, beside the desk and the other windows. It never waits for
@@ -115,7 +116,8 @@ impl Window {
         self.sight.covers(&other.sight)
     }
 
-    /// Which items are ready, and why each other one isn't. It costs what `evaluate` does.
+    /// Which items are ready, and why each other one isn't. It costs what `evaluate` does, for which the desk doesn't
+    /// wait.
     pub fn report(&mut self, gate: &Gate) -> Result<Verdicts, WindowFault>
         ensures later { GoesOn self.old self.new }
         ensures verdicts { IfOk result (AreVerdicts gate.now (state_of (arrive self.new.seen))) }
@@ -125,7 +127,7 @@ impl Window {
     }
 
     /// As `report`, with a pause: the window enters, asks the pause until it answers false, at most 1,000,000 times,
-    /// and then looks at what it entered at.
+    /// and then judges what it entered at.
     pub fn report_with<P: Pause>(
         &mut self,
         gate: &Gate,
@@ -140,14 +142,17 @@ impl Window {
             return Err(WindowFault::Closed);
         };
         hold(pause);
-        let replica = &*look.get().replica;
-        let verdicts = evaluate(replica.allocator(), replica.state(), gate);
+        let replica = Arc::try_clone(&look.get().replica);
         self.leave(look);
+        let Ok(replica) = replica else {
+            return Err(WindowFault::NoMemory);
+        };
+        let verdicts = evaluate(replica.allocator(), replica.state(), gate);
         verdicts.map_err(|_| WindowFault::NoMemory)
     }
 
     /// The verdicts under a gate on what the window sees, which `refresh` brings up to date. It costs what `evaluate`
-    /// does.
+    /// does, for which the desk doesn't wait.
     pub fn watch(&mut self, gate: Gate) -> Result<Watch, WindowFault>
         ensures later { GoesOn self.old self.new }
         ensures ok { IfOk result (IsWatchOf gate self.new) }
@@ -156,9 +161,12 @@ impl Window {
         let Some(look) = self.enter() else {
             return Err(WindowFault::Closed);
         };
-        let evaluator = Evaluator::fresh(gate, &look.get().replica);
+        let replica = Arc::try_clone(&look.get().replica);
         self.leave(look);
-        let Ok(evaluator) = evaluator else {
+        let Ok(replica) = replica else {
+            return Err(WindowFault::NoMemory);
+        };
+        let Ok(evaluator) = Evaluator::fresh(gate, &replica) else {
             return Err(WindowFault::NoMemory);
         };
         let sight = self.sight.again();

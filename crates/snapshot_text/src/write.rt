@@ -13,7 +13,7 @@ use super::laws::snapshots_say_their_operations;
 use byte_ends::{Drain, write_all};
 use lattice_core::NoMemory;
 use op_text::append_op;
-use replica_core::{Gathering, Replica};
+use replica_core::{Gathering, Iter, Replica};
 use review_ops::Op;
 use std::alloc::Global;
 
@@ -40,7 +40,7 @@ pub fn write_snapshot<D: Drain>(
         (λ _. D.failed drain.new ≡ D.failed drain.old)
         (CountsWriteFault (D.failed drain.old) (D.failed drain.new)) }
 {
-    write_ops(alloc, replica.as_slice(), drain)
+    write_ops(alloc, replica.iter(), drain)
 }
 
 /// Writes the snapshot of what was gathered, as `write_snapshot` writes that of a replica.
@@ -63,19 +63,23 @@ pub fn write_gathered<D: Drain>(
         (λ _. D.failed drain.new ≡ D.failed drain.old)
         (CountsWriteFault (D.failed drain.old) (D.failed drain.new)) }
 {
-    write_ops(alloc, gathering.as_slice(), drain)
+    write_ops(alloc, gathering.iter(), drain)
 }
 
 /// Writes the snapshot of the operations of a journal, as `write_snapshot` does.
-fn write_ops<D: Drain>(alloc: Global, journal: &[Op], drain: &mut D) -> Result<(), WriteSnapFault>
-    requires { AreApart journal.now }
+fn write_ops<D: Drain>(
+    alloc: Global,
+    journal: Iter<'_>,
+    drain: &mut D,
+) -> Result<(), WriteSnapFault>
+    requires { AreApart journal }
     // What was written says these operations when it is read.
-    ensures ok { OnOk result ((ops : List Operation) × IsInOrderOf journal.now ops
+    ensures ok { OnOk result ((ops : List Operation) × IsInOrderOf journal.entry ops
         × Appends (D.taken drain.old) (D.taken drain.new) (snapshot_text ops)
         × SaysOperations (lines_of (snapshot_text ops)) ops) }
     // Some prefix of the text was taken, not all.
     ensures cut { IsErrOf result WriteSnapFault.WriteFault
-        → (ops : List Operation) × IsInOrderOf journal.now ops
+        → (ops : List Operation) × IsInOrderOf journal.entry ops
         × (count : ℕ) × (count < length (snapshot_text ops))
         × Appends (D.taken drain.old) (D.taken drain.new) (take count (snapshot_text ops)) }
     ensures unwritten { IsErrOf result WriteSnapFault.NoMemory → D.taken drain.new ≡ D.taken drain.old }
@@ -90,9 +94,9 @@ fn write_ops<D: Drain>(alloc: Global, journal: &[Op], drain: &mut D) -> Result<(
 }
 
 /// References to the operations of a journal, in their order.
-fn in_order(alloc: Global, journal: &[Op]) -> Result<Vec<&Op>, NoMemory>
-    requires { AreApart journal.now }
-    ensures { IfOk result (λ sorted. IsInOrderOf journal.now (map (λ op. op.now) sorted.items)) }
+fn in_order(alloc: Global, journal: Iter<'_>) -> Result<Vec<&Op>, NoMemory>
+    requires { AreApart journal }
+    ensures { IfOk result (λ sorted. IsInOrderOf journal.entry (map (λ op. op.now) sorted.items)) }
 {
     let mut sorted = references(alloc, journal)?;
     sorted.sort_unstable();
@@ -100,10 +104,10 @@ fn in_order(alloc: Global, journal: &[Op]) -> Result<Vec<&Op>, NoMemory>
 }
 
 /// A reference to each operation.
-fn references(alloc: Global, ops: &[Op]) -> Result<Vec<&Op>, NoMemory>
-    ensures { IfOk result (λ all. map (λ op. op.now) all.items ≡ ops.now) }
+fn references(alloc: Global, ops: Iter<'_>) -> Result<Vec<&Op>, NoMemory>
+    ensures { IfOk result (λ all. map (λ op. op.now) all.items ≡ ops.entry) }
 {
-    Ok(ops.iter().collect(alloc)?)
+    Ok(ops.collect(alloc)?)
 }
 
 /// The snapshot's text of operations in this order.

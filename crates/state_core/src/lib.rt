@@ -21,8 +21,10 @@
 
 mod item;
 mod laws;
+mod shared;
 mod state;
 
 pub use item::Item;
 pub use laws::{a_journal_has_one_state, equal_journals_have_equal_states};
+pub use shared::SharedChange;
 pub use state::State;

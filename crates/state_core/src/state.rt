@@ -6,6 +6,7 @@ ghost use Rattle.std.specs.FinMap.{empty, get};
 ghost use Rattle.state_core.specs.State.{state_shown, with_effect};
 ghost use Rattle.state_core.specs.Known.{IsKnown, IsMerged, merged_in};
 
+use super::shared::SharedChange;
 use change_core::{ChangeState, Status};
 use lattice_core::{Join, JoinMap, NoMemory};
 use review_ops::Op;
@@ -16,7 +17,7 @@ use std::marker::Model;
 /// whatever order they came. Contracts see a finite map from the numbers of changes.
 #[derive(Drop)]
 pub struct State<A: Allocator + Copy = Global> {
-    changes: JoinMap<u32, ChangeState<A>, A>,
+    changes: JoinMap<u32, SharedChange<A>, A>,
     alloc: A,
 }
 
@@ -64,11 +65,14 @@ impl<A: Allocator + Copy> State<A> {
     pub fn change(&self, number: u32) -> Option<&ChangeState<A>>
         ensures { option_copied result ≡ get self.now number }
     {
-        self.changes.get(&number)
+        match self.changes.get(&number) {
+            Some(shared) => Some(shared.get()),
+            None => None,
+        }
     }
 
     /// The state of each change that an operation is on, in the order of their numbers.
-    pub fn changes(&self) -> &JoinMap<u32, ChangeState<A>, A>
+    pub fn changes(&self) -> &JoinMap<u32, SharedChange<A>, A>
         ensures { state_shown result.now ≡ self.now }
     {
         &self.changes
@@ -108,7 +112,8 @@ impl<A: Allocator + Copy> State<A> {
     }
 }
 
-/// Joined change by change. After a refusal the state lies between the old one and the join.
+/// Joined change by change. After a refusal the state lies between the old one and the join. A copy shares the states of
+/// changes, so that it costs O(n) for n changes, however much is in them.
 impl<A: Allocator + Copy> Join for State<A> {
     ghost use Rattle.lattice_core.specs.Keep.{numbers_exact};
     ghost use Rattle.lattice_core.specs.JoinMap.{maps_join};
@@ -147,7 +152,7 @@ impl<A: Allocator + Copy> Join for State<A> {
 
 /// Joins the effect of an operation into the state of its change.
 fn join_effect<A: Allocator + Copy>(
-    changes: &mut JoinMap<u32, ChangeState<A>, A>,
+    changes: &mut JoinMap<u32, SharedChange<A>, A>,
     alloc: A,
     op: &Op<A>,
 ) -> Result<(), NoMemory>
@@ -160,12 +165,12 @@ fn join_effect<A: Allocator + Copy>(
     }
     let mut change = ChangeState::new(alloc);
     change.take(op)?;
-    changes.put(number, change)
+    changes.put(number, SharedChange::new(alloc, change)?)
 }
 
 /// Joins the effect of an operation into the state of its change, with the operation's texts.
 fn consume_effect<A: Allocator + Copy>(
-    changes: &mut JoinMap<u32, ChangeState<A>, A>,
+    changes: &mut JoinMap<u32, SharedChange<A>, A>,
     alloc: A,
     op: Op<A>,
 ) -> Result<(), NoMemory>
@@ -178,5 +183,5 @@ fn consume_effect<A: Allocator + Copy>(
     }
     let mut change = ChangeState::new(alloc);
     change.consume(op)?;
-    changes.put(number, change)
+    changes.put(number, SharedChange::new(alloc, change)?)
 }

@@ -44,9 +44,8 @@ impl Again {
         ensures waiting { IfOk result (HasWaiting replica.now seen namers.now) }
     {
         let state = replica.state();
-        let later = &replica.as_slice()[seen..];
-        let touched = touched_changes(alloc, later)?;
-        let near = reach_of(alloc, state, namers, later)?;
+        let touched = touched_changes(alloc, replica.since(seen))?;
+        let near = reach_of(alloc, state, namers, replica.since(seen))?;
         let reach = widened(alloc, state, near, &touched)?;
         let graph = graph_of(alloc, gate, state, &reach, &touched)?;
         Ok(Again {

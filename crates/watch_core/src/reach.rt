@@ -10,7 +10,7 @@ ghost use Rattle.watch_core.specs.Namers.{AddsWaiting, HoldNamers, is_again, is_
 
 use super::namers::Namers;
 use lattice_core::NoMemory;
-use review_ops::Op;
+use replica_core::Iter;
 use state_core::{Item, State};
 use std::alloc::Global;
 use std::collections::BTreeSet;
@@ -39,10 +39,10 @@ pub fn reach_of(
     alloc: Global,
     state: &State,
     namers: &Namers,
-    later: &[Op],
+    later: Iter<'_>,
 ) -> Result<Reach, NoMemory>
     ensures { IfOk result
-        (λ reach. HoldNamers state.now namers.now later.now (is_reached later.now reach.all reach.items)) }
+        (λ reach. HoldNamers state.now namers.now later.entry (is_reached later.entry reach.all reach.items)) }
 {
     let mut items = BTreeSet::new(alloc);
     let mut ahead = changes_of(alloc, later)?;
@@ -56,10 +56,10 @@ pub fn reach_of(
 }
 
 /// The changes that operations are on.
-fn changes_of(alloc: Global, later: &[Op]) -> Result<Vec<u32>, NoMemory>
-    ensures { IfOk result (λ numbers. numbers.items ≡ map (λ op. change_of op.deed) later.now) }
+fn changes_of(alloc: Global, later: Iter<'_>) -> Result<Vec<u32>, NoMemory>
+    ensures { IfOk result (λ numbers. numbers.items ≡ map (λ op. change_of op.deed) later.entry) }
 {
-    let mut numbers = Vec::with_capacity(alloc, later.len())?;
+    let mut numbers = Vec::new(alloc);
     for op in later {
         numbers.push(op.body().change())?;
     }

@@ -134,10 +134,10 @@ fn replica_of_first<A: Allocator + Copy>(
     ensures { IfOk result (λ first. first ≡ take count replica.now) }
 {
     let mut first = Replica::new(replica.allocator());
-    match take_copies(&mut first, &replica.as_slice()[..count]) {
-        Ok(()) => Ok(first),
-        Err(_) => Err(NoMemory),
+    for place in 0..count {
+        take_copy(&mut first, replica.arrival(place))?;
     }
+    Ok(first)
 }
 
 /// Takes copies of operations, in order. Where memory is refused the first so many of them are in, and nothing else.

@@ -1,6 +1,6 @@
-use Rattle.std.proofs.Common.{ap, map, subst, sym, ◌∙◌}
+use Rattle.std.proofs.Common.{◌≡◌, ap, map, subst, sym, ◌∙◌}
 use Rattle.std.specs.FinMap.{entries}
-use Rattle.event_filter.specs.Asking.{Gains}
+use Rattle.event_filter.specs.Asking.{Gains, IsChild}
 use Rattle.event_filter.proofs.Asks.{SomeAsk, none_ask}
 use Rattle.event_filter.proofs.Children.{AsksForChild, children, passed}
 use Rattle.event_filter.proofs.asking.add_children.Goals as goal
@@ -15,7 +15,8 @@ loop-number-preserved c =
     passed c.args.parent c.args.state.now (c.in-Some.number.now, c.in-Some.change.now)
     (map (λ pair. (pair.0, pair.1)) c.loop-number.number-iterator) (map (λ pair. (pair.0, pair.1)) c.next.new.self)
     c.args.asks.now c.loop-number.asks c.add_child.new.asks
-    (ap (map (λ pair. (pair.0, pair.1))) c.in-Some.ensures.steps) c.loop-number.invariant c.in_ok-add_child.ensures
+    (ap (map (λ pair. (pair.0, pair.1))) c.in-Some.ensures.steps) c.loop-number.invariant
+    (subst (λ change. Gains (λ other. (c.in-Some.number.now ≡ other) × IsChild change c.args.parent) c.loop-number.asks c.add_child.new.asks) c.get.ensures c.in_ok-add_child.ensures)
 
 pub returns : goal.returns
 returns c =

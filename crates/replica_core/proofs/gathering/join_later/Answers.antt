@@ -20,4 +20,4 @@ returns g c = λ before is.
     c.loop-op.invariant before is
     ∙ ap (λ l. state_of (before ++ map (λ one. one.1.now) l)) (take_all c.loop-op.op-index items c.loop-op-test.false)
     ∙ ap (λ l. state_of (before ++ map (λ one. one.1.now) l)) c.deref-op-items.ensures.value
-    ∙ sym (state_of-permuted before c.args.ops.now (map (λ one. one.1.now) c.in_ok-by_change.field-0.items) c.in_ok-by_change.ensures)
+    ∙ sym (state_of-permuted before c.args.ops (map (λ one. one.1.now) c.in_ok-by_change.field-0.items) c.in_ok-by_change.ensures)

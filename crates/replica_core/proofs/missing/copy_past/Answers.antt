@@ -1,6 +1,7 @@
 use Rattle.std.proofs.Common.{◌≡◌, ◌∙◌, ◌≤◌, ◌<◌, ◌++◌, ◌∷◌, [], List, length, ap, sym, subst, arith, append_assoc}
 use Rattle.std.specs.List.{All}
-use Rattle.std.proofs.lemmas.List.{append-nil, get_or_default, length_push}
+use Rattle.std.proofs.lemmas.List.{append-nil, length_push}
+use Rattle.std.proofs.lemmas.Option.{get_or_from_slice_get}
 use Rattle.std.proofs.lemmas.List.Elements.{All-head, All-tail, All-same}
 use Rattle.review_ops.specs.Operation.{Operation}
 use Rattle.replica_core.specs.Lines.{ops_at, ops_of, op_at}
@@ -10,7 +11,7 @@ use Rattle.replica_core.proofs.missing.copy_past.Goals as goal
 
 pub loop-place-init : goal.loop-place-init
 loop-place-init g c =
-    let journal = c.args.arrivals.now in
+    let journal = c.args.arrivals.now.items in
     record {
       whole = ap (λ l. c.args.copies.now.items ++ l)
           (ap (ops_at journal) c.into_iter-place-iterator.ensures.into_iter_gives ∙ c.past-place-items.ensures.ops);
@@ -20,7 +21,7 @@ loop-place-init g c =
 
 pub returns-then-len-limit : goal.returns-then-len-limit
 returns-then-len-limit g c =
-    let journal = c.args.arrivals.now in
+    let journal = c.args.arrivals.now.items in
     let copies = c.loop-place.copies.items in
     let place = c.in-Some.place.now in
     let rest = c.next.new.self in
@@ -29,21 +30,20 @@ returns-then-len-limit g c =
     (omega (arith, c.if-len-limit.true, c.len.ensures, c.loop-place.copies.ok.0))
     (ap (λ l. copies ++ ops_at journal l) (sym c.in-Some.ensures.steps) ∙ c.loop-place.invariant.whole)
 
-pub bounds-arrivals-place : goal.bounds-arrivals-place
-bounds-arrivals-place g c =
-    let journal = c.args.arrivals.now in
+pub at-requires : goal.at-requires
+at-requires g c =
+    let journal = c.args.arrivals.now.items in
     All-head (λ place. place < length journal) c.in-Some.place.now c.next.new.self
     (subst (All (λ place. place < length journal)) c.in-Some.ensures.steps c.loop-place.invariant.inside)
 
 pub loop-place-preserved : goal.loop-place-preserved
 loop-place-preserved g c =
-    let journal = c.args.arrivals.now in
+    let journal = c.args.arrivals.now.items in
     let copies = c.loop-place.copies.items in
     let place = c.in-Some.place.now in
     let rest = c.next.new.self in
     let inside = subst (All (λ p. p < length journal)) c.in-Some.ensures.steps c.loop-place.invariant.inside in
-    let low : place < length journal = All-head (λ p. p < length journal) place rest inside in
-    let op : c.in_ok-copy.field-0 ≡ op_at journal place = c.in_ok-copy.ensures ∙ c.index-arrivals-place.is ∙ get_or_default journal place c.index-arrivals-place.result _ low in
+    let op : c.in_ok-copy.field-0 ≡ op_at journal place = c.in_ok-copy.ensures ∙ sym (get_or_from_slice_get journal place _ _ c.at.ensures) in
     let grown : c.push.new.self.items ≡ copies ++ op_at journal place ∷ [] = c.in_ok-push.ensures.items ∙ ap (λ o. copies ++ o ∷ []) op in
     record {
       whole = ap (λ l. l ++ ops_at journal rest) grown
@@ -55,15 +55,9 @@ loop-place-preserved g c =
 
 pub returns : goal.returns
 returns g c =
-    let journal = c.args.arrivals.now in
+    let journal = c.args.arrivals.now.items in
     let copies = c.loop-place.copies.items in
     let whole = c.args.copies.now.items ++ ops_past c.args.reach (ops_of journal c.args.line.now) in
     let all : copies ≡ whole = sym (append-nil copies) ∙ ap (λ l. copies ++ ops_at journal l) (sym c.in-None.ensures.steps.0) ∙ c.loop-place.invariant.whole in
     let parts = nothing_left whole c.args.limit (subst (λ (l : List Operation). length l ≤ c.args.limit) all c.loop-place.invariant.room) in
     (all ∙ parts.0, parts.1)
-
-pub offset_bounds-arrivals-place : goal.offset_bounds-arrivals-place
-offset_bounds-arrivals-place g c =
-    let journal = c.args.arrivals.now in
-    let low : c.in-Some.place.now < length journal = All-head (λ place. place < length journal) c.in-Some.place.now c.next.new.self (subst (All (λ place. place < length journal)) c.in-Some.ensures.steps c.loop-place.invariant.inside) in
-    omega (arith, low)

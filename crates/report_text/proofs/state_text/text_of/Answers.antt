@@ -16,7 +16,7 @@ loop-number-preserved g c =
     lines_more change_text (flat_map change_text (entries (state_shown c.args.changes.now)))
     (string_bytes c.loop-number.text) (string_bytes c.write_change.new.text)
     (c.in-Some.number.now, c.in-Some.change.now) _ _
-    (ap (map (λ pair. (pair.0, pair.1))) (rest_more deref_pair _ _ _ _ c.in-Some.is c.next.ensures.steps)) c.in_ok-write_change.ensures c.loop-number.invariant
+    (ap (map (λ pair. (pair.0, pair.1))) (rest_more deref_pair _ _ _ _ c.in-Some.is c.next.ensures.steps)) (c.in_ok-write_change.ensures ∙ ap (λ change. string_bytes c.loop-number.text ++ change_text (c.in-Some.number.now, change)) c.get.ensures) c.loop-number.invariant
 
 pub returns : goal.returns
 returns g c =

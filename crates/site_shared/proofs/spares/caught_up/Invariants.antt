@@ -3,4 +3,4 @@ use Rattle.site_shared.proofs.spares.caught_up.Given as goal
 
 -- the first operations are in
 abbrev pub invariant-loop-place : goal.invariant-loop-place
-invariant-loop-place l = l.replica ≡ take l.place l.arrivals
+invariant-loop-place l = l.replica ≡ take l.place l.shown

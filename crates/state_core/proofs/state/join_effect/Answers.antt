@@ -30,10 +30,10 @@ pub returns-clause-ok : goal.returns-clause-ok
 returns-clause-ok g c =
     let old = state_shown c.args.changes.now in
     let number = c.change-number.result in
-    let new = c.take-2.new.self in
+    let new = c.in_ok-new.field-0 in
     let none = c.get_mut.follows.holds-at-none in
     on_ok_weaker c.put.result
     (λ e. effect_added old _ c.args.op.now number new (c.change-number.ensures.value ∙ ap change_of c.body.ensures.value) c.in_default.ensures.value
-    (c.in_ok-take.ensures.ok ∙ ap (λ was. change_joined was (effect_of c.args.op.now)) c.new-change.ensures)
+    (c.in_ok-new.ensures ∙ c.in_ok-take.ensures.ok ∙ ap (λ was. change_joined was (effect_of c.args.op.now)) c.new-change.ensures)
     (e ∙ ap (λ m. insert (state_shown m) number new) none))
     c.put.ensures.ok

@@ -2,6 +2,7 @@ use Rattle.std.proofs.Common.{◌∙◌, [], ap, flat_map, map, string_bytes}
 use Rattle.std.specs.FinMap.{entries}
 use Rattle.std.specs.Map.Iter.{deref_pair}
 use Rattle.std.proofs.lemmas.Map.Iter.{rest_more, rest_all}
+use Rattle.change_core.specs.Change.{Change}
 use Rattle.change_core.specs.Slots.{Slot}
 use Rattle.gate_check.specs.Names.{known_labels, slots_on, voters_of, with_each}
 use Rattle.gate_check.specs.Shown.{names_shown}
@@ -21,9 +22,9 @@ loop-number-preserved c =
     let first = ap (map (λ pair. (pair.0, pair.1))) (rest_more deref_pair _ _ _ _ c.in-Some.is c.next.ensures.steps) in
     record {
       labels = each_list_more (λ (slot : Slot). slot.label) slots_on _ _ _ (c.in-Some.number.now, c.in-Some.change.now) _ _ first
-          (c.in_ok-add_votes.ensures.labels ∙ ap (λ votes. with_each (names_shown c.loop-number.names).labels (known_labels (slots_of (entries votes)))) c.all_votes.ensures) c.loop-number.invariant.labels;
+          (c.in_ok-add_votes.ensures.labels ∙ ap (λ votes. with_each (names_shown c.loop-number.names).labels (known_labels (slots_of (entries votes)))) (c.all_votes.ensures ∙ ap (λ (change : Change). change.votes) c.get.ensures)) c.loop-number.invariant.labels;
       voters = each_list_more (λ (slot : Slot). slot.voter) slots_on _ _ _ (c.in-Some.number.now, c.in-Some.change.now) _ _ first
-          (c.in_ok-add_votes.ensures.voters ∙ ap (λ votes. with_each (names_shown c.loop-number.names).voters (voters_of (slots_of (entries votes)))) c.all_votes.ensures) c.loop-number.invariant.voters;
+          (c.in_ok-add_votes.ensures.voters ∙ ap (λ votes. with_each (names_shown c.loop-number.names).voters (voters_of (slots_of (entries votes)))) (c.all_votes.ensures ∙ ap (λ (change : Change). change.votes) c.get.ensures)) c.loop-number.invariant.voters;
     }
 
 pub returns : goal.returns

@@ -1,4 +1,5 @@
-use Rattle.std.proofs.Common.{ap, flat_map, map, subst, sym}
+use Rattle.change_core.specs.Change.{Change}
+use Rattle.std.proofs.Common.{◌∙◌, ap, flat_map, map, subst, sym}
 use Rattle.std.specs.FinMap.{entries}
 use Rattle.std.specs.Map.Iter.{deref_pair}
 use Rattle.std.specs.Prelude.{MatchBool}
@@ -19,7 +20,7 @@ pub loop-number-preserved : goal.loop-number-preserved
 loop-number-preserved c =
     let P = HasFooter (IsSought c.args.self) in
     let first = ap (map (λ pair. (pair.0, pair.1))) (rest_more deref_pair _ _ _ _ c.in-Some.is c.next.ensures.steps) in
-    let told = subst (λ sets. MatchBool c.is_in_change.result (SomeIs P (messages_of (entries sets))) (¬ SomeIs P (messages_of (entries sets)))) c.sets.ensures c.is_in_change.ensures in
+    let told = subst (λ sets. MatchBool c.is_in_change.result (SomeIs P (messages_of (entries sets))) (¬ SomeIs P (messages_of (entries sets)))) (c.sets.ensures ∙ ap (λ (change : Change). change.sets) c.get.ensures) c.is_in_change.ensures in
     let none = not_if (SomeIs P (messages_on (c.in-Some.number.now, c.in-Some.change.now))) c.is_in_change.result c.if-is_in_change.false told in
     record {
       there = λ some. not_in_part P messages_on (c.in-Some.number.now, c.in-Some.change.now) _ _ first none (c.loop-number.invariant.there some);
@@ -30,7 +31,7 @@ pub returns-then-is_in_change : goal.returns-then-is_in_change
 returns-then-is_in_change c =
     let P = HasFooter (IsSought c.args.self) in
     let first = ap (map (λ pair. (pair.0, pair.1))) (rest_more deref_pair _ _ _ _ c.in-Some.is c.next.ensures.steps) in
-    let told = subst (λ sets. MatchBool c.is_in_change.result (SomeIs P (messages_of (entries sets))) (¬ SomeIs P (messages_of (entries sets)))) c.sets.ensures c.is_in_change.ensures in
+    let told = subst (λ sets. MatchBool c.is_in_change.result (SomeIs P (messages_of (entries sets))) (¬ SomeIs P (messages_of (entries sets)))) (c.sets.ensures ∙ ap (λ (change : Change). change.sets) c.get.ensures) c.is_in_change.ensures in
     c.loop-number.invariant.back
     (is_in_part P messages_on (c.in-Some.number.now, c.in-Some.change.now) _ _ first (so_if (SomeIs P (messages_on (c.in-Some.number.now, c.in-Some.change.now))) c.is_in_change.result c.if-is_in_change.true told))
 

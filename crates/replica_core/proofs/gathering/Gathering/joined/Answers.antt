@@ -9,7 +9,7 @@ invariant_of-result g c =
     let first = take inside.joined inside.arrivals.items in
     record {
       joined = c.in_ok-join_later.ensures first c.self.invariant.joined
-          ∙ ap (λ l. state_of (first ++ l)) (c.split_at.ensures.back ∙ ap (drop inside.joined) c.as_slice.ensures.value)
+          ∙ ap (λ l. state_of (first ++ l)) c.since.ensures
           ∙ ap state_of (take-append-drop inside.joined inside.arrivals.items);
       is_kept = c.self.invariant.is_kept;
     }

@@ -1,8 +1,6 @@
 use Rattle.std.proofs.Common.{◌∙◌, ap, sym}
 use Rattle.std.specs.Prelude.{slice_get}
 use Rattle.std.specs.Option.{option_copied}
-use denote.Ref.{Bor}
-use Rattle.chunk_list.specs.Looks.{copied_at}
 use Rattle.chunk_list.specs.Ranks.{rank}
 use Rattle.review_ops.specs.Operation.{Operation}
 use Rattle.replica_core.specs.Lines.{ops_of}
@@ -15,12 +13,12 @@ pub first_failing-requires : goal.first_failing-requires
 first_failing-requires g c =
     let line = c.args.self.now in
     let op = c.args.op.now in
-    placed_parts c.args.arrivals.now line c.requires (is_below op)
+    placed_parts c.args.arrivals.now.items line c.requires (is_below op)
     (λ x y of_x of_y. below_falls op x y) c.self.inside.places (ap (λ l. l.places) c.self.view_is)
 
 pub returns-in_err-place : goal.returns-in_err-place
 returns-in_err-place g c =
-    let journal = c.args.arrivals.now in
+    let journal = c.args.arrivals.now.items in
     let line = c.args.self.now in
     let op = c.args.op.now in
     let places = c.self.inside.places in
@@ -32,13 +30,13 @@ returns-in_err-place g c =
 
 pub returns : goal.returns
 returns g c =
-    let journal = c.args.arrivals.now in
+    let journal = c.args.arrivals.now.items in
     let line = c.args.self.now in
     let op = c.args.op.now in
     let places = c.self.inside.places in
     let are = ap (λ l. l.places) c.self.view_is in
     let place = c.in_ok-place.field-0 in
-    copied_at (λ (b : Bor Operation). b.now) journal place.now c.get.result c.get.ensures.lookup
+    c.get.ensures
     ∙ sym (placed_op journal line c.requires places are (rank (passes_at (is_below op) journal) places) place.now c.in_ok-place.ensures)
     ∙ ap (slice_get (ops_of journal line))
     (placed_rank journal line c.requires (is_below op) (λ x y of_x of_y. below_falls op x y) places are)

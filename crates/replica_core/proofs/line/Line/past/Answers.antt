@@ -11,12 +11,12 @@ use Rattle.replica_core.proofs.line.Line.past.Goals as goal
 pub failing-requires : goal.failing-requires
 failing-requires g c =
     let line = c.args.self.now in
-    placed_parts c.args.arrivals.now line c.requires (is_within c.args.seq)
+    placed_parts c.args.arrivals.now.items line c.requires (is_within c.args.seq)
     (within_falls line.site line.start c.args.seq) c.self.inside.places (ap (λ l. l.places) c.self.view_is)
 
 pub returns-clause-ops : goal.returns-clause-ops
 returns-clause-ops g c =
-    let journal = c.args.arrivals.now in
+    let journal = c.args.arrivals.now.items in
     let line = c.args.self.now in
     let places = c.self.inside.places in
     let are = ap (λ l. l.places) c.self.view_is in
@@ -29,7 +29,7 @@ returns-clause-ops g c =
 
 pub returns-clause-inside : goal.returns-clause-inside
 returns-clause-inside g c =
-    let journal = c.args.arrivals.now in
+    let journal = c.args.arrivals.now.items in
     let line = c.args.self.now in
     let places = c.self.inside.places in
     let index = rank (passes_at (is_within c.args.seq) journal) places in

@@ -1,30 +1,9 @@
-use Rattle.std.proofs.Common.{◌∙◌, ap, reverse, arith}
-use Rattle.std.proofs.lemmas.List.{reverse-reverse, nil_from_length}
-use Rattle.replica_core.proofs.Absorbing.{at_err, at_ok, one_more_in, one_was_left, all_in, in_order}
+use Rattle.std.proofs.Common.{◌<◌, length, refl, subst}
+use Rattle.replica_core.proofs.Sorting.{sorted_of, sorted_of-in_order, sorted_of-some}
 use Rattle.replica_core.proofs.replica.Replica.absorb.Goals as goal
-
-pub returns-then-is_err : goal.returns-then-is_err
-returns-then-is_err g c =
-    let turned = c.reverse.new.self.items in (
-      reverse turned,
-      in_order c.args.other c.other.inside.arrivals.items c.sort_unstable.new.self.items turned c.other.view_is c.other.invariant.is_kept.apart c.sort_unstable.ensures.permutation c.sort_unstable.ensures.sorted (ap reverse c.reverse.ensures.items ∙ reverse-reverse c.sort_unstable.new.self.items),
-      (
-        at_err c.take.result c.is_err.result c.is_err.ensures.value c.if-is_err.true c.take.ensures.err
-            ∙ c.loop-op.invariant.done,
-        one_was_left c.args.self.now (reverse turned) c.loop-op.taken c.loop-op.arrivals.items c.pop.new.self.items c.in-Some.op c.in-Some.ensures.items c.loop-op.invariant.left,
-      ),
-    )
-
-pub loop-op-preserved : goal.loop-op-preserved
-loop-op-preserved g c =
-    let more = one_more_in c.args.self.now (reverse c.reverse.new.self.items) c.loop-op.taken c.loop-op.arrivals.items c.pop.new.self.items c.in-Some.op c.loop-op.self c.take.new.self
-    c.in-Some.ensures.items c.loop-op.invariant.left c.loop-op.invariant.done (at_ok c.take.result c.is_err.result c.is_err.ensures.value c.if-is_err.false (λ x h. h.0) c.take.ensures.ok) in
-    record { left = more.0; done = more.1 }
 
 pub returns : goal.returns
 returns g c =
-    let turned = c.reverse.new.self.items in (
-      reverse turned,
-      in_order c.args.other c.other.inside.arrivals.items c.sort_unstable.new.self.items turned c.other.view_is c.other.invariant.is_kept.apart c.sort_unstable.ensures.permutation c.sort_unstable.ensures.sorted (ap reverse c.reverse.ensures.items ∙ reverse-reverse c.sort_unstable.new.self.items),
-      all_in c.args.self.now (reverse turned) c.loop-op.taken c.loop-op.arrivals.items c.loop-op.self (nil_from_length c.loop-op.arrivals.items (omega (arith, c.loop-op.arrivals.ok.0, c.in_default.ensures.cases.0))) c.loop-op.invariant.left c.loop-op.invariant.done,
-    )
+    let other = c.args.other in
+    let some : 0 < length other = subst (λ j. 0 < length j) c.other.view_is c.in-Err.ensures.err in
+    (sorted_of other, sorted_of-in_order other, (refl, sorted_of-some other some))

@@ -7,7 +7,7 @@ use Rattle.replica_core.proofs.replica.Replica.copy.Goals as goal
 pub invariant_of-result : goal.invariant_of-result
 invariant_of-result g c =
     let inside = c.self.inside in
-    let arrivals : c.in_ok-arrivals.arrivals.items ≡ inside.arrivals.items = c.in_ok-arrivals.ensures ∙ c.as_slice.ensures.arrivals ∙ sym c.self.view_is in
+    let arrivals : c.in_ok-arrivals.arrivals.items ≡ inside.arrivals.items = c.in_ok-arrivals.ensures in
     record {
       joined = c.in_ok-state.ensures ∙ c.self.invariant.joined ∙ ap state_of (sym arrivals);
       is_kept = kept_same inside.arrivals.items c.in_ok-arrivals.arrivals.items inside.lines c.in_ok-lines.lines inside.latest arrivals

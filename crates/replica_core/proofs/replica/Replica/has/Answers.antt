@@ -13,7 +13,6 @@ pub has-requires : goal.has-requires
 has-requires g c =
     let journal = c.self.inside.arrivals.items in
     let line = c.in-Some.line.now in
-    subst (λ j. IsFiled j line) (sym c.as_slice.ensures.value)
     (line_in journal c.self.inside.lines c.self.invariant.is_kept.lines line c.in-Some.ensures.0).filed
 
 pub returns-in-Some : goal.returns-in-Some
@@ -21,7 +20,7 @@ returns-in-Some g c =
     let journal = c.self.inside.arrivals.items in
     let line = c.in-Some.line.now in
     let op = c.args.op.now in
-    c.has.ensures ∙ ap (λ j. has (ops_of j line) op) c.as_slice.ensures.value
+    c.has.ensures
     ∙ has_row journal line
     (line_in journal c.self.inside.lines c.self.invariant.is_kept.lines line c.in-Some.ensures.0).filed op
     (c.in-Some.ensures.1 ∙ ap (λ row. (row.site, row.start)) c.row_of.ensures)

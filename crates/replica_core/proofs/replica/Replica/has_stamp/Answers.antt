@@ -12,14 +12,13 @@ pub has_stamp-requires : goal.has_stamp-requires
 has_stamp-requires g c =
     let journal = c.self.inside.arrivals.items in
     let line = c.in-Some.line.now in
-    subst (λ j. IsFiled j line) (sym c.as_slice.ensures.value)
     (line_in journal c.self.inside.lines c.self.invariant.is_kept.lines line c.in-Some.ensures.0).filed
 
 pub returns-in-Some : goal.returns-in-Some
 returns-in-Some g c =
     let journal = c.self.inside.arrivals.items in
     let line = c.in-Some.line.now in
-    c.has_stamp.ensures ∙ ap (λ j. has_stamp (ops_of j line) c.args.stamp) c.as_slice.ensures.value
+    c.has_stamp.ensures
     ∙ has_stamp_row journal line
     (line_in journal c.self.inside.lines c.self.invariant.is_kept.lines line c.in-Some.ensures.0).filed c.args.stamp
     (c.in-Some.ensures.1 ∙ (λ i. (c.site.ensures i, c.start.ensures i)))

@@ -11,14 +11,13 @@ find_line-requires g c = c.self.invariant.is_kept.lines.sorted
 pub last_seq-requires : goal.last_seq-requires
 last_seq-requires g c =
     let line = c.in-Some.line.now in
-    subst (λ j. IsFiled j line) (sym c.as_slice.ensures.value)
     (line_in c.self.inside.arrivals.items c.self.inside.lines c.self.invariant.is_kept.lines line c.in-Some.ensures.0).filed
 
 pub returns-in-Some : goal.returns-in-Some
 returns-in-Some g c =
     c.last_seq.ensures
-    ∙ ap (λ r. greatest (seqs r.0 r.1 c.as_slice.result.now)) c.in-Some.ensures.1
-    ∙ ap (λ j. greatest (seqs c.args.row.site c.args.row.start j)) (c.as_slice.ensures.value ∙ c.self.view_is)
+    ∙ ap (λ r. greatest (seqs r.0 r.1 c.self.inside.arrivals.items)) c.in-Some.ensures.1
+    ∙ ap (λ j. greatest (seqs c.args.row.site c.args.row.start j)) c.self.view_is
 
 pub returns-in-None : goal.returns-in-None
 returns-in-None g c =

@@ -26,7 +26,7 @@ pub copy_past-requires-clause-filed : goal.copy_past-requires-clause-filed
 copy_past-requires-clause-filed g c =
     let journal = c.self.inside.arrivals.items in
     let line = c.in-Some.line.now in
-    subst (λ j. IsFiled j line) (sym c.as_slice.ensures.value) (All-head (IsLine journal) line c.next.new.self (subst (All (IsLine journal)) c.in-Some.ensures.steps c.loop-line.invariant.each)).filed
+    (All-head (IsLine journal) line c.next.new.self (subst (All (IsLine journal)) c.in-Some.ensures.steps c.loop-line.invariant.each)).filed
 
 pub returns-then-branch : goal.returns-then-branch
 returns-then-branch g c =
@@ -36,9 +36,9 @@ returns-then-branch g c =
     let line = c.in-Some.line.now in
     let rest = c.next.new.self in
     let ops = c.loop-line.ops.items in
-    let added = ops_past c.reach-reach.result (ops_of c.as_slice.result.now line) in
+    let added = ops_past c.reach-reach.result (ops_of journal line) in
     let reach = c.reach-reach.ensures ∙ ap (λ row. reach_of front row.site row.start) c.row.ensures in
-    let is = ap (λ n. ops_past n (ops_of c.as_slice.result.now line)) reach ∙ ap (λ j. past j front line) c.as_slice.ensures.value in
+    let is = ap (λ n. ops_past n (ops_of journal line)) reach in
     let parts = stopped ops added (lacked journal front rest)
     (lacked journal front lines) c.copy_past.new.copies.items c.args.limit c.in_ok-copy_past.field-0
     (ap (λ l. ops ++ (l ++ lacked journal front rest)) is ∙ ap (λ l. ops ++ lacked journal front l) (sym c.in-Some.ensures.steps) ∙ c.loop-line.invariant.whole)
@@ -58,9 +58,9 @@ loop-line-preserved g c =
     let line = c.in-Some.line.now in
     let rest = c.next.new.self in
     let ops = c.loop-line.ops.items in
-    let added = ops_past c.reach-reach.result (ops_of c.as_slice.result.now line) in
+    let added = ops_past c.reach-reach.result (ops_of journal line) in
     let reach = c.reach-reach.ensures ∙ ap (λ row. reach_of front row.site row.start) c.row.ensures in
-    let is = ap (λ n. ops_past n (ops_of c.as_slice.result.now line)) reach ∙ ap (λ j. past j front line) c.as_slice.ensures.value in
+    let is = ap (λ n. ops_past n (ops_of journal line)) reach in
     let parts = gone_on ops added (lacked journal front rest)
     (lacked journal front lines) c.copy_past.new.copies.items c.args.limit c.in_ok-copy_past.field-0
     (ap (λ l. ops ++ (l ++ lacked journal front rest)) is ∙ ap (λ l. ops ++ lacked journal front l) (sym c.in-Some.ensures.steps) ∙ c.loop-line.invariant.whole)

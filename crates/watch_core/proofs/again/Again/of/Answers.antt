@@ -1,7 +1,6 @@
 use Rattle.std.proofs.Common.{◌≡◌, ◌∙◌, ℕ, List, ap, drop, subst}
 use Rattle.std.specs.BTreeSet.{contains}
 use Rattle.std.specs.Ordering.{nat_cmp}
-use Rattle.std.proofs.lemmas.List.{take_rest}
 use Rattle.review_ops.specs.Operation.{Operation}
 use Rattle.graph_core.specs.ItemGraph.{IsGraphOf}
 use Rattle.watch_core.specs.BroughtUp.{HoldsItems}
@@ -14,11 +13,10 @@ pub returns-clause-again : goal.returns-clause-again
 returns-clause-again c =
     let seen = c.args.seen in
     let later = drop seen c.args.replica.now in
-    let rest = take_rest c.as_slice.result.now seen ∙ ap (drop seen) c.as_slice.ensures.arrivals in
     let reach = c.in_ok-reach.reach in
     let changes = c.in_ok-touched.touched in
     let touched : (number : ℕ) → contains nat_cmp changes number ≡ touches later number =
-    subst (λ (l : List Operation). (number : ℕ) → contains nat_cmp changes number ≡ touches l number) rest
+    subst (λ (l : List Operation). (number : ℕ) → contains nat_cmp changes number ≡ touches l number) c.since.ensures
     c.in_ok-touched.ensures in record {
       touched = touched;
       graph = subst (λ state. IsGraphOf c.args.gate.now state c.in_ok-graph.graph) c.state-state.ensures
@@ -33,12 +31,11 @@ pub returns-clause-waiting : goal.returns-clause-waiting
 returns-clause-waiting c =
     let seen = c.args.seen in
     let journal = c.args.replica.now in
-    let rest = take_rest c.as_slice.result.now seen ∙ ap (drop seen) c.as_slice.ensures.arrivals in
     let near = c.in_ok-near.near in
     let reach = c.in_ok-reach.reach in
     let state = c.state-state.result.now in
     let nearly = subst (λ (l : List Operation). HoldNamers state c.args.namers.now l (is_reached l near.all near.items))
-    rest c.in_ok-near.ensures in
+    c.since-2.ensures c.in_ok-near.ensures in
     subst
     (λ s. HoldNamers s c.args.namers.now (drop seen journal) (is_reached (drop seen journal) reach.all reach.items))
     c.state-state.ensures
