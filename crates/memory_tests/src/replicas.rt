@@ -49,7 +49,7 @@ fn turned_round<A: Allocator + Copy>(alloc: A) -> Option<Replica<A>> {
 
 /// Whether a replica has the operations of another one, in their order, and its state.
 fn is<A: Allocator + Copy>(replica: &Replica<A>, wanted: Replica<A>) -> bool {
-    replica.as_slice() == wanted.as_slice() && replica.same_state(&wanted)
+    replica.iter().eq(wanted.iter()) && replica.same_state(&wanted)
 }
 
 /// Whether the replica has just the first `count` operations, in their order, and their state.
@@ -235,14 +235,79 @@ fn has_first_if_any<A: Allocator + Copy>(
 
 /// A replica that absorbs one with four operations, of which it has the first, and which came in the other order.
 #[derive(Clone, Copy)]
-struct Absorbs;
+enum Absorbs {
+    Own,
+    Shared,
+}
 
 impl Call for Absorbs {
     fn seen(self, memory: &Memory, granted: u32) -> Option<Seen> {
-        let other = turned_round(memory)?;
+        let other = match self {
+            Absorbs::Own => turned_round(memory)?,
+            Absorbs::Shared => shared(turned_round(memory)?)?,
+        };
         let replica = replica_of(memory, 1)?;
         Some(absorbed(memory, replica, other, granted))
     }
+}
+
+/// The replica, whose copies share what it has.
+fn shared<A: Allocator + Copy>(mut replica: Replica<A>) -> Option<Replica<A>> {
+    replica.share().ok()?;
+    Some(replica)
+}
+
+/// A replica of four operations that lets copies share them.
+#[derive(Clone, Copy)]
+struct Shares;
+
+impl Call for Shares {
+    fn seen(self, memory: &Memory, granted: u32) -> Option<Seen> {
+        let replica = replica_of(memory, 4)?;
+        Some(let_share(memory, replica, granted))
+    }
+}
+
+/// What is seen where a replica lets copies share its four operations: it has them all the same.
+fn let_share<'a>(memory: &'a Memory, mut replica: Replica<&'a Memory>, granted: u32) -> Seen {
+    memory.refuse_after(granted);
+    let failed = replica.share().is_err();
+    let refused = memory.grant_all();
+    let stated = has_first(memory, &replica, 4);
+    let is_shared = replica.share().is_ok();
+    Seen {
+        failed,
+        refused,
+        stated,
+        whole: is_shared && has_first(memory, &replica, 4),
+    }
+}
+
+/// A copy that takes an operation on a change whose state it shares.
+#[derive(Clone, Copy)]
+struct TakesShared;
+
+impl Call for TakesShared {
+    fn seen(self, memory: &Memory, granted: u32) -> Option<Seen> {
+        let op = next_op(memory, 3)?;
+        let replica = shared(replica_of(memory, 3)?)?;
+        let copied = replica.copy().ok()?;
+        let wanted = replica.copy().ok()?;
+        Some(taken_shared(memory, copied, &wanted, op, granted))
+    }
+}
+
+/// What is seen where a copy takes the fourth operation: the other one keeps the first three.
+fn taken_shared<'a>(
+    memory: &'a Memory,
+    copied: Replica<&'a Memory>,
+    other: &Replica<&'a Memory>,
+    op: Op<&'a Memory>,
+    granted: u32,
+) -> Seen {
+    let mut seen = taken(memory, copied, op, 3, granted);
+    seen.whole = seen.whole && has_first(memory, other, 3);
+    seen
 }
 
 /// How many of four operations are in.
@@ -311,7 +376,7 @@ fn is_missing<'a>(memory: &'a Memory, replica: &Replica<&'a Memory>) -> Option<b
 
 /// Whether these are the first three operations of the replica.
 fn are_first<'a>(replica: &Replica<&'a Memory>, missing: Missing<&'a Memory>) -> bool {
-    missing.more && replica.as_slice().get(..3) == Some(missing.ops.as_slice())
+    missing.more && replica.iter().take(3).eq(missing.ops.iter())
 }
 
 /// Whether the replica shows what it has to; none where memory was refused.
@@ -418,7 +483,14 @@ fn a_state_of_what_was_gathered_is_whole_or_not_at_all(rt: HostRuntime) {
 
 #[test]
 fn a_refused_absorb_says_how_many_are_in(rt: HostRuntime) {
-    assert_each(&rt, rt.alloc(), Absorbs, 4);
+    assert_each(&rt, rt.alloc(), Absorbs::Own, 4);
+    assert_each(&rt, rt.alloc(), Absorbs::Shared, 5);
+}
+
+#[test]
+fn what_is_shared_stays_whole(rt: HostRuntime) {
+    assert_each(&rt, rt.alloc(), Shares, 1);
+    assert_each(&rt, rt.alloc(), TakesShared, 2);
 }
 
 #[test]

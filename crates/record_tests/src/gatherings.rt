@@ -69,7 +69,7 @@ fn gathering_of(alloc: Global, places: &[usize], before: usize) -> Option<Gather
 
 /// Whether two replicas have the same operations in the same order, and one state.
 fn alike(replica: &Replica, other: &Replica) -> bool {
-    replica.as_slice() == other.as_slice() && replica.same_state(other)
+    replica.iter().eq(other.iter()) && replica.same_state(other)
 }
 
 /// Whether the two replicas are alike, and are so still when both took each operation.
@@ -127,12 +127,12 @@ fn a_gathering_says_what_it_had(rt: HostRuntime) {
 /// Whether a new gathering is empty, and then has the operations at these places as a replica has them.
 fn is_listed(alloc: Global, places: &[usize]) -> Option<bool> {
     let mut gathering = Gathering::new(alloc);
-    let is_empty = gathering.as_slice().is_empty();
+    let is_empty = gathering.iter().next().is_none();
     for place in places {
         gather_at(alloc, &mut gathering, *place)?;
     }
     let replica = one_by_one(alloc, places)?;
-    Some(is_empty && gathering.as_slice() == replica.as_slice())
+    Some(is_empty && gathering.iter().eq(replica.iter()))
 }
 
 #[test]

@@ -15,6 +15,8 @@ mod recorded;
 #[cfg(test)]
 mod replicas;
 #[cfg(test)]
+mod sharing;
+#[cfg(test)]
 mod states;
 #[cfg(test)]
 mod worlds;

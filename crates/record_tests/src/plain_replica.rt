@@ -1,7 +1,7 @@
 //! The journal as a plain list that is walked: what the lines answer, this answers from the definitions.
 
 use lattice_core::NoMemory;
-use replica_core::{Front, Row};
+use replica_core::{Front, Iter, Row};
 use review_ops::{Op, Stamp};
 use std::alloc::Global;
 use std::cmp::Ordering;
@@ -29,8 +29,8 @@ impl Plain {
     }
 
     /// Takes copies of these operations, in order.
-    pub fn absorb(&mut self, alloc: Global, ops: &[Op]) -> Result<(), NoMemory> {
-        let mut sorted: Vec<&Op> = ops.iter().collect(alloc)?;
+    pub fn absorb(&mut self, alloc: Global, ops: Iter<'_>) -> Result<(), NoMemory> {
+        let mut sorted: Vec<&Op> = ops.collect(alloc)?;
         sorted.sort_unstable();
         for op in sorted {
             self.take(op.copy()?)?;

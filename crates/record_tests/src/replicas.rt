@@ -331,7 +331,7 @@ fn with_two_votes(rt: &impl Abort, alloc: Global, replica: &Replica) -> Result<R
 
 /// How many operations a copy has, whether it has the state of another replica, and whether it has the same arrivals.
 fn likeness(copied: Replica, replica: &Replica) -> (usize, bool, bool) {
-    let same_arrivals = copied.as_slice().eq(replica.as_slice());
+    let same_arrivals = copied.iter().eq(replica.iter());
     (copied.len(), copied.same_state(replica), same_arrivals)
 }
 
@@ -384,7 +384,7 @@ fn second_seq(replica: &Replica) -> Option<u64> {
 fn what_a_copy_gains_is_absorbed(rt: HostRuntime) -> Result<(), Fail> {
     let first = with_gains(&rt, rt.alloc())?;
     assert_eq!(rt; (first.arrivals(), second_seq(&first)), (4, Some(4)));
-    assert_seqs(&rt, first.as_slice(), &[1, 4, 2, 3]);
+    assert!(rt; first.iter().map(|op| op.stamp().seq()).eq([1, 4, 2, 3]));
     Ok(())
 }
 
@@ -552,7 +552,7 @@ impl Both {
 
     /// Both absorb another record.
     fn absorb(&mut self, alloc: Global, other: Replica) -> Result<(), Fail> {
-        self.plain.absorb(alloc, other.as_slice())?;
+        self.plain.absorb(alloc, other.iter())?;
         self.replica.absorb(other)?;
         Ok(())
     }
@@ -615,7 +615,7 @@ impl Both {
 
     /// Both answer alike, of the whole journal and past a front that reaches into some rows.
     fn assert_alike(&mut self, rt: &impl Abort, alloc: Global) -> Result<(), Fail> {
-        assert!(rt; self.replica.as_slice().eq(self.plain.ops.as_slice()));
+        assert!(rt; self.replica.iter().eq(self.plain.ops.iter()));
         let front = self.assert_front(rt, alloc)?;
         self.assert_past(rt, alloc, &front)
     }

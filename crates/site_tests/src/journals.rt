@@ -57,7 +57,7 @@ fn what_is_appended_is_found_again(rt: HostRuntime) -> Result<(), Fail> {
     let ops = ops_of(alloc, &[FIRST, SECOND, THIRD])?;
     let text = journal_of(alloc, &[FIRST, SECOND, THIRD])?;
     let Started { replica, torn, .. } = journal_over(alloc, text.as_slice())?;
-    assert_eq!(rt; replica.as_slice(), ops.as_slice());
+    assert!(rt; replica.iter().eq(ops.iter()));
     assert_eq!(rt; torn, 0);
     Ok(())
 }

@@ -3,8 +3,7 @@
 use super::sips::Sips;
 use byte_ends::{Broken, Ends, Source};
 use op_text::OpTextFault;
-use replica_core::Gathering;
-use review_ops::Op;
+use replica_core::{Gathering, Iter};
 use snapshot_text::{
     SnapFault, WriteSnapFault, gather_onto, lines_have_one_reading, read_snapshot, snapshot_of,
     snapshot_onto, snapshots_are_one, snapshots_say_their_operations, write_gathered,
@@ -73,17 +72,14 @@ fn the_first_fault_stands_in_sips(rt: HostRuntime) {
 }
 
 /// The operations have these times, in their order.
-fn assert_times(rt: &impl Abort, ops: &[Op], times: &[u64]) {
-    assert_eq!(rt; ops.len(), times.len());
-    for (op, time) in ops.iter().zip(times) {
-        assert_eq!(rt; op.stamp().time(), *time);
-    }
+fn assert_times(rt: &impl Abort, ops: Iter<'_>, times: &[u64]) {
+    assert!(rt; ops.map(|op| op.stamp().time()).eq(times.iter().copied()));
 }
 
 /// The operations that a text brings have these times, in their order.
 fn assert_read(rt: &impl Abort, alloc: Global, text: &[u8], times: &[u64]) -> Result<(), Fail> {
     let replica = read_snapshot(alloc, &mut Ends::new(text))?;
-    assert_times(rt, replica.as_slice(), times);
+    assert_times(rt, replica.iter(), times);
     Ok(())
 }
 
@@ -104,7 +100,7 @@ fn assert_brings_each(
 ) -> Result<(), Fail> {
     let replica = read_snapshot(alloc, &mut Ends::new(text))?;
     let wanted = read_snapshot(alloc, &mut Ends::new(other))?;
-    for op in wanted.as_slice() {
+    for op in wanted.iter() {
         assert!(rt; replica.has(op));
     }
     Ok(())
@@ -150,7 +146,7 @@ fn number_of<T: Drop>(answer: Result<T, SnapFault>) -> u8 {
 fn a_text_is_read_as_its_source_is(rt: HostRuntime) -> Result<(), Fail> {
     let text = format!(in rt.alloc(); "reviewgate 2\n{FIRST}\n{SECOND}\nend 2")?;
     let replica = snapshot_of(rt.alloc(), text.as_bytes())?;
-    assert_times(&rt, replica.as_slice(), &[2, 3]);
+    assert_times(&rt, replica.iter(), &[2, 3]);
     Ok(())
 }
 
@@ -174,7 +170,7 @@ fn a_source_is_read_in_sips(rt: HostRuntime) -> Result<(), Fail> {
     let whole = read_snapshot(rt.alloc(), &mut Ends::new(text.as_bytes()))?;
     for most in 1..9usize {
         let replica = read_snapshot(rt.alloc(), &mut Sips::new(text.as_bytes(), most))?;
-        assert!(rt; replica.as_slice() == whole.as_slice() && replica.same_state(&whole));
+        assert!(rt; replica.iter().eq(whole.iter()) && replica.same_state(&whole));
     }
     Ok(())
 }
@@ -190,7 +186,7 @@ fn a_text_is_read_onto_a_replica(rt: HostRuntime) -> Result<(), Fail> {
     let one = format!(in rt.alloc(); "reviewgate 2\n{SECOND}\nend 1")?;
     let both = format!(in rt.alloc(); "reviewgate 2\n{FIRST}\n{SECOND}\n{FIRST}\nend 3")?;
     let replica = snapshot_onto(snapshot_of(rt.alloc(), one.as_bytes())?, both.as_bytes())?;
-    assert_times(&rt, replica.as_slice(), &[3, 2]);
+    assert_times(&rt, replica.iter(), &[3, 2]);
     assert_eq!(rt; number_of(snapshot_onto(replica, b"reviewgate 2\n")), 3);
     Ok(())
 }
@@ -202,7 +198,7 @@ fn what_is_gathered_is_written(rt: HostRuntime) -> Result<(), Fail> {
     let both = format!(in rt.alloc(); "reviewgate 2\n{FIRST}\n{SECOND}\n{FIRST}\nend 3")?;
     let first = gather_onto(Gathering::new(rt.alloc()), &mut Ends::new(one.as_bytes()))?;
     let gathering = gather_onto(first, &mut Ends::new(both.as_bytes()))?;
-    assert_times(&rt, gathering.as_slice(), &[3, 2]);
+    assert_times(&rt, gathering.iter(), &[3, 2]);
     let mut drain = Ends::new(Vec::new(rt.alloc()));
     write_gathered(rt.alloc(), &gathering, &mut drain)?;
     let wanted = format!(in rt.alloc(); "reviewgate 2\n{FIRST}\n{SECOND}\nend 2\n")?;

@@ -1,0 +1,214 @@
+//! Records whose copies share what they had when they were made.
+
+use deeds::{Deed, op_of};
+use replica_core::{Front, Replica, Taken};
+use review_ops::Op;
+use std::alloc::Global;
+use std::test::Fail;
+
+/// What a test lacks where memory is refused that it counts on.
+const MEMORY: &str = "memory";
+
+/// What is stamped with a time, from 1 on, on a change: the first three are there when copies are made.
+const DEEDS: [(u32, Deed); 6] = [
+    (101, Deed::PatchSet(1, "m", None)),
+    (101, Deed::Vote(1, "Workflow", "ann", 1)),
+    (102, Deed::PatchSet(1, "m", Some(101))),
+    (101, Deed::Withdraw(1, "workflow", "ann")),
+    (102, Deed::PatchSet(2, "m", None)),
+    (103, Deed::Merged),
+];
+
+/// How many operations are shared.
+const SHARED: usize = 3;
+
+/// The operation of the deed at a place, where memory suffices for it.
+fn op_at(alloc: Global, place: usize) -> Option<Op> {
+    let (change, deed) = *DEEDS.get(place)?;
+    let time = u64::try_from(place).ok()?.checked_add(1)?;
+    op_of(alloc, time, change, deed)
+}
+
+/// Has a replica take the operation at a place, and says whether it had it, where memory suffices for it.
+fn take_at(alloc: Global, replica: &mut Replica, place: usize) -> Option<Taken> {
+    replica.take(op_at(alloc, place)?).ok()
+}
+
+/// The replica that took the operations at these places, with nothing shared.
+fn plain(alloc: Global, places: &[usize]) -> Option<Replica> {
+    let mut replica = Replica::new(alloc);
+    for place in places {
+        take_at(alloc, &mut replica, *place)?;
+    }
+    Some(replica)
+}
+
+/// A replica of the first operations, which its copies share.
+fn shared(alloc: Global) -> Option<Replica> {
+    shared_again(plain(alloc, &[0, 1, 2])?)
+}
+
+/// A copy of a replica that took the operation at a place after it.
+fn copy_with(alloc: Global, replica: &Replica, place: usize) -> Option<Replica> {
+    with(alloc, replica.copy().ok()?, place)
+}
+
+/// The replica, which took the operation at a place after all that it had.
+fn with(alloc: Global, mut replica: Replica, place: usize) -> Option<Replica> {
+    if take_at(alloc, &mut replica, place).is_some() {
+        Some(replica)
+    } else {
+        None
+    }
+}
+
+/// Whether two replicas have the same operations in the same order, and one state.
+fn alike(replica: &Replica, other: &Replica) -> bool {
+    replica.iter().eq(other.iter()) && replica.same_state(other)
+}
+
+/// Whether a front lacks the same operations of two replicas.
+fn lack_alike(alloc: Global, replica: &Replica, other: &Replica) -> bool {
+    let nothing = Front::new(alloc);
+    match (replica.missing(&nothing, 256), other.missing(&nothing, 256)) {
+        (Ok(missing), Ok(others)) => missing.ops == others.ops,
+        _ => false,
+    }
+}
+
+/// Whether a replica is what one is that took the operations at these places, with nothing shared.
+fn is_plain(alloc: Global, replica: &Replica, places: &[usize]) -> bool {
+    match plain(alloc, places) {
+        Some(other) => alike(replica, &other) && lack_alike(alloc, replica, &other),
+        None => false,
+    }
+}
+
+/// Whether there is a replica, and it is what one is that took the operations at these places, with nothing shared.
+fn are_plain(alloc: Global, replica: Option<Replica>, places: &[usize]) -> bool {
+    match replica {
+        Some(replica) => is_plain(alloc, &replica, places),
+        None => false,
+    }
+}
+
+/// Whether two copies, and then the replica itself, keep apart what each of them gains.
+fn keep_apart(alloc: Global, replica: Replica) -> [bool; 3] {
+    let first = copy_with(alloc, &replica, 3);
+    let second = copy_with(alloc, &replica, 4);
+    let itself = with(alloc, replica, 5);
+    [
+        are_plain(alloc, first, &[0, 1, 2, 3]),
+        are_plain(alloc, second, &[0, 1, 2, 4]),
+        are_plain(alloc, itself, &[0, 1, 2, 5]),
+    ]
+}
+
+#[test]
+fn what_copies_gain_is_their_own(rt: HostRuntime) -> Result<(), Fail> {
+    let alloc = rt.alloc();
+    let apart = shared(alloc).map(|replica| keep_apart(alloc, replica));
+    assert_eq!(rt; apart.ok_or(MEMORY)?, [true, true, true]);
+    Ok(())
+}
+
+/// A copy of what is shared, which outlives the replica, and took the operation at a place after it.
+fn outliving(alloc: Global, place: usize) -> Option<Replica> {
+    let replica = shared(alloc)?;
+    copy_with(alloc, &replica, place)
+}
+
+/// Whether a copy knows what is shared, finds something else new, and then is what one is with nothing shared.
+fn goes_on(alloc: Global, mut copied: Replica) -> [bool; 3] {
+    let known = take_at(alloc, &mut copied, 0) == Some(Taken::Known);
+    let new = take_at(alloc, &mut copied, 5) == Some(Taken::New);
+    [known, new, is_plain(alloc, &copied, &[0, 1, 2, 3, 5])]
+}
+
+#[test]
+fn a_copy_outlives_the_replica(rt: HostRuntime) -> Result<(), Fail> {
+    let alloc = rt.alloc();
+    let gone_on = outliving(alloc, 3).map(|copied| goes_on(alloc, copied));
+    assert_eq!(rt; gone_on.ok_or(MEMORY)?, [true, true, true]);
+    Ok(())
+}
+
+/// The time of the operation that came at each place, and how many came since then.
+fn places(replica: &Replica) -> [(u64, usize); 5] {
+    let mut found = [(0, 0); 5];
+    for place in 0..replica.len().min(found.len()) {
+        found[place] = (
+            replica.arrival(place).stamp().time(),
+            replica.since(place).count(),
+        );
+    }
+    found
+}
+
+/// How many operations came since the first so many, and since more than there are.
+fn counts(replica: &Replica) -> (usize, usize) {
+    (replica.since(SHARED).count(), replica.since(9).count())
+}
+
+#[test]
+fn places_go_on_past_what_is_shared(rt: HostRuntime) -> Result<(), Fail> {
+    let found = outliving(rt.alloc(), 4).map(|copied| (places(&copied), counts(&copied)));
+    let wanted = [(1, 4), (2, 3), (3, 2), (5, 1), (0, 0)];
+    assert_eq!(rt; found.ok_or(MEMORY)?, (wanted, (1, 0)));
+    Ok(())
+}
+
+/// A replica that shares once more what it has and gained.
+fn shared_twice(alloc: Global) -> Option<Replica> {
+    shared_again(outliving(alloc, 3)?)
+}
+
+/// The replica, which lets copies share what it has.
+fn shared_again(mut replica: Replica) -> Option<Replica> {
+    if replica.share().is_ok() {
+        Some(replica)
+    } else {
+        None
+    }
+}
+
+/// A copy of what is there, where it is, that took the operation at a place after it.
+fn copied_with(alloc: Global, replica: Option<Replica>, place: usize) -> Option<Replica> {
+    match replica {
+        Some(replica) => copy_with(alloc, &replica, place),
+        None => None,
+    }
+}
+
+#[test]
+fn to_share_changes_nothing(rt: HostRuntime) {
+    let alloc = rt.alloc();
+    let from_nothing = copied_with(alloc, shared_again(Replica::new(alloc)), 5);
+    let twice = copied_with(alloc, shared_twice(alloc), 5);
+    assert!(rt; are_plain(alloc, from_nothing, &[5]));
+    assert!(rt; are_plain(alloc, twice, &[0, 1, 2, 3, 5]));
+}
+
+/// What a replica is that absorbed another one.
+fn absorbed(alloc: Global, other: Replica) -> Option<Replica> {
+    match plain(alloc, &[5]) {
+        Some(replica) => with_all(replica, other),
+        None => None,
+    }
+}
+
+/// The replica, which absorbed another one.
+fn with_all(mut replica: Replica, other: Replica) -> Option<Replica> {
+    if replica.absorb(other).is_ok() {
+        Some(replica)
+    } else {
+        None
+    }
+}
+
+#[test]
+fn what_is_shared_is_absorbed(rt: HostRuntime) {
+    let alloc = rt.alloc();
+    let both = outliving(alloc, 3).and_then(|other| absorbed(alloc, other));
+    assert!(rt; are_plain(alloc, both, &[5, 0, 1, 2, 3]));
+}
