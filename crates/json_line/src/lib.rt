@@ -8,6 +8,7 @@
 //! An example of its use:
 //!
 //! ```
+//! use json::Writer;
 //! let mut out = Writer::new(Vec::new(alloc));
 //! open_object(&mut out)?;
 //! put_number(&mut out, "change", 101)?;

@@ -1,5 +1,5 @@
 -- What arrived at a record, as it is kept: first the operations that copies share, then its own.
-use Rattle.std.specs.Prelude.{◌++◌, ℕ, List, [], Option, Some, None}
+use Rattle.std.specs.Prelude.{ℕ, List, [], Option, Some, None}
 use Rattle.std.specs.Arc.{arc_value}
 use Rattle.std.specs.declared.sync.Arc.{Arc}
 use Rattle.std.specs.declared.vec.Vec.{Vec}

@@ -76,10 +76,3 @@ pub first_arrive : (n : ℕ) (journal : List Operation) → AreApart journal
     → all_arrived [] (take n journal) ≡ take n journal
 first_arrive n journal apart =
     arrive_after [] (take n journal) (drop n journal) (subst AreApart (sym (take-append-drop n journal)) apart)
-
--- so what a new replica has, once they came
-pub first_made : (journal whole empty new : List Operation) (n : ℕ) → new ≡ all_arrived empty (take n whole)
-    → empty ≡ [] → whole ≡ journal → AreApart journal → new ≡ take n journal
-first_made journal whole empty new n came none same apart =
-    came ∙ ap (λ j. all_arrived j (take n whole)) none ∙ ap (λ l. all_arrived [] (take n l)) same
-    ∙ first_arrive n journal apart

@@ -1,7 +1,7 @@
 -- The operation at a place is none of those before it, so that it is added.
-use Rattle.std.proofs.Common.{◌≡◌, ◌+◌, refl, suc, List, Some, slice_get, take, sym, subst, ◌∙◌, ap, arith}
+use Rattle.std.proofs.Common.{◌≡◌, ◌+◌, suc, List, Some, slice_get, take, sym, ◌∙◌, ap, arith}
 use Rattle.review_ops.specs.Operation.{Operation}
-use Rattle.replica_core.specs.Journal.{arrived, AreApart}
+use Rattle.replica_core.specs.Journal.{arrived}
 use Rattle.site_shared.proofs.Spared.{take_arrived}
 use Rattle.site_shared.proofs.spares.caught_up.Goals as goal
 

@@ -1,4 +1,4 @@
-use Rattle.std.proofs.Common.{◌∙◌, ◌++◌, ap, take, drop}
+use Rattle.std.proofs.Common.{◌∙◌, ◌++◌, ap, take}
 use Rattle.std.proofs.lemmas.List.{take-append-drop}
 use Rattle.state_core.specs.State.{state_of}
 use Rattle.replica_core.proofs.gathering.Gathering.joined.Goals as goal

@@ -2,7 +2,6 @@ use Rattle.std.proofs.Common.{◌∙◌, ap, sym}
 use Rattle.std.specs.Prelude.{slice_get}
 use Rattle.std.specs.Option.{option_copied}
 use Rattle.chunk_list.specs.Ranks.{rank}
-use Rattle.review_ops.specs.Operation.{Operation}
 use Rattle.replica_core.specs.Lines.{ops_of}
 use Rattle.replica_core.specs.Searches.{is_below, passes_at}
 use Rattle.replica_core.proofs.Sought.{below_falls}

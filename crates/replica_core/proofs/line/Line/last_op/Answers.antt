@@ -2,7 +2,6 @@ use Rattle.std.proofs.Common.{◌∙◌, ◌-◌, length, ap, sym}
 use Rattle.std.specs.Prelude.{slice_get}
 use Rattle.std.specs.Option.{option_copied}
 use Rattle.std.proofs.lemmas.List.{length-map}
-use Rattle.review_ops.specs.Operation.{Operation}
 use Rattle.replica_core.specs.Lines.{ops_of, op_at}
 use Rattle.replica_core.proofs.Filed.{placed_op, placed_none}
 use Rattle.replica_core.proofs.line.Line.last_op.Goals as goal

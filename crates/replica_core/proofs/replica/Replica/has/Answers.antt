@@ -1,7 +1,7 @@
 use Rattle.std.proofs.Common.{◌∙◌, ap, sym, subst}
 use Rattle.std.specs.List.{Contains}
 use Rattle.replica_core.specs.Journal.{has}
-use Rattle.replica_core.specs.Lines.{ops_of, rows_of, IsFiled}
+use Rattle.replica_core.specs.Lines.{rows_of}
 use Rattle.replica_core.proofs.Filing.{has_row}
 use Rattle.replica_core.proofs.Lookups.{line_in, has_none}
 use Rattle.replica_core.proofs.replica.Replica.has.Goals as goal

@@ -1,6 +1,5 @@
-use Rattle.std.proofs.Common.{◌∙◌, ap, sym, subst}
+use Rattle.std.proofs.Common.{◌∙◌, ap}
 use Rattle.replica_core.specs.Clock.{greatest, seqs}
-use Rattle.replica_core.specs.Lines.{IsFiled}
 use Rattle.replica_core.proofs.LineLists.{no_seqs}
 use Rattle.replica_core.proofs.Lookups.{line_in}
 use Rattle.replica_core.proofs.replica.Replica.last_seq.Goals as goal

@@ -4,10 +4,10 @@ use Rattle.std.proofs.lemmas.List.{append-nil}
 use Rattle.std.proofs.lemmas.List.Elements.{All-head, All-tail, All-same}
 use Rattle.review_ops.specs.Operation.{Operation}
 use Rattle.replica_core.specs.Front.{reach_of}
-use Rattle.replica_core.specs.Lines.{ops_of, IsFiled, IsLine}
+use Rattle.replica_core.specs.Lines.{ops_of, IsLine}
 use Rattle.replica_core.specs.Missing.{IsMissing}
 use Rattle.replica_core.specs.Searches.{ops_past}
-use Rattle.replica_core.proofs.Lacking.{past, lacked, IsMissing-lines, stopped, gone_on, nothing_left}
+use Rattle.replica_core.proofs.Lacking.{lacked, IsMissing-lines, stopped, gone_on, nothing_left}
 use Rattle.replica_core.proofs.replica.Replica.missing.Goals as goal
 
 pub loop-line-init : goal.loop-line-init
