@@ -9,3 +9,4 @@ mod Patches
 mod Projects
 mod Texts
 mod Values
+mod LineCuts

@@ -1,13 +1,14 @@
 //! What the footers of a commit message depend on.
 
-ghost use Rattle.std.specs.Prelude.{◌≡◌, ◌≢◌, ℕ, ◌++◌, ◌∷◌, List, [], map, codes, IfOk, OnOk};
-ghost use Rattle.footer_text.specs.Lines.{IsFooter};
+ghost use Rattle.std.specs.Prelude.{◌≡◌, ◌≢◌, ◌<◌, ℕ, ◌++◌, ◌∷◌, List, [], map, codes, length, IfOk, MatchOption, OnOk};
+ghost use Rattle.footer_text.specs.Lines.{IsFooter, lines_of};
 ghost use Rattle.footer_text.specs.Readings.{IsNumberAndTail, ReadsAs, NamesChange};
 ghost use Rattle.footer_text.specs.Footers.{AreFooters, AreCollected};
 
 use super::bases::Bases;
 use super::footer::footer_value;
 use lattice_core::NoMemory;
+use memchr::memchr;
 use std::alloc::{Allocator, Global};
 
 /// What the footers of a message say.
@@ -35,12 +36,26 @@ pub fn depends<'m, A: Allocator + Copy>(
         needs: Vec::new(alloc),
         ignored: Vec::new(alloc),
     };
-    for line in message.split('\n') {
+    let mut rest = Some(message);
+    while let Some(text) = rest {
+        let (line, after) = first_line(text);
         add_line(bases, change, line, &mut found)?;
+        rest = after;
     }
     found.needs.sort_unstable();
     found.needs.dedup();
     Ok(found)
+}
+
+/// The first line of a text, and what follows its end.
+fn first_line(text: &str) -> (&str, Option<&str>)
+    ensures { MatchOption result.1 (lines_of text.now ≡ result.0.now ∷ [])
+        (λ rest. (lines_of text.now ≡ result.0.now ∷ lines_of rest.now) × (length rest.now < length text.now)) }
+{
+    match memchr(b'\n', text.as_bytes()) {
+        Some(end) => (&text[..end], Some(&text[end + 1..])),
+        None => (text, None),
+    }
 }
 
 /// Adds what a line names to what the lines before it named, with the needs in their order.

@@ -1,6 +1,6 @@
 //! Lines that are footers.
 
-ghost use Rattle.std.specs.Prelude.{◌≡◌, ℕ, ◌++◌, ◌∷◌, List, [], MatchOption};
+ghost use Rattle.std.specs.Prelude.{◌≡◌, ℕ, ◌++◌, ◌∷◌, List, [], MatchOption, false};
 ghost use Rattle.std.specs.List.{AllByRecursion};
 ghost use Rattle.footer_text.specs.Lines.{IsBlank, BeginsBare, EndsBare, HasBare, IsFooter};
 
@@ -10,11 +10,21 @@ pub fn footer_value(line: &str) -> Option<&str>
     ensures { MatchOption result ((value : List ℕ) → ¬ (IsFooter line.now value))
         (λ value. IsFooter line.now value.now) }
 {
+    if !begins_with_d(line) {
+        return None;
+    }
     let (word, rest) = line.split_once(':')?;
     if !word.eq_ignore_ascii_case("Depends-On") {
         return None;
     }
     Some(without_blanks(rest))
+}
+
+/// Whether a line begins with the first letter of a footer's word: of most lines nothing else is looked at.
+fn begins_with_d(line: &str) -> bool
+    ensures { result ≡ false → (value : List ℕ) → ¬ (IsFooter line.now value) }
+{
+    matches!(line.as_bytes().first(), Some(b'D' | b'd'))
 }
 
 /// The text without the blanks round it.

@@ -15,3 +15,6 @@ returns-then-not-eq_ignore_ascii_case c value footer =
     let parts = split_parts 58 c.args.line.now (Some (c.in_ok-word.word, c.in_ok-word.rest)) c.in_ok-word.ensures.cases (lit< tt) in
     let is_word : map to_ascii_lowercase c.in_ok-word.word.now ≡ codes "depends-on" = word_first _ _ _ value parts.0 (Lacks-by_index 58 _ parts.1) footer in
     search rules
+
+pub returns-then-not-begins_with_d : goal.returns-then-not-begins_with_d
+returns-then-not-begins_with_d c = c.begins_with_d.ensures (search rules)
