@@ -8,6 +8,7 @@ ghost use Rattle.state_core.specs.State.{state_of};
 
 use super::arrivals::{Arrivals, Iter};
 use super::arriving::{Later, arrive};
+use super::joining::Joining;
 use super::line::Line;
 use super::replica::Replica;
 use super::taken::Taken;
@@ -148,17 +149,14 @@ impl<A: Allocator + Copy> Gathering<A> {
             arrivals,
             lines,
             latest: _,
-            mut state,
+            state,
             joined,
             alloc,
         } = self;
         drop(lines);
         let mut arrivals = arrivals.into_vec(alloc)?;
-        consume_later(
-            &mut state,
-            alloc,
-            arrivals.as_mut_slice().split_at_mut(joined).1,
-        )?;
+        let came = arrivals.as_mut_slice().split_at_mut(joined).1;
+        let state = consume_later(state, alloc, came)?;
         Ok(state)
     }
 }
@@ -198,17 +196,19 @@ fn by_change<'a, A: Allocator + Copy>(
 
 /// Joins the effects of operations into the state of those before, change by change, with their texts.
 fn consume_later<A: Allocator + Copy>(
-    state: &mut State<A>,
+    state: State<A>,
     alloc: A,
     ops: &mut [Op<A>],
-) -> Result<(), NoMemory>
-    ensures { OnOk result ((before : List Operation) → state.old ≡ state_of before
-        → state.new ≡ state_of (before ++ ops.old)) }
+) -> Result<State<A>, NoMemory>
+    ensures { IfOk result (λ joined. (before : List Operation) → state ≡ state_of before
+        → joined ≡ state_of (before ++ ops.old)) }
 {
+    let mut joining = Joining::new(alloc, state, ops.len())?;
     for (_, op) in each_by_change(alloc, ops)? {
-        state.consume(taken_out(op))?;
+        joining.add(taken_out(op))?;
     }
-    Ok(())
+    let joined = joining.end()?;
+    Ok(joined)
 }
 
 /// Mutable references to the operations in the order of their changes.

@@ -25,6 +25,7 @@ mod clock;
 mod front;
 mod gapless;
 mod gathering;
+mod joining;
 mod laws;
 mod line;
 mod lines;

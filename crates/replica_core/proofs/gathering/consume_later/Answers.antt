@@ -11,8 +11,8 @@ loop-op-init g c = λ before is. is ∙ ap state_of (sym (append-nil before))
 
 pub loop-op-preserved : goal.loop-op-preserved
 loop-op-preserved g c = λ before is.
-    let came = c.in_ok-consume.ensures.ok ∙ ap (with_effect c.loop-op.state) c.taken_out.ensures in
-    state_of-more before (map (λ one. one.1.now) c.loop-op.yielded) c.in-Some.op.now c.loop-op.state c.consume.new.self (c.loop-op.invariant before is) came
+    let came = c.in_ok-add.ensures ∙ ap (with_effect c.loop-op.joining) c.taken_out.ensures in
+    state_of-more before (map (λ one. one.1.now) c.loop-op.yielded) c.in-Some.op.now c.loop-op.joining c.add.new.self (c.loop-op.invariant before is) came
     ∙ ap (λ l. state_of (before ++ l)) (sym (map-append (λ one. one.1.now) c.loop-op.yielded ((c.in-Some.field-0-0, c.in-Some.op) ∷ [])))
 
 pub returns : goal.returns
@@ -23,5 +23,5 @@ returns g c = λ before is.
     let whole = YieldsList-end yields c.loop-op.yielded c.loop-op.op-iterator c.loop-op.yielded_by c.next.result c.next.new.self c.in-None.is c.next.ensures.steps in
     let each : map (λ one. one.1.now) items ≡ map (λ one. one.1.now) c.loop-op.yielded =
     sym (ap (map (λ one. one.1.now)) (sym (map-id c.loop-op.yielded) ∙ whole.0)) in
-    c.loop-op.invariant before is ∙ ap (λ l. state_of (before ++ l)) (sym each)
+    c.in_ok-joined.ensures ∙ c.loop-op.invariant before (c.in_ok-joining.ensures ∙ is) ∙ ap (λ l. state_of (before ++ l)) (sym each)
     ∙ sym (state_of-permuted before c.args.ops.now (map (λ one. one.1.now) items) c.in_ok-items.ensures)

@@ -6,5 +6,5 @@ use Rattle.replica_core.proofs.gathering.consume_later.Given as goal
 
 -- the effects of those so far are joined
 abbrev pub invariant-loop-op : goal.invariant-loop-op
-invariant-loop-op g l = (before : List Operation) → l.initial.state ≡ state_of before
-    → l.state ≡ state_of (before ++ map (λ one. one.1.now) l.yielded)
+invariant-loop-op g l = (before : List Operation) → l.initial.joining ≡ state_of before
+    → l.joining ≡ state_of (before ++ map (λ one. one.1.now) l.yielded)
