@@ -10,3 +10,4 @@ abbrev pub AreSpares : List Operation → Spares → Type 0
 AreSpares journal spares =
     IfSome spares.previous (λ spare. IsFrontPart (arc_value spare) journal)
     × IfSome spares.older (λ spare. IsFrontPart (arc_value spare) journal)
+    × IfSome spares.reserve (λ spare. IsFrontPart spare journal)

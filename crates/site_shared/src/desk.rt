@@ -57,25 +57,33 @@ impl Desk {
     ghost use Rattle.site_shared.specs.Law.{head_of};
     ghost use Rattle.site_shared.specs.Publishes.{arrive};
     ghost use Rattle.site_shared.specs.Showing.{Goes};
+    ghost use Rattle.site_shared.specs.Spares.{AreSpares};
 
     /// The desk of a site that was just opened.
-    pub(crate) fn new(show: Show, head: Head, latest: Shown, site: u16, start: u32) -> Desk
+    pub(crate) fn new(
+        show: Show,
+        head: Head,
+        latest: Shown,
+        spares: Spares,
+        origin: (u16, u32),
+    ) -> Desk
         requires head { head ≡ head_of latest.sight.seen.book }
         requires shown { show.desk.shown.value.sight.seen ≡ latest.sight.seen }
         requires settled { drop show.behind show.log.items ≡ [] }
         requires opened { 0 < length latest.sight.seen.log }
-        ensures { result ≡ record { book = latest.sight.seen.book; published = latest.sight.seen.log; held = []; site = site; start = start } }
+        requires spares { AreSpares (arrive latest.sight.seen.log) spares }
+        ensures { result ≡ record { book = latest.sight.seen.book; published = latest.sight.seen.log; held = []; site = origin.0; start = origin.1 } }
     {
         let alloc = latest.replica.allocator();
         Desk {
             show,
             head,
             latest,
-            spares: Spares::new(),
+            spares,
             next: None,
             held: Vec::new(alloc),
-            site,
-            start,
+            site: origin.0,
+            start: origin.1,
         }
     }
 

@@ -5,6 +5,7 @@ ghost use Rattle.std.specs.List.{list_any};
 ghost use Rattle.left_right.specs.Sides.{view};
 ghost use Rattle.site_shared.specs.Accounts.{is_used, watching};
 ghost use Rattle.site_shared.specs.Law.{head_of};
+ghost use Rattle.site_shared.specs.Spares.{AreSpares};
 ghost use Rattle.site_shared.specs.declared.fault.OpenFault.TheVariants.{StartUsed};
 
 use crate::desk::Desk;
@@ -13,6 +14,7 @@ use crate::law::Opens;
 use crate::showing::Show;
 use crate::shown::Shown;
 use crate::sight::{Head, Opened, Sight};
+use crate::spares::Spares;
 use crate::stage::shown_by;
 use crate::window::Window;
 use lattice_core::NoMemory;
@@ -21,8 +23,8 @@ use std::alloc::Global;
 use std::sync::{Arc, Wait};
 
 /// Opens a site over a replica, with one desk and so many windows. Where the replica holds a stamp of the site under
-/// this start or a later one it answers `StartUsed`, before all else. Copies of the replica share what it has. Walks the journal
-/// once.
+/// this start or a later one it answers `StartUsed`, before all else. Copies of the replica share what it has; those
+/// that its first publishes need are made here. It costs O(n) for n operations.
 pub fn open_site<R: Wait>(
     rt: &R,
     site: u16,
@@ -41,14 +43,14 @@ pub fn open_site<R: Wait>(
         return Err(OpenFault::StartUsed);
     }
     let alloc = replica.allocator();
-    let Ok((head, latest)) = opening(alloc, replica) else {
+    let Ok((head, latest, spares)) = opening(alloc, replica) else {
         return Err(OpenFault::NoMemory);
     };
     let Ok(mut show) = shown_first(rt, alloc, windows, &latest) else {
         return Err(OpenFault::NoMemory);
     };
     match new_windows(alloc, &mut show, &latest.sight, (site, start), windows) {
-        Ok(made) => Ok((Desk::new(show, head, latest, site, start), made)),
+        Ok(made) => Ok((Desk::new(show, head, latest, spares, (site, start)), made)),
         Err(fault) => {
             drop(show.take(rt));
             Err(fault)
@@ -63,18 +65,20 @@ fn is_start_used(mut ops: Iter<'_>, site: u16, start: u32) -> bool
     ops.any(|op| op.stamp().site() == site && start <= op.stamp().start())
 }
 
-/// The list of publishes, which begins with a journal, and the replica that has it.
-fn opening(alloc: Global, mut replica: Replica) -> Result<(Head, Shown), NoMemory>
+/// The list of publishes, which begins with a journal, the replica that has it, and copies of that.
+fn opening(alloc: Global, mut replica: Replica) -> Result<(Head, Shown, Spares), NoMemory>
     ensures { IfOk result
-        (λ opened. (opened.0 ≡ head_of opened.1.sight.seen.book) × (opened.1.sight.seen.log ≡ replica ∷ [])) }
+        (λ opened. (opened.0 ≡ head_of opened.1.sight.seen.book) × (opened.1.sight.seen.log ≡ replica ∷ [])
+        × AreSpares replica opened.2) }
 {
     replica.share()?;
     let Opened { head, sight } = Opened::new();
     let Some(sight) = sight.with::<Replica, Opens>(&head, &replica) else {
         return Err(NoMemory);
     };
+    let spares = Spares::of(alloc, &replica)?;
     let replica = Arc::new(alloc, replica)?;
-    Ok((head, Shown { replica, sight }))
+    Ok((head, Shown { replica, sight }, spares))
 }
 
 /// Shows a replica to readers that don't exist yet. It is published once, so that there is room for later publishes.

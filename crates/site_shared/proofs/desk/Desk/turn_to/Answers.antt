@@ -36,6 +36,8 @@ invariant_of-self g c =
             (subst (λ j. IsFrontPart j more) (sym old_replica) (front_part (arrive before.log) held)),
         subst (λ o. IfSome o (λ s. IsFrontPart (arc_value s) more)) (sym c.put_aside.ensures.1)
             (spare_on (λ s. arc_value s) desk.spares.previous (arrive before.log) held c.self.invariant.spares.0),
+        subst (λ o. IfSome o (λ s. IsFrontPart s more)) (sym c.put_aside.ensures.2)
+            (spare_on (λ s. s) desk.spares.reserve (arrive before.log) held c.self.invariant.spares.2),
       );
       next = subst (λ j. IfSome desk.next (λ n. n ≡ j)) (sym journal ∙ ap (all_arrived (arrive after.sight.seen.log)) (sym c.clear.ensures.items)) c.self.invariant.next;
       opened = let e : length after.sight.seen.log ≡ length (before.log ++ held ∷ []) = ap length log in omega
