@@ -1,7 +1,8 @@
 //! The server over sockets of this machine.
 
 use super::shelf::{LONG, Shelf};
-use page_server::{open_door, open_socket_door, serve_pages};
+use mio::Waker;
+use page_server::{Door, open_door, open_socket_door, serve_pages};
 use site_net::Stop;
 use std::alloc::Global;
 use std::io::{Read, Write};
@@ -10,12 +11,14 @@ use std::os::unix::net::{UnixListener, UnixStream};
 use std::random::RandomSource;
 use std::rt::Files;
 use std::sync::Wait;
-use std::test::Fail;
 use std::thread::Threads;
 use std::time::{Clock, Duration, Instant};
 use std::{fs, io, thread};
 
 const ASK: &str = "GET /healthz HTTP/1.1\r\nHost: localhost\r\nConnection: close\r\n\r\n";
+
+/// Where the server has its Unix socket.
+const SOCKET: &str = "./door.tmp";
 
 /// How many clients are silent: more than the server keeps.
 const SILENT: usize = 300;
@@ -33,84 +36,189 @@ enum Client {
     Deaf,
     /// It is many who are silent, and then one who asks.
     Crowd,
+    /// It asks over the Unix socket.
+    Near,
+}
+
+/// A server that can be begun, and its port, if it has one.
+#[derive(Drop)]
+struct Opened {
+    door: Door,
+    waker: Waker,
+    port: u16,
+}
+
+/// A connection to a port, whose reads wait for 20 seconds at most.
+fn patient<R: Net<Stream = TcpStream>>(rt: &R, port: u16) -> io::Result<TcpStream> {
+    let stream = TcpStream::connect(rt, ("127.0.0.1", port))?;
+    match stream.set_read_timeout(Some(Duration::from_secs(20))) {
+        Ok(()) => Ok(stream),
+        Err(error) => Err(error),
+    }
 }
 
 /// A client that sends this and waits.
 fn stall<R: Net<Stream = TcpStream>>(rt: &R, port: u16, sent: &str) -> io::Result<TcpStream> {
-    let mut stream = TcpStream::connect(rt, ("127.0.0.1", port))?;
-    stream.set_read_timeout(Some(Duration::from_secs(20)))?;
-    stream.write_all(sent.as_bytes())?;
-    Ok(stream)
+    let mut stream = patient(rt, port)?;
+    match stream.write_all(sent.as_bytes()) {
+        Ok(()) => Ok(stream),
+        Err(error) => Err(error),
+    }
+}
+
+/// Whether what comes until the end begins and ends so.
+fn comes<S: Read + Drop>(alloc: Global, stream: S, begin: &str, end: &str) -> bool {
+    match io::read_to_string(alloc, stream) {
+        Ok(text) => text.as_str().starts_with(begin) && text.as_str().ends_with(end),
+        Err(_) => false,
+    }
+}
+
+/// Whether a page comes.
+fn page_comes<S: Read + Drop>(alloc: Global, stream: S) -> bool {
+    comes(alloc, stream, "HTTP/1.1 200 OK\r\n", "\r\n\r\nok\n")
 }
 
 /// Whether a client that asks, and ends its side then, is answered.
-fn is_answered<R: Net<Stream = TcpStream>>(rt: &R, alloc: Global, port: u16) -> io::Result<bool> {
-    let stream = stall(rt, port, ASK)?;
-    stream.shutdown(Shutdown::Write)?;
-    let text = io::read_to_string(alloc, stream)?;
-    Ok(text.as_str().starts_with("HTTP/1.1 200 OK\r\n") && text.as_str().ends_with("\r\n\r\nok\n"))
+fn is_answered<R: Net<Stream = TcpStream>>(rt: &R, alloc: Global, port: u16) -> bool {
+    match stall(rt, port, ASK) {
+        Ok(stream) => is_half_answered(alloc, stream),
+        Err(_) => false,
+    }
+}
+
+/// Whether a client that has asked, and ends its side now, is answered.
+fn is_half_answered(alloc: Global, stream: TcpStream) -> bool {
+    let is_ended = stream.shutdown(Shutdown::Write).is_ok();
+    page_comes(alloc, stream) && is_ended
 }
 
 /// Whether others are answered while a client stops in its request, and that one too once it goes on.
-fn is_slow_answered<R: Net<Stream = TcpStream>>(
-    rt: &R,
-    alloc: Global,
-    port: u16,
-) -> io::Result<bool> {
-    let (first, rest) = (
-        "GET /heal",
-        "thz HTTP/1.1\r\nHost: localhost\r\nConnection: close\r\n\r\n",
-    );
-    let mut slow = stall(rt, port, first)?;
-    let other = is_answered(rt, alloc, port)?;
-    slow.write_all(rest.as_bytes())?;
-    let text = io::read_to_string(alloc, slow)?;
-    Ok(other && text.as_str().ends_with("\r\n\r\nok\n"))
+fn is_slow_answered<R: Net<Stream = TcpStream>>(rt: &R, alloc: Global, port: u16) -> bool {
+    match stall(rt, port, "GET /heal") {
+        Ok(slow) => goes_on(alloc, slow, is_answered(rt, alloc, port)),
+        Err(_) => false,
+    }
+}
+
+/// Whether others were answered, and so is a client that goes on now.
+fn goes_on(alloc: Global, slow: TcpStream, others: bool) -> bool {
+    let mut slow = slow;
+    let rest = "thz HTTP/1.1\r\nHost: localhost\r\nConnection: close\r\n\r\n";
+    let is_sent = slow.write_all(rest.as_bytes()).is_ok();
+    page_comes(alloc, slow) && is_sent && others
 }
 
 /// Whether a client that stops in its request for good is left after about ten seconds.
-fn is_stuck_left<R: Net<Stream = TcpStream> + Clock>(
-    rt: &R,
-    alloc: Global,
-    port: u16,
-) -> io::Result<bool> {
-    let began = Instant::now(rt)?;
-    let stuck = stall(rt, port, "GET /heal")?;
-    let text = io::read_to_string(alloc, stuck)?;
-    let waited = began.elapsed(rt)?.as_millis();
-    Ok(text.as_str().is_empty() && 9_000 < waited && waited < 30_000)
+fn is_stuck_left<R: Net<Stream = TcpStream> + Clock>(rt: &R, alloc: Global, port: u16) -> bool {
+    match Instant::now(rt) {
+        Ok(began) => is_stuck_ended(rt, alloc, port) && is_about_ten(began.elapsed(rt)),
+        Err(_) => false,
+    }
+}
+
+/// Whether a client that stops in its request for good gets nothing to the end.
+fn is_stuck_ended<R: Net<Stream = TcpStream>>(rt: &R, alloc: Global, port: u16) -> bool {
+    match stall(rt, port, "GET /heal") {
+        Ok(stuck) => is_empty(io::read_to_string(alloc, stuck)),
+        Err(_) => false,
+    }
+}
+
+/// Whether a text was read that is empty.
+fn is_empty(text: io::Result<String>) -> bool {
+    match text {
+        Ok(text) => text.as_str().is_empty(),
+        Err(_) => false,
+    }
+}
+
+/// Whether it took about ten seconds.
+fn is_about_ten(waited: io::Result<Duration>) -> bool {
+    match waited {
+        Ok(waited) => 9_000 < waited.as_millis() && waited.as_millis() < 30_000,
+        Err(_) => false,
+    }
 }
 
 /// Whether others are answered while a client doesn't read its long page, and that one has it whole at the end.
-fn is_deaf_served<R: Net<Stream = TcpStream>>(
+fn is_deaf_served<R: Net<Stream = TcpStream>>(rt: &R, alloc: Global, port: u16) -> bool {
+    let sent = "GET /metrics HTTP/1.1\r\nHost: localhost\r\nConnection: close\r\n\r\n";
+    match stall(rt, port, sent) {
+        Ok(deaf) => {
+            let others = is_answered(rt, alloc, port);
+            is_long(io::read_to_string(alloc, deaf)) && others
+        }
+        Err(_) => false,
+    }
+}
+
+/// Whether a text was read that has the whole long page.
+fn is_long(text: io::Result<String>) -> bool {
+    match text {
+        Ok(text) => text.len() > LONG && text.as_str().ends_with("mmmm"),
+        Err(_) => false,
+    }
+}
+
+/// Many clients who are silent.
+fn crowd<R: Net<Stream = TcpStream>>(
     rt: &R,
     alloc: Global,
     port: u16,
-) -> io::Result<bool> {
-    let sent = "GET /metrics HTTP/1.1\r\nHost: localhost\r\nConnection: close\r\n\r\n";
-    let deaf = stall(rt, port, sent)?;
-    let other = is_answered(rt, alloc, port)?;
-    let text = io::read_to_string(alloc, deaf)?;
-    Ok(other && text.len() > LONG && text.as_str().ends_with("mmmm"))
+) -> io::Result<Vec<TcpStream>> {
+    let mut crowd = Vec::new(alloc);
+    for _ in 0..SILENT {
+        let silent = stall(rt, port, "")?;
+        crowd.push(silent)?;
+    }
+    Ok(crowd)
 }
 
 /// Whether a client is answered beside a silent crowd, of which the first were left for the last.
-fn is_crowd_beaten<R: Net<Stream = TcpStream>>(
-    rt: &R,
-    alloc: Global,
-    port: u16,
-) -> io::Result<bool> {
-    let mut crowd = Vec::new(alloc);
-    for _ in 0..SILENT {
-        crowd.push(stall(rt, port, "")?)?;
+fn is_crowd_beaten<R: Net<Stream = TcpStream>>(rt: &R, alloc: Global, port: u16) -> bool {
+    match crowd(rt, alloc, port) {
+        Ok(crowd) => is_first_left(crowd, is_answered(rt, alloc, port)),
+        Err(_) => false,
     }
-    let answered = is_answered(rt, alloc, port)?;
-    let mut byte = [0u8];
-    let left = match crowd.first_mut() {
-        Some(first) => matches!(first.read(&mut byte), Ok(0) | Err(_)),
+}
+
+/// Whether others were answered, and the first of a crowd was left.
+fn is_first_left(crowd: Vec<TcpStream>, others: bool) -> bool {
+    let mut crowd = crowd;
+    match crowd.first_mut() {
+        Some(first) => is_left(first) && others,
         None => false,
-    };
-    Ok(answered && left)
+    }
+}
+
+/// Whether nothing more comes.
+fn is_left(stream: &mut TcpStream) -> bool {
+    let mut byte = [0u8];
+    matches!(stream.read(&mut byte), Ok(0) | Err(_))
+}
+
+/// Whether a client is answered over the Unix socket.
+fn is_near_answered<R: Net>(rt: &R, alloc: Global) -> bool {
+    match near(rt) {
+        Ok(stream) => page_comes(alloc, stream),
+        Err(_) => false,
+    }
+}
+
+/// A client that has asked over the Unix socket, whose reads wait for 20 seconds at most.
+fn near<R: Net>(rt: &R) -> io::Result<UnixStream> {
+    let mut stream = UnixStream::connect(rt, SOCKET)?;
+    match asks(&mut stream) {
+        Ok(()) => Ok(stream),
+        Err(error) => Err(error),
+    }
+}
+
+/// Asks over the Unix socket.
+fn asks(stream: &mut UnixStream) -> io::Result<()> {
+    stream.set_read_timeout(Some(Duration::from_secs(20)))?;
+    stream.write_all(ASK.as_bytes())
 }
 
 /// Whether a client is served as it has to be.
@@ -119,18 +227,61 @@ fn is_served<R: Net<Stream = TcpStream> + Clock>(
     alloc: Global,
     port: u16,
     client: Client,
-) -> io::Result<bool> {
+) -> bool {
     match client {
         Client::Half => is_answered(rt, alloc, port),
         Client::Slow => is_slow_answered(rt, alloc, port),
         Client::Stuck => is_stuck_left(rt, alloc, port),
         Client::Deaf => is_deaf_served(rt, alloc, port),
         Client::Crowd => is_crowd_beaten(rt, alloc, port),
+        Client::Near => is_near_answered(rt, alloc),
     }
 }
 
+/// A server at a port.
+fn at_port<R>(rt: &R) -> io::Result<Opened>
+where
+    R: Net<Listener = TcpListener, Stream = TcpStream> + RandomSource,
+{
+    let listener = TcpListener::bind(rt, ("127.0.0.1", 0))?;
+    let port = listener.local_addr()?.port();
+    let (door, waker) = open_door(rt, listener)?;
+    Ok(Opened { door, waker, port })
+}
+
+/// A server at the Unix socket.
+fn at_socket<R: Net + Files + RandomSource>(rt: &R) -> io::Result<Opened> {
+    let listener = UnixListener::bind(rt, SOCKET)?;
+    let (door, waker) = open_socket_door(rt, listener)?;
+    Ok(Opened {
+        door,
+        waker,
+        port: 0,
+    })
+}
+
 /// Runs a server and a client beside it: whether that was served as it has to be, and the server ended well at once.
-fn serves<R>(rt: &R, alloc: Global, client: Client) -> io::Result<bool>
+fn serves_beside<R>(rt: &R, alloc: Global, opened: Opened, client: Client) -> bool
+where
+    R: Net<Stream = TcpStream> + Threads + Wait + Clock + Sync,
+{
+    let Opened { door, waker, port } = opened;
+    let stop = Stop::new();
+    let (ended, served) = thread::join(
+        rt,
+        || serve_pages(rt, alloc, door, &[], &stop, Shelf::new(alloc)).is_ok(),
+        || {
+            let served = is_served(rt, alloc, port, client);
+            stop.ask(rt);
+            let _woken = waker.wake();
+            served
+        },
+    );
+    ended && served
+}
+
+/// Runs a server at a port and a client beside it, as `serves_beside` does.
+fn serves<R>(rt: &R, alloc: Global, client: Client) -> bool
 where
     R: Net<Listener = TcpListener, Stream = TcpStream>
         + Threads
@@ -139,105 +290,56 @@ where
         + Sync
         + RandomSource,
 {
-    let listener = TcpListener::bind(rt, ("127.0.0.1", 0))?;
-    let port = listener.local_addr()?.port();
-    let (door, waker) = open_door(rt, listener)?;
-    let stop = Stop::new();
-    let (ended, served) = thread::join(
-        rt,
-        || serve_pages(rt, alloc, door, &[], &stop, Shelf::new(alloc)),
-        || {
-            let served = is_served(rt, alloc, port, client);
-            stop.ask(rt);
-            let _woken = waker.wake();
-            served
-        },
-    );
-    Ok(ended.is_ok() && served?)
+    match at_port(rt) {
+        Ok(opened) => serves_beside(rt, alloc, opened, client),
+        Err(_) => false,
+    }
 }
 
-#[test]
-fn a_half_open_client_is_answered(rt: HostRuntime) -> Result<(), Fail> {
-    let is_served = serves(&rt, rt.alloc(), Client::Half)?;
-    assert!(rt; is_served);
-    Ok(())
-}
-
-#[test]
-fn a_slow_client_holds_nobody_up(rt: HostRuntime) -> Result<(), Fail> {
-    let is_served = serves(&rt, rt.alloc(), Client::Slow)?;
-    assert!(rt; is_served);
-    Ok(())
-}
-
-#[test]
-fn a_stuck_client_is_left(rt: HostRuntime) -> Result<(), Fail> {
-    let is_served = serves(&rt, rt.alloc(), Client::Stuck)?;
-    assert!(rt; is_served);
-    Ok(())
-}
-
-#[test]
-fn a_client_that_does_not_read_holds_nobody_up(rt: HostRuntime) -> Result<(), Fail> {
-    let is_served = serves(&rt, rt.alloc(), Client::Deaf)?;
-    assert!(rt; is_served);
-    Ok(())
-}
-
-#[test]
-fn a_silent_crowd_holds_nobody_up(rt: HostRuntime) -> Result<(), Fail> {
-    let is_served = serves(&rt, rt.alloc(), Client::Crowd)?;
-    assert!(rt; is_served);
-    Ok(())
-}
-
-/// What a client is answered over a Unix socket.
-fn answer_at<R: Net>(rt: &R, alloc: Global, path: &str) -> io::Result<String> {
-    let mut stream = UnixStream::connect(rt, path)?;
-    stream.set_read_timeout(Some(Duration::from_secs(20)))?;
-    stream.write_all(ASK.as_bytes())?;
-    io::read_to_string(alloc, stream)
-}
-
-/// Runs a server over a Unix socket and a client beside it: what that is answered, if the server ended well.
-fn answered_at<R>(rt: &R, alloc: Global, path: &str) -> io::Result<Option<String>>
+/// Runs a server at the Unix socket and a client beside it, as `serves_beside` does.
+fn serves_near<R>(rt: &R, alloc: Global) -> bool
 where
-    R: Net + Files + Threads + Wait + Clock + Sync + RandomSource,
+    R: Net<Stream = TcpStream> + Files + Threads + Wait + Clock + Sync + RandomSource,
 {
-    let listener = UnixListener::bind(rt, path)?;
-    let (door, waker) = open_socket_door(rt, listener)?;
-    let stop = Stop::new();
-    let (ended, answer) = thread::join(
-        rt,
-        || serve_pages(rt, alloc, door, &[], &stop, Shelf::new(alloc)),
-        || {
-            let answer = answer_at(rt, alloc, path);
-            stop.ask(rt);
-            let _woken = waker.wake();
-            answer
-        },
-    );
-    fs::remove_file(rt, path)?;
-    match ended {
-        Ok(()) => Ok(Some(answer?)),
-        Err(_) => Ok(None),
-    }
-}
-
-/// Whether an answer is that of a page that is there.
-fn is_page(answer: &Option<String>) -> bool {
-    match answer {
-        Some(answer) => {
-            answer.as_str().starts_with("HTTP/1.1 200 OK\r\n")
-                && answer.as_str().ends_with("\r\n\r\nok\n")
-        }
-        None => false,
-    }
+    let is_served = match at_socket(rt) {
+        Ok(opened) => serves_beside(rt, alloc, opened, Client::Near),
+        Err(_) => false,
+    };
+    fs::remove_file(rt, SOCKET).is_ok() && is_served
 }
 
 #[test]
-fn a_client_is_answered_over_a_socket(rt: HostRuntime) -> Result<(), Fail> {
-    let answer = answered_at(&rt, rt.alloc(), "./door.tmp")?;
-    assert!(rt; is_page(&answer));
-    Ok(())
+fn a_half_open_client_is_answered(rt: HostRuntime) {
+    let is_served = serves(&rt, rt.alloc(), Client::Half);
+    assert!(rt; is_served);
+}
+
+#[test]
+fn a_slow_client_holds_nobody_up(rt: HostRuntime) {
+    let is_served = serves(&rt, rt.alloc(), Client::Slow);
+    assert!(rt; is_served);
+}
+
+#[test]
+fn a_stuck_client_is_left(rt: HostRuntime) {
+    let is_served = serves(&rt, rt.alloc(), Client::Stuck);
+    assert!(rt; is_served);
+}
+
+#[test]
+fn a_client_that_does_not_read_holds_nobody_up(rt: HostRuntime) {
+    let is_served = serves(&rt, rt.alloc(), Client::Deaf);
+    assert!(rt; is_served);
+}
+
+#[test]
+fn a_silent_crowd_holds_nobody_up(rt: HostRuntime) {
+    let is_served = serves(&rt, rt.alloc(), Client::Crowd);
+    assert!(rt; is_served);
+}
+
+#[test]
+fn a_client_is_answered_over_a_socket(rt: HostRuntime) {
+    let is_served = serves_near(&rt, rt.alloc());
+    assert!(rt; is_served);
 }

@@ -6,20 +6,19 @@ use page_routes::{Choice, Reason, Shown};
 use page_text::{ROWS, Row, chosen_rows, pages_are_the_report, rows_of};
 use ready_core::{Verdicts, evaluate};
 use state_core::{Item, State};
-use std::alloc::Global;
-use std::test::Fail;
+use std::alloc::{AllocError, Global};
 
 /// Verdicts that so many changes are ready.
-fn many(alloc: Global, items: u32) -> Result<Verdicts, Fail> {
+fn many(alloc: Global, items: u32) -> Option<Verdicts> {
     let mut ready = Vec::new(alloc);
     for change in 0..items {
-        ready.push(Item { change, set: 1 })?;
+        ready.push(Item { change, set: 1 }).ok()?;
     }
-    Ok(Verdicts::new(ready, Vec::new(alloc)))
+    Some(Verdicts::new(ready, Vec::new(alloc)))
 }
 
 /// How many rows this page of the list of so many items has, and the place of its first one.
-fn page(alloc: Global, items: u32, number: u32) -> Result<(usize, usize), Fail> {
+fn page(alloc: Global, items: u32, number: u32) -> Option<(usize, usize)> {
     let verdicts = many(alloc, items)?;
     let state = State::new(alloc);
     let choice = Choice {
@@ -29,8 +28,8 @@ fn page(alloc: Global, items: u32, number: u32) -> Result<(usize, usize), Fail> 
         page: number,
     };
     match chosen_rows(alloc, &state, &verdicts, &choice) {
-        Ok(rows) => Ok(on_page(rows.as_slice(), number)),
-        Err(error) => Err(Fail::from(error)),
+        Ok(rows) => Some(on_page(rows.as_slice(), number)),
+        Err(_) => None,
     }
 }
 
@@ -54,15 +53,25 @@ const PAGES: [(u32, usize, usize); 6] = [
     (u32::MAX, 0, 0),
 ];
 
-#[test]
-fn a_page_has_a_hundred_rows(rt: HostRuntime) -> Result<(), Fail> {
+/// Whether a page of 250 items has so many rows, the first one at this place.
+fn is_paged(alloc: Global, number: u32, rows: usize, first: usize) -> bool {
+    page(alloc, 250, number) == Some((rows, first))
+}
+
+/// Whether each of those pages is so.
+fn are_paged(alloc: Global) -> bool {
     let mut are_so = ROWS == 100;
     for (number, rows, first) in PAGES {
-        are_so = page(rt.alloc(), 250, number)? == (rows, first) && are_so;
+        are_so = is_paged(alloc, number, rows, first) && are_so;
     }
-    assert!(rt; are_so);
+    are_so
+}
+
+#[test]
+fn a_page_has_a_hundred_rows(rt: HostRuntime) {
+    let are_paged = are_paged(rt.alloc());
+    assert!(rt; are_paged);
     pages_are_the_report();
-    Ok(())
 }
 
 /// The numbers of the changes that a choice has, one after the other, with a blank behind each.
@@ -71,9 +80,9 @@ fn chosen(
     shown: Shown,
     reason: Option<Reason>,
     words: Option<&str>,
-) -> Result<String, Fail> {
+) -> Option<String> {
     let words = match words {
-        Some(words) => Some(String::from_str(alloc, words)?),
+        Some(words) => Some(String::from_str(alloc, words).ok()?),
         None => None,
     };
     let choice = Choice {
@@ -86,28 +95,28 @@ fn chosen(
 }
 
 /// The same of a choice as it is.
-fn chosen_by(alloc: Global, choice: &Choice) -> Result<String, Fail> {
+fn chosen_by(alloc: Global, choice: &Choice) -> Option<String> {
     let gate = gate(alloc)?;
     chosen_under(alloc, choice, &gate)
 }
 
 /// The same under a gate.
-fn chosen_under(alloc: Global, choice: &Choice, gate: &Gate) -> Result<String, Fail> {
+fn chosen_under(alloc: Global, choice: &Choice, gate: &Gate) -> Option<String> {
     let replica = replica(alloc)?;
     chosen_in(alloc, choice, gate, replica.state())
 }
 
 /// The same in a state.
-fn chosen_in(alloc: Global, choice: &Choice, gate: &Gate, state: &State) -> Result<String, Fail> {
-    let verdicts = evaluate(alloc, state, gate)?;
+fn chosen_in(alloc: Global, choice: &Choice, gate: &Gate, state: &State) -> Option<String> {
+    let verdicts = evaluate(alloc, state, gate).ok()?;
     match chosen_rows(alloc, state, &verdicts, choice) {
-        Ok(rows) => changes_of(alloc, rows.as_slice()),
-        Err(error) => Err(Fail::from(error)),
+        Ok(rows) => changes_of(alloc, rows.as_slice()).ok(),
+        Err(_) => None,
     }
 }
 
 /// The numbers of the changes of rows.
-fn changes_of(alloc: Global, rows: &[Row]) -> Result<String, Fail> {
+fn changes_of(alloc: Global, rows: &[Row]) -> Result<String, AllocError> {
     let mut text = String::new(alloc);
     for row in rows {
         let change = row.item().change;
@@ -131,13 +140,31 @@ const CHOICES: [(Shown, Option<Reason>, Option<&str>, &str); 11] = [
     (Shown::All, None, Some("squeaks"), ""),
 ];
 
-#[test]
-fn lists_have_what_is_asked_for(rt: HostRuntime) -> Result<(), Fail> {
+/// Whether a choice has these changes.
+fn is_chosen(
+    alloc: Global,
+    shown: Shown,
+    reason: Option<Reason>,
+    words: Option<&str>,
+    changes: &str,
+) -> bool {
+    match chosen(alloc, shown, reason, words) {
+        Some(found) => found.as_str() == changes,
+        None => false,
+    }
+}
+
+/// Whether each of those choices has its changes.
+fn are_chosen(alloc: Global) -> bool {
     let mut are_so = true;
     for (shown, reason, words, changes) in CHOICES {
-        let found = chosen(rt.alloc(), shown, reason, words)?;
-        are_so = found.as_str() == changes && are_so;
+        are_so = is_chosen(alloc, shown, reason, words, changes) && are_so;
     }
-    assert!(rt; are_so);
-    Ok(())
+    are_so
+}
+
+#[test]
+fn lists_have_what_is_asked_for(rt: HostRuntime) {
+    let are_chosen = are_chosen(rt.alloc());
+    assert!(rt; are_chosen);
 }

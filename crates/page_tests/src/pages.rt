@@ -2,8 +2,7 @@
 
 use super::record::shows;
 use page_routes::{Choice, Kind, Place, Route, Shown, Status};
-use std::alloc::{AllocError, Global};
-use std::test::Fail;
+use std::alloc::Global;
 
 /// What each page has before its title, between that and its own part, and after that.
 const BEFORE_TITLE: &str = r#"<!DOCTYPE html>
@@ -25,16 +24,10 @@ const AFTER_TITLE: &str = r#"</title>
 
 const END: &str = "</main>\n</body>\n</html>\n";
 
-/// Whether the page at a route has this status, this title and this part of its own.
-fn is_page(
-    alloc: Global,
-    route: &Route,
-    status: Status,
-    title: &str,
-    main: &str,
-) -> Result<bool, Fail> {
-    let text = format!(in alloc; "{BEFORE_TITLE}{title}{AFTER_TITLE}{main}{END}")?;
-    shows(alloc, route, status, Kind::Html, text.as_str())
+/// Whether what is asked for is shown as a page with this status, this title and this part of its own.
+fn is_page(alloc: Global, route: &Route, status: Status, title: &str, main: &str) -> bool {
+    let parts = [BEFORE_TITLE, title, AFTER_TITLE, main, END];
+    shows(alloc, route, status, Kind::Html, &parts)
 }
 
 /// What differs from list to list: the words that are searched for, the kinds of items, how the caption begins, the rows,
@@ -93,30 +86,27 @@ const HEAD: &str = r#" items in all</caption>
 
 const LINKS: &str = "</tbody>\n</table>\n<nav aria-label=\"Pages\">\n";
 
-/// The own part of the page of a list.
-fn main_of(alloc: Global, list: &List) -> Result<String, AllocError> {
-    let List {
-        words,
-        kinds,
-        caption,
-        rows,
-        links,
-    } = list;
-    format!(in alloc;
-        "{FORM}{words}{KINDS}{kinds}{NEWS}{caption}{HEAD}{rows}{LINKS}{links}</nav>\n</div>\n"
-    )
-}
-
 /// Whether what is asked for is shown as this list.
-fn is_list(alloc: Global, choice: Choice, list: &List) -> Result<bool, Fail> {
-    let main = main_of(alloc, list)?;
-    is_page(
-        alloc,
-        &Route::List(choice),
-        Status::Found,
+fn is_list(alloc: Global, choice: Choice, list: List) -> bool {
+    let parts = [
+        BEFORE_TITLE,
         "Items",
-        main.as_str(),
-    )
+        AFTER_TITLE,
+        FORM,
+        list.words,
+        KINDS,
+        list.kinds,
+        NEWS,
+        list.caption,
+        HEAD,
+        list.rows,
+        LINKS,
+        list.links,
+        "</nav>\n</div>\n",
+        END,
+    ];
+    let route = Route::List(choice);
+    shows(alloc, &route, Status::Found, Kind::Html, &parts)
 }
 
 /// The list of the open items.
@@ -132,16 +122,15 @@ const LIST: List = List {
 };
 
 #[test]
-fn the_list_shows_open_items_and_why_they_wait(rt: HostRuntime) -> Result<(), Fail> {
+fn the_list_shows_open_items_and_why_they_wait(rt: HostRuntime) {
     let open = Choice {
         shown: Shown::Open,
         reason: None,
         words: None,
         page: 1,
     };
-    let is_shown = is_list(rt.alloc(), open, &LIST)?;
+    let is_shown = is_list(rt.alloc(), open, LIST);
     assert!(rt; is_shown);
-    Ok(())
 }
 
 /// The second page of a list that has one.
@@ -154,17 +143,28 @@ const SECOND: List = List {
 "#,
 };
 
-#[test]
-fn what_is_searched_for_stays_in_the_form_and_in_links(rt: HostRuntime) -> Result<(), Fail> {
-    let second = Choice {
+/// Whether a list in which these words are searched for is shown as that.
+fn is_second(alloc: Global, words: &str) -> bool {
+    match String::from_str(alloc, words) {
+        Ok(words) => is_list(alloc, second_of(words), SECOND),
+        Err(_) => false,
+    }
+}
+
+/// The second page of all items that have these words.
+fn second_of(words: String) -> Choice {
+    Choice {
         shown: Shown::All,
         reason: None,
-        words: Some(String::from_str(rt.alloc(), "A\"b")?),
+        words: Some(words),
         page: 2,
-    };
-    let is_shown = is_list(rt.alloc(), second, &SECOND)?;
+    }
+}
+
+#[test]
+fn what_is_searched_for_stays_in_the_form_and_in_links(rt: HostRuntime) {
+    let is_shown = is_second(rt.alloc(), "A\"b");
     assert!(rt; is_shown);
-    Ok(())
 }
 
 /// The own part of the page of an item that waits for another one.
@@ -283,7 +283,7 @@ fn change_route(change: u32, set: Option<u32>) -> Route {
 }
 
 #[test]
-fn a_change_shows_what_it_waits_for(rt: HostRuntime) -> Result<(), Fail> {
+fn a_change_shows_what_it_waits_for(rt: HostRuntime) {
     let current = change_route(102, None);
     let is_shown = is_page(
         rt.alloc(),
@@ -291,23 +291,20 @@ fn a_change_shows_what_it_waits_for(rt: HostRuntime) -> Result<(), Fail> {
         Status::Found,
         "Change 102,1: Open",
         WAITING,
-    )?;
+    );
     assert!(rt; is_shown);
-    Ok(())
 }
 
 #[test]
-fn a_hostile_subject_is_a_text(rt: HostRuntime) -> Result<(), Fail> {
+fn a_hostile_subject_is_a_text(rt: HostRuntime) {
     let named = change_route(103, Some(2));
-    let is_shown = is_page(rt.alloc(), &named, Status::Found, HOSTILE_TITLE, HOSTILE)?;
+    let is_shown = is_page(rt.alloc(), &named, Status::Found, HOSTILE_TITLE, HOSTILE);
     assert!(rt; is_shown);
-    Ok(())
 }
 
 #[test]
-fn an_unknown_change_is_not_found(rt: HostRuntime) -> Result<(), Fail> {
+fn an_unknown_change_is_not_found(rt: HostRuntime) {
     let unknown = change_route(9, Some(2));
-    let is_shown = is_page(rt.alloc(), &unknown, Status::NotFound, "Not found", UNKNOWN)?;
+    let is_shown = is_page(rt.alloc(), &unknown, Status::NotFound, "Not found", UNKNOWN);
     assert!(rt; is_shown);
-    Ok(())
 }

@@ -7,7 +7,6 @@ use page_text::{Facts, JournalFacts, PeerFacts, page_of};
 use ready_core::evaluate;
 use replica_core::Replica;
 use std::alloc::{AllocError, Global};
-use std::test::Fail;
 
 /// A gate that wants two approvals on the current patch set of an open change.
 const GATE: &str = r#"{"bases":["https://r/"],
@@ -19,7 +18,7 @@ const GATE: &str = r#"{"bases":["https://r/"],
 const PEER: &str = "/run/\"a\\<b>&\n'";
 
 /// Change 101 is ready, 102 waits for 103, whose subject is hostile and which waits for a vote, and 104 is abandoned.
-const RECORD: [(u32, Deed); 10] = [
+static RECORD: [(u32, Deed); 10] = [
     (
         101,
         Deed::PatchSet(1, "Fix the door\n\nIt squeaks.\n", None),
@@ -41,23 +40,28 @@ const RECORD: [(u32, Deed); 10] = [
     (104, Deed::Abandon),
 ];
 
+/// What was done in that record, as a list.
+fn record() -> &'static [(u32, Deed)] {
+    &RECORD
+}
+
 /// The replica of that record.
-pub fn replica(alloc: Global) -> Result<Replica, Fail> {
+pub fn replica(alloc: Global) -> Option<Replica> {
     let mut replica = Replica::new(alloc);
     match take_record(alloc, &mut replica) {
-        Ok(()) => Ok(replica),
-        Err(fail) => Err(fail),
+        Some(()) => Some(replica),
+        None => None,
     }
 }
 
 /// Takes that record in.
-fn take_record(alloc: Global, replica: &mut Replica) -> Result<(), Fail> {
+fn take_record(alloc: Global, replica: &mut Replica) -> Option<()> {
     let mut time = 0u64;
-    for (change, deed) in RECORD {
+    for (change, deed) in record() {
         time = time.saturating_add(1);
-        take(alloc, replica, time, change, deed)?;
+        take(alloc, replica, time, *change, *deed)?;
     }
-    Ok(())
+    Some(())
 }
 
 /// Takes in what is done to a change at a time.
@@ -67,15 +71,17 @@ pub fn take(
     time: u64,
     change: u32,
     deed: Deed,
-) -> Result<(), Fail> {
-    let op = op_of(alloc, time, change, deed).ok_or("an operation")?;
-    let _ = replica.take(op)?;
-    Ok(())
+) -> Option<()> {
+    let op = op_of(alloc, time, change, deed)?;
+    match replica.take(op) {
+        Ok(_) => Some(()),
+        Err(_) => None,
+    }
 }
 
 /// The gate.
-pub fn gate(alloc: Global) -> Result<Gate, Fail> {
-    Ok(Gate::read(alloc, GATE.as_bytes())?)
+pub fn gate(alloc: Global) -> Option<Gate> {
+    Gate::read(alloc, GATE.as_bytes()).ok()
 }
 
 /// What the site knows of a peer that can't be reached, at a socket whose path has markup.
@@ -126,20 +132,20 @@ fn facts(peers: Vec<PeerFacts>) -> Facts {
 }
 
 /// What is answered to a route.
-fn answer(alloc: Global, route: &Route) -> Result<Page, Fail> {
+fn answer(alloc: Global, route: &Route) -> Option<Page> {
     let gate = gate(alloc)?;
     answer_under(alloc, route, &gate)
 }
 
 /// What is answered under a gate.
-fn answer_under(alloc: Global, route: &Route, gate: &Gate) -> Result<Page, Fail> {
+fn answer_under(alloc: Global, route: &Route, gate: &Gate) -> Option<Page> {
     let replica = replica(alloc)?;
     answer_over(alloc, route, gate, &replica)
 }
 
 /// What is answered over a replica.
-fn answer_over(alloc: Global, route: &Route, gate: &Gate, replica: &Replica) -> Result<Page, Fail> {
-    let facts = facts(peers(alloc)?);
+fn answer_over(alloc: Global, route: &Route, gate: &Gate, replica: &Replica) -> Option<Page> {
+    let facts = facts(peers(alloc).ok()?);
     answer_with(alloc, route, gate, replica, &facts)
 }
 
@@ -150,22 +156,32 @@ pub fn answer_with(
     gate: &Gate,
     replica: &Replica,
     facts: &Facts,
-) -> Result<Page, Fail> {
-    let verdicts = evaluate(alloc, replica.state(), gate)?;
-    match page_of(alloc, route, gate, replica, &verdicts, facts) {
-        Ok(page) => Ok(page),
-        Err(error) => Err(Fail::from(error)),
+) -> Option<Page> {
+    let verdicts = evaluate(alloc, replica.state(), gate).ok()?;
+    page_of(alloc, route, gate, replica, &verdicts, facts).ok()
+}
+
+/// Whether the answer to a route has this status and kind, and a text that is made of these parts.
+pub fn shows(alloc: Global, route: &Route, status: Status, kind: Kind, parts: &[&str]) -> bool {
+    match answer(alloc, route) {
+        Some(page) => is_as(&page, status, kind, parts),
+        None => false,
     }
 }
 
-/// Whether the answer to a route has this status and kind, and this text.
-pub fn shows(
-    alloc: Global,
-    route: &Route,
-    status: Status,
-    kind: Kind,
-    text: &str,
-) -> Result<bool, Fail> {
-    let page = answer(alloc, route)?;
-    Ok(page.status == status && page.kind == kind && page.body.as_slice() == text.as_bytes())
+/// Whether a page has this status and kind, and a text that is made of these parts.
+fn is_as(page: &Page, status: Status, kind: Kind, parts: &[&str]) -> bool {
+    page.status == status && page.kind == kind && is_made_of(page.body.as_slice(), parts)
+}
+
+/// Whether a text is made of these parts.
+pub fn is_made_of(text: &[u8], parts: &[&str]) -> bool {
+    let mut left = text;
+    for part in parts {
+        match left.strip_prefix(part.as_bytes()) {
+            Some(rest) => left = rest,
+            None => return false,
+        }
+    }
+    left.is_empty()
 }

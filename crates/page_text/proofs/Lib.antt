@@ -10,3 +10,4 @@ mod ReachedSteps
 mod WaitingSteps
 mod Counting
 mod TableRows
+mod Marks

@@ -1,24 +1,9 @@
--- The items that wait for a change, and titles.
-use Rattle.std.proofs.Common.{◌≡◌, ◌∙◌, ℕ, List, [], ◌∷◌, ◌++◌, ap, append_assoc}
+-- Titles.
+use Rattle.std.proofs.Common.{◌≡◌, ◌∙◌, ℕ, List, ◌++◌, ap, append_assoc}
 use Rattle.std.specs.Prelude.{IfSome, Option, None, Some, codes}
-use Rattle.json.specs.Print.{print}
-use Rattle.json.specs.Token.{end_object}
-use Rattle.json.specs.Written.{Written}
-use Rattle.state_core.specs.declared.item.Item.{Item}
-use Rattle.json_line.specs.Tokens.{AddsTokens}
 use Rattle.markup_text.specs.Adding.{none_is_some}
 use Rattle.markup_text.specs.Growing.{Adds, AddsAll}
 use Rattle.page_text.specs.Titles.{IsEnded, IsTitled}
-use Rattle.page_text.specs.Waiting.{EndsInWaiting, waiting_tokens}
-
--- the text ends with the items
-pub has_waiting : (items : List Item) (a b : Written) (text : List ℕ) → AddsTokens a b (waiting_tokens items ++ end_object ∷ [])
-    → text ≡ b.before ++ print b.tokens → EndsInWaiting items text
-has_waiting items a b text adds is = record {
-  before = b.before;
-  members = a.tokens;
-  is = is ∙ ap (λ t. b.before ++ print t) adds.tokens;
-}
 
 -- ---- titles
 pub titled : (title rest : List ℕ) (first second third : Option (List ℕ))

@@ -5,6 +5,7 @@ use Rattle.json_line.specs.Tokens.{numbered_tokens, worded}
 use Rattle.state_core.specs.State.{State}
 use Rattle.state_core.specs.declared.item.Item.{Item}
 use Rattle.ready_core.specs.Words.{refusal_text}
+use Rattle.ready_core.specs.declared.verdicts.Refusal.{Refusal}
 use Rattle.page_text.specs.declared.rows.Row.{Row}
 use Rattle.page_text.specs.declared.rows.Row.TheVariants.{Enters, Waits}
 use Rattle.page_text.specs.Rows.{rows_on}
@@ -16,14 +17,20 @@ about_tokens state item =
     begin_object ∷ [] ++ numbered_tokens (codes "change") item.change ++ numbered_tokens (codes "set") item.set
     ++ worded (codes "subject") (subject_of state item)
 
--- ,"ready":true,"place":1} or ,"ready":false,"refusal":"require approval 2"}
+-- ,"ready":false,"refusal":"require approval 2"}
+abbrev pub words_tokens : List ℕ → List Token
+words_tokens words =
+    key (codes "ready") ∷ boolean false ∷ [] ++ worded (codes "refusal") words ++ end_object ∷ []
+
+abbrev pub why_tokens : Refusal → List Token
+why_tokens refusal = words_tokens (refusal_text refusal)
+
+-- that, or ,"ready":true,"place":1}
 abbrev pub row_tokens : State → Row → List Token
 row_tokens state (Enters item place) =
     about_tokens state item ++ (key (codes "ready") ∷ boolean true ∷ []) ++ numbered_tokens (codes "place") place
     ++ end_object ∷ []
-row_tokens state (Waits left) =
-    about_tokens state left.item ++ (key (codes "ready") ∷ boolean false ∷ [])
-    ++ worded (codes "refusal") (refusal_text left.refusal) ++ end_object ∷ []
+row_tokens state (Waits left) = about_tokens state left.item ++ why_tokens left.refusal
 
 abbrev pub list_tokens : State → List Row → List Token
 list_tokens state rows = key (codes "items") ∷ begin_array ∷ [] ++ flat_map (row_tokens state) rows ++ end_array ∷ []

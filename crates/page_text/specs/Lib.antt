@@ -10,9 +10,11 @@ pub mod Problem
 pub mod Held
 pub mod Statuses
 pub mod Labels
+pub mod Parts
 pub mod Samples
 pub mod Metrics
 pub mod Table
 pub mod Titles
 pub mod Answer
 pub mod Site
+pub mod Sheets

@@ -11,6 +11,7 @@ use Rattle.gate_rules.specs.declared.condition.Side.TheVariants.{Require, Reject
 use Rattle.state_core.specs.State.{State}
 use Rattle.ready_core.specs.Verdicts.{Judged}
 use Rattle.ready_core.specs.declared.verdicts.Left.{Left}
+use Rattle.report_text.specs.StateText.{joined}
 use Rattle.page_text.specs.declared.facts.Facts.{Facts}
 use Rattle.page_text.specs.declared.facts.JournalFacts.{JournalFacts}
 use Rattle.page_text.specs.declared.facts.PeerFacts.{PeerFacts}
@@ -52,7 +53,7 @@ age_text name (Some age) = milli_sample name age
 -- the sample of the site, whose value says nothing
 abbrev pub labels_text : List ℕ → ℕ → ℕ → List ℕ
 labels_text name site start =
-    name ++ codes "{site=\"" ++ decimal site ++ codes "\",start=\"" ++ decimal start ++ codes "\"} 1\n"
+    joined (name ∷ codes "{site=\"" ∷ decimal site ∷ codes "\",start=\"" ∷ decimal start ∷ codes "\"} 1\n" ∷ [])
 
 -- the site with its start
 abbrev pub info_text : ℕ → ℕ → List ℕ

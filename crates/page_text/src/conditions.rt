@@ -2,11 +2,9 @@
 
 ghost use Rattle.state_core.specs.Items.{IsItem};
 
+use super::sheet::{Mark, Sheet};
 use super::words::add_wanted;
 use gate_rules::{Gate, Tried};
-use json::Writer;
-use json_line::{close_list, close_object, open_list, open_object, put_flag, put_text};
-use lattice_core::NoMemory;
 use markup_text::{Markup, Piece};
 use ready_core::Refusal;
 use state_core::{Item, State};
@@ -53,33 +51,35 @@ fn mark_of(is_broken: bool) -> &'static str {
 }
 
 /// Adds a list of the conditions of the gate to the data of an item, in the order in which it is judged.
-pub fn put_conditions(
-    alloc: Global,
-    out: &mut Writer<Global>,
-    gate: &Gate,
-    state: &State,
-    item: Item,
-) -> Result<(), NoMemory>
+pub fn put_conditions(alloc: Global, out: &mut Sheet, gate: &Gate, state: &State, item: Item)
     requires { IsItem state.now item }
 {
-    let tried = gate.conditions(alloc, state, item)?;
-    open_list(out, "conditions")?;
-    for one in &tried {
-        put_condition(alloc, out, *one)?;
+    match gate.conditions(alloc, state, item) {
+        Ok(tried) => put_tried(alloc, out, tried.as_slice()),
+        Err(_) => out.refuse(),
     }
-    close_list(out)
+}
+
+/// Adds the list of these conditions.
+fn put_tried(alloc: Global, out: &mut Sheet, tried: &[Tried]) {
+    out.add(&[Mark::Key("conditions"), Mark::OpenList]);
+    for one in tried {
+        put_condition(alloc, out, *one);
+    }
+    out.add(&[Mark::CloseList]);
 }
 
 /// Adds the object of a condition.
-fn put_condition(alloc: Global, out: &mut Writer<Global>, tried: Tried) -> Result<(), NoMemory> {
-    let words = refusal_words(alloc, Refusal::Own(tried.condition))?;
-    put_words(out, words.as_str(), !tried.is_broken)
-}
-
-/// Adds the object of a condition in words.
-fn put_words(out: &mut Writer<Global>, words: &str, is_met: bool) -> Result<(), NoMemory> {
-    open_object(out)?;
-    put_text(out, "condition", words)?;
-    put_flag(out, "met", is_met)?;
-    close_object(out)
+fn put_condition(alloc: Global, out: &mut Sheet, tried: Tried) {
+    match refusal_words(alloc, Refusal::Own(tried.condition)) {
+        Ok(words) => out.add(&[
+            Mark::Open,
+            Mark::Key("condition"),
+            Mark::Text(words.as_str()),
+            Mark::Key("met"),
+            Mark::Flag(!tried.is_broken),
+            Mark::Close,
+        ]),
+        Err(_) => out.refuse(),
+    }
 }

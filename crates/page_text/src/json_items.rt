@@ -1,18 +1,17 @@
 //! A list of items, as JSON.
 
-ghost use Rattle.std.specs.Prelude.{◌≡◌, IfOk, OnOk, flat_map};
+ghost use Rattle.std.specs.Prelude.{◌≡◌, IfOk, flat_map};
 ghost use Rattle.json.specs.Print.{print};
-ghost use Rattle.page_text.specs.Items.{about_tokens, items_tokens, list_tokens, row_tokens};
+ghost use Rattle.page_text.specs.Items.{about_tokens, items_tokens, list_tokens, row_tokens, why_tokens, words_tokens};
 ghost use Rattle.page_text.specs.Rows.{chosen_rows};
-ghost use Rattle.json_line.specs.Tokens.{AddsTokens};
+ghost use Rattle.page_text.specs.Sheets.{Notes};
 
 use super::rows::{Row, chosen_rows, rows_of};
+use super::sheet::{Mark, Sheet};
 use super::subject::subject_of;
-use json::Writer;
-use json_line::{close_list, close_object, open_list, open_object, put_flag, put_number, put_text};
 use lattice_core::NoMemory;
 use page_routes::Choice;
-use ready_core::{Left, Verdicts};
+use ready_core::{Left, Refusal, Verdicts};
 use state_core::{Item, State};
 use std::alloc::Global;
 use why_text::refusal_words;
@@ -29,67 +28,48 @@ pub fn items_text(
         ≡ print (items_tokens state.now choice.now.page (chosen_rows state.now choice.now verdicts.now))) }
 {
     let chosen = chosen_rows(alloc, state, verdicts, choice)?;
-    let mut out = Writer::new(Vec::new(alloc));
-    add_items(alloc, &mut out, state, choice.page, chosen.as_slice())?;
-    Ok(out.into_inner())
+    let mut out = Sheet::new(alloc);
+    add_items(alloc, &mut out, state, choice.page, chosen.as_slice());
+    let text = out.end()?;
+    Ok(text)
 }
 
 /// Adds the object of a list.
-fn add_items(
-    alloc: Global,
-    out: &mut Writer<Global>,
-    state: &State,
-    page: u32,
-    chosen: &[Row],
-) -> Result<(), NoMemory>
-    ensures { OnOk result (AddsTokens out.old out.new (items_tokens state.now page chosen.now)) }
+fn add_items(alloc: Global, out: &mut Sheet, state: &State, page: u32, chosen: &[Row])
+    ensures { Notes (items_tokens state.now page chosen.now) out.old out.new }
 {
-    open_object(out)?;
-    put_number(out, "total", chosen.len() as u64)?;
-    put_number(out, "page", u64::from(page))?;
-    add_list(alloc, out, state, rows_of(chosen, page))?;
-    close_object(out)?;
-    Ok(())
+    out.add(&[
+        Mark::Open,
+        Mark::Key("total"),
+        Mark::Number(chosen.len() as u64),
+        Mark::Key("page"),
+        Mark::Number(u64::from(page)),
+    ]);
+    add_list(alloc, out, state, rows_of(chosen, page));
+    out.add(&[Mark::Close]);
 }
 
 /// Adds the list of the rows.
-fn add_list(
-    alloc: Global,
-    out: &mut Writer<Global>,
-    state: &State,
-    rows: &[Row],
-) -> Result<(), NoMemory>
-    ensures { OnOk result (AddsTokens out.old out.new (list_tokens state.now rows.now)) }
+fn add_list(alloc: Global, out: &mut Sheet, state: &State, rows: &[Row])
+    ensures { Notes (list_tokens state.now rows.now) out.old out.new }
 {
-    open_list(out, "items")?;
-    add_rows(alloc, out, state, rows)?;
-    close_list(out)?;
-    Ok(())
+    out.add(&[Mark::Key("items"), Mark::OpenList]);
+    add_rows(alloc, out, state, rows);
+    out.add(&[Mark::CloseList]);
 }
 
 /// Adds an object for each row.
-fn add_rows(
-    alloc: Global,
-    out: &mut Writer<Global>,
-    state: &State,
-    rows: &[Row],
-) -> Result<(), NoMemory>
-    ensures { OnOk result (AddsTokens out.old out.new (flat_map (row_tokens state.now) rows.now)) }
+fn add_rows(alloc: Global, out: &mut Sheet, state: &State, rows: &[Row])
+    ensures { Notes (flat_map (row_tokens state.now) rows.now) out.old out.new }
 {
     for row in rows {
-        add_row(alloc, out, state, *row)?;
+        add_row(alloc, out, state, *row);
     }
-    Ok(())
 }
 
 /// Adds the object of a row.
-pub fn add_row(
-    alloc: Global,
-    out: &mut Writer<Global>,
-    state: &State,
-    row: Row,
-) -> Result<(), NoMemory>
-    ensures { OnOk result (AddsTokens out.old out.new (row_tokens state.now row)) }
+pub fn add_row(alloc: Global, out: &mut Sheet, state: &State, row: Row)
+    ensures { Notes (row_tokens state.now row) out.old out.new }
 {
     match row {
         Row::Enters(item, place) => add_ready(out, state, item, place),
@@ -98,45 +78,61 @@ pub fn add_row(
 }
 
 /// Adds the object of an item that is ready.
-fn add_ready(
-    out: &mut Writer<Global>,
-    state: &State,
-    item: Item,
-    place: usize,
-) -> Result<(), NoMemory>
-    ensures { OnOk result (AddsTokens out.old out.new (row_tokens state.now (Row.Enters item place))) }
+fn add_ready(out: &mut Sheet, state: &State, item: Item, place: usize)
+    ensures { Notes (row_tokens state.now (Row.Enters item place)) out.old out.new }
 {
-    add_about(out, state, item)?;
-    put_flag(out, "ready", true)?;
-    put_number(out, "place", place as u64)?;
-    close_object(out)?;
-    Ok(())
+    add_about(out, state, item);
+    out.add(&[
+        Mark::Key("ready"),
+        Mark::Flag(true),
+        Mark::Key("place"),
+        Mark::Number(place as u64),
+        Mark::Close,
+    ]);
 }
 
 /// Adds the object of an item that waits.
-fn add_left(
-    alloc: Global,
-    out: &mut Writer<Global>,
-    state: &State,
-    left: Left,
-) -> Result<(), NoMemory>
-    ensures { OnOk result (AddsTokens out.old out.new (row_tokens state.now (Row.Waits left))) }
+fn add_left(alloc: Global, out: &mut Sheet, state: &State, left: Left)
+    ensures { Notes (row_tokens state.now (Row.Waits left)) out.old out.new }
 {
-    let words = refusal_words(alloc, left.refusal)?;
-    add_about(out, state, left.item)?;
-    put_flag(out, "ready", false)?;
-    put_text(out, "refusal", words.as_str())?;
-    close_object(out)?;
-    Ok(())
+    add_about(out, state, left.item);
+    add_why(alloc, out, left.refusal);
+}
+
+/// Ends the object of an item that waits, with its refusal.
+fn add_why(alloc: Global, out: &mut Sheet, refusal: Refusal)
+    ensures { Notes (why_tokens refusal) out.old out.new }
+{
+    match refusal_words(alloc, refusal) {
+        Ok(words) => add_words(out, words.as_str()),
+        Err(_) => out.refuse(),
+    }
+}
+
+/// Ends the object of an item that waits, with these words of its refusal.
+fn add_words(out: &mut Sheet, words: &str)
+    ensures { Notes (words_tokens words.now) out.old out.new }
+{
+    out.add(&[
+        Mark::Key("ready"),
+        Mark::Flag(false),
+        Mark::Key("refusal"),
+        Mark::Text(words),
+        Mark::Close,
+    ]);
 }
 
 /// Begins the object of an item with what is said of each.
-fn add_about(out: &mut Writer<Global>, state: &State, item: Item) -> Result<(), NoMemory>
-    ensures { OnOk result (AddsTokens out.old out.new (about_tokens state.now item)) }
+fn add_about(out: &mut Sheet, state: &State, item: Item)
+    ensures { Notes (about_tokens state.now item) out.old out.new }
 {
-    open_object(out)?;
-    put_number(out, "change", u64::from(item.change))?;
-    put_number(out, "set", u64::from(item.set))?;
-    put_text(out, "subject", subject_of(state, item))?;
-    Ok(())
+    out.add(&[
+        Mark::Open,
+        Mark::Key("change"),
+        Mark::Number(u64::from(item.change)),
+        Mark::Key("set"),
+        Mark::Number(u64::from(item.set)),
+        Mark::Key("subject"),
+        Mark::Text(subject_of(state, item)),
+    ]);
 }

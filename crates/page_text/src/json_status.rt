@@ -1,19 +1,17 @@
 //! How a site is, as JSON, and the events that say that something changed.
 
-ghost use Rattle.std.specs.Prelude.{◌≡◌, IfOk, OnOk, Some, flat_map, length};
+ghost use Rattle.std.specs.Prelude.{◌≡◌, ◌∷◌, ◌++◌, IfOk, codes, flat_map, length};
 ghost use Rattle.json.specs.Print.{print};
-ghost use Rattle.json_line.specs.Tokens.{AddsTokens};
+ghost use Rattle.json.specs.Token.{begin_object};
+ghost use Rattle.json_line.specs.Tokens.{numbered_tokens};
 ghost use Rattle.page_text.specs.Answer.{event_text};
+ghost use Rattle.page_text.specs.Sheets.{Notes};
 ghost use Rattle.page_text.specs.Site.{ages_tokens, counts_tokens, journal_tokens, peer_tokens, peers_tokens, site_tokens};
 ghost use Rattle.page_text.specs.Site.{work_tokens};
 
 use super::counts::open_count;
 use super::facts::{Facts, JournalFacts, PeerFacts};
-use json::Writer;
-use json_line::{
-    close_list, close_object, open_list, open_member, open_object, put_flag, put_null, put_number,
-    put_option, put_text,
-};
+use super::sheet::{Mark, Sheet};
 use lattice_core::NoMemory;
 use ready_core::Verdicts;
 use replica_core::Replica;
@@ -28,123 +26,142 @@ pub fn status_text(
 ) -> Result<Vec<u8>, NoMemory>
     ensures { IfOk result (λ text. text.items ≡ print (site_tokens (length replica.now) verdicts.now facts.now)) }
 {
-    let mut out = Writer::new(Vec::new(alloc));
-    put_status(&mut out, replica, verdicts, facts)?;
-    Ok(out.into_inner())
+    let mut out = Sheet::new(alloc);
+    put_status(&mut out, replica, verdicts, facts);
+    let text = out.end()?;
+    Ok(text)
 }
 
 /// Adds the object of how a site is.
-fn put_status(
-    out: &mut Writer<Global>,
-    replica: &Replica,
-    verdicts: &Verdicts,
-    facts: &Facts,
-) -> Result<(), NoMemory>
-    ensures { OnOk result (AddsTokens out.old out.new (site_tokens (length replica.now) verdicts.now facts.now)) }
+fn put_status(out: &mut Sheet, replica: &Replica, verdicts: &Verdicts, facts: &Facts)
+    ensures { Notes (site_tokens (length replica.now) verdicts.now facts.now) out.old out.new }
 {
-    open_object(out)?;
-    put_number(out, "site", u64::from(facts.site))?;
-    put_number(out, "start", u64::from(facts.start))?;
-    put_counts(out, replica, verdicts)?;
-    put_ages(out, facts)?;
-    put_peers(out, facts.peers.as_slice())?;
-    put_work(out, facts)?;
-    put_journal(out, facts.journal)?;
-    put_option(out, "heard_ms", facts.heard_ms)?;
-    close_object(out)?;
-    Ok(())
+    put_site(out, facts.site, facts.start);
+    put_counts(out, replica, verdicts);
+    put_ages(out, facts);
+    put_peers(out, facts.peers.as_slice());
+    put_work(out, facts);
+    put_journal(out, facts.journal);
+    out.add(&[Mark::Key("heard_ms"), Mark::NumberIf(facts.heard_ms)]);
+    out.add(&[Mark::Close]);
+}
+
+/// Begins the object with the site and its start.
+fn put_site(out: &mut Sheet, site: u16, start: u32)
+    ensures { Notes (begin_object ∷ (numbered_tokens (codes "site") site ++ numbered_tokens (codes "start") start))
+        out.old out.new }
+{
+    out.add(&[
+        Mark::Open,
+        Mark::Key("site"),
+        Mark::Number(u64::from(site)),
+        Mark::Key("start"),
+        Mark::Number(u64::from(start)),
+    ]);
 }
 
 /// Adds how many operations, ready items, other items and open ones of these there are.
-fn put_counts(
-    out: &mut Writer<Global>,
-    replica: &Replica,
-    verdicts: &Verdicts,
-) -> Result<(), NoMemory>
-    ensures { OnOk result (AddsTokens out.old out.new (counts_tokens (length replica.now) verdicts.now)) }
+fn put_counts(out: &mut Sheet, replica: &Replica, verdicts: &Verdicts)
+    ensures { Notes (counts_tokens (length replica.now) verdicts.now) out.old out.new }
 {
-    put_number(out, "operations", replica.len() as u64)?;
-    put_number(out, "ready", verdicts.ready().len() as u64)?;
-    put_number(out, "out", verdicts.out().len() as u64)?;
-    put_number(out, "open_out", open_count(verdicts.out()) as u64)?;
-    Ok(())
+    out.add(&[
+        Mark::Key("operations"),
+        Mark::Number(replica.len() as u64),
+        Mark::Key("ready"),
+        Mark::Number(verdicts.ready().len() as u64),
+        Mark::Key("out"),
+        Mark::Number(verdicts.out().len() as u64),
+        Mark::Key("open_out"),
+        Mark::Number(open_count(verdicts.out()) as u64),
+    ]);
 }
 
 /// Adds how old what is shown is, when something new came, and how many sessions are open.
-fn put_ages(out: &mut Writer<Global>, facts: &Facts) -> Result<(), NoMemory>
-    ensures { OnOk result (AddsTokens out.old out.new (ages_tokens facts.now)) }
+fn put_ages(out: &mut Sheet, facts: &Facts)
+    ensures { Notes (ages_tokens facts.now) out.old out.new }
 {
-    put_number(out, "age_ms", facts.age_ms)?;
-    put_option(out, "news_ms", facts.news_ms)?;
-    put_number(out, "sessions", facts.sessions)?;
-    Ok(())
+    out.add(&[
+        Mark::Key("age_ms"),
+        Mark::Number(facts.age_ms),
+        Mark::Key("news_ms"),
+        Mark::NumberIf(facts.news_ms),
+        Mark::Key("sessions"),
+        Mark::Number(facts.sessions),
+    ]);
 }
 
 /// Adds the list of the peers.
-fn put_peers(out: &mut Writer<Global>, peers: &[PeerFacts]) -> Result<(), NoMemory>
-    ensures { OnOk result (AddsTokens out.old out.new (peers_tokens peers.now)) }
+fn put_peers(out: &mut Sheet, peers: &[PeerFacts])
+    ensures { Notes (peers_tokens peers.now) out.old out.new }
 {
-    open_list(out, "peers")?;
-    add_peers(out, peers)?;
-    close_list(out)?;
-    Ok(())
+    out.add(&[Mark::Key("peers"), Mark::OpenList]);
+    add_peers(out, peers);
+    out.add(&[Mark::CloseList]);
 }
 
 /// Adds an object for each peer.
-fn add_peers(out: &mut Writer<Global>, peers: &[PeerFacts]) -> Result<(), NoMemory>
-    ensures { OnOk result (AddsTokens out.old out.new (flat_map peer_tokens peers.now)) }
+fn add_peers(out: &mut Sheet, peers: &[PeerFacts])
+    ensures { Notes (flat_map peer_tokens peers.now) out.old out.new }
 {
     for peer in peers {
-        add_peer(out, peer)?;
+        add_peer(out, peer);
     }
-    Ok(())
 }
 
 /// Adds the object of a peer.
-fn add_peer(out: &mut Writer<Global>, peer: &PeerFacts) -> Result<(), NoMemory>
-    ensures { OnOk result (AddsTokens out.old out.new (peer_tokens peer.now)) }
+fn add_peer(out: &mut Sheet, peer: &PeerFacts)
+    ensures { Notes (peer_tokens peer.now) out.old out.new }
 {
-    open_object(out)?;
-    put_text(out, "peer", peer.peer.as_str())?;
-    put_flag(out, "reachable", peer.is_reachable)?;
-    put_number(out, "condition_ms", peer.condition_ms)?;
-    put_option(out, "good_ms", peer.good_ms)?;
-    put_number(out, "pulls", peer.pulls)?;
-    put_number(out, "failures", peer.failures)?;
-    close_object(out)?;
-    Ok(())
+    out.add(&[
+        Mark::Open,
+        Mark::Key("peer"),
+        Mark::Text(peer.peer.as_str()),
+        Mark::Key("reachable"),
+        Mark::Flag(peer.is_reachable),
+        Mark::Key("condition_ms"),
+        Mark::Number(peer.condition_ms),
+        Mark::Key("good_ms"),
+        Mark::NumberIf(peer.good_ms),
+        Mark::Key("pulls"),
+        Mark::Number(peer.pulls),
+        Mark::Key("failures"),
+        Mark::Number(peer.failures),
+        Mark::Close,
+    ]);
 }
 
 /// Adds what its threads do, and what went wrong since the start.
-fn put_work(out: &mut Writer<Global>, facts: &Facts) -> Result<(), NoMemory>
-    ensures { OnOk result (AddsTokens out.old out.new (work_tokens facts.now)) }
+fn put_work(out: &mut Sheet, facts: &Facts)
+    ensures { Notes (work_tokens facts.now) out.old out.new }
 {
-    put_number(out, "workers", facts.workers)?;
-    put_number(out, "busy_workers", facts.busy_workers)?;
-    put_number(out, "session_faults", facts.session_faults)?;
-    put_number(out, "refused_connections", facts.refused_connections)?;
-    Ok(())
+    out.add(&[
+        Mark::Key("workers"),
+        Mark::Number(facts.workers),
+        Mark::Key("busy_workers"),
+        Mark::Number(facts.busy_workers),
+        Mark::Key("session_faults"),
+        Mark::Number(facts.session_faults),
+        Mark::Key("refused_connections"),
+        Mark::Number(facts.refused_connections),
+    ]);
 }
 
 /// Adds the object of the journal, or `null` where there is none.
-fn put_journal(out: &mut Writer<Global>, journal: Option<JournalFacts>) -> Result<(), NoMemory>
-    ensures { OnOk result (AddsTokens out.old out.new (journal_tokens journal)) }
+fn put_journal(out: &mut Sheet, journal: Option<JournalFacts>)
+    ensures { Notes (journal_tokens journal) out.old out.new }
 {
     match journal {
-        Some(journal) => put_one_journal(out, journal),
-        None => put_null(out, "journal"),
+        Some(journal) => out.add(&[
+            Mark::Key("journal"),
+            Mark::Open,
+            Mark::Key("bytes"),
+            Mark::Number(journal.bytes),
+            Mark::Key("syncs"),
+            Mark::Number(journal.syncs),
+            Mark::Close,
+        ]),
+        None => out.add(&[Mark::Key("journal"), Mark::NumberIf(None)]),
     }
-}
-
-/// Adds the object of the journal.
-fn put_one_journal(out: &mut Writer<Global>, journal: JournalFacts) -> Result<(), NoMemory>
-    ensures { OnOk result (AddsTokens out.old out.new (journal_tokens (Some journal))) }
-{
-    open_member(out, "journal")?;
-    put_number(out, "bytes", journal.bytes)?;
-    put_number(out, "syncs", journal.syncs)?;
-    close_object(out)?;
-    Ok(())
 }
 
 /// The event of how many items are ready, how many aren't, and how many operations there are. A browser asks for the

@@ -1,6 +1,7 @@
 //! The site's figures, in the text format of Prometheus.
 
-ghost use Rattle.std.specs.Prelude.{◌≡◌, ◌++◌, IfOk, OnOk, flat_map, length, string_bytes};
+ghost use Rattle.std.specs.Prelude.{◌≡◌, IfOk, flat_map, length};
+ghost use Rattle.markup_text.specs.Growing.{Adds};
 ghost use Rattle.state_core.specs.State.{state_of};
 ghost use Rattle.page_text.specs.Metrics.{age_text, all_held_text, status_counts_text, figures_text, held_text, info_text};
 ghost use Rattle.page_text.specs.Metrics.{labels_text, metrics_of, record_text, served_text, site_text, status_text};
@@ -8,6 +9,7 @@ ghost use Rattle.page_text.specs.Metrics.{update_text};
 
 use super::facts::Facts;
 use super::held::{Held, all_held, held_count, held_words};
+use super::lines::{Lines, Part};
 use super::metrics_peers::add_peers;
 use super::metrics_work::add_now;
 use super::samples::{
@@ -34,206 +36,200 @@ pub fn metrics_text(
     ensures { IfOk result (λ text. text.items
         ≡ metrics_of gate.now (state_of replica.now) (length replica.now) verdicts.now facts.now) }
 {
-    let mut text = String::new(alloc);
-    add_figures(alloc, &mut text, gate, replica, verdicts, facts)?;
-    add_now(&mut text, facts)?;
-    Ok(text.into_bytes())
+    let mut text = Lines::new(alloc);
+    add_figures(alloc, &mut text, gate, replica, verdicts, facts);
+    add_now(&mut text, facts);
+    let bytes = text.end()?;
+    Ok(bytes)
 }
 
 /// Adds the figures of the record, of the items that open ones are held by, of the site, of its peers, and of what it
 /// served.
 fn add_figures(
     alloc: Global,
-    text: &mut String,
+    text: &mut Lines,
     gate: &Gate,
     replica: &Replica,
     verdicts: &Verdicts,
     facts: &Facts,
-) -> Result<(), NoMemory>
-    ensures { OnOk result (string_bytes text.new ≡ string_bytes text.old
-        ++ figures_text gate.now (state_of replica.now) (length replica.now) verdicts.now facts.now) }
+)
+    ensures { Adds (figures_text gate.now (state_of replica.now) (length replica.now) verdicts.now facts.now) text.old
+        text.new }
 {
-    add_record(text, replica, verdicts)?;
-    add_held(alloc, text, gate, verdicts.out())?;
-    add_site(text, facts)?;
-    add_peers(text, facts.peers.as_slice())?;
-    add_served(text, facts)?;
-    add_update(text, facts.update_us)?;
-    Ok(())
+    add_record(text, replica, verdicts);
+    add_held(alloc, text, gate, verdicts.out());
+    add_site(text, facts);
+    add_peers(text, facts.peers.as_slice());
+    add_served(text, facts);
+    add_update(text, facts.update_us);
 }
 
 /// Adds the figures of the record.
-fn add_record(text: &mut String, replica: &Replica, verdicts: &Verdicts) -> Result<(), NoMemory>
-    ensures { OnOk result (string_bytes text.new ≡ string_bytes text.old
-        ++ record_text (length replica.now) (state_of replica.now) (length verdicts.now.ready)) }
+fn add_record(text: &mut Lines, replica: &Replica, verdicts: &Verdicts)
+    ensures { Adds (record_text (length replica.now) (state_of replica.now) (length verdicts.now.ready)) text.old
+        text.new }
 {
     add_gauge(
         text,
         "reviewgate_operations",
         "Operations of the record.",
         replica.len() as u64,
-    )?;
-    add_changes(text, replica.state())?;
+    );
+    add_changes(text, replica.state());
     add_gauge(
         text,
         "reviewgate_ready_items",
         "Items that may enter the pipeline.",
         verdicts.ready().len() as u64,
-    )?;
-    Ok(())
+    );
 }
 
 /// Adds how many changes have each status.
-fn add_changes(text: &mut String, state: &State) -> Result<(), NoMemory>
-    ensures { OnOk result (string_bytes text.new ≡ string_bytes text.old ++ status_counts_text state.now) }
+fn add_changes(text: &mut Lines, state: &State)
+    ensures { Adds (status_counts_text state.now) text.old text.new }
 {
     add_family(
         text,
         "reviewgate_changes",
         "gauge",
         "Changes of the record by status.",
-    )?;
-    add_status(text, state, Status::New)?;
-    add_status(text, state, Status::Abandoned)?;
-    add_status(text, state, Status::Merged)?;
-    Ok(())
+    );
+    add_status(text, state, Status::New);
+    add_status(text, state, Status::Abandoned);
+    add_status(text, state, Status::Merged);
 }
 
 /// Adds how many changes have a status.
-fn add_status(text: &mut String, state: &State, status: Status) -> Result<(), NoMemory>
-    ensures { OnOk result (string_bytes text.new ≡ string_bytes text.old ++ status_text state.now status) }
+fn add_status(text: &mut Lines, state: &State, status: Status)
+    ensures { Adds (status_text state.now status) text.old text.new }
 {
     let count = status_count(state, status) as u64;
-    add_labelled(text, "reviewgate_changes", "status", status.name(), count)?;
-    Ok(())
+    add_labelled(text, "reviewgate_changes", "status", status.name(), count);
 }
 
 /// Adds how many open items are held by what.
-fn add_held(alloc: Global, text: &mut String, gate: &Gate, out: &[Left]) -> Result<(), NoMemory>
-    ensures { OnOk result (string_bytes text.new ≡ string_bytes text.old ++ all_held_text gate.now out.now) }
+fn add_held(alloc: Global, text: &mut Lines, gate: &Gate, out: &[Left])
+    ensures { Adds (all_held_text gate.now out.now) text.old text.new }
 {
-    let all = all_held(alloc, gate)?;
     add_family(
         text,
         "reviewgate_held_items",
         "gauge",
         "Open items that may not enter the pipeline, by reason.",
-    )?;
-    add_all_held(alloc, text, out, all.as_slice())?;
-    Ok(())
+    );
+    match all_held(alloc, gate) {
+        Ok(all) => add_all_held(alloc, text, out, all.as_slice()),
+        Err(_) => text.refuse(),
+    }
 }
 
 /// Adds how many open items are held by each of these.
-fn add_all_held(
-    alloc: Global,
-    text: &mut String,
-    out: &[Left],
-    all: &[Held],
-) -> Result<(), NoMemory>
-    ensures { OnOk result (string_bytes text.new ≡ string_bytes text.old ++ flat_map (held_text out.now) all.now) }
+fn add_all_held(alloc: Global, text: &mut Lines, out: &[Left], all: &[Held])
+    ensures { Adds (flat_map (held_text out.now) all.now) text.old text.new }
 {
     for held in all {
-        add_held_by(alloc, text, out, *held)?;
+        add_held_by(alloc, text, out, *held);
     }
-    Ok(())
 }
 
 /// Adds how many open items are held so.
-fn add_held_by(alloc: Global, text: &mut String, out: &[Left], held: Held) -> Result<(), NoMemory>
-    ensures { OnOk result (string_bytes text.new ≡ string_bytes text.old ++ held_text out.now held) }
+fn add_held_by(alloc: Global, text: &mut Lines, out: &[Left], held: Held)
+    ensures { Adds (held_text out.now held) text.old text.new }
 {
-    let words = held_words(alloc, held)?;
-    let count = held_count(out, held) as u64;
-    add_labelled(
-        text,
-        "reviewgate_held_items",
-        "reason",
-        words.as_str(),
-        count,
-    )?;
-    Ok(())
+    match held_words(alloc, held) {
+        Ok(words) => add_labelled(
+            text,
+            "reviewgate_held_items",
+            "reason",
+            words.as_str(),
+            held_count(out, held) as u64,
+        ),
+        Err(_) => text.refuse(),
+    }
 }
 
 /// Adds what the site is, and when the last operation came.
-fn add_site(text: &mut String, facts: &Facts) -> Result<(), NoMemory>
-    ensures { OnOk result (string_bytes text.new ≡ string_bytes text.old
-        ++ site_text facts.now.site facts.now.start facts.now.news_ms) }
+fn add_site(text: &mut Lines, facts: &Facts)
+    ensures { Adds (site_text facts.now.site facts.now.start facts.now.news_ms) text.old text.new }
 {
-    add_info(text, facts.site, facts.start)?;
+    add_info(text, facts.site, facts.start);
     let name = "reviewgate_last_operation_age_seconds";
     add_family(
         text,
         name,
         "gauge",
         "Seconds since the last operation came.",
-    )?;
-    add_age(text, name, facts.news_ms)?;
-    Ok(())
+    );
+    add_age(text, name, facts.news_ms);
 }
 
 /// Adds what the site is.
-fn add_info(text: &mut String, site: u16, start: u32) -> Result<(), NoMemory>
-    ensures { OnOk result (string_bytes text.new ≡ string_bytes text.old ++ info_text site start) }
+fn add_info(text: &mut Lines, site: u16, start: u32)
+    ensures { Adds (info_text site start) text.old text.new }
 {
     let name = "reviewgate_site_info";
-    add_family(text, name, "gauge", "The site and its start.")?;
-    add_labels(text, name, site, start)?;
-    Ok(())
+    add_family(text, name, "gauge", "The site and its start.");
+    add_labels(text, name, site, start);
 }
 
 /// Adds the sample of the site, whose value says nothing.
-fn add_labels(text: &mut String, name: &str, site: u16, start: u32) -> Result<(), NoMemory>
-    ensures { OnOk result (string_bytes text.new ≡ string_bytes text.old ++ labels_text name.now site start) }
+fn add_labels(text: &mut Lines, name: &str, site: u16, start: u32)
+    ensures { Adds (labels_text name.now site start) text.old text.new }
 {
-    write!(text, "{name}{{site=\"{site}\",start=\"{start}\"}} 1\n")?;
-    Ok(())
+    text.add(&[
+        Part::Text(name),
+        Part::Text("{site=\""),
+        Part::Number(u64::from(site)),
+        Part::Text("\",start=\""),
+        Part::Number(u64::from(start)),
+        Part::Text("\"} 1\n"),
+    ]);
 }
 
 /// Adds how long ago something was, where it was.
-fn add_age(text: &mut String, name: &str, age_ms: Option<u64>) -> Result<(), NoMemory>
-    ensures { OnOk result (string_bytes text.new ≡ string_bytes text.old ++ age_text name.now age_ms) }
+fn add_age(text: &mut Lines, name: &str, age_ms: Option<u64>)
+    ensures { Adds (age_text name.now age_ms) text.old text.new }
 {
     match age_ms {
         Some(age_ms) => add_milliseconds(text, name, age_ms),
-        None => Ok(()),
+        None => {}
     }
 }
 
 /// Adds what the site served.
-fn add_served(text: &mut String, facts: &Facts) -> Result<(), NoMemory>
-    ensures { OnOk result (string_bytes text.new ≡ string_bytes text.old ++ served_text facts.now.sessions
-        facts.now.publishes facts.now.requests facts.now.refused_hosts) }
+fn add_served(text: &mut Lines, facts: &Facts)
+    ensures { Adds (served_text facts.now.sessions facts.now.publishes facts.now.requests facts.now.refused_hosts)
+        text.old text.new }
 {
     add_gauge(
         text,
         "reviewgate_open_sessions",
         "Sessions that are open.",
         facts.sessions,
-    )?;
+    );
     add_counter(
         text,
         "reviewgate_publishes_total",
         "Publishes since the start.",
         facts.publishes,
-    )?;
+    );
     add_counter(
         text,
         "reviewgate_page_requests_total",
         "Requests of pages since the start.",
         facts.requests,
-    )?;
+    );
     add_counter(
         text,
         "reviewgate_refused_hosts_total",
         "Requests that named a host that is not the site's own since the start.",
         facts.refused_hosts,
-    )?;
-    Ok(())
+    );
 }
 
 /// Adds how long the last update of the verdicts took.
-fn add_update(text: &mut String, update_us: u64) -> Result<(), NoMemory>
-    ensures { OnOk result (string_bytes text.new ≡ string_bytes text.old ++ update_text update_us) }
+fn add_update(text: &mut Lines, update_us: u64)
+    ensures { Adds (update_text update_us) text.old text.new }
 {
     let name = "reviewgate_update_duration_seconds";
     add_family(
@@ -241,7 +237,6 @@ fn add_update(text: &mut String, update_us: u64) -> Result<(), NoMemory>
         name,
         "gauge",
         "Seconds that the last update of the verdicts took.",
-    )?;
-    add_microseconds(text, name, update_us)?;
-    Ok(())
+    );
+    add_microseconds(text, name, update_us);
 }

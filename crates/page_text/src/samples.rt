@@ -1,146 +1,136 @@
 //! Lines of the text format of Prometheus.
 
-ghost use Rattle.std.specs.Prelude.{◌≡◌, ◌++◌, OnOk, codes, string_bytes};
+ghost use Rattle.markup_text.specs.Growing.{Adds};
 ghost use Rattle.page_text.specs.Samples.{counter, family, gauge, labelled, micro_sample, milli_sample, sample};
-ghost use Rattle.page_text.specs.Samples.{peer_label, peer_milli_sample, peer_sample, peer_whole_text};
-ghost use Rattle.page_text.specs.Samples.{three_digits, whole_text};
+ghost use Rattle.page_text.specs.Samples.{peer_milli_sample, peer_sample};
 
-use super::labels::push_label;
-use lattice_core::NoMemory;
+use super::lines::{Lines, Part};
 
 /// Adds the lines that say what a metric means and of which type it is.
-pub fn add_family(text: &mut String, name: &str, kind: &str, help: &str) -> Result<(), NoMemory>
-    ensures { OnOk result (string_bytes text.new ≡ string_bytes text.old ++ family name.now kind.now help.now) }
+pub fn add_family<'a>(text: &mut Lines, name: &'a str, kind: &'a str, help: &'a str)
+    ensures { Adds (family name.now kind.now help.now) text.old text.new }
 {
-    write!(text, "# HELP {name} {help}\n# TYPE {name} {kind}\n")?;
-    Ok(())
+    text.add(&[
+        Part::Text("# HELP "),
+        Part::Text(name),
+        Part::Text(" "),
+        Part::Text(help),
+        Part::Text("\n# TYPE "),
+        Part::Text(name),
+        Part::Text(" "),
+        Part::Text(kind),
+        Part::Text("\n"),
+    ]);
 }
 
 /// Adds a sample without labels.
-fn add_sample(text: &mut String, name: &str, value: u64) -> Result<(), NoMemory>
-    ensures { OnOk result (string_bytes text.new ≡ string_bytes text.old ++ sample name.now value) }
+fn add_sample(text: &mut Lines, name: &str, value: u64)
+    ensures { Adds (sample name.now value) text.old text.new }
 {
-    write!(text, "{name} {value}\n")?;
-    Ok(())
+    text.add(&[
+        Part::Text(name),
+        Part::Text(" "),
+        Part::Number(value),
+        Part::Text("\n"),
+    ]);
 }
 
 /// Adds a sample with a label, whose value has no sign that would have to be escaped.
-pub fn add_labelled(
-    text: &mut String,
-    name: &str,
-    label: &str,
-    is: &str,
-    value: u64,
-) -> Result<(), NoMemory>
-    ensures { OnOk result (string_bytes text.new ≡ string_bytes text.old ++ labelled name.now label.now is.now value) }
+pub fn add_labelled<'a>(text: &mut Lines, name: &'a str, label: &'a str, is: &'a str, value: u64)
+    ensures { Adds (labelled name.now label.now is.now value) text.old text.new }
 {
-    write!(text, "{name}{{{label}=\"{is}\"}} {value}\n")?;
-    Ok(())
+    text.add(&[
+        Part::Text(name),
+        Part::Text("{"),
+        Part::Text(label),
+        Part::Text("=\""),
+        Part::Text(is),
+        Part::Text("\"} "),
+        Part::Number(value),
+        Part::Text("\n"),
+    ]);
 }
 
 /// Adds a gauge: what it means, and its value.
-pub fn add_gauge(text: &mut String, name: &str, help: &str, value: u64) -> Result<(), NoMemory>
-    ensures { OnOk result (string_bytes text.new ≡ string_bytes text.old ++ gauge name.now help.now value) }
+pub fn add_gauge(text: &mut Lines, name: &str, help: &str, value: u64)
+    ensures { Adds (gauge name.now help.now value) text.old text.new }
 {
-    add_family(text, name, "gauge", help)?;
-    add_sample(text, name, value)
+    add_family(text, name, "gauge", help);
+    add_sample(text, name, value);
 }
 
 /// Adds a counter: what it means, and its value.
-pub fn add_counter(text: &mut String, name: &str, help: &str, value: u64) -> Result<(), NoMemory>
-    ensures { OnOk result (string_bytes text.new ≡ string_bytes text.old ++ counter name.now help.now value) }
+pub fn add_counter(text: &mut Lines, name: &str, help: &str, value: u64)
+    ensures { Adds (counter name.now help.now value) text.old text.new }
 {
-    add_family(text, name, "counter", help)?;
-    add_sample(text, name, value)
+    add_family(text, name, "counter", help);
+    add_sample(text, name, value);
 }
 
 /// Adds a sample of a duration in seconds.
-pub fn add_milliseconds(text: &mut String, name: &str, value: u64) -> Result<(), NoMemory>
-    ensures { OnOk result (string_bytes text.new ≡ string_bytes text.old ++ milli_sample name.now value) }
+pub fn add_milliseconds(text: &mut Lines, name: &str, value: u64)
+    ensures { Adds (milli_sample name.now value) text.old text.new }
 {
-    add_whole(text, name, value / 1000)?;
-    add_last_three(text, value)?;
-    Ok(())
+    text.add(&[
+        Part::Text(name),
+        Part::Text(" "),
+        Part::Number(value / 1000),
+        Part::Text("."),
+        Part::Number(value / 100 % 10),
+        Part::Number(value / 10 % 10),
+        Part::Number(value % 10),
+        Part::Text("\n"),
+    ]);
 }
 
 /// Adds a sample of a duration in seconds.
-pub fn add_microseconds(text: &mut String, name: &str, value: u64) -> Result<(), NoMemory>
-    ensures { OnOk result (string_bytes text.new ≡ string_bytes text.old ++ micro_sample name.now value) }
+pub fn add_microseconds(text: &mut Lines, name: &str, value: u64)
+    ensures { Adds (micro_sample name.now value) text.old text.new }
 {
-    add_whole(text, name, value / 1_000_000)?;
-    add_three(text, value / 1000)?;
-    add_last_three(text, value)?;
-    Ok(())
-}
-
-/// Adds a sample up to the point of its value.
-fn add_whole(text: &mut String, name: &str, whole: u64) -> Result<(), NoMemory>
-    ensures { OnOk result (string_bytes text.new ≡ string_bytes text.old ++ whole_text name.now whole) }
-{
-    write!(text, "{name} {whole}.")?;
-    Ok(())
-}
-
-/// Adds the last three digits of a number.
-fn add_three(text: &mut String, number: u64) -> Result<(), NoMemory>
-    ensures { OnOk result (string_bytes text.new ≡ string_bytes text.old ++ three_digits number) }
-{
-    let hundreds = number / 100 % 10;
-    let tens = number / 10 % 10;
-    let ones = number % 10;
-    write!(text, "{hundreds}{tens}{ones}")?;
-    Ok(())
-}
-
-/// Adds the last three digits of a number, and the end of the line.
-fn add_last_three(text: &mut String, number: u64) -> Result<(), NoMemory>
-    ensures { OnOk result (string_bytes text.new ≡ string_bytes text.old ++ (three_digits number ++ codes "\n")) }
-{
-    let hundreds = number / 100 % 10;
-    let tens = number / 10 % 10;
-    let ones = number % 10;
-    write!(text, "{hundreds}{tens}{ones}\n")?;
-    Ok(())
+    let milliseconds = value / 1000;
+    text.add(&[
+        Part::Text(name),
+        Part::Text(" "),
+        Part::Number(value / 1_000_000),
+        Part::Text("."),
+        Part::Number(milliseconds / 100 % 10),
+        Part::Number(milliseconds / 10 % 10),
+        Part::Number(milliseconds % 10),
+        Part::Number(value / 100 % 10),
+        Part::Number(value / 10 % 10),
+        Part::Number(value % 10),
+        Part::Text("\n"),
+    ]);
 }
 
 /// Adds a sample of a peer.
-pub fn add_peer(text: &mut String, name: &str, peer: &str, value: u64) -> Result<(), NoMemory>
-    ensures { OnOk result (string_bytes text.new ≡ string_bytes text.old ++ peer_sample name.now peer.now value) }
+pub fn add_peer<'a>(text: &mut Lines, name: &'a str, peer: &'a str, value: u64)
+    ensures { Adds (peer_sample name.now peer.now value) text.old text.new }
 {
-    add_peer_label(text, name, peer)?;
-    write!(text, "{value}\n")?;
-    Ok(())
+    text.add(&[
+        Part::Text(name),
+        Part::Text("{peer=\""),
+        Part::Label(peer),
+        Part::Text("\"} "),
+        Part::Number(value),
+        Part::Text("\n"),
+    ]);
 }
 
 /// Adds a sample of a duration in seconds of a peer.
-pub fn add_peer_milliseconds(
-    text: &mut String,
-    name: &str,
-    peer: &str,
-    value: u64,
-) -> Result<(), NoMemory>
-    ensures { OnOk result (string_bytes text.new ≡ string_bytes text.old ++ peer_milli_sample name.now peer.now value) }
+pub fn add_peer_milliseconds<'a>(text: &mut Lines, name: &'a str, peer: &'a str, value: u64)
+    ensures { Adds (peer_milli_sample name.now peer.now value) text.old text.new }
 {
-    add_peer_whole(text, name, peer, value / 1000)?;
-    add_last_three(text, value)?;
-    Ok(())
-}
-
-/// Adds a sample of a peer up to the point of its value.
-fn add_peer_whole(text: &mut String, name: &str, peer: &str, whole: u64) -> Result<(), NoMemory>
-    ensures { OnOk result (string_bytes text.new ≡ string_bytes text.old ++ peer_whole_text name.now peer.now whole) }
-{
-    add_peer_label(text, name, peer)?;
-    write!(text, "{whole}.")?;
-    Ok(())
-}
-
-/// Adds a sample of a peer up to its value.
-fn add_peer_label(text: &mut String, name: &str, peer: &str) -> Result<(), NoMemory>
-    ensures { OnOk result (string_bytes text.new ≡ string_bytes text.old ++ peer_label name.now peer.now) }
-{
-    write!(text, "{name}{{peer=\"")?;
-    push_label(text, peer)?;
-    text.push_str("\"} ")?;
-    Ok(())
+    text.add(&[
+        Part::Text(name),
+        Part::Text("{peer=\""),
+        Part::Label(peer),
+        Part::Text("\"} "),
+        Part::Number(value / 1000),
+        Part::Text("."),
+        Part::Number(value / 100 % 10),
+        Part::Number(value / 10 % 10),
+        Part::Number(value % 10),
+        Part::Text("\n"),
+    ]);
 }

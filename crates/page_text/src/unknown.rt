@@ -1,13 +1,11 @@
 //! What is answered of a change that isn't known.
 
-ghost use Rattle.std.specs.Prelude.{◌≡◌, IfOk, OnOk};
+ghost use Rattle.std.specs.Prelude.{◌≡◌, IfOk};
 ghost use Rattle.json.specs.Print.{print};
-ghost use Rattle.json_line.specs.Tokens.{AddsTokens};
 ghost use Rattle.page_text.specs.Problem.{problem_tokens};
 
 use super::frame::{begin, end};
-use json::Writer;
-use json_line::{close_object, open_object, put_number, put_text};
+use super::sheet::{Mark, Sheet};
 use lattice_core::NoMemory;
 use markup_text::{Markup, Piece};
 use page_routes::Place;
@@ -39,19 +37,17 @@ fn add_unknown(page: &mut Markup, place: Place) {
 pub fn problem_text(alloc: Global) -> Result<Vec<u8>, NoMemory>
     ensures { IfOk result (λ text. text.items ≡ print problem_tokens) }
 {
-    let mut out = Writer::new(Vec::new(alloc));
-    put_problem(&mut out)?;
-    Ok(out.into_inner())
-}
-
-/// Adds the object of that problem.
-fn put_problem(out: &mut Writer<Global>) -> Result<(), NoMemory>
-    ensures { OnOk result (AddsTokens out.old out.new problem_tokens) }
-{
-    open_object(out)?;
-    put_text(out, "type", "about:blank")?;
-    put_text(out, "title", "Not Found")?;
-    put_number(out, "status", 404)?;
-    close_object(out)?;
-    Ok(())
+    let mut out = Sheet::new(alloc);
+    out.add(&[
+        Mark::Open,
+        Mark::Key("type"),
+        Mark::Text("about:blank"),
+        Mark::Key("title"),
+        Mark::Text("Not Found"),
+        Mark::Key("status"),
+        Mark::Number(404),
+        Mark::Close,
+    ]);
+    let text = out.end()?;
+    Ok(text)
 }

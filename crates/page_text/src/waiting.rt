@@ -2,13 +2,12 @@
 
 ghost use Rattle.std.specs.Prelude.{◌≡◌, ◌++◌, ◌∷◌, [], IfOk, OnOk, filter, flat_map, map, string_bytes};
 ghost use Rattle.json.specs.Token.{string};
-ghost use Rattle.json_line.specs.Tokens.{AddsTokens};
 ghost use Rattle.report_text.specs.Report.{item_text};
+ghost use Rattle.page_text.specs.Sheets.{Notes};
 ghost use Rattle.page_text.specs.Waiting.{names_change, waiting_for, waiting_tokens};
 
 use super::links::add_item_link;
-use json::Writer;
-use json_line::{close_list, open_list};
+use super::sheet::{Mark, Sheet};
 use lattice_core::NoMemory;
 use markup_text::{Markup, Piece};
 use ready_core::{Left, Refusal};
@@ -51,32 +50,38 @@ fn names(refusal: Refusal, change: u32) -> bool
 }
 
 /// Adds the list of these items, as `101,2`.
-pub fn put_waiting(alloc: Global, out: &mut Writer<Global>, items: &[Item]) -> Result<(), NoMemory>
-    ensures { OnOk result (AddsTokens out.old out.new (waiting_tokens items.now)) }
+pub fn put_waiting(alloc: Global, out: &mut Sheet, items: &[Item])
+    ensures { Notes (waiting_tokens items.now) out.old out.new }
 {
-    open_list(out, "waiting")?;
-    put_items(alloc, out, items)?;
-    close_list(out)?;
-    Ok(())
+    out.add(&[Mark::Key("waiting"), Mark::OpenList]);
+    put_items(alloc, out, items);
+    out.add(&[Mark::CloseList]);
 }
 
 /// Adds items.
-fn put_items(alloc: Global, out: &mut Writer<Global>, items: &[Item]) -> Result<(), NoMemory>
-    ensures { OnOk result (AddsTokens out.old out.new (flat_map (λ item. string (item_text item) ∷ []) items.now)) }
+fn put_items(alloc: Global, out: &mut Sheet, items: &[Item])
+    ensures { Notes (flat_map (λ item. string (item_text item) ∷ []) items.now) out.old out.new }
 {
     for item in items {
-        put_item(alloc, out, *item)?;
+        put_item(alloc, out, *item);
     }
-    Ok(())
 }
 
 /// Adds an item.
-fn put_item(alloc: Global, out: &mut Writer<Global>, item: Item) -> Result<(), NoMemory>
-    ensures { OnOk result (AddsTokens out.old out.new (string (item_text item) ∷ [])) }
+fn put_item(alloc: Global, out: &mut Sheet, item: Item)
+    ensures { Notes (string (item_text item) ∷ []) out.old out.new }
 {
-    let text = item_text(alloc, item)?;
-    out.string(text.as_str())?;
-    Ok(())
+    match item_text(alloc, item) {
+        Ok(text) => put_text(out, text.as_str()),
+        Err(_) => out.refuse(),
+    }
+}
+
+/// Adds a text.
+fn put_text(out: &mut Sheet, text: &str)
+    ensures { Notes (string text.now ∷ []) out.old out.new }
+{
+    out.add(&[Mark::Text(text)]);
 }
 
 /// An item, as `101,2`.

@@ -1,8 +1,7 @@
-use Rattle.std.proofs.Common.{◌∙◌}
-use Rattle.page_text.proofs.Adding.{finished}
+use Rattle.page_text.proofs.Marks.{notes_all}
 use Rattle.page_text.proofs.json_status.status_text.Goals as goal
 
 pub returns : goal.returns
 returns c =
-    finished (c.new-out.ensures.before ∙ c.new.ensures.items) c.new-out.ensures.tokens c.in_ok-put_status.ensures
-    c.into_inner.ensures.items
+    notes_all c.new-out.result c.put_status.new.out c.in_ok-text.text.items c.new-out.ensures c.put_status.ensures
+    c.in_ok-text.ensures

@@ -1,13 +1,13 @@
-use Rattle.std.proofs.Common.{◌++◌, ◌∙◌, ap, codes, string_bytes}
+use Rattle.std.proofs.Common.{◌∙◌, codes}
 use Rattle.page_text.specs.Held.{held_words}
 use Rattle.page_text.specs.Samples.{labelled}
+use Rattle.page_text.proofs.Adding.{adds_of}
 use Rattle.page_text.proofs.metrics.add_held_by.Goals as goal
 
-pub returns : goal.returns
-returns c =
-    let old = string_bytes c.args.text.now in
-    let name = codes "reviewgate_held_items" in
-    c.in_ok-add_labelled.ensures
-    ∙ ap (λ words. old ++ labelled name (codes "reason") words c.held_count-count.result)
-    (c.as_str.ensures.value ∙ c.in_ok-words.ensures)
-    ∙ ap (λ count. old ++ labelled name (codes "reason") (held_words c.args.held) count) c.held_count-count.ensures
+pub returns-in-Ok : goal.returns-in-Ok
+returns-in-Ok c =
+    let new = c.add_labelled.new.text in
+    let named = labelled (codes "reviewgate_held_items") (codes "reason") in
+    adds_of c.args.text.now new (named (held_words c.args.held)) c.held_count.ensures
+    (adds_of c.args.text.now new (λ words. named words c.held_count.result) (c.as_str.ensures.value ∙ c.in-Ok.ensures)
+    c.add_labelled.ensures)

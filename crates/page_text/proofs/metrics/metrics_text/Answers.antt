@@ -1,7 +1,8 @@
-use Rattle.std.proofs.Common.{◌++◌, ◌∙◌, ap, length, string_bytes}
+use Rattle.std.proofs.Common.{◌++◌, length}
 use Rattle.state_core.specs.State.{state_of}
 use Rattle.page_text.specs.Metrics as metrics
-use Rattle.page_text.proofs.Adding.{then2}
+use Rattle.markup_text.specs.Adding.{adds_then}
+use Rattle.page_text.proofs.Adding.{adds_all}
 use Rattle.page_text.proofs.metrics.metrics_text.Goals as goal
 
 pub returns : goal.returns
@@ -10,7 +11,6 @@ returns c =
     let figures = metrics.figures_text c.args.gate.now (state_of replica) (length replica) c.args.verdicts.now
     c.args.facts.now in
     let now = metrics.now_text c.args.facts.now in
-    ap (λ v. v.items) c.into_bytes.ensures.value
-    ∙ then2 (string_bytes c.new-text.result) (string_bytes c.add_figures.new.text) (string_bytes c.add_now.new.text)
-    figures now c.in_ok-add_figures.ensures c.in_ok-add_now.ensures
-    ∙ ap (λ l. l ++ (figures ++ now)) c.new-text.ensures.bytes
+    adds_all c.new-text.result c.add_now.new.text (figures ++ now) c.in_ok-bytes.bytes.items c.new-text.ensures
+    (adds_then c.new-text.result c.add_figures.new.text c.add_now.new.text figures now c.add_figures.ensures
+    c.add_now.ensures) c.in_ok-bytes.ensures

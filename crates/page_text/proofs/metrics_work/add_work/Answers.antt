@@ -1,13 +1,13 @@
-use Rattle.std.proofs.Common.{codes, string_bytes}
+use Rattle.std.proofs.Common.{codes}
 use Rattle.page_text.specs.Samples as samples
-use Rattle.page_text.proofs.Adding.{then4}
+use Rattle.page_text.proofs.Adding.{adds_then3}
 use Rattle.page_text.proofs.metrics_work.add_work.Goals as goal
 
 pub returns : goal.returns
 returns c =
     let facts = c.args.facts.now in
-    then4 (string_bytes c.args.text.now) (string_bytes c.add_gauge.new.text) (string_bytes c.add_gauge-2.new.text)
-    (string_bytes c.add_counter.new.text) (string_bytes c.add_counter-2.new.text)
+    adds_then3 c.args.text.now c.add_gauge.new.text c.add_gauge-2.new.text
+    c.add_counter.new.text c.add_counter-2.new.text
     (samples.gauge (codes "reviewgate_workers") (codes "Threads that look at the record for sessions.") facts.workers)
     (samples.gauge (codes "reviewgate_busy_workers")
     (codes "Threads that look at the record for sessions just now.") facts.busy_workers)
@@ -16,4 +16,4 @@ returns c =
     (samples.counter (codes "reviewgate_refused_connections_total")
     (codes "Connections that were closed since the start because as many as may be were open.")
     facts.refused_connections)
-    c.in_ok-add_gauge.ensures c.in_ok-add_gauge-2.ensures c.in_ok-add_counter.ensures c.in_ok-add_counter-2.ensures
+    c.add_gauge.ensures c.add_gauge-2.ensures c.add_counter.ensures c.add_counter-2.ensures

@@ -1,8 +1,5 @@
-use Rattle.std.proofs.Common.{◌∙◌}
-use Rattle.page_text.proofs.Adding.{finished}
+use Rattle.page_text.proofs.Marks.{notes_all}
 use Rattle.page_text.proofs.unknown.problem_text.Goals as goal
 
 pub returns : goal.returns
-returns c =
-    finished (c.new-out.ensures.before ∙ c.new.ensures.items) c.new-out.ensures.tokens c.in_ok-put_problem.ensures
-    c.into_inner.ensures.items
+returns c = notes_all c.new-out.result c.add.new.self c.in_ok-text.text.items c.new-out.ensures c.add.ensures c.in_ok-text.ensures

@@ -1,5 +1,5 @@
-use Rattle.json_line.specs.Adding.{adds_then}
+use Rattle.page_text.proofs.Marks.{notes_then}
 use Rattle.page_text.proofs.waiting.put_waiting.Goals as goal
 
 pub returns : goal.returns
-returns c = adds_then (adds_then c.in_ok-open_list.ensures c.in_ok-put_items.ensures) c.in_ok-close_list.ensures
+returns c = notes_then (notes_then c.add.ensures c.put_items.ensures) c.add-2.ensures
