@@ -13,7 +13,7 @@ use std::alloc::Global;
 use std::sync::Arc;
 
 /// Whom the desk answers.
-#[derive(Clone, Copy, Debug, PartialEq, Eq)]
+#[derive(Clone, Copy)]
 pub enum Asker {
     /// The session of this number, at its place.
     Session { place: usize, session: u64 },

@@ -9,7 +9,7 @@ use std::time::{Clock, Duration, Instant};
 const NEVER: u64 = u64::MAX;
 
 /// What is noted of the pulls from a peer. Moments are counted from the beginning of the site.
-#[derive(Clone, Copy, Debug)]
+#[derive(Clone, Copy)]
 pub struct PeerNote {
     /// Whether the last pull ended well.
     pub is_well: bool,
@@ -40,7 +40,7 @@ pub struct Board {
 }
 
 /// What is noted of a journal.
-#[derive(Clone, Copy, Debug)]
+#[derive(Drop)]
 pub struct JournalNote {
     /// How many bytes it has.
     pub bytes: u64,

@@ -33,7 +33,7 @@ pub(super) enum Passage {
 }
 
 /// By what a connection asks to be let in.
-#[derive(Clone, Copy, Debug, PartialEq, Eq)]
+#[derive(Clone, Copy, PartialEq)]
 pub(super) enum Knock {
     /// By nothing: its line isn't whole yet, or it needn't ask, or was let in.
     None,

@@ -21,7 +21,7 @@ pub struct Closed<K> {
 }
 
 /// How the threads of a site left it.
-#[derive(Clone, Copy, Debug)]
+#[derive(Drop)]
 pub struct Left {
     /// Whether all that it was to print was written.
     pub written: bool,

@@ -8,6 +8,7 @@ ghost use Rattle.report_changes.specs.Lines.{changes_text};
 ghost use Rattle.report_changes.specs.Listing.{listed_of};
 ghost use Rattle.report_text.specs.Report.{report_of};
 ghost use Rattle.site_serve.specs.Fault.{after_window};
+ghost use Rattle.site_serve.specs.InForce.{ruling_gate};
 ghost use Rattle.site_serve.specs.Reports.{IsPrintedOf};
 ghost use Rattle.site_shared.specs.Accounts.{GoesOn};
 ghost use Rattle.state_core.specs.Items.{item_cmp};
@@ -74,47 +75,95 @@ pub fn print_reports<R: Wait + Clock, W: Drain + Drop, E: Drain, J: Naming>(
     output: W,
     errors: &Errors<E>,
 ) -> Printed {
-    let mut printed = Printed {
-        written: true,
-        fault: None,
+    let mut printing = Printing {
+        alloc,
+        ruling,
+        prints,
+        window,
+        output,
+        kept: None,
+        last: nothing_shown(alloc),
+        printed: Printed {
+            written: true,
+            fault: None,
+        },
     };
-    let (mut ruling, mut window, mut output) = (ruling, window, output);
-    let mut last = nothing_shown(alloc);
-    let mut kept = None;
     let mut is_over = false;
     for _ in rt.forever() {
-        ruling.follow(rt, &mut kept);
-        let begun = Instant::now(rt);
-        let shown = next_shown(
-            alloc,
-            ruling.gate(),
-            prints,
-            &mut window,
-            &mut kept,
-            &last.listed,
-        );
-        let rest = rest_since(rt, begun);
-        match shown {
-            Ok(shown) => {
-                if printed.written && is_news(prints, &shown, &last) {
-                    printed.written = is_printed(rt, alloc, &shown, &mut output, errors);
-                }
-                last = shown;
-            }
-            Err(fault) => printed.fault = Some(fault),
-        }
+        let rest = printing.print_next(rt, errors);
         if is_over {
-            return printed;
+            return printing.printed;
         }
-        match news.next(rt, rest) {
-            Stir::Published(receipt) => {
-                let _own = window.learn(&receipt);
-            }
-            Stir::Reloaded => {}
-            Stir::Over => is_over = true,
-        }
+        is_over = printing.is_over_at(news.next(rt, rest));
     }
     unreachable!()
+}
+
+/// What prints the reports of a site, and what it printed.
+#[derive(Drop)]
+struct Printing<'a, W: Drop, J: Naming> {
+    alloc: Global,
+    ruling: Ruling<'a>,
+    prints: Prints,
+    window: OwnWindow<J>,
+    output: W,
+    /// The verdicts of the last look.
+    kept: Option<OwnWatch<J>>,
+    last: Shown,
+    printed: Printed,
+    ghost under_gate: { ForSome kept (λ watch. watch.watch.gate ≡ ruling_gate ruling) },
+}
+
+impl<W: Drain + Drop, J: Naming> Printing<'_, W, J> {
+    /// Prints what is shown now, where that is news. Answers how long to rest then.
+    fn print_next<R: Wait + Clock, E: Drain>(&mut self, rt: &R, errors: &Errors<E>) -> Duration {
+        self.ruling.follow(rt, &mut self.kept);
+        let begun = Instant::now(rt);
+        let shown = next_shown(
+            self.alloc,
+            self.ruling.gate(),
+            self.prints,
+            &mut self.window,
+            &mut self.kept,
+            &self.last.listed,
+        );
+        let rest = rest_since(rt, begun);
+        self.note_shown(rt, shown, errors);
+        rest
+    }
+
+    /// Prints what is shown, or notes why nothing is.
+    fn note_shown<R: Wait, E: Drain>(
+        &mut self,
+        rt: &R,
+        shown: Result<Shown, ServeFault>,
+        errors: &Errors<E>,
+    ) {
+        match shown {
+            Ok(shown) => self.print(rt, shown, errors),
+            Err(fault) => self.printed.fault = Some(fault),
+        }
+    }
+
+    /// Prints what is shown, where that is news and the output has taken all so far.
+    fn print<R: Wait, E: Drain>(&mut self, rt: &R, shown: Shown, errors: &Errors<E>) {
+        if self.printed.written && is_news(self.prints, &shown, &self.last) {
+            self.printed.written = is_printed(rt, self.alloc, &shown, &mut self.output, errors);
+        }
+        self.last = shown;
+    }
+
+    /// Sees what was published. Whether nothing new comes any more.
+    fn is_over_at(&mut self, stir: Stir<J>) -> bool {
+        match stir {
+            Stir::Published(receipt) => {
+                let _own = self.window.learn(&receipt);
+                false
+            }
+            Stir::Reloaded => false,
+            Stir::Over => true,
+        }
+    }
 }
 
 /// Whether a text is printed after the last one: a report where it differs, and what changed where anything did.

@@ -1,7 +1,7 @@
 //! The thread that has all sockets and the desk of a site: in each turn it reads what is there, holds what is to be
 //! taken in, publishes that, and only then writes the answers.
 
-ghost use Rattle.std.specs.Prelude.{◌≡◌, [], IfOk, None, OnErr, true};
+ghost use Rattle.std.specs.Prelude.{◌≡◌, [], IfOk, None, OnErr, OnOk, true};
 ghost use Rattle.std.specs.Arc.{arc_value};
 ghost use Rattle.site_shared.specs.Accounts.{receipt_of};
 
@@ -96,6 +96,8 @@ pub(super) struct House {
 impl Floor {
     /// A loop that has accepted nothing yet.
     pub(super) fn new(house: House) -> Result<Floor, AllocError> {
+        let events = Events::with_capacity(house.alloc, EVENTS)?;
+        let buffer = vec![in house.alloc; 0u8; BLOCK]?;
         let House {
             alloc,
             poll,
@@ -107,9 +109,9 @@ impl Floor {
         Ok(Floor {
             alloc,
             poll,
-            events: Events::with_capacity(alloc, EVENTS)?,
+            events,
             listeners: Some(listeners),
-            buffer: vec![in alloc; 0u8; BLOCK]?,
+            buffer,
             patience,
             most,
             connections,
@@ -423,21 +425,54 @@ pub(super) fn serve_floor<R: Wait + Clock, J: Opening, K: Keeps, E: Drain>(
         (λ receipt. arc_value receipt ≡ receipt_of group.new.entries.account None)) }
     ensures over { OnErr result (group.new.entries.is_over ≡ true) }
 {
-    let mut floor = floor;
-    let alloc = floor.alloc;
-    let Ok(mut places) = Places::new(alloc, floor.connections) else {
-        return Ok(Err(DeskFault::NoMemory(0)));
-    };
+    match Places::new(floor.alloc, floor.connections) {
+        Ok(places) => serve_places(rt, site, floor, places, lines, group),
+        Err(_) => Ok(Err(DeskFault::NoMemory(0))),
+    }
+}
+
+/// Serves the sessions at these places, as `serve_floor` does.
+fn serve_places<R: Wait + Clock, J: Opening, K: Keeps, E: Drain>(
+    rt: &R,
+    site: Site<'_, E, J>,
+    floor: Floor,
+    places: Places<J>,
+    lines: Lines<J>,
+    group: &mut GroupCommit<J, K>,
+) -> Result<Published<J>, NotKept>
+    ensures last { IfOk result (λ last. IfOk last
+        (λ receipt. arc_value receipt ≡ receipt_of group.new.entries.account None)) }
+    ensures over { OnErr result (group.new.entries.is_over ≡ true) }
+{
+    let (mut floor, mut places) = (floor, places);
+    match take_turns(rt, &site, &mut floor, &mut places, &lines, group) {
+        Ok(()) => end_asks(rt, floor.alloc, places, lines, group),
+        Err(fault) => {
+            places.refuse_waiting(floor.alloc, floor.now);
+            Err(fault)
+        }
+    }
+}
+
+/// Takes turns until the site stops. Nobody waits then.
+fn take_turns<R: Wait + Clock, J: Opening, K: Keeps, E: Drain>(
+    rt: &R,
+    site: &Site<'_, E, J>,
+    floor: &mut Floor,
+    places: &mut Places<J>,
+    lines: &Lines<J>,
+    group: &mut GroupCommit<J, K>,
+) -> Result<(), NotKept>
+    ensures none { OnOk result (group.new.waiters ≡ []) }
+    ensures over { OnErr result (group.new.entries.is_over ≡ true) }
+{
     site.board.note_journal(group.kept_bytes());
     for _ in rt.forever() {
-        floor.wait(&mut places);
+        floor.wait(places);
         floor.note_turn(rt, site.board);
-        if let Err(fault) = turn(rt, &site, &mut floor, &mut places, &lines, group) {
-            places.refuse_waiting(alloc, floor.now);
-            return Err(fault);
-        }
-        if floor.is_over(rt, &mut places, site.stop) {
-            return end_asks(rt, alloc, places, lines, group);
+        turn(rt, site, floor, places, lines, group)?;
+        if floor.is_over(rt, places, site.stop) {
+            return Ok(());
         }
     }
     unreachable!()

@@ -40,7 +40,7 @@ impl Peer {
 }
 
 /// How a pull from a peer ended.
-#[derive(Clone, Copy, PartialEq, Eq)]
+#[derive(Clone, Copy, PartialEq)]
 pub enum Condition {
     Well,
     Unreachable,

@@ -24,7 +24,7 @@ use std::sync::Wait;
 pub const BATCH: usize = 4096;
 
 /// The journal failed: nothing more is published or answered.
-#[derive(Clone, Copy, Debug)]
+#[derive(Drop)]
 pub struct NotKept;
 
 /// The ledger of an opening, and all who wait until what is held for them is kept and published: a group commit (DeWitt,

@@ -57,6 +57,7 @@ mod bell;
 mod board;
 mod channel;
 mod closed;
+mod common;
 mod desk;
 mod doorman;
 mod errors;
@@ -84,6 +85,7 @@ mod seats;
 mod session;
 mod session_fault;
 mod setup;
+mod threads;
 
 pub use closed::Closed;
 pub use laws::{

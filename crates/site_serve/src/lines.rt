@@ -31,7 +31,7 @@ use std::time::Duration;
 const LINES_A_TURN: usize = 64;
 
 /// What the lines of a session are done with.
-#[derive(Clone, Copy)]
+#[derive(Drop)]
 pub(super) struct Means<'a, J: Naming> {
     pub alloc: Global,
     /// The session, by its place and its number.

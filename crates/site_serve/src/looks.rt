@@ -20,6 +20,7 @@ use super::jobs::{Job, Reply, Task, Work, Worker};
 use super::outbox::refusing_memory;
 use super::port::SitePort;
 use super::ruling::Ruling;
+use super::session_fault::SessionFault;
 use super::setup::Turn;
 use byte_ends::{Drain, Ends};
 use gossip_line::{LineFault, Look, say_taken, show};
@@ -74,31 +75,54 @@ fn done<R: Wait, E: Drain, T: Turn, J: Naming>(
         task,
     } = job;
     let work = match task {
-        Task::Enter => {
-            turn.enter(session);
-            Work::Entered
-        }
+        Task::Enter => entered(turn, session),
         Task::Knock(knock) => doorman.answer(rt, alloc, knock, errors),
-        Task::Look(look) => {
-            board.begin_look();
-            let work = looked(alloc, &look, &receipt, port);
-            board.end_look();
-            work
-        }
-        Task::Leave(ended) => {
-            turn.left(session);
-            if let Err(fault) = ended {
-                board.note_fault();
-                errors.session_failed(rt, alloc, fault, session);
-            }
-            Work::Left
-        }
+        Task::Look(look) => noted(alloc, &look, &receipt, port, board),
+        Task::Leave(ended) => left(rt, alloc, session, ended, board, errors, turn),
     };
     Reply {
         place,
         session,
         work,
     }
+}
+
+/// A session begins.
+fn entered<T: Turn>(turn: &T, session: u64) -> Work {
+    turn.enter(session);
+    Work::Entered
+}
+
+/// What is answered to a look, which is noted as long as it lasts.
+fn noted<R: Wait, J: Naming>(
+    alloc: Global,
+    look: &Look,
+    receipt: &Option<Arc<BrandedReceipt<J>, Global>>,
+    port: &mut SitePort<'_, '_, R, J>,
+    board: &Board,
+) -> Work {
+    board.begin_look();
+    let work = looked(alloc, look, receipt, port);
+    board.end_look();
+    work
+}
+
+/// A session has ended so.
+fn left<R: Wait, E: Drain, T: Turn>(
+    rt: &R,
+    alloc: Global,
+    session: u64,
+    ended: Result<(), SessionFault>,
+    board: &Board,
+    errors: &Errors<E>,
+    turn: &T,
+) -> Work {
+    turn.left(session);
+    if let Err(fault) = ended {
+        board.note_fault();
+        errors.session_failed(rt, alloc, fault, session);
+    }
+    Work::Left
 }
 
 /// What is answered to a look, which sees no less than what the receipt has seen published.

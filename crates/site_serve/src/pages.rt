@@ -40,7 +40,7 @@ const REST: u32 = 9;
 const LONGEST_REST_MS: u64 = 1_000;
 
 /// What a site is shown by.
-#[derive(Clone, Copy)]
+#[derive(Drop)]
 pub(super) struct Shower<'a, R> {
     pub rt: &'a R,
     pub alloc: Global,
@@ -175,12 +175,12 @@ impl<R: Wait + Clock, J: Naming> SitePages<'_, R, J> {
 
     /// How long the site has run, once the next look may begin.
     fn awaited(&self) -> Duration {
-        let Shower { rt, board, .. } = self.shower;
-        let now = board.now(rt).unwrap_or(self.next);
+        let Shower { rt, board, .. } = &self.shower;
+        let now = board.now(*rt).unwrap_or(self.next);
         if now >= self.next || board.publishes() == self.publishes {
             return now;
         }
-        thread::sleep(rt, self.next.saturating_sub(now));
+        thread::sleep(*rt, self.next.saturating_sub(now));
         self.next
     }
 
@@ -191,24 +191,16 @@ impl<R: Wait + Clock, J: Naming> SitePages<'_, R, J> {
 
     /// What is known of the site beside its record.
     fn facts(&self, now: Duration) -> Result<Facts, AllocError> {
-        let Shower {
-            rt,
-            alloc,
-            board,
-            site,
-            start,
-            workers,
-            peers,
-            ..
-        } = self.shower;
+        let peers = self.peers(now)?;
+        let board = self.shower.board;
         Ok(Facts {
-            site,
-            start,
+            site: self.shower.site,
+            start: self.shower.start,
             age_ms: 0,
             news_ms: since(board.since_news(now)),
-            peers: peers_of(alloc, peers, &board.peers(rt, alloc)?, now)?,
+            peers,
             sessions: board.sessions(),
-            workers: workers as u64,
+            workers: self.shower.workers as u64,
             busy_workers: board.looking(),
             session_faults: board.session_faults(),
             refused_connections: board.refused_connections(),
@@ -219,6 +211,13 @@ impl<R: Wait + Clock, J: Naming> SitePages<'_, R, J> {
             refused_hosts: self.refused_hosts,
             update_us: self.update_us,
         })
+    }
+
+    /// What is known of the peers.
+    fn peers(&self, now: Duration) -> Result<Vec<PeerFacts>, AllocError> {
+        let alloc = self.shower.alloc;
+        let notes = self.shower.board.peers(self.shower.rt, alloc)?;
+        peers_of(alloc, self.shower.peers, notes.as_slice(), now)
     }
 }
 
@@ -298,19 +297,30 @@ fn peers_of(
 ) -> Result<Vec<PeerFacts>, AllocError> {
     let mut peers = Vec::with_capacity(alloc, notes.len())?;
     for (address, note) in addresses.iter().zip(notes) {
-        let last_well = note.last_well.map(|then| now.saturating_sub(then));
-        let mut peer = String::new(alloc);
-        address.write(&mut peer)?;
-        peers.push(PeerFacts {
-            peer,
-            is_reachable: note.is_well,
-            condition_ms: millis(now.saturating_sub(note.since)),
-            good_ms: since(last_well),
-            pulls: note.pulls,
-            failures: note.failures,
-        })?;
+        let peer = text_of(alloc, *address)?;
+        peers.push(peer_facts(peer, note, now))?;
     }
     Ok(peers)
+}
+
+/// The address of a peer.
+fn text_of(alloc: Global, address: PeerAddress<'_>) -> Result<String, AllocError> {
+    let mut text = String::new(alloc);
+    address.write(&mut text)?;
+    Ok(text)
+}
+
+/// What is known of a peer with this address now.
+fn peer_facts(peer: String, note: &PeerNote, now: Duration) -> PeerFacts {
+    let last_well = note.last_well.map(|then| now.saturating_sub(then));
+    PeerFacts {
+        peer,
+        is_reachable: note.is_well,
+        condition_ms: millis(now.saturating_sub(note.since)),
+        good_ms: since(last_well),
+        pulls: note.pulls,
+        failures: note.failures,
+    }
 }
 
 /// What is known of the journal, if there is one.

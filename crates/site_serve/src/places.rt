@@ -21,16 +21,13 @@ pub(super) struct Places<J: Naming> {
 impl<J: Naming> Places<J> {
     /// So many places, all free.
     pub(super) fn new(alloc: Global, places: usize) -> Result<Places<J>, AllocError> {
-        let mut sessions = Vec::with_capacity(alloc, places)?;
-        let mut free = Vec::with_capacity(alloc, places)?;
-        for place in 0..places {
-            sessions.push(None)?;
-            free.push(place)?;
-        }
+        let free = free_ones(alloc, places)?;
+        let listed = Vec::with_capacity(alloc, places)?;
+        let sessions = empty_seats(alloc, places)?;
         Ok(Places {
             sessions,
             free,
-            listed: Vec::with_capacity(alloc, places)?,
+            listed,
         })
     }
 
@@ -168,31 +165,38 @@ impl<J: Naming> Places<J> {
         }
     }
 
-    /// Takes what a worker has done for a session, unless that has gone.
+    /// Takes what a worker has done for a session, unless that has gone. Whether the session has ended.
     pub(super) fn take_reply(&mut self, reply: Reply, now: Duration) -> bool {
         let Reply {
             place,
             session: number,
             work,
         } = reply;
-        let Some(session) = self.session(place) else {
-            return false;
-        };
-        if session.number != number {
+        if !self.is_at(place, number) {
             return false;
         }
-        match work {
-            Work::Entered => session.come_back(),
-            Work::Admitted(admitted) => session.let_in(admitted, now),
-            Work::Barred(answer) => session.keep_out(answer),
-            Work::Looked(text, answered) => session.take_text(text, answered),
-            Work::Left => {
-                self.vacate(place);
-                return true;
-            }
+        if matches!(&work, Work::Left) {
+            self.vacate(place);
+            return true;
         }
+        self.note_work(place, work, now);
         self.list(place);
         false
+    }
+
+    /// Whether the session of a number is at a place.
+    fn is_at(&self, place: usize, number: u64) -> bool {
+        match self.sessions.get(place) {
+            Some(Some(session)) => session.number == number,
+            _ => false,
+        }
+    }
+
+    /// Has the session at a place go on with what a worker has done for it.
+    fn note_work(&mut self, place: usize, work: Work, now: Duration) {
+        if let Some(session) = self.session(place) {
+            go_on(session, work, now);
+        }
     }
 
     /// How many bytes of answers wait to be read.
@@ -230,6 +234,38 @@ impl<J: Naming> Places<J> {
                 self.list(place);
             }
         }
+    }
+}
+
+/// So many places.
+fn free_ones(alloc: Global, places: usize) -> Result<Vec<usize>, AllocError> {
+    let mut free = Vec::with_capacity(alloc, places)?;
+    for place in 0..places {
+        free.push(place)?;
+    }
+    Ok(free)
+}
+
+/// So many places without a session.
+fn empty_seats<J: Naming>(
+    alloc: Global,
+    places: usize,
+) -> Result<Vec<Option<Session<J>>>, AllocError> {
+    let mut seats = Vec::with_capacity(alloc, places)?;
+    for _ in 0..places {
+        seats.push(None)?;
+    }
+    Ok(seats)
+}
+
+/// Has a session go on with what a worker has done for it.
+fn go_on<J: Naming>(session: &mut Session<J>, work: Work, now: Duration) {
+    match work {
+        Work::Entered => session.come_back(),
+        Work::Admitted(admitted) => session.let_in(admitted, now),
+        Work::Barred(answer) => session.keep_out(answer),
+        Work::Looked(text, answered) => session.take_text(text, answered),
+        Work::Left => {}
     }
 }
 

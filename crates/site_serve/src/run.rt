@@ -1,54 +1,45 @@
 //! Runs a site.
 
-ghost use Rattle.std.specs.Prelude.{◌≡◌, ◌∷◌, [], true, All, IfOk, IsErr, List};
+ghost use Rattle.std.specs.Prelude.{◌≡◌, ◌∷◌, ◌<◌, ◌≤◌, ◌+◌, [], true, All, IfOk, IsErr, List};
 ghost use Rattle.std.specs.Arc.{arc_value};
 ghost use Rattle.std.specs.List.{list_any};
-ghost use Rattle.std.specs.Thread.{IsSend, IsSync};
 ghost use Rattle.replica_core.specs.Journal.{all_arrived};
 ghost use Rattle.review_ops.specs.Operation.{Operation};
 ghost use Rattle.site_serve.specs.Fault.{after_opening};
-ghost use Rattle.site_serve.specs.InForce.{gate_in, ruling_gate};
 ghost use Rattle.site_serve.specs.Openings.{HasKept, HasShown};
 ghost use Rattle.site_shared.specs.Accounts.{is_used};
 
-use super::ask::Place;
 use super::board::Board;
 use super::closed::{Closed, Left, served_of, unserved};
-use super::desk::Published;
-use super::doorman::Doorman;
+use super::common::{Common, Firsts, Ways};
 use super::errors::Errors;
-use super::evaluator::{Printed, print_reports};
-use super::floor::{BELL, DOOR, Floor, House, Site, serve_floor};
-use super::gossip::{Peer, Pulling, pull_from_peers};
-use super::group_commit::{GroupCommit, NotKept};
-use super::jobs::Worker;
+use super::evaluator::Printed;
+use super::floor::{BELL, DOOR, Floor, House};
+use super::gossip::Peer;
+use super::group_commit::GroupCommit;
 use super::listeners::Listeners;
-use super::looks::do_jobs;
 use super::news::News;
-use super::opening::{Opening, OwnLedger, OwnWindow};
-use super::pages::{Shower, show_pages};
-use super::port::PullPort;
-use super::reloads::{InForce, Reloads};
-use super::ruling::Ruling;
-use super::seats::{Lines, Seats, seated};
-use super::setup::{Doorstep, Prints, ServeFault, Served, Setup, Turn};
+use super::opening::{Opening, OwnLedger};
+use super::reloads::InForce;
+use super::seats::{Seats, seated};
+use super::setup::{Doorstep, ServeFault, Served, Setup, Turn};
+use super::threads::{Beside, Ended, Hands, run_threads};
 use byte_ends::Drain;
+use gate_rules::Gate;
 use mio::{Poll, Waker};
-use page_server::Door;
 use pull_guard::Guard;
-use site_address::PeerAddress;
+use replica_core::Replica;
 use site_ledger::{Keeps, Ledger, NoJournal, Remains};
 use site_net::{Listener, Patience, Stop};
-use site_port::Guarded;
 use site_shared::{Desk, Naming, OpenFault, Window, open_site};
 use std::alloc::{AllocError, Global};
+use std::io;
 use std::marker::Brand;
 use std::net::{Net, TcpListener, TcpStream};
 use std::sync::atomic::{AtomicBool, Ordering};
 use std::sync::{Arc, Wait};
 use std::thread::Threads;
 use std::time::{Clock, Duration};
-use std::{io, thread};
 
 /// How many workers look side by side at most.
 const MOST_WORKERS: usize = 6;
@@ -61,32 +52,6 @@ const MOST_CONNECTIONS: usize = 65_535;
 
 /// How many milliseconds a site waits for the other side of a connection.
 const PATIENCE_MS: u64 = 30_000;
-
-/// How many milliseconds a pull waits for each line of the peer.
-const PULL_PATIENCE_MS: u64 = 10_000;
-
-/// What the threads of a site share.
-#[derive(Drop)]
-struct Common<'a, E: Drain, T: Turn> {
-    alloc: Global,
-    /// The gate that the site begins with, and those that are put in force in its place.
-    first: InForce,
-    reloads: Arc<Reloads, Global>,
-    prints: Prints,
-    guard: Guard,
-    start: u32,
-    workers: usize,
-    peers: Vec<PeerAddress<'a>>,
-    keys: Option<&'a str>,
-    pause: Duration,
-    patience: Patience,
-    errors: Errors<E>,
-    board: Board,
-    stop: &'a Stop,
-    turn: &'a T,
-    /// Whether another process takes in as this site.
-    is_start_taken: AtomicBool,
-}
 
 /// Runs a site without a journal at one port, as `serve_keeping` does.
 pub fn serve_run<R, W, E, T>(
@@ -108,14 +73,20 @@ where
     ensures record { (more : List Operation)
         × IfOk result (λ served. served.replica ≡ all_arrived setup.entry.replica more) }
 {
-    let mut listeners = Vec::new(alloc);
-    if listeners.push(Listener::Port(listener)).is_err() {
+    let Ok(listeners) = alone(alloc, listener) else {
         return Err(ServeFault::NoMemory);
-    }
+    };
     let Closed { keeper: _, served } = serve_keeping(
         rt, alloc, listeners, setup, stop, output, errors, turn, NoJournal,
     );
     served
+}
+
+/// One port to listen at.
+fn alone(alloc: Global, listener: TcpListener) -> Result<Vec<Listener>, AllocError> {
+    let mut listeners = Vec::new(alloc);
+    listeners.push(Listener::Port(listener))?;
+    Ok(listeners)
 }
 
 /// Runs a site until it is asked to stop, or until all its sessions have ended: its sessions, its pulls and its reports
@@ -152,6 +123,37 @@ where
     // just `more`.
     ensures keeps { HasKept K.survives (K.holds keeper) setup.entry.replica result.keeper result.served }
 {
+    match begin(rt, alloc, listeners, setup, stop, errors, turn) {
+        Ok(begun) => run_begun(rt, begun, output, keeper),
+        Err(fault) => unserved(keeper, fault),
+    }
+}
+
+/// How much a site does at once, and when it ends.
+#[derive(Drop)]
+struct Limits {
+    workers: usize,
+    pullers: usize,
+    /// How many sessions there are to be; without end where that is 0.
+    sessions: u64,
+    connections: usize,
+}
+
+/// What a site is run with beside its gate, by who needs it.
+#[derive(Drop)]
+struct Parts<'a> {
+    replica: Replica,
+    page: Option<Doorstep>,
+    ways: Ways<'a>,
+    limits: Limits,
+}
+
+/// The gate of a setup, and its other parts.
+fn parts_of<'a>(setup: Setup<'a>) -> (Gate, Parts<'a>)
+    ensures opens { (result.1.replica ≡ setup.entry.replica) × (result.1.ways.guard.own ≡ setup.entry.site)
+        × (result.1.ways.start ≡ setup.entry.start) }
+    ensures windows { result.1.limits.workers + 2 + result.1.limits.pullers ≤ 64 }
+{
     let Setup {
         gate,
         reloads,
@@ -170,20 +172,13 @@ where
         page,
     } = setup;
     let workers = workers.max(1).min(MOST_WORKERS);
-    let pullers = peers.len().max(1).min(WINDOWS - 2 - workers);
-    let Ok((poll, listeners)) = polled(rt, alloc, listeners) else {
-        return unserved(keeper, ServeFault::NoPlace);
+    let limits = Limits {
+        workers,
+        pullers: peers.len().max(1).min(WINDOWS - 2 - workers),
+        sessions,
+        connections: connections.max(1).min(MOST_CONNECTIONS),
     };
-    let (Ok(shares), Ok(board), Ok(first)) = (
-        shares_of(alloc, peers.len(), pullers),
-        Board::new(rt, alloc, peers.len()),
-        InForce::first(alloc, gate),
-    ) else {
-        return unserved(keeper, ServeFault::NoMemory);
-    };
-    let common = Common {
-        alloc,
-        first,
+    let ways = Ways {
         reloads,
         prints,
         guard: Guard { own: site, sites },
@@ -193,23 +188,177 @@ where
         keys,
         pause: Duration::from_millis(pause_ms),
         patience: patience_of(idle_ms),
-        errors: Errors::new(errors),
-        board,
-        stop,
-        turn,
-        is_start_taken: AtomicBool::new(false),
     };
-    let loft = Loft {
+    let parts = Parts {
+        replica,
+        page,
+        ways,
+        limits,
+    };
+    (gate, parts)
+}
+
+/// A site that has all with which it is opened, and the record that it is opened with.
+#[derive(Drop)]
+struct Begun<'a, E: Drain, T: Turn> {
+    common: Common<'a, E, T>,
+    loft: Loft,
+    replica: Replica,
+}
+
+/// Makes what a site is opened with. Refusals: `NoPlace`, the system refused a poll or a listener; `NoMemory`.
+fn begin<'a, R, E, T>(
+    rt: &R,
+    alloc: Global,
+    listeners: Vec<Listener>,
+    setup: Setup<'a>,
+    stop: &'a Stop,
+    errors: E,
+    turn: &'a T,
+) -> Result<Begun<'a, E, T>, ServeFault>
+where
+    R: Net + Clock,
+    E: Drain + Drop,
+    T: Turn,
+    ensures opens { IfOk result (λ begun. (begun.replica ≡ setup.entry.replica)
+        × (begun.common.ways.guard.own ≡ setup.entry.site) × (begun.common.ways.start ≡ setup.entry.start)) }
+    ensures windows { IfOk result (λ begun. begun.loft.limits.workers + 2 + begun.loft.limits.pullers ≤ 64) }
+{
+    let (gate, parts) = parts_of(setup);
+    let (peers, pullers) = (parts.ways.peers.len(), parts.limits.pullers);
+    match make(rt, alloc, listeners, gate, peers, pullers) {
+        Ok(made) => Ok(begun_with(alloc, made, parts, stop, errors, turn)),
+        Err(fault) => Err(fault),
+    }
+}
+
+/// What a site is opened with, of these parts.
+fn begun_with<'a, E: Drain, T: Turn>(
+    alloc: Global,
+    made: Made,
+    parts: Parts<'a>,
+    stop: &'a Stop,
+    errors: E,
+    turn: &'a T,
+) -> Begun<'a, E, T>
+    ensures opens { (result.replica ≡ parts.entry.replica)
+        × (result.common.ways.guard.own ≡ parts.entry.ways.guard.own)
+        × (result.common.ways.start ≡ parts.entry.ways.start) }
+    ensures limits { result.loft.limits ≡ parts.entry.limits }
+{
+    let Made {
         poll,
         listeners,
+        shares,
+        board,
+        first,
+    } = made;
+    let Parts {
+        replica,
         page,
-        most: sessions,
-        workers,
-        connections: connections.max(1).min(MOST_CONNECTIONS),
+        ways,
+        limits,
+    } = parts;
+    let house = House {
+        alloc,
+        poll,
+        listeners,
+        patience: ways.patience,
+        most: limits.sessions,
+        connections: limits.connections,
     };
-    match open_site(rt, site, start, workers + 2 + pullers, replica) {
+    Begun {
+        common: Common {
+            alloc,
+            ways,
+            first,
+            errors: Errors::new(errors),
+            board,
+            stop,
+            turn,
+            is_start_taken: AtomicBool::new(false),
+        },
+        loft: Loft {
+            house,
+            beside: Beside { page, shares },
+            limits,
+        },
+        replica,
+    }
+}
+
+/// What is made for a site, which may be refused.
+#[derive(Drop)]
+struct Made {
+    poll: Poll,
+    listeners: Listeners,
+    shares: Vec<Vec<Peer>>,
+    board: Board,
+    first: InForce,
+}
+
+/// What is made for a site that listens there, with this gate, so many peers and so many threads that pull from them.
+fn make<R: Net + Clock>(
+    rt: &R,
+    alloc: Global,
+    listeners: Vec<Listener>,
+    gate: Gate,
+    peers: usize,
+    pullers: usize,
+) -> Result<Made, ServeFault> {
+    let Ok((poll, listeners)) = polled(rt, alloc, listeners) else {
+        return Err(ServeFault::NoPlace);
+    };
+    match noted(rt, alloc, gate, peers, pullers) {
+        Ok((shares, board, first)) => Ok(Made {
+            poll,
+            listeners,
+            shares,
+            board,
+            first,
+        }),
+        Err(_) => Err(ServeFault::NoMemory),
+    }
+}
+
+/// The shares of the peers, what is noted of them, and the gate in force.
+fn noted<R: Clock>(
+    rt: &R,
+    alloc: Global,
+    gate: Gate,
+    peers: usize,
+    pullers: usize,
+) -> Result<(Vec<Vec<Peer>>, Board, InForce), AllocError> {
+    let first = InForce::first(alloc, gate)?;
+    let board = Board::new(rt, alloc, peers)?;
+    let shares = shares_of(alloc, peers, pullers)?;
+    Ok((shares, board, first))
+}
+
+/// Opens a site that has all that it needs for that, and runs it.
+fn run_begun<R, W, E, T, K>(rt: &R, begun: Begun<'_, E, T>, output: W, keeper: K) -> Closed<K>
+where
+    R: Net<Listener = TcpListener, Stream = TcpStream> + Threads + Wait + Clock + Sync,
+    W: Drain + Send + Drop,
+    E: Drain + Send + Drop,
+    T: Turn + Sync,
+    K: Keeps,
+    requires keeper { (first : List Operation) × K.holds keeper first }
+    requires windows { begun.loft.limits.workers + 2 + begun.loft.limits.pullers ≤ 64 }
+    ensures used { list_any (is_used begun.entry.common.ways.guard.own begun.entry.common.ways.start) begun.entry.replica ≡ true
+        → IsErr result.served }
+    ensures keeps { HasKept K.survives (K.holds keeper) begun.entry.replica result.keeper result.served }
+{
+    let Begun {
+        common,
+        loft,
+        replica,
+    } = begun;
+    let windows = loft.limits.workers + 2 + loft.limits.pullers;
+    let (site, start) = (common.ways.guard.own, common.ways.start);
+    match open_site(rt, site, start, windows, replica) {
         Ok((desk, windows)) => run_opened::<Brand, R, W, E, T, K>(
-            rt, &common, loft, shares, desk, windows, output, keeper,
+            rt, &common, loft, desk, windows, output, keeper,
         ),
         Err(fault) => unserved(keeper, open_fault(fault)),
     }
@@ -217,15 +366,10 @@ where
 
 /// Peers of which nothing is known yet, in as many shares as there are threads that pull.
 fn shares_of(alloc: Global, count: usize, pullers: usize) -> Result<Vec<Vec<Peer>>, AllocError> {
-    let mut shares = Vec::with_capacity(alloc, pullers)?;
-    for _ in 0..pullers {
-        shares.push(Vec::new(alloc))?;
-    }
+    let mut shares = empty_shares(alloc, pullers)?;
     let mut next = 0;
     for place in 0..count {
-        if let Some(share) = shares.get_mut(next) {
-            share.push(Peer::at(place))?;
-        }
+        add_peer(shares.as_mut_slice(), next, place)?;
         next = next.wrapping_add(1);
         if next >= pullers {
             next = 0;
@@ -234,15 +378,29 @@ fn shares_of(alloc: Global, count: usize, pullers: usize) -> Result<Vec<Vec<Peer
     Ok(shares)
 }
 
-/// What the loop is made of, and the page.
+/// So many shares without a peer.
+fn empty_shares(alloc: Global, pullers: usize) -> Result<Vec<Vec<Peer>>, AllocError> {
+    let mut shares = Vec::with_capacity(alloc, pullers)?;
+    for _ in 0..pullers {
+        shares.push(Vec::new(alloc))?;
+    }
+    Ok(shares)
+}
+
+/// Adds the peer at a place to one of the shares.
+fn add_peer(shares: &mut [Vec<Peer>], share: usize, place: usize) -> Result<(), AllocError> {
+    if let Some(share) = shares.get_mut(share) {
+        share.push(Peer::at(place))?;
+    }
+    Ok(())
+}
+
+/// What the loop is made of, and what is for the threads beside it.
 #[derive(Drop)]
 struct Loft {
-    poll: Poll,
-    listeners: Listeners,
-    page: Option<Doorstep>,
-    most: u64,
-    workers: usize,
-    connections: usize,
+    house: House,
+    beside: Beside,
+    limits: Limits,
 }
 
 /// A poll, and the listeners that it reports.
@@ -285,7 +443,6 @@ fn run_opened<J, R, W, E, T, K>(
     rt: &R,
     common: &Common<'_, E, T>,
     loft: Loft,
-    shares: Vec<Vec<Peer>>,
     desk: Desk,
     windows: Vec<Window>,
     output: W,
@@ -308,7 +465,7 @@ where
     let ledger: OwnLedger<J, K> = OwnLedger::new(Ledger::new(desk, keeper));
     match GroupCommit::new(common.alloc, ledger) {
         Ok(mut group) => {
-            let left = run_group(rt, common, loft, shares, windows, &mut group, output);
+            let left = run_group(rt, common, loft, windows, &mut group, output);
             closed::<J, K>(left, group.end(rt))
         }
         Err(ledger) => closed::<J, K>(Err(ServeFault::NoMemory), ledger.end(rt)),
@@ -332,7 +489,6 @@ fn run_group<J, R, W, E, T, K>(
     rt: &R,
     common: &Common<'_, E, T>,
     loft: Loft,
-    shares: Vec<Vec<Peer>>,
     windows: Vec<Window>,
     group: &mut GroupCommit<J, K>,
     output: W,
@@ -344,23 +500,111 @@ where
     E: Drain + Send + Drop,
     T: Turn + Sync,
     K: Keeps,
-    requires windows { All (λ window. window.book ≡ J.book) windows.items }
+    requires { All (λ window. window.book ≡ J.book) windows.items }
 {
-    match seated(common.alloc, windows, loft.workers, loft.connections) {
-        Ok(Some(seats)) => run_seated(rt, common, loft, shares, group, seats, output),
+    match staffed(common, loft, windows) {
+        Ok(staff) => run_staffed(rt, common, staff, group, output),
+        Err(fault) => Err(fault),
+    }
+}
+
+/// What the threads of a site run with, and the loop.
+#[derive(Drop)]
+struct Staff<J: Naming> {
+    seats: Seats<J>,
+    news: News<J>,
+    firsts: Firsts,
+    rig: Rig,
+}
+
+/// What the threads of a site run with. Refusals: `NoPlace`, there are fewer windows than threads, or the system refused
+/// what wakes the loop; `NoMemory`.
+fn staffed<E: Drain, T: Turn, J: Naming>(
+    common: &Common<'_, E, T>,
+    loft: Loft,
+    windows: Vec<Window>,
+) -> Result<Staff<J>, ServeFault>
+    requires { All (λ window. window.book ≡ J.book) windows.items }
+{
+    let seats = seats_of(common.alloc, windows, &loft.limits)?;
+    let Ok((news, firsts)) = told(common, loft.limits.workers) else {
+        return Err(ServeFault::NoMemory);
+    };
+    match rigged(loft) {
+        Ok(rig) => Ok(Staff {
+            seats,
+            news,
+            firsts,
+            rig,
+        }),
+        Err(fault) => Err(fault),
+    }
+}
+
+/// A seat for each thread.
+fn seats_of<J: Naming>(
+    alloc: Global,
+    windows: Vec<Window>,
+    limits: &Limits,
+) -> Result<Seats<J>, ServeFault>
+    requires { All (λ window. window.book ≡ J.book) windows.items }
+{
+    match seated(alloc, windows, limits.workers, limits.connections) {
+        Ok(Some(seats)) => Ok(seats),
         Ok(None) => Err(ServeFault::NoPlace),
         Err(_) => Err(ServeFault::NoMemory),
     }
 }
 
+/// What tells the threads of news, and the gates that they judge under at first.
+fn told<E: Drain, T: Turn, J: Naming>(
+    common: &Common<'_, E, T>,
+    workers: usize,
+) -> Result<(News<J>, Firsts), AllocError> {
+    let reloads = Arc::try_clone(&common.ways.reloads)?;
+    let firsts = Firsts::new(common.alloc, &common.first, workers)?;
+    Ok((News::new(reloads), firsts))
+}
+
+/// The loop with what wakes it, and what is for the threads beside it.
+#[derive(Drop)]
+struct Rig {
+    waker: Waker,
+    floor: Floor,
+    beside: Beside,
+}
+
+/// The loop with what wakes it.
+fn rigged(loft: Loft) -> Result<Rig, ServeFault> {
+    match Waker::new(loft.house.poll.registry(), BELL) {
+        Ok(waker) => with_floor(loft, waker),
+        Err(_) => Err(ServeFault::NoPlace),
+    }
+}
+
+/// The loop, with this to wake it.
+fn with_floor(loft: Loft, waker: Waker) -> Result<Rig, ServeFault> {
+    let Loft {
+        house,
+        beside,
+        limits: _,
+    } = loft;
+    match Floor::new(house) {
+        Ok(floor) => Ok(Rig {
+            waker,
+            floor,
+            beside,
+        }),
+        Err(_) => Err(ServeFault::NoMemory),
+    }
+}
+
 /// Runs a site whose threads have their seats.
-fn run_seated<J, R, W, E, T, K>(
+fn run_staffed<J, R, W, E, T, K>(
     rt: &R,
     common: &Common<'_, E, T>,
-    loft: Loft,
-    shares: Vec<Vec<Peer>>,
+    staff: Staff<J>,
     group: &mut GroupCommit<J, K>,
-    seats: Seats<J>,
     output: W,
 ) -> Result<Left, ServeFault>
 where
@@ -371,13 +615,12 @@ where
     T: Turn + Sync,
     K: Keeps,
 {
-    let (Ok(reloads), Ok(rulings)) = (
-        Arc::try_clone(&common.reloads),
-        rulings_of(&*common, loft.workers),
-    ) else {
-        return Err(ServeFault::NoMemory);
-    };
-    let news = News::new(reloads);
+    let Staff {
+        seats,
+        news,
+        firsts,
+        rig,
+    } = staff;
     let Seats {
         reports,
         pages,
@@ -385,324 +628,22 @@ where
         workers,
         lines,
     } = seats;
-    let Loft {
-        poll,
-        listeners,
-        page,
-        most,
-        workers: _,
-        connections,
-    } = loft;
-    let Ok(waker) = Waker::new(poll.registry(), BELL) else {
-        return Err(ServeFault::NoPlace);
-    };
-    let house = House {
-        alloc: common.alloc,
-        poll,
-        listeners,
-        patience: common.patience,
-        most,
-        connections,
-    };
-    let Ok(floor) = Floor::new(house) else {
-        return Err(ServeFault::NoMemory);
-    };
+    let Rig {
+        waker,
+        floor,
+        beside,
+    } = rig;
     let hands = Hands {
         reports,
-        pages,
-        page,
-        pullers,
-        workers,
-        rulings,
-        waker: &waker,
-    };
-    let ended = run_threads(
-        rt, common, shares, group, &news, hands, floor, lines, output,
-    );
-    left_of(ended, common.is_start_taken.load(Ordering::SeqCst))
-}
-
-/// The seats of the threads beside the loop.
-#[derive(Drop)]
-struct Hands<'a, J: Naming> {
-    reports: OwnWindow<J>,
-    pages: OwnWindow<J>,
-    page: Option<Doorstep>,
-    pullers: Vec<Place<J>>,
-    workers: Vec<Worker<J>>,
-    rulings: Rulings<'a>,
-    waker: &'a Waker,
-}
-
-/// What the threads of a site judge under.
-#[derive(Drop)]
-struct Rulings<'a> {
-    reports: Ruling<'a>,
-    pages: Ruling<'a>,
-    workers: Vec<Ruling<'a>>,
-}
-
-/// A ruling for each thread that judges, of so many workers: at first each judges under the gate that the site begins
-/// with.
-fn rulings_of<'a, E: Drain, T: Turn>(
-    common: &'a Common<'_, E, T>,
-    workers: usize,
-) -> Result<Rulings<'a>, AllocError> {
-    let mut rulings = Vec::with_capacity(common.alloc, workers)?;
-    for _ in 0..workers {
-        rulings.push(common.ruling()?)?;
-    }
-    Ok(Rulings {
-        reports: common.ruling()?,
-        pages: common.ruling()?,
-        workers: rulings,
-    })
-}
-
-impl<E: Drain, T: Turn> Common<'_, E, T> {
-    /// A ruling under the gate that the site begins with.
-    fn ruling(&self) -> Result<Ruling<'_>, AllocError>
-        ensures { IfOk result (λ ruling. ruling_gate ruling ≡ gate_in self.now.first) }
-    {
-        Ok(Ruling::new(&self.reloads, self.first.share()?))
-    }
-}
-
-/// How the threads of a site ended.
-#[derive(Drop)]
-struct Ended<J: Naming> {
-    /// The last publish; or that the journal failed.
-    flushed: Result<Published<J>, NotKept>,
-    /// What the printing of reports left; none where it never began.
-    printed: Option<Printed>,
-    /// Whether the system refused a thread.
-    is_refused: bool,
-}
-
-/// Runs the threads of a site, and its loop in this one.
-fn run_threads<J, R, W, E, T, K>(
-    rt: &R,
-    common: &Common<'_, E, T>,
-    shares: Vec<Vec<Peer>>,
-    group: &mut GroupCommit<J, K>,
-    news: &News<J>,
-    hands: Hands<'_, J>,
-    floor: Floor,
-    lines: Lines<J>,
-    output: W,
-) -> Ended<J>
-where
-    J: Opening + Send + Sync,
-    R: Net<Listener = TcpListener, Stream = TcpStream> + Threads + Wait + Clock + Sync,
-    W: Drain + Send + Drop,
-    E: Drain + Send + Drop,
-    T: Turn + Sync,
-    K: Keeps,
-{
-    let Hands {
-        reports,
-        pages,
-        page,
-        pullers,
-        workers,
-        rulings,
-        waker,
-    } = hands;
-    let (door, bell) = parted(page);
-    let Rulings {
-        reports: ruling_of_reports,
-        pages: ruling_of_pages,
-        workers: rulings,
-    } = rulings;
-    thread::scope(
-        thread::scope_env(),
-        rt,
-        move |scope| -> Ended<J>
-            requires { IsSync R.row × IsSend J.row × IsSync J.row × IsSend W.row × IsSend E.row × IsSync T.row }
-        {
-            let reports = scope.spawn(move || print_all(
-                rt,
-                common,
-                ruling_of_reports,
-                news,
-                reports,
-                output,
-            ));
-            let mut is_refused = false;
-            if let Some(door) = door {
-                let shower = scope.spawn(move || show(rt, common, ruling_of_pages, door, pages));
-                is_refused |= shower.is_err();
-            }
-            for (peers, place) in shares.into_iter().zip(pullers) {
-                let puller = scope.spawn(move || pull(rt, common, waker, peers, place));
-                is_refused |= puller.is_err();
-            }
-            for (worker, ruling) in workers.into_iter().zip(rulings) {
-                let worker = scope.spawn(move || work(rt, common, ruling, waker, worker));
-                is_refused |= worker.is_err();
-            }
-            if is_refused {
-                common.stop.ask(rt);
-            }
-            let site = Site {
-                board: &common.board,
-                news,
-                errors: &common.errors,
-                stop: common.stop,
-            };
-            let flushed = serve_floor(rt, site, floor, lines, group);
-            common.stop.ask(rt);
-            if let Some(bell) = &bell {
-                let _woken = bell.wake();
-            }
-            close(rt, news, &flushed);
-            let printed = match reports {
-                Ok(reports) => Some(reports.join(rt)),
-                Err(_) => None,
-            };
-            Ended {
-                flushed,
-                printed,
-                is_refused,
-            }
-        },
-    )
-}
-
-/// Prints what the site has to say of its verdicts.
-fn print_all<R: Wait + Clock, W: Drain + Drop, E: Drain, T: Turn, J: Naming>(
-    rt: &R,
-    common: &Common<'_, E, T>,
-    ruling: Ruling<'_>,
-    news: &News<J>,
-    window: OwnWindow<J>,
-    output: W,
-) -> Printed {
-    print_reports(
-        rt,
-        common.alloc,
-        ruling,
-        common.prints,
-        news,
-        window,
         output,
-        &common.errors,
-    )
-}
-
-/// Where browsers connect to with the names by which they may call this machine, and what wakes who serves there.
-fn parted(page: Option<Doorstep>) -> (Option<(Door, Vec<String>)>, Option<Waker>) {
-    match page {
-        Some(Doorstep { door, waker, hosts }) => (Some((door, hosts)), Some(waker)),
-        None => (None, None),
-    }
-}
-
-/// Shows the site to browsers.
-fn show<R, E, T, J>(
-    rt: &R,
-    common: &Common<'_, E, T>,
-    ruling: Ruling<'_>,
-    door: (Door, Vec<String>),
-    window: OwnWindow<J>,
-)
-where
-    R: Wait + Clock,
-    E: Drain,
-    T: Turn,
-    J: Naming,
-{
-    let (door, hosts) = door;
-    let shower = Shower {
-        rt,
-        alloc: common.alloc,
-        board: &common.board,
-        site: common.guard.own,
-        start: common.start,
-        workers: common.workers,
-        peers: common.peers.as_slice(),
+        pages,
+        pullers,
+        workers,
+        beside,
+        firsts,
     };
-    show_pages(shower, ruling, door, hosts.as_slice(), common.stop, window);
-}
-
-/// Pulls from its share of the peers. It notes whether another process takes in as this site.
-fn pull<R, E, T, J>(
-    rt: &R,
-    common: &Common<'_, E, T>,
-    waker: &Waker,
-    peers: Vec<Peer>,
-    place: Place<J>,
-)
-where
-    R: Wait + Clock + Net<Stream = TcpStream>,
-    E: Drain,
-    T: Turn,
-    J: Naming,
-{
-    let pulling = Pulling {
-        alloc: common.alloc,
-        addresses: common.peers.as_slice(),
-        doorman: doorman_of(common),
-        pause: common.pause,
-        patience: Patience {
-            limit: Duration::from_millis(PULL_PATIENCE_MS),
-            idle: Some(Duration::from_millis(PULL_PATIENCE_MS)),
-        },
-        stop: common.stop,
-        board: &common.board,
-    };
-    let mut port = Guarded {
-        guard: &common.guard,
-        sink: PullPort::new(rt, common.alloc, waker, place),
-    };
-    pull_from_peers(rt, &pulling, peers, &common.errors, &mut port);
-    if port.sink.is_start_taken() {
-        common.is_start_taken.store(true, Ordering::SeqCst);
-    }
-}
-
-/// Looks for sessions.
-fn work<R, E, T, J>(
-    rt: &R,
-    common: &Common<'_, E, T>,
-    ruling: Ruling<'_>,
-    waker: &Waker,
-    worker: Worker<J>,
-)
-where
-    R: Wait,
-    E: Drain,
-    T: Turn,
-    J: Naming,
-{
-    let doorman = doorman_of(common);
-    let Common {
-        alloc,
-        board,
-        errors,
-        turn,
-        ..
-    } = common;
-    do_jobs(
-        rt, *alloc, &doorman, ruling, worker, waker, board, errors, *turn,
-    );
-}
-
-/// By what the site lets connections in, and dials.
-fn doorman_of<'a, E: Drain, T: Turn>(common: &'a Common<'_, E, T>) -> Doorman<'a, T> {
-    Doorman {
-        reader: common.turn,
-        keys: common.keys,
-        site: common.guard.own,
-    }
-}
-
-/// Brings the last publish, and has nothing new come any more.
-fn close<R: Wait, J: Naming>(rt: &R, news: &News<J>, flushed: &Result<Published<J>, NotKept>) {
-    if let Ok(Ok(receipt)) = flushed {
-        news.bring(rt, receipt);
-    }
-    news.close(rt);
+    let ended = run_threads(rt, common, &news, &waker, hands, group, floor, lines);
+    left_of(ended, common.is_start_taken.load(Ordering::SeqCst))
 }
 
 /// How the threads of a site left it, where the last publish showed all that it took in, also what could only be held.

@@ -47,28 +47,65 @@ pub fn seated<J: Naming>(
     requires { All (λ window. window.book ≡ J.book) windows.items }
 {
     let mut windows = windows;
-    let (Some(reports), Some(pages)) = (windows.pop(), windows.pop()) else {
+    let Some(reports) = windows.pop() else {
         return Ok(None);
     };
-    let (given, taken) = bounded(alloc, jobs)?;
-    let (answered, replies) = bounded(alloc, jobs)?;
-    let Some(hired) = hired(alloc, &mut windows, workers, &taken, &answered)? else {
+    let Some(pages) = windows.pop() else {
         return Ok(None);
     };
-    let (asks, asked) = bounded(alloc, WAITING_ASKS)?;
-    let (pullers, answers) = wired(alloc, windows, &asks)?;
+    let Some(shop) = shop_of(alloc, &mut windows, workers, jobs)? else {
+        return Ok(None);
+    };
+    let (pullers, post) = posted(alloc, windows)?;
+    let Shop {
+        workers,
+        jobs,
+        replies,
+    } = shop;
+    let Post { asks, answers } = post;
     Ok(Some(Seats {
         reports: OwnWindow::new(reports),
         pages: OwnWindow::new(pages),
         pullers,
-        workers: hired,
+        workers,
         lines: Lines {
-            jobs: given,
+            jobs,
             replies,
-            asks: asked,
+            asks,
             answers,
         },
     }))
+}
+
+/// The workers, and the loop's ends of the channels to and from them.
+#[derive(Drop)]
+struct Shop<J: Naming> {
+    workers: Vec<Worker<J>>,
+    jobs: Sender<Job<J>, Global>,
+    replies: Receiver<Reply, Global>,
+}
+
+/// So many workers, with room for so many jobs. None where there are fewer windows.
+fn shop_of<J: Naming>(
+    alloc: Global,
+    windows: &mut Vec<Window>,
+    workers: usize,
+    jobs: usize,
+) -> Result<Option<Shop<J>>, AllocError>
+    requires { All (λ window. window.book ≡ J.book) windows.old.items }
+    ensures { All (λ window. window.book ≡ J.book) windows.new.items }
+{
+    let (given, taken) = bounded(alloc, jobs)?;
+    let (answered, replies) = bounded(alloc, jobs)?;
+    match hired(alloc, windows, workers, &taken, &answered) {
+        Ok(Some(workers)) => Ok(Some(Shop {
+            workers,
+            jobs: given,
+            replies,
+        })),
+        Ok(None) => Ok(None),
+        Err(_) => Err(AllocError),
+    }
 }
 
 /// So many workers, each at a window of its own. None where there are fewer windows.
@@ -96,6 +133,33 @@ fn hired<J: Naming>(
     Ok(Some(hired))
 }
 
+/// The loop's ends of the channels from and to those that pull.
+#[derive(Drop)]
+struct Post<J: Naming> {
+    asks: Receiver<Ask, Global>,
+    answers: Vec<Sender<Answer<J>, Global>>,
+}
+
+/// A puller's place at each window, and the desk's ends of the channels from and to them.
+fn posted<J: Naming>(
+    alloc: Global,
+    windows: Vec<Window>,
+) -> Result<(Vec<Place<J>>, Post<J>), AllocError>
+    requires { All (λ window. window.book ≡ J.book) windows.items }
+{
+    let (asks, asked) = bounded(alloc, WAITING_ASKS)?;
+    match wired(alloc, windows, &asks) {
+        Ok((pullers, answers)) => Ok((
+            pullers,
+            Post {
+                asks: asked,
+                answers,
+            },
+        )),
+        Err(_) => Err(AllocError),
+    }
+}
+
 /// A puller's place at each window, and the desk's ends of the channels back to them.
 fn wired<J: Naming>(
     alloc: Global,
@@ -107,17 +171,26 @@ fn wired<J: Naming>(
     let mut pullers = Vec::new(alloc);
     let mut answers = Vec::new(alloc);
     for window in windows {
-        let (answer, answered) = bounded(alloc, 1)?;
-        let wire = Wire {
-            puller: answers.len(),
-            asks: asks.clone()?,
-            answers: answered,
-        };
+        let (answer, place) = place_at(alloc, OwnWindow::new(window), answers.len(), asks)?;
         answers.push(answer)?;
-        pullers.push(Place {
-            window: OwnWindow::new(window),
-            wire,
-        })?;
+        pullers.push(place)?;
     }
     Ok((pullers, answers))
+}
+
+/// The place of a puller of this number at a window, and the desk's end of the channel back to it.
+fn place_at<J: Naming>(
+    alloc: Global,
+    window: OwnWindow<J>,
+    puller: usize,
+    asks: &Sender<Ask, Global>,
+) -> Result<(Sender<Answer<J>, Global>, Place<J>), AllocError> {
+    let (answer, answers) = bounded(alloc, 1)?;
+    let asks = asks.clone()?;
+    let wire = Wire {
+        puller,
+        asks,
+        answers,
+    };
+    Ok((answer, Place { window, wire }))
 }

@@ -6,7 +6,7 @@ ghost use Rattle.site_serve.specs.SessionFaults.{name_of, number_of};
 use gossip_line::LineFault;
 
 /// How a session fails: as its lines do, or by what seals them.
-#[derive(Clone, Copy, Debug, PartialEq, Eq)]
+#[derive(Clone, Copy)]
 pub(super) enum SessionFault {
     /// 1 to 8, those of `LineFault`.
     Line(LineFault),
