@@ -74,7 +74,12 @@ where
     E: Drain + Send + Drop + 'static,
     L: KeyReader + Sync,
 {
-    match run_site(rt, alloc, words, input, files, errors, keys) {
+    let outside = Outside {
+        input,
+        files,
+        errors,
+    };
+    match run_site(rt, alloc, words, outside, keys) {
         Ok(()) => Ended::Well,
         Err(ended) => ended,
     }
@@ -85,9 +90,7 @@ fn run_site<'n, R, I, N, E, L>(
     rt: R,
     alloc: Global,
     serving: ServeWords<'n>,
-    input: I,
-    files: N,
-    errors: E,
+    outside: Outside<I, N, E>,
     keys: &L,
 ) -> Result<(), Ended<'n>>
 where
@@ -99,36 +102,64 @@ where
     E: Drain + Send + Drop + 'static,
     L: KeyReader + Sync,
 {
-    let (mut input, mut files) = (input, files);
+    let mut outside = outside;
+    match inputs_of(&rt, alloc, &serving, &mut outside, keys) {
+        Ok((gate, replica)) => {
+            let site = Site {
+                serving,
+                gate,
+                replica,
+            };
+            run_named(rt, alloc, site, outside, keys)
+        }
+        Err(ended) => Err(ended),
+    }
+}
+
+/// The gate, and the record to begin with, of a site whose keys are judged, too.
+fn inputs_of<'n, R, I, N, E, L>(
+    rt: &R,
+    alloc: Global,
+    serving: &ServeWords<'n>,
+    outside: &mut Outside<I, N, E>,
+    keys: &L,
+) -> Result<(Gate, Replica), Ended<'n>>
+where
+    R: Print,
+    I: Source,
+    N: Named,
+    L: KeyReader,
+{
     let inputs = read_from(
         alloc,
         serving.gate,
         serving.load,
-        &mut input,
-        &mut Ends::new(io::writer(&rt)),
-        &mut files,
+        &mut outside.input,
+        &mut Ends::new(io::writer(rt)),
+        &mut outside.files,
     );
-    let (gate, replica) = inputs.map_err(Ended::Refused)?;
-    judge_keys(keys, &serving)?;
-    let journal = serving.journal;
-    let site = Site {
-        serving,
-        gate,
-        replica,
-    };
-    let outside = Outside {
-        input,
-        files,
-        errors,
-    };
-    run_named(rt, alloc, journal, site, outside, keys)
+    match inputs {
+        Ok(inputs) => judged(keys, serving, inputs),
+        Err(refusal) => Err(Ended::Refused(refusal)),
+    }
 }
 
-/// Runs a site with the journal of this name, if it has one, and saves what it has left.
+/// What was read, where the keys that the words name are there.
+fn judged<'n, L: KeyReader>(
+    keys: &L,
+    serving: &ServeWords<'n>,
+    inputs: (Gate, Replica),
+) -> Result<(Gate, Replica), Ended<'n>> {
+    match judge_keys(keys, serving) {
+        Ok(()) => Ok(inputs),
+        Err(ended) => Err(ended),
+    }
+}
+
+/// Runs a site, and saves what it has left.
 fn run_named<R, I, N, E, L>(
     rt: R,
     alloc: Global,
-    journal: Option<&str>,
     site: Site<'_>,
     outside: Outside<I, N, E>,
     keys: &L,
@@ -142,14 +173,58 @@ where
     E: Drain + Send + Drop + 'static,
     L: KeyReader + Sync,
 {
-    let Ok(mut shelf) = SnapshotFile::new(rt, alloc, site.serving.save) else {
-        return Err(Ended::Site(ServeFault::NoMemory));
-    };
-    let Some(name) = journal else {
-        return run_kept(rt, alloc, site, outside, keys, &mut shelf, NoJournal).ended;
-    };
+    match SnapshotFile::new(rt, alloc, site.serving.save) {
+        Ok(shelf) => run_saved(rt, alloc, site, outside, keys, shelf),
+        Err(_) => Err(Ended::Site(ServeFault::NoMemory)),
+    }
+}
+
+/// Runs a site with the journal that the words name, if they name one, and saves what it has left in this file.
+fn run_saved<R, I, N, E, L>(
+    rt: R,
+    alloc: Global,
+    site: Site<'_>,
+    outside: Outside<I, N, E>,
+    keys: &L,
+    shelf: SnapshotFile<R>,
+) -> Result<(), Ended<'static>>
+where
+    R: Net<Listener = TcpListener, Stream = TcpStream> + RandomSource,
+    R: Files<File = File> + Print + Threads + Wait + Clock + AllocGlobal,
+    R: Copy + Send + Sync + 'static,
+    I: Source + Send + Drop + 'static,
+    N: Named + Send + Drop + 'static,
+    E: Drain + Send + Drop + 'static,
+    L: KeyReader + Sync,
+{
+    let mut shelf = shelf;
+    match site.serving.journal {
+        Some(name) => run_on_file(rt, alloc, name, site, outside, keys, &mut shelf),
+        None => run_kept(rt, alloc, site, outside, keys, &mut shelf, NoJournal).ended,
+    }
+}
+
+/// Runs a site with the journal of this name, and saves what it has left.
+fn run_on_file<R, I, N, E, L>(
+    rt: R,
+    alloc: Global,
+    name: &str,
+    site: Site<'_>,
+    outside: Outside<I, N, E>,
+    keys: &L,
+    shelf: &mut SnapshotFile<R>,
+) -> Result<(), Ended<'static>>
+where
+    R: Net<Listener = TcpListener, Stream = TcpStream> + RandomSource,
+    R: Files<File = File> + Print + Threads + Wait + Clock + AllocGlobal,
+    R: Copy + Send + Sync + 'static,
+    I: Source + Send + Drop + 'static,
+    N: Named + Send + Drop + 'static,
+    E: Drain + Send + Drop + 'static,
+    L: KeyReader + Sync,
+{
     match FileTape::open(&rt, name) {
-        Ok(tape) => ended_of(run_taped(rt, alloc, site, outside, keys, &mut shelf, tape)),
+        Ok(tape) => ended_of(run_taped(rt, alloc, site, outside, keys, shelf, tape)),
         Err(fault) => Err(tape_fault(fault)),
     }
 }

@@ -74,7 +74,7 @@ where
     I: Source + Send + Drop + 'static,
     N: Named + Send + Drop + 'static,
     E: Drain + Send + Drop + 'static,
-    ensures { IfOk result (λ prepared. prepared.opened.site.replica ≡ site.entry.replica) }
+    ensures { IfOk result (λ prepared. prepared.opened.site ≡ site.entry) }
 {
     let mut outside = outside;
     show_late_clock(alloc, &site.replica, &mut outside.errors);
@@ -89,18 +89,35 @@ fn open<'a, R>(rt: &R, alloc: Global, site: Site<'a>) -> Result<Opened<'a>, Ende
 where
     R: Net<Listener = TcpListener, Stream = TcpStream> + RandomSource,
     R: Files + Print + Clock,
-    ensures { IfOk result (λ opened. opened.site.replica ≡ site.entry.replica) }
+    ensures { IfOk result (λ opened. opened.site ≡ site.entry) }
 {
-    match start_of(rt, site.serving.start, &site.replica, site.serving.site) {
-        Some(start) => match listen(rt, alloc, &site.serving) {
-            Ok(listening) => Ok(Opened {
-                site,
-                start,
-                listening,
-            }),
-            Err(ended) => Err(ended),
-        },
-        None => Err(Ended::Site(ServeFault::StartUsed)),
+    match beginning_of(rt, alloc, &site) {
+        Ok((start, listening)) => Ok(Opened {
+            site,
+            start,
+            listening,
+        }),
+        Err(ended) => Err(ended),
+    }
+}
+
+/// The start of a site, and what it listens at.
+fn beginning_of<'a, R>(
+    rt: &R,
+    alloc: Global,
+    site: &Site<'a>,
+) -> Result<(u32, Listening<'a>), Ended<'static>>
+where
+    R: Net<Listener = TcpListener, Stream = TcpStream> + RandomSource,
+    R: Files + Print + Clock,
+{
+    let serving = &site.serving;
+    let Some(start) = start_of(rt, serving.start, &site.replica, serving.site) else {
+        return Err(Ended::Site(ServeFault::StartUsed));
+    };
+    match listen(rt, alloc, serving) {
+        Ok(listening) => Ok((start, listening)),
+        Err(ended) => Err(ended),
     }
 }
 
@@ -116,7 +133,7 @@ where
     I: Source + Send + Drop + 'static,
     N: Named + Send + Drop + 'static,
     E: Drain + Send + Drop + 'static,
-    ensures { IfOk result (λ prepared. prepared.opened.site.replica ≡ opened.entry.site.replica) }
+    ensures { IfOk result (λ prepared. prepared.opened ≡ opened.entry) }
 {
     let serving = &opened.site.serving;
     match attend(rt, alloc, serving.gate, serving.until_input_ends, outside) {

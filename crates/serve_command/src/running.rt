@@ -1,8 +1,11 @@
 //! Runs a site over what keeps its operations, to the snapshot that is saved of it.
 
-ghost use Rattle.std.specs.Prelude.{◌≡◌, IfOk, List, OnErr, option_map};
+ghost use Rattle.std.specs.Prelude.{◌≡◌, IfOk, IfSome, List, OnErr, option_map};
+ghost use Rattle.replica_core.specs.Sets.{IsSameSet};
 ghost use Rattle.review_ops.specs.Operation.{Operation};
+ghost use Rattle.site_journal.specs.Book.{IsHolding};
 ghost use Rattle.site_journal.specs.Tape.{IsAtStart};
+ghost use Rattle.serve_command.specs.Beginning.{HasSurvivors, IsBegun};
 ghost use Rattle.serve_command.specs.Leaving.{HasRun, HasSaved, LeavesKept};
 ghost use Rattle.serve_command.specs.Printing.{prints_of};
 
@@ -61,20 +64,41 @@ where
     ensures saved { IfOk result (λ finished. HasSaved S.saves shelf.old finished.left finished.ended shelf.new) }
     ensures refused { OnErr result (shelf.new ≡ shelf.old) }
 {
+    let mut outside = outside;
+    match begun_on(alloc, tape, site, &mut outside.errors) {
+        Ok((journal, site)) => Ok(run_kept(rt, alloc, site, outside, keys, shelf, journal)),
+        Err(ended) => Err(ended),
+    }
+}
+
+/// A site that begins with what a journal says on a tape and with what was loaded, as `begin` does.
+fn begun_on<'a, T: Tape + Drop, E: Drain>(
+    alloc: Global,
+    tape: T,
+    site: Site<'a>,
+    errors: &mut E,
+) -> Result<(Journal<T>, Site<'a>), Ended<'static>>
+    requires { IsAtStart (T.image tape) (T.left tape) }
+    ensures kept { IfOk result
+        (λ begun. (ops : List Operation) × IsHolding begun.0 ops × IsSameSet begun.1.replica ops) }
+    ensures whole { IfOk result
+        (λ begun. IfSome (T.image tape) (λ i. IsBegun i.contents site.entry.replica begun.1.replica)) }
+    ensures survivors { IfOk result
+        (λ begun. IfSome (T.image tape) (λ i. HasSurvivors i.contents begun.1.replica)) }
+{
     let Site {
         serving,
         gate,
-        replica: loaded,
+        replica,
     } = site;
-    let mut outside = outside;
-    match begin(alloc, tape, loaded, &mut outside.errors) {
+    match begin(alloc, tape, replica, errors) {
         Ok((journal, replica)) => {
             let site = Site {
                 serving,
                 gate,
                 replica,
             };
-            Ok(run_kept(rt, alloc, site, outside, keys, shelf, journal))
+            Ok((journal, site))
         }
         Err(ended) => Err(ended),
     }
