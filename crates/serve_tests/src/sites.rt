@@ -212,11 +212,13 @@ fn a_start_that_was_used_is_refused(rt: HostRuntime) -> Result<(), Fail> {
     Ok(())
 }
 
-/// Holds the first session until the second has ended.
+/// Holds the first session until the second has ended, for ten seconds at most.
 #[derive(Drop)]
 struct SecondFirst<R: Clock + Copy> {
     rt: R,
     is_second_over: AtomicBool,
+    /// Whether the first session was held in vain.
+    is_given_up: AtomicBool,
 }
 
 impl<R: Clock + Copy> Turn for SecondFirst<R> {
@@ -227,6 +229,7 @@ impl<R: Clock + Copy> Turn for SecondFirst<R> {
             }
             let _ = thread::sleep(&self.rt, Duration::from_millis(1));
         }
+        self.is_given_up.store(true, Ordering::SeqCst);
     }
 
     fn left(&self, session: u64) {
@@ -285,9 +288,10 @@ fn a_held_session_holds_no_other(rt: HostRuntime) -> Result<(), Fail> {
     let turn = SecondFirst {
         rt,
         is_second_over: AtomicBool::new(false),
+        is_given_up: AtomicBool::new(false),
     };
     assert!(rt; both_are_answered(&rt, rt.alloc(), listener, setup, port, &turn));
-    assert!(rt; turn.is_second_over.load(Ordering::SeqCst));
+    assert!(rt; !turn.is_given_up.load(Ordering::SeqCst));
     Ok(())
 }
 
@@ -421,6 +425,67 @@ fn each_peer_is_pulled(rt: HostRuntime) -> Result<(), Fail> {
     Ok(())
 }
 
+/// What a site without a body to take in is asked by a client that then says nothing: what it answers until it closes the
+/// connection.
+fn fall_silent<R: Net<Stream = TcpStream>>(rt: &R, alloc: Global, port: u16) -> io::Result<String> {
+    let stream = stall(rt, port, "hello 2\n")?;
+    io::read_to_string(alloc, stream)
+}
+
+/// A session that is silent for longer than the setup allows is ended.
+#[test]
+fn an_idle_session_is_ended(rt: HostRuntime) -> Result<(), Fail> {
+    let alloc = rt.alloc();
+    let (listener, port) = listening(&rt)?;
+    let mut setup = one_session(alloc, 1)?;
+    setup.idle_ms = 200;
+    let (ended, answers) = thread::join(
+        &rt,
+        || ending(run_one(&rt, alloc, listener, setup, &Stop::new(), &NoTurn)),
+        || fall_silent(&rt, alloc, port),
+    );
+    assert!(rt; ended.is_some());
+    assert_eq!(rt; text_of(&answers), "hello 2\n");
+    Ok(())
+}
+
+/// Whether a site that ends after eight sessions still answers after half a second. It and another one are then asked to
+/// end.
+fn is_up<R>(rt: &R, alloc: Global, port: u16, stop: &Stop) -> bool
+where
+    R: Net<Listener = TcpListener, Stream = TcpStream> + Wait + Clock,
+{
+    let _ = thread::sleep(rt, Duration::from_millis(500));
+    let answers = talk(rt, alloc, port, PASS_ON);
+    stop.ask(rt);
+    text_of(&answers) == "hello 2\ndone\nbye\n"
+}
+
+/// Between two pulls of a site there is the pause of its setup.
+#[test]
+fn a_site_pauses_between_pulls(rt: HostRuntime) -> Result<(), Fail> {
+    let alloc = rt.alloc();
+    let ((first, one), (second, _other)) = (listening(&rt)?, listening(&rt)?);
+    let (mut here, mut there) = (pulling(alloc, 1, &[])?, pulling(alloc, 2, &[one])?);
+    here.sessions = 8;
+    there.pause_ms = 60_000;
+    let stop = Stop::new();
+    let (ended, (pulled, is_answered)) = thread::join(
+        &rt,
+        || ending(run_one(&rt, alloc, first, here, &stop, &NoTurn)),
+        || {
+            thread::join(
+                &rt,
+                || ending(run_one(&rt, alloc, second, there, &stop, &NoTurn)),
+                || is_up(&rt, alloc, one, &stop),
+            )
+        },
+    );
+    assert!(rt; ended.is_some() && pulled.is_some());
+    assert!(rt; is_answered);
+    Ok(())
+}
+
 #[test]
 fn a_site_that_finds_its_own_start_elsewhere_ends(rt: HostRuntime) -> Result<(), Fail> {
     let alloc = rt.alloc();
@@ -492,6 +557,8 @@ struct AfterReport<R: Wait + Clock + Copy> {
     rt: R,
     printed: Written,
     is_printed: AtomicBool,
+    /// Whether more was printed before the session had ended.
+    is_followed: AtomicBool,
 }
 
 impl<R: Wait + Clock + Copy> AfterReport<R> {
@@ -514,7 +581,8 @@ impl<R: Wait + Clock + Copy> Turn for AfterReport<R> {
     }
 
     fn left(&self, _session: u64) {
-        let _is_more = self.await_more(FIRST_REPORT.len());
+        let is_followed = self.await_more(FIRST_REPORT.len());
+        self.is_followed.store(is_followed, Ordering::SeqCst);
     }
 }
 
@@ -573,9 +641,10 @@ fn each_report_is_printed(rt: HostRuntime) -> Result<(), Fail> {
         rt,
         printed,
         is_printed: AtomicBool::new(false),
+        is_followed: AtomicBool::new(false),
     };
     assert!(rt; run_after_report(&rt, rt.alloc(), output, &turn)?);
-    assert!(rt; turn.is_printed.load(Ordering::SeqCst));
+    assert!(rt; turn.is_printed.load(Ordering::SeqCst) && turn.is_followed.load(Ordering::SeqCst));
     assert_eq!(rt; turn.printed.lock(&rt).as_slice(), REPORTS.as_bytes());
     Ok(())
 }
