@@ -1,6 +1,6 @@
 //! `serve`: a site that runs as a program, from its files and its port to its snapshot.
 //!
-//! Its tests are in the crate `serve_tests`.
+//! Its tests are in the crate `program_tests`.
 //!
 //! It is a crate of its own so that the order of a site's start and end is over any tape and any output. Not taken:
 //! daemon mode, privileges and log files, which systemd does.

@@ -1,11 +1,10 @@
 //! Sites that print what changed, and sites whose output fails.
 
-use super::sites::{NoTurn, ending, listening, one_session, talk};
-use super::watched::{Shared, Written, watched_end};
 use byte_ends::Ends;
 use gate_rules::Gate;
 use key_file::{KeyFault, Keys};
 use key_files::{KeyReader, NoKeys};
+use running_sites::{NoTurn, Shared, Written, ending, listening, one_session, talk, watched_end};
 use site_net::Stop;
 use site_serve::{Prints, Setup, Turn, serve_run};
 use std::alloc::Global;

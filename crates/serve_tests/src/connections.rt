@@ -6,7 +6,6 @@ use std::net::{Net, TcpListener, TcpStream};
 use std::process::Abort;
 use std::sync::Wait;
 use std::test::Fail;
-use std::thread::Threads;
 use std::time::{Clock, Duration, Instant};
 use std::{io, thread};
 

@@ -1,9 +1,9 @@
 //! Sessions side by side, and lines that come at once or in pieces.
 
-use super::sites::{
+use byte_ends::Ends;
+use running_sites::{
     NoTurn, PASS_ON, ending, listening, one_session, pulling, run_one, stall, talk, text_of,
 };
-use byte_ends::Ends;
 use site_net::Stop;
 use site_serve::{Setup, serve_run};
 use std::alloc::Global;

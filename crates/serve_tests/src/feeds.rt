@@ -1,6 +1,5 @@
 //! Feeds of sites that answer by a script, in this process or over sockets of this machine.
 
-use super::sites::listening;
 use byte_ends::{Broken, Drain, Ends};
 use event_feed::{FeedFault, Input};
 use feed_client::{
@@ -12,6 +11,7 @@ use gerrit_events::Projects;
 use op_text::{read_op, write_body};
 use replica_core::Missing;
 use review_ops::{Body, Op, Stamp};
+use running_sites::listening;
 use site_address::{Address, HostPort};
 use state_core::State;
 use std::alloc::Global;

@@ -1,7 +1,7 @@
 //! Sites that pull from each other, and others that don't answer, don't read or don't go.
 
-use super::sites::{NoTurn, ending, listening, pulling, run_one, stall, talk, text_of};
 use byte_ends::Ends;
+use running_sites::{NoTurn, ending, listening, pulling, run_one, stall, talk, text_of};
 use site_net::Stop;
 use site_serve::{ServeFault, Served, Setup, serve_run};
 use std::alloc::Global;

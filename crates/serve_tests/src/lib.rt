@@ -1,5 +1,5 @@
-//! Tests over sockets of this machine: connections, sites that run, feeds of sites, and `serve` by its words, through
-//! the public functions of their crates. A crate of tests alone, as `record_tests` is.
+//! Tests over sockets of this machine: connections, sites that run, and feeds of sites, through the public functions of
+//! their crates. A crate of tests alone, as `record_tests` is; those of `serve` by its words are in `program_tests`.
 #![tactic(auto)]
 
 #[cfg(test)]
@@ -13,28 +13,14 @@ mod feeds;
 #[cfg(test)]
 mod gossip;
 #[cfg(test)]
-mod guards;
-#[cfg(test)]
-mod programs;
-#[cfg(test)]
 mod records;
-#[cfg(test)]
-mod reloads;
-#[cfg(test)]
-mod restarts;
 #[cfg(test)]
 mod sealed;
 #[cfg(test)]
 mod sealed_feeds;
 #[cfg(test)]
-mod shown;
-#[cfg(test)]
 mod site_feeds;
 #[cfg(test)]
 mod sites;
 #[cfg(test)]
-mod sockets;
-#[cfg(test)]
 mod timed;
-#[cfg(test)]
-mod watched;

@@ -1,11 +1,11 @@
 //! Commands over the record of a running site, and over ports where none answers as one.
 
-use super::sites::{NoTurn, ending, listening, one_session, run_one};
 use byte_ends::Ends;
 use command_line::{Asked, read_words};
 use commands::run_command;
 use op_text::read_op;
 use record_pull::SystemFiles;
+use running_sites::{NoTurn, ending, listening, one_session, run_one};
 use site_net::Stop;
 use site_serve::Setup;
 use std::alloc::Global;

@@ -1,24 +1,20 @@
 //! Sites at ports whose connections are sealed.
 
-use super::programs::{serve_keyed, site_words};
-use super::sites::{PASS_ON, PASSED, TAKE, ending, listening, one_session};
-use super::watched::watched_end;
 use byte_ends::{Ends, read_all, write_all};
-use console::Named;
 use key_file::{KeyFault, Keys};
 use key_files::{KeyReader, SystemKeys};
-use record_pull::SystemFiles;
+use running_sites::{
+    FEEDER, PASS_ON, PASSED, READER, STRANGER, TAKE, ending, listening, make_keys, one_session,
+    watched_end,
+};
 use sealed_link::{dial, dialed};
-use serve_command::{Ended, ProgramFault};
 use site_address::{HostPort, PeerAddress};
 use site_ledger::NoJournal;
 use site_net::{Listener, Stop};
 use site_serve::{Closed, Setup, Turn, serve_keeping};
 use std::alloc::Global;
-use std::fs::{File, Permissions};
-use std::io::{Print, Read, Write};
+use std::io::{Read, Write};
 use std::net::{Net, Shutdown, TcpListener, TcpStream};
-use std::os::unix::fs::PermissionsExt;
 use std::random::RandomSource;
 use std::rt::Files;
 use std::sync::Wait;
@@ -26,24 +22,6 @@ use std::test::Fail;
 use std::thread::Threads;
 use std::time::{Clock, Duration};
 use std::{fs, io, thread};
-
-/// A file of keys, and the secrets of its two, and one that isn't there.
-const KEYS: &[u8] = b"# of the tests
-feeder feed 0101010101010101010101010101010101010101010101010101010101010101
-reader read 0202020202020202020202020202020202020202020202020202020202020202
-";
-
-pub const FEEDER: [u8; 32] = [1; 32];
-
-pub const READER: [u8; 32] = [2; 32];
-
-pub const STRANGER: [u8; 32] = [3; 32];
-
-/// Makes a file of keys with this mode.
-pub fn make_keys<R: Files>(rt: &R, name: &str, mode: u32) -> io::Result<()> {
-    fs::write(rt, name, KEYS)?;
-    fs::set_permissions(rt, name, Permissions::from_mode(mode))
-}
 
 /// A site with so many sessions whose keys are in this file.
 pub fn keyed<'a>(
@@ -471,89 +449,5 @@ fn a_peer_that_does_not_have_the_key_is_reported(rt: HostRuntime) -> Result<(), 
         assert_eq!(rt; line.as_str(), wanted);
     }
     fs::remove_file(&rt, "vain.tmp")?;
-    Ok(())
-}
-
-/// How a site ends that listens at this address of this machine until its input ends, with its keys in this file.
-fn ends_with<'a, R, N, L>(
-    rt: R,
-    files: N,
-    keys: &L,
-    host: &'a str,
-    name: &'a str,
-    key: &'a str,
-) -> Result<Ended<'a>, Fail>
-where
-    R: Net<Listener = TcpListener, Stream = TcpStream> + RandomSource,
-    R: Files<File = File> + Print + Threads + Wait + Clock + AllocGlobal,
-    R: Copy + Send + Sync + 'static,
-    N: Named + Send + Drop + 'static,
-    L: KeyReader + Sync,
-{
-    let mut words = site_words(rt.alloc());
-    words.until_input_ends = true;
-    words.keys = Some(name);
-    let at = HostPort { host, port: 1 };
-    words.peers.push(PeerAddress::There { key, at })?;
-    words.hosts.push(HostPort { host, port: 0 })?;
-    Ok(serve_keyed(rt, words, files, keys))
-}
-
-/// A program listens at a host, in either family of addresses, and not at one that isn't this machine's.
-#[test]
-fn a_program_listens_at_a_host(rt: HostRuntime) -> Result<(), Fail> {
-    make_keys(&rt, "host.tmp", 0o600)?;
-    let keys = SystemKeys::new(rt);
-    for host in ["127.0.0.1", "localhost"] {
-        let ended = ends_with(rt, SystemFiles::new(rt), &keys, host, "host.tmp", "reader")?;
-        assert!(rt; matches!(&ended, Ended::Well));
-    }
-    let ended = ends_with(
-        rt,
-        SystemFiles::new(rt),
-        &keys,
-        "192.0.2.1",
-        "host.tmp",
-        "reader",
-    )?;
-    assert!(rt; matches!(&ended, Ended::Program(ProgramFault::NoBind)));
-    fs::remove_file(&rt, "host.tmp")?;
-    Ok(())
-}
-
-/// A site doesn't run whose file of keys can't be used, or lacks the key of a peer.
-#[test]
-fn keys_are_judged_before_a_site_runs(rt: HostRuntime) -> Result<(), Fail> {
-    make_keys(&rt, "judged.tmp", 0o604)?;
-    let keys = SystemKeys::new(rt);
-    let open = ends_with(
-        rt,
-        SystemFiles::new(rt),
-        &keys,
-        "127.0.0.1",
-        "judged.tmp",
-        "reader",
-    )?;
-    make_keys(&rt, "judged.tmp", 0o600)?;
-    let none = ends_with(
-        rt,
-        SystemFiles::new(rt),
-        &keys,
-        "127.0.0.1",
-        "judged.tmp",
-        "nobody",
-    )?;
-    fs::remove_file(&rt, "judged.tmp")?;
-    let gone = ends_with(
-        rt,
-        SystemFiles::new(rt),
-        &keys,
-        "127.0.0.1",
-        "judged.tmp",
-        "reader",
-    )?;
-    assert!(rt; matches!(&open, Ended::Keys(KeyFault::Open, "judged.tmp")));
-    assert!(rt; matches!(&none, Ended::Keys(KeyFault::NoKey, "judged.tmp")));
-    assert!(rt; matches!(&gone, Ended::Keys(KeyFault::ReadFault, "judged.tmp")));
     Ok(())
 }

@@ -1,11 +1,9 @@
 //! Feeds of sites over connections that are sealed.
 
 use super::feeds::{BAD_LINE, feed_sealed};
-use super::sealed::{
-    FEEDER, READER, STRANGER, SystemHost, UNPROVED, answer_one, keyed, make_keys, run_sealed,
-};
-use super::sites::listening;
+use super::sealed::{SystemHost, UNPROVED, answer_one, keyed, run_sealed};
 use event_feed::FeedFault;
+use running_sites::{FEEDER, READER, STRANGER, listening, make_keys};
 use std::test::Fail;
 use std::{fs, thread};
 

@@ -1,12 +1,12 @@
 //! Feeds of sites that run, over sockets of this machine.
 
 use super::feeds::{BAD_LINE, feed, feed_from, silent_input};
-use super::sites::{NoTurn, listening, talk};
 use byte_ends::Ends;
 use feed_client::Feeds;
 use gate_rules::Gate;
 use op_text::read_op;
 use replica_core::Replica;
+use running_sites::{NoTurn, listening, talk};
 use site_net::Stop;
 use site_serve::{Prints, Reloads, Setup, serve_run};
 use std::alloc::Global;

@@ -1,140 +1,27 @@
 //! Sites that run, over sockets of this machine.
 
-use super::watched::{Shared, Written, watched_end};
 use byte_ends::Ends;
-use gate_rules::Gate;
 use key_file::{KeyFault, Keys};
 use key_files::{KeyReader, NoKeys};
 use op_text::read_op;
-use replica_core::Replica;
-use site_address::{Address, PeerAddress};
+use running_sites::{
+    NoTurn, PASS_ON, Shared, TAKE, Written, ending, listening, one_session, pulling, run_one,
+    stall, talk, text_of, watched_end,
+};
 use site_net::Stop;
-use site_serve::{Prints, Reloads, ServeFault, Served, Setup, Turn, serve_run};
+use site_serve::{ServeFault, Setup, Turn, serve_run};
 use std::alloc::Global;
-use std::io::{Read, Write};
-use std::net::{Net, Shutdown, TcpListener, TcpStream};
+use std::net::{Net, TcpListener, TcpStream};
 use std::process::Abort;
+use std::sync::Wait;
 use std::sync::atomic::{AtomicBool, Ordering};
-use std::sync::{Arc, Wait};
 use std::test::Fail;
 use std::thread::Threads;
 use std::time::{Clock, Duration, Instant};
 use std::{io, thread};
 
-/// A gate that wants a workflow vote.
-const GATE: &[u8] =
-    br#"{"bases":["https://review.example.org/"],"require":{"gerrit":{"approval":[{"Workflow":1}]}}}"#;
-
 /// A merge of site 1 under its second start.
 const MERGED: &[u8] = br#"{"change":5,"op":"merged","seq":1,"site":1,"start":2,"time":1}"#;
-
-/// A client that takes in a merge.
-pub const TAKE: &str = "hello 2\ntake {\"change\":7,\"op\":\"merged\"}\nquit\n";
-
-/// A client that asks for all that a site has, and the answer of one that has that merge.
-pub const PASS_ON: &str = "hello 2\nfront []\nquit\n";
-
-pub const PASSED: &str =
-    "hello 2\nop {\"change\":7,\"op\":\"merged\",\"seq\":1,\"site\":1,\"start\":1,\"time\":1}\ndone\nbye\n";
-
-/// Nothing is done before and after a session.
-#[derive(Drop)]
-pub struct NoTurn;
-
-impl Turn for NoTurn {
-    fn enter(&self, _session: u64) {}
-
-    fn left(&self, _session: u64) {}
-}
-
-impl KeyReader for NoTurn {
-    fn keys(&self, name: &str) -> Result<Keys, KeyFault> {
-        NoKeys.keys(name)
-    }
-
-    fn nonce(&self) -> Result<[u8; 16], KeyFault> {
-        NoKeys.nonce()
-    }
-}
-
-/// A site under start 1, empty, with one worker and one session.
-pub fn one_session(alloc: Global, site: u16) -> Result<Setup<'static>, Fail> {
-    Ok(Setup {
-        gate: Gate::read(alloc, GATE)?,
-        reloads: Arc::new(alloc, Reloads::new())?,
-        replica: Replica::new(alloc),
-        site,
-        start: 1,
-        peers: Vec::new(alloc),
-        keys: None,
-        sites: Vec::new(alloc),
-        workers: 1,
-        pause_ms: 50,
-        sessions: 1,
-        idle_ms: 0,
-        connections: 1024,
-        prints: Prints::Report,
-        page: None,
-    })
-}
-
-/// Runs a site that stops by itself, and has its errors and what is printed thrown away.
-pub fn run_one<R, T>(
-    rt: &R,
-    alloc: Global,
-    listener: TcpListener,
-    setup: Setup<'_>,
-    stop: &Stop,
-    turn: &T,
-) -> Result<Served, ServeFault>
-where
-    R: Net<Listener = TcpListener, Stream = TcpStream> + Threads + Wait + Clock + Sync,
-    T: Turn + Sync,
-{
-    let (output, errors) = (Ends::new(Vec::new(alloc)), Ends::new(Vec::new(alloc)));
-    serve_run(rt, alloc, listener, setup, stop, output, errors, turn)
-}
-
-/// What a site answers to these lines, sent at once.
-pub fn talk<R: Net<Listener = TcpListener, Stream = TcpStream>>(
-    rt: &R,
-    alloc: Global,
-    port: u16,
-    lines: &str,
-) -> io::Result<String> {
-    let mut stream = TcpStream::connect(rt, ("127.0.0.1", port))?;
-    stream.write_all(lines.as_bytes())?;
-    stream.shutdown(Shutdown::Write)?;
-    io::read_to_string(alloc, stream)
-}
-
-/// A listener at a port of the system's choice, and that port.
-pub fn listening<R>(rt: &R) -> io::Result<(TcpListener, u16)>
-where
-    R: Net<Listener = TcpListener, Stream = TcpStream>,
-{
-    let listener = TcpListener::bind(rt, "127.0.0.1:0")?;
-    let port = listener.local_addr()?.port();
-    Ok((listener, port))
-}
-
-/// How a site ended: how many operations it had, whether all reports were written, and whether its start was taken.
-pub fn ending(served: Result<Served, ServeFault>) -> Option<(usize, bool, bool)> {
-    let Served {
-        replica,
-        written,
-        is_start_taken,
-    } = served.ok()?;
-    Some((replica.len(), written, is_start_taken))
-}
-
-/// The text of an answer.
-pub fn text_of(answers: &io::Result<String>) -> &str {
-    match answers {
-        Ok(text) => text.as_str(),
-        Err(_) => "no answer",
-    }
-}
 
 /// How a site ended, and what was answered beside it.
 #[derive(Drop)]
@@ -320,16 +207,6 @@ fn await_answer<R: Net<Listener = TcpListener, Stream = TcpStream> + Wait + Cloc
     is_answered
 }
 
-/// A site without end, that pulls from these ports.
-pub fn pulling(alloc: Global, site: u16, peers: &[u16]) -> Result<Setup<'static>, Fail> {
-    let mut setup = one_session(alloc, site)?;
-    setup.sessions = 0;
-    for port in peers {
-        setup.peers.push(PeerAddress::Here(Address::Port(*port)))?;
-    }
-    Ok(setup)
-}
-
 /// A client that takes in three merges, and all that a site has which pulled them.
 const TAKE_THREE: &str =
     "hello 2\ntake {\"change\":7,\"op\":\"merged\"}\ntake {\"change\":8,\"op\":\"merged\"}\ntake {\"change\":9,\"op\":\"merged\"}\nquit\n";
@@ -508,13 +385,6 @@ fn a_site_that_finds_its_own_start_elsewhere_ends(rt: HostRuntime) -> Result<(),
         (Some((1, true, false)), Some((0, true, true)))
     );
     Ok(())
-}
-
-/// Connects as a client that sends so much and then nothing.
-pub fn stall<R: Net<Stream = TcpStream>>(rt: &R, port: u16, lines: &str) -> io::Result<TcpStream> {
-    let mut stream = TcpStream::connect(rt, ("127.0.0.1", port))?;
-    stream.write_all(lines.as_bytes())?;
-    Ok(stream)
 }
 
 /// What a client is answered beside two that stall.

@@ -1,25 +1,25 @@
 //! Gates that are put in force while a site runs.
 
 use super::programs::site_words;
-use super::restarts::talk_once_up;
 use super::shown::{ITEMS, shown};
-use super::sites::{NoTurn, ending, listening, one_session, run_one, talk, text_of};
-use super::watched::{Shared, Written, watched_end};
 use byte_ends::Ends;
 use command_line::ServeWords;
 use gate_rules::Gate;
 use jiff::Timestamp;
 use key_files::NoKeys;
 use record_pull::SystemFiles;
+use running_sites::{
+    NoTurn, Shared, Written, ending, listening, one_session, run_one, talk, talk_once_up, text_of,
+    watched_end,
+};
 use serve_command::{Ended, serve};
 use site_net::Stop;
 use site_serve::{Prints, Reloads, Setup, serve_run};
 use std::alloc::Global;
 use std::fs::File;
-use std::io::{Print, Read};
+use std::io::Read;
 use std::net::{Net, TcpListener, TcpStream};
 use std::process::Abort;
-use std::random::RandomSource;
 use std::rt::Files;
 use std::sync::{Arc, Wait};
 use std::test::Fail;

@@ -1,12 +1,11 @@
 //! Sites that show themselves to browsers.
 
 use super::programs::{serve_input, site_words};
-use super::restarts::talk_once_up;
-use super::sites::{NoTurn, ending, listening, one_session, run_one, talk, text_of};
 use super::sockets::{bits_of, talk_at};
 use command_line::{PageAddress, SocketMode};
 use page_server::open_door;
 use record_pull::SystemFiles;
+use running_sites::{NoTurn, ending, listening, one_session, run_one, talk, talk_once_up, text_of};
 use serve_command::{Ended, ProgramFault};
 use site_address::{Address, PeerAddress};
 use site_net::{Stop, listen_at_path};

@@ -1,11 +1,11 @@
 //! `serve` by what words ask for, over files and sockets of this machine.
 
-use super::sites::listening;
 use byte_ends::Ends;
 use command_line::{Printing, ServeWords, SocketMode};
 use console::Named;
 use key_files::{KeyReader, NoKeys};
 use record_pull::SystemFiles;
+use running_sites::listening;
 use serve_command::{Ended, ProgramFault, serve};
 use site_journal::JournalFault;
 use std::alloc::Global;
@@ -66,31 +66,11 @@ pub fn site_words<'a>(alloc: Global) -> ServeWords<'a> {
 
 /// A site that ends with its input, and keeps a journal in the file of this name.
 fn journal_words<'a>(alloc: Global, name: &'a str) -> ServeWords<'a> {
-    ServeWords {
-        gate: "-",
-        peers: Vec::new(alloc),
-        keys: None,
-        sites: Vec::new(alloc),
-        site: 1,
-        start: None,
-        port: None,
-        sockets: Vec::new(alloc),
-        hosts: Vec::new(alloc),
-        mode: SocketMode::Owner,
-        workers: 2,
-        pause_ms: 1000,
-        sessions: 0,
-        idle_ms: 0,
-        connections: 1024,
-        until_input_ends: true,
-        prints: Printing::Report,
-        log_time: false,
-        http: None,
-        http_hosts: Vec::new(alloc),
-        load: None,
-        save: None,
-        journal: Some(name),
-    }
+    let mut words = site_words(alloc);
+    words.start = None;
+    words.until_input_ends = true;
+    words.journal = Some(name);
+    words
 }
 
 /// Runs such a site, under a gate file on the input, which ends after it.

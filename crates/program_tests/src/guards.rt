@@ -1,16 +1,16 @@
 //! Peers that hand over what would poison a record: it isn't let in, and the site goes on.
 
 use super::programs::{GATE, site_words};
-use super::restarts::{TAKEN, talk_once_up};
-use super::sites::{
-    NoTurn, PASS_ON, PASSED, TAKE, ending, listening, pulling, run_one, talk, text_of,
-};
-use super::watched::watched_end;
+use super::restarts::TAKEN;
 use byte_ends::Ends;
 use command_line::ServeWords;
 use console::Named;
 use key_files::NoKeys;
 use record_pull::SystemFiles;
+use running_sites::{
+    NoTurn, PASS_ON, PASSED, TAKE, ending, listening, pulling, run_one, talk, talk_once_up,
+    text_of, watched_end,
+};
 use serve_command::{Ended, serve};
 use site_address::{Address, PeerAddress};
 use site_net::Stop;

@@ -1,10 +1,10 @@
 //! Sites that listen at Unix sockets.
 
 use super::programs::{serve_input, site_words};
-use super::sites::{NoTurn, PASS_ON, PASSED, TAKE, ending, one_session, text_of};
 use byte_ends::Ends;
 use console::Named;
 use record_pull::SystemFiles;
+use running_sites::{NoTurn, PASS_ON, PASSED, TAKE, ending, one_session, text_of};
 use serve_command::{Ended, ProgramFault};
 use site_address::{Address, PeerAddress};
 use site_ledger::NoJournal;

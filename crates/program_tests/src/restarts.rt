@@ -2,17 +2,18 @@
 //! snapshot, and its options have their effect.
 
 use super::programs::{GATE, serve_input, site_words};
-use super::sites::{NoTurn, PASS_ON, PASSED, TAKE, ending, listening, pulling, run_one, talk};
 use byte_ends::Ends;
 use command_line::ServeWords;
 use console::Named;
 use key_files::NoKeys;
 use record_pull::SystemFiles;
+use running_sites::{
+    NoTurn, PASS_ON, PASSED, TAKE, ending, listening, pulling, run_one, talk, talk_once_up,
+};
 use serve_command::{Ended, ProgramFault, serve};
 use site_address::{Address, PeerAddress};
 use site_net::Stop;
 use site_serve::ServeFault;
-use std::alloc::Global;
 use std::fs::File;
 use std::io::{Print, Read};
 use std::net::{Net, TcpListener, TcpStream};
@@ -27,20 +28,6 @@ use std::{fs, io, thread};
 
 /// What the client is answered that takes in a merge.
 pub const TAKEN: &str = "hello 2\nok 1,1,1,1\nbye\n";
-
-/// What a site answers to these lines once it listens, which is awaited for ten seconds at most.
-pub fn talk_once_up<R>(rt: &R, alloc: Global, port: u16, lines: &str) -> io::Result<String>
-where
-    R: Net<Listener = TcpListener, Stream = TcpStream> + Wait + Clock,
-{
-    for _ in 0..1_000 {
-        if let Ok(answers) = talk(rt, alloc, port, lines) {
-            return Ok(answers);
-        }
-        let _ = thread::sleep(rt, Duration::from_millis(10));
-    }
-    talk(rt, alloc, port, lines)
-}
 
 /// Runs a site of these words for one session, of these lines: whether they are answered so, and it ends well. Its input
 /// has ended before, which ends no site that isn't to end with it.

@@ -1,0 +1,18 @@
+//! Tests of `serve` by its words, over files and sockets of this machine, through the public functions of its crates. A crate
+//! of tests alone, as `record_tests` is.
+#![tactic(auto)]
+
+#[cfg(test)]
+mod guards;
+#[cfg(test)]
+mod keys;
+#[cfg(test)]
+mod programs;
+#[cfg(test)]
+mod reloads;
+#[cfg(test)]
+mod restarts;
+#[cfg(test)]
+mod shown;
+#[cfg(test)]
+mod sockets;
