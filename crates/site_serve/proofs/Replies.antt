@@ -1,10 +1,9 @@
 -- Who waits is answered, one after the other.
-use Rattle.std.proofs.Common.{◌≡◌, ◌≢◌, ◌∷◌, ◌++◌, [], ℕ, IfErr, IfOk, List, OnOk, Option, Result, Ok, Err, Some, inl, inr}
-use Rattle.std.proofs.Common.{refl, slice_get, subst, sym}
+use Rattle.std.proofs.Common.{◌≡◌, ◌∷◌, ◌++◌, [], ℕ, IfErr, IfOk, List, OnOk, Option, Result, Ok, Err, inl, inr}
+use Rattle.std.proofs.Common.{refl, subst, sym}
 use Rattle.review_ops.specs.Timestamp.{Timestamp}
 use Rattle.site_serve.specs.Answered.{AreAnswered, EachIsAnswered, IsAskerAnswered, IsSeatAnswered, SaysFault, SaysHeld, SaysStamp}
-use Rattle.site_serve.specs.declared.ask.Asker.{Asker}
-use Rattle.site_serve.specs.declared.ask.Asker.TheVariants.{Puller, Session}
+use Rattle.site_serve.specs.declared.ask.Asker.TheVariants.{Session}
 use Rattle.site_serve.specs.declared.desk.Waiter.{Waiter}
 use Rattle.site_shared.specs.declared.fault.DeskFault.{DeskFault}
 use Rattle.site_shared.specs.declared.fault.DeskFault.TheVariants.{NoMemory}
@@ -32,14 +31,6 @@ module _ {S : Type 0} (number_of : S → ℕ) (outbox_of : S → List ℕ) where
     new,
     subst (λ asker. IsAskerAnswered number_of outbox_of asker (SaysHeld waiter.held) old new) (sym is) seat,
     refl,
-  )
-
-  pub puller_answered : (waiter : Waiter) (puller : ℕ) (old new : List (Option S)) → waiter.asker ≡ Puller puller
-      → new ≡ old → AreAnswered old new number_of outbox_of (waiter ∷ [])
-  puller_answered waiter puller old new is same = (
-    old,
-    subst (λ asker. IsAskerAnswered number_of outbox_of asker (SaysHeld waiter.held) old old) (sym is) refl,
-    same,
   )
 
   -- those who were answered, and one who is after them
