@@ -15,7 +15,7 @@ const PROBLEM: &str = r#"{"type":"about:blank","title":"Not Found","status":404}
 fn the_status_has_the_sites_figures(rt: HostRuntime) {
     let is_shown = shows(
         rt.alloc(),
-        &Route::Status,
+        Route::Status,
         Status::Found,
         Kind::Json,
         &[STATUS],
@@ -35,7 +35,7 @@ fn items_are_rows_with_their_refusals(rt: HostRuntime) {
         words: None,
         page: 1,
     });
-    let is_shown = shows(rt.alloc(), &route, Status::Found, Kind::Json, &[ITEMS]);
+    let is_shown = shows(rt.alloc(), route, Status::Found, Kind::Json, &[ITEMS]);
     assert!(rt; is_shown);
 }
 
@@ -49,7 +49,7 @@ fn a_change_has_the_items_down_to_the_cause(rt: HostRuntime) {
         change: 102,
         set: None,
     });
-    let is_shown = shows(rt.alloc(), &route, Status::Found, Kind::Json, &[WAITING]);
+    let is_shown = shows(rt.alloc(), route, Status::Found, Kind::Json, &[WAITING]);
     assert!(rt; is_shown);
 }
 
@@ -61,7 +61,7 @@ fn an_unknown_change_is_a_problem(rt: HostRuntime) {
     });
     let is_shown = shows(
         rt.alloc(),
-        &route,
+        route,
         Status::NotFound,
         Kind::Problem,
         &[PROBLEM],
@@ -79,7 +79,7 @@ data: {"ready":1,"out":3,"operations":10}
 fn the_event_has_the_numbers_of_items(rt: HostRuntime) {
     let is_shown = shows(
         rt.alloc(),
-        &Route::Events,
+        Route::Events,
         Status::Found,
         Kind::Events,
         &[EVENT],
@@ -167,7 +167,7 @@ reviewgate_gerrit_heard_age_seconds 7.050
 fn metrics_have_their_lines(rt: HostRuntime) {
     let is_shown = shows(
         rt.alloc(),
-        &Route::Metrics,
+        Route::Metrics,
         Status::Found,
         Kind::Metrics,
         &[METRICS],
@@ -179,21 +179,21 @@ fn metrics_have_their_lines(rt: HostRuntime) {
 fn what_never_changes_is_answered(rt: HostRuntime) {
     let is_well = shows(
         rt.alloc(),
-        &Route::Health,
+        Route::Health,
         Status::Found,
         Kind::Plain,
         &["ok\n"],
     );
     let has_style = shows(
         rt.alloc(),
-        &Route::Style,
+        Route::Style,
         Status::Found,
         Kind::Style,
         &[STYLE],
     );
     let has_script = shows(
         rt.alloc(),
-        &Route::Script,
+        Route::Script,
         Status::Found,
         Kind::Script,
         &[SCRIPT],

@@ -1,10 +1,9 @@
 //! Which rows a list has, and which of them a page has.
 
-use super::record::{gate, replica};
-use gate_rules::Gate;
+use super::record::{Question, Record, is_so};
 use page_routes::{Choice, Reason, Shown};
 use page_text::{ROWS, Row, chosen_rows, pages_are_the_report, rows_of};
-use ready_core::{Verdicts, evaluate};
+use ready_core::Verdicts;
 use state_core::{Item, State};
 use std::alloc::{AllocError, Global};
 
@@ -74,48 +73,62 @@ fn a_page_has_a_hundred_rows(rt: HostRuntime) {
     pages_are_the_report();
 }
 
-/// The numbers of the changes that a choice has, one after the other, with a blank behind each.
-fn chosen(
+/// A choice of this kind of items, for this reason and with these words.
+fn choice_of(
     alloc: Global,
     shown: Shown,
     reason: Option<Reason>,
     words: Option<&str>,
-) -> Option<String> {
+) -> Option<Choice> {
     let words = match words {
         Some(words) => Some(String::from_str(alloc, words).ok()?),
         None => None,
     };
-    let choice = Choice {
+    Some(Choice {
         shown,
         reason,
         words,
         page: 1,
-    };
-    chosen_by(alloc, &choice)
+    })
 }
 
-/// The same of a choice as it is.
-fn chosen_by(alloc: Global, choice: &Choice) -> Option<String> {
-    let gate = gate(alloc)?;
-    chosen_under(alloc, choice, &gate)
-}
-
-/// The same under a gate.
-fn chosen_under(alloc: Global, choice: &Choice, gate: &Gate) -> Option<String> {
-    let replica = replica(alloc)?;
-    chosen_in(alloc, choice, gate, replica.state())
-}
-
-/// The same in a state.
-fn chosen_in(alloc: Global, choice: &Choice, gate: &Gate, state: &State) -> Option<String> {
-    let verdicts = evaluate(alloc, state, gate).ok()?;
-    match chosen_rows(alloc, state, &verdicts, choice) {
-        Ok(rows) => changes_of(alloc, rows.as_slice()).ok(),
-        Err(_) => None,
+/// Whether a choice of this kind of items, for this reason and with these words, has these changes.
+pub fn are_chosen_by(
+    alloc: Global,
+    state: &State,
+    verdicts: &Verdicts,
+    asked: (Shown, Option<Reason>, Option<&'static str>),
+    changes: &str,
+) -> bool {
+    match choice_of(alloc, asked.0, asked.1, asked.2) {
+        Some(choice) => are_rows(alloc, state, verdicts, &choice, changes),
+        None => false,
     }
 }
 
-/// The numbers of the changes of rows.
+/// Whether a choice has rows of these changes.
+fn are_rows(
+    alloc: Global,
+    state: &State,
+    verdicts: &Verdicts,
+    choice: &Choice,
+    changes: &str,
+) -> bool {
+    match chosen_rows(alloc, state, verdicts, choice) {
+        Ok(rows) => are_changes(alloc, rows.as_slice(), changes),
+        Err(_) => false,
+    }
+}
+
+/// Whether rows have these changes.
+fn are_changes(alloc: Global, rows: &[Row], changes: &str) -> bool {
+    match changes_of(alloc, rows) {
+        Ok(text) => text.as_str() == changes,
+        Err(_) => false,
+    }
+}
+
+/// The numbers of the changes of rows, one after the other, with a blank behind each.
 fn changes_of(alloc: Global, rows: &[Row]) -> Result<String, AllocError> {
     let mut text = String::new(alloc);
     for row in rows {
@@ -126,7 +139,7 @@ fn changes_of(alloc: Global, rows: &[Row]) -> Result<String, AllocError> {
 }
 
 /// Choices, with the changes that they have.
-const CHOICES: [(Shown, Option<Reason>, Option<&str>, &str); 11] = [
+const CHOICES: [(Shown, Option<Reason>, Option<&'static str>, &'static str); 11] = [
     (Shown::Open, None, None, "101 102 103 "),
     (Shown::Ready, None, None, "101 "),
     (Shown::All, None, None, "101 102 103 104 "),
@@ -140,25 +153,12 @@ const CHOICES: [(Shown, Option<Reason>, Option<&str>, &str); 11] = [
     (Shown::All, None, Some("squeaks"), ""),
 ];
 
-/// Whether a choice has these changes.
-fn is_chosen(
-    alloc: Global,
-    shown: Shown,
-    reason: Option<Reason>,
-    words: Option<&str>,
-    changes: &str,
-) -> bool {
-    match chosen(alloc, shown, reason, words) {
-        Some(found) => found.as_str() == changes,
-        None => false,
-    }
-}
-
 /// Whether each of those choices has its changes.
 fn are_chosen(alloc: Global) -> bool {
     let mut are_so = true;
     for (shown, reason, words, changes) in CHOICES {
-        are_so = is_chosen(alloc, shown, reason, words, changes) && are_so;
+        let question = Question::Chooses(shown, reason, words, changes);
+        are_so = is_so(alloc, Record::Given, question) && are_so;
     }
     are_so
 }

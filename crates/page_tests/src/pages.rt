@@ -25,7 +25,7 @@ const AFTER_TITLE: &str = r#"</title>
 const END: &str = "</main>\n</body>\n</html>\n";
 
 /// Whether what is asked for is shown as a page with this status, this title and this part of its own.
-fn is_page(alloc: Global, route: &Route, status: Status, title: &str, main: &str) -> bool {
+fn is_page(alloc: Global, route: Route, status: Status, title: &str, main: &str) -> bool {
     let parts = [BEFORE_TITLE, title, AFTER_TITLE, main, END];
     shows(alloc, route, status, Kind::Html, &parts)
 }
@@ -105,8 +105,13 @@ fn is_list(alloc: Global, choice: Choice, list: List) -> bool {
         "</nav>\n</div>\n",
         END,
     ];
-    let route = Route::List(choice);
-    shows(alloc, &route, Status::Found, Kind::Html, &parts)
+    shows(
+        alloc,
+        Route::List(choice),
+        Status::Found,
+        Kind::Html,
+        &parts,
+    )
 }
 
 /// The list of the open items.
@@ -287,7 +292,7 @@ fn a_change_shows_what_it_waits_for(rt: HostRuntime) {
     let current = change_route(102, None);
     let is_shown = is_page(
         rt.alloc(),
-        &current,
+        current,
         Status::Found,
         "Change 102,1: Open",
         WAITING,
@@ -298,13 +303,13 @@ fn a_change_shows_what_it_waits_for(rt: HostRuntime) {
 #[test]
 fn a_hostile_subject_is_a_text(rt: HostRuntime) {
     let named = change_route(103, Some(2));
-    let is_shown = is_page(rt.alloc(), &named, Status::Found, HOSTILE_TITLE, HOSTILE);
+    let is_shown = is_page(rt.alloc(), named, Status::Found, HOSTILE_TITLE, HOSTILE);
     assert!(rt; is_shown);
 }
 
 #[test]
 fn an_unknown_change_is_not_found(rt: HostRuntime) {
     let unknown = change_route(9, Some(2));
-    let is_shown = is_page(rt.alloc(), &unknown, Status::NotFound, "Not found", UNKNOWN);
+    let is_shown = is_page(rt.alloc(), unknown, Status::NotFound, "Not found", UNKNOWN);
     assert!(rt; is_shown);
 }

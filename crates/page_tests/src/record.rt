@@ -1,10 +1,16 @@
-//! The record whose pages are looked at.
+//! The records whose pages are looked at, and what is asked of them.
 
+ghost use Rattle.std.specs.List.Sorted.{IsStrictlySortedBy};
+ghost use Rattle.state_core.specs.Items.{item_cmp};
+ghost use Rattle.ready_core.specs.Verdicts.{items_out};
+
+use super::drawings::{are_reached, are_so_many_reached, are_waiting};
+use super::lists::are_chosen_by;
 use deeds::{Deed, op_of};
 use gate_rules::Gate;
-use page_routes::{Kind, Page, Route, Status};
+use page_routes::{Kind, Page, Reason, Route, Shown, Status};
 use page_text::{Facts, JournalFacts, PeerFacts, page_of};
-use ready_core::evaluate;
+use ready_core::{Verdicts, evaluate};
 use replica_core::Replica;
 use std::alloc::{AllocError, Global};
 
@@ -13,6 +19,9 @@ const GATE: &str = r#"{"bases":["https://r/"],
 "reject":{"gerrit":{"approval":{"Code-Review":[-2]},"status":"HELD"}},
 "require":{"gerrit":{"status":["NEW","MERGED"],"open":true,"current-patchset":true,
 "approval":[{"Workflow":1},{"username":"zuul","Verified":[1,2]}]}}}"#;
+
+/// A gate that wants nothing.
+const OPEN_GATE: &str = r#"{"bases":["https://r/"]}"#;
 
 /// The path of a peer's socket, as no one would name it.
 const PEER: &str = "/run/\"a\\<b>&\n'";
@@ -41,37 +50,59 @@ static RECORD: [(u32, Deed); 10] = [
 ];
 
 /// What was done in that record, as a list.
-fn record() -> &'static [(u32, Deed)] {
+fn deeds() -> &'static [(u32, Deed)] {
     &RECORD
 }
 
-/// The replica of that record.
-pub fn replica(alloc: Global) -> Option<Replica> {
+/// A record.
+#[derive(Clone, Copy)]
+pub enum Record {
+    /// That one, under the gate that wants two approvals.
+    Given,
+    /// One in which each change from 1 on has a parent with the next number, up to the last one, which is given with its
+    /// parent, under the gate that wants nothing.
+    Chain(u32, u32),
+}
+
+/// The replica of a record.
+fn replica(alloc: Global, record: Record) -> Option<Replica> {
     let mut replica = Replica::new(alloc);
-    match take_record(alloc, &mut replica) {
+    match take_record(alloc, &mut replica, record) {
         Some(()) => Some(replica),
         None => None,
     }
 }
 
-/// Takes that record in.
-fn take_record(alloc: Global, replica: &mut Replica) -> Option<()> {
+/// Takes a record in.
+fn take_record(alloc: Global, replica: &mut Replica, record: Record) -> Option<()> {
+    match record {
+        Record::Given => take_given(alloc, replica),
+        Record::Chain(last, parent) => take_chain(alloc, replica, last, parent),
+    }
+}
+
+/// Takes the given record in.
+fn take_given(alloc: Global, replica: &mut Replica) -> Option<()> {
     let mut time = 0u64;
-    for (change, deed) in record() {
+    for (change, deed) in deeds() {
         time = time.saturating_add(1);
         take(alloc, replica, time, *change, *deed)?;
     }
     Some(())
 }
 
+/// Takes in changes that are a chain.
+fn take_chain(alloc: Global, replica: &mut Replica, last: u32, parent: u32) -> Option<()> {
+    for change in 1..=last {
+        let parent = if change == last { parent } else { change + 1 };
+        let deed = Deed::PatchSet(1, "Fix", Some(parent));
+        take(alloc, replica, u64::from(change), change, deed)?;
+    }
+    Some(())
+}
+
 /// Takes in what is done to a change at a time.
-pub fn take(
-    alloc: Global,
-    replica: &mut Replica,
-    time: u64,
-    change: u32,
-    deed: Deed,
-) -> Option<()> {
+fn take(alloc: Global, replica: &mut Replica, time: u64, change: u32, deed: Deed) -> Option<()> {
     let op = op_of(alloc, time, change, deed)?;
     match replica.take(op) {
         Ok(_) => Some(()),
@@ -79,9 +110,13 @@ pub fn take(
     }
 }
 
-/// The gate.
-pub fn gate(alloc: Global) -> Option<Gate> {
-    Gate::read(alloc, GATE.as_bytes()).ok()
+/// The gate of a record.
+fn gate(alloc: Global, record: Record) -> Option<Gate> {
+    let text = match record {
+        Record::Given => GATE,
+        Record::Chain(_, _) => OPEN_GATE,
+    };
+    Gate::read(alloc, text.as_bytes()).ok()
 }
 
 /// What the site knows of a peer that can't be reached, at a socket whose path has markup.
@@ -131,41 +166,125 @@ fn facts(peers: Vec<PeerFacts>) -> Facts {
     }
 }
 
-/// What is answered to a route.
-fn answer(alloc: Global, route: &Route) -> Option<Page> {
-    let gate = gate(alloc)?;
-    answer_under(alloc, route, &gate)
+/// What is answered to a route over a record.
+fn answer(alloc: Global, record: Record, route: &Route) -> Option<Page> {
+    match gate(alloc, record) {
+        Some(gate) => answer_under(alloc, record, route, &gate),
+        None => None,
+    }
 }
 
 /// What is answered under a gate.
-fn answer_under(alloc: Global, route: &Route, gate: &Gate) -> Option<Page> {
-    let replica = replica(alloc)?;
-    answer_over(alloc, route, gate, &replica)
+fn answer_under(alloc: Global, record: Record, route: &Route, gate: &Gate) -> Option<Page> {
+    match replica(alloc, record) {
+        Some(replica) => answer_over(alloc, route, gate, &replica),
+        None => None,
+    }
 }
 
 /// What is answered over a replica.
 fn answer_over(alloc: Global, route: &Route, gate: &Gate, replica: &Replica) -> Option<Page> {
-    let facts = facts(peers(alloc).ok()?);
-    answer_with(alloc, route, gate, replica, &facts)
+    match evaluate(alloc, replica.state(), gate) {
+        Ok(verdicts) => answer_on(alloc, route, gate, replica, &verdicts),
+        Err(_) => None,
+    }
 }
 
-/// What a site answers that knows this of itself.
-pub fn answer_with(
+/// What is answered with these verdicts.
+fn answer_on(
     alloc: Global,
     route: &Route,
     gate: &Gate,
     replica: &Replica,
-    facts: &Facts,
-) -> Option<Page> {
-    let verdicts = evaluate(alloc, replica.state(), gate).ok()?;
-    page_of(alloc, route, gate, replica, &verdicts, facts).ok()
+    verdicts: &Verdicts,
+) -> Option<Page>
+    requires { IsStrictlySortedBy item_cmp (items_out verdicts.now.out) }
+{
+    match peers(alloc) {
+        Ok(peers) => page_of(alloc, route, gate, replica, verdicts, &facts(peers)).ok(),
+        Err(_) => None,
+    }
 }
 
-/// Whether the answer to a route has this status and kind, and a text that is made of these parts.
-pub fn shows(alloc: Global, route: &Route, status: Status, kind: Kind, parts: &[&str]) -> bool {
-    match answer(alloc, route) {
+/// Whether the answer to a route over the given record has this status and kind, and a text that is made of these parts.
+pub fn shows(alloc: Global, route: Route, status: Status, kind: Kind, parts: &[&str]) -> bool {
+    match answer(alloc, Record::Given, &route) {
         Some(page) => is_as(&page, status, kind, parts),
         None => false,
+    }
+}
+
+/// Whether the answer to a route over a record has this part.
+pub fn has_part(alloc: Global, record: Record, route: Route, part: &str) -> bool {
+    match answer(alloc, record, &route) {
+        Some(page) => has(page.body, part),
+        None => false,
+    }
+}
+
+/// Whether a page has this part.
+fn has(page: Vec<u8>, part: &str) -> bool {
+    match String::from_utf8(page) {
+        Ok(text) => text.contains(part),
+        Err(_) => false,
+    }
+}
+
+/// What is asked of a record and its verdicts.
+#[derive(Clone, Copy)]
+pub enum Question {
+    /// Whether a choice has these changes: the kind of items, the reason, the words, and the numbers.
+    Chooses(Shown, Option<Reason>, Option<&'static str>, &'static str),
+    /// Whether these changes are reached from the first patch set of the first of them.
+    Reaches(&'static [u32]),
+    /// Whether so many changes are reached from the first patch set of change 1.
+    Counts(usize),
+    /// Whether so many items wait for a change, and the first of them is of this change.
+    Waits(u32, usize, u32),
+}
+
+/// Whether it is so of a record.
+pub fn is_so(alloc: Global, record: Record, question: Question) -> bool {
+    match gate(alloc, record) {
+        Some(gate) => is_so_under(alloc, record, question, &gate),
+        None => false,
+    }
+}
+
+/// Whether it is so under a gate.
+fn is_so_under(alloc: Global, record: Record, question: Question, gate: &Gate) -> bool {
+    match replica(alloc, record) {
+        Some(replica) => is_so_over(alloc, question, gate, &replica),
+        None => false,
+    }
+}
+
+/// Whether it is so of a replica.
+fn is_so_over(alloc: Global, question: Question, gate: &Gate, replica: &Replica) -> bool {
+    match evaluate(alloc, replica.state(), gate) {
+        Ok(verdicts) => is_so_on(alloc, question, gate, replica, &verdicts),
+        Err(_) => false,
+    }
+}
+
+/// Whether it is so with these verdicts.
+fn is_so_on(
+    alloc: Global,
+    question: Question,
+    gate: &Gate,
+    replica: &Replica,
+    verdicts: &Verdicts,
+) -> bool {
+    let state = replica.state();
+    match question {
+        Question::Chooses(shown, reason, words, changes) => {
+            are_chosen_by(alloc, state, verdicts, (shown, reason, words), changes)
+        }
+        Question::Reaches(changes) => are_reached(alloc, gate, state, changes),
+        Question::Counts(count) => are_so_many_reached(alloc, gate, state, count),
+        Question::Waits(change, count, first) => {
+            are_waiting(alloc, verdicts.out(), change, (count, first))
+        }
     }
 }
 

@@ -3,7 +3,9 @@ use Rattle.std.proofs.Common.{◌≡◌, ◌∙◌, ◌+◌, ◌<◌, ℕ, List,
 use Rattle.std.proofs.Common.{refl, ap, sym, append_assoc, arith}
 use Rattle.std.specs.Prelude.{filter, if◌then◌else◌, ◌≤◌}
 use Rattle.std.proofs.Math.Seq.{drop-cons}
-use Rattle.std.proofs.Common.{suc, zero}
+use Rattle.std.proofs.Common.{suc, zero, map}
+use Rattle.std.proofs.lemmas.List.{map-append, take_more}
+use Rattle.std.proofs.lemmas.List.Elements.{filter-append}
 use Rattle.state_core.specs.declared.item.Item.{Item}
 use Rattle.page_text.specs.declared.rows.Row.{Row}
 use Rattle.page_text.specs.declared.rows.Row.TheVariants.{Enters}
@@ -44,3 +46,22 @@ take_whole zero [] small = refl
 take_whole zero (x ∷ xs) small = absurd (omega arith)
 take_whole (suc n) [] small = refl
 take_whole (suc n) (x ∷ xs) small = ap (λ l. x ∷ l) (take_whole n xs (omega arith))
+
+-- what a list gives so far, and what its next item gives
+pub more_of : {X Y : Type 0} (gives : List X → List Y) (joins : (xs ys : List X) → gives (xs ++ ys) ≡ gives xs ++ gives ys)
+    (xs : List X) (i : ℕ) (d : X) (old mid new : List Y) → i < length xs → mid ≡ old ++ gives (take i xs)
+    → new ≡ mid ++ gives (get_or xs i d ∷ []) → new ≡ old ++ gives (take (i + 1) xs)
+more_of gives joins xs i d old mid new inside so_far is =
+    let next = gives (get_or xs i d ∷ []) in
+    is ∙ ap (λ l. l ++ next) so_far ∙ append_assoc old (gives (take i xs)) next
+    ∙ ap (λ l. old ++ l) (sym (ap gives (take_more xs i d inside) ∙ joins (take i xs) (get_or xs i d ∷ [])))
+
+pub filter_map_joins : {X Y : Type 0} (test : Y → Bool) (f : X → Y) (xs ys : List X)
+    → filter test (map f (xs ++ ys)) ≡ filter test (map f xs) ++ filter test (map f ys)
+filter_map_joins test f xs ys =
+    ap (filter test) (map-append f xs ys) ∙ filter-append test (map f xs) (map f ys)
+
+pub map_filter_joins : {X Y : Type 0} (test : X → Bool) (f : X → Y) (xs ys : List X)
+    → map f (filter test (xs ++ ys)) ≡ map f (filter test xs) ++ map f (filter test ys)
+map_filter_joins test f xs ys =
+    ap (map f) (filter-append test xs ys) ∙ map-append f (filter test xs) (filter test ys)

@@ -8,6 +8,7 @@ pub mod Items
 pub mod Waiting
 pub mod Problem
 pub mod Held
+pub mod Counts
 pub mod Statuses
 pub mod Labels
 pub mod Parts

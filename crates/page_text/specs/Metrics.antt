@@ -16,6 +16,8 @@ use Rattle.page_text.specs.declared.facts.Facts.{Facts}
 use Rattle.page_text.specs.declared.facts.JournalFacts.{JournalFacts}
 use Rattle.page_text.specs.declared.facts.PeerFacts.{PeerFacts}
 use Rattle.page_text.specs.declared.held.Held.{Held}
+use Rattle.page_text.specs.declared.metrics_peers.Figure.{Figure}
+use Rattle.page_text.specs.declared.metrics_peers.Figure.TheVariants.{Reached, Age, Pulls, Failures}
 use Rattle.page_text.specs.declared.held.Held.TheVariants.{Approval, Cycle, Unknown, Dependency}
 use Rattle.page_text.specs.Held.{held_words, is_held}
 use Rattle.page_text.specs.Samples.{counter, family, gauge, labelled, micro_sample, milli_sample, peer_milli_sample}
@@ -78,6 +80,13 @@ flag false = 0
 abbrev pub peer_age_text : List ℕ → List ℕ → Option ℕ → List ℕ
 peer_age_text name peer None = []
 peer_age_text name peer (Some age) = peer_milli_sample name peer age
+
+-- what is told of a peer
+abbrev pub figure_text : List ℕ → Figure → PeerFacts → List ℕ
+figure_text name Reached peer = peer_sample name (string_bytes peer.peer) (flag peer.is_reachable)
+figure_text name Age peer = peer_age_text name (string_bytes peer.peer) peer.good_ms
+figure_text name Pulls peer = peer_sample name (string_bytes peer.peer) peer.pulls
+figure_text name Failures peer = peer_sample name (string_bytes peer.peer) peer.failures
 
 abbrev pub up_text : List PeerFacts → List ℕ
 up_text peers =

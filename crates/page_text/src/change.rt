@@ -15,10 +15,11 @@ use super::links::{add_item_link, add_left};
 use super::needs::needs_of;
 use super::rows::Row;
 use super::subject::{first_line, subject_of};
+use super::template::fill;
 use super::verdict::verdict_on;
 use super::waiting::{add_waiting, waiting_for};
 use super::words::add_wanted;
-use change_core::ChangeState;
+use change_core::{Approval, ChangeState};
 use gate_rules::Gate;
 use lattice_core::NoMemory;
 use markup_text::{Markup, Piece};
@@ -26,8 +27,15 @@ use ready_core::{Left, Refusal, Verdicts};
 use state_core::{Item, State};
 use std::alloc::Global;
 
-/// What comes between the number of a table's caption and the rows of votes.
-const VOTES_HEAD: &str = r#"</caption>
+/// How the part of a page that is an item's own begins.
+const ITEM_HEAD: &str = r#"<h1>Change {}, patch set {}</h1>
+<p>{}</p>
+<div id="live">
+"#;
+
+/// What comes before the rows of votes.
+const VOTES_HEAD: &str = r#"<table>
+<caption>Votes on the current patch set, {}</caption>
 <thead><tr><th scope="col">Label</th><th scope="col">Voter</th><th scope="col">Value</th></tr></thead>
 <tbody>
 "#;
@@ -46,8 +54,7 @@ pub fn change_page(
     ensures { IfOk result (λ text. IsTitled (item_title state.now item) text.items) }
 {
     let main = main_of(alloc, item, gate, state, verdicts);
-    let text = titled_page(alloc, state, item, facts.site, &main)?;
-    Ok(text)
+    titled_page(alloc, state, item, facts.site, &main)
 }
 
 /// The page of an item with this part of its own.
@@ -90,31 +97,16 @@ fn main_of(alloc: Global, item: Item, gate: &Gate, state: &State, verdicts: &Ver
     requires there { IsItem state.now item }
 {
     let mut page = Markup::new(alloc);
-    add_main(alloc, &mut page, item, gate, state, verdicts);
-    page
-}
-
-/// Adds the part of the page that is the item's own.
-fn add_main(
-    alloc: Global,
-    page: &mut Markup,
-    item: Item,
-    gate: &Gate,
-    state: &State,
-    verdicts: &Verdicts,
-)
-    requires rising { IsStrictlySortedBy item_cmp (items_out verdicts.now.out) }
-    requires there { IsItem state.now item }
-{
-    add_head(page, state, item);
-    add_verdict(alloc, page, gate, state, verdicts, item);
-    add_conditions(alloc, page, gate, state, item);
+    add_head(&mut page, state, item);
+    add_verdict(alloc, &mut page, gate, state, verdicts, item);
+    add_conditions(alloc, &mut page, gate, state, item);
     if let Some(change) = state.change(item.change) {
-        add_change(page, item.change, change);
+        add_change(&mut page, item.change, change);
     }
-    add_needs_of(alloc, page, gate, state, item);
-    add_around(alloc, page, gate, state, verdicts, item);
+    add_needs_of(alloc, &mut page, gate, state, item);
+    add_around(alloc, &mut page, gate, state, verdicts, item);
     page.add(&[Piece::Markup("</div>\n")]);
+    page
 }
 
 /// Adds what waits for the item, and the drawing of that and of what it waits for.
@@ -160,15 +152,10 @@ fn add_those_around(
 
 /// Adds the item and its subject.
 fn add_head(page: &mut Markup, state: &State, item: Item) {
-    page.add(&[
-        Piece::Markup("<h1>Change "),
-        Piece::Number(u64::from(item.change)),
-        Piece::Markup(", patch set "),
-        Piece::Number(u64::from(item.set)),
-        Piece::Markup("</h1>\n<p>"),
-        Piece::Text(subject_of(state, item)),
-        Piece::Markup("</p>\n<div id=\"live\">\n"),
-    ]);
+    let change = Piece::Number(u64::from(item.change));
+    let set = Piece::Number(u64::from(item.set));
+    let subject = Piece::Text(subject_of(state, item));
+    fill(page, ITEM_HEAD, &[change, set, subject]);
 }
 
 /// Adds whether the item may enter, and if not, why.
@@ -208,11 +195,11 @@ fn add_walk(
 
 /// Adds that the item is ready.
 fn add_ready(page: &mut Markup, place: usize) {
-    page.add(&[
-        Piece::Markup("<p class=\"ready\">It is ready, at place "),
-        Piece::Number(place as u64),
-        Piece::Markup(" in gate order.</p>\n"),
-    ]);
+    fill(
+        page,
+        "<p class=\"ready\">It is ready, at place {} in gate order.</p>\n",
+        &[Piece::Number(place as u64)],
+    );
 }
 
 /// Adds the items that wait for each other, down to the cause, and what the gate asks there.
@@ -240,22 +227,22 @@ fn add_cause(page: &mut Markup, gate: &Gate, refusal: Refusal) {
     let Refusal::Own(condition) = refusal else {
         return;
     };
-    page.add(&[
-        Piece::Markup("<p>The gate has there: "),
-        Piece::Markup(condition.side.name()),
-        Piece::Markup(" "),
-    ]);
+    fill(
+        page,
+        "<p>The gate has there: {} ",
+        &[Piece::Markup(condition.side.name())],
+    );
     add_wanted(page, gate, condition);
     page.add(&[Piece::Markup(".</p>\n")]);
 }
 
 /// Adds what is known of a change: its status, its votes and its patch sets.
 fn add_change(page: &mut Markup, number: u32, change: &ChangeState) {
-    page.add(&[
-        Piece::Markup("<p>The status of the change is "),
-        Piece::Markup(change.status().name()),
-        Piece::Markup(".</p>\n"),
-    ]);
+    fill(
+        page,
+        "<p>The status of the change is {}.</p>\n",
+        &[Piece::Markup(change.status().name())],
+    );
     if let Some(current) = change.current() {
         add_votes(page, change, current);
     }
@@ -264,23 +251,24 @@ fn add_change(page: &mut Markup, number: u32, change: &ChangeState) {
 
 /// Adds the approvals of the current patch set.
 fn add_votes(page: &mut Markup, change: &ChangeState, current: u32) {
-    page.add(&[
-        Piece::Markup("<table>\n<caption>Votes on the current patch set, "),
-        Piece::Number(u64::from(current)),
-        Piece::Markup(VOTES_HEAD),
-    ]);
+    fill(page, VOTES_HEAD, &[Piece::Number(u64::from(current))]);
     for approval in change.approvals(current) {
-        page.add(&[
-            Piece::Markup("<tr><td>"),
-            Piece::Text(approval.label),
-            Piece::Markup("</td><td>"),
-            Piece::Text(approval.voter),
-            Piece::Markup("</td><td>"),
-            Piece::Signed(i64::from(approval.value)),
-            Piece::Markup("</td></tr>\n"),
-        ]);
+        add_vote(page, approval);
     }
     page.add(&[Piece::Markup("</tbody>\n</table>\n")]);
+}
+
+/// Adds the row of an approval.
+fn add_vote(page: &mut Markup, approval: Approval<'_>) {
+    fill(
+        page,
+        "<tr><td>{}</td><td>{}</td><td>{}</td></tr>\n",
+        &[
+            Piece::Text(approval.label),
+            Piece::Text(approval.voter),
+            Piece::Signed(i64::from(approval.value)),
+        ],
+    );
 }
 
 /// Adds the patch sets of a change with their subjects.
@@ -301,11 +289,7 @@ fn add_sets(page: &mut Markup, number: u32, change: &ChangeState) {
 fn add_set(page: &mut Markup, item: Item, subject: &str) {
     page.add(&[Piece::Markup("<li>")]);
     add_item_link(page, item);
-    page.add(&[
-        Piece::Markup(": "),
-        Piece::Text(subject),
-        Piece::Markup("</li>\n"),
-    ]);
+    fill(page, ": {}</li>\n", &[Piece::Text(subject)]);
 }
 
 /// Adds the changes that the item names as its dependencies.
@@ -320,18 +304,19 @@ fn add_needs_of(alloc: Global, page: &mut Markup, gate: &Gate, state: &State, it
 fn add_needs(page: &mut Markup, state: &State, needs: &[u32]) {
     page.add(&[Piece::Markup("<h2>Depends on</h2>\n<ul>\n")]);
     for need in needs {
-        let number = Piece::Number(u64::from(*need));
-        page.add(&[
-            Piece::Markup("<li><a href=\"/change/"),
-            number,
-            Piece::Markup("\">"),
-            number,
-            Piece::Markup("</a> "),
-            Piece::Markup(status_of(state, *need)),
-            Piece::Markup("</li>\n"),
-        ]);
+        add_need(page, *need, status_of(state, *need));
     }
     page.add(&[Piece::Markup("</ul>\n")]);
+}
+
+/// Adds a change that is named, with its status.
+fn add_need(page: &mut Markup, need: u32, status: &'static str) {
+    let number = Piece::Number(u64::from(need));
+    fill(
+        page,
+        "<li><a href=\"/change/{}\">{}</a> {}</li>\n",
+        &[number, number, Piece::Markup(status)],
+    );
 }
 
 /// The status of a change in a word.

@@ -3,6 +3,7 @@
 ghost use Rattle.state_core.specs.Items.{IsItem};
 
 use super::sheet::{Mark, Sheet};
+use super::template::fill;
 use super::words::add_wanted;
 use gate_rules::{Gate, Tried};
 use markup_text::{Markup, Piece};
@@ -32,21 +33,21 @@ fn add_tried(page: &mut Markup, gate: &Gate, tried: &[Tried]) {
 
 /// Adds a condition, and whether it is met.
 fn add_condition(page: &mut Markup, gate: &Gate, tried: Tried) {
-    page.add(&[
-        Piece::Markup(mark_of(tried.is_broken)),
-        Piece::Markup(tried.condition.side.name()),
-        Piece::Markup(" "),
-    ]);
+    fill(
+        page,
+        template_of(tried.is_broken),
+        &[Piece::Markup(tried.condition.side.name())],
+    );
     add_wanted(page, gate, tried.condition);
     page.add(&[Piece::Markup("</li>\n")]);
 }
 
 /// What comes before a condition.
-fn mark_of(is_broken: bool) -> &'static str {
+fn template_of(is_broken: bool) -> &'static str {
     if is_broken {
-        "<li class=\"waits\">not met: "
+        "<li class=\"waits\">not met: {} "
     } else {
-        "<li class=\"ready\">met: "
+        "<li class=\"ready\">met: {} "
     }
 }
 

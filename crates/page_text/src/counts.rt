@@ -1,26 +1,41 @@
 //! How many items wait, and for what.
 
-ghost use Rattle.std.specs.Prelude.{◌≡◌, ◌&&◌, count_by};
-ghost use Rattle.report_changes.specs.Listing.{is_waiting};
-ghost use Rattle.page_text.specs.Rows.{is_for};
+ghost use Rattle.std.specs.Prelude.{◌≡◌, count_by};
+ghost use Rattle.page_text.specs.Counts.{is_counted};
 
+use super::held::{Held, is_held};
 use super::rows::is_for;
 use page_routes::Reason;
-use ready_core::Left;
+use ready_core::{Left, Refusal};
 use report_changes::is_over;
 
-/// How many of the items that are left out are open, that is aren't over. It costs O(n) for n items, as the next one.
-pub fn open_count(out: &[Left]) -> usize
-    ensures { result ≡ count_by is_waiting out.now }
-{
-    out.iter().filter(|left| !is_over(left.refusal)).count()
+/// Which of the items that are left out are counted.
+#[derive(Clone, Copy)]
+pub enum Counted {
+    /// Those that are open, that is aren't over.
+    Open,
+    /// Those that are open and wait for this reason.
+    For(Reason),
+    /// Those that are held so.
+    By(Held),
 }
 
-/// How many of the items that are left out are open, and wait for this reason.
-pub fn reason_count(out: &[Left], reason: Reason) -> usize
-    ensures { result ≡ count_by (λ left. is_waiting left && is_for reason left.refusal) out.now }
+/// How many of the items that are left out are counted. It costs O(n) for n items.
+pub fn count_of(out: &[Left], counted: Counted) -> usize
+    ensures { result ≡ count_by (λ left. is_counted counted left.refusal) out.now }
 {
     out.iter()
-        .filter(|left| !is_over(left.refusal) && is_for(reason, left.refusal))
+        .filter(|left| is_counted(counted, left.refusal))
         .count()
+}
+
+/// Whether an item with this refusal is counted.
+fn is_counted(counted: Counted, refusal: Refusal) -> bool
+    ensures { result ≡ is_counted counted refusal }
+{
+    match counted {
+        Counted::Open => !is_over(refusal),
+        Counted::For(reason) => !is_over(refusal) && is_for(reason, refusal),
+        Counted::By(held) => is_held(held, refusal),
+    }
 }

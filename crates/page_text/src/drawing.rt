@@ -7,6 +7,7 @@ ghost use Rattle.ready_core.specs.Verdicts.{items_out};
 use super::chain::left_at;
 use super::needs::needs_of;
 use super::reached::{MOST, item_seen, reached_from};
+use super::template::fill;
 use change_core::Status;
 use gate_rules::Gate;
 use lattice_core::NoMemory;
@@ -25,11 +26,24 @@ const WIDTH: u64 = 150;
 
 const HEIGHT: u64 = 28;
 
+/// What stands in place of a drawing with too many nodes.
+const TOO_MANY: &str = "<p>More than 60 changes would be drawn: the lists have them.</p>\n";
+
+/// How a picture begins.
+const PICTURE: &str = r#"<div class="drawing" role="region" aria-labelledby="drawn" tabindex="0">
+<svg role="img" aria-labelledby="drawn" width="{}" height="{}" viewBox="0 0 {} {}">
+<title id="drawn">What waits for the item, and what it waits for</title>
+"#;
+
+/// The box of a node.
+const BOX: &str =
+    r#""><rect class="{}" x="{}" y="{}" width="150" height="28" rx="4"/><text x="{}" y="{}">"#;
+
 /// A node: the item of a change, or a change of which no patch set is known.
 #[derive(Clone, Copy)]
 struct Node {
     change: u32,
-    set: Option<u32>,
+    item: Option<Item>,
     word: &'static str,
     column: u64,
     row: u64,
@@ -83,7 +97,7 @@ fn add_drawing_of(
     }
     page.add(&[Piece::Markup("<h2>Drawing</h2>\n")]);
     if count > MOST {
-        add_too_many(page);
+        page.add(&[Piece::Markup(TOO_MANY)]);
         return;
     }
     match picture_of(alloc, gate, state, verdicts, item, waiting, changes) {
@@ -92,12 +106,11 @@ fn add_drawing_of(
     }
 }
 
-/// What is drawn: nodes, how many the first ones are, which wait for the one after them, and what each of the others
-/// names.
+/// What is drawn: nodes, of which the last ones are of the changes that are reached and the others wait for the first of
+/// these; and what each of those changes names.
 #[derive(Drop)]
 struct Picture {
     nodes: Vec<Node>,
-    waiters: usize,
     needs: Vec<Vec<u32>>,
 }
 
@@ -114,21 +127,6 @@ fn picture_of(
     requires { IsStrictlySortedBy item_cmp (items_out verdicts.now.out) }
 {
     let needs = needs_of_all(alloc, gate, state, item, changes)?;
-    picture_with(alloc, state, verdicts, item, waiting, changes, needs)
-}
-
-/// The picture of what waits for the item and of these changes, which name these.
-fn picture_with(
-    alloc: Global,
-    state: &State,
-    verdicts: &Verdicts,
-    item: Item,
-    waiting: &[Item],
-    changes: &[u32],
-    needs: Vec<Vec<u32>>,
-) -> Result<Picture, NoMemory>
-    requires { IsStrictlySortedBy item_cmp (items_out verdicts.now.out) }
-{
     match nodes_of(
         alloc,
         state,
@@ -138,24 +136,12 @@ fn picture_with(
         changes,
         needs.as_slice(),
     ) {
-        Ok((nodes, waiters)) => Ok(Picture {
-            nodes,
-            waiters,
-            needs,
-        }),
+        Ok(nodes) => Ok(Picture { nodes, needs }),
         Err(NoMemory) => Err(NoMemory),
     }
 }
 
-/// Adds that there is too much to be drawn.
-fn add_too_many(page: &mut Markup) {
-    page.add(&[Piece::Markup(
-        "<p>More than 60 changes would be drawn: the lists have them.</p>\n",
-    )]);
-}
-
-/// The nodes of what waits for the item and of these changes, which name these; and how many the first ones are, which
-/// wait for it.
+/// The nodes of what waits for the item, and then those of these changes, which name these.
 fn nodes_of(
     alloc: Global,
     state: &State,
@@ -164,13 +150,12 @@ fn nodes_of(
     waiting: &[Item],
     changes: &[u32],
     needs: &[Vec<u32>],
-) -> Result<(Vec<Node>, usize), NoMemory>
+) -> Result<Vec<Node>, NoMemory>
     requires { IsStrictlySortedBy item_cmp (items_out verdicts.now.out) }
 {
     let mut nodes = nodes_of_waiting(alloc, state, verdicts, waiting, changes)?;
-    let waiters = nodes.len();
-    match add_reached(&mut nodes, alloc, state, verdicts, item, changes, needs) {
-        Ok(()) => Ok((nodes, waiters)),
+    match add_reached(&mut nodes, state, verdicts, item, changes, needs) {
+        Ok(()) => Ok(nodes),
         Err(NoMemory) => Err(NoMemory),
     }
 }
@@ -228,7 +213,6 @@ fn nodes_of_waiting(
 /// Adds the nodes of the changes that are reached, each one column after the first one that names it.
 fn add_reached(
     nodes: &mut Vec<Node>,
-    alloc: Global,
     state: &State,
     verdicts: &Verdicts,
     item: Item,
@@ -237,28 +221,39 @@ fn add_reached(
 ) -> Result<(), NoMemory>
     requires { IsStrictlySortedBy item_cmp (items_out verdicts.now.out) }
 {
-    let first = if nodes.is_empty() { 0 } else { 1 };
-    let mut columns = Vec::with_capacity(alloc, changes.len())?;
+    let waiters = nodes.len();
     for change in changes {
-        let column = column_of(columns.as_slice(), needs, *change, first);
-        let row = count_in(columns.as_slice(), column);
-        columns.push(column)?;
+        let (column, row) = place_of(nodes.as_slice(), waiters, needs, *change);
         let seen = item_seen(state, item, *change);
         nodes.push(node_at(state, verdicts, *change, seen, column, row))?;
     }
     Ok(())
 }
 
-/// How many of some columns are this one.
-fn count_in(columns: &[u64], column: u64) -> u64 {
-    columns.iter().filter(|other| **other == column).count() as u64
+/// The column and the row of the next change that is reached, behind these nodes, of which so many wait.
+fn place_of(nodes: &[Node], waiters: usize, needs: &[Vec<u32>], change: u32) -> (u64, u64) {
+    let (waiting, reached) = nodes.split_at(waiters.min(nodes.len()));
+    let first = if waiting.is_empty() { 0 } else { 1 };
+    let column = column_of(reached, needs, change, first);
+    (column, count_in(nodes, column))
 }
 
-/// The column after that of the first change that names this one, or the first one where none does.
-fn column_of(columns: &[u64], needs: &[Vec<u32>], change: u32, first: u64) -> u64 {
-    for (column, names) in columns.iter().zip(needs) {
+/// How many of some nodes are in this column.
+fn count_in(nodes: &[Node], column: u64) -> u64 {
+    let mut count = 0u64;
+    for node in nodes {
+        if node.column == column {
+            count = count.saturating_add(1);
+        }
+    }
+    count
+}
+
+/// The column after that of the first node that names this change, or the first one where none does.
+fn column_of(nodes: &[Node], needs: &[Vec<u32>], change: u32, first: u64) -> u64 {
+    for (node, names) in nodes.iter().zip(needs) {
         if names.contains(&change) {
-            return column.saturating_add(1);
+            return node.column.saturating_add(1);
         }
     }
     first
@@ -277,7 +272,7 @@ fn node_at(
 {
     Node {
         change,
-        set: item.map(|item| item.set),
+        item,
         word: word_of(state, verdicts, item),
         column,
         row,
@@ -304,20 +299,18 @@ fn word_of(state: &State, verdicts: &Verdicts, item: Option<Item>) -> &'static s
     }
 }
 
-/// Adds a picture: the first nodes, as many as wait, lead to the one after them, and the others to what they name.
+/// Adds a picture: nodes that wait lead to the first one that is reached, and the others to what they name.
 fn add_picture(page: &mut Markup, picture: &Picture) {
     let nodes = picture.nodes.as_slice();
-    let width = left_of(last_column(nodes)).saturating_add(WIDTH + 10);
-    let height = top_of(last_row(nodes)).saturating_add(HEIGHT + 10);
-    begin_picture(page, width, height);
-    add_lines(page, nodes, picture.waiters, picture.needs.as_slice());
+    begin_picture(page, last_place(nodes));
+    add_lines(page, nodes, picture.needs.as_slice());
     add_nodes(page, nodes);
     page.add(&[Piece::Markup("</svg>\n</div>\n")]);
 }
 
-/// Adds the lines between nodes, of which the first ones, as many as wait, lead to the one after them.
-fn add_lines(page: &mut Markup, nodes: &[Node], waiters: usize, needs: &[Vec<u32>]) {
-    let (waiting, reached) = nodes.split_at(waiters.min(nodes.len()));
+/// Adds the lines between nodes, of which the last ones name these, and the others lead to the first of them.
+fn add_lines(page: &mut Markup, nodes: &[Node], needs: &[Vec<u32>]) {
+    let (waiting, reached) = nodes.split_at(nodes.len().saturating_sub(needs.len()));
     if let Some(item) = reached.first() {
         add_edges(page, waiting, *item);
     }
@@ -338,35 +331,21 @@ fn add_nodes(page: &mut Markup, nodes: &[Node]) {
     }
 }
 
-/// The last column that a node is in.
-fn last_column(nodes: &[Node]) -> u64 {
-    nodes.iter().map(|node| node.column).max().unwrap_or(0)
+/// The last column and the last row that a node is in.
+fn last_place(nodes: &[Node]) -> (u64, u64) {
+    let (mut column, mut row) = (0, 0);
+    for node in nodes {
+        column = node.column.max(column);
+        row = node.row.max(row);
+    }
+    (column, row)
 }
 
-/// The last row that a node is in.
-fn last_row(nodes: &[Node]) -> u64 {
-    nodes.iter().map(|node| node.row).max().unwrap_or(0)
-}
-
-/// Begins a picture that is so wide and so high.
-fn begin_picture(page: &mut Markup, width: u64, height: u64) {
-    let (width, height) = (Piece::Number(width), Piece::Number(height));
-    page.add(&[
-        Piece::Markup(
-            "<div class=\"drawing\" role=\"region\" aria-labelledby=\"drawn\" tabindex=\"0\">\n",
-        ),
-        Piece::Markup("<svg role=\"img\" aria-labelledby=\"drawn\" width=\""),
-        width,
-        Piece::Markup("\" height=\""),
-        height,
-        Piece::Markup("\" viewBox=\"0 0 "),
-        width,
-        Piece::Markup(" "),
-        height,
-        Piece::Markup(
-            "\">\n<title id=\"drawn\">What waits for the item, and what it waits for</title>\n",
-        ),
-    ]);
+/// Begins a picture with this last column and this last row.
+fn begin_picture(page: &mut Markup, last: (u64, u64)) {
+    let width = Piece::Number(left_of(last.0).saturating_add(WIDTH + 10));
+    let height = Piece::Number(top_of(last.1).saturating_add(HEIGHT + 10));
+    fill(page, PICTURE, &[width, height, width, height]);
 }
 
 /// Where a column begins.
@@ -377,6 +356,11 @@ fn left_of(column: u64) -> u64 {
 /// Where a row begins.
 fn top_of(row: u64) -> u64 {
     row.saturating_mul(ROW).saturating_add(10)
+}
+
+/// Where the middle of a row is.
+fn middle_of(row: u64) -> u64 {
+    top_of(row).saturating_add(HEIGHT / 2)
 }
 
 /// Adds a line from each of some nodes to another one.
@@ -397,49 +381,46 @@ fn add_named(page: &mut Markup, from: Node, nodes: &[Node], names: &[u32]) {
 
 /// Adds a line from the right side of a node to the left side of another one.
 fn add_edge(page: &mut Markup, from: Node, to: Node) {
-    page.add(&[
-        Piece::Markup("<line x1=\""),
-        Piece::Number(left_of(from.column).saturating_add(WIDTH)),
-        Piece::Markup("\" y1=\""),
-        Piece::Number(top_of(from.row).saturating_add(HEIGHT / 2)),
-        Piece::Markup("\" x2=\""),
-        Piece::Number(left_of(to.column)),
-        Piece::Markup("\" y2=\""),
-        Piece::Number(top_of(to.row).saturating_add(HEIGHT / 2)),
-        Piece::Markup("\"/>\n"),
-    ]);
+    fill(
+        page,
+        "<line x1=\"{}\" y1=\"{}\" x2=\"{}\" y2=\"{}\"/>\n",
+        &[
+            Piece::Number(left_of(from.column).saturating_add(WIDTH)),
+            Piece::Number(middle_of(from.row)),
+            Piece::Number(left_of(to.column)),
+            Piece::Number(middle_of(to.row)),
+        ],
+    );
 }
 
 /// Adds a node with a link to its page.
 fn add_node(page: &mut Markup, node: Node) {
-    let (left, top) = (left_of(node.column), top_of(node.row));
     page.add(&[Piece::Markup("<a href=\"/change/")]);
     add_name(page, node);
-    page.add(&[
-        Piece::Markup("\"><rect class=\""),
-        Piece::Markup(node.word),
-        Piece::Markup("\" x=\""),
-        Piece::Number(left),
-        Piece::Markup("\" y=\""),
-        Piece::Number(top),
-        Piece::Markup("\" width=\"150\" height=\"28\" rx=\"4\"/><text x=\""),
-        Piece::Number(left.saturating_add(8)),
-        Piece::Markup("\" y=\""),
-        Piece::Number(top.saturating_add(19)),
-        Piece::Markup("\">"),
-    ]);
+    add_box(page, node.word, left_of(node.column), top_of(node.row));
     add_name(page, node);
-    page.add(&[
-        Piece::Markup(" "),
-        Piece::Markup(node.word),
-        Piece::Markup("</text></a>\n"),
-    ]);
+    fill(page, " {}</text></a>\n", &[Piece::Markup(node.word)]);
+}
+
+/// Adds the box of a node of this class, up to the text in it.
+fn add_box(page: &mut Markup, class: &'static str, left: u64, top: u64) {
+    fill(
+        page,
+        BOX,
+        &[
+            Piece::Markup(class),
+            Piece::Number(left),
+            Piece::Number(top),
+            Piece::Number(left.saturating_add(8)),
+            Piece::Number(top.saturating_add(19)),
+        ],
+    );
 }
 
 /// Adds what a node is called: its item, or its change where no patch set is known.
 fn add_name(page: &mut Markup, node: Node) {
     page.add(&[Piece::Number(u64::from(node.change))]);
-    if let Some(set) = node.set {
-        page.add(&[Piece::Markup(","), Piece::Number(u64::from(set))]);
+    if let Some(item) = node.item {
+        fill(page, ",{}", &[Piece::Number(u64::from(item.set))]);
     }
 }

@@ -2,7 +2,7 @@
 
 /// What a site knows of itself when it is asked for a page. Times are given as how long ago they were, so that a page
 /// is determined by these facts and the record.
-#[derive(Debug, Drop)]
+#[derive(Drop)]
 pub struct Facts {
     /// The number of the site.
     pub site: u16,
@@ -38,7 +38,7 @@ pub struct Facts {
 }
 
 /// What a site knows of its journal.
-#[derive(Clone, Copy, Debug, PartialEq, Eq)]
+#[derive(Clone, Copy)]
 pub struct JournalFacts {
     /// How many bytes it has.
     pub bytes: u64,
@@ -47,7 +47,7 @@ pub struct JournalFacts {
 }
 
 /// What a site knows of a site that it pulls from.
-#[derive(Debug, Drop)]
+#[derive(Drop)]
 pub struct PeerFacts {
     /// How the command line names the site: its port, or the path of its socket.
     pub peer: String,

@@ -1,15 +1,13 @@
 //! The form in which a list is asked for.
 
 use super::names::{KINDS, REASONS, reason_name, shown_name};
+use super::template::fill;
 use markup_text::{Markup, Piece};
 use page_routes::{Choice, Reason, Shown};
 
-/// The form up to the value of the field of the words.
+/// The form up to the kinds of items, with a place for the words.
 const FIRST: &str = r#"<form action="/" method="get" role="search">
-<p><label for="q">Subject or number</label><input id="q" name="q" type="search" maxlength="200" value=""#;
-
-/// What comes between that value and the kinds of items.
-const KINDS_BEGIN: &str = r#""></p>
+<p><label for="q">Subject or number</label><input id="q" name="q" type="search" maxlength="200" value="{}"></p>
 <p><label for="show">Items</label><select id="show" name="show">
 "#;
 
@@ -31,11 +29,7 @@ pub fn add_form(page: &mut Markup, choice: &Choice) {
         Some(words) => words.as_str(),
         None => "",
     };
-    page.add(&[
-        Piece::Markup(FIRST),
-        Piece::Text(words),
-        Piece::Markup(KINDS_BEGIN),
-    ]);
+    fill(page, FIRST, &[Piece::Text(words)]);
     add_kinds(page, choice.shown);
     page.add(&[Piece::Markup(REASONS_BEGIN)]);
     add_reasons(page, choice.reason);
@@ -58,14 +52,10 @@ fn add_reasons(page: &mut Markup, asked: Option<Reason>) {
 
 /// Adds what can be chosen.
 fn add_option(page: &mut Markup, name: &'static str, is_chosen: bool) {
-    let begin = if is_chosen {
-        "<option selected>"
+    let template = if is_chosen {
+        "<option selected>{}</option>\n"
     } else {
-        "<option>"
+        "<option>{}</option>\n"
     };
-    page.add(&[
-        Piece::Markup(begin),
-        Piece::Markup(name),
-        Piece::Markup("</option>\n"),
-    ]);
+    fill(page, template, &[Piece::Markup(name)]);
 }

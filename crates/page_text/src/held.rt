@@ -1,16 +1,16 @@
 //! What open items can be held by, as the metrics count it.
 
-ghost use Rattle.std.specs.Prelude.{◌≡◌, ◌++◌, IfOk, OnOk, count_by, string_bytes};
+ghost use Rattle.std.specs.Prelude.{◌≡◌, ◌++◌, IfOk, OnOk, string_bytes};
 ghost use Rattle.page_text.specs.Metrics.{all_held, held_from};
 ghost use Rattle.page_text.specs.Held.{held_words, is_held, is_held_by};
 
 use gate_rules::{Clause, Condition, Gate, Side};
 use lattice_core::NoMemory;
-use ready_core::{Left, Refusal};
+use ready_core::Refusal;
 use std::alloc::Global;
 
 /// What an open item is held by.
-#[derive(Clone, Copy, Debug, PartialEq, Eq)]
+#[derive(Clone, Copy)]
 pub enum Held {
     /// The approval of this number, from 1, on a side.
     Approval(Side, usize),
@@ -46,9 +46,7 @@ fn add_all(all: &mut Vec<Held>, gate: &Gate) -> Result<(), NoMemory>
         Side::Reject,
         gate.clauses(Side::Reject).approvals().len(),
     )?;
-    all.push(Held::Cycle)?;
-    all.push(Held::Unknown)?;
-    all.push(Held::Dependency)?;
+    all.extend_from_slice(&[Held::Cycle, Held::Unknown, Held::Dependency])?;
     Ok(())
 }
 
@@ -62,17 +60,8 @@ fn add_approvals(all: &mut Vec<Held>, side: Side, count: usize) -> Result<(), No
     Ok(())
 }
 
-/// How many items that are left out are held so. It costs O(n) for n items.
-pub fn held_count(out: &[Left], held: Held) -> usize
-    ensures { result ≡ count_by (λ left. is_held held left.refusal) out.now }
-{
-    out.iter()
-        .filter(|left| is_held(held, left.refusal))
-        .count()
-}
-
 /// Whether a refusal says that an item is held so.
-fn is_held(held: Held, refusal: Refusal) -> bool
+pub fn is_held(held: Held, refusal: Refusal) -> bool
     ensures { result ≡ is_held held refusal }
 {
     match refusal {
@@ -87,9 +76,11 @@ fn is_held(held: Held, refusal: Refusal) -> bool
 fn is_held_by(held: Held, condition: Condition) -> bool
     ensures { result ≡ is_held_by held condition }
 {
-    match condition.clause {
-        Clause::Approval(number) => held == Held::Approval(condition.side, number),
-        Clause::OpenState | Clause::CurrentSet | Clause::StatusIn => false,
+    match held {
+        Held::Approval(side, number) => {
+            side == condition.side && condition.clause == Clause::Approval(number)
+        }
+        Held::Cycle | Held::Unknown | Held::Dependency => false,
     }
 }
 
@@ -99,10 +90,17 @@ pub fn held_words(alloc: Global, held: Held) -> Result<String, NoMemory>
 {
     match held {
         Held::Approval(side, number) => approval_words(alloc, side, number),
-        Held::Cycle => Ok(String::from_str(alloc, "cycle")?),
-        Held::Unknown => Ok(String::from_str(alloc, "unknown")?),
-        Held::Dependency => Ok(String::from_str(alloc, "dependency")?),
+        Held::Cycle => words(alloc, "cycle"),
+        Held::Unknown => words(alloc, "unknown"),
+        Held::Dependency => words(alloc, "dependency"),
     }
+}
+
+/// Words as they are.
+fn words(alloc: Global, text: &str) -> Result<String, NoMemory>
+    ensures { IfOk result (λ words. string_bytes words ≡ text.now) }
+{
+    Ok(String::from_str(alloc, text)?)
 }
 
 /// The words of an approval.

@@ -15,7 +15,7 @@ use super::sheet::{Mark, Sheet};
 use super::subject::first_line;
 use super::verdict::verdict_on;
 use super::waiting::{put_waiting, waiting_for};
-use change_core::ChangeState;
+use change_core::{Approval, ChangeState};
 use gate_rules::Gate;
 use lattice_core::NoMemory;
 use ready_core::{Left, Verdicts};
@@ -87,11 +87,15 @@ fn end_change(
 
 /// Adds the status of a change, its patch sets and its votes.
 fn add_change(out: &mut Sheet, change: &ChangeState) {
+    let current = match change.current() {
+        Some(set) => Mark::Number(u64::from(set)),
+        None => Mark::NumberIf(None),
+    };
     out.add(&[
         Mark::Key("status"),
         Mark::Text(change.status().name()),
         Mark::Key("current"),
-        Mark::NumberIf(change.current().map(|set| u64::from(set))),
+        current,
     ]);
     add_sets(out, change);
     add_votes(out, change);
@@ -101,16 +105,21 @@ fn add_change(out: &mut Sheet, change: &ChangeState) {
 fn add_sets(out: &mut Sheet, change: &ChangeState) {
     out.add(&[Mark::Key("patchsets"), Mark::OpenList]);
     for (set, register) in change.sets() {
-        out.add(&[
-            Mark::Open,
-            Mark::Key("set"),
-            Mark::Number(u64::from(*set)),
-            Mark::Key("subject"),
-            Mark::Text(first_line(register.value().message.as_str())),
-            Mark::Close,
-        ]);
+        add_set(out, *set, first_line(register.value().message.as_str()));
     }
     out.add(&[Mark::CloseList]);
+}
+
+/// Adds the object of a patch set.
+fn add_set(out: &mut Sheet, set: u32, subject: &str) {
+    out.add(&[
+        Mark::Open,
+        Mark::Key("set"),
+        Mark::Number(u64::from(set)),
+        Mark::Key("subject"),
+        Mark::Text(subject),
+        Mark::Close,
+    ]);
 }
 
 /// Adds the list of the votes on the current patch set.
@@ -125,17 +134,22 @@ fn add_votes(out: &mut Sheet, change: &ChangeState) {
 /// Adds an object for each approval of a patch set.
 fn add_approvals(out: &mut Sheet, change: &ChangeState, set: u32) {
     for approval in change.approvals(set) {
-        out.add(&[
-            Mark::Open,
-            Mark::Key("label"),
-            Mark::Text(approval.label),
-            Mark::Key("voter"),
-            Mark::Text(approval.voter),
-            Mark::Key("value"),
-            Mark::Signed(i64::from(approval.value)),
-            Mark::Close,
-        ]);
+        add_approval(out, approval);
     }
+}
+
+/// Adds the object of an approval.
+fn add_approval(out: &mut Sheet, approval: Approval<'_>) {
+    out.add(&[
+        Mark::Open,
+        Mark::Key("label"),
+        Mark::Text(approval.label),
+        Mark::Key("voter"),
+        Mark::Text(approval.voter),
+        Mark::Key("value"),
+        Mark::Signed(i64::from(approval.value)),
+        Mark::Close,
+    ]);
 }
 
 /// Adds a list of the item and of those that it waits for, down to the cause.

@@ -9,8 +9,9 @@ ghost use Rattle.page_text.specs.Sheets.{Notes};
 ghost use Rattle.page_text.specs.Site.{ages_tokens, counts_tokens, journal_tokens, peer_tokens, peers_tokens, site_tokens};
 ghost use Rattle.page_text.specs.Site.{work_tokens};
 
-use super::counts::open_count;
+use super::counts::{Counted, count_of};
 use super::facts::{Facts, JournalFacts, PeerFacts};
+use super::lines::{Lines, Part};
 use super::sheet::{Mark, Sheet};
 use lattice_core::NoMemory;
 use ready_core::Verdicts;
@@ -72,7 +73,7 @@ fn put_counts(out: &mut Sheet, replica: &Replica, verdicts: &Verdicts)
         Mark::Key("out"),
         Mark::Number(verdicts.out().len() as u64),
         Mark::Key("open_out"),
-        Mark::Number(open_count(verdicts.out()) as u64),
+        Mark::Number(count_of(verdicts.out(), Counted::Open) as u64),
     ]);
 }
 
@@ -177,8 +178,16 @@ pub fn events_text(
     let ready = verdicts.ready().len();
     let out = verdicts.out().len();
     let operations = replica.len();
-    let text = format!(in alloc;
-        "retry: 2000\ndata: {{\"ready\":{ready},\"out\":{out},\"operations\":{operations}}}\n\n"
-    )?;
-    Ok(text.into_bytes())
+    let mut text = Lines::new(alloc);
+    text.add(&[
+        Part::Text("retry: 2000\ndata: {\"ready\":"),
+        Part::Number(ready as u64),
+        Part::Text(",\"out\":"),
+        Part::Number(out as u64),
+        Part::Text(",\"operations\":"),
+        Part::Number(operations as u64),
+        Part::Text("}\n\n"),
+    ]);
+    let bytes = text.end()?;
+    Ok(bytes)
 }

@@ -68,6 +68,7 @@ mod statuses;
 mod style;
 mod subject;
 mod table;
+mod template;
 mod unknown;
 mod verdict;
 mod waiting;

@@ -1,4 +1,4 @@
-//! A text of metrics that is being written.
+//! A text that is being written, as metrics and events are.
 
 ghost use Rattle.std.specs.Prelude.{◌≡◌, ◌++◌, [], MatchResult, None, OnOk, Some, flat_map, string_bytes};
 ghost use Rattle.markup_text.specs.Growing.{Adds};
@@ -19,7 +19,7 @@ pub enum Part<'a> {
     Number(u64),
 }
 
-/// A text of metrics that is being written, as `Markup` is of HTML: contracts see its bytes, or `None` once memory was
+/// A text that is being written, as metrics and events are, and as `Markup` is of HTML: contracts see its bytes, or `None` once memory was
 /// refused for it, which is remembered.
 #[derive(Drop)]
 pub struct Lines {

@@ -4,6 +4,7 @@ ghost use Rattle.markup_text.specs.Growing.{Adds};
 ghost use Rattle.page_text.specs.Table.{link_html};
 
 use super::names::{reason_name, shown_name};
+use super::template::fill;
 use markup_text::{Markup, Piece};
 use page_routes::{Choice, Reason};
 use ready_core::{Left, Refusal};
@@ -48,12 +49,14 @@ pub fn add_refusal_words(alloc: Global, page: &mut Markup, refusal: Refusal) {
 
 /// Adds the address of a page of a list.
 pub fn add_address(page: &mut Markup, choice: &Choice, number: u64) {
-    page.add(&[
-        Piece::Markup("/?show="),
-        Piece::Markup(shown_name(choice.shown)),
-        Piece::Markup("&amp;page="),
-        Piece::Number(number),
-    ]);
+    fill(
+        page,
+        "/?show={}&amp;page={}",
+        &[
+            Piece::Markup(shown_name(choice.shown)),
+            Piece::Number(number),
+        ],
+    );
     add_reason(page, choice.reason);
     add_words(page, choice);
 }

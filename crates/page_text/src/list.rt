@@ -8,7 +8,7 @@ ghost use Rattle.ready_core.specs.Verdicts.{items_out};
 ghost use Rattle.page_text.specs.Rows.{chosen_rows, rows_on};
 ghost use Rattle.page_text.specs.Table.{HasRows};
 
-use super::counts::{open_count, reason_count};
+use super::counts::{Counted, count_of};
 use super::durations::in_unit;
 use super::facts::{Facts, PeerFacts};
 use super::form::add_form;
@@ -17,6 +17,7 @@ use super::links::add_address;
 use super::names::{REASONS, reason_name};
 use super::rows::{ROWS, Row, chosen_rows, rows_of};
 use super::table::add_rows;
+use super::template::fill;
 use gate_rules::Gate;
 use lattice_core::NoMemory;
 use markup_text::{Markup, Piece};
@@ -26,11 +27,17 @@ use replica_core::Replica;
 use state_core::State;
 use std::alloc::Global;
 
-/// What comes between the numbers of a table's caption and its rows.
-const HEAD: &str = r#" items in all</caption>
+/// What comes before the rows.
+const HEAD: &str = r#"<table>
+<caption>Page {} of {}, {} items in all</caption>
 <thead><tr><th scope="col">Place</th><th scope="col">Item</th><th scope="col">Subject</th>
 <th scope="col">Why it waits</th><th scope="col">Cause</th></tr></thead>
 <tbody>
+"#;
+
+/// How many items may enter, and how many open ones may not.
+const COUNTS: &str = r#"<div id="live">
+<p><strong class="ready">{}</strong> may enter, <strong class="waits">{}</strong> open ones may not.</p>
 "#;
 
 /// The page of a list: what the site knows of itself, a form, the reasons with their numbers, and a table of the rows
@@ -100,43 +107,38 @@ fn top_of(
     rows: usize,
 ) -> Markup {
     let mut page = begin(alloc, &[Piece::Markup("Items")], facts.site);
-    add_top(&mut page, choice, verdicts, facts, rows);
-    page
-}
-
-/// Adds what comes before the rows.
-fn add_top(page: &mut Markup, choice: &Choice, verdicts: &Verdicts, facts: &Facts, rows: usize) {
     page.add(&[Piece::Markup("<h1>Items</h1>\n")]);
-    add_form(page, choice);
-    add_counts(page, verdicts);
-    add_age(page, facts.age_ms);
-    add_news(page, facts.news_ms);
-    add_heard(page, facts.heard_ms);
-    add_peers(page, facts.peers.as_slice());
-    add_reasons(page, verdicts);
-    add_caption(page, choice.page, rows);
+    add_form(&mut page, choice);
+    add_counts(&mut page, verdicts);
+    add_ago(&mut page, "<p>As it was {}{} ago.</p>\n", facts.age_ms);
+    add_news(&mut page, facts.news_ms);
+    add_heard(&mut page, facts.heard_ms);
+    add_peers(&mut page, facts.peers.as_slice());
+    add_reasons(&mut page, verdicts);
+    add_caption(&mut page, choice.page, rows);
+    page
 }
 
 /// Adds how many items may enter, and how many open ones may not.
 fn add_counts(page: &mut Markup, verdicts: &Verdicts) {
-    page.add(&[
-        Piece::Markup("<div id=\"live\">\n<p><strong class=\"ready\">"),
-        Piece::Number(verdicts.ready().len() as u64),
-        Piece::Markup("</strong> may enter, <strong class=\"waits\">"),
-        Piece::Number(open_count(verdicts.out()) as u64),
-        Piece::Markup("</strong> open ones may not.</p>\n"),
-    ]);
+    fill(
+        page,
+        COUNTS,
+        &[
+            Piece::Number(verdicts.ready().len() as u64),
+            Piece::Number(count_of(verdicts.out(), Counted::Open) as u64),
+        ],
+    );
 }
 
-/// Adds how old what is shown is.
-fn add_age(page: &mut Markup, age_ms: u64) {
+/// Adds how long ago something was, in the two places of a template.
+fn add_ago(page: &mut Markup, template: &'static str, age_ms: u64) {
     let (number, unit) = in_unit(age_ms);
-    page.add(&[
-        Piece::Markup("<p>As it was "),
-        Piece::Number(number),
-        Piece::Markup(unit),
-        Piece::Markup(" ago.</p>\n"),
-    ]);
+    fill(
+        page,
+        template,
+        &[Piece::Number(number), Piece::Markup(unit)],
+    );
 }
 
 /// Adds when the last operation came.
@@ -145,13 +147,7 @@ fn add_news(page: &mut Markup, news_ms: Option<u64>) {
         page.add(&[Piece::Markup("<p>No operation came since the start.</p>\n")]);
         return;
     };
-    let (number, unit) = in_unit(news_ms);
-    page.add(&[
-        Piece::Markup("<p>The last operation came "),
-        Piece::Number(number),
-        Piece::Markup(unit),
-        Piece::Markup(" ago.</p>\n"),
-    ]);
+    add_ago(page, "<p>The last operation came {}{} ago.</p>\n", news_ms);
 }
 
 /// Adds when a feed last heard from Gerrit, where one did.
@@ -159,13 +155,11 @@ fn add_heard(page: &mut Markup, heard_ms: Option<u64>) {
     let Some(heard_ms) = heard_ms else {
         return;
     };
-    let (number, unit) = in_unit(heard_ms);
-    page.add(&[
-        Piece::Markup("<p>A feed last heard from Gerrit "),
-        Piece::Number(number),
-        Piece::Markup(unit),
-        Piece::Markup(" ago.</p>\n"),
-    ]);
+    add_ago(
+        page,
+        "<p>A feed last heard from Gerrit {}{} ago.</p>\n",
+        heard_ms,
+    );
 }
 
 /// Adds the peers that can't be reached.
@@ -180,45 +174,48 @@ fn add_peers(page: &mut Markup, peers: &[PeerFacts]) {
 /// Adds a peer that can't be reached.
 fn add_peer(page: &mut Markup, peer: &PeerFacts) {
     let (number, unit) = in_unit(peer.condition_ms);
-    page.add(&[
-        Piece::Markup("<p class=\"waits\">The peer "),
-        Piece::Text(peer.peer.as_str()),
-        Piece::Markup(" has not been reached for "),
-        Piece::Number(number),
-        Piece::Markup(unit),
-        Piece::Markup(".</p>\n"),
-    ]);
+    fill(
+        page,
+        "<p class=\"waits\">The peer {} has not been reached for {}{}.</p>\n",
+        &[
+            Piece::Text(peer.peer.as_str()),
+            Piece::Number(number),
+            Piece::Markup(unit),
+        ],
+    );
 }
 
 /// Adds the reasons for which open items wait, with their numbers.
 fn add_reasons(page: &mut Markup, verdicts: &Verdicts) {
     page.add(&[Piece::Markup("<h2>Why open items wait</h2>\n<ul>\n")]);
     for reason in REASONS {
-        let name = Piece::Markup(reason_name(reason));
-        page.add(&[
-            Piece::Markup("<li><a href=\"/?reason="),
-            name,
-            Piece::Markup("\">"),
-            name,
-            Piece::Markup("</a>: "),
-            Piece::Number(reason_count(verdicts.out(), reason) as u64),
-            Piece::Markup("</li>\n"),
-        ]);
+        let count = count_of(verdicts.out(), Counted::For(reason));
+        add_reason(page, reason_name(reason), count as u64);
     }
     page.add(&[Piece::Markup("</ul>\n")]);
 }
 
+/// Adds a reason with its number.
+fn add_reason(page: &mut Markup, name: &'static str, count: u64) {
+    let name = Piece::Markup(name);
+    fill(
+        page,
+        "<li><a href=\"/?reason={}\">{}</a>: {}</li>\n",
+        &[name, name, Piece::Number(count)],
+    );
+}
+
 /// Adds the caption and the head of the table.
 fn add_caption(page: &mut Markup, number: u32, rows: usize) {
-    page.add(&[
-        Piece::Markup("<table>\n<caption>Page "),
-        Piece::Number(u64::from(number.max(1))),
-        Piece::Markup(" of "),
-        Piece::Number(pages_of(rows)),
-        Piece::Markup(", "),
-        Piece::Number(rows as u64),
-        Piece::Markup(HEAD),
-    ]);
+    fill(
+        page,
+        HEAD,
+        &[
+            Piece::Number(u64::from(number.max(1))),
+            Piece::Number(pages_of(rows)),
+            Piece::Number(rows as u64),
+        ],
+    );
 }
 
 /// How many pages so many rows have, at least one.
@@ -226,33 +223,24 @@ fn pages_of(rows: usize) -> u64 {
     (rows.saturating_sub(1) / ROWS) as u64 + 1
 }
 
-/// What comes after the rows.
+/// What comes after the rows: links to the page before and to the one after, where there are any.
 fn bottom_of(alloc: Global, choice: &Choice, rows: usize) -> Markup {
     let mut bottom = Markup::new(alloc);
-    add_bottom(&mut bottom, choice, rows);
-    bottom
-}
-
-/// Adds what comes after the rows: links to the page before and to the one after, where there are any.
-fn add_bottom(bottom: &mut Markup, choice: &Choice, rows: usize) {
     let number = u64::from(choice.page.max(1));
     bottom.add(&[Piece::Markup("</tbody>\n</table>\n<nav aria-label=\"Pages\">\n")]);
     if number > 1 {
-        add_link(bottom, choice, "prev\">Previous page", number - 1);
+        add_link(&mut bottom, choice, "prev\">Previous page", number - 1);
     }
     if number < pages_of(rows) {
-        add_link(bottom, choice, "next\">Next page", number + 1);
+        add_link(&mut bottom, choice, "next\">Next page", number + 1);
     }
     bottom.add(&[Piece::Markup("</nav>\n</div>\n")]);
+    bottom
 }
 
 /// Adds a link to another page of the list.
 fn add_link(page: &mut Markup, choice: &Choice, words: &'static str, number: u64) {
     page.add(&[Piece::Markup("<a href=\"")]);
     add_address(page, choice, number);
-    page.add(&[
-        Piece::Markup("\" rel=\""),
-        Piece::Markup(words),
-        Piece::Markup("</a>\n"),
-    ]);
+    fill(page, "\" rel=\"{}</a>\n", &[Piece::Markup(words)]);
 }

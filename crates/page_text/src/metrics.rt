@@ -7,8 +7,9 @@ ghost use Rattle.page_text.specs.Metrics.{age_text, all_held_text, status_counts
 ghost use Rattle.page_text.specs.Metrics.{labels_text, metrics_of, record_text, served_text, site_text, status_text};
 ghost use Rattle.page_text.specs.Metrics.{update_text};
 
+use super::counts::{Counted, count_of};
 use super::facts::Facts;
-use super::held::{Held, all_held, held_count, held_words};
+use super::held::{Held, all_held, held_words};
 use super::lines::{Lines, Part};
 use super::metrics_peers::add_peers;
 use super::metrics_work::add_now;
@@ -142,7 +143,7 @@ fn add_held_by(alloc: Global, text: &mut Lines, out: &[Left], held: Held)
             "reviewgate_held_items",
             "reason",
             words.as_str(),
-            held_count(out, held) as u64,
+            count_of(out, Counted::By(held)) as u64,
         ),
         Err(_) => text.refuse(),
     }

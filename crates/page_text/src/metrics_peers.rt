@@ -1,46 +1,100 @@
 //! The figures of the sites that a site pulls from.
 
-ghost use Rattle.std.specs.Prelude.{◌≡◌, flat_map, string_bytes};
+ghost use Rattle.std.specs.Prelude.{◌≡◌, ◌++◌, flat_map};
 ghost use Rattle.markup_text.specs.Growing.{Adds};
-ghost use Rattle.page_text.specs.Metrics.{ages_text, failures_text, flag, peers_text, peer_age_text};
-ghost use Rattle.page_text.specs.Metrics.{pulls_text, up_text};
-ghost use Rattle.page_text.specs.Samples.{peer_sample};
+ghost use Rattle.page_text.specs.Metrics.{figure_text, flag, peer_age_text, peers_text};
+ghost use Rattle.page_text.specs.Samples.{family};
 
 use super::facts::PeerFacts;
 use super::lines::Lines;
 use super::samples::{add_family, add_peer, add_peer_milliseconds};
 
+/// What is told of each peer.
+#[derive(Clone, Copy)]
+pub enum Figure {
+    /// 1 where the last pull reached it, else 0.
+    Reached,
+    /// How long ago the last whole pull ended, if one did.
+    Age,
+    /// How many pulls were whole.
+    Pulls,
+    /// How many pulls failed.
+    Failures,
+}
+
 /// Adds the figures of the peers, each by how the command line names it.
 pub fn add_peers(text: &mut Lines, peers: &[PeerFacts])
     ensures { Adds (peers_text peers.now) text.old text.new }
 {
-    add_up(text, peers);
-    add_ages(text, peers);
-    add_pulls(text, peers);
-    add_failures(text, peers);
-}
-
-/// Adds which peers were reached by the last pull.
-fn add_up(text: &mut Lines, peers: &[PeerFacts])
-    ensures { Adds (up_text peers.now) text.old text.new }
-{
-    let name = "reviewgate_peer_up";
-    add_family(
+    add_figures(
         text,
-        name,
+        "reviewgate_peer_up",
         "gauge",
         "Whether the last pull reached the peer.",
+        peers,
+        Figure::Reached,
     );
-    add_flags(text, name, peers);
+    add_figures(
+        text,
+        "reviewgate_peer_last_pull_age_seconds",
+        "gauge",
+        "Seconds since the last whole pull ended.",
+        peers,
+        Figure::Age,
+    );
+    add_figures(
+        text,
+        "reviewgate_peer_pulls_total",
+        "counter",
+        "Whole pulls since the start.",
+        peers,
+        Figure::Pulls,
+    );
+    add_figures(
+        text,
+        "reviewgate_peer_pull_failures_total",
+        "counter",
+        "Pulls that failed since the start.",
+        peers,
+        Figure::Failures,
+    );
 }
 
-/// Adds 1 of each peer that was reached, and 0 of each other one.
-fn add_flags(text: &mut Lines, name: &str, peers: &[PeerFacts])
-    ensures { Adds (flat_map (λ peer. peer_sample name.now (string_bytes peer.peer) (flag peer.is_reachable)) peers.now)
-        text.old text.new }
+/// Adds a metric with a sample of each peer.
+fn add_figures<'a>(
+    text: &mut Lines,
+    name: &'a str,
+    kind: &'a str,
+    help: &'a str,
+    peers: &[PeerFacts],
+    figure: Figure,
+)
+    ensures { Adds (family name.now kind.now help.now ++ flat_map (figure_text name.now figure) peers.now) text.old
+        text.new }
+{
+    add_family(text, name, kind, help);
+    add_samples(text, name, peers, figure);
+}
+
+/// Adds a sample of each peer.
+fn add_samples(text: &mut Lines, name: &str, peers: &[PeerFacts], figure: Figure)
+    ensures { Adds (flat_map (figure_text name.now figure) peers.now) text.old text.new }
 {
     for peer in peers {
-        add_peer(text, name, peer.peer.as_str(), flag(peer.is_reachable));
+        add_sample(text, name, peer, figure);
+    }
+}
+
+/// Adds the sample of a peer, where there is one.
+fn add_sample(text: &mut Lines, name: &str, peer: &PeerFacts, figure: Figure)
+    ensures { Adds (figure_text name.now figure peer.now) text.old text.new }
+{
+    let named = peer.peer.as_str();
+    match figure {
+        Figure::Reached => add_peer(text, name, named, flag(peer.is_reachable)),
+        Figure::Age => add_peer_age(text, name, named, peer.good_ms),
+        Figure::Pulls => add_peer(text, name, named, peer.pulls),
+        Figure::Failures => add_peer(text, name, named, peer.failures),
     }
 }
 
@@ -51,30 +105,6 @@ fn flag(holds: bool) -> u64
     if holds { 1 } else { 0 }
 }
 
-/// Adds how long ago the last whole pull of each peer ended, if one did.
-fn add_ages(text: &mut Lines, peers: &[PeerFacts])
-    ensures { Adds (ages_text peers.now) text.old text.new }
-{
-    let name = "reviewgate_peer_last_pull_age_seconds";
-    add_family(
-        text,
-        name,
-        "gauge",
-        "Seconds since the last whole pull ended.",
-    );
-    add_peer_ages(text, name, peers);
-}
-
-/// Adds how long ago it was of each peer, where it was.
-fn add_peer_ages(text: &mut Lines, name: &str, peers: &[PeerFacts])
-    ensures { Adds (flat_map (λ peer. peer_age_text name.now (string_bytes peer.peer) peer.good_ms) peers.now)
-        text.old text.new }
-{
-    for peer in peers {
-        add_peer_age(text, name, peer.peer.as_str(), peer.good_ms);
-    }
-}
-
 /// Adds how long ago something was of a peer, where it was.
 fn add_peer_age(text: &mut Lines, name: &str, peer: &str, age_ms: Option<u64>)
     ensures { Adds (peer_age_text name.now peer.now age_ms) text.old text.new }
@@ -82,43 +112,5 @@ fn add_peer_age(text: &mut Lines, name: &str, peer: &str, age_ms: Option<u64>)
     match age_ms {
         Some(age_ms) => add_peer_milliseconds(text, name, peer, age_ms),
         None => {}
-    }
-}
-
-/// Adds how many pulls of each peer were whole.
-fn add_pulls(text: &mut Lines, peers: &[PeerFacts])
-    ensures { Adds (pulls_text peers.now) text.old text.new }
-{
-    let name = "reviewgate_peer_pulls_total";
-    add_family(text, name, "counter", "Whole pulls since the start.");
-    add_pull_counts(text, name, peers);
-}
-
-/// Adds the number of each peer.
-fn add_pull_counts(text: &mut Lines, name: &str, peers: &[PeerFacts])
-    ensures { Adds (flat_map (λ peer. peer_sample name.now (string_bytes peer.peer) peer.pulls) peers.now)
-        text.old text.new }
-{
-    for peer in peers {
-        add_peer(text, name, peer.peer.as_str(), peer.pulls);
-    }
-}
-
-/// Adds how many pulls of each peer failed.
-fn add_failures(text: &mut Lines, peers: &[PeerFacts])
-    ensures { Adds (failures_text peers.now) text.old text.new }
-{
-    let name = "reviewgate_peer_pull_failures_total";
-    add_family(text, name, "counter", "Pulls that failed since the start.");
-    add_failure_counts(text, name, peers);
-}
-
-/// Adds the number of each peer.
-fn add_failure_counts(text: &mut Lines, name: &str, peers: &[PeerFacts])
-    ensures { Adds (flat_map (λ peer. peer_sample name.now (string_bytes peer.peer) peer.failures) peers.now)
-        text.old text.new }
-{
-    for peer in peers {
-        add_peer(text, name, peer.peer.as_str(), peer.failures);
     }
 }

@@ -20,7 +20,7 @@ use std::alloc::{AllocError, Global};
 pub const ROWS: usize = 100;
 
 /// A row of a list: an item, and what is said of it.
-#[derive(Clone, Copy, Debug, PartialEq, Eq)]
+#[derive(Clone, Copy)]
 pub enum Row {
     /// The item is ready, at this place in gate order, from 1.
     Enters(Item, usize),

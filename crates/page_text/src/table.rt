@@ -107,27 +107,13 @@ fn waiting_cells(
     requires { IsStrictlySortedBy item_cmp (items_out verdicts.now.out) }
 {
     let mut cells = Markup::new(alloc);
-    add_cells(alloc, &mut cells, gate, state, verdicts, left);
-    cells
-}
-
-/// Adds these cells.
-fn add_cells(
-    alloc: Global,
-    cells: &mut Markup,
-    gate: &Gate,
-    state: &State,
-    verdicts: &Verdicts,
-    left: Left,
-)
-    requires { IsStrictlySortedBy item_cmp (items_out verdicts.now.out) }
-{
-    add_why(alloc, cells, gate, left.refusal);
+    add_why(alloc, &mut cells, gate, left.refusal);
     cells.add(&[Piece::Markup("<td>")]);
     if let Refusal::Dependency(_) = left.refusal {
-        add_left(alloc, cells, cause_of(state, verdicts, left));
+        add_left(alloc, &mut cells, cause_of(state, verdicts, left));
     }
     cells.add(&[Piece::Markup("</td></tr>\n")]);
+    cells
 }
 
 /// Adds the cell of a refusal, with what the gate asks there.

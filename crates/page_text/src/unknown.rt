@@ -6,6 +6,7 @@ ghost use Rattle.page_text.specs.Problem.{problem_tokens};
 
 use super::frame::{begin, end};
 use super::sheet::{Mark, Sheet};
+use super::template::fill;
 use lattice_core::NoMemory;
 use markup_text::{Markup, Piece};
 use page_routes::Place;
@@ -20,15 +21,17 @@ pub fn unknown_page(alloc: Global, place: Place, site: u16) -> Result<Vec<u8>, N
 
 /// Adds that a change, or one of its patch sets, isn't known.
 fn add_unknown(page: &mut Markup, place: Place) {
-    page.add(&[
-        Piece::Markup("<h1>Not found</h1>\n<p>The record has no change "),
-        Piece::Number(u64::from(place.change)),
-    ]);
+    fill(
+        page,
+        "<h1>Not found</h1>\n<p>The record has no change {}",
+        &[Piece::Number(u64::from(place.change))],
+    );
     if let Some(set) = place.set {
-        page.add(&[
-            Piece::Markup(" with a patch set "),
-            Piece::Number(u64::from(set)),
-        ]);
+        fill(
+            page,
+            " with a patch set {}",
+            &[Piece::Number(u64::from(set))],
+        );
     }
     page.add(&[Piece::Markup(".</p>\n")]);
 }

@@ -8,6 +8,7 @@ ghost use Rattle.page_text.specs.Waiting.{names_change, waiting_for, waiting_tok
 
 use super::links::add_item_link;
 use super::sheet::{Mark, Sheet};
+use super::template::fill;
 use lattice_core::NoMemory;
 use markup_text::{Markup, Piece};
 use ready_core::{Left, Refusal};
@@ -122,9 +123,5 @@ fn add_more(page: &mut Markup, more: usize) {
     if more == 0 {
         return;
     }
-    page.add(&[
-        Piece::Markup("<p>And "),
-        Piece::Number(more as u64),
-        Piece::Markup(" more.</p>\n"),
-    ]);
+    fill(page, "<p>And {} more.</p>\n", &[Piece::Number(more as u64)]);
 }

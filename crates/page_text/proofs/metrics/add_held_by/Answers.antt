@@ -8,6 +8,6 @@ pub returns-in-Ok : goal.returns-in-Ok
 returns-in-Ok c =
     let new = c.add_labelled.new.text in
     let named = labelled (codes "reviewgate_held_items") (codes "reason") in
-    adds_of c.args.text.now new (named (held_words c.args.held)) c.held_count.ensures
-    (adds_of c.args.text.now new (λ words. named words c.held_count.result) (c.as_str.ensures.value ∙ c.in-Ok.ensures)
+    adds_of c.args.text.now new (named (held_words c.args.held)) c.count_of.ensures
+    (adds_of c.args.text.now new (λ words. named words c.count_of.result) (c.as_str.ensures.value ∙ c.in-Ok.ensures)
     c.add_labelled.ensures)
