@@ -59,8 +59,8 @@ fn deeds() -> &'static [(u32, Deed)] {
 pub enum Record {
     /// That one, under the gate that wants two approvals.
     Given,
-    /// One in which each change from 1 on has a parent with the next number, up to the last one, which is given with its
-    /// parent, under the gate that wants nothing.
+    /// One in which each change from 1 on has a parent with the next number, up to the last one, which is given with
+    /// its parent, under the gate that wants nothing.
     Chain(u32, u32),
 }
 
@@ -206,7 +206,8 @@ fn answer_on(
     }
 }
 
-/// Whether the answer to a route over the given record has this status and kind, and a text that is made of these parts.
+/// Whether the answer to a route over the given record has this status and kind, and a text that is made of these
+/// parts.
 pub fn shows(alloc: Global, route: Route, status: Status, kind: Kind, parts: &[&str]) -> bool {
     match answer(alloc, Record::Given, &route) {
         Some(page) => is_as(&page, status, kind, parts),

@@ -106,8 +106,8 @@ fn add_drawing_of(
     }
 }
 
-/// What is drawn: nodes, of which the last ones are of the changes that are reached and the others wait for the first of
-/// these; and what each of those changes names.
+/// What is drawn: nodes, of which the last ones are of the changes that are reached and the others wait for the first
+/// of these; and what each of those changes names.
 #[derive(Drop)]
 struct Picture {
     nodes: Vec<Node>,

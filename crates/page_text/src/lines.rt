@@ -19,8 +19,8 @@ pub enum Part<'a> {
     Number(u64),
 }
 
-/// A text that is being written, as metrics and events are, and as `Markup` is of HTML: contracts see its bytes, or `None` once memory was
-/// refused for it, which is remembered.
+/// A text that is being written, as metrics and events are, and as `Markup` is of HTML: contracts see its bytes, or
+/// `None` once memory was refused for it, which is remembered.
 #[derive(Drop)]
 pub struct Lines {
     text: String,
