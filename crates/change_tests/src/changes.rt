@@ -1,13 +1,12 @@
 //! Changes worked out by hand, each public function once.
 
+use super::asserts::assert_found;
 use change_core::{ChangeState, Life, Status, operations_add_up};
 use chunk_list::Entries;
 use deeds::{Deed, op_of};
 use lattice_core::Join;
-use review_ops::{Body, Draft, Op, Stamp};
+use review_ops::{Op, Stamp};
 use std::alloc::Global;
-use std::process::Abort;
-use std::test::Fail;
 
 /// What is stamped on change 101 with a time, which is its sequence number too, by site 1 under start 1. The second
 /// number is the patch set.
@@ -33,118 +32,91 @@ fn deed_of(step: Step) -> (u64, Deed) {
     }
 }
 
-/// The operation of a step.
-fn step_op(alloc: Global, step: Step) -> Result<Op, Fail> {
+/// The operation of a step, where memory suffices for it.
+fn step_op(alloc: Global, step: Step) -> Option<Op> {
     let (time, deed) = deed_of(step);
-    Ok(op_of(alloc, time, 101, deed).ok_or("memory")?)
+    op_of(alloc, time, 101, deed)
 }
 
-/// The effect of an operation, joined with a state.
-fn joined(alloc: Global, state: &ChangeState, op: &Op) -> Result<ChangeState, Fail> {
-    let mut effect = ChangeState::effect(alloc, op)?;
-    effect.join(state.copy()?)?;
-    Ok(effect)
+/// The effect of an operation, where memory suffices for it.
+fn effect_of(alloc: Global, op: &Op) -> Option<ChangeState> {
+    ChangeState::effect(alloc, op).ok()
 }
 
-/// The states are the same.
-fn assert_same(rt: &impl Abort, joined: &ChangeState, state: &ChangeState) {
-    assert!(rt; joined.same(state) && joined.covers(state));
+/// The effect, joined with a state, where memory suffices for it.
+fn joined(mut effect: ChangeState, state: &ChangeState) -> Option<ChangeState> {
+    let is_joined = match state.copy() {
+        Ok(copy) => effect.join(copy).is_ok(),
+        Err(_) => false,
+    };
+    if is_joined { Some(effect) } else { None }
 }
 
-/// Takes an operation, which gives the state that its effect gave by a join.
-fn take_as_joined(
-    rt: &impl Abort,
-    state: &mut ChangeState,
-    op: &Op,
-    joined: &ChangeState,
-) -> Result<(), Fail> {
-    state.take(op)?;
-    assert_same(rt, joined, state);
-    Ok(())
+/// Whether the states are the same.
+fn are_same(joined: &ChangeState, state: &ChangeState) -> bool {
+    joined.same(state) && joined.covers(state)
 }
 
-/// Takes an operation. Its effect, joined with what was taken before, is the same state.
-fn take_op(rt: &impl Abort, alloc: Global, state: &mut ChangeState, op: &Op) -> Result<(), Fail> {
-    let joined = joined(alloc, state, op)?;
-    take_as_joined(rt, state, op, &joined)
+/// Takes an operation: whether its effect, joined with what was taken before, is the same state.
+fn takes(alloc: Global, state: &mut ChangeState, op: &Op) -> bool {
+    let joined = effect_of(alloc, op).and_then(|effect| joined(effect, state));
+    let is_taken = state.take(op).is_ok();
+    match joined {
+        Some(joined) => is_taken && are_same(&joined, state),
+        None => false,
+    }
 }
 
-/// Takes the operation of a step.
-fn take(rt: &impl Abort, alloc: Global, state: &mut ChangeState, step: Step) -> Result<(), Fail> {
-    let op = step_op(alloc, step)?;
-    take_op(rt, alloc, state, &op)
+/// Takes the operation of a step: whether it is taken as it is to be.
+fn takes_step(alloc: Global, state: &mut ChangeState, step: Step) -> bool {
+    match step_op(alloc, step) {
+        Some(op) => takes(alloc, state, &op),
+        None => false,
+    }
 }
 
-/// The state of the operations, which are taken in their order.
-fn state_of(rt: &impl Abort, alloc: Global, steps: &[Step]) -> Result<ChangeState, Fail> {
+/// The state of the operations, which are taken in their order, where each is taken as it is to be.
+fn state_of(alloc: Global, steps: &[Step]) -> Option<ChangeState> {
     let mut state = ChangeState::new(alloc);
+    let mut are_taken = true;
     for step in steps {
-        take(rt, alloc, &mut state, *step)?;
+        are_taken = takes_step(alloc, &mut state, *step) && are_taken;
     }
-    Ok(state)
+    if are_taken { Some(state) } else { None }
 }
 
-/// The texts of the approvals of a patch set, one a line.
-fn approvals_text(alloc: Global, state: &ChangeState, set: u32) -> Result<String, Fail> {
-    let mut text = String::new(alloc);
-    for approval in state.approvals(set) {
-        let label = approval.label;
-        let voter = approval.voter;
-        let value = approval.value;
-        write!(text, "{label} {voter} {value}\n")?;
+/// An approval: its label, its voter and its value.
+type Row = (&'static str, &'static str, i8);
+
+/// Whether the approvals of a patch set in a state are these, in order.
+fn has_approvals(state: &ChangeState, set: u32, rows: &[Row]) -> bool {
+    state
+        .approvals(set)
+        .map(|approval| (approval.label, approval.voter, approval.value))
+        .eq(rows.iter().copied())
+}
+
+/// Whether a state has just this vote on the first patch set, stamped with the time.
+fn has_vote(state: &ChangeState, row: Row, time: u64) -> bool {
+    let mut votes = state.votes(1);
+    match votes.next() {
+        Some(vote) => {
+            (vote.label, vote.voter, vote.value) == row
+                && Some(vote.stamp) == Stamp::new(time, 1, 1, time)
+                && votes.next().is_none()
+        }
+        None => false,
     }
-    Ok(text)
 }
 
-/// The texts of the votes on a patch set, one a line.
-fn votes_text(alloc: Global, state: &ChangeState, set: u32) -> Result<String, Fail> {
-    let mut text = String::new(alloc);
-    for vote in state.votes(set) {
-        let label = vote.label;
-        let voter = vote.voter;
-        let value = vote.value;
-        let stamp = vote.stamp;
-        write!(text, "{label} {voter} {value} {stamp}\n")?;
-    }
-    Ok(text)
+/// Whether a patch set in the state of the operations has these approvals, where memory suffices for the state.
+fn approved(alloc: Global, steps: &[Step], set: u32, rows: &[Row]) -> Option<bool> {
+    Some(has_approvals(&state_of(alloc, steps)?, set, rows))
 }
 
-/// The approvals of a patch set in the state of the operations.
-fn approvals_of(rt: &impl Abort, alloc: Global, steps: &[Step], set: u32) -> Result<String, Fail> {
-    let state = state_of(rt, alloc, steps)?;
-    approvals_text(alloc, &state, set)
-}
-
-/// The votes on a patch set in the state of the operations.
-fn votes_of(rt: &impl Abort, alloc: Global, steps: &[Step], set: u32) -> Result<String, Fail> {
-    let state = state_of(rt, alloc, steps)?;
-    votes_text(alloc, &state, set)
-}
-
-/// In the state of the operations a patch set has these approvals.
-fn assert_approvals(
-    rt: &impl Abort,
-    alloc: Global,
-    steps: &[Step],
-    set: u32,
-    wanted: &str,
-) -> Result<(), Fail> {
-    let text = approvals_of(rt, alloc, steps, set)?;
-    assert_eq!(rt; text.as_str(), wanted);
-    Ok(())
-}
-
-/// In the state of the operations a patch set has these votes.
-fn assert_votes(
-    rt: &impl Abort,
-    alloc: Global,
-    steps: &[Step],
-    set: u32,
-    wanted: &str,
-) -> Result<(), Fail> {
-    let text = votes_of(rt, alloc, steps, set)?;
-    assert_eq!(rt; text.as_str(), wanted);
-    Ok(())
+/// Whether the first patch set in the state of the operations has just this vote, where memory suffices for the state.
+fn voted(alloc: Global, steps: &[Step], row: Row, time: u64) -> Option<bool> {
+    Some(has_vote(&state_of(alloc, steps)?, row, time))
 }
 
 /// A withdrawn vote, a newer one, and one that is older than both.
@@ -155,36 +127,36 @@ const NEWEST: &[Step] = &[
 ];
 
 #[test]
-fn the_newest_vote_counts(rt: HostRuntime) -> Result<(), Fail> {
-    assert_approvals(&rt, rt.alloc(), NEWEST, 1, "workflow ann 1\n")?;
-    assert_votes(&rt, rt.alloc(), NEWEST, 1, "workflow ann 1 5,1,1,5\n")
+fn the_newest_vote_counts(rt: HostRuntime) {
+    let row = ("workflow", "ann", 1);
+    assert_found(&rt, approved(rt.alloc(), NEWEST, 1, &[row]), Some(true));
+    assert_found(&rt, voted(rt.alloc(), NEWEST, row, 5), Some(true));
 }
 
-/// The effect of one operation.
-fn effect_of(alloc: Global, step: Step) -> Result<ChangeState, Fail> {
-    let op = step_op(alloc, step)?;
-    Ok(ChangeState::effect(alloc, &op)?)
-}
-
-/// Of the patch sets 1 and 2 the first is known, with its message, and current.
-fn assert_first_known(rt: &impl Abort, state: &ChangeState) {
-    assert!(rt; state.has_set(1) && !state.has_set(2));
-    assert_eq!(rt;
-        (state.message(1), state.message(2)),
-        (Some("Add x\n"), None)
-    );
-    assert_eq!(rt; state.current(), Some(1));
+/// Which of the patch sets 1 and 2 are known, whether the first has its message and the second none, and which is
+/// current.
+fn first_known(state: ChangeState) -> ([bool; 4], Option<u32>) {
+    let known = [
+        state.has_set(1),
+        state.has_set(2),
+        state.message(1) == Some("Add x\n"),
+        state.message(2).is_none(),
+    ];
+    (known, state.current())
 }
 
 #[test]
-fn one_patch_set_is_known(rt: HostRuntime) -> Result<(), Fail> {
-    let state = effect_of(rt.alloc(), Step::PatchSet(1, 1, None))?;
-    assert_first_known(&rt, &state);
-    Ok(())
+fn one_patch_set_is_known(rt: HostRuntime) {
+    let state = step_op(rt.alloc(), Step::PatchSet(1, 1, None)).and_then(|op| effect_of(
+        rt.alloc(),
+        &op,
+    ));
+    let wanted = ([true, false, true, true], Some(1));
+    assert_found(&rt, state.map(first_known), Some(wanted));
 }
 
 /// How many pairs of a map are left.
-fn counted<K, V>(left: Entries<'_, K, V>) -> usize {
+pub(super) fn counted<K, V>(left: Entries<'_, K, V>) -> usize {
     let mut count = 0usize;
     for _pair in left {
         count = count.wrapping_add(1);
@@ -201,14 +173,13 @@ struct Sets {
     parents: (Option<u32>, Option<u32>, Option<u32>),
 }
 
-/// What the state of the operations says of its patch sets.
-fn sets_of(rt: &impl Abort, alloc: Global, steps: &[Step]) -> Result<Sets, Fail> {
-    let state = state_of(rt, alloc, steps)?;
-    Ok(Sets {
+/// What a state says of its patch sets.
+fn sets_in(state: ChangeState) -> Sets {
+    Sets {
         current: state.current(),
         known: counted(state.sets().iter()),
         parents: (state.parent(2), state.parent(3), state.parent(4)),
-    })
+    }
 }
 
 /// Two votes of one voter at one stamp.
@@ -218,10 +189,11 @@ const TIE: &[Step] = &[
 ];
 
 #[test]
-fn the_greater_of_two_votes_at_one_stamp_counts(rt: HostRuntime) -> Result<(), Fail> {
-    assert_votes(&rt, rt.alloc(), TIE, 1, "workflow ann 2 3,1,1,3\n")?;
-    assert_eq!(rt; sets_of(&rt, rt.alloc(), TIE)?.current, None);
-    Ok(())
+fn the_greater_of_two_votes_at_one_stamp_counts(rt: HostRuntime) {
+    let row = ("workflow", "ann", 2);
+    assert_found(&rt, voted(rt.alloc(), TIE, row, 3), Some(true));
+    let current = state_of(rt.alloc(), TIE).map(|state| state.current());
+    assert_found(&rt, current, Some(None));
 }
 
 /// A vote, and another of 0 at a later stamp.
@@ -231,30 +203,24 @@ const ZERO: &[Step] = &[
 ];
 
 #[test]
-fn a_vote_of_0_is_no_approval(rt: HostRuntime) -> Result<(), Fail> {
-    assert_approvals(&rt, rt.alloc(), ZERO, 1, "")?;
-    assert_votes(&rt, rt.alloc(), ZERO, 1, "workflow ann 0 6,1,1,6\n")
+fn a_vote_of_0_is_no_approval(rt: HostRuntime) {
+    let row = ("workflow", "ann", 0);
+    assert_found(&rt, approved(rt.alloc(), ZERO, 1, &[]), Some(true));
+    assert_found(&rt, voted(rt.alloc(), ZERO, row, 6), Some(true));
 }
 
 /// The same vote, withdrawn at the later stamp.
 const WITHDRAWN: &[Step] = &[Step::Vote(5, 1, "Workflow", "ann", 1), Step::Withdraw(6, 1)];
 
-/// The state is that of the operations.
-fn assert_state(
-    rt: &impl Abort,
-    alloc: Global,
-    state: &ChangeState,
-    steps: &[Step],
-) -> Result<(), Fail> {
-    let wanted = state_of(rt, alloc, steps)?;
-    assert_same(rt, state, &wanted);
-    Ok(())
+/// Whether the states of these operations are the same, where memory suffices for them.
+fn have_one_state(alloc: Global, steps: &[Step], others: &[Step]) -> Option<bool> {
+    let state = state_of(alloc, steps)?;
+    Some(are_same(&state, &state_of(alloc, others)?))
 }
 
 #[test]
-fn a_vote_of_0_is_a_withdrawn_one(rt: HostRuntime) -> Result<(), Fail> {
-    let zero = state_of(&rt, rt.alloc(), ZERO)?;
-    assert_state(&rt, rt.alloc(), &zero, WITHDRAWN)
+fn a_vote_of_0_is_a_withdrawn_one(rt: HostRuntime) {
+    assert_found(&rt, have_one_state(rt.alloc(), ZERO, WITHDRAWN), Some(true));
 }
 
 /// Votes on one patch set, and then another patch set.
@@ -265,16 +231,21 @@ const TWO_SETS: &[Step] = &[
     Step::PatchSet(5, 3, Some(7)),
 ];
 
+/// The approvals of the first of them.
+const ALL_THREE: &[Row] = &[
+    ("verified", "bob", -1),
+    ("verified", "zuul", 1),
+    ("workflow", "ann", 1),
+];
+
 #[test]
-fn votes_stay_with_their_patch_set(rt: HostRuntime) -> Result<(), Fail> {
-    assert_approvals(&rt, rt.alloc(), TWO_SETS, 3, "")?;
-    assert_approvals(
+fn votes_stay_with_their_patch_set(rt: HostRuntime) {
+    assert_found(&rt, approved(rt.alloc(), TWO_SETS, 3, &[]), Some(true));
+    assert_found(
         &rt,
-        rt.alloc(),
-        TWO_SETS,
-        1,
-        "verified bob -1\nverified zuul 1\nworkflow ann 1\n",
-    )
+        approved(rt.alloc(), TWO_SETS, 1, ALL_THREE),
+        Some(true),
+    );
 }
 
 /// Votes on two patch sets side by side, and on the last that there could be.
@@ -285,24 +256,31 @@ const NEIGHBOURS: &[Step] = &[
 ];
 
 #[test]
-fn votes_on_neighbours_stay_apart(rt: HostRuntime) -> Result<(), Fail> {
-    assert_approvals(&rt, rt.alloc(), NEIGHBOURS, 1, "workflow zuul 1\n")?;
-    assert_approvals(&rt, rt.alloc(), NEIGHBOURS, 2, "- ! 2\n")?;
-    assert_approvals(&rt, rt.alloc(), NEIGHBOURS, u32::MAX, "workflow ann -1\n")
+fn votes_on_neighbours_stay_apart(rt: HostRuntime) {
+    for (set, row) in [
+        (1, ("workflow", "zuul", 1)),
+        (2, ("-", "!", 2)),
+        (u32::MAX, ("workflow", "ann", -1)),
+    ] {
+        assert_found(
+            &rt,
+            approved(rt.alloc(), NEIGHBOURS, set, &[row]),
+            Some(true),
+        );
+    }
 }
 
 /// A patch set, and a later one with a lower number.
 const SETS: &[Step] = &[Step::PatchSet(5, 3, Some(7)), Step::PatchSet(6, 2, None)];
 
 #[test]
-fn the_greatest_known_patch_set_is_current(rt: HostRuntime) -> Result<(), Fail> {
+fn the_greatest_known_patch_set_is_current(rt: HostRuntime) {
     let wanted = Sets {
         current: Some(3),
         known: 2,
         parents: (None, Some(7), None),
     };
-    assert_eq!(rt; sets_of(&rt, rt.alloc(), SETS)?, wanted);
-    Ok(())
+    assert_found(&rt, state_of(rt.alloc(), SETS).map(sets_in), Some(wanted));
 }
 
 /// Votes on two patch sets, of which the greater comes first.
@@ -313,42 +291,44 @@ const VOTED: &[Step] = &[
 ];
 
 /// The first three patch sets with votes in the order in which they come, and how many votes there are.
-fn voted_in(state: &ChangeState) -> ([Option<u32>; 3], usize) {
+fn voted_in(state: ChangeState) -> ([Option<u32>; 3], usize) {
     let mut voted = state.voted();
     let sets = [voted.next(), voted.next(), voted.next()];
     (sets, counted(state.all_votes().iter()))
 }
 
 #[test]
-fn voted_patch_sets_come_once_in_order(rt: HostRuntime) -> Result<(), Fail> {
-    let state = state_of(&rt, rt.alloc(), VOTED)?;
-    let (sets, votes) = voted_in(&state);
-    assert!(rt; sets == [Some(2), Some(12), None] && votes == 3);
-    Ok(())
+fn voted_patch_sets_come_once_in_order(rt: HostRuntime) {
+    let found = state_of(rt.alloc(), VOTED).map(voted_in);
+    assert_found(&rt, found, Some(([Some(2), Some(12), None], 3)));
 }
 
 /// What a state says of the change's life: its status, whether it is open, and the newest abandon or restore.
 type Lived = (Status, bool, Option<(Stamp, Life)>);
 
-/// What the state of the operations says of the change's life.
-fn lived(rt: &impl Abort, alloc: Global, steps: &[Step]) -> Result<Lived, Fail> {
-    let state = state_of(rt, alloc, steps)?;
-    Ok((state.status(), state.is_open(), state.life()))
+/// What the state of the operations says of the change's life, where memory suffices for it.
+fn lived(alloc: Global, steps: &[Step]) -> Option<Lived> {
+    let state = state_of(alloc, steps)?;
+    Some((state.status(), state.is_open(), state.life()))
+}
+
+/// What is said of a change whose newest abandon or restore has this time.
+fn life_at(status: Status, time: u64, life: Life) -> Option<Lived> {
+    let stamp = Stamp::new(time, 1, 1, time)?;
+    Some((status, status == Status::New, Some((stamp, life))))
 }
 
 #[test]
-fn an_abandoned_change_says_so(rt: HostRuntime) -> Result<(), Fail> {
-    let (status, _, _) = lived(&rt, rt.alloc(), &[Step::Abandon(1)])?;
-    assert_eq!(rt; (status, status.name()), (Status::Abandoned, "ABANDONED"));
-    Ok(())
+fn an_abandoned_change_says_so(rt: HostRuntime) {
+    let lived = lived(rt.alloc(), &[Step::Abandon(1)]);
+    assert_found(&rt, lived, life_at(Status::Abandoned, 1, Life::Abandoned));
+    assert_found(&rt, Status::Abandoned.name(), "ABANDONED");
 }
 
 #[test]
-fn a_restored_change_is_open(rt: HostRuntime) -> Result<(), Fail> {
-    let second = Stamp::new(2, 1, 1, 2).ok_or("a stamp")?;
-    let (_, is_open, life) = lived(&rt, rt.alloc(), &[Step::Abandon(1), Step::Restore(2)])?;
-    assert!(rt; is_open && life == Some((second, Life::Restored)));
-    Ok(())
+fn a_restored_change_is_open(rt: HostRuntime) {
+    let lived = lived(rt.alloc(), &[Step::Abandon(1), Step::Restore(2)]);
+    assert_found(&rt, lived, life_at(Status::New, 2, Life::Restored));
 }
 
 /// A change that is abandoned, restored and merged, and then restored again.
@@ -360,8 +340,10 @@ const MERGED: &[Step] = &[
 ];
 
 #[test]
-fn merged_is_final(rt: HostRuntime) -> Result<(), Fail> {
-    let (status, is_open, _) = lived(&rt, rt.alloc(), MERGED)?;
-    assert!(rt; status == Status::Merged && !is_open);
-    Ok(())
+fn merged_is_final(rt: HostRuntime) {
+    assert_found(
+        &rt,
+        lived(rt.alloc(), MERGED),
+        life_at(Status::Merged, 4, Life::Restored),
+    );
 }

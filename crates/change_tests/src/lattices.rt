@@ -1,13 +1,12 @@
 //! Worked examples, each type at concrete types.
 
+use super::asserts::assert_found;
 use lattice_core::{
     Both, Flag, Greatest, Join, JoinMap, Keep, NoMemory, Register,
     covering_is_the_order_of_the_join, join_all, lists_join_in_any_order, maps_join_key_by_key,
     registers_join_to_the_greatest,
 };
 use std::alloc::Global;
-use std::process::Abort;
-use std::test::Fail;
 
 fn greatest(key: u32, value: u32) -> Greatest<u32, u32> {
     Greatest::of(key, value)
@@ -20,88 +19,107 @@ fn holds(state: &Greatest<u32, u32>, key: u32, value: u32) -> bool {
     }
 }
 
-// The join of two, which covers both and is the same the other way round. A body that only answers want of memory meets
-// the contracts of `copy` and of `join`: with ample memory these calls succeed.
-fn merged<J: Join>(rt: &impl Abort, a: &J, b: &J) -> Result<J, NoMemory> {
-    let mut whole = a.copy()?;
-    whole.join(b.copy()?)?;
-    assert!(rt; whole.covers(a) && whole.covers(b));
-    let mut other_way = b.copy()?;
-    other_way.join(a.copy()?)?;
-    assert!(rt; whole.same(&other_way));
-    Ok(whole)
+/// The first, joined with the second, where memory suffices for it. A body that only answers want of memory meets the
+/// contracts of `copy` and of `join`: with ample memory these calls succeed.
+fn join_of<J: Join>(a: &J, b: &J) -> Option<J> {
+    let mut whole = a.copy().ok()?;
+    whole.join(b.copy().ok()?).ok()?;
+    Some(whole)
 }
 
-// With ample memory a copy succeeds, which no clause says.
-fn copied<K: Keep>(rt: &impl Abort, kept: &K) -> Result<(), NoMemory> {
-    let copy = kept.copy()?;
-    assert!(rt; copy == *kept);
-    Ok(())
+/// The join of two, where it covers both and is the same the other way round.
+fn merged<J: Join>(a: &J, b: &J) -> Option<J> {
+    let whole = join_of(a, b)?;
+    let other_way = join_of(b, a)?;
+    let is_right = whole.covers(a) && whole.covers(b) && whole.same(&other_way);
+    if is_right { Some(whole) } else { None }
 }
 
-#[test]
-fn joins_of_lists(rt: HostRuntime) -> Result<(), Fail> {
-    let alloc = rt.alloc();
-    let states = vec![in alloc; greatest(1, 5), greatest(3, 2), greatest(3, 4)]?;
-    let whole = join_all(states)?.ok_or("nothing")?;
-    assert!(rt; holds(&whole, 3, 4));
-    let nothing: Vec<Greatest<u32, u32>> = Vec::new(alloc);
-    assert!(rt; join_all(nothing)?.is_none());
-    Ok(())
+/// Whether a copy is made, and is equal. With ample memory it is made, which no clause says.
+pub(super) fn is_copied<K: Keep>(kept: &K) -> bool {
+    match kept.copy() {
+        Ok(copy) => copy == *kept,
+        Err(_) => false,
+    }
 }
 
-#[test]
-fn kept_unsigned_numbers_are_copied(rt: HostRuntime) -> Result<(), Fail> {
-    copied(&rt, &7u8)?;
-    copied(&rt, &7u16)?;
-    copied(&rt, &7u32)?;
-    copied(&rt, &7u64)?;
-    Ok(copied(&rt, &7usize)?)
+/// The greatest of several states of a list, where memory suffices for it.
+fn greatest_of(alloc: Global) -> Option<Greatest<u32, u32>> {
+    let states = vec![in alloc; greatest(1, 5), greatest(3, 2), greatest(3, 4)].ok()?;
+    join_all(states).ok()?
 }
 
 #[test]
-fn kept_signed_numbers_are_copied(rt: HostRuntime) -> Result<(), Fail> {
-    copied(&rt, &-7i8)?;
-    copied(&rt, &-7i16)?;
-    copied(&rt, &-7i32)?;
-    Ok(copied(&rt, &-7i64)?)
+fn joins_of_lists(rt: HostRuntime) {
+    let whole = greatest_of(rt.alloc()).map(|whole| holds(&whole, 3, 4));
+    assert_found(&rt, whole, Some(true));
+    let nothing: Vec<Greatest<u32, u32>> = Vec::new(rt.alloc());
+    assert_found(&rt, matches!(join_all(nothing), Ok(None)), true);
 }
 
 #[test]
-fn kept_choices_are_copied(rt: HostRuntime) -> Result<(), Fail> {
-    copied(&rt, &true)?;
-    copied(&rt, &Some(7u32))?;
+fn kept_unsigned_numbers_are_copied(rt: HostRuntime) {
+    let numbers = [
+        is_copied(&7u8),
+        is_copied(&7u16),
+        is_copied(&7u32),
+        is_copied(&7u64),
+        is_copied(&7usize),
+    ];
+    assert_found(&rt, numbers, [true; 5]);
+}
+
+#[test]
+fn kept_signed_numbers_are_copied(rt: HostRuntime) {
+    let numbers = [
+        is_copied(&-7i8),
+        is_copied(&-7i16),
+        is_copied(&-7i32),
+        is_copied(&-7i64),
+    ];
+    assert_found(&rt, numbers, [true; 4]);
+}
+
+#[test]
+fn kept_choices_are_copied(rt: HostRuntime) {
     let none: Option<u32> = None;
-    Ok(copied(&rt, &none)?)
+    let choices = [is_copied(&true), is_copied(&Some(7u32)), is_copied(&none)];
+    assert_found(&rt, choices, [true; 3]);
 }
 
 #[test]
-fn kept_texts_are_copied(rt: HostRuntime) -> Result<(), Fail> {
-    let text = String::from_str(rt.alloc(), "ann")?;
-    Ok(copied(&rt, &text)?)
+fn kept_texts_are_copied(rt: HostRuntime) {
+    let text = String::from_str(rt.alloc(), "ann").ok();
+    assert_found(&rt, text.map(|text| is_copied(&text)), Some(true));
 }
 
 #[test]
-fn flags_are_joined(rt: HostRuntime) -> Result<(), Fail> {
-    let raised = merged(&rt, &Flag::new(false), &Flag::new(true))?;
-    assert!(rt; raised.is_raised() && !Flag::new(false).is_raised());
-    Ok(())
+fn flags_are_joined(rt: HostRuntime) {
+    let raised = merged(&Flag::new(false), &Flag::new(true)).map(|flag| flag.is_raised());
+    assert_found(
+        &rt,
+        (raised, Flag::new(false).is_raised()),
+        (Some(true), false),
+    );
+}
+
+/// The key and the value of the join of two registers.
+fn joined_registers(a: (u32, u8), b: (u32, u8)) -> Option<(u32, u8)> {
+    let joined = merged(&Register::new(a.0, a.1), &Register::new(b.0, b.1))?;
+    Some((*joined.key(), *joined.value()))
 }
 
 #[test]
-fn registers_are_joined(rt: HostRuntime) -> Result<(), Fail> {
-    let later = merged(&rt, &Register::new(2u32, 1u8), &Register::new(1u32, 9u8))?;
-    assert!(rt; *later.key() == 2 && *later.value() == 1);
-    let greater = merged(&rt, &Register::new(2u32, 1u8), &Register::new(2u32, 9u8))?;
-    assert!(rt; *greater.value() == 9);
-    Ok(())
+fn registers_are_joined(rt: HostRuntime) {
+    let later = joined_registers((2, 1), (1, 9));
+    let greater = joined_registers((2, 1), (2, 9));
+    assert_found(&rt, (later, greater), (Some((2, 1)), Some((2, 9))));
 }
 
 #[test]
-fn a_greatest_is_joined_to_none(rt: HostRuntime) -> Result<(), Fail> {
-    let best = merged(&rt, &Greatest::new(), &greatest(1, 5))?;
-    assert!(rt; holds(&best, 1, 5));
-    Ok(())
+fn a_greatest_is_joined_to_none(rt: HostRuntime) {
+    let best = merged(&Greatest::new(), &greatest(1, 5)).map(|best| holds(&best, 1, 5));
+    assert_found(&rt, best, Some(true));
 }
 
 type Pair = Both<Flag, Greatest<u32, u32>>;
@@ -113,13 +131,15 @@ fn pair(raised: bool, second: Greatest<u32, u32>) -> Pair {
     }
 }
 
+/// Whether a pair is raised, and holds this.
+fn pair_holds(pair: &Pair, key: u32, value: u32) -> bool {
+    pair.first.is_raised() && holds(&pair.second, key, value)
+}
+
 #[test]
-fn pairs_are_joined(rt: HostRuntime) -> Result<(), Fail> {
-    let first = pair(true, greatest(1, 5));
-    let second = pair(false, greatest(3, 2));
-    let both = merged(&rt, &first, &second)?;
-    assert!(rt; both.first.is_raised() && holds(&both.second, 3, 2));
-    Ok(())
+fn pairs_are_joined(rt: HostRuntime) {
+    let both = merged(&pair(true, greatest(1, 5)), &pair(false, greatest(3, 2)));
+    assert_found(&rt, both.map(|both| pair_holds(&both, 3, 2)), Some(true));
 }
 
 #[test]
@@ -128,7 +148,7 @@ fn laws_are_called(rt: HostRuntime) {
     lists_join_in_any_order::<Both<Flag, Greatest<u32, u32>>>();
     registers_join_to_the_greatest::<u64, String>();
     maps_join_key_by_key::<String, Greatest<u32, u32>>();
-    assert_eq!(rt; (NoMemory.number(), NoMemory.name()), (1, "NoMemory"));
+    assert_found(&rt, (NoMemory.number(), NoMemory.name()), (1, "NoMemory"));
 }
 
 type Bests = JoinMap<u16, Greatest<u32, u32>>;
@@ -149,67 +169,102 @@ fn right(alloc: Global) -> Result<Bests, NoMemory> {
     Ok(right)
 }
 
-// The join of the left map and the right one.
-fn whole(rt: &impl Abort, alloc: Global) -> Result<Bests, NoMemory> {
-    let left = left(alloc)?;
-    let right = right(alloc)?;
-    assert!(rt; !left.covers(&right) && !left.same(&right));
-    merged(rt, &left, &right)
+/// The join of two of which neither covers the other.
+fn merged_apart<J: Join>(left: &J, right: &J) -> Option<J> {
+    if left.covers(right) || left.same(right) {
+        None
+    } else {
+        merged(left, right)
+    }
+}
+
+/// The join of the left map and the right one, where memory suffices for it.
+fn whole(alloc: Global) -> Option<Bests> {
+    let left = left(alloc).ok()?;
+    merged_apart(&left, &right(alloc).ok()?)
 }
 
 #[test]
 fn a_new_map_is_empty(rt: HostRuntime) {
     let bests: Bests = JoinMap::new(rt.alloc());
-    assert!(rt; bests.is_empty());
+    assert_found(&rt, bests.is_empty(), true);
+}
+
+/// How long a map is, whether it has the keys 1 and 3, and how many pairs it has: all, from 2 up to 7, and from 2 on.
+fn counts(map: Bests) -> (usize, bool, bool, usize, usize, usize) {
+    (
+        map.len(),
+        map.contains_key(&1),
+        map.contains_key(&3),
+        map.iter().count(),
+        map.range(2u16..7).count(),
+        map.range(2u16..).count(),
+    )
 }
 
 #[test]
-fn maps_are_joined(rt: HostRuntime) -> Result<(), Fail> {
-    let whole = whole(&rt, rt.alloc())?;
-    assert_eq!(rt;
-        (whole.len(), whole.contains_key(&1), whole.contains_key(&3)),
-        (3, true, false)
-    );
-    assert_eq!(rt; whole.iter().count(), 3);
-    assert_eq!(rt; whole.range(2u16..7).count(), 1);
-    assert_eq!(rt; whole.range(2u16..).count(), 2);
-    Ok(())
+fn maps_are_joined(rt: HostRuntime) {
+    let found = whole(rt.alloc()).map(counts);
+    assert_found(&rt, found, Some((3, true, false, 3, 1, 2)));
 }
 
-// The keys of a map, in the order in which its entries come. At each key the map has the value of the entry.
-fn keys_of(rt: &impl Abort, alloc: Global, map: &Bests) -> Result<Vec<u16>, Fail> {
-    let mut keys = Vec::new(alloc);
-    for (key, value) in map {
-        assert!(rt; map.get(key).is_some_and(|found| found.same(value)));
-        keys.push(*key)?;
+/// Whether a map has these keys, in this order, and at each the value of the entry.
+fn has_keys<K: Keep, V: Join>(map: &JoinMap<K, V>, keys: &[K]) -> bool {
+    let mut has_all = map.len() == keys.len();
+    for ((key, value), wanted) in map.iter().zip(keys) {
+        let is_found = map.get(key).is_some_and(|found| found.same(value));
+        has_all = has_all && *key == *wanted && is_found;
     }
-    Ok(keys)
+    has_all
 }
 
 #[test]
-fn entries_of_a_map_come_in_key_order(rt: HostRuntime) -> Result<(), Fail> {
-    let whole = whole(&rt, rt.alloc())?;
-    let keys = keys_of(&rt, rt.alloc(), &whole)?;
-    assert_eq!(rt; keys.as_slice(), [1, 2, 7].as_slice());
-    Ok(())
+fn entries_of_a_map_come_in_key_order(rt: HostRuntime) {
+    let found = whole(rt.alloc()).map(|map| has_keys(&map, &[1, 2, 7]));
+    assert_found(&rt, found, Some(true));
 }
 
-#[test]
-fn a_value_of_a_map_is_joined_in_place(rt: HostRuntime) -> Result<(), Fail> {
-    let mut whole = whole(&rt, rt.alloc())?;
-    assert!(rt; whole.get(&7).is_some_and(|best| holds(best, 4, 4)));
-    if let Some(best) = whole.get_mut(&7) {
-        best.join(greatest(5, 0))?;
+/// Whether a map holds this at key 7.
+fn holds_at_7(map: &Bests, key: u32, value: u32) -> bool {
+    match map.get(&7) {
+        Some(best) => holds(best, key, value),
+        None => false,
     }
-    assert!(rt; whole.get(&7).is_some_and(|best| holds(best, 5, 0)));
-    Ok(())
+}
+
+/// Joins a greater value at key 7, where there is one: whether memory sufficed for it.
+fn join_at_7(map: &mut Bests) -> bool {
+    match map.get_mut(&7) {
+        Some(best) => best.join(greatest(5, 0)).is_ok(),
+        None => false,
+    }
+}
+
+/// Whether the value of a map at key 7 is what it is to be before and after a greater one is joined there.
+fn joined_in_place(mut map: Bests) -> (bool, bool, bool) {
+    let before = holds_at_7(&map, 4, 4);
+    let is_joined = join_at_7(&mut map);
+    (before, is_joined, holds_at_7(&map, 5, 0))
 }
 
 #[test]
-fn a_value_is_found_by_the_text_of_its_key(rt: HostRuntime) -> Result<(), Fail> {
-    let mut flags = JoinMap::new(rt.alloc());
-    flags.put(String::from_str(rt.alloc(), "ann")?, Flag::new(true))?;
-    assert!(rt; flags.get_by_text("ann").is_some());
-    assert!(rt; flags.get_by_text("eve").is_none());
-    Ok(())
+fn a_value_of_a_map_is_joined_in_place(rt: HostRuntime) {
+    let found = whole(rt.alloc()).map(joined_in_place);
+    assert_found(&rt, found, Some((true, true, true)));
+}
+
+/// Whether two texts are keys of flags of which the first is set, where memory suffices for them.
+fn found_by_text(alloc: Global) -> Option<(bool, bool)> {
+    let mut flags: JoinMap<String, Flag> = JoinMap::new(alloc);
+    let ann = String::from_str(alloc, "ann").ok()?;
+    flags.put(ann, Flag::new(true)).ok()?;
+    Some((
+        flags.get_by_text("ann").is_some(),
+        flags.get_by_text("eve").is_some(),
+    ))
+}
+
+#[test]
+fn a_value_is_found_by_the_text_of_its_key(rt: HostRuntime) {
+    assert_found(&rt, found_by_text(rt.alloc()), Some((true, false)));
 }
