@@ -1,54 +1,78 @@
 //! Gate files and their faults, and own conditions, worked out by hand.
 
-use super::record::{patch_set, take, vote};
+use super::asserts::assert_found;
+use super::record::takes_deed;
+use deeds::Deed;
 use gate_rules::{Clause, Condition, Gate, GateFault, Side, the_first_fault_is_found};
-use review_ops::Draft;
 use state_core::{Item, State};
-use std::alloc::{AllocError, Global};
+use std::alloc::Global;
 use std::process::Abort;
-use std::test::Fail;
 
-/// A fault as reports print it: its number, and its words, which begin with its name.
-fn said(alloc: Global, fault: &GateFault) -> Result<String, AllocError> {
-    let number = fault.number();
-    let name = fault.name();
+/// The words of a fault, where memory suffices for them.
+fn words_of(alloc: Global, fault: &GateFault) -> Option<String> {
     let mut words = String::new(alloc);
-    fault.write_words(&mut words)?;
-    if !words.as_str().starts_with(name) {
-        return format!(in alloc; "{number} {name} in place of {words}");
-    }
-    format!(in alloc; "{number} {words}")
+    fault.write_words(&mut words).ok()?;
+    Some(words)
 }
 
-/// What reading a gate gives: `read`, or the fault.
-fn answer(alloc: Global, text: &[u8]) -> Result<String, Fail> {
+/// A number of one digit, as it is written.
+fn digit(number: u8) -> &'static str {
+    match number {
+        1 => "1",
+        2 => "2",
+        3 => "3",
+        4 => "4",
+        _ => "another number",
+    }
+}
+
+/// Whether a fault is said so, as reports print it: its number, a blank, and its words, which begin with its name.
+fn is_said(alloc: Global, fault: &GateFault, wanted: &str) -> bool {
+    let number = digit(fault.number());
+    match words_of(alloc, fault) {
+        Some(words) => {
+            let words = words.as_str();
+            words.starts_with(fault.name()) && wanted.split_once(' ') == Some((number, words))
+        }
+        None => false,
+    }
+}
+
+/// Whether reading a gate gives this answer: `read`, or the fault.
+fn is_answer(alloc: Global, text: &[u8], wanted: &str) -> bool {
     match Gate::read(alloc, text) {
-        Ok(_) => Ok(String::from_str(alloc, "read")?),
-        Err(fault) => Ok(said(alloc, &fault)?),
+        Ok(_) => wanted == "read",
+        Err(fault) => is_said(alloc, &fault, wanted),
     }
 }
 
-/// Reading this text gives this answer.
-fn assert_answer(rt: &impl Abort, alloc: Global, text: &[u8], wanted: &str) -> Result<(), Fail> {
-    let got = answer(alloc, text)?;
-    assert_eq!(rt; got.as_str(), wanted);
-    Ok(())
-}
-
-/// Each of these texts is read.
-fn assert_read(rt: &impl Abort, alloc: Global, texts: &[&str]) -> Result<(), Fail> {
+/// How many of these texts, from the first on, are read.
+fn read(alloc: Global, texts: &[&str]) -> usize {
+    let mut count = 0usize;
     for text in texts {
-        assert_answer(rt, alloc, text.as_bytes(), "read")?;
+        if !is_answer(alloc, text.as_bytes(), "read") {
+            return count;
+        }
+        count = count.saturating_add(1);
     }
-    Ok(())
+    count
+}
+
+/// How many of these texts, from the first on, are given the answer beside them.
+fn answered(alloc: Global, rows: &[(&str, &str)]) -> usize {
+    let mut count = 0usize;
+    for (text, wanted) in rows {
+        if !is_answer(alloc, text.as_bytes(), wanted) {
+            return count;
+        }
+        count = count.saturating_add(1);
+    }
+    count
 }
 
 /// Reading each of these texts gives the answer beside it.
-fn assert_answers(rt: &impl Abort, alloc: Global, rows: &[(&str, &str)]) -> Result<(), Fail> {
-    for (text, wanted) in rows {
-        assert_answer(rt, alloc, text.as_bytes(), wanted)?;
-    }
-    Ok(())
+fn assert_answers(rt: &impl Abort, alloc: Global, rows: &[(&str, &str)]) {
+    assert_found(rt, answered(alloc, rows), rows.len());
 }
 
 /// Gates of the worked examples, and those at the limits of what is accepted.
@@ -73,8 +97,8 @@ const GOOD_GATES: &[&str] = &[
 ];
 
 #[test]
-fn good_gates(rt: HostRuntime) -> Result<(), Fail> {
-    assert_read(&rt, rt.alloc(), GOOD_GATES)
+fn good_gates(rt: HostRuntime) {
+    assert_found(&rt, read(rt.alloc(), GOOD_GATES), GOOD_GATES.len());
 }
 
 // Each faulty gate names the first fault of the walk.
@@ -102,8 +126,8 @@ const FAULTY_TEXTS: &[(&str, &str)] = &[
 ];
 
 #[test]
-fn faulty_texts(rt: HostRuntime) -> Result<(), Fail> {
-    assert_answers(&rt, rt.alloc(), FAULTY_TEXTS)
+fn faulty_texts(rt: HostRuntime) {
+    assert_answers(&rt, rt.alloc(), FAULTY_TEXTS);
 }
 
 /// Faulty bases, connections and words on cycles.
@@ -156,8 +180,8 @@ const FAULTY_SETTINGS: &[(&str, &str)] = &[
 ];
 
 #[test]
-fn faulty_settings(rt: HostRuntime) -> Result<(), Fail> {
-    assert_answers(&rt, rt.alloc(), FAULTY_SETTINGS)
+fn faulty_settings(rt: HostRuntime) {
+    assert_answers(&rt, rt.alloc(), FAULTY_SETTINGS);
 }
 
 /// Faults of what is required or rejected, and unknown keys.
@@ -191,8 +215,8 @@ const FAULTY_SIDES: &[(&str, &str)] = &[
 ];
 
 #[test]
-fn faulty_sides(rt: HostRuntime) -> Result<(), Fail> {
-    assert_answers(&rt, rt.alloc(), FAULTY_SIDES)
+fn faulty_sides(rt: HostRuntime) {
+    assert_answers(&rt, rt.alloc(), FAULTY_SIDES);
 }
 
 /// Faulty clauses other than approvals.
@@ -244,8 +268,8 @@ const FAULTY_CLAUSES: &[(&str, &str)] = &[
 ];
 
 #[test]
-fn faulty_clauses(rt: HostRuntime) -> Result<(), Fail> {
-    assert_answers(&rt, rt.alloc(), FAULTY_CLAUSES)
+fn faulty_clauses(rt: HostRuntime) {
+    assert_answers(&rt, rt.alloc(), FAULTY_CLAUSES);
 }
 
 /// Faulty approvals.
@@ -285,8 +309,8 @@ const FAULTY_APPROVALS: &[(&str, &str)] = &[
 ];
 
 #[test]
-fn faulty_approvals(rt: HostRuntime) -> Result<(), Fail> {
-    assert_answers(&rt, rt.alloc(), FAULTY_APPROVALS)
+fn faulty_approvals(rt: HostRuntime) {
+    assert_answers(&rt, rt.alloc(), FAULTY_APPROVALS);
 }
 
 /// Faulty labels and votes in approvals.
@@ -334,25 +358,32 @@ const FAULTY_VOTES: &[(&str, &str)] = &[
 ];
 
 #[test]
-fn faulty_votes(rt: HostRuntime) -> Result<(), Fail> {
-    assert_answers(&rt, rt.alloc(), FAULTY_VOTES)
+fn faulty_votes(rt: HostRuntime) {
+    assert_answers(&rt, rt.alloc(), FAULTY_VOTES);
 }
 
-/// A gate with one base of `count` letters and what ends it.
-fn gate_of_base(alloc: Global, count: usize, last: &str) -> Result<String, Fail> {
-    let letters = "r".repeat(alloc, count)?;
-    Ok(format!(in alloc; "{{\"bases\":[\"{letters}{last}\"]}}")?)
+/// A gate with one base of `count` letters and what ends it, where memory suffices for it.
+fn gate_of_base(alloc: Global, count: usize, last: &str) -> Option<String> {
+    let letters = "r".repeat(alloc, count).ok()?;
+    format!(in alloc; "{{\"bases\":[\"{letters}{last}\"]}}").ok()
+}
+
+/// Whether reading such a gate gives this answer, where memory suffices for the gate.
+fn is_base_answer(alloc: Global, count: usize, last: &str, wanted: &str) -> Option<bool> {
+    let text = gate_of_base(alloc, count, last)?;
+    Some(is_answer(alloc, text.as_bytes(), wanted))
 }
 
 #[test]
-fn a_base_has_256_bytes_at_most(rt: HostRuntime) -> Result<(), Fail> {
-    let alloc = rt.alloc();
-    let longest = gate_of_base(alloc, 255, "/")?;
-    assert_answer(&rt, alloc, longest.as_bytes(), "read")?;
-    let longer = gate_of_base(alloc, 256, "/")?;
-    assert_answer(&rt, alloc, longer.as_bytes(), "3 BadValue bases 1 TooLong")?;
-    let bare = gate_of_base(alloc, 256, "")?;
-    assert_answer(&rt, alloc, bare.as_bytes(), "3 BadValue bases 1 NoSlash")
+fn a_base_has_256_bytes_at_most(rt: HostRuntime) {
+    for (count, last, wanted) in [
+        (255, "/", "read"),
+        (256, "/", "3 BadValue bases 1 TooLong"),
+        (256, "", "3 BadValue bases 1 NoSlash"),
+    ] {
+        let found = is_base_answer(rt.alloc(), count, last, wanted);
+        assert_found(&rt, found, Some(true));
+    }
 }
 
 /// Gates with several faults: the first one of the walk is named.
@@ -383,8 +414,8 @@ const FIRST_FAULTS: &[(&str, &str)] = &[
 ];
 
 #[test]
-fn first_faults(rt: HostRuntime) -> Result<(), Fail> {
-    assert_answers(&rt, rt.alloc(), FIRST_FAULTS)
+fn first_faults(rt: HostRuntime) {
+    assert_answers(&rt, rt.alloc(), FIRST_FAULTS);
 }
 
 #[test]
@@ -395,10 +426,10 @@ fn faults_have_a_law(rt: HostRuntime) {
 
 // Bytes that are no text.
 #[test]
-fn a_gate_that_is_no_text(rt: HostRuntime) -> Result<(), Fail> {
-    let alloc = rt.alloc();
-    assert_answer(&rt, alloc, &[123, 255, 125], "1 NotJson 1 2")?;
-    assert_answer(&rt, alloc, &[123, 10, 10, 195, 168, 195], "1 NotJson 3 3")
+fn a_gate_that_is_no_text(rt: HostRuntime) {
+    let one = is_answer(rt.alloc(), &[123, 255, 125], "1 NotJson 1 2");
+    let other = is_answer(rt.alloc(), &[123, 10, 10, 195, 168, 195], "1 NotJson 3 3");
+    assert_found(&rt, one && other, true);
 }
 
 /// Texts that stop being JSON, or are no object, and the line and the column where that shows.
@@ -423,29 +454,28 @@ const BROKEN_TEXTS: &[(&str, &str)] = &[
 ];
 
 #[test]
-fn a_gate_that_is_no_json_is_placed(rt: HostRuntime) -> Result<(), Fail> {
-    assert_answers(&rt, rt.alloc(), BROKEN_TEXTS)
+fn a_gate_that_is_no_json_is_placed(rt: HostRuntime) {
+    assert_answers(&rt, rt.alloc(), BROKEN_TEXTS);
+}
+
+/// Whether a gate allows cycles, and whether it has the base of the examples.
+fn settings(gate: &Gate) -> (bool, bool) {
+    let has_base = gate.bases().get(0) == Some("https://review.example.org/");
+    (gate.cycles(), has_base)
+}
+
+/// The settings of a gate, and those of a copy of it, where memory suffices for both.
+fn settings_twice(alloc: Global) -> Option<((bool, bool), (bool, bool))> {
+    let gate = Gate::read(alloc, CYCLES_GATE.as_bytes()).ok()?;
+    let copy = gate.copy().ok()?;
+    Some((settings(&gate), settings(&copy)))
 }
 
 // A copy has the settings of the gate.
 #[test]
-fn copies(rt: HostRuntime) -> Result<(), Fail> {
-    let gate = Gate::read(rt.alloc(), CYCLES_GATE.as_bytes())?;
-    assert_settings(&rt, &gate);
-    assert_copied(&rt, rt.alloc(), &gate)
-}
-
-/// A copy has the settings of the gate.
-fn assert_copied(rt: &impl Abort, alloc: Global, gate: &Gate) -> Result<(), Fail> {
-    let copy = gate.copy()?;
-    assert_settings(rt, &copy);
-    Ok(())
-}
-
-/// The gate allows cycles, and has the base of the examples.
-fn assert_settings(rt: &impl Abort, gate: &Gate) {
-    assert!(rt; gate.cycles());
-    assert_eq!(rt; gate.bases().get(0), Some("https://review.example.org/"));
+fn copies(rt: HostRuntime) {
+    let wanted = ((true, true), (true, true));
+    assert_found(&rt, settings_twice(rt.alloc()), Some(wanted));
 }
 
 /// The gate of the first worked examples.
@@ -471,6 +501,58 @@ const NOT_NEW: &str =
 const NOT_BY_BOB: &str =
     r#"{"bases":["https://r/"],"reject":{"gerrit":{"approval":[{"a":1,"A":1},{"b":0},{"a":[]},{"username":"Bob"},{"username":"bob"}]}}}"#;
 
+/// The own condition of a patch set, if any; none at all where there is no such item.
+type Answer = Option<Option<Condition>>;
+
+const NO_ITEM: Answer = None;
+
+const NONE: Answer = Some(None);
+
+const REQUIRE_SET: Answer = Some(Some(Condition {
+    side: Side::Require,
+    clause: Clause::CurrentSet,
+}));
+
+const REQUIRE_STATUS: Answer = Some(Some(Condition {
+    side: Side::Require,
+    clause: Clause::StatusIn,
+}));
+
+const REQUIRE_APPROVAL_1: Answer = Some(Some(Condition {
+    side: Side::Require,
+    clause: Clause::Approval(1),
+}));
+
+const REQUIRE_APPROVAL_2: Answer = Some(Some(Condition {
+    side: Side::Require,
+    clause: Clause::Approval(2),
+}));
+
+const REJECT_OPEN: Answer = Some(Some(Condition {
+    side: Side::Reject,
+    clause: Clause::OpenState,
+}));
+
+const REJECT_SET: Answer = Some(Some(Condition {
+    side: Side::Reject,
+    clause: Clause::CurrentSet,
+}));
+
+const REJECT_STATUS: Answer = Some(Some(Condition {
+    side: Side::Reject,
+    clause: Clause::StatusIn,
+}));
+
+const REJECT_APPROVAL_1: Answer = Some(Some(Condition {
+    side: Side::Reject,
+    clause: Clause::Approval(1),
+}));
+
+const REJECT_APPROVAL_5: Answer = Some(Some(Condition {
+    side: Side::Reject,
+    clause: Clause::Approval(5),
+}));
+
 /// What comes to a record of change 101: an operation at a time, or a look at an own condition.
 #[derive(Clone, Copy)]
 enum Step {
@@ -481,69 +563,60 @@ enum Step {
     Abandon(u64),
     Merged(u64),
     /// Under this gate the patch set with this number has this own condition.
-    Own(&'static str, u32, &'static str),
+    Own(&'static str, u32, Answer),
 }
 
 use Step::{Abandon, Merged, Own, PatchSet, Vote};
 
-/// The own condition of a patch set under the gate, as reports print it.
-fn own(alloc: Global, gate: &Gate, state: &State, set: u32) -> Result<String, Fail> {
+/// The own condition of a patch set under the gate.
+fn own(gate: &Gate, state: &State, set: u32) -> Answer {
     let Some(change) = state.change(101) else {
-        return Ok(String::from_str(alloc, "no change")?);
+        return None;
     };
     if !change.has_set(set) {
-        return Ok(String::from_str(alloc, "no item")?);
+        return None;
     }
     let item = Item { change: 101, set };
-    match gate.own(state, item) {
-        Some(condition) => printed(alloc, condition),
-        None => Ok(String::from_str(alloc, "none")?),
-    }
+    Some(gate.own(state, item))
 }
 
-/// The own condition of a patch set under the gate that a text spells, as reports print it.
-fn own_under(alloc: Global, text: &str, state: &State, set: u32) -> Result<String, Fail> {
-    let gate = Gate::read(alloc, text.as_bytes())?;
-    own(alloc, &gate, state, set)
+/// The own condition of a patch set under the gate that a text spells, where memory suffices for the gate.
+fn own_under(alloc: Global, text: &str, state: &State, set: u32) -> Option<Answer> {
+    let gate = Gate::read(alloc, text.as_bytes()).ok()?;
+    Some(own(&gate, state, set))
 }
 
-fn printed(alloc: Global, condition: Condition) -> Result<String, Fail> {
-    let side = match condition.side {
-        Side::Require => "require",
-        Side::Reject => "reject",
-    };
-    match condition.clause {
-        Clause::OpenState => Ok(format!(in alloc; "{side} open")?),
-        Clause::CurrentSet => Ok(format!(in alloc; "{side} current-patchset")?),
-        Clause::StatusIn => Ok(format!(in alloc; "{side} status")?),
-        Clause::Approval(number) => Ok(format!(in alloc; "{side} approval {number}")?),
-    }
-}
-
-/// Plays one step.
-fn play_step(rt: &impl Abort, alloc: Global, state: &mut State, step: Step) -> Result<(), Fail> {
+/// Plays one step: whether it comes to pass.
+fn plays_step(alloc: Global, state: &mut State, step: Step) -> bool {
     match step {
-        PatchSet(time, set) => take(state, time, patch_set(alloc, 101, set, &[], None)?),
+        PatchSet(time, set) => {
+            takes_deed(alloc, state, time, 101, Deed::PatchSet(set, "m\n", None))
+        }
         Vote(time, label, voter, value) => {
-            take(state, time, vote(alloc, 101, 1, label, voter, value)?)
+            takes_deed(alloc, state, time, 101, Deed::Vote(1, label, voter, value))
         }
-        Abandon(time) => take(state, time, Draft::Abandon { change: 101 }),
-        Merged(time) => take(state, time, Draft::Merged { change: 101 }),
-        Own(gate, set, wanted) => {
-            let got = own_under(alloc, gate, state, set)?;
-            assert_eq!(rt; got.as_str(), wanted);
-            Ok(())
-        }
+        Abandon(time) => takes_deed(alloc, state, time, 101, Deed::Abandon),
+        Merged(time) => takes_deed(alloc, state, time, 101, Deed::Merged),
+        Own(gate, set, wanted) => own_under(alloc, gate, state, set) == Some(wanted),
     }
 }
 
-/// Plays the steps, one after the other, in a new record.
-fn play(rt: &impl Abort, alloc: Global, steps: &[Step]) -> Result<(), Fail> {
+/// Plays the steps, one after the other, in a new record: how many, from the first on, come to pass.
+fn played(alloc: Global, steps: &[Step]) -> usize {
     let mut state = State::new(alloc);
+    let mut count = 0usize;
     for step in steps {
-        play_step(rt, alloc, &mut state, *step)?;
+        if !plays_step(alloc, &mut state, *step) {
+            return count;
+        }
+        count = count.saturating_add(1);
     }
-    Ok(())
+    count
+}
+
+/// The steps come to pass, one after the other, in a new record.
+fn play(rt: &impl Abort, alloc: Global, steps: &[Step]) {
+    assert_found(rt, played(alloc, steps), steps.len());
 }
 
 // Two approvals make an item ready; one of them by another voter doesn't, nor do they once another patch set is
@@ -551,20 +624,20 @@ fn play(rt: &impl Abort, alloc: Global, steps: &[Step]) -> Result<(), Fail> {
 const BOTH_APPROVALS: &[Step] = &[
     PatchSet(1, 1),
     Vote(2, "Workflow", "ann", 1),
-    Own(TWO_APPROVALS, 1, "require approval 2"),
+    Own(TWO_APPROVALS, 1, REQUIRE_APPROVAL_2),
     Vote(3, "Verified", "ann", 1),
-    Own(TWO_APPROVALS, 1, "require approval 2"),
+    Own(TWO_APPROVALS, 1, REQUIRE_APPROVAL_2),
     Vote(4, "Verified", "zuul", 1),
-    Own(TWO_APPROVALS, 1, "none"),
+    Own(TWO_APPROVALS, 1, NONE),
     PatchSet(5, 2),
-    Own(TWO_APPROVALS, 1, "require current-patchset"),
-    Own(TWO_APPROVALS, 2, "require approval 1"),
-    Own(TWO_APPROVALS, 3, "no item"),
+    Own(TWO_APPROVALS, 1, REQUIRE_SET),
+    Own(TWO_APPROVALS, 2, REQUIRE_APPROVAL_1),
+    Own(TWO_APPROVALS, 3, NO_ITEM),
 ];
 
 #[test]
-fn both_approvals_on_the_current_patch_set(rt: HostRuntime) -> Result<(), Fail> {
-    play(&rt, rt.alloc(), BOTH_APPROVALS)
+fn both_approvals_on_the_current_patch_set(rt: HostRuntime) {
+    play(&rt, rt.alloc(), BOTH_APPROVALS);
 }
 
 // A rejected score leaves an item out, whoever else votes.
@@ -574,73 +647,73 @@ const A_REJECTED_SCORE: &[Step] = &[
     Vote(3, "Verified", "zuul", 1),
     Vote(4, "Code-Review", "bob", -2),
     Vote(5, "Code-Review", "ann", 2),
-    Own(TWO_APPROVALS, 1, "reject approval 1"),
+    Own(TWO_APPROVALS, 1, REJECT_APPROVAL_1),
 ];
 
 #[test]
-fn a_rejected_score(rt: HostRuntime) -> Result<(), Fail> {
-    play(&rt, rt.alloc(), A_REJECTED_SCORE)
+fn a_rejected_score(rt: HostRuntime) {
+    play(&rt, rt.alloc(), A_REJECTED_SCORE);
 }
 
 // A vote of 0 takes an approval back.
 const A_VOTE_OF_0: &[Step] = &[
     PatchSet(1, 1),
     Vote(5, "Workflow", "ann", 1),
-    Own(TWO_APPROVALS, 1, "require approval 2"),
-    Own(ANY_APPROVAL, 1, "none"),
+    Own(TWO_APPROVALS, 1, REQUIRE_APPROVAL_2),
+    Own(ANY_APPROVAL, 1, NONE),
     Vote(6, "Workflow", "ann", 0),
-    Own(TWO_APPROVALS, 1, "require approval 1"),
-    Own(ANY_APPROVAL, 1, "require approval 1"),
+    Own(TWO_APPROVALS, 1, REQUIRE_APPROVAL_1),
+    Own(ANY_APPROVAL, 1, REQUIRE_APPROVAL_1),
 ];
 
 #[test]
-fn a_vote_of_0(rt: HostRuntime) -> Result<(), Fail> {
-    play(&rt, rt.alloc(), A_VOTE_OF_0)
+fn a_vote_of_0(rt: HostRuntime) {
+    play(&rt, rt.alloc(), A_VOTE_OF_0);
 }
 
 // The empty approval takes any score; a status counts before it, and so does what is required before what is rejected.
 const ANY_SCORE_AND_A_STATUS: &[Step] = &[
     PatchSet(1, 1),
-    Own(ANY_APPROVAL, 1, "require approval 1"),
+    Own(ANY_APPROVAL, 1, REQUIRE_APPROVAL_1),
     Vote(2, "x", "bob", -1),
-    Own(ANY_APPROVAL, 1, "none"),
-    Own(NOT_CLOSED, 1, "none"),
+    Own(ANY_APPROVAL, 1, NONE),
+    Own(NOT_CLOSED, 1, NONE),
     Abandon(3),
-    Own(ANY_APPROVAL, 1, "require status"),
-    Own(NOT_CLOSED, 1, "reject open"),
+    Own(ANY_APPROVAL, 1, REQUIRE_STATUS),
+    Own(NOT_CLOSED, 1, REJECT_OPEN),
 ];
 
 #[test]
-fn any_score_and_a_status(rt: HostRuntime) -> Result<(), Fail> {
-    play(&rt, rt.alloc(), ANY_SCORE_AND_A_STATUS)
+fn any_score_and_a_status(rt: HostRuntime) {
+    play(&rt, rt.alloc(), ANY_SCORE_AND_A_STATUS);
 }
 
 // The current patch set counts before the status, and votes on another one don't count.
 const WHAT_IS_REJECTED_IN_ITS_ORDER: &[Step] = &[
     PatchSet(1, 1),
-    Own(NOT_NEW, 1, "reject current-patchset"),
+    Own(NOT_NEW, 1, REJECT_SET),
     PatchSet(4, 2),
-    Own(NOT_NEW, 1, "reject status"),
+    Own(NOT_NEW, 1, REJECT_STATUS),
     Merged(5),
-    Own(NOT_NEW, 1, "none"),
-    Own(NOT_NEW, 2, "reject current-patchset"),
+    Own(NOT_NEW, 1, NONE),
+    Own(NOT_NEW, 2, REJECT_SET),
 ];
 
 #[test]
-fn what_is_rejected_in_its_order(rt: HostRuntime) -> Result<(), Fail> {
-    play(&rt, rt.alloc(), WHAT_IS_REJECTED_IN_ITS_ORDER)
+fn what_is_rejected_in_its_order(rt: HostRuntime) {
+    play(&rt, rt.alloc(), WHAT_IS_REJECTED_IN_ITS_ORDER);
 }
 
 // Two label keys, a value of 0, an empty list and another spelling of the voter match nothing.
 const PATTERNS_THAT_MATCH_NOTHING: &[Step] = &[
     PatchSet(1, 1),
     Vote(2, "a", "bob", 1),
-    Own(NOT_BY_BOB, 1, "reject approval 5"),
+    Own(NOT_BY_BOB, 1, REJECT_APPROVAL_5),
     PatchSet(3, 2),
-    Own(NOT_BY_BOB, 1, "none"),
+    Own(NOT_BY_BOB, 1, NONE),
 ];
 
 #[test]
-fn patterns_that_match_nothing(rt: HostRuntime) -> Result<(), Fail> {
-    play(&rt, rt.alloc(), PATTERNS_THAT_MATCH_NOTHING)
+fn patterns_that_match_nothing(rt: HostRuntime) {
+    play(&rt, rt.alloc(), PATTERNS_THAT_MATCH_NOTHING);
 }

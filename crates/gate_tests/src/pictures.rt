@@ -1,13 +1,13 @@
 //! Pictures of small records, drawn by hand.
 
-use super::record::{patch_set, take, vote};
+use super::asserts::assert_found;
+use super::record::{Patch, is_text, takes_deed, takes_patch};
+use deeds::Deed;
 use gate_rules::Gate;
 use graph_text::graph_text;
-use review_ops::Draft;
 use state_core::State;
 use std::alloc::Global;
 use std::process::Abort;
-use std::test::Fail;
 
 /// A gate that wants open changes and no vote of -2.
 const GATE: &str =
@@ -26,33 +26,47 @@ enum Step {
 
 use Step::{Merged, PatchSet, Rejected};
 
-/// The draft of a step. The voter's name has a quote and a backslash.
-fn draft_of(alloc: Global, step: Step) -> Result<Draft, Fail> {
+/// Takes a step in with this time. The voter's name has a quote and a backslash.
+fn takes_step(alloc: Global, state: &mut State, time: u64, step: Step) -> bool {
     match step {
-        PatchSet(change, set, needs) => patch_set(alloc, change, set, needs, None),
-        Rejected(change, set) => vote(alloc, change, set, "code-review", "a\"b\\", -2),
-        Merged(change) => Ok(Draft::Merged { change }),
+        PatchSet(change, set, needs) => {
+            let parent = None;
+            let patch = Patch {
+                change,
+                set,
+                needs,
+                parent,
+            };
+            takes_patch(alloc, state, time, patch)
+        }
+        Rejected(change, set) => {
+            let vote = Deed::Vote(set, "code-review", "a\"b\\", -2);
+            takes_deed(alloc, state, time, change, vote)
+        }
+        Merged(change) => takes_deed(alloc, state, time, change, Deed::Merged),
     }
 }
 
-/// The picture of these steps around a change is this text.
-fn assert_text(
-    rt: &impl Abort,
-    alloc: Global,
-    steps: &[Step],
-    around: Option<u32>,
-    text: &str,
-) -> Result<(), Fail> {
+/// The state of steps, one after the other, where memory suffices for it.
+fn state_of(alloc: Global, steps: &[Step]) -> Option<State> {
     let mut state = State::new(alloc);
-    let mut time = 0;
-    for step in steps {
-        time = u64::saturating_add(time, 1);
-        take(&mut state, time, draft_of(alloc, *step)?)?;
+    let mut are_taken = true;
+    for (time, step) in (1u64..).zip(steps) {
+        are_taken = takes_step(alloc, &mut state, time, *step) && are_taken;
     }
-    let gate = Gate::read(alloc, GATE.as_bytes())?;
-    let drawn = graph_text(alloc, &gate, &state, around)?;
-    assert_eq!(rt; drawn.as_str(), text);
-    Ok(())
+    if are_taken { Some(state) } else { None }
+}
+
+/// The picture of a state around a change, where memory suffices for it.
+fn drawn(alloc: Global, state: &State, around: Option<u32>) -> Option<String> {
+    let gate = Gate::read(alloc, GATE.as_bytes()).ok()?;
+    graph_text(alloc, &gate, state, around).ok()
+}
+
+/// The picture of these steps around a change is this text.
+fn assert_text(rt: &impl Abort, alloc: Global, steps: &[Step], around: Option<u32>, text: &str) {
+    let picture = state_of(alloc, steps).and_then(|state| drawn(alloc, &state, around));
+    assert_found(rt, is_text(picture, text), true);
 }
 
 /// Change 1 is merged, 2 waits for it, 3 is rejected, 4 waits for 2 and 3, 5 and 6 for each other, 7 for 6 and an
@@ -98,8 +112,8 @@ const WHOLE: &str = r#"digraph reviewgate {
 "#;
 
 #[test]
-fn a_record_is_drawn(rt: HostRuntime) -> Result<(), Fail> {
-    assert_text(&rt, rt.alloc(), RECORD.as_slice(), None, WHOLE)
+fn a_record_is_drawn(rt: HostRuntime) {
+    assert_text(&rt, rt.alloc(), RECORD.as_slice(), None, WHOLE);
 }
 
 /// What leads to change 2. What else these items wait for isn't drawn.
@@ -132,17 +146,17 @@ const AROUND_7: &str = r#"digraph reviewgate {
 "#;
 
 #[test]
-fn what_is_near_a_change_is_drawn(rt: HostRuntime) -> Result<(), Fail> {
-    assert_text(&rt, rt.alloc(), RECORD.as_slice(), Some(2), AROUND_2)?;
-    assert_text(&rt, rt.alloc(), RECORD.as_slice(), Some(7), AROUND_7)
+fn what_is_near_a_change_is_drawn(rt: HostRuntime) {
+    assert_text(&rt, rt.alloc(), RECORD.as_slice(), Some(2), AROUND_2);
+    assert_text(&rt, rt.alloc(), RECORD.as_slice(), Some(7), AROUND_7);
 }
 
 /// A picture of nothing.
 const NOTHING: &str = "digraph reviewgate {\n  node [shape=box];\n}\n";
 
 #[test]
-fn nothing_is_drawn_of_no_item(rt: HostRuntime) -> Result<(), Fail> {
-    assert_text(&rt, rt.alloc(), &[], None, NOTHING)?;
-    assert_text(&rt, rt.alloc(), RECORD.as_slice(), Some(1), NOTHING)?;
-    assert_text(&rt, rt.alloc(), RECORD.as_slice(), Some(9), NOTHING)
+fn nothing_is_drawn_of_no_item(rt: HostRuntime) {
+    assert_text(&rt, rt.alloc(), &[], None, NOTHING);
+    assert_text(&rt, rt.alloc(), RECORD.as_slice(), Some(1), NOTHING);
+    assert_text(&rt, rt.alloc(), RECORD.as_slice(), Some(9), NOTHING);
 }

@@ -1,59 +1,69 @@
-//! What records of tests are made of.
+//! What records of tests are made of. What a test lacks where memory is refused is none, or isn't so.
 
+use deeds::{Deed, op_of};
 use review_ops::{Body, Draft, Op, Stamp};
 use state_core::State;
 use std::alloc::Global;
-use std::test::Fail;
 
-/// Takes a draft in as an operation of site 1 under start 1, with this time as its sequence number, too.
-pub fn take(state: &mut State, time: u64, draft: Draft) -> Result<(), Fail> {
-    let stamp = Stamp::new(time, 1, 1, time).ok_or("a stamp")?;
-    state.take(&Op::new(stamp, Body::checked(draft)?))?;
-    Ok(())
+/// Whether a state takes an operation, where there is one.
+fn takes(state: &mut State, op: Option<Op>) -> bool {
+    match op {
+        Some(op) => state.take(&op).is_ok(),
+        None => false,
+    }
+}
+
+/// Takes a deed in as an operation of site 1 under start 1, with this time as its sequence number, too: whether memory
+/// suffices for it.
+pub fn takes_deed(alloc: Global, state: &mut State, time: u64, change: u32, deed: Deed) -> bool {
+    takes(state, op_of(alloc, time, change, deed))
 }
 
 /// A message with a footer for each of these changes, under the base `https://r/`.
-fn message_of(alloc: Global, needs: &[u32]) -> Result<String, Fail> {
-    let mut message = String::from_str(alloc, "m\n")?;
+fn message_of(alloc: Global, needs: &[u32]) -> Option<String> {
+    let mut message = String::from_str(alloc, "m\n").ok()?;
     for need in needs {
-        write!(message, "Depends-On: https://r/{need}\n")?;
+        write!(message, "Depends-On: https://r/{need}\n").ok()?;
     }
-    Ok(message)
+    Some(message)
 }
 
-/// A patch set whose message has a footer for each of these changes.
-pub fn patch_set(
-    alloc: Global,
-    change: u32,
-    set: u32,
-    needs: &[u32],
-    parent: Option<u32>,
-) -> Result<Draft, Fail> {
-    let message = message_of(alloc, needs)?;
-    Ok(Draft::PatchSet {
-        change,
-        set,
+/// A patch set: its change, its number, the changes for which its message has a footer each, and its parent.
+#[derive(Clone, Copy)]
+pub struct Patch {
+    pub change: u32,
+    pub set: u32,
+    pub needs: &'static [u32],
+    pub parent: Option<u32>,
+}
+
+/// The draft of a patch set.
+fn patch_draft(alloc: Global, patch: Patch) -> Option<Draft> {
+    let message = message_of(alloc, patch.needs)?;
+    Some(Draft::PatchSet {
+        change: patch.change,
+        set: patch.set,
         message,
-        parent,
+        parent: patch.parent,
     })
 }
 
-/// A vote on a patch set of a change.
-pub fn vote(
-    alloc: Global,
-    change: u32,
-    set: u32,
-    label: &str,
-    voter: &str,
-    value: i8,
-) -> Result<Draft, Fail> {
-    let label = String::from_str(alloc, label)?;
-    let voter = String::from_str(alloc, voter)?;
-    Ok(Draft::Vote {
-        change,
-        set,
-        label,
-        voter,
-        value,
-    })
+/// The operation of a patch set with this time.
+fn patch_op(alloc: Global, time: u64, patch: Patch) -> Option<Op> {
+    let stamp = Stamp::new(time, 1, 1, time)?;
+    let body = Body::checked(patch_draft(alloc, patch)?).ok()?;
+    Some(Op::new(stamp, body))
+}
+
+/// Takes a patch set in as such an operation: whether memory suffices for it.
+pub fn takes_patch(alloc: Global, state: &mut State, time: u64, patch: Patch) -> bool {
+    takes(state, patch_op(alloc, time, patch))
+}
+
+/// Whether there is a text, and it is this one.
+pub fn is_text(text: Option<String>, wanted: &str) -> bool {
+    match text {
+        Some(text) => text.as_str() == wanted,
+        None => false,
+    }
 }
