@@ -4,6 +4,7 @@
 //!
 //! ```
 //! use running_sites::{NoTurn, TAKE, ending, listening, one_session, run_one, talk};
+//! use std::thread;
 //! let (listener, port) = listening(&rt)?;
 //! let setup = one_session(rt.alloc(), 1)?;
 //! let stop = Stop::new();
