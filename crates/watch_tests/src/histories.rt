@@ -1,16 +1,16 @@
 //! Histories of a record: after each part of one the verdicts that are kept up to date are those that are wanted, and
 //! those of the whole record.
 
-ghost use Rattle.std.specs.Prelude.{OnOk};
-ghost use Rattle.watch_core.specs.Watching.{Extends, Precedes};
+ghost use Rattle.std.specs.Prelude.{IfSome, OnSome};
+ghost use Rattle.watch_core.specs.Watching.{Extends, FollowsJournal, Precedes};
 
+use super::asserts::assert_found;
+use deeds::{Deed, draft_of};
 use gate_rules::Gate;
 use ready_core::{Verdicts, evaluate};
 use replica_core::Replica;
 use review_ops::{Body, Draft, Op, Stamp};
 use std::alloc::Global;
-use std::process::Abort;
-use std::test::Fail;
 use verdict_lines::lines_of;
 use watch_core::{
     Evaluator, GateJudge, Judge, untouched_changes_stay, verdicts_are_brought_up,
@@ -48,115 +48,176 @@ pub(super) struct Part {
     asked: u64,
 }
 
-/// A message that has a footer for each of these changes.
-pub(super) fn footers(alloc: Global, needs: &[u32]) -> Result<String, Fail> {
+/// A message that has a footer for each of these changes, where memory suffices for it.
+fn footers(alloc: Global, needs: &[u32]) -> Option<String> {
     let mut message = String::new(alloc);
     for need in needs {
-        write!(message, "Depends-On: https://review.example.org/{need}\n")?;
+        write!(message, "Depends-On: https://review.example.org/{need}\n").ok()?;
     }
-    Ok(message)
+    Some(message)
 }
 
-fn draft_of(alloc: Global, step: Step) -> Result<Draft, Fail> {
+/// A patch set of a change whose message has a footer for each of these changes, where memory suffices for it.
+pub(super) fn patch_set(
+    alloc: Global,
+    change: u32,
+    set: u32,
+    needs: &[u32],
+    parent: Option<u32>,
+) -> Option<Draft> {
+    let message = footers(alloc, needs)?;
+    Some(Draft::PatchSet {
+        change,
+        set,
+        message,
+        parent,
+    })
+}
+
+/// The draft of a step, where memory suffices for it.
+fn step_draft(alloc: Global, step: Step) -> Option<Draft> {
     match step {
-        PatchSet(change, set, needs, parent) => Ok(Draft::PatchSet {
-            change,
-            set,
-            message: footers(alloc, needs)?,
-            parent,
-        }),
-        Vote(change, label, voter, value) => Ok(Draft::Vote {
-            change,
-            set: 1,
-            label: String::from_str(alloc, label)?,
-            voter: String::from_str(alloc, voter)?,
-            value,
-        }),
-        Merged(change) => Ok(Draft::Merged { change }),
-        Abandon(change) => Ok(Draft::Abandon { change }),
-        Restore(change) => Ok(Draft::Restore { change }),
+        PatchSet(change, set, needs, parent) => patch_set(alloc, change, set, needs, parent),
+        Vote(change, label, voter, value) => {
+            draft_of(alloc, change, Deed::Vote(1, label, voter, value))
+        }
+        Merged(change) => draft_of(alloc, change, Deed::Merged),
+        Abandon(change) => draft_of(alloc, change, Deed::Abandon),
+        Restore(change) => draft_of(alloc, change, Deed::Restore),
     }
 }
 
-/// Takes in the operation of a draft, whose time is one more than how many came before it.
-pub(super) fn take(replica: &mut Replica, draft: Draft) -> Result<(), Fail>
-    ensures { OnOk result (Extends replica.old replica.new) }
+/// The operation of a draft under a time that is its sequence number, too, where both are good.
+fn op_at(time: u64, draft: Option<Draft>) -> Option<Op> {
+    let stamp = Stamp::new(time, 1, 1, time)?;
+    let body = Body::checked(draft?).ok()?;
+    Some(Op::new(stamp, body))
+}
+
+/// Takes in the operation of a draft, whose time is one more than how many came before it, where memory suffices for
+/// it.
+pub(super) fn take(replica: &mut Replica, draft: Option<Draft>) -> Option<()>
+    ensures { OnSome result (Extends replica.old replica.new) }
 {
     let time = (replica.arrivals() as u64).saturating_add(1);
-    let stamp = Stamp::new(time, 1, 1, time).ok_or("a stamp")?;
-    replica.take(Op::new(stamp, Body::checked(draft)?))?;
-    Ok(())
+    let op = op_at(time, draft)?;
+    replica.take(op).ok()?;
+    Some(())
 }
 
-/// Takes in what comes.
-pub(super) fn take_all(alloc: Global, replica: &mut Replica, steps: &[Step]) -> Result<(), Fail>
-    ensures { OnOk result (Extends replica.old replica.new) }
+/// Takes in what comes, where memory suffices for it.
+pub(super) fn take_all(alloc: Global, replica: &mut Replica, steps: &[Step]) -> Option<()>
+    ensures { OnSome result (Extends replica.old replica.new) }
 {
     for step in steps {
-        take(replica, draft_of(alloc, *step)?)?;
+        take(replica, step_draft(alloc, *step))?;
     }
-    Ok(())
+    Some(())
 }
 
-/// The evaluator has the verdicts of the whole record, and they are these.
-fn assert_verdicts(
-    rt: &impl Abort,
-    alloc: Global,
-    evaluator: &Evaluator,
-    whole: &Verdicts,
-    wanted: &str,
-) -> Result<(), Fail> {
-    let verdicts = evaluator.verdicts().ok_or("verdicts")?;
-    let got = lines_of(alloc, verdicts)?;
-    assert_eq!(rt; got.as_str(), wanted);
-    let of_whole = lines_of(alloc, whole)?;
-    assert_eq!(rt; got.as_str(), of_whole.as_str());
-    Ok(())
-}
-
-/// Brings the verdicts up to date, for which the judge is asked so often.
-fn assert_update(
-    rt: &impl Abort,
-    evaluator: &mut Evaluator,
-    replica: &Replica,
-    asked: u64,
-) -> Result<(), Fail>
+/// Brings the verdicts up to date: how often the judge was asked for them, where memory suffices for them.
+fn update(evaluator: &mut Evaluator, replica: &Replica) -> Option<u64>
     requires { Precedes evaluator.old replica.now }
-    ensures { OnOk result (Precedes evaluator.new replica.now) }
+    ensures { OnSome result (Precedes evaluator.new replica.now) }
 {
     let mut judge = GateJudge::new();
-    evaluator.update_with(replica, &mut judge)?;
-    assert_eq!(rt; judge.asked(), asked);
-    Ok(())
+    evaluator.update_with(replica, &mut judge).ok()?;
+    Some(judge.asked())
 }
 
-/// Plays a part of a history.
+/// The verdicts as a text, where there are any and memory suffices for it.
+pub(super) fn text_of(alloc: Global, verdicts: Option<&Verdicts>) -> Option<String> {
+    lines_of(alloc, verdicts?).ok()
+}
+
+/// The verdicts of the whole record as a text, where memory suffices for them.
+fn whole_text(alloc: Global, gate: &Gate, replica: &Replica) -> Option<String> {
+    let whole = evaluate(alloc, replica.state(), gate).ok()?;
+    text_of(alloc, Some(&whole))
+}
+
+/// Whether there is a text, and it is this one.
+fn is_text(text: Option<String>, wanted: &str) -> bool {
+    match text {
+        Some(text) => text.as_str() == wanted,
+        None => false,
+    }
+}
+
+/// Whether the evaluator has the verdicts of the whole record, and they are these.
+fn are_verdicts(
+    alloc: Global,
+    gate: &Gate,
+    evaluator: &Evaluator,
+    replica: &Replica,
+    wanted: &str,
+) -> bool {
+    let kept = text_of(alloc, evaluator.verdicts());
+    let whole = whole_text(alloc, gate, replica);
+    is_text(kept, wanted) && is_text(whole, wanted)
+}
+
+/// Plays a part of a history, where all comes to pass that it says.
 fn play_part(
-    rt: &impl Abort,
     alloc: Global,
     gate: &Gate,
     evaluator: &mut Evaluator,
     replica: &mut Replica,
     part: Part,
-) -> Result<(), Fail>
+) -> Option<()>
     requires { Precedes evaluator.old replica.old }
-    ensures { OnOk result (Precedes evaluator.new replica.new) }
+    ensures { OnSome result (Precedes evaluator.new replica.new) }
 {
     take_all(alloc, replica, part.steps)?;
-    assert_update(rt, evaluator, replica, part.asked)?;
-    let whole = evaluate(alloc, replica.state(), gate)?;
-    assert_verdicts(rt, alloc, evaluator, &whole, part.wanted)
+    let asked = update(evaluator, replica)?;
+    if are_verdicts(alloc, gate, evaluator, replica, part.wanted) && asked == part.asked {
+        Some(())
+    } else {
+        None
+    }
 }
 
-/// Plays a history from an empty record on.
-fn play(rt: &impl Abort, alloc: Global, gate: &str, parts: &[Part]) -> Result<(), Fail> {
-    let gate = Gate::read(alloc, gate.as_bytes())?;
-    let mut replica = Replica::new(alloc);
-    let mut evaluator = Evaluator::fresh(gate.copy()?, &replica)?;
+/// Plays the parts of a history: how many of them, from the first on, come to pass.
+fn play_parts(
+    alloc: Global,
+    gate: &Gate,
+    evaluator: &mut Evaluator,
+    replica: &mut Replica,
+    parts: &[Part],
+) -> usize
+    requires { Precedes evaluator.old replica.old }
+{
+    let mut count = 0usize;
     for part in parts {
-        play_part(rt, alloc, &gate, &mut evaluator, &mut replica, *part)?;
+        if play_part(alloc, gate, evaluator, replica, *part).is_none() {
+            return count;
+        }
+        count = count.saturating_add(1);
     }
-    Ok(())
+    count
+}
+
+/// An evaluator with the verdicts of a gate on a replica, where memory suffices for it.
+pub(super) fn fresh(gate: &Gate, replica: &Replica) -> Option<Evaluator>
+    ensures { IfSome result (λ evaluator. FollowsJournal evaluator replica.now) }
+{
+    let copied = gate.copy().ok()?;
+    Evaluator::fresh(copied, replica).ok()
+}
+
+/// Plays a history under a gate from an empty record on: how many of its parts, from the first on, come to pass.
+fn play_under(alloc: Global, gate: &Gate, parts: &[Part]) -> usize {
+    let mut replica = Replica::new(alloc);
+    match fresh(gate, &replica) {
+        Some(mut evaluator) => play_parts(alloc, gate, &mut evaluator, &mut replica, parts),
+        None => 0,
+    }
+}
+
+/// The same under the gate that a text spells, where memory suffices for it.
+fn play(alloc: Global, gate: &str, parts: &[Part]) -> Option<usize> {
+    let gate = Gate::read(alloc, gate.as_bytes()).ok()?;
+    Some(play_under(alloc, &gate, parts))
 }
 
 // A dependency that was unknown comes, is merged, and what waited for it loses a vote. Where nothing comes nobody is
@@ -196,8 +257,12 @@ pub(super) const A_DEPENDENCY_COMES_AND_GOES: &[Part] = &[
 ];
 
 #[test]
-fn a_dependency_comes_and_goes(rt: HostRuntime) -> Result<(), Fail> {
-    play(&rt, rt.alloc(), GATE, A_DEPENDENCY_COMES_AND_GOES)
+fn a_dependency_comes_and_goes(rt: HostRuntime) {
+    assert_found(
+        &rt,
+        play(rt.alloc(), GATE, A_DEPENDENCY_COMES_AND_GOES),
+        Some(A_DEPENDENCY_COMES_AND_GOES.len()),
+    );
 }
 
 // A cycle that waits for another change goes in once that is approved, for which that change alone is asked.
@@ -224,8 +289,12 @@ const A_CYCLE_GOES_IN: &[Part] = &[
 ];
 
 #[test]
-fn a_cycle_goes_in(rt: HostRuntime) -> Result<(), Fail> {
-    play(&rt, rt.alloc(), CYCLES, A_CYCLE_GOES_IN)
+fn a_cycle_goes_in(rt: HostRuntime) {
+    assert_found(
+        &rt,
+        play(rt.alloc(), CYCLES, A_CYCLE_GOES_IN),
+        Some(A_CYCLE_GOES_IN.len()),
+    );
 }
 
 // A newer patch set closes a cycle, one more opens it; a change is abandoned and restored.
@@ -260,8 +329,12 @@ const A_CYCLE_CLOSES_AND_OPENS: &[Part] = &[
 ];
 
 #[test]
-fn a_cycle_closes_and_opens(rt: HostRuntime) -> Result<(), Fail> {
-    play(&rt, rt.alloc(), GATE, A_CYCLE_CLOSES_AND_OPENS)
+fn a_cycle_closes_and_opens(rt: HostRuntime) {
+    assert_found(
+        &rt,
+        play(rt.alloc(), GATE, A_CYCLE_CLOSES_AND_OPENS),
+        Some(A_CYCLE_CLOSES_AND_OPENS.len()),
+    );
 }
 
 // The laws are there, and calling them does nothing.

@@ -1,16 +1,16 @@
 //! Random histories: the verdicts that are kept up to date beside those of an evaluation of the whole record.
 
-ghost use Rattle.std.specs.Prelude.{◌<◌, ◌^◌, OnOk};
+ghost use Rattle.std.specs.Prelude.{◌<◌, ◌^◌, OnSome};
 ghost use Rattle.watch_core.specs.Watching.{Extends, Precedes};
 
-use super::histories::{CYCLES, GATE, footers, take};
+use super::asserts::assert_found;
+use super::histories::{CYCLES, GATE, fresh, patch_set, take};
+use deeds::{Deed, draft_of};
 use gate_rules::Gate;
-use ready_core::evaluate;
+use ready_core::{Verdicts, evaluate};
 use replica_core::Replica;
 use review_ops::Draft;
 use std::alloc::Global;
-use std::process::Abort;
-use std::test::Fail;
 use watch_core::Evaluator;
 
 /// How many histories are played.
@@ -46,23 +46,19 @@ impl Numbers {
 }
 
 /// A first or second patch set of a change that needs up to two others, and may have a parent.
-fn patch_set(alloc: Global, numbers: &mut Numbers, change: u32) -> Result<Draft, Fail> {
+fn set_of(alloc: Global, numbers: &mut Numbers, change: u32) -> Option<Draft> {
     let others = [numbers.change(), numbers.change()];
     let needs = numbers.below(3) as usize;
     let parent = match numbers.below(4) {
         0 => Some(numbers.change()),
         _ => None,
     };
-    Ok(Draft::PatchSet {
-        change,
-        set: 1 + numbers.below(8) / 6,
-        message: footers(alloc, &others[..needs])?,
-        parent,
-    })
+    let set = 1 + numbers.below(8) / 6;
+    patch_set(alloc, change, set, &others[..needs], parent)
 }
 
-/// One of the votes that the gates look at, most of them for the change.
-fn vote(alloc: Global, numbers: &mut Numbers, change: u32) -> Result<Draft, Fail> {
+/// One of the votes that the gates look at.
+fn vote(numbers: &mut Numbers) -> Deed {
     let (label, voter) = match numbers.below(2) {
         0 => ("Workflow", "ann"),
         _ => ("Verified", "zuul"),
@@ -71,86 +67,109 @@ fn vote(alloc: Global, numbers: &mut Numbers, change: u32) -> Result<Draft, Fail
         0 => 0,
         _ => 1,
     };
-    Ok(Draft::Vote {
-        change,
-        set: 1 + numbers.below(8) / 6,
-        label: String::from_str(alloc, label)?,
-        voter: String::from_str(alloc, voter)?,
-        value,
-    })
+    Deed::Vote(1 + numbers.below(8) / 6, label, voter, value)
 }
 
-fn draft_of(alloc: Global, numbers: &mut Numbers) -> Result<Draft, Fail> {
+/// The draft of a patch set, most of the rest votes.
+fn draft(alloc: Global, numbers: &mut Numbers) -> Option<Draft> {
     let change = numbers.change();
     match numbers.below(16) {
-        0 => Ok(Draft::Merged { change }),
-        1 => Ok(Draft::Abandon { change }),
-        2 | 3 => Ok(Draft::Restore { change }),
-        4..=7 => patch_set(alloc, numbers, change),
-        _ => vote(alloc, numbers, change),
+        0 => draft_of(alloc, change, Deed::Merged),
+        1 => draft_of(alloc, change, Deed::Abandon),
+        2 | 3 => draft_of(alloc, change, Deed::Restore),
+        4..=7 => set_of(alloc, numbers, change),
+        _ => draft_of(alloc, change, vote(numbers)),
     }
 }
 
-/// Takes in up to seven operations.
-fn take_some(alloc: Global, replica: &mut Replica, numbers: &mut Numbers) -> Result<(), Fail>
-    ensures { OnOk result (Extends replica.old replica.new) }
+/// Takes in up to seven operations, where memory suffices for them.
+fn take_some(alloc: Global, replica: &mut Replica, numbers: &mut Numbers) -> Option<()>
+    ensures { OnSome result (Extends replica.old replica.new) }
 {
     for _taken in 0..numbers.below(8) {
-        take(replica, draft_of(alloc, numbers)?)?;
+        take(replica, draft(alloc, numbers))?;
     }
-    Ok(())
+    Some(())
 }
 
-/// The evaluator has the verdicts of the record.
-fn assert_whole(
-    rt: &impl Abort,
+/// Whether two have the same verdicts.
+fn are_same(verdicts: &Verdicts, whole: &Verdicts) -> bool {
+    verdicts.ready() == whole.ready() && verdicts.out() == whole.out()
+}
+
+/// Whether these are the verdicts of the record, where memory suffices for those.
+fn are_whole(
     alloc: Global,
     gate: &Gate,
-    evaluator: &Evaluator,
+    verdicts: Option<&Verdicts>,
     replica: &Replica,
-) -> Result<(), Fail> {
-    let verdicts = evaluator.verdicts().ok_or("verdicts")?;
-    let whole = evaluate(alloc, replica.state(), gate)?;
-    assert!(rt; verdicts.ready() == whole.ready());
-    assert!(rt; verdicts.out() == whole.out());
-    Ok(())
+) -> Option<bool> {
+    let verdicts = verdicts?;
+    let whole = evaluate(alloc, replica.state(), gate).ok()?;
+    Some(are_same(verdicts, &whole))
 }
 
-/// Plays a part of a history.
+/// Plays a part of a history, where the evaluator then has the verdicts of the record.
 fn play_part(
-    rt: &impl Abort,
     alloc: Global,
     gate: &Gate,
     evaluator: &mut Evaluator,
     replica: &mut Replica,
     numbers: &mut Numbers,
-) -> Result<(), Fail>
+) -> Option<()>
     requires { Precedes evaluator.old replica.old }
-    ensures { OnOk result (Precedes evaluator.new replica.new) }
+    ensures { OnSome result (Precedes evaluator.new replica.new) }
 {
     take_some(alloc, replica, numbers)?;
-    evaluator.update(replica)?;
-    assert_whole(rt, alloc, gate, evaluator, replica)
+    evaluator.update(replica).ok()?;
+    if are_whole(alloc, gate, evaluator.verdicts(), replica) == Some(true) {
+        Some(())
+    } else {
+        None
+    }
 }
 
-/// Plays one history.
-fn play(rt: &impl Abort, alloc: Global, gate: &Gate, seed: u64) -> Result<(), Fail> {
+/// Plays a history, where the evaluator has the verdicts of the record after each part.
+fn play_parts(
+    alloc: Global,
+    gate: &Gate,
+    evaluator: &mut Evaluator,
+    replica: &mut Replica,
+    seed: u64,
+) -> Option<()>
+    requires { Precedes evaluator.old replica.old }
+{
     let mut numbers = Numbers { last: seed };
-    let mut replica = Replica::new(alloc);
-    let mut evaluator = Evaluator::fresh(gate.copy()?, &replica)?;
     for _update in 0..UPDATES {
-        play_part(rt, alloc, gate, &mut evaluator, &mut replica, &mut numbers)?;
+        play_part(alloc, gate, evaluator, replica, &mut numbers)?;
     }
-    Ok(())
+    Some(())
+}
+
+/// Plays one history from an empty record on, where the evaluator has the verdicts of the record after each part.
+fn play(alloc: Global, gate: &Gate, seed: u64) -> Option<()> {
+    let mut replica = Replica::new(alloc);
+    match fresh(gate, &replica) {
+        Some(mut evaluator) => play_parts(alloc, gate, &mut evaluator, &mut replica, seed),
+        None => None,
+    }
+}
+
+/// How many histories, from the first on, are played with the verdicts of the record after each part.
+fn played(alloc: Global, gate: &str) -> Option<u64> {
+    let gate = Gate::read(alloc, gate.as_bytes()).ok()?;
+    let mut count = 0;
+    for seed in 0..HISTORIES {
+        if play(alloc, &gate, seed).is_none() {
+            break;
+        }
+        count = seed + 1;
+    }
+    Some(count)
 }
 
 #[test]
-fn updates_give_what_an_evaluation_does(rt: HostRuntime) -> Result<(), Fail> {
-    let strict = Gate::read(rt.alloc(), GATE.as_bytes())?;
-    let cycles = Gate::read(rt.alloc(), CYCLES.as_bytes())?;
-    for seed in 0..HISTORIES {
-        play(&rt, rt.alloc(), &strict, seed)?;
-        play(&rt, rt.alloc(), &cycles, seed)?;
-    }
-    Ok(())
+fn updates_give_what_an_evaluation_does(rt: HostRuntime) {
+    assert_found(&rt, played(rt.alloc(), GATE), Some(HISTORIES));
+    assert_found(&rt, played(rt.alloc(), CYCLES), Some(HISTORIES));
 }

@@ -2,15 +2,16 @@
 //! record. An evaluator takes its memory from the system, which refuses none in the gate; `bench/refuse updates`
 //! refuses each request in turn.
 
-ghost use Rattle.watch_core.specs.Watching.{Precedes};
+ghost use Rattle.std.specs.Prelude.{IfSome};
+ghost use Rattle.watch_core.specs.Watching.{FollowsJournal, Precedes};
 
-use super::histories::{A_DEPENDENCY_COMES_AND_GOES, GATE, take_all};
+use super::histories::{A_DEPENDENCY_COMES_AND_GOES, GATE, take_all, text_of};
 use gate_rules::Gate;
+use lattice_core::NoMemory;
 use replica_core::Replica;
 use std::alloc::Global;
 use std::process::Abort;
 use std::test::Fail;
-use verdict_lines::lines_of;
 use watch_core::Evaluator;
 
 /// Brings the verdicts up to date. Where memory is refused there are none, and the update is made again. Once they are,
@@ -25,20 +26,41 @@ fn update(rt: &impl Abort, evaluator: &mut Evaluator, replica: &Replica)
     assert!(rt; evaluator.update(replica).is_ok());
 }
 
+/// An evaluator that follows a record whose only item waits for an unknown change, where memory suffices for both.
+fn started(alloc: Global, replica: &mut Replica) -> Option<Evaluator>
+    ensures { IfSome result (λ evaluator. FollowsJournal evaluator replica.new) }
+{
+    let gate = Gate::read(alloc, GATE.as_bytes()).ok()?;
+    take_all(alloc, replica, A_DEPENDENCY_COMES_AND_GOES[0].steps)?;
+    Evaluator::fresh(gate, replica).ok()
+}
+
+/// What an evaluator says once the change has come to its record, where memory suffices for that and for the text.
+fn updated(
+    rt: &impl Abort,
+    alloc: Global,
+    evaluator: &mut Evaluator,
+    replica: &mut Replica,
+) -> Option<String>
+    requires { Precedes evaluator.old replica.old }
+{
+    take_all(alloc, replica, A_DEPENDENCY_COMES_AND_GOES[1].steps)?;
+    update(rt, evaluator, replica);
+    text_of(alloc, evaluator.verdicts())
+}
+
 /// What an evaluator says of a record whose only item waits for an unknown change, which comes then.
-fn followed(rt: &impl Abort, alloc: Global) -> Result<String, Fail> {
-    let gate = Gate::read(alloc, GATE.as_bytes())?;
+fn followed(rt: &impl Abort, alloc: Global) -> Option<String> {
     let mut replica = Replica::new(alloc);
-    take_all(alloc, &mut replica, A_DEPENDENCY_COMES_AND_GOES[0].steps)?;
-    let mut evaluator = Evaluator::fresh(gate, &replica)?;
-    take_all(alloc, &mut replica, A_DEPENDENCY_COMES_AND_GOES[1].steps)?;
-    update(rt, &mut evaluator, &replica);
-    Ok(lines_of(alloc, evaluator.verdicts().ok_or("verdicts")?)?)
+    match started(alloc, &mut replica) {
+        Some(mut evaluator) => updated(rt, alloc, &mut evaluator, &mut replica),
+        None => None,
+    }
 }
 
 #[test]
 fn a_refused_update_is_made_again(rt: HostRuntime) -> Result<(), Fail> {
-    let text = followed(&rt, rt.alloc())?;
+    let text = followed(&rt, rt.alloc()).ok_or(NoMemory)?;
     assert_eq!(rt; text.as_str(), "ready 7,1\nready 6,1\n");
     Ok(())
 }

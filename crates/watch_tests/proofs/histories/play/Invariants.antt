@@ -1,5 +1,0 @@
-use Rattle.watch_core.specs.Watching.{Precedes}
-use Rattle.watch_tests.proofs.histories.play.Given as goal
-
-abbrev pub invariant-loop-part : goal.invariant-loop-part
-invariant-loop-part g l = Precedes l.evaluator l.replica
