@@ -5,7 +5,6 @@
 #![tactic(auto)]
 
 #[cfg(test)]
-mod asserts;
 #[cfg(test)]
 mod changes;
 #[cfg(test)]
