@@ -11,19 +11,16 @@ use Rattle.lattice_core.specs.ZipLaws.{AllZip-at}
 use Rattle.command_tree.specs.Matching.{Row, Text, first_of}
 use Rattle.command_line.specs.declared.asked.Asked.{Asked}
 use Rattle.command_line.specs.declared.asked.Asked.TheVariants.{Events, Recover, Run, Serve}
-use Rattle.command_line.specs.declared.asked.Command.TheVariants.{Footers, Graph, Ready, ReadyItem, Why}
+use Rattle.command_line.specs.declared.asked.Command.TheVariants.{Footers, Ready, ReadyItem, Why}
 use Rattle.command_line.specs.declared.asked.EventWords.{EventWords}
-use Rattle.command_line.specs.declared.asked.PageAddress.{PageAddress}
 use Rattle.command_line.specs.declared.asked.RecoverWords.{RecoverWords}
 use Rattle.command_line.specs.declared.asked.ServeWords.{ServeWords}
 use Rattle.command_line.specs.Asking.{AreFeedOptions, AreOptions, ArgumentsSay, IsRecovery, events, footers}
-use Rattle.command_line.specs.Asking.{graph, ready, recover, serve, why}
+use Rattle.command_line.specs.Asking.{ready, recover, serve, why}
 use Rattle.command_line.specs.Values.{Finds, HasArgument, GivesAny, GivesItem, GivesNumber, ItemIsNamed, NamesRow}
-use Rattle.command_line.specs.Values.{GivesAnyItem, GivesAnyPage, GivesAnyPeer, GivesHosts, GivesItemAt, GivesPaths}
-use Rattle.command_line.specs.Values.{NamesPage, Writes, is_comma}
+use Rattle.command_line.specs.Values.{GivesAnyItem, GivesHosts, GivesItemAt, GivesPaths}
+use Rattle.command_line.specs.Values.{Writes, is_comma}
 use Rattle.command_line.specs.declared.sites.Places.{Places}
-use Rattle.site_address.specs.Peer.{NamesPeer}
-use Rattle.site_address.specs.declared.peer.PeerAddress.{PeerAddress}
 
 same_text : (rows : List Row) (argument text other : Text) → HasArgument rows argument text
     → HasArgument rows argument other
@@ -123,11 +120,6 @@ pub no_why : (rows : List Row) → ((item : ℕ × Option ℕ) → ¬ GivesItem 
 no_why rows none (Run (Why gate snapshot change set is_all is_json)) says = none (change, set) says.2
 no_why rows none asked says = says
 
-pub no_graph : (rows : List Row) → ((around : Option ℕ) → ¬ GivesAny rows (codes "around") 0 4294967295 around)
-    → (asked : Asked) → ¬ ArgumentsSay graph rows asked
-no_graph rows none (Run (Graph gate snapshot around)) says = none around says.2
-no_graph rows none asked says = says
-
 pub no_footers : (rows : List Row) → ((change : ℕ) → ¬ GivesNumber rows (codes "change") 0 4294967295 change)
     → (asked : Asked) → ¬ ArgumentsSay footers rows asked
 no_footers rows none (Run (Footers gate message change is_json)) says = none change says.2
@@ -156,28 +148,6 @@ no_events rows none (Events words) says = none words says.0
 no_events rows none asked says = says
 
 -- ---- addresses
-
-pub no_peer_in : (rows : List Row) (option text : Text) → HasArgument rows option text
-    → ((peer : PeerAddress) → ¬ NamesPeer text peer) → (given : Option PeerAddress)
-    → ¬ GivesAnyPeer rows option given
-no_peer_in rows option text is none None gives = let bad : None ≡ Some text = sym gives ∙ is in cc
-no_peer_in rows option text is none (Some peer) gives =
-    none peer (subst (λ t. NamesPeer t peer) (same_text rows option gives.0 text gives.1 is) gives.2)
-
-pub peer_found : (rows : List Row) (option text : Text) (peer : PeerAddress) → HasArgument rows option text
-    → NamesPeer text peer → GivesAnyPeer rows option (Some peer)
-peer_found rows option text peer is names = (text, is, names)
-
-pub no_page_in : (rows : List Row) (option text : Text) → HasArgument rows option text
-    → ((page : PageAddress) → ¬ NamesPage text page) → (given : Option PageAddress)
-    → ¬ GivesAnyPage rows option given
-no_page_in rows option text is none None gives = let bad : None ≡ Some text = sym gives ∙ is in cc
-no_page_in rows option text is none (Some page) gives =
-    none page (subst (λ t. NamesPage t page) (same_text rows option gives.0 text gives.1 is) gives.2)
-
-pub page_found : (rows : List Row) (option text : Text) (page : PageAddress) → HasArgument rows option text
-    → NamesPage text page → GivesAnyPage rows option (Some page)
-page_found rows option text page is names = (text, is, names)
 
 -- ---- those of the texts that pass a test
 

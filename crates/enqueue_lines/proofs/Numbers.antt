@@ -1,13 +1,13 @@
 -- Texts of numbers that are read back, and where a text is cut.
-use Rattle.std.proofs.Common.{◌≡◌, ◌<◌, ◌^◌, ◌++◌, ◌∷◌, [], ℕ, Bool, true, false, not, List, Option, None, Some, Result}
-use Rattle.std.proofs.Common.{MatchOption, IsAscii, IsUtf8, decimal, Bor, refl, sym, ap, ◌∙◌, arith, suc, zero, append_assoc}
-use Rattle.std.proofs.Common.{codes, get_or, length}
-use Rattle.std.specs.Prelude.{◌==◌, ◌&&◌, IsSomeAnd, nat_lt, slice_index}
+use Rattle.std.proofs.Common.{◌≡◌, ◌<◌, ◌^◌, ◌++◌, ◌∷◌, [], ℕ, Bool, true, false, List, Option, None, Some, Result}
+use Rattle.std.proofs.Common.{IsAscii, IsUtf8, decimal, Bor, refl, ap, ◌∙◌, arith, suc, zero, append_assoc}
+use Rattle.std.proofs.Common.{codes}
+use Rattle.std.specs.Prelude.{◌&&◌, IsSomeAnd, nat_lt, slice_index}
 use borrow.Author.Tests.{ltb-true}
 use Rattle.std.specs.List.{list_all}
 use Rattle.std.specs.Result.{result_ok}
 use Rattle.std.specs.Str.Parse.{AllDigits, ParsesUnsigned}
-use Rattle.std.proofs.lemmas.Bool.{eq-eqb, false≢true}
+use Rattle.std.proofs.lemmas.Bool.{false≢true}
 use Rattle.std.proofs.lemmas.Fmt.{IsAscii-decimal, decimal_is_IsNumeral, parse-decimal}
 use Rattle.std.proofs.lemmas.Str.{IsAscii-append, IsUtf8-from_ascii}
 use Rattle.std.proofs.lemmas.Str.Parse.{not_in_digits, numerals_by_value, tells_digits}
@@ -50,24 +50,6 @@ lacks_digits byte number fits small =
     not_in_digits (numerals_by_value (AllDigits 10) tells_digits) (decimal number) byte (decimal_is_IsNumeral number fits).0.1
     (λ within. omega (arith, within.0))
 
-no_first : (byte other : ℕ) → not (other == byte) ≡ true → ¬ (other ≡ byte)
-no_first byte other differs same =
-    let bad : false ≡ true = sym (ap not (eq-eqb other byte same)) ∙ differs in cc
-
-pub lacks_tested : (byte : ℕ) (bytes : List ℕ) → list_all (λ other. not (other == byte)) bytes ≡ true → LacksByte byte bytes
-lacks_tested byte [] all i within = absurd (omega (arith, within))
-lacks_tested byte (other ∷ bytes) all zero within =
-    no_first byte other (both_true (not (other == byte)) (list_all (λ o. not (o == byte)) bytes) all).0
-lacks_tested byte (other ∷ bytes) all (suc i) within =
-    lacks_tested byte bytes (both_true (not (other == byte)) (list_all (λ o. not (o == byte)) bytes) all).1 i (omega (arith, within))
-
-pub word_lacks : (said : Said) → LacksByte 32 (said_word said)
-word_lacks (Ready item) = lacks_tested 32 (codes "ready") refl
-word_lacks (NowReady item) = lacks_tested 32 (codes "+ready") refl
-word_lacks (NotReady item) = lacks_tested 32 (codes "-ready") refl
-word_lacks (End ready out) = lacks_tested 32 (codes "end") refl
-word_lacks Nothing = lacks_tested 32 [] refl
-
 -- ---- numbers
 
 pub read_back : (E : Type 0) (bits number : ℕ) (digits : List ℕ) (read : Result ℕ E) (result : Option ℕ)
@@ -81,9 +63,6 @@ item_pieces item = append_assoc (decimal item.change) (codes ",") (decimal item.
 
 pub counts_pieces : (ready out : ℕ) → counts_text ready out ≡ decimal ready ++ 32 ∷ decimal out
 counts_pieces ready out = append_assoc (decimal ready) (codes " ") (decimal out)
-
-pub said_pieces : (said : Said) → said_text said ≡ said_word said ++ 32 ∷ rest_of said
-said_pieces said = append_assoc (said_word said) (codes " ") (rest_of said)
 
 -- ---- the texts are ASCII
 

@@ -1,6 +1,6 @@
 -- What the lines say that came of a source, one after the other.
 use Rattle.std.proofs.Common.{◌≡◌, ◌∙◌, ◌<◌, ◌++◌, ◌∷◌, [], ℕ, List, Option, None, Some, Result, Ok, Err, IfOk, refl, sym, ap, subst}
-use Rattle.std.proofs.Common.{append_assoc, append-nil, arith, flat_map, All, Bool, true, inl, inr}
+use Rattle.std.proofs.Common.{append_assoc, append-nil, arith, flat_map, Bool, true, inl, inr}
 use Rattle.std.specs.Prelude.{◌⊎◌}
 use Rattle.std.specs.List.{AllZip}
 use Rattle.std.proofs.lemmas.List.Concat.{flat_map-append}
@@ -9,12 +9,12 @@ use Rattle.byte_ends.specs.Lines.{as_line, without_cr}
 use Rattle.line_reader.specs.Lines.{BeginsWithLine, Hands, Reading}
 use Rattle.enqueue_lines.specs.Groups.{GroupTold, added_by, listed_by, removed_by, told_by}
 use Rattle.enqueue_lines.specs.Lines.{LineSays}
-use Rattle.enqueue_lines.specs.Running.{GroupComes, IsNoEnd, IsSaidAs, KeepsSaid, SaysLines, SaysPiece, StepsOn, line_says}
+use Rattle.enqueue_lines.specs.Running.{GroupComes, IsNoEnd, IsSaidAs, SaysLines, SaysPiece, StepsOn, line_says}
 use Rattle.enqueue_lines.specs.declared.fault.EnqueueFault.{EnqueueFault}
 use Rattle.enqueue_lines.specs.declared.run.Step.{Step}
 use Rattle.enqueue_lines.specs.declared.run.Step.TheVariants.{GoesOn, EndsWith, Stops}
 use Rattle.enqueue_lines.specs.declared.said.Said.{Said}
-use Rattle.enqueue_lines.specs.declared.said.Said.TheVariants.{Ready, NowReady, NotReady, End, Nothing}
+use Rattle.enqueue_lines.specs.declared.said.Said.TheVariants.{End}
 
 -- ---- bytes that say lines
 
@@ -74,25 +74,6 @@ told_append xs ys =
 pub told_more : (xs ys zs : List Said) → told_by xs ≡ told_by ys → told_by (xs ++ zs) ≡ told_by (ys ++ zs)
 told_more xs ys zs same =
     told_append xs zs ∙ ap (λ told. told_plus told (told_by zs)) same ∙ sym (told_append ys zs)
-
-goes_so : (bytes rest : List ℕ) (old new : List Said) (said : Said) (step : Step) → step ≡ GoesOn
-    → SaysLines bytes rest (said ∷ []) → IsNoEnd said → told_by new ≡ told_by (old ++ said ∷ []) → StepsOn bytes rest old new step
-goes_so bytes rest old new said step is says first told =
-    subst (StepsOn bytes rest old new) (sym is) (said, says, first, told)
-
-pub kept_steps : (said : Said) (bytes rest : List ℕ) (old new : List Said) (result : Result Step EnqueueFault)
-    → SaysLines bytes rest (said ∷ []) → IfOk result (KeepsSaid said old new) → IfOk result (StepsOn bytes rest old new)
-kept_steps said bytes rest old new (Err fault) says keeps = tt
-kept_steps (Ready item) bytes rest old new (Ok step) says keeps =
-    goes_so bytes rest old new (Ready item) step keeps.0 says tt keeps.1
-kept_steps (NowReady item) bytes rest old new (Ok step) says keeps =
-    goes_so bytes rest old new (NowReady item) step keeps.0 says tt keeps.1
-kept_steps (NotReady item) bytes rest old new (Ok step) says keeps =
-    goes_so bytes rest old new (NotReady item) step keeps.0 says tt keeps.1
-kept_steps Nothing bytes rest old new (Ok step) says keeps =
-    goes_so bytes rest old new Nothing step keeps.0 says tt keeps.1
-kept_steps (End ready out) bytes rest old new (Ok step) says keeps =
-    subst (StepsOn bytes rest old new) (sym keeps.0) (out, says, keeps.1)
 
 -- ---- the lines of a group, so far
 

@@ -1,6 +1,6 @@
 -- Texts that are joined_by, and lines that are added one after another.
-use Rattle.std.proofs.Common.{◌≡◌, ◌∙◌, ◌+◌, ◌<◌, ℕ, List, [], ◌∷◌, ◌++◌, Bool, false, Result, length, map, flat_map, take, drop, get_or, sym, ap, refl}
-use Rattle.std.proofs.Common.{append-nil, append_assoc, arith, add-one, drop-cons, length-drop, ◌≤◌}
+use Rattle.std.proofs.Common.{◌≡◌, ◌∙◌, ◌+◌, ◌<◌, ℕ, List, [], ◌∷◌, ◌++◌, Bool, false, Result, length, map, flat_map, take, get_or, sym, ap, refl}
+use Rattle.std.proofs.Common.{append-nil, append_assoc, arith}
 use Rattle.std.specs.List.{join_by}
 use Rattle.std.specs.Prelude.{IsUtf8, OnOk, String, encode_utf8, string_bytes, ◌==◌}
 use Rattle.std.specs.Str.{chars}
@@ -13,7 +13,7 @@ use Rattle.std.proofs.lemmas.List.Folds.{flat_map-map}
 use Rattle.json.proofs.Printed.Tokens.{print_from_push, print_from-append}
 use Rattle.json.specs.Token.{string}
 use Rattle.json.specs.Print.{print, quoted}
-use Rattle.gate_check.specs.Asking.{pointer_escaped, joined_by, by_place}
+use Rattle.gate_check.specs.Asking.{pointer_escaped, joined_by}
 use Rattle.gate_check.specs.Checked.{as_warning, checked_line}
 use Rattle.gate_check.specs.Warnings.{Found}
 
@@ -56,10 +56,6 @@ flat_more f xs i d inside =
     ap (flat_map f) (take_more xs i d inside) ∙ flat_map-append f (take i xs) (get_or xs i d ∷ [])
     ∙ ap (λ l. flat_map f (take i xs) ++ l) (append-nil (f (get_or xs i d)))
 
-pub numbered_more : {X Y : Type 0} (make : ℕ → X → List Y) (xs : List X) (i : ℕ) (d : X) → i < length xs
-    → by_place make i (drop i xs) ≡ make i (get_or xs i d) ++ by_place make (i + 1) (drop (i + 1) xs)
-numbered_more make xs i d inside = rw (add-one, drop-cons xs i d) refl
-
 -- lines after lines
 pub added : {Y : Type 0} (start done more old new : List Y) → old ≡ start ++ done → new ≡ old ++ more
     → new ≡ start ++ (done ++ more)
@@ -67,17 +63,6 @@ added start done more old new so_far is = is ∙ ap (λ l. l ++ more) so_far ∙
 
 module _ {X Y : Type 0} (make : ℕ → X → List Y) (xs : List X) (i : ℕ) where
   -- one more is made, and the later ones are left
-  pub numbered_step : (d : X) → i < length xs → (old new whole : List Y) → new ≡ old ++ make i (get_or xs i d)
-      → old ++ by_place make i (drop i xs) ≡ whole → new ++ by_place make (i + 1) (drop (i + 1) xs) ≡ whole
-  numbered_step d inside old new whole is so_far =
-      ap (λ l. l ++ by_place make (i + 1) (drop (i + 1) xs)) is
-      ∙ append_assoc old (make i (get_or xs i d)) (by_place make (i + 1) (drop (i + 1) xs))
-      ∙ ap (λ l. old ++ l) (sym (numbered_more make xs i d inside)) ∙ so_far
-
-  pub numbered_done : length xs ≤ i → (now whole : List Y) → now ++ by_place make i (drop i xs) ≡ whole → now ≡ whole
-  numbered_done past now whole so_far =
-      let none : drop i xs ≡ [] = nil_from_length (drop i xs) (omega (arith, length-drop {A = X})) in
-      sym (append-nil now) ∙ ap (λ l. now ++ by_place make i l) (sym none) ∙ so_far
 
 -- ---- lines that several calls add
 

@@ -97,15 +97,10 @@ refused_here values place value flaw within is refused before = record {
 -- ---- the list of the members
 
 module _ (ms : Members) where
-  pub no_key : None ≡ get_member (codes "bases") ms → (bad : BadBase) → ¬ IsBadItem ms bad
-  no_key none bad h = false≢true (ap is_some (none ∙ h.list))
 
   module _ (d : Data) (found : Some d ≡ get_member (codes "bases") ms) where
     is_array : (bad : BadBase) (h : IsBadItem ms bad) → d ≡ array h.items
     is_array bad h = let e : Some d ≡ Some (array h.items) = found ∙ h.list in cc
-
-    pub no_list : None ≡ as_array d → (bad : BadBase) → ¬ IsBadItem ms bad
-    no_list none bad h = false≢true (ap is_some (none ∙ ap as_array (is_array bad h)))
 
     module _ (values : List Value) (is : Some (items_view values) ≡ as_array d) where
       same_items : (bad : BadBase) (h : IsBadItem ms bad) → list_of h.items ≡ map view values

@@ -113,11 +113,6 @@ item_of_fault text found first fault named bad h =
     let same = same_fault text found (Bad, codes "bases") first h.fault in
     named bad (ap (λ (f : Fault). f.0) same) (ap (λ (f : Fault). f.1) same) (item_here text first.members bad first.is_object h)
 
-pub item_of_none : (text : List ℕ) (members : Members) (fault : GateFault) → IsObject text members
-    → ((bad : BadBase) → IsBadItem members bad → NamesItem fault bad)
-    → (bad : BadBase) → IsBadBase text bad → NamesItem fault bad
-item_of_none text members fault is_object named bad h = named bad (item_here text members bad is_object h)
-
 pub item_unread : (text : List ℕ) (fault : GateFault) → IsRefusalOf text fault → IsUnread fault
     → (bad : BadBase) → IsBadBase text bad → NamesItem fault bad
 item_unread text (NotJson place) refusal unread bad h = absurd (refusal.none h.fault.members h.fault.is_object)

@@ -1,8 +1,7 @@
 -- Lists of the conditions that are tried.
-use Rattle.std.proofs.Common.{◌≡◌, ◌≢◌, ◌∙◌, ◌⊎◌, ◌+◌, ◌<◌, ◌≤◌, ◌↔◌, ℕ, zero, suc, List, [], ◌∷◌, ◌++◌, Bool, Option, None, Some}
+use Rattle.std.proofs.Common.{◌≡◌, ◌∙◌, ◌+◌, ◌<◌, ℕ, zero, suc, List, [], ◌∷◌, ◌++◌, Bool, Option, None, Some}
 use Rattle.std.proofs.Common.{Contains, length, flat_map, drop, get_or, slice_get, sym, ap, refl, inl, inr, subst}
-use Rattle.std.proofs.Common.{append-nil, append_assoc, arith, add-one, drop-cons, length-drop, option_map}
-use Rattle.std.proofs.lemmas.List.{nil_from_length}
+use Rattle.std.proofs.Common.{append_assoc, arith, add-one, drop-cons, option_map}
 use Rattle.std.proofs.lemmas.Option.{none-some}
 use Rattle.std.proofs.lemmas.List.Elements.{Contains-append_left, Contains-append_right, Contains-append_cases}
 use Rattle.lattice_core.specs.MemberLaws.{Contains-to_flat_map, Contains-of_flat_map}
@@ -29,27 +28,7 @@ module _ {Y : Type 0} (tried : Clause → List Y) (patterns : List PatternRule) 
       let more : flat_map tried (approvals_from i (drop i patterns)) ≡ tried (Approval (i + 1)) ++ next = rw (add-one, drop-cons patterns i d inside) refl in
       ap (λ l. l ++ next) is ∙ append_assoc old (tried (Approval (i + 1))) next ∙ ap (λ l. old ++ l) (sym more) ∙ so_far
 
-  pub approvals_done : length patterns ≤ i → (now whole : List Y)
-      → now ++ flat_map tried (approvals_from i (drop i patterns)) ≡ whole → now ≡ whole
-  approvals_done past now whole so_far =
-      let none : drop i patterns ≡ [] = nil_from_length (drop i patterns) (omega (arith, length-drop {A = PatternRule})) in
-      sym (append-nil now) ∙ ap (λ l. now ++ flat_map tried (approvals_from i l)) (sym none) ∙ so_far
-
 -- ---- a side in its four parts
-
-pub side_parts : (gate : GateRules) (standing : ItemStanding) (side : Side) (start one two three four : List Tried)
-    → one ≡ start ++ tried_by gate standing side OpenState → two ≡ one ++ tried_by gate standing side CurrentSet
-    → three ≡ two ++ tried_by gate standing side StatusIn
-    → four ≡ three ++ flat_map (tried_by gate standing side) (approvals_from 0 (side_rules gate side).approvals)
-    → four ≡ start ++ tried_side gate standing side
-side_parts gate standing side start one two three four first second third last =
-    let a = tried_by gate standing side OpenState in
-    let b = tried_by gate standing side CurrentSet in
-    let c = tried_by gate standing side StatusIn in
-    let rest = flat_map (tried_by gate standing side) (approvals_from 0 (side_rules gate side).approvals) in
-    last ∙ ap (λ l. l ++ rest) (third ∙ ap (λ l. l ++ c) (second ∙ ap (λ l. l ++ b) first))
-    ∙ ap (λ l. l ++ rest) (append_assoc (start ++ a) b c) ∙ append_assoc (start ++ a) (b ++ c) rest
-    ∙ append_assoc start a ((b ++ c) ++ rest) ∙ ap (λ l. start ++ (a ++ l)) (append_assoc b c rest)
 
 -- ---- which conditions are tried
 

@@ -1,5 +1,5 @@
 -- Lists of lines and of keys.
-use Rattle.std.proofs.Common.{◌≡◌, inl, inr, ℕ, zero, suc, ◌<◌, ◌+◌, ◌++◌, [], ◌∷◌, List, sym, ◌∙◌, ap, refl, arith, length, length-append, take, drop, get_or, append_assoc, append-nil, take-append-drop, drop-cons, subst, All}
+use Rattle.std.proofs.Common.{◌≡◌, inl, inr, ℕ, zero, suc, ◌<◌, ◌+◌, ◌++◌, [], ◌∷◌, List, sym, ◌∙◌, ap, refl, arith, length, length-append, take, drop, get_or, append_assoc, take-append-drop, drop-cons, subst, All}
 use Rattle.std.proofs.lemmas.List.{take_more}
 use Rattle.std.proofs.lemmas.List.Elements.{All-append}
 use Rattle.std.proofs.Math.Seq.{take-append_seam}
@@ -25,9 +25,6 @@ pub record IsReading (all left : List (List ℕ)) (keys : List KeyEntry) (number
   pub count : length done ≡ number
   pub said : Say done keys
 
-pub reading_first : (all : List (List ℕ)) → IsReading all all [] 0
-reading_first all = record { done = []; whole = refl; count = refl; said = refl }
-
 pub reading_next : (all left rest : List (List ℕ)) (keys new : List KeyEntry) (number : ℕ) (line : List ℕ) → IsReading all left keys number
     → left ≡ line ∷ rest → SaysMore line keys new → IsReading all rest new (number + 1)
 reading_next all left rest keys new number line is next says = record {
@@ -36,11 +33,6 @@ reading_next all left rest keys new number line is next says = record {
   count = length-append is.done (line ∷ []) ∙ ap (λ n. n + 1) is.count;
   said = rw says.2 (say_append is.done (line ∷ []) keys says.0 is.said says.1);
 }
-
-pub reading_last : (all left : List (List ℕ)) (keys : List KeyEntry) (number : ℕ) → IsReading all left keys number → left ≡ [] → Say all keys
-reading_last all left keys number is none =
-    let whole : all ≡ is.done = is.whole ∙ ap (λ (l : List (List ℕ)). is.done ++ l) none ∙ append-nil is.done in
-    rw whole is.said
 
 pub reading_bad : (all left rest : List (List ℕ)) (keys : List KeyEntry) (number : ℕ) (line : List ℕ) → IsReading all left keys number
     → left ≡ line ∷ rest → IsBad line → AreUnreadKeys all (BadLine (number + 1))

@@ -23,8 +23,8 @@ use Rattle.serde_json.specs.Find.{of_integer}
 use Rattle.serde_json.specs.Written.{outline, members_outline, compact_text, members_text, comma_if}
 use Rattle.serde_json.proofs.Texts.{print-outline}
 use Rattle.review_ops.specs.Timestamp.{Timestamp, IsNumbered}
-use Rattle.review_ops.specs.Deed.{Deed, kept_deed, change_of, set_of, message_of, parent_of, label_of, voter_of, value_of}
-use Rattle.review_ops.specs.Good.{IsGood, IsFaultless, IsFaultless-IsGood, kept_deed-IsGood}
+use Rattle.review_ops.specs.Deed.{Deed, change_of, set_of, message_of, parent_of, label_of, voter_of, value_of}
+use Rattle.review_ops.specs.Good.{IsGood, IsFaultless-IsGood, kept_deed-IsGood}
 use Rattle.review_ops.specs.Operation.{Operation}
 use Rattle.op_text.specs.declared.field.Field.{Field}
 use Rattle.op_text.specs.declared.field.Field.TheVariants.{Change, Label, Message, Op, Parent, Seq, Set, Site, Start}
@@ -277,14 +277,3 @@ canonical_parts text stamp deed is numbered fits = (
 )
 
 -- ---- an operation of parts that are spelled
-
-pub parts_spell : (text : List ℕ) (stamp : Timestamp) (deed : Deed) (op : Operation) → SpellsParts text stamp deed
-    → IsFaultless deed → op ≡ record { stamp = stamp; deed = kept_deed deed } → SpellsOperation text op
-parts_spell text stamp deed op parts faultless is = subst (SpellsOperation text) (sym is) (record {
-  members = parts.0;
-  deed = deed;
-  spells = parts.1;
-  stamp = parts.2;
-  faultless = faultless;
-  kept = refl;
-})

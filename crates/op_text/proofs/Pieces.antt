@@ -1,20 +1,14 @@
 -- The parts of written texts.
-use Rattle.std.proofs.Common.{◌≡◌, ◌≢◌, ℕ, ◌+◌, ◌-◌, ◌*◌, ◌/◌, ◌%◌, ◌^◌, ◌<◌, ◌≤◌, List, [], ◌∷◌, ◌++◌, Option, Some, None}
-use Rattle.std.proofs.Common.{IfSome, SomeIff, Bor, MatchOption, true, leb, length, take, get_or, decimal, sym, ap, ◌∙◌, arith}
-use Rattle.std.proofs.Common.{append_assoc, append-nil}
+use Rattle.std.proofs.Common.{◌≡◌, ℕ, ◌+◌, ◌-◌, ◌*◌, ◌/◌, ◌%◌, ◌^◌, ◌<◌, ◌≤◌, List, [], ◌∷◌, ◌++◌, Option, Some, None}
+use Rattle.std.proofs.Common.{IfSome, SomeIff, Bor, true, leb, length, take, decimal, sym, ap, ◌∙◌, arith}
 use Rattle.std.proofs.lemmas.Bool.{and_parts, leb-true}
 use Rattle.std.specs.Char.{is_ascii_digit}
 use Rattle.std.proofs.lemmas.Fmt.{decimal_step, decimal_digit}
 use Rattle.std.proofs.lemmas.List.{get_or-take, length-take}
-use Rattle.std.proofs.lemmas.List.Concat.{flat_map-append}
-use Rattle.json.specs.Print.{escape, escape_byte}
+use Rattle.json.specs.Print.{escape}
 use Rattle.json.specs.Run.{is_plain}
 use Rattle.json.specs.Written.{PlainBetween}
 use Rattle.json.proofs.Printed.Plain.{escape_on_plain}
-
-pub IfSome-from_cases : {T : Type 0} (o : Option T) (P : Type 0) (Q : T → Type 0) → MatchOption o P Q → IfSome o Q
-IfSome-from_cases None P Q h = tt
-IfSome-from_cases (Some x) P Q h = h
 
 -- ---- numbers
 
@@ -56,27 +50,9 @@ decimal_is (Some x) text rest first front split value digit h =
 
 -- ---- quoted texts
 
-pub escape-append : (xs ys : List ℕ) → escape (xs ++ ys) ≡ escape xs ++ escape ys
-escape-append = flat_map-append escape_byte
-
 -- bytes that need no escape stand for themselves
 pub plain_front : (text : List ℕ) (n : ℕ) → n ≤ length text → PlainBetween text 0 n
     → escape (take n text) ≡ take n text
 plain_front text n within plain = escape_on_plain true (take n text) (λ k low high.
     let below : k < n = omega (arith, length-take n text, high) in
     ap is_plain (get_or-take n text k 0 below) ∙ plain k low below)
-
--- a run of plain bytes is read
-pub run_read : (text done left plain rest : List ℕ) → text ≡ escape done ++ left → left ≡ plain ++ rest
-    → escape plain ≡ plain → text ≡ escape (done ++ plain) ++ rest
-run_read text done left plain rest so_far split same =
-    so_far ∙ ap (λ l. escape done ++ l) (split ∙ ap (λ p. p ++ rest) (sym same))
-    ∙ sym (append_assoc (escape done) (escape plain) rest) ∙ ap (λ l. l ++ rest) (sym (escape-append done plain))
-
--- an escape is read
-pub escape_read : (text done left rest : List ℕ) (byte : ℕ) → text ≡ escape done ++ left
-    → left ≡ escape_byte byte ++ rest → text ≡ escape (done ++ byte ∷ []) ++ rest
-escape_read text done left rest byte so_far split =
-    so_far ∙ ap (λ l. escape done ++ l) (split ∙ ap (λ p. p ++ rest) (sym (append-nil (escape_byte byte))))
-    ∙ sym (append_assoc (escape done) (escape (byte ∷ [])) rest)
-    ∙ ap (λ l. l ++ rest) (sym (escape-append done (byte ∷ [])))

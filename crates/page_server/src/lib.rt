@@ -8,7 +8,7 @@
 //! passwords, since only this machine is served; entity tags of pages, since every page is made anew, while the style,
 //! the script and the icon have them; streams of events, since a whole answer that says when to ask again does.
 //!
-//! A site gives its pages by `Pages`, opens a door over a listener, and serves there in a thread of its own until it is
+//! A site gives its pages by `Pages`, makes an endpoint of a listener, and serves there in a thread of its own until it is
 //! asked to stop.
 //!
 //! An example of its use:
@@ -23,21 +23,21 @@
 #![tactic(auto)]
 
 mod asked;
-mod door;
+mod client;
+mod clients;
+mod endpoint;
 mod fields;
-mod guest;
-mod guests;
-mod hall;
 mod hosts;
+mod page_loop;
 mod pages;
 mod refusal;
 mod service;
 mod tag;
 
 pub use asked::{Asked, asked_for};
-pub use door::{Door, PageFault, limits, open_door, open_socket_door};
-pub use hall::serve_pages;
+pub use endpoint::{PageEndpoint, PageFault, limits, open_endpoint, open_socket_endpoint};
 pub use hosts::is_own;
+pub use page_loop::serve_pages;
 pub use pages::Pages;
 pub use refusal::Refusal;
 pub use service::PageService;

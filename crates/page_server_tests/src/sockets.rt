@@ -2,7 +2,7 @@
 
 use super::shelf::{LONG, Shelf};
 use mio::Waker;
-use page_server::{Door, open_door, open_socket_door, serve_pages};
+use page_server::{PageEndpoint, open_endpoint, open_socket_endpoint, serve_pages};
 use site_net::Stop;
 use std::alloc::Global;
 use std::io::{Read, Write};
@@ -43,7 +43,7 @@ enum Client {
 /// A server that can be begun, and its port, if it has one.
 #[derive(Drop)]
 struct Opened {
-    door: Door,
+    endpoint: PageEndpoint,
     waker: Waker,
     port: u16,
 }
@@ -245,16 +245,20 @@ where
 {
     let listener = TcpListener::bind(rt, ("127.0.0.1", 0))?;
     let port = listener.local_addr()?.port();
-    let (door, waker) = open_door(rt, listener)?;
-    Ok(Opened { door, waker, port })
+    let (endpoint, waker) = open_endpoint(rt, listener)?;
+    Ok(Opened {
+        endpoint,
+        waker,
+        port,
+    })
 }
 
 /// A server at the Unix socket.
 fn at_socket<R: Net + Files + RandomSource>(rt: &R) -> io::Result<Opened> {
     let listener = UnixListener::bind(rt, SOCKET)?;
-    let (door, waker) = open_socket_door(rt, listener)?;
+    let (endpoint, waker) = open_socket_endpoint(rt, listener)?;
     Ok(Opened {
-        door,
+        endpoint,
         waker,
         port: 0,
     })
@@ -265,11 +269,15 @@ fn serves_beside<R>(rt: &R, alloc: Global, opened: Opened, client: Client) -> bo
 where
     R: Net<Stream = TcpStream> + Threads + Wait + Clock + Sync,
 {
-    let Opened { door, waker, port } = opened;
+    let Opened {
+        endpoint,
+        waker,
+        port,
+    } = opened;
     let stop = Stop::new();
     let (ended, served) = thread::join(
         rt,
-        || serve_pages(rt, alloc, door, &[], &stop, Shelf::new(alloc)).is_ok(),
+        || serve_pages(rt, alloc, endpoint, &[], &stop, Shelf::new(alloc)).is_ok(),
         || {
             let served = is_served(rt, alloc, port, client);
             stop.ask(rt);

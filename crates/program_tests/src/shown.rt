@@ -3,13 +3,13 @@
 use super::programs::{serve_input, site_words};
 use super::sockets::{bits_of, talk_at};
 use command_line::{PageAddress, SocketMode};
-use page_server::open_door;
+use page_server::open_endpoint;
 use record_pull::SystemFiles;
 use running_sites::{NoTurn, ending, listening, one_session, run_one, talk, talk_once_up, text_of};
 use serve_command::{Ended, ProgramFault};
 use site_address::{Address, PeerAddress};
 use site_net::{Stop, listen_at_path};
-use site_serve::{Doorstep, Setup};
+use site_serve::{PageSetup, Setup};
 use std::alloc::Global;
 use std::net::{Net, TcpListener, TcpStream};
 use std::process::Abort;
@@ -43,12 +43,16 @@ where
     R: Net<Listener = TcpListener, Stream = TcpStream> + RandomSource,
 {
     let (listener, port) = listening(rt)?;
-    let (door, waker) = open_door(rt, listener)?;
+    let (endpoint, waker) = open_endpoint(rt, listener)?;
     let mut hosts = Vec::new(alloc);
     hosts.push(String::from_str(alloc, "gate.example.org")?)?;
     let mut setup = one_session(alloc, 1)?;
     setup.sessions = 0;
-    setup.page = Some(Doorstep { door, waker, hosts });
+    setup.page = Some(PageSetup {
+        endpoint,
+        waker,
+        hosts,
+    });
     Ok((setup, port))
 }
 

@@ -37,9 +37,6 @@ AreApart-push (first ∷ journal) op new apart =
     (differs_too first op journal apart.0 parts.0, AreApart-push journal op parts.1 apart.1)
 
 -- ---- what a replica keeps, once an operation has come
-known_of : (b : Bool) (taken : Taken) → taken ≡ taken_of b → taken ≡ Known → b ≡ true
-known_of true taken is known = refl
-known_of false taken is known = let e : New ≡ Known = sym is ∙ known in cc
 
 new_of : (b : Bool) (taken : Taken) → taken ≡ taken_of b → taken ≡ New → b ≡ false
 new_of true taken is new = let e : Known ≡ New = sym is ∙ new in cc
@@ -62,10 +59,6 @@ kept_same journal after lines after_lines latest same are kept = record {
 module _ (journal after : List Operation) (lines after_lines : List RowLine) (latest : ℕ) (op : Operation)
     (taken : Taken) (is : taken ≡ taken_of (has journal op)) (came : after ≡ arrived journal op)
     (are : AreLines after after_lines) (kept : IsKept journal lines latest) where
-  pub kept_known : taken ≡ Known → IsKept after after_lines latest
-  kept_known e =
-      let known = known_of (has journal op) taken is e in
-      kept_same journal after lines after_lines latest (came ∙ ap (λ t. cond t journal (journal ++ op ∷ [])) known) are kept
 
   pub kept_new : taken ≡ New → (after_latest : ℕ) → after_latest ≡ max latest op.stamp.time
       → IsKept after after_lines after_latest

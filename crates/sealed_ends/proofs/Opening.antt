@@ -10,19 +10,6 @@ use Rattle.sealed_line.specs.Sealing.{Opens, Sealing, after_line}
 use Rattle.sealed_ends.specs.OpenedFacts.{opened_first}
 use Rattle.sealed_ends.specs.Opened.{left_of, opened, opened_texts, whole_lines}
 
-pub kept_read : (ready : List ℕ) (s : Sealing) (held came : List ℕ) (a b : Option (List ℕ)) → Consumes a b came
-    → Keeps (left_of ready s held a) (left_of ready s (held ++ came) b)
-kept_read ready s held came None b is = tt
-kept_read ready s held came (Some x) None is = absurd is
-kept_read ready s held came (Some x) (Some y) is =
-    ap (λ l. ready ++ opened s l) (append_assoc held came y ∙ ap (λ l. held ++ l) (sym is))
-
-pub kept_failed : (ready : List ℕ) (s : Sealing) (held : List ℕ) (a b : Option (List ℕ)) → Keeps a b
-    → Keeps (left_of ready s held a) (left_of ready s held b)
-kept_failed ready s held None b is = tt
-kept_failed ready s held (Some x) None is = absurd is
-kept_failed ready s held (Some x) (Some y) is = ap (λ l. ready ++ opened s (held ++ l)) is
-
 pub kept_opened : (s : Sealing) (held line rest text : List ℕ) (a : Option (List ℕ)) → held ≡ as_line line ++ rest → HasNoLf line
     → Opens s line text → Keeps (left_of [] s held a) (left_of (as_line text) (after_line s) rest a)
 kept_opened s held line rest text None whole plain is = tt

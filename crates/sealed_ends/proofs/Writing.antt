@@ -1,5 +1,5 @@
 -- A line more that was sealed and sent, and one that was sent in part.
-use Rattle.std.proofs.Common.{◌≡◌, ◌≢◌, ℕ, ◌<◌, ◌≤◌, ◌+◌, ◌-◌, ◌==◌, ◌&&◌, ◌||◌, ◌++◌, [], ◌∷◌, true, false, Bool, List, Option, Some, None, sym, ◌∙◌, ap, refl, arith, length, take, drop, length-append, append_assoc, append-nil, take-append-drop, cond}
+use Rattle.std.proofs.Common.{◌≡◌, ◌≢◌, ℕ, ◌<◌, ◌≤◌, ◌+◌, ◌-◌, ◌==◌, ◌&&◌, ◌++◌, [], ◌∷◌, true, false, Bool, List, Option, Some, None, sym, ◌∙◌, ap, refl, arith, length, take, drop, length-append, append_assoc, append-nil, take-append-drop, cond}
 use Rattle.std.specs.Prelude.{is_some, option_and_then, option_map}
 use Rattle.std.proofs.lemmas.List.{drop_all, length-take-le, take-append-le}
 use Rattle.std.proofs.lemmas.List.Elements.{All-take}
@@ -125,13 +125,6 @@ module _ (s : Sealing) (next : ℕ) (held since : List ℕ) where
     taken_line = sent_line (is_in_step s next since) refl
 
   -- a piece of a line
-  sent_piece : (known : Bool) (piece : List ℕ)
-      → Appends (cond known (Some (opened s since ++ held)) None) (cond known (Some (opened s since ++ (held ++ piece))) None) piece
-  sent_piece false piece = tt
-  sent_piece true piece = sym (append_assoc (opened s since) held piece)
-
-  pub taken_piece : (broken : Bool) (piece : List ℕ) → Appends (written_texts s next broken held since) (written_texts s next broken (held ++ piece) since) piece
-  taken_piece broken piece = sent_piece (broken || is_in_step s next since) piece
 
   -- a line that was sent in part
   sent_part : (step : Bool) (later : ℕ) (part : List ℕ) → HasNoLf part → is_in_step s next since ≡ step
@@ -157,11 +150,6 @@ last_of-more n bytes more =
 
 abbrev pub taken_of : Sealing → ℕ → Bool → List ℕ → ℕ → Option (List ℕ) → Option (List ℕ)
 taken_of s next broken held sent took = option_and_then (λ bytes. written_texts s next broken held (sent_last sent bytes)) took
-
-pub piece_held : (s : Sealing) (next : ℕ) (broken : Bool) (held : List ℕ) (sent : ℕ) (took : Option (List ℕ)) (piece : List ℕ)
-    → Appends (taken_of s next broken held sent took) (taken_of s next broken (held ++ piece) sent took) piece
-piece_held s next broken held sent None piece = tt
-piece_held s next broken held sent (Some bytes) piece = taken_piece s next held (sent_last sent bytes) broken piece
 
 pub line_sent : (s : Sealing) (next : ℕ) (held piece : List ℕ) (sent later : ℕ) (old new : Option (List ℕ)) (line : List ℕ) → HasNoLf line
     → opened_line (at_count s next) line ≡ Some (held ++ piece) → IsTakenWhole old new sent later (as_line line)

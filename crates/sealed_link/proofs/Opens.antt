@@ -7,7 +7,7 @@ use Rattle.byte_ends.specs.Lines.{as_line}
 use Rattle.line_reader.specs.Lines.{HasNoLf, IsTooLong}
 use Rattle.sealed_ends.specs.Unread.{sealed_limit}
 use Rattle.sealed_line.specs.Sealing.{Opens, Sealing, after_line}
-use Rattle.sealed_link.specs.Lines.{IsFrontRefused, IsRefusedAfter, IsUnheld, IsUnopenable, KeepsRest, OpenTo, OpensAll, OpensFront}
+use Rattle.sealed_link.specs.Lines.{IsFrontRefused, IsRefusedAfter, IsUnheld, IsUnopenable, KeepsRest, OpenTo, OpensFront}
 use Rattle.sealed_link.specs.Wires.{Wiring}
 use Rattle.sealed_link.specs.declared.fault.WireFault.{WireFault}
 use Rattle.sealed_link.specs.declared.fault.WireFault.TheVariants.{BadLine, LongLine, Spent, NoMemory}
@@ -70,21 +70,11 @@ refused_piece s piece LongLine plain is = long_piece sealed_limit piece plain is
 refused_piece s piece Spent plain is = absurd is
 refused_piece s piece NoMemory plain is = is
 
--- why a piece isn't held is why a line isn't opened
-pub unheld : (s : Sealing) (line : List ℕ) (fault : WireFault) → IsUnheld line fault → IsUnopenable s line fault
-unheld s line BadLine is = absurd is
-unheld s line LongLine is = is
-unheld s line Spent is = absurd is
-unheld s line NoMemory is = is
-
 -- a line that is held in part begins with what is held
 pub begins_line : (held rest piece after : List ℕ) → rest ≡ as_line piece ++ after → held ++ rest ≡ as_line (held ++ piece) ++ after
 begins_line held rest piece after is =
     ap (λ (l : List ℕ). held ++ l) is ∙ sym (append_assoc held (as_line piece) after)
     ∙ ap (λ (l : List ℕ). l ++ after) (sym (append_assoc held piece (10 ∷ [])))
-
-pub held_plain : (held piece : List ℕ) → HasNoLf held → HasNoLf piece → HasNoLf (held ++ piece)
-held_plain held piece first second = All-append (λ b. b ≢ 10) held piece first second
 
 pub kept_then : (a b c : Wiring) → KeepsRest a b → KeepsRest b c → KeepsRest a c
 kept_then a b c first second = record {
@@ -100,14 +90,6 @@ pub record IsOpening (old : Wiring) (came into : List ℕ) (now : Wiring) (added
   pub adds : added ≡ into ++ text
   pub front : OpensFront old.inward (old.held ++ came) text (now.held ++ rest) now.inward
   pub kept : KeepsRest old now
-
-pub opening_first : (old : Wiring) (came into : List ℕ) → IsOpening old came into old into came
-opening_first old came into = record {
-  text = [];
-  adds = sym (append-nil into);
-  front = front_none old.inward (old.held ++ came);
-  kept = record { fault = refl; outward = refl; waiting = refl };
-}
 
 module _ (old : Wiring) (came into : List ℕ) (now : Wiring) (added rest : List ℕ) (is : IsOpening old came into now added rest) where
   pub opening_next : (piece after text added_new : List ℕ) → rest ≡ as_line piece ++ after → HasNoLf (now.held ++ piece)
@@ -129,13 +111,6 @@ module _ (old : Wiring) (came into : List ℕ) (now : Wiring) (added rest : List
       let begins = begins_line now.held rest piece after whole in
       let refused = refused_line now.inward (now.held ++ rest) (now.held ++ piece) after fault begins plain why in
       (is.text, same ∙ is.adds, ((now.held ++ rest, now.inward, is.front, refused), kept_then old now new is.kept kept))
-
-  pub opening_last : HasNoLf (now.held ++ rest)
-      → (text : List ℕ) × (added ≡ into ++ text) × OpensAll old came text (record now { held = now.held ++ rest })
-  opening_last plain =
-      let kept = is.kept in
-      let same : record now { held = now.held ++ rest } ≡ record old { inward = now.inward; held = now.held ++ rest } = cc in
-      (is.text, is.adds, record { front = is.front; piece = plain; kept = same })
 
   pub opening_unheld : (fault : WireFault) → HasNoLf (now.held ++ rest) → IsUnheld (now.held ++ rest) fault
       → (text : List ℕ) × (added ≡ into ++ text) × (IsRefusedAfter old.inward (old.held ++ came) text fault × KeepsRest old now)

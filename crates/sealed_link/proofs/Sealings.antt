@@ -1,7 +1,7 @@
 -- Texts that are sealed one after the other.
-use Rattle.std.proofs.Common.{◌≡◌, ◌⊎◌, inl, inr, ℕ, zero, suc, ◌<◌, ◌≤◌, ◌+◌, ◌++◌, [], ◌∷◌, ◌==◌, Bool, true, false, List, sym, ◌∙◌, ap, refl, arith, length, take, drop, subst, All, length-drop, take-append-drop, append_assoc, append-nil, zero-add}
+use Rattle.std.proofs.Common.{◌≡◌, ◌⊎◌, inl, inr, ℕ, zero, suc, ◌<◌, ◌+◌, ◌++◌, [], ◌∷◌, ◌==◌, Bool, true, false, List, sym, ◌∙◌, ap, refl, arith, length, take, drop, subst, All, length-drop, take-append-drop, append_assoc, append-nil, zero-add}
 use Rattle.std.proofs.lemmas.List.{drop-take, flat_map_more, length-take-le, take-take}
-use Rattle.std.proofs.lemmas.List.Elements.{All-append, All-nil}
+use Rattle.std.proofs.lemmas.List.Elements.{All-append}
 use Rattle.std.proofs.lemmas.Bool.{eqb-false, eqb-true}
 use Rattle.std.specs.List.{flat_map}
 use Rattle.byte_ends.specs.Lines.{as_line}
@@ -17,13 +17,6 @@ use Rattle.sealed_link.specs.Wires.{Wiring, waiting_limit}
 use Rattle.sealed_link.proofs.Opens.{front_more, front_none}
 
 -- ---- a text
-
-pub is_batch : (bytes : List ℕ) (at : ℕ) → EndsBatch batch_bytes bytes at → length (take at bytes) ≤ most_line_bytes → IsBatch (take at bytes)
-is_batch bytes at ends short = record { few = few_of ends.few; short = short }
-  where
-    few_of : (at < batch_bytes) ⊎ HasNoLf (take at bytes) → (length (take at bytes) < batch_bytes) ⊎ HasNoLf (take at bytes)
-    few_of (inl lt) = let within = ends.within in inl (omega (arith, lt, length-take-le at bytes (omega (arith, within))))
-    few_of (inr plain) = inr plain
 
 -- ---- texts
 
@@ -45,9 +38,6 @@ seals_first old new text count is = record {
   front = is.front ∙ flat_map_more as_line [] [] is.lines;
   all = (is.few, is.all);
 }
-
-pub seals_none : (old new : Wiring) (text : List ℕ) → new ≡ old → SealsFront old text 0 new
-seals_none old new text same = record { texts = []; batches = All-nil IsBatch; within = omega arith; front = refl; all = same }
 
 take-add : (n m : ℕ) (bytes : List ℕ) → take (n + m) bytes ≡ take n bytes ++ take m (drop n bytes)
 take-add n m bytes =

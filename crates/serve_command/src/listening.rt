@@ -10,7 +10,7 @@ use byte_ends::{Ends, write_all};
 use command_line::{PageAddress, ServeWords, SocketMode};
 use console::Refusal;
 use mio::Waker;
-use page_server::{Door, open_door, open_socket_door};
+use page_server::{PageEndpoint, open_endpoint, open_socket_endpoint};
 use site_address::HostPort;
 use site_net::{Listener, listen_at_host, listen_at_path, listen_at_port};
 use std::alloc::{AllocError, Global};
@@ -23,17 +23,17 @@ use std::{fs, io};
 
 /// What a site listens at.
 #[derive(Drop)]
-pub struct Doors {
+pub struct SiteListeners {
     /// For its sessions.
     pub listeners: Vec<Listener>,
-    /// For browsers, where it shows itself to them, with what wakes who serves there.
-    pub page: Option<(Door, Waker)>,
+    /// For browsers, where it shows itself to them, with what wakes the thread that serves there.
+    pub page: Option<(PageEndpoint, Waker)>,
 }
 
 /// What a site listens at, and the paths of the sockets that it made for that.
 #[derive(Drop)]
 pub struct Listening<'a> {
-    pub doors: Doors,
+    pub site_listeners: SiteListeners,
     pub sockets: Vec<&'a str>,
 }
 
@@ -49,8 +49,11 @@ where
     R: Net<Listener = TcpListener, Stream = TcpStream> + RandomSource + Files + Print,
 {
     let mut sockets = Vec::new(alloc);
-    match doors_of(rt, alloc, words, &mut sockets) {
-        Ok(doors) => Ok(Listening { doors, sockets }),
+    match site_listeners_of(rt, alloc, words, &mut sockets) {
+        Ok(site_listeners) => Ok(Listening {
+            site_listeners,
+            sockets,
+        }),
         Err(ended) => {
             leave(rt, sockets.as_slice());
             Err(ended)
@@ -66,19 +69,19 @@ pub fn leave<R: Files>(rt: &R, sockets: &[&str]) {
 }
 
 /// Listens at all that the words name, for sessions and for browsers.
-fn doors_of<'a, R>(
+fn site_listeners_of<'a, R>(
     rt: &R,
     alloc: Global,
     words: &ServeWords<'a>,
     sockets: &mut Vec<&'a str>,
-) -> Result<Doors, Ended<'static>>
+) -> Result<SiteListeners, Ended<'static>>
 where
     R: Net<Listener = TcpListener, Stream = TcpStream> + RandomSource + Files + Print,
 {
     let mut listeners = Vec::new(alloc);
     listen_at_all(rt, alloc, words, &mut listeners, sockets)?;
     match page_of(rt, alloc, words, sockets) {
-        Ok(page) => Ok(Doors { listeners, page }),
+        Ok(page) => Ok(SiteListeners { listeners, page }),
         Err(ended) => Err(ended),
     }
 }
@@ -89,7 +92,7 @@ fn page_of<'a, R>(
     alloc: Global,
     words: &ServeWords<'a>,
     sockets: &mut Vec<&'a str>,
-) -> Result<Option<(Door, Waker)>, Ended<'static>>
+) -> Result<Option<(PageEndpoint, Waker)>, Ended<'static>>
 where
     R: Net<Listener = TcpListener, Stream = TcpStream> + RandomSource + Files + Print,
 {
@@ -97,17 +100,19 @@ where
         None => Ok(None),
         Some(PageAddress::Port(port)) => {
             let listener = listen_at(rt, alloc, "http ", port)?;
-            opened(open_door(rt, listener))
+            opened(open_endpoint(rt, listener))
         }
         Some(PageAddress::Path(path)) => {
             let listener = listen_at_socket(rt, alloc, "http ", path, words.mode, sockets)?;
-            opened(open_socket_door(rt, listener))
+            opened(open_socket_endpoint(rt, listener))
         }
     }
 }
 
-/// A door, if it could be opened.
-fn opened(page: io::Result<(Door, Waker)>) -> Result<Option<(Door, Waker)>, Ended<'static>> {
+/// The endpoint of the pages, if it could be made.
+fn opened(
+    page: io::Result<(PageEndpoint, Waker)>,
+) -> Result<Option<(PageEndpoint, Waker)>, Ended<'static>> {
     match page {
         Ok(page) => Ok(Some(page)),
         Err(_) => Err(Ended::Program(ProgramFault::NoBind)),

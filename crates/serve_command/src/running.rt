@@ -14,7 +14,7 @@ use super::finished::{Finished, finish, unrun};
 use super::heard::Heard;
 use super::journal::begin;
 use super::keys::Host;
-use super::listening::{Doors, Listening, leave};
+use super::listening::{Listening, SiteListeners, leave};
 use super::prepared::{Opened, Outside, Prepared, Site, prepare};
 use super::save::Saves;
 use byte_ends::{Drain, Source};
@@ -22,10 +22,10 @@ use command_line::{Printing, ServeWords};
 use console::Named;
 use key_files::KeyReader;
 use mio::Waker;
-use page_server::Door;
+use page_server::PageEndpoint;
 use site_journal::{Journal, Tape};
 use site_ledger::Keeps;
-use site_serve::{Doorstep, Prints, Reloads, Setup, serve_keeping};
+use site_serve::{PageSetup, Prints, Reloads, Setup, serve_keeping};
 use std::alloc::Global;
 use std::fs::File;
 use std::io::Print;
@@ -106,7 +106,7 @@ fn begun_on<'a, T: Tape + Drop, E: Drain>(
 
 /// Runs a site over what keeps its operations, and saves what it has left. Whatever that had at first survives in what
 /// is given back, with all that came to the record; and what is left is the first record with just these. A site whose
-/// start, doors, input or output can't be had isn't run; then nothing is saved.
+/// start, listeners, input or output can't be had isn't run; then nothing is saved.
 pub fn run_kept<R, I, N, E, L, S, K>(
     rt: R,
     alloc: Global,
@@ -173,8 +173,11 @@ where
         reloads,
         errors,
     } = heard;
-    let Listening { doors, sockets } = listening;
-    let Doors { listeners, page } = doors;
+    let Listening {
+        site_listeners,
+        sockets,
+    } = listening;
+    let SiteListeners { listeners, page } = site_listeners;
     let host = Host { reader: keys };
     let setup = setup_of(site, start, reloads, page);
     let closed = serve_keeping(
@@ -190,7 +193,7 @@ fn setup_of<'a>(
     site: Site<'a>,
     start: u32,
     reloads: Arc<Reloads, Global>,
-    page: Option<(Door, Waker)>,
+    page: Option<(PageEndpoint, Waker)>,
 ) -> Setup<'a>
     ensures held { (result.gate ≡ site.entry.gate) × (result.reloads ≡ reloads)
         × (result.replica ≡ site.entry.replica) }
@@ -201,7 +204,7 @@ fn setup_of<'a>(
         × (result.idle_ms ≡ site.entry.serving.idle_ms) × (result.connections ≡ site.entry.serving.connections) }
     ensures prints { result.prints ≡ prints_of site.entry.serving.prints }
     ensures page { result.page ≡ option_map
-        (λ opened. record { door = opened.0; waker = opened.1; hosts = site.entry.serving.http_hosts }) page }
+        (λ opened. record { endpoint = opened.0; waker = opened.1; hosts = site.entry.serving.http_hosts }) page }
 {
     let Site {
         serving,
@@ -237,17 +240,21 @@ fn setup_of<'a>(
         idle_ms,
         connections,
         prints: prints_of(prints),
-        page: doorstep(page, http_hosts),
+        page: page_setup(page, http_hosts),
     }
 }
 
 /// Where browsers connect to, with the names by which they may call this machine.
-fn doorstep(page: Option<(Door, Waker)>, hosts: Vec<String>) -> Option<Doorstep>
+fn page_setup(page: Option<(PageEndpoint, Waker)>, hosts: Vec<String>) -> Option<PageSetup>
     ensures { result
-        ≡ option_map (λ opened. record { door = opened.0; waker = opened.1; hosts = hosts }) page }
+        ≡ option_map (λ opened. record { endpoint = opened.0; waker = opened.1; hosts = hosts }) page }
 {
     match page {
-        Some((door, waker)) => Some(Doorstep { door, waker, hosts }),
+        Some((endpoint, waker)) => Some(PageSetup {
+            endpoint,
+            waker,
+            hosts,
+        }),
         None => None,
     }
 }

@@ -1,4 +1,4 @@
--- Who is answered at a seat is who has it.
+-- The session that is answered at a place is the one that was found there.
 use Rattle.std.proofs.Common.{◌≡◌, ◌<◌, true, ltb, ℕ, List, length, get_or, slice_get, slice_set, Option, Some, ap, refl, sym, ◌∙◌, subst}
 use Rattle.std.proofs.lemmas.Bool.{ltb-true}
 use Rattle.std.proofs.lemmas.List.{get_or-set_same, length-set}

@@ -42,17 +42,17 @@ pub struct Done<J: Naming> {
 /// What was published, or why nothing was.
 pub type Answer<J> = Result<Done<J>, DeskFault>;
 
-/// A puller's way to the desk and back.
+/// The link of a puller to the desk: its number, and its ends of the channels to the desk and back.
 #[derive(Drop)]
-pub struct Wire<J: Naming> {
+pub struct DeskLink<J: Naming> {
     pub puller: usize,
     pub asks: Sender<Ask, Global>,
     pub answers: Receiver<Answer<J>, Global>,
 }
 
-/// What a puller works with: a window to look through, and a wire to the desk.
+/// A thread that pulls: its window, and its link to the desk.
 #[derive(Drop)]
-pub struct Place<J: Naming> {
+pub struct Puller<J: Naming> {
     pub window: OwnWindow<J>,
-    pub wire: Wire<J>,
+    pub desk_link: DeskLink<J>,
 }

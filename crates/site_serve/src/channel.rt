@@ -4,7 +4,7 @@ ghost use Rattle.std.specs.Prelude.{◌≡◌, ◌≤◌, ◌++◌, [], Err, Mat
 ghost use Rattle.gossip_line.specs.declared.fault.LineFault.TheVariants.{NoMemory};
 ghost use Rattle.site_serve.specs.Channels.{IsSent, SealsMore, TakesCame, outgoing_of, seal_fault, seal_result};
 ghost use Rattle.site_serve.specs.Channels.{sends_of};
-ghost use Rattle.site_serve.specs.declared.channel.Passage.TheVariants.{Sealed, Shut};
+ghost use Rattle.site_serve.specs.declared.channel.ChannelMode.TheVariants.{Sealed, Shut};
 ghost use Rattle.site_serve.specs.declared.session_fault.SessionFault.TheVariants.{Line};
 
 use super::inbox::Inbox;
@@ -19,9 +19,9 @@ use std::alloc::{AllocError, Global};
 /// How many bytes the first line of a sealed connection may have.
 const GREETING_LIMIT: usize = 256;
 
-/// What the bytes of a connection go through.
+/// How the bytes of a connection become the lines of its session.
 #[derive(Drop)]
-pub(super) enum Passage {
+pub(super) enum ChannelMode {
     /// They are its session's lines.
     Plain,
     /// None is its session's yet: its first line has to name a key.
@@ -32,21 +32,21 @@ pub(super) enum Passage {
     Shut,
 }
 
-/// By what a connection asks to be let in.
+/// What a connection asks to be admitted by.
 #[derive(Clone, Copy, PartialEq)]
-pub(super) enum Knock {
-    /// By nothing: its line isn't whole yet, or it needn't ask, or was let in.
+pub(super) enum Credential {
+    /// Nothing: its line isn't whole yet, or it needn't ask, or was admitted.
     None,
-    /// By a key.
+    /// A key.
     Key(Greeting),
-    /// By something else.
+    /// Something else.
     Other,
 }
 
 /// The bytes of a connection that aren't its session's own.
 #[derive(Drop)]
 pub(super) struct Channel {
-    passage: Passage,
+    mode: ChannelMode,
     /// What was read before it was let in.
     greeting: Vec<u8>,
     /// What is sent as it is, before all else.
@@ -56,13 +56,13 @@ pub(super) struct Channel {
 impl Channel {
     /// A connection of a session that anybody may have, or one that has to be let in by a key.
     pub(super) fn new(alloc: Global, is_locked: bool) -> Channel {
-        let passage = if is_locked {
-            Passage::Locked
+        let mode = if is_locked {
+            ChannelMode::Locked
         } else {
-            Passage::Plain
+            ChannelMode::Plain
         };
         Channel {
-            passage,
+            mode,
             greeting: Vec::new(alloc),
             first: Outbox::new(alloc),
         }
@@ -70,40 +70,40 @@ impl Channel {
 
     /// Takes what was read: what of it is its session's comes to what was read of that.
     pub(super) fn take(&mut self, came: &[u8], inbox: &mut Inbox) -> Result<(), SessionFault>
-        ensures { TakesCame self.old.passage came.now inbox.old inbox.new result self.new.passage }
+        ensures { TakesCame self.old.mode came.now inbox.old inbox.new result self.new.mode }
     {
-        match &mut self.passage {
-            Passage::Plain => kept(inbox.keep(came)),
-            Passage::Locked => kept(self.greeting.extend_from_slice(came)),
-            Passage::Sealed(wire) => opened(inbox.keep_opened(wire, came)),
-            Passage::Shut => Ok(()),
+        match &mut self.mode {
+            ChannelMode::Plain => kept(inbox.keep(came)),
+            ChannelMode::Locked => kept(self.greeting.extend_from_slice(came)),
+            ChannelMode::Sealed(wire) => opened(inbox.keep_opened(wire, came)),
+            ChannelMode::Shut => Ok(()),
         }
     }
 
-    /// By what it asks to be let in.
-    pub(super) fn knock(&self) -> Knock {
-        if !matches!(&self.passage, Passage::Locked) {
-            return Knock::None;
+    /// What it asks to be admitted by.
+    pub(super) fn credential(&self) -> Credential {
+        if !matches!(&self.mode, ChannelMode::Locked) {
+            return Credential::None;
         }
         match memchr(b'\n', self.greeting.as_slice()) {
             Some(end) if end + 1 == self.greeting.len() => greeting_of(&self.greeting[..end]),
-            None if self.greeting.len() <= GREETING_LIMIT => Knock::None,
-            _ => Knock::Other,
+            None if self.greeting.len() <= GREETING_LIMIT => Credential::None,
+            _ => Credential::Other,
         }
     }
 
     /// Is let in, and answered so: its session's lines are sealed from now on.
     pub(super) fn let_in(&mut self, answer: Vec<u8>, wire: Wire) -> Result<(), SessionFault>
-        ensures passage { self.new.passage ≡ Sealed wire }
+        ensures mode { self.new.mode ≡ Sealed wire }
         ensures first { OnOk result (self.new.first ≡ self.old.first ++ answer.items) }
     {
-        self.passage = Passage::Sealed(wire);
+        self.mode = ChannelMode::Sealed(wire);
         kept(self.first.add(answer))
     }
 
     /// Is answered that it isn't let in.
     pub(super) fn keep_out(&mut self, answer: Vec<u8>) -> Result<(), SessionFault>
-        ensures passage { self.new.passage ≡ self.old.passage }
+        ensures mode { self.new.mode ≡ self.old.mode }
         ensures first { OnOk result (self.new.first ≡ self.old.first ++ answer.items) }
     {
         kept(self.first.add(answer))
@@ -112,62 +112,62 @@ impl Channel {
     /// Seals more of what its session was answered, where all that was sealed is sent.
     pub(super) fn seal(&mut self, outbox: &mut Outbox) -> Result<(), SessionFault>
         ensures more { SealsMore
-            (sends_of self.old.passage []) self.old.passage outbox.old self.new.passage outbox.new result }
+            (sends_of self.old.mode []) self.old.mode outbox.old self.new.mode outbox.new result }
         ensures first { self.new.first ≡ self.old.first }
     {
-        match &mut self.passage {
-            Passage::Sealed(wire) if wire.waiting().is_empty() => sealed(wire, outbox),
+        match &mut self.mode {
+            ChannelMode::Sealed(wire) if wire.waiting().is_empty() => sealed(wire, outbox),
             _ => Ok(()),
         }
     }
 
     /// What is sent next, where its session was answered this.
     pub(super) fn next<'a>(&'a self, outbox: &'a Outbox) -> &'a [u8]
-        ensures { result.now ≡ outgoing_of self.now.first self.now.passage outbox.now }
+        ensures { result.now ≡ outgoing_of self.now.first self.now.mode outbox.now }
     {
         if self.first.len() > 0 {
             return self.first.as_slice();
         }
-        match &self.passage {
-            Passage::Plain => outbox.as_slice(),
-            Passage::Sealed(wire) => wire.waiting(),
-            Passage::Locked | Passage::Shut => &[],
+        match &self.mode {
+            ChannelMode::Plain => outbox.as_slice(),
+            ChannelMode::Sealed(wire) => wire.waiting(),
+            ChannelMode::Locked | ChannelMode::Shut => &[],
         }
     }
 
     /// Notes that so many bytes of what is sent next were sent.
     pub(super) fn note_sent(&mut self, outbox: &mut Outbox, count: usize)
-        requires { count ≤ length (outgoing_of self.old.first self.old.passage outbox.old) }
-        ensures { IsSent count self.old.first self.old.passage outbox.old self.new.first self.new.passage outbox.new }
+        requires { count ≤ length (outgoing_of self.old.first self.old.mode outbox.old) }
+        ensures { IsSent count self.old.first self.old.mode outbox.old self.new.first self.new.mode outbox.new }
     {
         if self.first.len() > 0 {
             self.first.note_sent(count);
             return;
         }
-        match &mut self.passage {
-            Passage::Plain => outbox.note_sent(count),
-            Passage::Sealed(wire) => wire.note_sent(count),
-            Passage::Locked | Passage::Shut => {}
+        match &mut self.mode {
+            ChannelMode::Plain => outbox.note_sent(count),
+            ChannelMode::Sealed(wire) => wire.note_sent(count),
+            ChannelMode::Locked | ChannelMode::Shut => {}
         }
     }
 
     /// Sends nothing more.
     pub(super) fn shut(&mut self)
-        ensures { (self.new.passage ≡ Shut) × (self.new.first ≡ []) }
+        ensures { (self.new.mode ≡ Shut) × (self.new.first ≡ []) }
     {
-        self.passage = Passage::Shut;
+        self.mode = ChannelMode::Shut;
         self.first.clear();
     }
 
     /// Whether it sends nothing more.
     pub(super) fn is_shut(&self) -> bool {
-        matches!(&self.passage, Passage::Shut)
+        matches!(&self.mode, ChannelMode::Shut)
     }
 
     /// Whether all is sent but what its session was answered and isn't sealed.
     pub(super) fn is_sent(&self) -> bool {
-        let is_sealed_sent = match &self.passage {
-            Passage::Sealed(wire) => wire.waiting().is_empty(),
+        let is_sealed_sent = match &self.mode {
+            ChannelMode::Sealed(wire) => wire.waiting().is_empty(),
             _ => true,
         };
         self.first.len() == 0 && is_sealed_sent
@@ -175,10 +175,10 @@ impl Channel {
 }
 
 /// What a line says that asks to be let in.
-fn greeting_of(line: &[u8]) -> Knock {
+fn greeting_of(line: &[u8]) -> Credential {
     match Greeting::read(line) {
-        Some(greeting) => Knock::Key(greeting),
-        None => Knock::Other,
+        Some(greeting) => Credential::Key(greeting),
+        None => Credential::Other,
     }
 }
 

@@ -3,9 +3,9 @@
 ghost use Rattle.std.specs.Prelude.{◌≡◌, IfOk};
 ghost use Rattle.site_serve.specs.InForce.{gate_in, ruling_gate};
 
-use super::board::Board;
-use super::doorman::Doorman;
+use super::admission::Admission;
 use super::errors::Errors;
+use super::metrics::Metrics;
 use super::reloads::{InForce, Reloads};
 use super::ruling::Ruling;
 use super::setup::{Prints, Turn};
@@ -18,9 +18,9 @@ use std::sync::Arc;
 use std::sync::atomic::AtomicBool;
 use std::time::Duration;
 
-/// What a site goes by as long as it runs.
+/// The options of a site, which hold as long as it runs.
 #[derive(Drop)]
-pub(super) struct Ways<'a> {
+pub(super) struct SiteOptions<'a> {
     /// The gates that are put in force in the place of the first.
     pub reloads: Arc<Reloads, Global>,
     pub prints: Prints,
@@ -37,11 +37,11 @@ pub(super) struct Ways<'a> {
 #[derive(Drop)]
 pub(super) struct Common<'a, E: Drain, T: Turn> {
     pub alloc: Global,
-    pub ways: Ways<'a>,
+    pub options: SiteOptions<'a>,
     /// The gate that the site begins with.
     pub first: InForce,
     pub errors: Errors<E>,
-    pub board: Board,
+    pub metrics: Metrics,
     pub stop: &'a Stop,
     pub turn: &'a T,
     /// Whether another process takes in as this site.
@@ -50,22 +50,26 @@ pub(super) struct Common<'a, E: Drain, T: Turn> {
 
 /// The gate that a site begins with, for each of its threads that judge.
 #[derive(Drop)]
-pub(super) struct Firsts {
+pub(super) struct FirstGates {
     pub reports: InForce,
     pub pages: InForce,
     pub workers: Vec<InForce>,
 }
 
-impl Firsts {
+impl FirstGates {
     /// A gate for each thread that judges, of so many workers.
-    pub(super) fn new(alloc: Global, first: &InForce, workers: usize) -> Result<Firsts, AllocError>
-        ensures { IfOk result (λ firsts. (gate_in firsts.reports ≡ gate_in first.now)
-            × (gate_in firsts.pages ≡ gate_in first.now)) }
+    pub(super) fn new(
+        alloc: Global,
+        first: &InForce,
+        workers: usize,
+    ) -> Result<FirstGates, AllocError>
+        ensures { IfOk result (λ first_gates. (gate_in first_gates.reports ≡ gate_in first.now)
+            × (gate_in first_gates.pages ≡ gate_in first.now)) }
     {
         let reports = first.share()?;
         let pages = first.share()?;
-        let workers = firsts_of(alloc, first, workers)?;
-        Ok(Firsts {
+        let workers = shared_gates(alloc, first, workers)?;
+        Ok(FirstGates {
             reports,
             pages,
             workers,
@@ -74,13 +78,17 @@ impl Firsts {
 }
 
 /// A gate for each of so many workers.
-fn firsts_of(alloc: Global, first: &InForce, workers: usize) -> Result<Vec<InForce>, AllocError> {
-    let mut firsts = Vec::with_capacity(alloc, workers)?;
+fn shared_gates(
+    alloc: Global,
+    first: &InForce,
+    workers: usize,
+) -> Result<Vec<InForce>, AllocError> {
+    let mut first_gates = Vec::with_capacity(alloc, workers)?;
     for _ in 0..workers {
         let same = first.share()?;
-        firsts.push(same)?;
+        first_gates.push(same)?;
     }
-    Ok(firsts)
+    Ok(first_gates)
 }
 
 impl<E: Drain, T: Turn> Common<'_, E, T> {
@@ -88,15 +96,15 @@ impl<E: Drain, T: Turn> Common<'_, E, T> {
     pub(super) fn ruling(&self, first: InForce) -> Ruling<'_>
         ensures { ruling_gate result ≡ gate_in first }
     {
-        Ruling::new(&self.ways.reloads, first)
+        Ruling::new(&self.options.reloads, first)
     }
 
-    /// By what the site lets connections in, and dials.
-    pub(super) fn doorman(&self) -> Doorman<'_, T> {
-        Doorman {
+    /// By what the site admits connections, and dials.
+    pub(super) fn admission(&self) -> Admission<'_, T> {
+        Admission {
             reader: self.turn,
-            keys: self.ways.keys,
-            site: self.ways.guard.own,
+            keys: self.options.keys,
+            site: self.options.guard.own,
         }
     }
 }

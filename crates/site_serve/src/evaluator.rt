@@ -15,7 +15,7 @@ ghost use Rattle.state_core.specs.Items.{item_cmp};
 
 use super::errors::Errors;
 use super::kept::brought_up;
-use super::news::{News, Stir};
+use super::news::{News, Notice};
 use super::opening::{OwnWatch, OwnWindow};
 use super::ruling::Ruling;
 use super::setup::{Prints, ServeFault};
@@ -154,14 +154,14 @@ impl<W: Drain + Drop, J: Naming> Printing<'_, W, J> {
     }
 
     /// Sees what was published. Whether nothing new comes any more.
-    fn is_over_at(&mut self, stir: Stir<J>) -> bool {
-        match stir {
-            Stir::Published(receipt) => {
+    fn is_over_at(&mut self, notice: Notice<J>) -> bool {
+        match notice {
+            Notice::Published(receipt) => {
                 let _own = self.window.learn(&receipt);
                 false
             }
-            Stir::Reloaded => false,
-            Stir::Over => true,
+            Notice::Reloaded => false,
+            Notice::Over => true,
         }
     }
 }

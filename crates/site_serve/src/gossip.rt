@@ -1,9 +1,9 @@
 //! Pulls from peers, round after round.
 
-use super::board::Board;
-use super::doorman::Doorman;
+use super::admission::Admission;
 use super::errors::Errors;
 use super::laws::sites_that_pulled_print_the_same;
+use super::metrics::Metrics;
 use super::port::PullPort;
 use byte_ends::{Drain, Ends, Source};
 use gossip_line::{LineFault, pull_run};
@@ -58,12 +58,12 @@ pub struct Pulling<'a, T: KeyReader> {
     /// The addresses of all peers.
     pub addresses: &'a [PeerAddress<'a>],
     /// By what peers on other machines are dialed.
-    pub doorman: Doorman<'a, T>,
+    pub admission: Admission<'a, T>,
     /// How long to rest between two rounds.
     pub pause: Duration,
     pub patience: Patience,
     pub stop: &'a Stop,
-    pub board: &'a Board,
+    pub metrics: &'a Metrics,
 }
 
 /// The longest pause in seconds between two rounds of pulls from peers that can't be pulled from.
@@ -130,7 +130,7 @@ where
         let condition = pull_from(rt, pulling, *address, port);
         is_well |= condition == Condition::Well;
         pulling
-            .board
+            .metrics
             .note_pull(rt, peer.place, condition == Condition::Well);
         if port.sink.is_start_taken() {
             pulling.stop.ask(rt);
@@ -240,7 +240,7 @@ fn dialed_by<T: KeyReader, S: Source + Drop, D: Drain + Drop>(
     source: S,
     drain: D,
 ) -> Result<(LinkSource<S>, LinkDrain<D>), Condition> {
-    match pulling.doorman.secret(key) {
+    match pulling.admission.secret(key) {
         Ok(secret) => dialed_with(pulling, &secret, source, drain),
         Err(fault) => Err(Condition::Unkeyed(fault)),
     }
@@ -253,11 +253,11 @@ fn dialed_with<T: KeyReader, S: Source + Drop, D: Drain + Drop>(
     source: S,
     drain: D,
 ) -> Result<(LinkSource<S>, LinkDrain<D>), Condition> {
-    let nonce = match pulling.doorman.reader.nonce() {
+    let nonce = match pulling.admission.reader.nonce() {
         Ok(nonce) => nonce,
         Err(fault) => return Err(Condition::Unkeyed(fault)),
     };
-    let site = pulling.doorman.site;
+    let site = pulling.admission.site;
     match dialed(pulling.alloc, secret, site, nonce, source, drain) {
         Ok(ends) => Ok(ends),
         Err(fault) => Err(Condition::Undialed(fault)),

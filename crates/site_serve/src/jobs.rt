@@ -1,6 +1,6 @@
 //! What the workers of a site do for its sessions.
 
-use super::channel::Knock;
+use super::channel::Credential;
 use super::opening::OwnWindow;
 use super::session_fault::SessionFault;
 use crossbeam_channel::{Receiver, Sender};
@@ -15,8 +15,8 @@ use std::sync::Arc;
 pub(super) enum Task {
     /// It begins.
     Enter,
-    /// It asks to be let in.
-    Knock(Knock),
+    /// It asks to be admitted.
+    Admit(Credential),
     /// It asks to look at what the site has.
     Look(Look),
     /// It has ended so.

@@ -52,17 +52,15 @@
 //! ```
 #![tactic(auto)]
 
+mod admission;
 mod ask;
-mod bell;
-mod board;
 mod channel;
 mod closed;
 mod common;
 mod desk;
-mod doorman;
 mod errors;
 mod evaluator;
-mod floor;
+mod event_loop;
 mod gossip;
 mod group_commit;
 mod inbox;
@@ -72,6 +70,7 @@ mod laws;
 mod lines;
 mod listeners;
 mod looks;
+mod metrics;
 mod news;
 mod opening;
 mod outbox;
@@ -81,11 +80,12 @@ mod port;
 mod reloads;
 mod ruling;
 mod run;
-mod seats;
 mod session;
 mod session_fault;
 mod setup;
+mod thread_ends;
 mod threads;
+mod wakeup;
 
 pub use closed::Closed;
 pub use laws::{
@@ -93,4 +93,4 @@ pub use laws::{
 };
 pub use reloads::Reloads;
 pub use run::{serve_keeping, serve_run};
-pub use setup::{Doorstep, Prints, ServeFault, Served, Setup, Turn};
+pub use setup::{PageSetup, Prints, ServeFault, Served, Setup, Turn};

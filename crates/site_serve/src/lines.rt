@@ -11,10 +11,10 @@ ghost use Rattle.review_ops.specs.Draft.{deed_of};
 ghost use Rattle.site_serve.specs.Doing.{DoesBody, DoesLine};
 
 use super::ask::{Ask, Asker};
-use super::board::Board;
-use super::channel::Knock;
+use super::channel::Credential;
 use super::group_commit::{BATCH, GroupCommit};
 use super::jobs::{Job, Task};
+use super::metrics::Metrics;
 use super::opening::Opening;
 use super::session::Session;
 use crossbeam_channel::Sender;
@@ -30,9 +30,9 @@ use std::time::Duration;
 /// How many lines of a session are done in a turn.
 const LINES_A_TURN: usize = 64;
 
-/// What the lines of a session are done with.
+/// The session whose lines are done, and what doing them takes.
 #[derive(Drop)]
-pub(super) struct Means<'a, J: Naming> {
+pub(super) struct LineContext<'a, J: Naming> {
     pub alloc: Global,
     /// The session, by its place and its number.
     pub place: usize,
@@ -40,7 +40,7 @@ pub(super) struct Means<'a, J: Naming> {
     pub moment: Duration,
     /// Whether there is room for the answers of more looks.
     pub has_room: bool,
-    pub board: &'a Board,
+    pub metrics: &'a Metrics,
     pub jobs: &'a Sender<Job<J>, Global>,
 }
 
@@ -48,13 +48,13 @@ pub(super) struct Means<'a, J: Naming> {
 /// publish.
 pub(super) fn do_lines<R: Wait, J: Opening, K: Keeps>(
     rt: &R,
-    means: &Means<'_, J>,
+    context: &LineContext<'_, J>,
     buffer: &mut [u8],
     session: &mut Session<J>,
     group: &mut GroupCommit<J, K>,
 )
     // Nobody else waits for an answer to a line of the session.
-    ensures own { AddsOwn (session_at means.now.place means.now.number) group.old.waiters group.new.waiters }
+    ensures own { AddsOwn (session_at context.now.place context.now.number) group.old.waiters group.new.waiters }
 
     // Nothing is answered before what was asked earlier is.
     ensures order { 0 < session.old.waiting → session.new.outbox ≡ session.old.outbox }
@@ -63,7 +63,7 @@ pub(super) fn do_lines<R: Wait, J: Opening, K: Keeps>(
         if !session.is_open() || !group.has_room() {
             return;
         }
-        if !do_next(rt, means, buffer, session, group) {
+        if !do_next(rt, context, buffer, session, group) {
             return;
         }
     }
@@ -73,26 +73,26 @@ pub(super) fn do_lines<R: Wait, J: Opening, K: Keeps>(
 #[tactic(auto, using(crate::proofs::Waiting::none_own))]
 fn do_next<R: Wait, J: Opening, K: Keeps>(
     rt: &R,
-    means: &Means<'_, J>,
+    context: &LineContext<'_, J>,
     buffer: &mut [u8],
     session: &mut Session<J>,
     group: &mut GroupCommit<J, K>,
 ) -> bool
     requires room { length group.old.waiters < BATCH }
-    ensures own { AddsOwn (session_at means.now.place means.now.number) group.old.waiters group.new.waiters }
+    ensures own { AddsOwn (session_at context.now.place context.now.number) group.old.waiters group.new.waiters }
     ensures order { 0 < session.old.waiting → session.new.outbox ≡ session.old.outbox }
     ensures waits { 0 < session.old.waiting → 0 < session.new.waiting }
 {
     match session.inbox.next_line() {
-        Some(size) => do_line(rt, means, session, group, size),
-        None => read_on(rt, means, buffer, session),
+        Some(size) => do_line(rt, context, session, group, size),
+        None => read_on(rt, context, buffer, session),
     }
 }
 
 /// Reads on, where no line is there. Whether something came.
 fn read_on<R: Wait, J: Naming>(
     rt: &R,
-    means: &Means<'_, J>,
+    context: &LineContext<'_, J>,
     buffer: &mut [u8],
     session: &mut Session<J>,
 ) -> bool
@@ -105,38 +105,43 @@ fn read_on<R: Wait, J: Naming>(
     }
     if session.inbox.is_too_long() {
         if !session.is_waiting() {
-            session.say_too_long(means.alloc);
+            session.say_too_long(context.alloc);
         }
         return false;
     }
-    match session.knock() {
-        Knock::None => session.read(buffer, means.moment),
-        knock => {
-            ask_for(rt, means, session, knock);
+    match session.credential() {
+        Credential::None => session.read(buffer, context.moment),
+        credential => {
+            ask_for(rt, context, session, credential);
             false
         }
     }
 }
 
 /// Has a worker look whether a session is let in by what it asks that by.
-fn ask_for<R: Wait, J: Naming>(rt: &R, means: &Means<'_, J>, session: &mut Session<J>, knock: Knock)
+fn ask_for<R: Wait, J: Naming>(
+    rt: &R,
+    context: &LineContext<'_, J>,
+    session: &mut Session<J>,
+    credential: Credential,
+)
     ensures { (session.new.outbox ≡ session.old.outbox) × (session.new.waiting ≡ session.old.waiting) }
 {
     session.go_away();
     let job = Job {
-        place: means.place,
-        session: means.number,
+        place: context.place,
+        session: context.number,
         receipt: None,
-        task: Task::Knock(knock),
+        task: Task::Admit(credential),
     };
-    let _sent = means.jobs.send(rt, job);
+    let _sent = context.jobs.send(rt, job);
 }
 
 /// Does a line of a session: false where it has to wait, or the session ends at it.
 #[tactic(auto, using(crate::proofs::Waiting::none_own, crate::proofs::Waiting::says_does, crate::proofs::Waiting::takes_does, crate::proofs::Waiting::looks_does))]
 fn do_line<R: Wait, J: Opening, K: Keeps>(
     rt: &R,
-    means: &Means<'_, J>,
+    context: &LineContext<'_, J>,
     session: &mut Session<J>,
     group: &mut GroupCommit<J, K>,
     size: usize,
@@ -148,12 +153,12 @@ fn do_line<R: Wait, J: Opening, K: Keeps>(
     ensures does { MatchBool result
         ((session.new.inbox ≡ drop (size + 1) session.old.inbox)
         × DoesLine session.old.may_take (nat_eq session.old.lines 0) (without_cr (take size session.old.inbox))
-        (session_at means.now.place means.now.number)
+        (session_at context.now.place context.now.number)
         (record { answers = session.old.outbox; waiters = group.old.waiters; account = group.old.entries.account })
         (record { answers = session.new.outbox; waiters = group.new.waiters; account = group.new.entries.account }))
         ((session.new.inbox ≡ session.old.inbox) × (group.new.waiters ≡ group.old.waiters)
         × (group.new.entries.account ≡ group.old.entries.account)) }
-    ensures own { AddsOwn (session_at means.now.place means.now.number) group.old.waiters group.new.waiters }
+    ensures own { AddsOwn (session_at context.now.place context.now.number) group.old.waiters group.new.waiters }
     ensures order { 0 < session.old.waiting → session.new.outbox ≡ session.old.outbox }
     ensures waits { 0 < session.old.waiting → 0 < session.new.waiting }
 {
@@ -163,7 +168,7 @@ fn do_line<R: Wait, J: Opening, K: Keeps>(
     }
     if size > LINE_LIMIT {
         if !session.is_waiting() {
-            session.say_too_long(means.alloc);
+            session.say_too_long(context.alloc);
         }
         return false;
     }
@@ -171,23 +176,23 @@ fn do_line<R: Wait, J: Opening, K: Keeps>(
     if session.is_waiting() && !is_take(line) {
         return false;
     }
-    match step_of(means.alloc, session.is_first(), line) {
-        Step::Takes(draft) => take_body(means, session, group, draft, size),
+    match step_of(context.alloc, session.is_first(), line) {
+        Step::Takes(draft) => take_body(context, session, group, draft, size),
         _ if session.is_waiting() => false,
         Step::Says(saying) => {
             if saying == Saying::Noted {
-                means.board.note_heard(means.moment);
+                context.metrics.note_heard(context.moment);
             }
-            session.say(means.alloc, saying);
+            session.say(context.alloc, saying);
             session.pass(size);
             true
         }
-        Step::Looks(_) if !means.has_room => {
+        Step::Looks(_) if !context.has_room => {
             session.hold_back();
             false
         }
         Step::Looks(look) => {
-            begin_look(rt, means, session, look, size);
+            begin_look(rt, context, session, look, size);
             true
         }
     }
@@ -197,7 +202,7 @@ fn do_line<R: Wait, J: Opening, K: Keeps>(
 /// false where it has to wait.
 #[tactic(auto, using(crate::proofs::Waiting::none_own, crate::proofs::Waiting::one_own))]
 fn take_body<J: Opening, K: Keeps>(
-    means: &Means<'_, J>,
+    context: &LineContext<'_, J>,
     session: &mut Session<J>,
     group: &mut GroupCommit<J, K>,
     draft: Draft,
@@ -207,19 +212,19 @@ fn take_body<J: Opening, K: Keeps>(
     requires room { length group.old.waiters < BATCH }
     ensures does { MatchBool result
         ((session.new.inbox ≡ drop (size + 1) session.old.inbox)
-        × DoesBody session.old.may_take (deed_of draft) (session_at means.now.place means.now.number)
+        × DoesBody session.old.may_take (deed_of draft) (session_at context.now.place context.now.number)
         (record { answers = session.old.outbox; waiters = group.old.waiters; account = group.old.entries.account })
         (record { answers = session.new.outbox; waiters = group.new.waiters; account = group.new.entries.account }))
         ((session.new.inbox ≡ session.old.inbox) × (group.new.waiters ≡ group.old.waiters)
         × (group.new.entries.account ≡ group.old.entries.account)) }
-    ensures own { AddsOwn (session_at means.now.place means.now.number) group.old.waiters group.new.waiters }
+    ensures own { AddsOwn (session_at context.now.place context.now.number) group.old.waiters group.new.waiters }
     ensures order { 0 < session.old.waiting → session.new.outbox ≡ session.old.outbox }
     ensures waits { 0 < session.old.waiting → 0 < session.new.waiting }
 {
     if session.may_take() {
         let asker = Asker::Session {
-            place: means.place,
-            session: means.number,
+            place: context.place,
+            session: context.number,
         };
         group.hold(Ask::Intake { asker, draft });
         session.await_publish();
@@ -229,7 +234,7 @@ fn take_body<J: Opening, K: Keeps>(
     if session.is_waiting() {
         return false;
     }
-    session.say(means.alloc, Saying::NotAllowed);
+    session.say(context.alloc, Saying::NotAllowed);
     session.pass(size);
     true
 }
@@ -237,7 +242,7 @@ fn take_body<J: Opening, K: Keeps>(
 /// Goes on past the line of this size, and has a worker look for the session as that line asks.
 fn begin_look<R: Wait, J: Naming>(
     rt: &R,
-    means: &Means<'_, J>,
+    context: &LineContext<'_, J>,
     session: &mut Session<J>,
     look: Look,
     size: usize,
@@ -250,15 +255,15 @@ fn begin_look<R: Wait, J: Naming>(
 {
     session.pass(size);
     let Ok(receipt) = session.receipt_again() else {
-        session.say(means.alloc, Saying::NoMemory);
+        session.say(context.alloc, Saying::NoMemory);
         return;
     };
     session.go_away();
     let job = Job {
-        place: means.place,
-        session: means.number,
+        place: context.place,
+        session: context.number,
         receipt,
         task: Task::Look(look),
     };
-    let _sent = means.jobs.send(rt, job);
+    let _sent = context.jobs.send(rt, job);
 }

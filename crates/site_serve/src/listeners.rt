@@ -1,6 +1,6 @@
 //! What a site listens at, as the loop polls it.
 
-use super::session::Guest;
+use super::session::Connection;
 use mio::net::{TcpListener, TcpStream, UnixListener};
 use mio::{Interest, Poll, Token};
 use site_net::Listener;
@@ -40,10 +40,10 @@ impl Listeners {
     }
 
     /// The next connection that waits at any of them; nothing where none waits, or none can be accepted now.
-    pub(super) fn accept(&self) -> Option<Guest> {
+    pub(super) fn accept(&self) -> Option<Connection> {
         for listener in &self.all {
-            if let Ok(guest) = accepted(listener) {
-                return Some(guest);
+            if let Ok(connection) = accepted(listener) {
+                return Some(connection);
             }
         }
         None
@@ -79,7 +79,7 @@ fn polled_port(
 }
 
 /// The next connection that waits at a listener. One of a Unix socket is a stream like those of ports.
-fn accepted(listener: &Polled) -> io::Result<Guest> {
+fn accepted(listener: &Polled) -> io::Result<Connection> {
     let (stream, is_locked) = match listener {
         Polled::Port(listener) => (accepted_at_port(listener)?, false),
         Polled::Sealed(listener) => (accepted_at_port(listener)?, true),
@@ -88,7 +88,7 @@ fn accepted(listener: &Polled) -> io::Result<Guest> {
             (TcpStream::from(OwnedFd::from(stream)), false)
         }
     };
-    Ok(Guest { stream, is_locked })
+    Ok(Connection { stream, is_locked })
 }
 
 /// The next connection that waits at a port.

@@ -13,10 +13,10 @@ ghost use Rattle.site_serve.specs.Outboxes.{Adds};
 ghost use Rattle.site_shared.specs.Accounts.{GoesOn};
 ghost use Rattle.site_shared.specs.Publishes.{arrive};
 
-use super::board::Board;
-use super::doorman::Doorman;
+use super::admission::Admission;
 use super::errors::Errors;
 use super::jobs::{Job, Reply, Task, Work, Worker};
+use super::metrics::Metrics;
 use super::outbox::refusing_memory;
 use super::port::SitePort;
 use super::ruling::Ruling;
@@ -35,11 +35,11 @@ use std::sync::{Arc, Wait};
 pub(super) fn do_jobs<R: Wait, E: Drain, T: Turn, J: Naming>(
     rt: &R,
     alloc: Global,
-    doorman: &Doorman<'_, T>,
+    admission: &Admission<'_, T>,
     ruling: Ruling<'_>,
     worker: Worker<J>,
     waker: &Waker,
-    board: &Board,
+    metrics: &Metrics,
     errors: &Errors<E>,
     turn: &T,
 ) {
@@ -51,7 +51,7 @@ pub(super) fn do_jobs<R: Wait, E: Drain, T: Turn, J: Naming>(
     let mut port = SitePort::new(rt, alloc, ruling, window);
     for job in jobs.iter(rt) {
         port.follow();
-        let reply = done(rt, alloc, doorman, job, &mut port, board, errors, turn);
+        let reply = done(rt, alloc, admission, job, &mut port, metrics, errors, turn);
         let _sent = replies.send(rt, reply);
         let _woken = waker.wake();
     }
@@ -61,10 +61,10 @@ pub(super) fn do_jobs<R: Wait, E: Drain, T: Turn, J: Naming>(
 fn done<R: Wait, E: Drain, T: Turn, J: Naming>(
     rt: &R,
     alloc: Global,
-    doorman: &Doorman<'_, T>,
+    admission: &Admission<'_, T>,
     job: Job<J>,
     port: &mut SitePort<'_, '_, R, J>,
-    board: &Board,
+    metrics: &Metrics,
     errors: &Errors<E>,
     turn: &T,
 ) -> Reply {
@@ -76,9 +76,9 @@ fn done<R: Wait, E: Drain, T: Turn, J: Naming>(
     } = job;
     let work = match task {
         Task::Enter => entered(turn, session),
-        Task::Knock(knock) => doorman.answer(rt, alloc, knock, errors),
-        Task::Look(look) => noted(alloc, &look, &receipt, port, board),
-        Task::Leave(ended) => left(rt, alloc, session, ended, board, errors, turn),
+        Task::Admit(credential) => admission.answer(rt, alloc, credential, errors),
+        Task::Look(look) => noted(alloc, &look, &receipt, port, metrics),
+        Task::Leave(ended) => left(rt, alloc, session, ended, metrics, errors, turn),
     };
     Reply {
         place,
@@ -99,11 +99,11 @@ fn noted<R: Wait, J: Naming>(
     look: &Look,
     receipt: &Option<Arc<BrandedReceipt<J>, Global>>,
     port: &mut SitePort<'_, '_, R, J>,
-    board: &Board,
+    metrics: &Metrics,
 ) -> Work {
-    board.begin_look();
+    metrics.begin_look();
     let work = looked(alloc, look, receipt, port);
-    board.end_look();
+    metrics.end_look();
     work
 }
 
@@ -113,13 +113,13 @@ fn left<R: Wait, E: Drain, T: Turn>(
     alloc: Global,
     session: u64,
     ended: Result<(), SessionFault>,
-    board: &Board,
+    metrics: &Metrics,
     errors: &Errors<E>,
     turn: &T,
 ) -> Work {
     turn.left(session);
     if let Err(fault) = ended {
-        board.note_fault();
+        metrics.note_fault();
         errors.session_failed(rt, alloc, fault, session);
     }
     Work::Left

@@ -11,7 +11,7 @@ use std::time::{Clock, Duration};
 #[derive(Drop)]
 pub struct News<J: Naming> {
     slot: Mutex<Slot<J>>,
-    /// What is put in force at the site, whose bell wakes who waits for what is new.
+    /// The gates that are put in force at the site, whose wake-up wakes the thread that waits for news.
     reloads: Arc<Reloads, Global>,
 }
 
@@ -26,7 +26,7 @@ struct Slot<J: Naming> {
 
 /// Why there is something to look at.
 #[derive(Drop)]
-pub enum Stir<J: Naming> {
+pub enum Notice<J: Naming> {
     /// Something was published.
     Published(Arc<BrandedReceipt<J>, Global>),
     /// Another gate was put in force.
@@ -54,7 +54,7 @@ impl<J: Naming> News<J> {
             return;
         };
         if self.is_awaited_after(rt, newest) {
-            self.reloads.bell().ring(rt);
+            self.reloads.wakeup().set(rt);
         }
     }
 
@@ -70,7 +70,7 @@ impl<J: Naming> News<J> {
     /// Nothing new comes any more.
     pub fn close(&self, rt: &impl Wait) {
         self.note_closed(rt);
-        self.reloads.bell().ring(rt);
+        self.reloads.wakeup().set(rt);
     }
 
     /// Notes that nothing new comes any more.
@@ -79,18 +79,18 @@ impl<J: Naming> News<J> {
         slot.is_closed = true;
     }
 
-    /// Rests for so long, and then waits for a receipt that nobody has looked at. Another gate and the end are heard at
+    /// Rests for so long, and then waits for a receipt that nobody has looked at. Another gate and the end are noticed at
     /// once, also in the rest; after the end it doesn't rest.
-    pub fn next<R: Wait + Clock>(&self, rt: &R, pause: Duration) -> Stir<J> {
-        let bell = self.reloads.bell();
-        if !self.is_closed(rt) && bell.wait_for(rt, pause) {
-            return self.heard(rt).unwrap_or(Stir::Reloaded);
+    pub fn next<R: Wait + Clock>(&self, rt: &R, pause: Duration) -> Notice<J> {
+        let wakeup = self.reloads.wakeup();
+        if !self.is_closed(rt) && wakeup.wait_for(rt, pause) {
+            return self.heard(rt).unwrap_or(Notice::Reloaded);
         }
-        if let Some(stir) = self.known(rt) {
-            return stir;
+        if let Some(notice) = self.known(rt) {
+            return notice;
         }
-        bell.wait(rt);
-        self.heard(rt).unwrap_or(Stir::Reloaded)
+        wakeup.wait(rt);
+        self.heard(rt).unwrap_or(Notice::Reloaded)
     }
 
     /// Whether nothing new comes any more.
@@ -99,25 +99,25 @@ impl<J: Naming> News<J> {
     }
 
     /// What is new already. Where nothing is, that is awaited from now on.
-    fn known(&self, rt: &impl Wait) -> Option<Stir<J>> {
+    fn known(&self, rt: &impl Wait) -> Option<Notice<J>> {
         let mut slot = self.slot.lock(rt);
         slot.is_awaited = slot.newest.is_none();
-        stir_of(&mut slot)
+        notice_of(&mut slot)
     }
 
-    /// What is new once the bell was heard; nothing where another gate was put in force.
-    fn heard(&self, rt: &impl Wait) -> Option<Stir<J>> {
+    /// What is new after a wake-up; nothing where another gate was put in force.
+    fn heard(&self, rt: &impl Wait) -> Option<Notice<J>> {
         let mut slot = self.slot.lock(rt);
         slot.is_awaited = false;
-        stir_of(&mut slot)
+        notice_of(&mut slot)
     }
 }
 
 /// What a slot has that is new, which is taken.
-fn stir_of<J: Naming>(slot: &mut Slot<J>) -> Option<Stir<J>> {
+fn notice_of<J: Naming>(slot: &mut Slot<J>) -> Option<Notice<J>> {
     match slot.newest.take() {
-        Some(newest) => Some(Stir::Published(newest)),
-        None if slot.is_closed => Some(Stir::Over),
+        Some(newest) => Some(Notice::Published(newest)),
+        None if slot.is_closed => Some(Notice::Over),
         None => None,
     }
 }

@@ -10,13 +10,13 @@ ghost use Rattle.site_shared.specs.Publishes.{arrive};
 ghost use Rattle.state_core.specs.State.{state_of};
 ghost use Rattle.page_routes.specs.declared.page.Status.TheVariants.{Unavailable};
 
-use super::board::{Board, JournalNote, PeerNote};
 use super::kept::brought_up;
+use super::metrics::{JournalMetrics, Metrics, PeerMetrics};
 use super::opening::{OwnWatch, OwnWindow};
 use super::ruling::Ruling;
 use gate_rules::Gate;
 use page_routes::{Kind, Page, Route, Status};
-use page_server::{Door, Pages, serve_pages};
+use page_server::{PageEndpoint, Pages, serve_pages};
 use page_text::{Facts, JournalFacts, PeerFacts, page_of};
 use ready_core::Verdicts;
 use replica_core::Replica;
@@ -39,33 +39,33 @@ const REST: u32 = 9;
 /// The longest such rest in milliseconds.
 const LONGEST_REST_MS: u64 = 1_000;
 
-/// What a site is shown by.
+/// What pages are made from, beside the record.
 #[derive(Drop)]
-pub(super) struct Shower<'a, R> {
+pub(super) struct PageContext<'a, R> {
     pub rt: &'a R,
     pub alloc: Global,
-    pub board: &'a Board,
+    pub metrics: &'a Metrics,
     pub site: u16,
     pub start: u32,
     /// How many workers there are.
     pub workers: usize,
-    /// The addresses of the peers, in the order of the board.
+    /// The addresses of the peers, in the order of their metrics.
     pub peers: &'a [PeerAddress<'a>],
 }
 
-/// Shows a site at a door, each page under the gate that is in force when it is made, to this machine and to hosts of
+/// Shows a site to browsers, each page under the gate that is in force when it is made, to this machine and to hosts of
 /// these names, until the stop is asked. Where memory is refused for that nothing is shown.
 pub(super) fn show_pages<R: Wait + Clock, J: Naming>(
-    shower: Shower<'_, R>,
+    context: PageContext<'_, R>,
     ruling: Ruling<'_>,
-    door: Door,
+    endpoint: PageEndpoint,
     hosts: &[String],
     stop: &Stop,
     window: OwnWindow<J>,
 ) {
-    let (rt, alloc) = (shower.rt, shower.alloc);
+    let (rt, alloc) = (context.rt, context.alloc);
     let pages = SitePages {
-        shower,
+        context,
         ruling,
         window,
         kept: None,
@@ -75,13 +75,13 @@ pub(super) fn show_pages<R: Wait + Clock, J: Naming>(
         refused_hosts: 0,
         update_us: 0,
     };
-    let _unserved = serve_pages(rt, alloc, door, hosts, stop, pages);
+    let _unserved = serve_pages(rt, alloc, endpoint, hosts, stop, pages);
 }
 
 /// Makes the pages of a site.
 #[derive(Drop)]
 struct SitePages<'a, R: Wait + Clock, J: Naming> {
-    shower: Shower<'a, R>,
+    context: PageContext<'a, R>,
     ruling: Ruling<'a>,
     window: OwnWindow<J>,
     kept: Option<OwnWatch<J>>,
@@ -108,13 +108,13 @@ impl<R: Wait + Clock, J: Naming> Pages for SitePages<'_, R, J> {
         self.requests = self.requests.saturating_add(1);
         let now = self.awaited();
         if matches!(route, Route::Health) && self.is_asleep(now) {
-            let page = unwell(self.shower.alloc, "the desk takes no turn\n")?;
+            let page = unwell(self.context.alloc, "the desk takes no turn\n")?;
             return Ok(page);
         }
         let facts = self.facts(now)?;
         let shown = self.show(route, &facts);
-        self.next = next_look(self.shower.rt, self.shower.board, now);
-        self.publishes = self.shower.board.publishes();
+        self.next = next_look(self.context.rt, self.context.metrics, now);
+        self.publishes = self.context.metrics.publishes();
         let page = shown?;
         Ok(page)
     }
@@ -131,14 +131,14 @@ impl<R: Wait + Clock, J: Naming> SitePages<'_, R, J> {
         ensures page { IfOk result
             (λ page. ShowsMoment (ruling_gate self.new.ruling) facts.now self.new.window.window.seen route.now page) }
     {
-        self.ruling.follow(self.shower.rt, &mut self.kept);
-        let begun = Instant::now(self.shower.rt);
+        self.ruling.follow(self.context.rt, &mut self.kept);
+        let begun = Instant::now(self.context.rt);
         match brought_up(self.ruling.gate(), &mut self.window, self.kept.take()) {
             Ok(watch) => {
-                self.update_us = micros_since(self.shower.rt, begun, self.update_us);
+                self.update_us = micros_since(self.context.rt, begun, self.update_us);
                 self.show_watched(route, facts, watch)
             }
-            Err(fault) => no_page(self.shower.alloc, fault),
+            Err(fault) => no_page(self.context.alloc, fault),
         }
     }
 
@@ -156,7 +156,7 @@ impl<R: Wait + Clock, J: Naming> SitePages<'_, R, J> {
     {
         let mut watch = watch;
         let mut viewing = Viewing {
-            alloc: self.shower.alloc,
+            alloc: self.context.alloc,
             route,
             gate: self.ruling.gate(),
             facts,
@@ -168,16 +168,16 @@ impl<R: Wait + Clock, J: Naming> SitePages<'_, R, J> {
             Ok(()) => viewing.page.ok_or(AllocError),
             Err(RefreshFault::NoMemory) => Err(AllocError),
             Err(RefreshFault::Stranger | RefreshFault::Closed) => {
-                no_page(self.shower.alloc, WindowFault::Closed)
+                no_page(self.context.alloc, WindowFault::Closed)
             }
         }
     }
 
     /// How long the site has run, once the next look may begin.
     fn awaited(&self) -> Duration {
-        let Shower { rt, board, .. } = &self.shower;
-        let now = board.now(*rt).unwrap_or(self.next);
-        if now >= self.next || board.publishes() == self.publishes {
+        let PageContext { rt, metrics, .. } = &self.context;
+        let now = metrics.now(*rt).unwrap_or(self.next);
+        if now >= self.next || metrics.publishes() == self.publishes {
             return now;
         }
         thread::sleep(*rt, self.next.saturating_sub(now));
@@ -186,27 +186,27 @@ impl<R: Wait + Clock, J: Naming> SitePages<'_, R, J> {
 
     /// Whether the desk has taken no turn for a second.
     fn is_asleep(&self, now: Duration) -> bool {
-        self.shower.board.since_turn(now) > Duration::from_millis(ASLEEP_MS)
+        self.context.metrics.since_turn(now) > Duration::from_millis(ASLEEP_MS)
     }
 
     /// What is known of the site beside its record.
     fn facts(&self, now: Duration) -> Result<Facts, AllocError> {
         let peers = self.peers(now)?;
-        let board = self.shower.board;
+        let metrics = self.context.metrics;
         Ok(Facts {
-            site: self.shower.site,
-            start: self.shower.start,
+            site: self.context.site,
+            start: self.context.start,
             age_ms: 0,
-            news_ms: since(board.since_news(now)),
+            news_ms: since(metrics.since_news(now)),
             peers,
-            sessions: board.sessions(),
-            workers: self.shower.workers as u64,
-            busy_workers: board.looking(),
-            session_faults: board.session_faults(),
-            refused_connections: board.refused_connections(),
-            journal: journal_facts(board.journal()),
-            heard_ms: since(board.since_heard(now)),
-            publishes: board.publishes(),
+            sessions: metrics.sessions(),
+            workers: self.context.workers as u64,
+            busy_workers: metrics.looking(),
+            session_faults: metrics.session_faults(),
+            refused_connections: metrics.refused_connections(),
+            journal: journal_facts(metrics.journal()),
+            heard_ms: since(metrics.since_heard(now)),
+            publishes: metrics.publishes(),
             requests: self.requests,
             refused_hosts: self.refused_hosts,
             update_us: self.update_us,
@@ -215,9 +215,9 @@ impl<R: Wait + Clock, J: Naming> SitePages<'_, R, J> {
 
     /// What is known of the peers.
     fn peers(&self, now: Duration) -> Result<Vec<PeerFacts>, AllocError> {
-        let alloc = self.shower.alloc;
-        let notes = self.shower.board.peers(self.shower.rt, alloc)?;
-        peers_of(alloc, self.shower.peers, notes.as_slice(), now)
+        let alloc = self.context.alloc;
+        let notes = self.context.metrics.peers(self.context.rt, alloc)?;
+        peers_of(alloc, self.context.peers, notes.as_slice(), now)
     }
 }
 
@@ -249,8 +249,8 @@ impl Viewer for Viewing<'_> {
 }
 
 /// When the next look may begin after one that was begun then.
-fn next_look<R: Clock>(rt: &R, board: &Board, begun: Duration) -> Duration {
-    let now = board.now(rt).unwrap_or(begun);
+fn next_look<R: Clock>(rt: &R, metrics: &Metrics, begun: Duration) -> Duration {
+    let now = metrics.now(rt).unwrap_or(begun);
     let rest = now
         .saturating_sub(begun)
         .saturating_mul(REST)
@@ -292,7 +292,7 @@ fn unwell(alloc: Global, why: &str) -> Result<Page, AllocError>
 fn peers_of(
     alloc: Global,
     addresses: &[PeerAddress<'_>],
-    notes: &[PeerNote],
+    notes: &[PeerMetrics],
     now: Duration,
 ) -> Result<Vec<PeerFacts>, AllocError> {
     let mut peers = Vec::with_capacity(alloc, notes.len())?;
@@ -311,7 +311,7 @@ fn text_of(alloc: Global, address: PeerAddress<'_>) -> Result<String, AllocError
 }
 
 /// What is known of a peer with this address now.
-fn peer_facts(peer: String, note: &PeerNote, now: Duration) -> PeerFacts {
+fn peer_facts(peer: String, note: &PeerMetrics, now: Duration) -> PeerFacts {
     let last_well = note.last_well.map(|then| now.saturating_sub(then));
     PeerFacts {
         peer,
@@ -324,8 +324,8 @@ fn peer_facts(peer: String, note: &PeerNote, now: Duration) -> PeerFacts {
 }
 
 /// What is known of the journal, if there is one.
-fn journal_facts(note: Option<JournalNote>) -> Option<JournalFacts> {
-    let JournalNote { bytes, syncs } = note?;
+fn journal_facts(note: Option<JournalMetrics>) -> Option<JournalFacts> {
+    let JournalMetrics { bytes, syncs } = note?;
     Some(JournalFacts { bytes, syncs })
 }
 

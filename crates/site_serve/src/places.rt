@@ -23,7 +23,7 @@ impl<J: Naming> Places<J> {
     pub(super) fn new(alloc: Global, places: usize) -> Result<Places<J>, AllocError> {
         let free = free_ones(alloc, places)?;
         let listed = Vec::with_capacity(alloc, places)?;
-        let sessions = empty_seats(alloc, places)?;
+        let sessions = empty_places(alloc, places)?;
         Ok(Places {
             sessions,
             free,
@@ -46,17 +46,17 @@ impl<J: Naming> Places<J> {
         self.free.pop()
     }
 
-    /// Seats a session at a place.
-    pub(super) fn seat(&mut self, place: usize, session: Session<J>) {
-        if let Some(seat) = self.sessions.get_mut(place) {
-            *seat = Some(session);
+    /// Puts a session at a place.
+    pub(super) fn put_session(&mut self, place: usize, session: Session<J>) {
+        if let Some(slot) = self.sessions.get_mut(place) {
+            *slot = Some(session);
         }
     }
 
     /// Frees a place.
     pub(super) fn vacate(&mut self, place: usize) {
-        if let Some(seat) = self.sessions.get_mut(place) {
-            *seat = None;
+        if let Some(slot) = self.sessions.get_mut(place) {
+            *slot = None;
             // There is room for each place.
             let _kept = self.free.push(place);
         }
@@ -149,10 +149,10 @@ impl<J: Naming> Places<J> {
             × IfOk answer (λ done. SaysStamp done.stamp session.outbox after.outbox)
             × IfErr answer (λ fault. SaysFault fault session.outbox after.outbox) }
     {
-        let Some(seat) = self.sessions.get_mut(place) else {
+        let Some(slot) = self.sessions.get_mut(place) else {
             return;
         };
-        answer_seat(alloc, seat, &mut self.listed, place, number, answer);
+        answer_at(alloc, slot, &mut self.listed, place, number, answer);
     }
 
     /// Answers each session whose `take`s wait that the site has ended, as far as its connection takes that at once.
@@ -247,15 +247,15 @@ fn free_ones(alloc: Global, places: usize) -> Result<Vec<usize>, AllocError> {
 }
 
 /// So many places without a session.
-fn empty_seats<J: Naming>(
+fn empty_places<J: Naming>(
     alloc: Global,
     places: usize,
 ) -> Result<Vec<Option<Session<J>>>, AllocError> {
-    let mut seats = Vec::with_capacity(alloc, places)?;
+    let mut sessions = Vec::with_capacity(alloc, places)?;
     for _ in 0..places {
-        seats.push(None)?;
+        sessions.push(None)?;
     }
-    Ok(seats)
+    Ok(sessions)
 }
 
 /// Has a session go on with what a worker has done for it.
@@ -269,22 +269,22 @@ fn go_on<J: Naming>(session: &mut Session<J>, work: Work, now: Duration) {
     }
 }
 
-/// Answers the session of a number that has a seat, unless it has gone.
-fn answer_seat<J: Naming>(
+/// Answers the session of a number at its place, unless it has gone.
+fn answer_at<J: Naming>(
     alloc: Global,
-    seat: &mut Option<Session<J>>,
+    slot: &mut Option<Session<J>>,
     listed: &mut Vec<usize>,
     place: usize,
     number: u64,
     answer: Answer<J>,
 )
-    ensures strangers { (session : _) → seat.old ≡ Some session → session.number ≢ number → seat.new ≡ Some session }
-    ensures own { (session : _) → seat.old ≡ Some session → session.number ≡ number
-        → (after : _) × (seat.new ≡ Some after)
+    ensures strangers { (session : _) → slot.old ≡ Some session → session.number ≢ number → slot.new ≡ Some session }
+    ensures own { (session : _) → slot.old ≡ Some session → session.number ≡ number
+        → (after : _) × (slot.new ≡ Some after)
         × IfOk answer (λ done. SaysStamp done.stamp session.outbox after.outbox)
         × IfErr answer (λ fault. SaysFault fault session.outbox after.outbox) }
 {
-    let Some(session) = seat else {
+    let Some(session) = slot else {
         return;
     };
     if session.number == number {

@@ -9,7 +9,7 @@ ghost use Rattle.site_serve.specs.SitePorts.{HaveStamps, port_fault_of, stamps_o
 ghost use Rattle.site_shared.specs.Accounts.{GoesOn};
 ghost use Rattle.site_shared.specs.Publishes.{arrive};
 
-use super::ask::{Answer, Ask, Asker, Place, Wire};
+use super::ask::{Answer, Ask, Asker, DeskLink, Puller};
 use super::kept::{brought_up, copied};
 use super::opening::{OwnWatch, OwnWindow};
 use super::ruling::Ruling;
@@ -109,7 +109,7 @@ impl<'a, 'g, R: Wait, J: Naming> Port for SitePort<'a, 'g, R, J> {
     }
 }
 
-/// A pull's view of the site: a window to look through, and a wire to the desk. What the desk answered, the window has
+/// A pull's view of the site: a window to look through, and a link to the desk. What the desk answered, the window has
 /// learnt.
 #[derive(Drop)]
 pub struct PullPort<'a, R: Wait, J: Naming> {
@@ -117,20 +117,25 @@ pub struct PullPort<'a, R: Wait, J: Naming> {
     alloc: Global,
     waker: &'a Waker,
     window: OwnWindow<J>,
-    wire: Wire<J>,
+    desk_link: DeskLink<J>,
     is_start_taken: bool,
 }
 
 impl<'a, R: Wait, J: Naming> PullPort<'a, R, J> {
-    /// The site as it is seen from a place.
-    pub fn new(rt: &'a R, alloc: Global, waker: &'a Waker, place: Place<J>) -> PullPort<'a, R, J> {
-        let Place { window, wire } = place;
+    /// The site as a puller sees it.
+    pub fn new(
+        rt: &'a R,
+        alloc: Global,
+        waker: &'a Waker,
+        puller: Puller<J>,
+    ) -> PullPort<'a, R, J> {
+        let Puller { window, desk_link } = puller;
         PullPort {
             rt,
             alloc,
             waker,
             window,
-            wire,
+            desk_link,
             is_start_taken: false,
         }
     }
@@ -145,14 +150,14 @@ impl<'a, R: Wait, J: Naming> PullPort<'a, R, J> {
         ensures window { self.new.window ≡ self.old.window }
     {
         let ask = Ask::TakeAll {
-            asker: Asker::Puller(self.wire.puller),
+            asker: Asker::Puller(self.desk_link.puller),
             ops,
         };
-        if self.wire.asks.send(self.rt, ask).is_err() {
+        if self.desk_link.asks.send(self.rt, ask).is_err() {
             return None;
         }
         let _woken = self.waker.wake();
-        self.wire.answers.recv(self.rt).ok()
+        self.desk_link.answers.recv(self.rt).ok()
     }
 
     /// Refuses operations that another process took in as this site, and notes that there are such.

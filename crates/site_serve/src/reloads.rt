@@ -4,7 +4,7 @@ ghost use Rattle.std.specs.Prelude.{◌≡◌, ◌<◌, IfOk, IfSome};
 ghost use Rattle.std.specs.Arc.{arc_value};
 ghost use Rattle.site_serve.specs.InForce.{SucceedsGate, gate_in};
 
-use super::bell::Bell;
+use super::wakeup::Wakeup;
 use gate_rules::Gate;
 use std::alloc::{AllocError, Global};
 use std::sync::{Arc, Mutex, Wait};
@@ -88,7 +88,7 @@ impl Latest {
 pub struct Reloads {
     latest: Mutex<Latest>,
     /// What wakes who prints the reports.
-    bell: Bell,
+    wakeup: Wakeup,
 }
 
 impl Reloads {
@@ -96,7 +96,7 @@ impl Reloads {
     pub fn new() -> Reloads {
         Reloads {
             latest: Mutex::new(Latest { in_force: None }),
-            bell: Bell::new(),
+            wakeup: Wakeup::new(),
         }
     }
 
@@ -107,7 +107,7 @@ impl Reloads {
             return Err(AllocError);
         };
         self.replace(rt, gate);
-        self.bell.ring(rt);
+        self.wakeup.set(rt);
         Ok(())
     }
 
@@ -125,8 +125,8 @@ impl Reloads {
         latest.newer_than(number)
     }
 
-    /// What is rung when a gate is put in force.
-    pub fn bell(&self) -> &Bell {
-        &self.bell
+    /// The wake-up that is set when a gate is put in force.
+    pub fn wakeup(&self) -> &Wakeup {
+        &self.wakeup
     }
 }

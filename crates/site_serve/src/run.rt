@@ -9,21 +9,21 @@ ghost use Rattle.site_serve.specs.Fault.{after_opening};
 ghost use Rattle.site_serve.specs.Openings.{HasKept, HasShown};
 ghost use Rattle.site_shared.specs.Accounts.{is_used};
 
-use super::board::Board;
 use super::closed::{Closed, Left, served_of, unserved};
-use super::common::{Common, Firsts, Ways};
+use super::common::{Common, FirstGates, SiteOptions};
 use super::errors::Errors;
 use super::evaluator::Printed;
-use super::floor::{BELL, DOOR, Floor, House};
+use super::event_loop::{EventLoop, LISTENERS, LoopParts, WAKE};
 use super::gossip::Peer;
 use super::group_commit::GroupCommit;
 use super::listeners::Listeners;
+use super::metrics::Metrics;
 use super::news::News;
 use super::opening::{Opening, OwnLedger};
 use super::reloads::InForce;
-use super::seats::{Seats, seated};
-use super::setup::{Doorstep, ServeFault, Served, Setup, Turn};
-use super::threads::{Beside, Ended, Hands, run_threads};
+use super::setup::{PageSetup, ServeFault, Served, Setup, Turn};
+use super::thread_ends::{ThreadEnds, thread_ends_at};
+use super::threads::{Ended, PageAndPeers, ThreadInputs, run_threads};
 use byte_ends::Drain;
 use gate_rules::Gate;
 use mio::{Poll, Waker};
@@ -73,7 +73,7 @@ where
     ensures record { (more : List Operation)
         × IfOk result (λ served. served.replica ≡ all_arrived setup.entry.replica more) }
 {
-    let Ok(listeners) = alone(alloc, listener) else {
+    let Ok(listeners) = one_listener(alloc, listener) else {
         return Err(ServeFault::NoMemory);
     };
     let Closed { keeper: _, served } = serve_keeping(
@@ -83,7 +83,7 @@ where
 }
 
 /// One port to listen at.
-fn alone(alloc: Global, listener: TcpListener) -> Result<Vec<Listener>, AllocError> {
+fn one_listener(alloc: Global, listener: TcpListener) -> Result<Vec<Listener>, AllocError> {
     let mut listeners = Vec::new(alloc);
     listeners.push(Listener::Port(listener))?;
     Ok(listeners)
@@ -143,15 +143,15 @@ struct Limits {
 #[derive(Drop)]
 struct Parts<'a> {
     replica: Replica,
-    page: Option<Doorstep>,
-    ways: Ways<'a>,
+    page: Option<PageSetup>,
+    options: SiteOptions<'a>,
     limits: Limits,
 }
 
 /// The gate of a setup, and its other parts.
 fn parts_of<'a>(setup: Setup<'a>) -> (Gate, Parts<'a>)
-    ensures opens { (result.1.replica ≡ setup.entry.replica) × (result.1.ways.guard.own ≡ setup.entry.site)
-        × (result.1.ways.start ≡ setup.entry.start) }
+    ensures opens { (result.1.replica ≡ setup.entry.replica) × (result.1.options.guard.own ≡ setup.entry.site)
+        × (result.1.options.start ≡ setup.entry.start) }
     ensures windows { result.1.limits.workers + 2 + result.1.limits.pullers ≤ 64 }
 {
     let Setup {
@@ -178,7 +178,7 @@ fn parts_of<'a>(setup: Setup<'a>) -> (Gate, Parts<'a>)
         sessions,
         connections: connections.max(1).min(MOST_CONNECTIONS),
     };
-    let ways = Ways {
+    let options = SiteOptions {
         reloads,
         prints,
         guard: Guard { own: site, sites },
@@ -192,7 +192,7 @@ fn parts_of<'a>(setup: Setup<'a>) -> (Gate, Parts<'a>)
     let parts = Parts {
         replica,
         page,
-        ways,
+        options,
         limits,
     };
     (gate, parts)
@@ -202,7 +202,7 @@ fn parts_of<'a>(setup: Setup<'a>) -> (Gate, Parts<'a>)
 #[derive(Drop)]
 struct Begun<'a, E: Drain, T: Turn> {
     common: Common<'a, E, T>,
-    loft: Loft,
+    loop_setup: LoopSetup,
     replica: Replica,
 }
 
@@ -221,11 +221,11 @@ where
     E: Drain + Drop,
     T: Turn,
     ensures opens { IfOk result (λ begun. (begun.replica ≡ setup.entry.replica)
-        × (begun.common.ways.guard.own ≡ setup.entry.site) × (begun.common.ways.start ≡ setup.entry.start)) }
-    ensures windows { IfOk result (λ begun. begun.loft.limits.workers + 2 + begun.loft.limits.pullers ≤ 64) }
+        × (begun.common.options.guard.own ≡ setup.entry.site) × (begun.common.options.start ≡ setup.entry.start)) }
+    ensures windows { IfOk result (λ begun. begun.loop_setup.limits.workers + 2 + begun.loop_setup.limits.pullers ≤ 64) }
 {
     let (gate, parts) = parts_of(setup);
-    let (peers, pullers) = (parts.ways.peers.len(), parts.limits.pullers);
+    let (peers, pullers) = (parts.options.peers.len(), parts.limits.pullers);
     match make(rt, alloc, listeners, gate, peers, pullers) {
         Ok(made) => Ok(begun_with(alloc, made, parts, stop, errors, turn)),
         Err(fault) => Err(fault),
@@ -242,45 +242,45 @@ fn begun_with<'a, E: Drain, T: Turn>(
     turn: &'a T,
 ) -> Begun<'a, E, T>
     ensures opens { (result.replica ≡ parts.entry.replica)
-        × (result.common.ways.guard.own ≡ parts.entry.ways.guard.own)
-        × (result.common.ways.start ≡ parts.entry.ways.start) }
-    ensures limits { result.loft.limits ≡ parts.entry.limits }
+        × (result.common.options.guard.own ≡ parts.entry.options.guard.own)
+        × (result.common.options.start ≡ parts.entry.options.start) }
+    ensures limits { result.loop_setup.limits ≡ parts.entry.limits }
 {
     let Made {
         poll,
         listeners,
         shares,
-        board,
+        metrics,
         first,
     } = made;
     let Parts {
         replica,
         page,
-        ways,
+        options,
         limits,
     } = parts;
-    let house = House {
+    let loop_parts = LoopParts {
         alloc,
         poll,
         listeners,
-        patience: ways.patience,
+        patience: options.patience,
         most: limits.sessions,
         connections: limits.connections,
     };
     Begun {
         common: Common {
             alloc,
-            ways,
+            options,
             first,
             errors: Errors::new(errors),
-            board,
+            metrics,
             stop,
             turn,
             is_start_taken: AtomicBool::new(false),
         },
-        loft: Loft {
-            house,
-            beside: Beside { page, shares },
+        loop_setup: LoopSetup {
+            loop_parts,
+            page_and_peers: PageAndPeers { page, shares },
             limits,
         },
         replica,
@@ -293,7 +293,7 @@ struct Made {
     poll: Poll,
     listeners: Listeners,
     shares: Vec<Vec<Peer>>,
-    board: Board,
+    metrics: Metrics,
     first: InForce,
 }
 
@@ -310,11 +310,11 @@ fn make<R: Net + Clock>(
         return Err(ServeFault::NoPlace);
     };
     match noted(rt, alloc, gate, peers, pullers) {
-        Ok((shares, board, first)) => Ok(Made {
+        Ok((shares, metrics, first)) => Ok(Made {
             poll,
             listeners,
             shares,
-            board,
+            metrics,
             first,
         }),
         Err(_) => Err(ServeFault::NoMemory),
@@ -328,11 +328,11 @@ fn noted<R: Clock>(
     gate: Gate,
     peers: usize,
     pullers: usize,
-) -> Result<(Vec<Vec<Peer>>, Board, InForce), AllocError> {
+) -> Result<(Vec<Vec<Peer>>, Metrics, InForce), AllocError> {
     let first = InForce::first(alloc, gate)?;
-    let board = Board::new(rt, alloc, peers)?;
+    let metrics = Metrics::new(rt, alloc, peers)?;
     let shares = shares_of(alloc, peers, pullers)?;
-    Ok((shares, board, first))
+    Ok((shares, metrics, first))
 }
 
 /// Opens a site that has all that it needs for that, and runs it.
@@ -344,21 +344,21 @@ where
     T: Turn + Sync,
     K: Keeps,
     requires keeper { (first : List Operation) × K.holds keeper first }
-    requires windows { begun.loft.limits.workers + 2 + begun.loft.limits.pullers ≤ 64 }
-    ensures used { list_any (is_used begun.entry.common.ways.guard.own begun.entry.common.ways.start) begun.entry.replica ≡ true
+    requires windows { begun.loop_setup.limits.workers + 2 + begun.loop_setup.limits.pullers ≤ 64 }
+    ensures used { list_any (is_used begun.entry.common.options.guard.own begun.entry.common.options.start) begun.entry.replica ≡ true
         → IsErr result.served }
     ensures keeps { HasKept K.survives (K.holds keeper) begun.entry.replica result.keeper result.served }
 {
     let Begun {
         common,
-        loft,
+        loop_setup,
         replica,
     } = begun;
-    let windows = loft.limits.workers + 2 + loft.limits.pullers;
-    let (site, start) = (common.ways.guard.own, common.ways.start);
+    let windows = loop_setup.limits.workers + 2 + loop_setup.limits.pullers;
+    let (site, start) = (common.options.guard.own, common.options.start);
     match open_site(rt, site, start, windows, replica) {
         Ok((desk, windows)) => run_opened::<Brand, R, W, E, T, K>(
-            rt, &common, loft, desk, windows, output, keeper,
+            rt, &common, loop_setup, desk, windows, output, keeper,
         ),
         Err(fault) => unserved(keeper, open_fault(fault)),
     }
@@ -395,11 +395,11 @@ fn add_peer(shares: &mut [Vec<Peer>], share: usize, place: usize) -> Result<(), 
     Ok(())
 }
 
-/// What the loop is made of, and what is for the threads beside it.
+/// What the event loop and the threads beside it are made of.
 #[derive(Drop)]
-struct Loft {
-    house: House,
-    beside: Beside,
+struct LoopSetup {
+    loop_parts: LoopParts,
+    page_and_peers: PageAndPeers,
     limits: Limits,
 }
 
@@ -410,7 +410,7 @@ fn polled<R: Net>(
     listeners: Vec<Listener>,
 ) -> io::Result<(Poll, Listeners)> {
     let poll = Poll::new(rt)?;
-    let listeners = Listeners::new(alloc, &poll, DOOR, listeners)?;
+    let listeners = Listeners::new(alloc, &poll, LISTENERS, listeners)?;
     Ok((poll, listeners))
 }
 
@@ -442,7 +442,7 @@ fn open_fault(fault: OpenFault) -> ServeFault
 fn run_opened<J, R, W, E, T, K>(
     rt: &R,
     common: &Common<'_, E, T>,
-    loft: Loft,
+    loop_setup: LoopSetup,
     desk: Desk,
     windows: Vec<Window>,
     output: W,
@@ -465,7 +465,7 @@ where
     let ledger: OwnLedger<J, K> = OwnLedger::new(Ledger::new(desk, keeper));
     match GroupCommit::new(common.alloc, ledger) {
         Ok(mut group) => {
-            let left = run_group(rt, common, loft, windows, &mut group, output);
+            let left = run_group(rt, common, loop_setup, windows, &mut group, output);
             closed::<J, K>(left, group.end(rt))
         }
         Err(ledger) => closed::<J, K>(Err(ServeFault::NoMemory), ledger.end(rt)),
@@ -488,7 +488,7 @@ fn closed<J: Opening, K: Keeps>(left: Result<Left, ServeFault>, remains: Remains
 fn run_group<J, R, W, E, T, K>(
     rt: &R,
     common: &Common<'_, E, T>,
-    loft: Loft,
+    loop_setup: LoopSetup,
     windows: Vec<Window>,
     group: &mut GroupCommit<J, K>,
     output: W,
@@ -502,108 +502,108 @@ where
     K: Keeps,
     requires { All (λ window. window.book ≡ J.book) windows.items }
 {
-    match staffed(common, loft, windows) {
-        Ok(staff) => run_staffed(rt, common, staff, group, output),
+    match run_parts_of(common, loop_setup, windows) {
+        Ok(run_parts) => run_with_parts(rt, common, run_parts, group, output),
         Err(fault) => Err(fault),
     }
 }
 
-/// What the threads of a site run with, and the loop.
+/// What the threads of a site and its event loop run with.
 #[derive(Drop)]
-struct Staff<J: Naming> {
-    seats: Seats<J>,
+struct RunParts<J: Naming> {
+    thread_ends: ThreadEnds<J>,
     news: News<J>,
-    firsts: Firsts,
-    rig: Rig,
+    first_gates: FirstGates,
+    ready_loop: ReadyLoop,
 }
 
 /// What the threads of a site run with. Refusals: `NoPlace`, there are fewer windows than threads, or the system refused
 /// what wakes the loop; `NoMemory`.
-fn staffed<E: Drain, T: Turn, J: Naming>(
+fn run_parts_of<E: Drain, T: Turn, J: Naming>(
     common: &Common<'_, E, T>,
-    loft: Loft,
+    loop_setup: LoopSetup,
     windows: Vec<Window>,
-) -> Result<Staff<J>, ServeFault>
+) -> Result<RunParts<J>, ServeFault>
     requires { All (λ window. window.book ≡ J.book) windows.items }
 {
-    let seats = seats_of(common.alloc, windows, &loft.limits)?;
-    let Ok((news, firsts)) = told(common, loft.limits.workers) else {
+    let thread_ends = thread_ends_of(common.alloc, windows, &loop_setup.limits)?;
+    let Ok((news, first_gates)) = news_of(common, loop_setup.limits.workers) else {
         return Err(ServeFault::NoMemory);
     };
-    match rigged(loft) {
-        Ok(rig) => Ok(Staff {
-            seats,
+    match ready_loop_of(loop_setup) {
+        Ok(ready_loop) => Ok(RunParts {
+            thread_ends,
             news,
-            firsts,
-            rig,
+            first_gates,
+            ready_loop,
         }),
         Err(fault) => Err(fault),
     }
 }
 
-/// A seat for each thread.
-fn seats_of<J: Naming>(
+/// The thread_ends of the threads.
+fn thread_ends_of<J: Naming>(
     alloc: Global,
     windows: Vec<Window>,
     limits: &Limits,
-) -> Result<Seats<J>, ServeFault>
+) -> Result<ThreadEnds<J>, ServeFault>
     requires { All (λ window. window.book ≡ J.book) windows.items }
 {
-    match seated(alloc, windows, limits.workers, limits.connections) {
-        Ok(Some(seats)) => Ok(seats),
+    match thread_ends_at(alloc, windows, limits.workers, limits.connections) {
+        Ok(Some(thread_ends)) => Ok(thread_ends),
         Ok(None) => Err(ServeFault::NoPlace),
         Err(_) => Err(ServeFault::NoMemory),
     }
 }
 
 /// What tells the threads of news, and the gates that they judge under at first.
-fn told<E: Drain, T: Turn, J: Naming>(
+fn news_of<E: Drain, T: Turn, J: Naming>(
     common: &Common<'_, E, T>,
     workers: usize,
-) -> Result<(News<J>, Firsts), AllocError> {
-    let reloads = Arc::try_clone(&common.ways.reloads)?;
-    let firsts = Firsts::new(common.alloc, &common.first, workers)?;
-    Ok((News::new(reloads), firsts))
+) -> Result<(News<J>, FirstGates), AllocError> {
+    let reloads = Arc::try_clone(&common.options.reloads)?;
+    let first_gates = FirstGates::new(common.alloc, &common.first, workers)?;
+    Ok((News::new(reloads), first_gates))
 }
 
-/// The loop with what wakes it, and what is for the threads beside it.
+/// The event loop, what wakes it, and what the threads beside it begin with.
 #[derive(Drop)]
-struct Rig {
+struct ReadyLoop {
     waker: Waker,
-    floor: Floor,
-    beside: Beside,
+    event_loop: EventLoop,
+    page_and_peers: PageAndPeers,
 }
 
-/// The loop with what wakes it.
-fn rigged(loft: Loft) -> Result<Rig, ServeFault> {
-    match Waker::new(loft.house.poll.registry(), BELL) {
-        Ok(waker) => with_floor(loft, waker),
+/// The event loop with what wakes it.
+fn ready_loop_of(loop_setup: LoopSetup) -> Result<ReadyLoop, ServeFault> {
+    match Waker::new(loop_setup.loop_parts.poll.registry(), WAKE) {
+        Ok(waker) => with_waker(loop_setup, waker),
         Err(_) => Err(ServeFault::NoPlace),
     }
 }
 
-/// The loop, with this to wake it.
-fn with_floor(loft: Loft, waker: Waker) -> Result<Rig, ServeFault> {
-    let Loft {
-        house,
-        beside,
+/// The event loop, with this to wake it.
+fn with_waker(loop_setup: LoopSetup, waker: Waker) -> Result<ReadyLoop, ServeFault> {
+    let LoopSetup {
+        loop_parts,
+        page_and_peers,
         limits: _,
-    } = loft;
-    match Floor::new(house) {
-        Ok(floor) => Ok(Rig {
+    } = loop_setup;
+    match EventLoop::new(loop_parts) {
+        Ok(event_loop) => Ok(ReadyLoop {
             waker,
-            floor,
-            beside,
+            event_loop,
+            page_and_peers,
         }),
         Err(_) => Err(ServeFault::NoMemory),
     }
 }
 
-/// Runs a site whose threads have their seats.
-fn run_staffed<J, R, W, E, T, K>(
+/// Runs the threads of a site, and its event loop.
+fn run_with_parts<J, R, W, E, T, K>(
     rt: &R,
     common: &Common<'_, E, T>,
-    staff: Staff<J>,
+    run_parts: RunParts<J>,
     group: &mut GroupCommit<J, K>,
     output: W,
 ) -> Result<Left, ServeFault>
@@ -615,34 +615,34 @@ where
     T: Turn + Sync,
     K: Keeps,
 {
-    let Staff {
-        seats,
+    let RunParts {
+        thread_ends,
         news,
-        firsts,
-        rig,
-    } = staff;
-    let Seats {
+        first_gates,
+        ready_loop,
+    } = run_parts;
+    let ThreadEnds {
         reports,
         pages,
         pullers,
         workers,
-        lines,
-    } = seats;
-    let Rig {
+        ends,
+    } = thread_ends;
+    let ReadyLoop {
         waker,
-        floor,
-        beside,
-    } = rig;
-    let hands = Hands {
+        event_loop,
+        page_and_peers,
+    } = ready_loop;
+    let inputs = ThreadInputs {
         reports,
         output,
         pages,
         pullers,
         workers,
-        beside,
-        firsts,
+        page_and_peers,
+        first_gates,
     };
-    let ended = run_threads(rt, common, &news, &waker, hands, group, floor, lines);
+    let ended = run_threads(rt, common, &news, &waker, inputs, group, event_loop, ends);
     left_of(ended, common.is_start_taken.load(Ordering::SeqCst))
 }
 

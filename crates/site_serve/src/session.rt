@@ -13,7 +13,7 @@ ghost use Rattle.site_serve.specs.Outboxes.{Adds};
 ghost use Rattle.site_serve.specs.SitePorts.{port_fault_of};
 
 use super::ask::{Answer, Done};
-use super::channel::{Channel, Knock};
+use super::channel::{Channel, Credential};
 use super::inbox::Inbox;
 use super::outbox::Outbox;
 use super::port::desk_fault;
@@ -45,7 +45,7 @@ const WRITES: usize = 16;
 
 /// A connection that was accepted, and whether it has to be let in by a key.
 #[derive(Drop)]
-pub(super) struct Guest {
+pub(super) struct Connection {
     pub stream: TcpStream,
     pub is_locked: bool,
 }
@@ -95,10 +95,15 @@ pub(super) struct Session<J: Naming> {
 impl<J: Naming> Session<J> {
     /// A session of which nothing was read, and which waits until it has begun; where its connection has to be let in by
     /// a key, its lines are sealed.
-    pub(super) fn new(alloc: Global, number: u64, guest: Guest, now: Duration) -> Session<J>
-        ensures { result.may_take ≡ not guest.is_locked }
+    pub(super) fn new(
+        alloc: Global,
+        number: u64,
+        connection: Connection,
+        now: Duration,
+    ) -> Session<J>
+        ensures { result.may_take ≡ not connection.is_locked }
     {
-        let Guest { stream, is_locked } = guest;
+        let Connection { stream, is_locked } = connection;
         Session {
             number,
             stream,
@@ -440,9 +445,9 @@ impl<J: Naming> Session<J> {
 
     /// Notes that so many bytes of what waits were written.
     fn note_sent(&mut self, count: usize, now: Duration)
-        requires { count ≤ length (outgoing_of self.old.channel.first self.old.channel.passage self.old.outbox) }
-        ensures { IsSent count self.old.channel.first self.old.channel.passage self.old.outbox self.new.channel.first
-            self.new.channel.passage self.new.outbox }
+        requires { count ≤ length (outgoing_of self.old.channel.first self.old.channel.mode self.old.outbox) }
+        ensures { IsSent count self.old.channel.first self.old.channel.mode self.old.outbox self.new.channel.first
+            self.new.channel.mode self.new.outbox }
     {
         self.channel.note_sent(&mut self.outbox, count);
         self.stuck = now;
@@ -491,12 +496,12 @@ impl<J: Naming> Session<J> {
 
     /// Whether there is something to read or to answer.
     fn has_lines(&mut self) -> bool {
-        self.may_read || self.inbox.next_line().is_some() || self.knock() != Knock::None
+        self.may_read || self.inbox.next_line().is_some() || self.credential() != Credential::None
     }
 
     /// By what it asks to be let in.
-    pub(super) fn knock(&self) -> Knock {
-        self.channel.knock()
+    pub(super) fn credential(&self) -> Credential {
+        self.channel.credential()
     }
 
     /// Is let in by a key: its lines are sealed from now on, the first of which has the time that a first line has.

@@ -7,7 +7,7 @@ use super::reloads::Reloads;
 use gate_rules::Gate;
 use key_files::KeyReader;
 use mio::Waker;
-use page_server::Door;
+use page_server::PageEndpoint;
 use replica_core::Replica;
 use site_address::PeerAddress;
 use std::alloc::Global;
@@ -27,9 +27,9 @@ pub enum Prints {
 
 /// Where a site shows itself to browsers.
 #[derive(Drop)]
-pub struct Doorstep {
+pub struct PageSetup {
     /// Where browsers connect to.
-    pub door: Door,
+    pub endpoint: PageEndpoint,
     /// What wakes who serves there.
     pub waker: Waker,
     /// The names by which they may call this machine, beside `localhost` and the addresses of the loopback.
@@ -69,7 +69,7 @@ pub struct Setup<'a> {
     /// What it prints.
     pub prints: Prints,
     /// Where it shows itself to browsers, if it does.
-    pub page: Option<Doorstep>,
+    pub page: Option<PageSetup>,
 }
 
 /// What a site that ended leaves.

@@ -3,25 +3,25 @@
 
 ghost use Rattle.std.specs.Thread.{IsSend, IsSync};
 
-use super::ask::Place;
-use super::common::{Common, Firsts};
+use super::ask::Puller;
+use super::common::{Common, FirstGates};
 use super::desk::Published;
 use super::evaluator::{Printed, print_reports};
-use super::floor::{Floor, Site, serve_floor};
+use super::event_loop::{EventLoop, Site, serve_sessions};
 use super::gossip::{Peer, Pulling, pull_from_peers};
 use super::group_commit::{GroupCommit, NotKept};
 use super::jobs::Worker;
 use super::looks::do_jobs;
 use super::news::News;
 use super::opening::{Opening, OwnWindow};
-use super::pages::{Shower, show_pages};
+use super::pages::{PageContext, show_pages};
 use super::port::PullPort;
 use super::reloads::InForce;
-use super::seats::Lines;
-use super::setup::{Doorstep, Turn};
+use super::setup::{PageSetup, Turn};
+use super::thread_ends::LoopEnds;
 use byte_ends::Drain;
 use mio::Waker;
-use page_server::Door;
+use page_server::PageEndpoint;
 use site_ledger::Keeps;
 use site_net::Patience;
 use site_port::Guarded;
@@ -36,25 +36,25 @@ use std::time::{Clock, Duration};
 /// How many milliseconds a pull waits for each line of the peer.
 const PULL_PATIENCE_MS: u64 = 10_000;
 
-/// What is for the threads beside the loop.
+/// What the threads of the page and of the pulls begin with.
 #[derive(Drop)]
-pub(super) struct Beside {
+pub(super) struct PageAndPeers {
     /// Where the site shows itself to browsers, if it does.
-    pub page: Option<Doorstep>,
+    pub page: Option<PageSetup>,
     /// The peers, in shares.
     pub shares: Vec<Vec<Peer>>,
 }
 
-/// The seats of the threads beside the loop, and what they begin with.
+/// What the threads beside the event loop begin with.
 #[derive(Drop)]
-pub(super) struct Hands<J: Naming, W: Drop> {
+pub(super) struct ThreadInputs<J: Naming, W: Drop> {
     pub reports: OwnWindow<J>,
     pub output: W,
     pub pages: OwnWindow<J>,
-    pub pullers: Vec<Place<J>>,
+    pub pullers: Vec<Puller<J>>,
     pub workers: Vec<Worker<J>>,
-    pub beside: Beside,
-    pub firsts: Firsts,
+    pub page_and_peers: PageAndPeers,
+    pub first_gates: FirstGates,
 }
 
 /// How the threads of a site ended.
@@ -74,10 +74,10 @@ pub(super) fn run_threads<J, R, W, E, T, K>(
     common: &Common<'_, E, T>,
     news: &News<J>,
     waker: &Waker,
-    hands: Hands<J, W>,
+    inputs: ThreadInputs<J, W>,
     group: &mut GroupCommit<J, K>,
-    floor: Floor,
-    lines: Lines<J>,
+    event_loop: EventLoop,
+    ends: LoopEnds<J>,
 ) -> Ended<J>
 where
     J: Opening + Send + Sync,
@@ -93,8 +93,8 @@ where
         move |scope| -> Ended<J>
             requires { IsSync R.row × IsSend J.row × IsSync J.row × IsSend W.row × IsSend E.row × IsSync T.row }
         {
-            let begun = begin_all(scope, rt, common, news, waker, hands);
-            run_loop(rt, common, news, begun, group, floor, lines)
+            let begun = begin_all(scope, rt, common, news, waker, inputs);
+            run_loop(rt, common, news, begun, group, event_loop, ends)
         },
     )
 }
@@ -104,8 +104,8 @@ where
 struct Begun {
     /// That which prints the reports.
     reports: Option<JoinHandle<Printed>>,
-    /// What wakes who serves browsers.
-    bell: Option<Waker>,
+    /// Wakes the thread that serves browsers.
+    page_waker: Option<Waker>,
     /// Whether the system refused one.
     is_refused: bool,
 }
@@ -117,7 +117,7 @@ fn begin_all<'s, 'e, J, R, W, E, T>(
     common: &'s Common<'_, E, T>,
     news: &'s News<J>,
     waker: &'s Waker,
-    hands: Hands<J, W>,
+    inputs: ThreadInputs<J, W>,
 ) -> Begun
 where
     J: Naming + Send + Sync + 's,
@@ -126,24 +126,32 @@ where
     E: Drain + Send + Drop,
     T: Turn + Sync,
 {
-    let Hands {
+    let ThreadInputs {
         reports,
         output,
         pages,
         pullers,
         workers,
-        beside,
-        firsts,
-    } = hands;
-    let Beside { page, shares } = beside;
-    let (door, bell) = parted(page);
-    let reports = begin_reports(scope, rt, common, firsts.reports, news, reports, output);
-    let is_shown = begin_page(scope, rt, common, firsts.pages, door, pages);
+        page_and_peers,
+        first_gates,
+    } = inputs;
+    let PageAndPeers { page, shares } = page_and_peers;
+    let (endpoint, page_waker) = page_parts(page);
+    let reports = begin_reports(
+        scope,
+        rt,
+        common,
+        first_gates.reports,
+        news,
+        reports,
+        output,
+    );
+    let is_shown = begin_page(scope, rt, common, first_gates.pages, endpoint, pages);
     let are_pulled = begin_pulls(scope, rt, common, waker, shares, pullers);
-    let are_worked = begin_work(scope, rt, common, waker, workers, firsts.workers);
+    let are_worked = begin_work(scope, rt, common, waker, workers, first_gates.workers);
     Begun {
         reports,
-        bell,
+        page_waker,
         is_refused: !(is_shown && are_pulled && are_worked),
     }
 }
@@ -172,13 +180,13 @@ where
     }
 }
 
-/// Has a thread show the site to browsers, where there is a door for them. False where the system refused it.
+/// Has a thread show the site to browsers, where it listens for them. False where the system refused it.
 fn begin_page<'s, 'e, J, R, E, T>(
     scope: &Scope<'s, &'e ()>,
     rt: &'s R,
     common: &'s Common<'_, E, T>,
     first: InForce,
-    door: Option<(Door, Vec<String>)>,
+    endpoint: Option<(PageEndpoint, Vec<String>)>,
     window: OwnWindow<J>,
 ) -> bool
 where
@@ -187,9 +195,9 @@ where
     E: Drain + Send + Drop,
     T: Turn + Sync,
 {
-    match door {
-        Some(door) => scope
-            .spawn(move || show(rt, common, first, door, window))
+    match endpoint {
+        Some(endpoint) => scope
+            .spawn(move || show(rt, common, first, endpoint, window))
             .is_ok(),
         None => true,
     }
@@ -202,7 +210,7 @@ fn begin_pulls<'s, 'e, J, R, E, T>(
     common: &'s Common<'_, E, T>,
     waker: &'s Waker,
     shares: Vec<Vec<Peer>>,
-    pullers: Vec<Place<J>>,
+    pullers: Vec<Puller<J>>,
 ) -> bool
 where
     J: Naming + Send + Sync + 's,
@@ -211,9 +219,9 @@ where
     T: Turn + Sync,
 {
     let mut are_begun = true;
-    for (peers, place) in shares.into_iter().zip(pullers) {
-        let puller = scope.spawn(move || pull(rt, common, waker, peers, place));
-        are_begun &= puller.is_ok();
+    for (peers, puller) in shares.into_iter().zip(pullers) {
+        let begun = scope.spawn(move || pull(rt, common, waker, peers, puller));
+        are_begun &= begun.is_ok();
     }
     are_begun
 }
@@ -225,7 +233,7 @@ fn begin_work<'s, 'e, J, R, E, T>(
     common: &'s Common<'_, E, T>,
     waker: &'s Waker,
     workers: Vec<Worker<J>>,
-    firsts: Vec<InForce>,
+    first_gates: Vec<InForce>,
 ) -> bool
 where
     J: Naming + Send + Sync + 's,
@@ -234,7 +242,7 @@ where
     T: Turn + Sync,
 {
     let mut are_begun = true;
-    for (worker, first) in workers.into_iter().zip(firsts) {
+    for (worker, first) in workers.into_iter().zip(first_gates) {
         let worker = scope.spawn(move || work(rt, common, first, waker, worker));
         are_begun &= worker.is_ok();
     }
@@ -248,8 +256,8 @@ fn run_loop<J, R, E, T, K>(
     news: &News<J>,
     begun: Begun,
     group: &mut GroupCommit<J, K>,
-    floor: Floor,
-    lines: Lines<J>,
+    event_loop: EventLoop,
+    ends: LoopEnds<J>,
 ) -> Ended<J>
 where
     J: Opening,
@@ -260,12 +268,12 @@ where
 {
     stop_where(rt, common, begun.is_refused);
     let site = Site {
-        board: &common.board,
+        metrics: &common.metrics,
         news,
         errors: &common.errors,
         stop: common.stop,
     };
-    let flushed = serve_floor(rt, site, floor, lines, group);
+    let flushed = serve_sessions(rt, site, event_loop, ends, group);
     end_all(rt, common, news, begun, flushed)
 }
 
@@ -285,11 +293,11 @@ where
 {
     let Begun {
         reports,
-        bell,
+        page_waker,
         is_refused,
     } = begun;
     common.stop.ask(rt);
-    wake(&bell);
+    wake(&page_waker);
     close(rt, news, &flushed);
     Ended {
         flushed,
@@ -305,10 +313,10 @@ fn stop_where<R: Wait, E: Drain, T: Turn>(rt: &R, common: &Common<'_, E, T>, is_
     }
 }
 
-/// Wakes who serves browsers.
-fn wake(bell: &Option<Waker>) {
-    if let Some(bell) = bell {
-        let _woken = bell.wake();
+/// Wakes the thread that serves browsers.
+fn wake(page_waker: &Option<Waker>) {
+    if let Some(page_waker) = page_waker {
+        let _woken = page_waker.wake();
     }
 }
 
@@ -333,7 +341,7 @@ fn print_all<R: Wait + Clock, W: Drain + Drop, E: Drain, T: Turn, J: Naming>(
         rt,
         common.alloc,
         common.ruling(first),
-        common.ways.prints,
+        common.options.prints,
         news,
         window,
         output,
@@ -341,10 +349,17 @@ fn print_all<R: Wait + Clock, W: Drain + Drop, E: Drain, T: Turn, J: Naming>(
     )
 }
 
-/// Where browsers connect to with the names by which they may call this machine, and what wakes who serves there.
-fn parted(page: Option<Doorstep>) -> (Option<(Door, Vec<String>)>, Option<Waker>) {
+/// Where browsers connect to, with the names by which they may call this machine, and what wakes the thread that serves
+/// there.
+fn page_parts(page: Option<PageSetup>) -> (Option<(PageEndpoint, Vec<String>)>, Option<Waker>) {
     match page {
-        Some(Doorstep { door, waker, hosts }) => (Some((door, hosts)), Some(waker)),
+        Some(
+            PageSetup {
+                endpoint,
+                waker,
+                hosts,
+            },
+        ) => (Some((endpoint, hosts)), Some(waker)),
         None => (None, None),
     }
 }
@@ -354,7 +369,7 @@ fn show<R, E, T, J>(
     rt: &R,
     common: &Common<'_, E, T>,
     first: InForce,
-    door: (Door, Vec<String>),
+    endpoint: (PageEndpoint, Vec<String>),
     window: OwnWindow<J>,
 )
 where
@@ -363,18 +378,25 @@ where
     T: Turn,
     J: Naming,
 {
-    let (door, hosts) = door;
-    let shower = Shower {
+    let (endpoint, hosts) = endpoint;
+    let context = PageContext {
         rt,
         alloc: common.alloc,
-        board: &common.board,
-        site: common.ways.guard.own,
-        start: common.ways.start,
-        workers: common.ways.workers,
-        peers: common.ways.peers.as_slice(),
+        metrics: &common.metrics,
+        site: common.options.guard.own,
+        start: common.options.start,
+        workers: common.options.workers,
+        peers: common.options.peers.as_slice(),
     };
     let ruling = common.ruling(first);
-    show_pages(shower, ruling, door, hosts.as_slice(), common.stop, window);
+    show_pages(
+        context,
+        ruling,
+        endpoint,
+        hosts.as_slice(),
+        common.stop,
+        window,
+    );
 }
 
 /// Pulls from its share of the peers. It notes whether another process takes in as this site.
@@ -383,7 +405,7 @@ fn pull<R, E, T, J>(
     common: &Common<'_, E, T>,
     waker: &Waker,
     peers: Vec<Peer>,
-    place: Place<J>,
+    puller: Puller<J>,
 )
 where
     R: Wait + Clock + Net<Stream = TcpStream>,
@@ -391,7 +413,7 @@ where
     T: Turn,
     J: Naming,
 {
-    let port = PullPort::new(rt, common.alloc, waker, place);
+    let port = PullPort::new(rt, common.alloc, waker, puller);
     if is_start_taken_after(rt, common, peers, port) {
         common.is_start_taken.store(true, Ordering::SeqCst);
     }
@@ -412,26 +434,26 @@ where
 {
     let pulling = pulling_of(common);
     let mut port = Guarded {
-        guard: &common.ways.guard,
+        guard: &common.options.guard,
         sink: port,
     };
     pull_from_peers(rt, &pulling, peers, &common.errors, &mut port);
     port.sink.is_start_taken()
 }
 
-/// What pulls go by.
+/// The settings of pulls.
 fn pulling_of<'a, E: Drain, T: Turn>(common: &'a Common<'_, E, T>) -> Pulling<'a, T> {
     Pulling {
         alloc: common.alloc,
-        addresses: common.ways.peers.as_slice(),
-        doorman: common.doorman(),
-        pause: common.ways.pause,
+        addresses: common.options.peers.as_slice(),
+        admission: common.admission(),
+        pause: common.options.pause,
         patience: Patience {
             limit: Duration::from_millis(PULL_PATIENCE_MS),
             idle: Some(Duration::from_millis(PULL_PATIENCE_MS)),
         },
         stop: common.stop,
-        board: &common.board,
+        metrics: &common.metrics,
     }
 }
 
@@ -449,15 +471,15 @@ where
     T: Turn,
     J: Naming,
 {
-    let doorman = common.doorman();
+    let admission = common.admission();
     do_jobs(
         rt,
         common.alloc,
-        &doorman,
+        &admission,
         common.ruling(first),
         worker,
         waker,
-        &common.board,
+        &common.metrics,
         &common.errors,
         common.turn,
     );

@@ -59,16 +59,6 @@ no_line (byte ∷ piece) plain e =
     let two : [] ≡ without_cr (byte ∷ piece) ∷ [] = sym e ∙ one_line (byte ∷ piece) (λ h. cc) plain in cc
 
 -- ---- the start
-pub cut_start : (base : List Operation) (cutter : Cutter) → cutter.held.items ≡ [] → HasTaken base [] cutter.progress
-    → HasCut base [] cutter
-cut_start base cutter none taken = record {
-  lines = [];
-  front = [];
-  form = sym none;
-  cut = λ rest. refl;
-  plain = subst HasNoLf (sym none) (All-nil (λ b. b ≢ 10));
-  taken = taken;
-}
 
 module _ (base : List Operation) (came : List ℕ) (old new : Cutter) (has : HasCut base came old) where
   -- ---- more of the next line

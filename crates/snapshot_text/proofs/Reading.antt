@@ -1,8 +1,8 @@
 -- How a reading of a snapshot's lines goes on, line by line.
-use Rattle.std.proofs.Common.{◌≤◌, ◌≡◌, ℕ, ◌+◌, List, [], ◌∷◌, ◌++◌, length, refl, sym, ap, ◌∙◌, subst, arith}
-use Rattle.std.proofs.Common.{append_assoc, length-append}
+use Rattle.std.proofs.Common.{◌≤◌, ◌≡◌, ℕ, ◌+◌, List, [], ◌∷◌, ◌++◌, length, refl, sym, ap, ◌∙◌, subst}
+use Rattle.std.proofs.Common.{append_assoc}
 use Rattle.std.proofs.lemmas.List.{append-nil}
-use Rattle.std.specs.Prelude.{codes, Option, None, Some, IfSome}
+use Rattle.std.specs.Prelude.{codes}
 use Rattle.byte_ends.specs.Lines.{lines_of}
 use Rattle.std.specs.Str.Parse.{digits_value}
 use Rattle.review_ops.specs.Operation.{Operation}
@@ -27,13 +27,6 @@ AreOperationLines-push [] (o ∷ ops) text op are is = absurd are
 AreOperationLines-push (l ∷ lines) [] text op are is = absurd are
 AreOperationLines-push (l ∷ lines) (o ∷ ops) text op are is = (are.0, AreOperationLines-push lines ops text op are.1 is)
 
-AreOperationLines-length : (lines : List (List ℕ)) (ops : List Operation) → AreOperationLines lines ops
-    → length lines ≡ length ops
-AreOperationLines-length [] [] are = refl
-AreOperationLines-length [] (o ∷ ops) are = absurd are
-AreOperationLines-length (l ∷ lines) [] are = absurd are
-AreOperationLines-length (l ∷ lines) (o ∷ ops) are = omega (arith, AreOperationLines-length lines ops are.1)
-
 pub BeginsWith-push : {lines : List (List ℕ)} {ops : List Operation} {rest : List (List ℕ)} (text : List ℕ) (op : Operation)
     → BeginsWith lines ops (text ∷ rest) → IsOperationLine text op → BeginsWith lines (ops ++ op ∷ []) rest
 BeginsWith-push {lines} {ops} {rest} text op begins is = record {
@@ -43,11 +36,6 @@ BeginsWith-push {lines} {ops} {rest} text op begins is = record {
   header = begins.header;
   operations = AreOperationLines-push begins.front ops text op begins.operations is;
 }
-
-pub BeginsWith-length : {lines : List (List ℕ)} {ops : List Operation} {rest : List (List ℕ)}
-    → BeginsWith lines ops rest → length lines ≡ length ops + length rest + 1
-BeginsWith-length {lines} {ops} {rest} begins =
-    omega (arith, ap length begins.form, length-append begins.front rest, AreOperationLines-length begins.front ops begins.operations)
 
 -- ---- end lines
 
@@ -189,9 +177,3 @@ refusal_of text AfterEnd within is = ((within, is), ((λ e. cc), (λ e. cc)))
 refusal_of text TooLong within is = absurd is
 refusal_of text ReadFault within is = absurd is
 refusal_of text NoMemory within is = (tt, ((λ e. cc), (λ e. cc)))
-
--- what a text is refused by is a refusal of the bytes that are known to be it
-pub known_refusal : (left : Option (List ℕ)) (bytes : List ℕ) → IfSome left (λ text. bytes ≡ text) → (fault : SnapFault)
-    → IsRefusal bytes fault × IsOfText fault → IfSome left (λ text. IsRefusal text fault)
-known_refusal None bytes same fault is = tt
-known_refusal (Some text) bytes same fault is = subst (λ t. IsRefusal t fault) same is.0

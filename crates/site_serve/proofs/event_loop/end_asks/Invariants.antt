@@ -1,5 +1,5 @@
 use Rattle.std.proofs.Common.{◌≡◌, []}
-use Rattle.site_serve.proofs.floor.end_asks.Given as goal
+use Rattle.site_serve.proofs.event_loop.end_asks.Given as goal
 
 -- nobody waits
 abbrev pub invariant-loop-ask : goal.invariant-loop-ask

@@ -1,6 +1,6 @@
-//! Lets connections in by their keys.
+//! Admits connections by their keys.
 
-use super::channel::Knock;
+use super::channel::Credential;
 use super::errors::Errors;
 use super::jobs::Work;
 use byte_ends::Drain;
@@ -10,26 +10,26 @@ use sealed_link::{Admitted, admit, refusal_line};
 use std::alloc::Global;
 use std::sync::Wait;
 
-/// By what connections are let in, and are dialed: what reads the file of keys, its name, if one is named, and the site's
-/// number.
+/// What connections are admitted by, and dialed: the reader of the file of keys, the file's name, if one is named, and
+/// the number of the site.
 #[derive(Drop)]
-pub struct Doorman<'a, T: KeyReader> {
+pub struct Admission<'a, T: KeyReader> {
     pub reader: &'a T,
     pub keys: Option<&'a str>,
     pub site: u16,
 }
 
-impl<T: KeyReader> Doorman<'_, T> {
+impl<T: KeyReader> Admission<'_, T> {
     /// Lets a connection in if a key of the file is what it asks that by. The file is read at each connection, so that
     /// one that is withdrawn lets nobody in any more. A file that can't be read is reported, and lets nobody in.
     pub fn answer<R: Wait, E: Drain>(
         &self,
         rt: &R,
         alloc: Global,
-        knock: Knock,
+        credential: Credential,
         errors: &Errors<E>,
     ) -> Work {
-        match self.admitted(alloc, knock) {
+        match self.admitted(alloc, credential) {
             Ok(Some(admitted)) => return Work::Admitted(admitted),
             Ok(None) => {}
             Err(fault) => errors.no_keys(rt, alloc, fault, self.keys.unwrap_or("")),
@@ -44,8 +44,12 @@ impl<T: KeyReader> Doorman<'_, T> {
     }
 
     /// Who is let in, if a key of the file is what is asked by.
-    fn admitted(&self, alloc: Global, knock: Knock) -> Result<Option<Admitted>, KeyFault> {
-        let (Knock::Key(greeting), Some(name)) = (knock, self.keys) else {
+    fn admitted(
+        &self,
+        alloc: Global,
+        credential: Credential,
+    ) -> Result<Option<Admitted>, KeyFault> {
+        let (Credential::Key(greeting), Some(name)) = (credential, self.keys) else {
             return Ok(None);
         };
         let keys = self.reader.keys(name)?;

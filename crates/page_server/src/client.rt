@@ -1,6 +1,6 @@
 //! A connection that is open.
 
-use super::door::limits;
+use super::endpoint::limits;
 use http_server::{Connection, Service};
 use mio::net::TcpStream;
 use std::alloc::Global;
@@ -25,7 +25,7 @@ const MOVES: usize = 16;
 
 /// A connection that is open, with its socket.
 #[derive(Drop)]
-pub(crate) struct Guest {
+pub(crate) struct Client {
     stream: TcpStream,
     connection: Connection,
     /// Whether the socket may have more to read, and whether it may take more.
@@ -40,10 +40,15 @@ pub(crate) struct Guest {
     is_over: bool,
 }
 
-impl Guest {
+impl Client {
     /// A connection of which nothing was read.
-    pub(crate) fn new(alloc: Global, keys: RandomState, stream: TcpStream, now: Duration) -> Guest {
-        Guest {
+    pub(crate) fn new(
+        alloc: Global,
+        keys: RandomState,
+        stream: TcpStream,
+        now: Duration,
+    ) -> Client {
+        Client {
             stream,
             connection: Connection::new(alloc, keys, limits()),
             may_read: true,

@@ -1,5 +1,5 @@
 use Rattle.std.proofs.Common.{◌≡◌, All}
-use Rattle.site_serve.proofs.seats.hired.Given as goal
+use Rattle.site_serve.proofs.thread_ends.workers_at.Given as goal
 
 -- the windows that are left are of the opening
 abbrev pub invariant-loop-worker : goal.invariant-loop-worker

@@ -1,4 +1,4 @@
-//! Where the connections come in.
+//! The endpoint of the pages: where their connections come in.
 
 ghost use Rattle.std.specs.Prelude.{◌≡◌};
 
@@ -14,10 +14,10 @@ use std::os::unix::net::UnixListener;
 use std::random::RandomSource;
 use thiserror::Error;
 
-/// The token of the listener, and that of who wakes the server.
-pub(crate) const DOOR: Token = Token(usize::MAX);
+/// The poll's tokens: of the listener, and of the waker by which other threads wake the server.
+pub(crate) const LISTENER: Token = Token(usize::MAX);
 
-const BELL: Token = Token(usize::MAX - 1);
+const WAKE: Token = Token(usize::MAX - 1);
 
 /// Why pages can't be served.
 #[derive(Clone, Copy, Debug, PartialEq, Eq, Drop, Error)]
@@ -38,52 +38,56 @@ enum Polled {
 
 /// Where the connections come in: a listener that is polled, and the keys of the maps of header fields.
 #[derive(Drop)]
-pub struct Door {
+pub struct PageEndpoint {
     pub(crate) poll: Poll,
     listener: Polled,
     pub(crate) keys: RandomState,
 }
 
-/// A door over the listener of a port, and what wakes who serves there: `Waker::wake`, after the stop was asked, ends
+/// The endpoint of a port's listener, and what wakes the thread that serves there: `Waker::wake`, after the stop was asked, ends
 /// the wait at once. It fails where the system refuses a poll or has no random bytes.
-pub fn open_door<R: Net + RandomSource>(
+pub fn open_endpoint<R: Net + RandomSource>(
     rt: &R,
     listener: TcpListener,
-) -> io::Result<(Door, Waker)> {
+) -> io::Result<(PageEndpoint, Waker)> {
     listener.set_nonblocking(true)?;
     let poll = Poll::new(rt)?;
     let mut listener = mio::net::TcpListener::from_std(listener);
     poll.registry()
-        .register(&mut listener, DOOR, Interest::READABLE)?;
+        .register(&mut listener, LISTENER, Interest::READABLE)?;
     opened(rt, poll, Polled::Port(listener))
 }
 
-/// The same over the listener of a Unix socket.
-pub fn open_socket_door<R: Net + RandomSource>(
+/// The same for the listener of a Unix socket.
+pub fn open_socket_endpoint<R: Net + RandomSource>(
     rt: &R,
     listener: UnixListener,
-) -> io::Result<(Door, Waker)> {
+) -> io::Result<(PageEndpoint, Waker)> {
     listener.set_nonblocking(true)?;
     let poll = Poll::new(rt)?;
     let mut listener = mio::net::UnixListener::from_std(listener);
     poll.registry()
-        .register(&mut listener, DOOR, Interest::READABLE)?;
+        .register(&mut listener, LISTENER, Interest::READABLE)?;
     opened(rt, poll, Polled::Socket(listener))
 }
 
-/// A door over a listener that the poll reports, and what wakes who serves there.
-fn opened<R: RandomSource>(rt: &R, poll: Poll, listener: Polled) -> io::Result<(Door, Waker)> {
-    let waker = Waker::new(poll.registry(), BELL)?;
+/// The endpoint of a listener that the poll reports, and what wakes the thread that serves there.
+fn opened<R: RandomSource>(
+    rt: &R,
+    poll: Poll,
+    listener: Polled,
+) -> io::Result<(PageEndpoint, Waker)> {
+    let waker = Waker::new(poll.registry(), WAKE)?;
     let keys = RandomState::new(rt)?;
-    let door = Door {
+    let endpoint = PageEndpoint {
         poll,
         listener,
         keys,
     };
-    Ok((door, waker))
+    Ok((endpoint, waker))
 }
 
-impl Door {
+impl PageEndpoint {
     /// The next connection that waits. One of a Unix socket is a stream like those of ports.
     pub(crate) fn accept(&self) -> io::Result<TcpStream> {
         match &self.listener {

@@ -1,4 +1,4 @@
-use Rattle.site_serve.proofs.floor.take_turns.Given as goal
+use Rattle.site_serve.proofs.event_loop.take_turns.Given as goal
 
 abbrev pub invariant-loop : goal.invariant-loop
 invariant-loop g l =

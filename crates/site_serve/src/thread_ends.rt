@@ -1,8 +1,8 @@
-//! Where the threads of a site sit: windows to look through, and channels to the desk.
+//! The thread_ends of the threads of a site: windows to look through, and ends of the channels to the desk.
 
 ghost use Rattle.std.specs.Prelude.{◌≡◌, All};
 
-use super::ask::{Answer, Ask, Place, Wire};
+use super::ask::{Answer, Ask, DeskLink, Puller};
 use super::jobs::{Job, Reply, Worker};
 use super::opening::OwnWindow;
 use crossbeam_channel::{Receiver, Sender, bounded};
@@ -12,38 +12,38 @@ use std::alloc::{AllocError, Global};
 /// How many asks of pulls may wait for the desk.
 const WAITING_ASKS: usize = 8;
 
-/// Where the threads of a site sit.
+/// What each thread of a site works with: its window, and its ends of channels.
 #[derive(Drop)]
-pub struct Seats<J: Naming> {
+pub struct ThreadEnds<J: Naming> {
     /// The window of the thread that prints the reports.
     pub reports: OwnWindow<J>,
     /// The window of the one that shows the site to browsers.
     pub pages: OwnWindow<J>,
-    /// The places of those that pull from the peers.
-    pub pullers: Vec<Place<J>>,
+    /// Those that pull from the peers.
+    pub pullers: Vec<Puller<J>>,
     /// Those that look for sessions.
     pub workers: Vec<Worker<J>>,
-    /// The ends of all channels that are the loop's.
-    pub lines: Lines<J>,
+    /// The event loop's ends of all channels.
+    pub ends: LoopEnds<J>,
 }
 
-/// The ends of the channels that are the loop's.
+/// The event loop's ends of the channels.
 #[derive(Drop)]
-pub struct Lines<J: Naming> {
+pub struct LoopEnds<J: Naming> {
     pub jobs: Sender<Job<J>, Global>,
     pub replies: Receiver<Reply, Global>,
     pub asks: Receiver<Ask, Global>,
     pub answers: Vec<Sender<Answer<J>, Global>>,
 }
 
-/// A seat for each thread: so many workers, and a puller at each window that is left. None where there are fewer windows
+/// The thread_ends of the threads: so many workers, and a puller at each window that is left. None where there are fewer windows
 /// than workers and two.
-pub fn seated<J: Naming>(
+pub fn thread_ends_at<J: Naming>(
     alloc: Global,
     windows: Vec<Window>,
     workers: usize,
     jobs: usize,
-) -> Result<Option<Seats<J>>, AllocError>
+) -> Result<Option<ThreadEnds<J>>, AllocError>
     requires { All (λ window. window.book ≡ J.book) windows.items }
 {
     let mut windows = windows;
@@ -53,22 +53,22 @@ pub fn seated<J: Naming>(
     let Some(pages) = windows.pop() else {
         return Ok(None);
     };
-    let Some(shop) = shop_of(alloc, &mut windows, workers, jobs)? else {
+    let Some(worker_set) = worker_set_of(alloc, &mut windows, workers, jobs)? else {
         return Ok(None);
     };
-    let (pullers, post) = posted(alloc, windows)?;
-    let Shop {
+    let (pullers, puller_ends) = pullers_of(alloc, windows)?;
+    let WorkerSet {
         workers,
         jobs,
         replies,
-    } = shop;
-    let Post { asks, answers } = post;
-    Ok(Some(Seats {
+    } = worker_set;
+    let PullerEnds { asks, answers } = puller_ends;
+    Ok(Some(ThreadEnds {
         reports: OwnWindow::new(reports),
         pages: OwnWindow::new(pages),
         pullers,
         workers,
-        lines: Lines {
+        ends: LoopEnds {
             jobs,
             replies,
             asks,
@@ -79,26 +79,26 @@ pub fn seated<J: Naming>(
 
 /// The workers, and the loop's ends of the channels to and from them.
 #[derive(Drop)]
-struct Shop<J: Naming> {
+struct WorkerSet<J: Naming> {
     workers: Vec<Worker<J>>,
     jobs: Sender<Job<J>, Global>,
     replies: Receiver<Reply, Global>,
 }
 
 /// So many workers, with room for so many jobs. None where there are fewer windows.
-fn shop_of<J: Naming>(
+fn worker_set_of<J: Naming>(
     alloc: Global,
     windows: &mut Vec<Window>,
     workers: usize,
     jobs: usize,
-) -> Result<Option<Shop<J>>, AllocError>
+) -> Result<Option<WorkerSet<J>>, AllocError>
     requires { All (λ window. window.book ≡ J.book) windows.old.items }
     ensures { All (λ window. window.book ≡ J.book) windows.new.items }
 {
     let (given, taken) = bounded(alloc, jobs)?;
     let (answered, replies) = bounded(alloc, jobs)?;
-    match hired(alloc, windows, workers, &taken, &answered) {
-        Ok(Some(workers)) => Ok(Some(Shop {
+    match workers_at(alloc, windows, workers, &taken, &answered) {
+        Ok(Some(workers)) => Ok(Some(WorkerSet {
             workers,
             jobs: given,
             replies,
@@ -109,7 +109,7 @@ fn shop_of<J: Naming>(
 }
 
 /// So many workers, each at a window of its own. None where there are fewer windows.
-fn hired<J: Naming>(
+fn workers_at<J: Naming>(
     alloc: Global,
     windows: &mut Vec<Window>,
     workers: usize,
@@ -119,39 +119,39 @@ fn hired<J: Naming>(
     requires { All (λ window. window.book ≡ J.book) windows.old.items }
     ensures { All (λ window. window.book ≡ J.book) windows.new.items }
 {
-    let mut hired = Vec::new(alloc);
+    let mut made = Vec::new(alloc);
     for _worker in 0..workers {
         let Some(window) = windows.pop() else {
             return Ok(None);
         };
-        hired.push(Worker {
+        made.push(Worker {
             window: OwnWindow::new(window),
             jobs: jobs.clone()?,
             replies: replies.clone()?,
         })?;
     }
-    Ok(Some(hired))
+    Ok(Some(made))
 }
 
 /// The loop's ends of the channels from and to those that pull.
 #[derive(Drop)]
-struct Post<J: Naming> {
+struct PullerEnds<J: Naming> {
     asks: Receiver<Ask, Global>,
     answers: Vec<Sender<Answer<J>, Global>>,
 }
 
-/// A puller's place at each window, and the desk's ends of the channels from and to them.
-fn posted<J: Naming>(
+/// A puller at each window, and the desk's ends of the channels from and to them.
+fn pullers_of<J: Naming>(
     alloc: Global,
     windows: Vec<Window>,
-) -> Result<(Vec<Place<J>>, Post<J>), AllocError>
+) -> Result<(Vec<Puller<J>>, PullerEnds<J>), AllocError>
     requires { All (λ window. window.book ≡ J.book) windows.items }
 {
     let (asks, asked) = bounded(alloc, WAITING_ASKS)?;
-    match wired(alloc, windows, &asks) {
+    match pullers_with(alloc, windows, &asks) {
         Ok((pullers, answers)) => Ok((
             pullers,
-            Post {
+            PullerEnds {
                 asks: asked,
                 answers,
             },
@@ -160,37 +160,37 @@ fn posted<J: Naming>(
     }
 }
 
-/// A puller's place at each window, and the desk's ends of the channels back to them.
-fn wired<J: Naming>(
+/// A puller at each window, and the desk's ends of the channels back to them.
+fn pullers_with<J: Naming>(
     alloc: Global,
     windows: Vec<Window>,
     asks: &Sender<Ask, Global>,
-) -> Result<(Vec<Place<J>>, Vec<Sender<Answer<J>, Global>>), AllocError>
+) -> Result<(Vec<Puller<J>>, Vec<Sender<Answer<J>, Global>>), AllocError>
     requires { All (λ window. window.book ≡ J.book) windows.items }
 {
     let mut pullers = Vec::new(alloc);
     let mut answers = Vec::new(alloc);
     for window in windows {
-        let (answer, place) = place_at(alloc, OwnWindow::new(window), answers.len(), asks)?;
+        let (answer, puller) = puller_at(alloc, OwnWindow::new(window), answers.len(), asks)?;
         answers.push(answer)?;
-        pullers.push(place)?;
+        pullers.push(puller)?;
     }
     Ok((pullers, answers))
 }
 
-/// The place of a puller of this number at a window, and the desk's end of the channel back to it.
-fn place_at<J: Naming>(
+/// The puller of this number at a window, and the desk's end of the channel back to it.
+fn puller_at<J: Naming>(
     alloc: Global,
     window: OwnWindow<J>,
     puller: usize,
     asks: &Sender<Ask, Global>,
-) -> Result<(Sender<Answer<J>, Global>, Place<J>), AllocError> {
+) -> Result<(Sender<Answer<J>, Global>, Puller<J>), AllocError> {
     let (answer, answers) = bounded(alloc, 1)?;
     let asks = asks.clone()?;
-    let wire = Wire {
+    let desk_link = DeskLink {
         puller,
         asks,
         answers,
     };
-    Ok((answer, Place { window, wire }))
+    Ok((answer, Puller { window, desk_link }))
 }

@@ -1,8 +1,8 @@
 //! Serves the pages: one thread that has all connections.
 
-use super::door::{DOOR, Door, PageFault};
-use super::guest::Guest;
-use super::guests::Guests;
+use super::client::Client;
+use super::clients::Clients;
+use super::endpoint::{LISTENER, PageEndpoint, PageFault};
 use super::pages::Pages;
 use super::service::PageService;
 use http::header::HeaderValue;
@@ -22,7 +22,7 @@ const TICK: u64 = 1;
 const PAUSE_MS: u64 = 100;
 
 /// How many connections are accepted in a turn.
-const GUESTS: usize = 64;
+const PER_TURN: usize = 64;
 
 /// How many things are noted in a turn.
 const EVENTS: usize = 256;
@@ -30,20 +30,20 @@ const EVENTS: usize = 256;
 /// How many bytes are dropped at once.
 const BLOCK: usize = 4_096;
 
-/// What a hall needs memory for.
+/// What the loop of the pages needs memory for.
 #[derive(Drop)]
-struct Room {
+struct LoopMemory {
     scratch: Vec<u8>,
     events: Events,
-    guests: Guests,
+    clients: Clients,
 }
 
-/// Where the connections are served.
+/// The loop that serves the connections.
 #[derive(Drop)]
-struct Hall {
+struct PageLoop {
     alloc: Global,
-    door: Door,
-    room: Room,
+    endpoint: PageEndpoint,
+    memory: LoopMemory,
     begun: Option<Instant>,
     /// How long the loop has run, and when the date was last looked at.
     now: Duration,
@@ -51,23 +51,23 @@ struct Hall {
     may_accept: bool,
 }
 
-/// Serves pages at a door until the stop is asked, to this machine and to these hosts. It notices a stop at once where
-/// the door's waker is woken after it, else within a second. At most 200 connections are open: one more takes the place
+/// Serves pages at an endpoint until the stop is asked, to this machine and to these hosts. It notices a stop at once where
+/// the endpoint's waker is woken after it, else within a second. At most 200 connections are open: one more takes the place
 /// of the one that has been silent longest. A request has 10 seconds to come from its first byte on, and a connection
 /// may be silent for 60. Neither a connection's failure nor the system's refusal of one ends this. Refusal: 1
 /// `NoMemory`, memory was refused before the first request.
 pub fn serve_pages<R: Wait + Clock, P: Pages + Drop>(
     rt: &R,
     alloc: Global,
-    door: Door,
+    endpoint: PageEndpoint,
     hosts: &[String],
     stop: &Stop,
     pages: P,
 ) -> Result<(), PageFault> {
-    let Ok(room) = Room::new(alloc) else {
+    let Ok(memory) = LoopMemory::new(alloc) else {
         return Err(PageFault::NoMemory);
     };
-    let mut hall = Hall::new(rt, alloc, door, room);
+    let mut page_loop = PageLoop::new(rt, alloc, endpoint, memory);
     let mut service = PageService {
         alloc,
         hosts,
@@ -78,29 +78,34 @@ pub fn serve_pages<R: Wait + Clock, P: Pages + Drop>(
         if stop.is_asked() {
             return Ok(());
         }
-        hall.turn(rt, stop, &mut service);
+        page_loop.turn(rt, stop, &mut service);
     }
     unreachable!()
 }
 
-impl Room {
-    /// A room with no connection.
-    fn new(alloc: Global) -> Result<Room, AllocError> {
-        Ok(Room {
+impl LoopMemory {
+    /// Without a connection.
+    fn new(alloc: Global) -> Result<LoopMemory, AllocError> {
+        Ok(LoopMemory {
             scratch: vec![in alloc; 0u8; BLOCK]?,
             events: Events::with_capacity(alloc, EVENTS)?,
-            guests: Guests::new(alloc)?,
+            clients: Clients::new(alloc)?,
         })
     }
 }
 
-impl Hall {
-    /// A hall in this room.
-    fn new<R: Clock>(rt: &R, alloc: Global, door: Door, room: Room) -> Hall {
-        Hall {
+impl PageLoop {
+    /// A loop with this memory.
+    fn new<R: Clock>(
+        rt: &R,
+        alloc: Global,
+        endpoint: PageEndpoint,
+        memory: LoopMemory,
+    ) -> PageLoop {
+        PageLoop {
             alloc,
-            door,
-            room,
+            endpoint,
+            memory,
             begun: Instant::now(rt).ok(),
             now: Duration::ZERO,
             dated: None,
@@ -118,23 +123,23 @@ impl Hall {
         self.wait(rt, stop);
         self.note_time(rt, service);
         self.accept();
-        self.room
-            .guests
-            .work(service, self.room.scratch.as_mut_slice(), self.now);
-        self.room.guests.close(self.now);
+        self.memory
+            .clients
+            .work(service, self.memory.scratch.as_mut_slice(), self.now);
+        self.memory.clients.close(self.now);
     }
 
     /// Waits until there is something to do, for a second at most.
     fn wait<R: Wait + Clock>(&mut self, rt: &R, stop: &Stop) {
-        let limit = if self.room.guests.have_more() {
+        let limit = if self.memory.clients.have_more() {
             Duration::ZERO
         } else {
             Duration::from_secs(TICK)
         };
         if self
-            .door
+            .endpoint
             .poll
-            .poll(&mut self.room.events, Some(limit))
+            .poll(&mut self.memory.events, Some(limit))
             .is_err()
         {
             stop.rest(rt, Duration::from_millis(PAUSE_MS));
@@ -144,17 +149,17 @@ impl Hall {
 
     /// Notes which sockets have something to do.
     fn note_events(&mut self) {
-        for event in self.room.events.iter() {
+        for event in self.memory.events.iter() {
             let token = event.token();
-            if token == DOOR {
+            if token == LISTENER {
                 self.may_accept = true;
             } else {
-                self.room.guests.note_ready(token.0);
+                self.memory.clients.note_ready(token.0);
             }
         }
     }
 
-    /// Notes what time it is, and once a second the date; then the door is tried again.
+    /// Notes what time it is, and once a second the date; then the listener is tried again.
     fn note_time<R: Clock, P: Pages>(&mut self, rt: &R, service: &mut PageService<'_, P>) {
         if let Some(begun) = &self.begun {
             if let Ok(now) = begun.elapsed(rt) {
@@ -170,27 +175,27 @@ impl Hall {
 
     /// Accepts the connections that wait.
     fn accept(&mut self) {
-        for _ in 0..GUESTS {
+        for _ in 0..PER_TURN {
             if !self.may_accept {
                 return;
             }
-            match self.door.accept() {
-                Ok(stream) => self.seat(stream),
-                // Nothing waits, or the system has no descriptor left: the door is tried again within a second.
+            match self.endpoint.accept() {
+                Ok(stream) => self.begin_client(stream),
+                // Nothing waits, or the system has no descriptor left: the listener is tried again within a second.
                 Err(_) => self.may_accept = false,
             }
         }
     }
 
     /// Begins to serve a connection.
-    fn seat(&mut self, stream: TcpStream) {
+    fn begin_client(&mut self, stream: TcpStream) {
         let mut stream = stream;
-        let place = self.room.guests.place();
+        let place = self.memory.clients.place();
         let both = Interest::READABLE | Interest::WRITABLE;
-        let registry = self.door.poll.registry();
+        let registry = self.endpoint.poll.registry();
         if registry.register(&mut stream, Token(place), both).is_ok() {
-            let guest = Guest::new(self.alloc, self.door.keys, stream, self.now);
-            self.room.guests.seat(place, guest);
+            let client = Client::new(self.alloc, self.endpoint.keys, stream, self.now);
+            self.memory.clients.insert(place, client);
         }
     }
 }

@@ -6,18 +6,18 @@ ghost use Rattle.std.specs.Arc.{arc_value};
 ghost use Rattle.site_shared.specs.Accounts.{receipt_of};
 
 use super::ask::Answer;
-use super::board::Board;
 use super::desk::Published;
 use super::errors::Errors;
 use super::group_commit::{GroupCommit, NotKept};
 use super::jobs::{Job, Task};
-use super::lines::{Means, do_lines};
+use super::lines::{LineContext, do_lines};
 use super::listeners::Listeners;
+use super::metrics::Metrics;
 use super::news::News;
 use super::opening::Opening;
 use super::places::Places;
-use super::seats::Lines;
-use super::session::{Guest, Session};
+use super::session::{Connection, Session};
+use super::thread_ends::LoopEnds;
 use byte_ends::Drain;
 use crossbeam_channel::Sender;
 use mio::{Events, Interest, Poll, Token};
@@ -28,10 +28,10 @@ use std::alloc::{AllocError, Global};
 use std::sync::Wait;
 use std::time::{Clock, Duration};
 
-/// The token of the listeners, and that of who has done something for the loop.
-pub(super) const DOOR: Token = Token(usize::MAX);
+/// The poll's tokens: of the listeners, and of the waker by which other threads wake the loop.
+pub(super) const LISTENERS: Token = Token(usize::MAX);
 
-pub(super) const BELL: Token = Token(usize::MAX - 1);
+pub(super) const WAKE: Token = Token(usize::MAX - 1);
 
 /// How many milliseconds a turn waits for something to do.
 const TICK_MS: u64 = 100;
@@ -46,14 +46,14 @@ const WAITING_ANSWERS: usize = 268_435_456;
 const BLOCK: usize = 65_536;
 
 /// How many connections are accepted in a turn, and how many asks of pullers are done.
-const GUESTS: usize = 64;
+const PER_TURN: usize = 64;
 
 /// How many things are noted in a turn.
 const EVENTS: usize = 256;
 
-/// What the loop has beside the sessions.
+/// The event loop: its poll, its listeners, its limits and its clocks. The sessions are in `Places`.
 #[derive(Drop)]
-pub(super) struct Floor {
+pub(super) struct EventLoop {
     alloc: Global,
     poll: Poll,
     events: Events,
@@ -69,7 +69,7 @@ pub(super) struct Floor {
     may_accept: bool,
     /// Whether there was room for the answers of more looks when the clock was looked at.
     has_room: bool,
-    is_rung: bool,
+    is_woken: bool,
     /// Whether something was published, or is to be, of which no news was brought yet.
     is_news_due: bool,
     /// How long the loop has run, when it last looked at the clock for its sessions, when it last said that all places
@@ -80,9 +80,9 @@ pub(super) struct Floor {
     stopped: Option<Duration>,
 }
 
-/// What the loop is run with.
+/// What an event loop is made of.
 #[derive(Drop)]
-pub(super) struct House {
+pub(super) struct LoopParts {
     pub alloc: Global,
     pub poll: Poll,
     pub listeners: Listeners,
@@ -93,20 +93,20 @@ pub(super) struct House {
     pub connections: usize,
 }
 
-impl Floor {
+impl EventLoop {
     /// A loop that has accepted nothing yet.
-    pub(super) fn new(house: House) -> Result<Floor, AllocError> {
-        let events = Events::with_capacity(house.alloc, EVENTS)?;
-        let buffer = vec![in house.alloc; 0u8; BLOCK]?;
-        let House {
+    pub(super) fn new(loop_parts: LoopParts) -> Result<EventLoop, AllocError> {
+        let events = Events::with_capacity(loop_parts.alloc, EVENTS)?;
+        let buffer = vec![in loop_parts.alloc; 0u8; BLOCK]?;
+        let LoopParts {
             alloc,
             poll,
             listeners,
             patience,
             most,
             connections,
-        } = house;
-        Ok(Floor {
+        } = loop_parts;
+        Ok(EventLoop {
             alloc,
             poll,
             events,
@@ -119,7 +119,7 @@ impl Floor {
             ended: 0,
             may_accept: true,
             has_room: true,
-            is_rung: false,
+            is_woken: false,
             is_news_due: false,
             now: Duration::ZERO,
             looked: Duration::ZERO,
@@ -138,10 +138,10 @@ impl Floor {
         let _interrupted = self.poll.poll(&mut self.events, Some(limit));
         for event in self.events.iter() {
             let token = event.token();
-            if token == DOOR {
+            if token == LISTENERS {
                 self.may_accept = true;
-            } else if token == BELL {
-                self.is_rung = true;
+            } else if token == WAKE {
+                self.is_woken = true;
             } else {
                 places.note_ready(token.0, event.is_read_closed());
             }
@@ -149,11 +149,11 @@ impl Floor {
     }
 
     /// Notes what time it is, and that the loop takes a turn.
-    fn note_turn<R: Clock>(&mut self, rt: &R, board: &Board) {
-        if let Some(now) = board.now(rt) {
+    fn note_turn<R: Clock>(&mut self, rt: &R, metrics: &Metrics) {
+        if let Some(now) = metrics.now(rt) {
             self.now = now;
         }
-        board.note_turn(self.now, self.accepted.wrapping_sub(self.ended));
+        metrics.note_turn(self.now, self.accepted.wrapping_sub(self.ended));
     }
 
     /// Accepts the connections that wait.
@@ -162,32 +162,32 @@ impl Floor {
         rt: &R,
         site: &Site<'_, E, J>,
         places: &mut Places<J>,
-        lines: &Lines<J>,
+        ends: &LoopEnds<J>,
     ) {
-        for _guest in 0..GUESTS {
-            let Some(guest) = self.next_guest() else {
+        for _connection in 0..PER_TURN {
+            let Some(connection) = self.next_connection() else {
                 return;
             };
             match places.free_one() {
-                Some(place) => self.seat(rt, places, lines, place, guest),
+                Some(place) => self.begin_session(rt, places, ends, place, connection),
                 None => self.refuse(rt, site),
             }
         }
     }
 
     /// The next connection that waits.
-    fn next_guest(&mut self) -> Option<Guest> {
+    fn next_connection(&mut self) -> Option<Connection> {
         if !self.may_accept || (self.most > 0 && self.accepted >= self.most) {
             return None;
         }
-        let guest = self.listeners.as_ref()?.accept();
-        self.may_accept = guest.is_some();
-        guest
+        let connection = self.listeners.as_ref()?.accept();
+        self.may_accept = connection.is_some();
+        connection
     }
 
     /// Says that every place is taken, at most once a second.
     fn refuse<R: Wait, E: Drain, J: Naming>(&mut self, rt: &R, site: &Site<'_, E, J>) {
-        site.board.note_refused();
+        site.metrics.note_refused();
         if let Some(refused) = self.refused {
             if self.now.saturating_sub(refused) < Duration::from_secs(1) {
                 return;
@@ -198,24 +198,24 @@ impl Floor {
     }
 
     /// Begins a session at a place.
-    fn seat<R: Wait, J: Naming>(
+    fn begin_session<R: Wait, J: Naming>(
         &mut self,
         rt: &R,
         places: &mut Places<J>,
-        lines: &Lines<J>,
+        ends: &LoopEnds<J>,
         place: usize,
-        guest: Guest,
+        connection: Connection,
     ) {
         self.accepted = self.accepted.wrapping_add(1);
-        let mut guest = guest;
+        let mut connection = connection;
         let both = Interest::READABLE | Interest::WRITABLE;
         let _registered = self
             .poll
             .registry()
-            .register(&mut guest.stream, Token(place), both);
-        let session = Session::new(self.alloc, self.accepted, guest, self.now);
-        places.seat(place, session);
-        send_job(rt, lines, place, self.accepted, Task::Enter);
+            .register(&mut connection.stream, Token(place), both);
+        let session = Session::new(self.alloc, self.accepted, connection, self.now);
+        places.put_session(place, session);
+        send_job(rt, ends, place, self.accepted, Task::Enter);
     }
 
     /// Takes what the workers have done.
@@ -223,10 +223,10 @@ impl Floor {
         &mut self,
         rt: &R,
         places: &mut Places<J>,
-        lines: &Lines<J>,
+        ends: &LoopEnds<J>,
     ) {
         for _reply in 0..places.count() {
-            let Ok(reply) = lines.replies.try_recv(rt) else {
+            let Ok(reply) = ends.replies.try_recv(rt) else {
                 return;
             };
             if places.take_reply(reply, self.now) {
@@ -239,31 +239,36 @@ impl Floor {
     fn do_sessions<R: Wait, J: Opening, K: Keeps>(
         &mut self,
         rt: &R,
-        board: &Board,
+        metrics: &Metrics,
         places: &mut Places<J>,
-        lines: &Lines<J>,
+        ends: &LoopEnds<J>,
         group: &mut GroupCommit<J, K>,
     ) {
         for at in 0..places.listed() {
             let place = places.listed_at(at).unwrap_or(usize::MAX);
             if let Some(session) = places.session(place) {
-                let means = Means {
+                let context = LineContext {
                     alloc: self.alloc,
                     place,
                     number: session.number,
                     moment: self.now,
                     has_room: self.has_room,
-                    board,
-                    jobs: &lines.jobs,
+                    metrics,
+                    jobs: &ends.jobs,
                 };
                 let buffer = self.buffer.as_mut_slice();
-                do_lines(rt, &means, buffer, session, group);
+                do_lines(rt, &context, buffer, session, group);
             }
         }
     }
 
     /// Writes what waits, and has those sessions end that are over.
-    fn write_all<R: Wait, J: Naming>(&mut self, rt: &R, places: &mut Places<J>, lines: &Lines<J>) {
+    fn write_all<R: Wait, J: Naming>(
+        &mut self,
+        rt: &R,
+        places: &mut Places<J>,
+        ends: &LoopEnds<J>,
+    ) {
         for at in 0..places.listed() {
             let place = places.listed_at(at).unwrap_or(usize::MAX);
             if let Some(session) = places.session(place) {
@@ -272,14 +277,14 @@ impl Floor {
                     session.go_away();
                     session.close();
                     let (number, ended) = (session.number, session.ended());
-                    send_job(rt, lines, place, number, Task::Leave(ended));
+                    send_job(rt, ends, place, number, Task::Leave(ended));
                 }
             }
         }
         places.unlist();
     }
 
-    /// Ten times a second: has the door tried again, looks whether more answers may be made, and ends the sessions with
+    /// Ten times a second: has the listeners tried again, looks whether more answers may be made, and ends the sessions with
     /// whom there is no patience left.
     fn look_at_clock<J: Naming>(&mut self, places: &mut Places<J>) {
         if self.now.saturating_sub(self.looked) < Duration::from_millis(TICK_MS) {
@@ -319,27 +324,33 @@ impl Floor {
 }
 
 /// Gives a worker something to do for a session. There is room for a job of each place.
-fn send_job<R: Wait, J: Naming>(rt: &R, lines: &Lines<J>, place: usize, session: u64, task: Task) {
+fn send_job<R: Wait, J: Naming>(
+    rt: &R,
+    ends: &LoopEnds<J>,
+    place: usize,
+    session: u64,
+    task: Task,
+) {
     let job = Job {
         place,
         session,
         receipt: None,
         task,
     };
-    let _sent = lines.jobs.send(rt, job);
+    let _sent = ends.jobs.send(rt, job);
 }
 
 /// Holds what the pullers hand over.
 fn hold_pulled<R: Wait, J: Opening, K: Keeps>(
     rt: &R,
-    lines: &Lines<J>,
+    ends: &LoopEnds<J>,
     group: &mut GroupCommit<J, K>,
 ) {
-    for _ask in 0..GUESTS {
+    for _ask in 0..PER_TURN {
         if !group.has_room() {
             return;
         }
-        let Ok(ask) = lines.asks.try_recv(rt) else {
+        let Ok(ask) = ends.asks.try_recv(rt) else {
             return;
         };
         group.hold(ask);
@@ -351,7 +362,7 @@ fn hold_pulled<R: Wait, J: Opening, K: Keeps>(
 fn publish<R: Wait, J: Opening, K: Keeps, E: Drain>(
     rt: &R,
     site: &Site<'_, E, J>,
-    floor: &mut Floor,
+    event_loop: &mut EventLoop,
     places: &mut Places<J>,
     pullers: &[Sender<Answer<J>, Global>],
     group: &mut GroupCommit<J, K>,
@@ -363,25 +374,25 @@ fn publish<R: Wait, J: Opening, K: Keeps, E: Drain>(
         return Ok(());
     }
     let is_more = group.held_count() > 0;
-    floor.is_news_due |= is_more;
-    let published = group.publish(rt, floor.alloc, places, pullers)?;
+    event_loop.is_news_due |= is_more;
+    let published = group.publish(rt, event_loop.alloc, places, pullers)?;
     if is_more {
-        site.board.note_kept(group.kept_bytes());
+        site.metrics.note_kept(group.kept_bytes());
     }
     if let Ok(receipt) = &published
-        && floor.is_news_due
+        && event_loop.is_news_due
     {
-        floor.is_news_due = false;
-        site.board.note_news(floor.now);
+        event_loop.is_news_due = false;
+        site.metrics.note_news(event_loop.now);
         site.news.bring(rt, receipt);
     }
     Ok(())
 }
 
-/// What the loop works for.
+/// What the event loop of a site reports to, and what asks it to stop.
 #[derive(Drop)]
 pub(super) struct Site<'a, E: Drain, J: Naming> {
-    pub board: &'a Board,
+    pub metrics: &'a Metrics,
     pub news: &'a News<J>,
     pub errors: &'a Errors<E>,
     pub stop: &'a Stop,
@@ -391,42 +402,42 @@ pub(super) struct Site<'a, E: Drain, J: Naming> {
 fn turn<R: Wait + Clock, J: Opening, K: Keeps, E: Drain>(
     rt: &R,
     site: &Site<'_, E, J>,
-    floor: &mut Floor,
+    event_loop: &mut EventLoop,
     places: &mut Places<J>,
-    lines: &Lines<J>,
+    ends: &LoopEnds<J>,
     group: &mut GroupCommit<J, K>,
 ) -> Result<(), NotKept>
     ensures none { group.new.waiters ≡ [] }
     ensures over { OnErr result (group.new.entries.is_over ≡ true) }
 {
-    floor.accept(rt, site, places, lines);
-    if floor.is_rung {
-        floor.is_rung = false;
-        floor.take_replies(rt, places, lines);
-        hold_pulled(rt, lines, group);
+    event_loop.accept(rt, site, places, ends);
+    if event_loop.is_woken {
+        event_loop.is_woken = false;
+        event_loop.take_replies(rt, places, ends);
+        hold_pulled(rt, ends, group);
     }
-    floor.look_at_clock(places);
-    floor.do_sessions(rt, site.board, places, lines, group);
-    publish(rt, site, floor, places, lines.answers.as_slice(), group)?;
-    floor.write_all(rt, places, lines);
+    event_loop.look_at_clock(places);
+    event_loop.do_sessions(rt, site.metrics, places, ends, group);
+    publish(rt, site, event_loop, places, ends.answers.as_slice(), group)?;
+    event_loop.write_all(rt, places, ends);
     Ok(())
 }
 
 /// Serves until the site stops, and then does what the pullers still ask. Answers the last publish, which has shown all
 /// that was taken.
-pub(super) fn serve_floor<R: Wait + Clock, J: Opening, K: Keeps, E: Drain>(
+pub(super) fn serve_sessions<R: Wait + Clock, J: Opening, K: Keeps, E: Drain>(
     rt: &R,
     site: Site<'_, E, J>,
-    floor: Floor,
-    lines: Lines<J>,
+    event_loop: EventLoop,
+    ends: LoopEnds<J>,
     group: &mut GroupCommit<J, K>,
 ) -> Result<Published<J>, NotKept>
     ensures last { IfOk result (λ last. IfOk last
         (λ receipt. arc_value receipt ≡ receipt_of group.new.entries.account None)) }
     ensures over { OnErr result (group.new.entries.is_over ≡ true) }
 {
-    match Places::new(floor.alloc, floor.connections) {
-        Ok(places) => serve_places(rt, site, floor, places, lines, group),
+    match Places::new(event_loop.alloc, event_loop.connections) {
+        Ok(places) => serve_places(rt, site, event_loop, places, ends, group),
         Err(_) => Ok(Err(DeskFault::NoMemory(0))),
     }
 }
@@ -435,20 +446,20 @@ pub(super) fn serve_floor<R: Wait + Clock, J: Opening, K: Keeps, E: Drain>(
 fn serve_places<R: Wait + Clock, J: Opening, K: Keeps, E: Drain>(
     rt: &R,
     site: Site<'_, E, J>,
-    floor: Floor,
+    event_loop: EventLoop,
     places: Places<J>,
-    lines: Lines<J>,
+    ends: LoopEnds<J>,
     group: &mut GroupCommit<J, K>,
 ) -> Result<Published<J>, NotKept>
     ensures last { IfOk result (λ last. IfOk last
         (λ receipt. arc_value receipt ≡ receipt_of group.new.entries.account None)) }
     ensures over { OnErr result (group.new.entries.is_over ≡ true) }
 {
-    let (mut floor, mut places) = (floor, places);
-    match take_turns(rt, &site, &mut floor, &mut places, &lines, group) {
-        Ok(()) => end_asks(rt, floor.alloc, places, lines, group),
+    let (mut event_loop, mut places) = (event_loop, places);
+    match take_turns(rt, &site, &mut event_loop, &mut places, &ends, group) {
+        Ok(()) => end_asks(rt, event_loop.alloc, places, ends, group),
         Err(fault) => {
-            places.refuse_waiting(floor.alloc, floor.now);
+            places.refuse_waiting(event_loop.alloc, event_loop.now);
             Err(fault)
         }
     }
@@ -458,20 +469,20 @@ fn serve_places<R: Wait + Clock, J: Opening, K: Keeps, E: Drain>(
 fn take_turns<R: Wait + Clock, J: Opening, K: Keeps, E: Drain>(
     rt: &R,
     site: &Site<'_, E, J>,
-    floor: &mut Floor,
+    event_loop: &mut EventLoop,
     places: &mut Places<J>,
-    lines: &Lines<J>,
+    ends: &LoopEnds<J>,
     group: &mut GroupCommit<J, K>,
 ) -> Result<(), NotKept>
     ensures none { OnOk result (group.new.waiters ≡ []) }
     ensures over { OnErr result (group.new.entries.is_over ≡ true) }
 {
-    site.board.note_journal(group.kept_bytes());
+    site.metrics.note_journal(group.kept_bytes());
     for _ in rt.forever() {
-        floor.wait(places);
-        floor.note_turn(rt, site.board);
-        turn(rt, site, floor, places, lines, group)?;
-        if floor.is_over(rt, places, site.stop) {
+        event_loop.wait(places);
+        event_loop.note_turn(rt, site.metrics);
+        turn(rt, site, event_loop, places, ends, group)?;
+        if event_loop.is_over(rt, places, site.stop) {
             return Ok(());
         }
     }
@@ -483,7 +494,7 @@ fn end_asks<R: Wait, J: Opening, K: Keeps>(
     rt: &R,
     alloc: Global,
     places: Places<J>,
-    lines: Lines<J>,
+    ends: LoopEnds<J>,
     group: &mut GroupCommit<J, K>,
 ) -> Result<Published<J>, NotKept>
     requires { group.old.waiters ≡ [] }
@@ -491,12 +502,12 @@ fn end_asks<R: Wait, J: Opening, K: Keeps>(
         (λ receipt. arc_value receipt ≡ receipt_of group.new.entries.account None)) }
     ensures over { OnErr result (group.new.entries.is_over ≡ true) }
 {
-    let Lines {
+    let LoopEnds {
         jobs,
         replies: _,
         asks,
         answers,
-    } = lines;
+    } = ends;
     drop(jobs);
     let mut places = places;
     for ask in asks.iter(rt) {

@@ -1,5 +1,5 @@
 use Rattle.std.proofs.Common.{◌≡◌, vec_len}
-use Rattle.page_server.proofs.guests.Guests.new.Given as goal
+use Rattle.page_server.proofs.clients.Clients.new.Given as goal
 
 -- so many places are there
 abbrev pub invariant-loop-count : goal.invariant-loop-count

@@ -1,4 +1,4 @@
-//! What the threads of a site note of how it is, for whoever is shown that.
+//! The metrics of a site, which its threads note and its page shows.
 
 use std::alloc::{AllocError, Global};
 use std::sync::atomic::{AtomicU64, Ordering};
@@ -8,9 +8,9 @@ use std::time::{Clock, Duration, Instant};
 /// What was never noted.
 const NEVER: u64 = u64::MAX;
 
-/// What is noted of the pulls from a peer. Moments are counted from the beginning of the site.
+/// The metrics of the pulls from a peer. Moments are counted from the beginning of the site.
 #[derive(Clone, Copy)]
-pub struct PeerNote {
+pub struct PeerMetrics {
     /// Whether the last pull ended well.
     pub is_well: bool,
     /// Since when that is so.
@@ -22,9 +22,9 @@ pub struct PeerNote {
     pub failures: u64,
 }
 
-/// What is noted of a site. Each figure is of its own moment.
+/// The metrics of a site. Each figure is of its own moment.
 #[derive(Drop)]
-pub struct Board {
+pub struct Metrics {
     begun: Option<Instant>,
     turn_ms: AtomicU64,
     news_ms: AtomicU64,
@@ -36,24 +36,24 @@ pub struct Board {
     journal_bytes: AtomicU64,
     syncs: AtomicU64,
     heard_ms: AtomicU64,
-    peers: Mutex<Vec<PeerNote>>,
+    peers: Mutex<Vec<PeerMetrics>>,
 }
 
-/// What is noted of a journal.
+/// The metrics of a journal.
 #[derive(Drop)]
-pub struct JournalNote {
+pub struct JournalMetrics {
     /// How many bytes it has.
     pub bytes: u64,
     /// How often it was synced.
     pub syncs: u64,
 }
 
-impl Board {
+impl Metrics {
     /// Nothing is noted yet, from now on, of so many peers.
-    pub fn new<R: Clock>(rt: &R, alloc: Global, count: usize) -> Result<Board, AllocError> {
+    pub fn new<R: Clock>(rt: &R, alloc: Global, count: usize) -> Result<Metrics, AllocError> {
         let mut peers = Vec::with_capacity(alloc, count)?;
         for _ in 0..count {
-            peers.push(PeerNote {
+            peers.push(PeerMetrics {
                 is_well: false,
                 since: Duration::ZERO,
                 last_well: None,
@@ -61,7 +61,7 @@ impl Board {
                 failures: 0,
             })?;
         }
-        Ok(Board {
+        Ok(Metrics {
             begun: Instant::now(rt).ok(),
             turn_ms: AtomicU64::new(0),
             news_ms: AtomicU64::new(NEVER),
@@ -182,25 +182,25 @@ impl Board {
     }
 
     /// What is noted of the journal, if there is one.
-    pub fn journal(&self) -> Option<JournalNote> {
+    pub fn journal(&self) -> Option<JournalMetrics> {
         let bytes = self.journal_bytes.load(Ordering::Relaxed);
         if bytes == NEVER {
             return None;
         }
-        Some(JournalNote {
+        Some(JournalMetrics {
             bytes,
             syncs: self.syncs.load(Ordering::Relaxed),
         })
     }
 
     /// A copy of what is noted of the peers.
-    pub fn peers<R: Wait>(&self, rt: &R, alloc: Global) -> Result<Vec<PeerNote>, AllocError> {
+    pub fn peers<R: Wait>(&self, rt: &R, alloc: Global) -> Result<Vec<PeerMetrics>, AllocError> {
         let peers = self.peers.lock(rt);
         peers.as_slice().to_vec(alloc)
     }
 }
 
-impl PeerNote {
+impl PeerMetrics {
     /// A pull from it ended, well or not.
     fn note(&mut self, now: Duration, is_well: bool) {
         if is_well != self.is_well {
