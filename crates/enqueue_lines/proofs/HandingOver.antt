@@ -9,7 +9,7 @@ use Rattle.std.proofs.lemmas.List.Elements.{All-push}
 use Rattle.state_core.specs.declared.item.Item.{Item}
 use Rattle.enqueue_lines.specs.Groups.{Fits, ReadySoFar, GroupTold, fresh, handed_over, ready_first, ready_after, told_by}
 use Rattle.enqueue_lines.specs.Printing.{Pipe, item_line, item_lines, report_line, report_lines}
-use Rattle.enqueue_lines.specs.Running.{AllFit, AreWhole, KnownEnds, Group, GroupComes, GroupIsHanded, HandsGroup, HandsOver, IsNoEnd}
+use Rattle.enqueue_lines.specs.Running.{AllFit, AreWhole, KnownEnds, LineGroup, GroupComes, GroupIsHanded, HandsGroup, HandsOver, IsNoEnd}
 use Rattle.enqueue_lines.specs.Running.{PrintsGroups, SaysLines, all_say, group_says, handed_by, held_after, ready_in_turn, ready_then, starting}
 use Rattle.enqueue_lines.specs.declared.fault.EnqueueFault.{EnqueueFault}
 use Rattle.enqueue_lines.specs.declared.said.Said.{Said}
@@ -17,18 +17,18 @@ use Rattle.enqueue_lines.proofs.Stream.{nothing_said, says_more}
 
 -- ---- one more group
 
-fits_more : (held : ReadySoFar) (groups : List Group) (group : Group) → AllFit held.ready groups
+fits_more : (held : ReadySoFar) (groups : List LineGroup) (group : LineGroup) → AllFit held.ready groups
     → Fits (held_after held groups).ready (told_by group.lines) group.ready → AllFit held.ready (groups ++ group ∷ [])
 fits_more held [] group all fits = (fits, tt)
 fits_more held (first ∷ later) group all fits =
     (all.0, fits_more (ready_first (ready_then held.ready first)) later group all.1 fits)
 
-held_more : (held : ReadySoFar) (groups : List Group) (group : Group)
+held_more : (held : ReadySoFar) (groups : List LineGroup) (group : LineGroup)
     → held_after held (groups ++ group ∷ []) ≡ ready_first (ready_then (held_after held groups).ready group)
 held_more held [] group = refl
 held_more held (first ∷ later) group = held_more (ready_first (ready_then held.ready first)) later group
 
-handed_more : (held : ReadySoFar) (groups : List Group) (group : Group)
+handed_more : (held : ReadySoFar) (groups : List LineGroup) (group : LineGroup)
     → handed_by held (groups ++ group ∷ [])
     ≡ handed_by held groups ++ fresh (held_after held groups) (ready_then (held_after held groups).ready group)
 handed_more held [] group = append-nil (fresh held (ready_then held.ready group))
@@ -38,7 +38,7 @@ handed_more held (first ∷ later) group =
     (fresh (held_after (ready_first (ready_then held.ready first)) later)
     (ready_then (held_after (ready_first (ready_then held.ready first)) later).ready group)))
 
-say_more : (groups : List Group) (group : Group) → all_say (groups ++ group ∷ []) ≡ all_say groups ++ group_says group
+say_more : (groups : List LineGroup) (group : LineGroup) → all_say (groups ++ group ∷ []) ≡ all_say groups ++ group_says group
 say_more groups group =
     flat_map-append group_says groups (group ∷ [])
     ∙ ap (λ lines. all_say groups ++ lines) (append-nil (group_says group))
@@ -48,7 +48,7 @@ say_more groups group =
 -- these groups were handed over, and this is held
 pub record SoFar (pipe : Pipe) (earlier : List Item) (before now : KnownEnds) (rest : List ℕ) (held : ReadySoFar) : Type 0 where
   pub came : List ℕ
-  pub groups : List Group
+  pub groups : List LineGroup
   pub whole : AreWhole groups
   pub fit : AllFit [] groups
   pub says : SaysLines came rest (all_say groups)
@@ -112,7 +112,7 @@ module _ (pipe : Pipe) (earlier : List Item) (before now : KnownEnds) (rest : Li
       record {
         came = so.came ++ more;
         groups = so.groups ++ handed.group ∷ [];
-        whole = All-push (λ (group : Group). All IsNoEnd group.lines) so.groups handed.group so.whole handed.whole;
+        whole = All-push (λ (group : LineGroup). All IsNoEnd group.lines) so.groups handed.group so.whole handed.whole;
         fit = fits_more (starting earlier) so.groups handed.group so.fit fits;
         says = subst (SaysLines (so.came ++ more) left) (sym (say_more so.groups handed.group))
             (says_more [] so.came more rest left (all_say so.groups) (group_says handed.group) so.says handed.says);

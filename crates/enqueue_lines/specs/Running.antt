@@ -16,15 +16,15 @@ use Rattle.enqueue_lines.specs.declared.said.Said.TheVariants.{Ready, NowReady, 
 -- ---- groups
 
 -- what the lines of a group say before its end line, and what that says
-pub record Group : Type 0 where
+pub record LineGroup : Type 0 where
   pub lines : List Said
   pub ready : ℕ
   pub out : ℕ
 
-abbrev pub group_says : Group → List Said
+abbrev pub group_says : LineGroup → List Said
 group_says group = group.lines ++ End group.ready group.out ∷ []
 
-abbrev pub all_say : List Group → List Said
+abbrev pub all_say : List LineGroup → List Said
 all_say groups = flat_map group_says groups
 
 -- no line but the last ends the group
@@ -35,32 +35,32 @@ IsNoEnd (NotReady item) = Unit {0}
 IsNoEnd (End ready out) = ⊥
 IsNoEnd Nothing = Unit {0}
 
-abbrev pub AreWhole : List Group → Type 0
+abbrev pub AreWhole : List LineGroup → Type 0
 AreWhole groups = All (λ group. All IsNoEnd group.lines) groups
 
 -- ---- what is handed over of groups
 
 -- what is ready after a group, where this was ready before
-abbrev pub ready_then : List Item → Group → List Item
+abbrev pub ready_then : List Item → LineGroup → List Item
 ready_then before group = ready_after before (told_by group.lines) group.ready
 
-abbrev pub ready_in_turn : List Item → List Group → List (List Item)
+abbrev pub ready_in_turn : List Item → List LineGroup → List (List Item)
 ready_in_turn before [] = []
 ready_in_turn before (group ∷ later) = ready_then before group ∷ ready_in_turn (ready_then before group) later
 
 -- each group's end line fits its lines
-abbrev pub AllFit : List Item → List Group → Type 0
+abbrev pub AllFit : List Item → List LineGroup → Type 0
 AllFit before [] = Unit {0}
 AllFit before (group ∷ later) =
     Fits before (told_by group.lines) group.ready × AllFit (ready_then before group) later
 
 -- what is held after these groups
-abbrev pub held_after : ReadySoFar → List Group → ReadySoFar
+abbrev pub held_after : ReadySoFar → List LineGroup → ReadySoFar
 held_after held [] = held
 held_after held (group ∷ later) = held_after (ready_first (ready_then held.ready group)) later
 
 -- the items that groups hand over
-abbrev pub handed_by : ReadySoFar → List Group → List Item
+abbrev pub handed_by : ReadySoFar → List LineGroup → List Item
 handed_by held groups = handed_over held (ready_in_turn held.ready groups)
 
 -- before the first line
@@ -82,7 +82,7 @@ pub record SaysLines (bytes rest : List ℕ) (lines : List Said) : Type 0 where
 
 -- of bytes that are whole groups and then a rest, these lines and these reports are written
 pub record PrintsGroups (pipe : Pipe) (earlier : List Item) (bytes rest lines reports : List ℕ) : Type 0 where
-  pub groups : List Group
+  pub groups : List LineGroup
   pub whole : AreWhole groups
   pub fit : AllFit [] groups
   pub says : SaysLines bytes rest (all_say groups)
@@ -147,7 +147,7 @@ pub record GroupComes (bytes rest : List ℕ) (kept : List Said) (count : ℕ) (
 
 -- a group was handed over: these bytes say it, its end line fits, and what it makes ready was written
 pub record GroupIsHanded (pipe : Pipe) (bytes rest : List ℕ) (old new : ReadySoFar) (before after : KnownEnds) : Type 0 where
-  pub group : Group
+  pub group : LineGroup
   pub whole : All IsNoEnd group.lines
   pub says : SaysLines bytes rest (group_says group)
   pub fits : Fits old.ready (told_by group.lines) group.ready

@@ -41,8 +41,8 @@ IsLineWritten number findings old new (Err NoKey) = ⊥
 IsLineWritten number findings old new (Err NotProved) = ⊥
 IsLineWritten number findings old new (Err NotAllowed) = ⊥
 
-abbrev pub hello : List ℕ
-hello = codes "hello 2\n"
+abbrev pub hello_event : List ℕ
+hello_event = codes "hello 2\n"
 
 module _ {Writer : Type 0} (shown : Writer → Outputs) where
   abbrev pub WritesNothing : Writer → Result (Unit {0}) FeedFault → Writer → Type 0
@@ -55,14 +55,14 @@ module _ {Writer : Type 0} (shown : Writer → Outputs) where
   pub record IsUngreeted (left : Option (List ℕ)) (unread : ℕ) (old : Writer) (left' : Option (List ℕ)) (unread' : ℕ)
       (new : Writer) (result : Result (Unit {0}) FeedFault) : Type 0 where
     pub fault : result ≡ Err WriteFault
-    pub cut : FeedIsCutShort hello (shown old).output (shown new).output
+    pub cut : FeedIsCutShort hello_event (shown old).output (shown new).output
     pub same : ((shown new).errors ≡ (shown old).errors) × (left' ≡ left) × (unread' ≡ unread)
 
   -- the greeting was written, and then what the lines bring
   pub record IsGreeted (input : Input) (choice : Choice) (left : Option (List ℕ)) (unread : ℕ) (old : Writer) (left' : Option (List ℕ))
       (unread' : ℕ) (new : Writer) (result : Result (Unit {0}) FeedFault) : Type 0 where
     pub greeted : Writer
-    pub written : IsWritten hello (shown old).output (shown greeted).output
+    pub written : IsWritten hello_event (shown old).output (shown greeted).output
     pub same : (shown greeted).errors ≡ (shown old).errors
     pub fed : Feeds WritesNothing WritesLine input choice 1048576 18446744073709551615 left unread greeted left' unread' new result
 

@@ -47,11 +47,11 @@ SaysBy (Some QueryStats) value line = line ≡ Stats
 SaysBy kind value line = line ≡ Other
 
 -- the object says so, by its `type`
-abbrev pub Says : Data → Line → Type 0
-Says value line = SaysBy (line_kind value) value line
+abbrev pub RowSays : Data → Line → Type 0
+RowSays value line = SaysBy (line_kind value) value line
 
 -- the bytes are the text of an object that says so; or they are that of none, and the line says nothing
 abbrev pub Tells : List ℕ → Line → Type 0
 Tells text line =
-    ((members : Members) × IsLineObject text members × Says (object members) line)
+    ((members : Members) × IsLineObject text members × RowSays (object members) line)
     ⊎ (((members : Members) → ¬ IsLineObject text members) × (line ≡ Other))

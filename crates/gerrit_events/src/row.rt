@@ -1,7 +1,7 @@
 //! The change that a line of a query is of, with where it is to be merged.
 
 ghost use Rattle.std.specs.Prelude.{◌≡◌, IfOk, IsUtf8, option_map};
-ghost use Rattle.gerrit_events.specs.Rows.{IsRow, Says, Tells, copied, place_in};
+ghost use Rattle.gerrit_events.specs.Rows.{IsRow, RowSays, Tells, copied, place_in};
 ghost use Rattle.gerrit_events.specs.Trees.{data_in};
 
 use super::kind::Kind;
@@ -63,7 +63,7 @@ fn read_query_text(alloc: Global, text: &str) -> Result<QueryLine, NoMemory>
 
 /// The same of the object that a line is.
 fn line_of(alloc: Global, value: &Value<'_>) -> Result<QueryLine, NoMemory>
-    ensures { IfOk result (Says (data_in value.now)) }
+    ensures { IfOk result (RowSays (data_in value.now)) }
 {
     match Kind::of(value) {
         Some(Kind::QueryStats) => Ok(QueryLine::Stats),

@@ -11,14 +11,14 @@ abbrev pub for_others : ℕ
 for_others = 63
 
 -- the file is this user's, and its group and others have no permission
-pub record IsOwn (owner : FileOwner) (user : ℕ) : Type 0 where
+pub record IsUsersOwn (owner : FileOwner) (user : ℕ) : Type 0 where
   pub user_is : owner.user ≡ user
   pub closed : bit_and owner.mode for_others ≡ 0
 
 -- why its keys aren't read
 abbrev pub IsNotRead : FileOwner → ℕ → List ℕ → KeyFault → Type 0
-IsNotRead owner user text Open = ¬ IsOwn owner user
-IsNotRead owner user text (BadLine n) = IsOwn owner user × AreUnreadKeys (lines_of text) (BadLine n)
+IsNotRead owner user text Open = ¬ IsUsersOwn owner user
+IsNotRead owner user text (BadLine n) = IsUsersOwn owner user × AreUnreadKeys (lines_of text) (BadLine n)
 IsNotRead owner user text NoKey = ⊥
 IsNotRead owner user text ReadFault = ⊥
 IsNotRead owner user text NoMemory = Unit {0}

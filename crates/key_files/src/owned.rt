@@ -3,7 +3,7 @@
 ghost use Rattle.std.specs.Prelude.{◌≡◌, ◌↔◌, IfErr, IfOk, IsTrue};
 ghost use Rattle.byte_ends.specs.Lines.{lines_of};
 ghost use Rattle.key_file.specs.Files.{Say};
-ghost use Rattle.key_files.specs.Owners.{IsOwn, IsNotRead};
+ghost use Rattle.key_files.specs.Owners.{IsUsersOwn, IsNotRead};
 
 use key_file::{KeyFault, Keys, read_keys};
 use std::alloc::Global;
@@ -20,7 +20,7 @@ pub struct FileOwner {
 impl FileOwner {
     /// Whether a file is this user's, and neither its group nor others may read, write or run it.
     fn is_own(&self, user: u32) -> bool
-        ensures { IsTrue result ↔ IsOwn self.now user }
+        ensures { IsTrue result ↔ IsUsersOwn self.now user }
     {
         self.user == user && self.mode & 0o77 == 0
     }
@@ -29,7 +29,7 @@ impl FileOwner {
 /// The keys of a file with this text, for this user. Refusals: 1 `Open`, the file is another user's, or its group or others
 /// have a permission for it; 2 `BadLine n`; 5 `NoMemory`. It costs O(n) for n bytes.
 pub fn owned_keys(alloc: Global, owner: FileOwner, user: u32, text: &[u8]) -> Result<Keys, KeyFault>
-    ensures own { IfOk result (λ _. IsOwn owner user) }
+    ensures own { IfOk result (λ _. IsUsersOwn owner user) }
     ensures ok { IfOk result (λ keys. Say (lines_of text.now) keys) }
     ensures err { IfErr result (IsNotRead owner user text.now) }
 {

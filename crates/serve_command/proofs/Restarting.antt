@@ -5,7 +5,7 @@ use Rattle.replica_core.specs.JournalLaws.{IsPartOf, IsSameSet-append, has-all_a
 use Rattle.review_ops.specs.Operation.{Operation}
 use Rattle.site_journal.specs.Tape.{Image, IsLeftBy}
 use Rattle.site_journal.specs.Text.{IsFresh, SaysJournal}
-use Rattle.serve_command.specs.Beginning.{HasSurvivors, IsBegun}
+use Rattle.serve_command.specs.Beginning.{HasSurvivors, IsRecordBegun}
 use Rattle.serve_command.specs.Restarts.{BeginsAgain, RunsAgain}
 
 -- what the text says first is in the record, once all that it says has come
@@ -20,7 +20,7 @@ said_part ops published more own begun loaded is taken both op h =
 module _ (one : (text : List ℕ) (ops others : List Operation) (rest other : List ℕ) → SaysJournal text ops rest
     → SaysJournal text others other → (ops ≡ others) × (rest ≡ other)) (fresh : (text : List ℕ) (ops : List Operation)
     (rest : List ℕ) → SaysJournal text ops rest → ¬ IsFresh text) where
-  begun_part : (text : List ℕ) (loaded begun : List Operation) → IsBegun text loaded begun
+  begun_part : (text : List ℕ) (loaded begun : List Operation) → IsRecordBegun text loaded begun
       → (published : List Operation)
       → ((more : List Operation) × (rest : List ℕ) × SaysJournal text (published ++ more) rest)
       → IsPartOf published begun
@@ -30,7 +30,7 @@ module _ (one : (text : List ℕ) (ops others : List Operation) (rest other : Li
     | inr none ↦ elim (fresh text (published ++ more) rest says none.0) [ ]
   ]
 
-  pub survivors_are_begun : (text : List ℕ) (loaded begun : List Operation) → IsBegun text loaded begun
+  pub survivors_are_begun : (text : List ℕ) (loaded begun : List Operation) → IsRecordBegun text loaded begun
       → HasSurvivors text begun
   survivors_are_begun text loaded begun b book image published is left survives =
       begun_part text loaded begun b published
@@ -39,7 +39,7 @@ module _ (one : (text : List ℕ) (ops others : List Operation) (rest other : Li
   -- the same of what was answered, where the tape is known
   pub survivors_are_answered : {J E : Type 0} (known : Option Image) (loaded : List Operation)
       (result : Result (J × List Operation) E)
-      → IfOk result (λ begun. IfSome known (λ i. IsBegun i.contents loaded begun.1))
+      → IfOk result (λ begun. IfSome known (λ i. IsRecordBegun i.contents loaded begun.1))
       → IfOk result (λ begun. IfSome known (λ i. HasSurvivors i.contents begun.1))
   survivors_are_answered None loaded (Ok begun) whole = tt
   survivors_are_answered (Some i) loaded (Ok begun) whole = survivors_are_begun i.contents loaded begun.1 whole

@@ -32,7 +32,7 @@ AreInputs gate load rules loaded old new =
 -- ---- the journal
 
 -- the record has just what the text of a journal says, and what was loaded
-pub record IsBegun (text : List ℕ) (loaded begun : List Operation) : Type 0 where
+pub record IsRecordBegun (text : List ℕ) (loaded begun : List Operation) : Type 0 where
   pub own : List Operation
   pub torn : ℕ
   pub after : List ℕ

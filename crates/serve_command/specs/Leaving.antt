@@ -8,7 +8,7 @@ use Rattle.site_journal.specs.Tape.{Image}
 use Rattle.site_ledger.specs.Keeping.{Survive}
 use Rattle.site_serve.specs.declared.setup.ServeFault.{ServeFault}
 use Rattle.site_serve.specs.declared.setup.Served.{Served}
-use Rattle.serve_command.specs.Beginning.{HasSurvivors, IsBegun}
+use Rattle.serve_command.specs.Beginning.{HasSurvivors, IsRecordBegun}
 use Rattle.serve_command.specs.Endings.{EndsAs}
 use Rattle.serve_command.specs.declared.command.Ended.{Ended}
 use Rattle.serve_command.specs.declared.command.Ended.TheVariants.{Program, Site}
@@ -51,7 +51,7 @@ EndsBy (Err fault) ended = ended ≡ Err (Site fault)
 -- that
 pub record HasRun (known : Option Image) (loaded : List Operation) (journal : Book) (left : Option (List Operation)) : Type 0 where
   pub begun : List Operation
-  pub whole : IfSome known (λ i. IsBegun i.contents loaded begun)
+  pub whole : IfSome known (λ i. IsRecordBegun i.contents loaded begun)
   pub survivors : IfSome known (λ i. HasSurvivors i.contents begun)
   pub first : List Operation
   pub same : IsSameSet begun first

@@ -5,7 +5,7 @@ ghost use Rattle.replica_core.specs.Sets.{IsSameSet};
 ghost use Rattle.review_ops.specs.Operation.{Operation};
 ghost use Rattle.site_journal.specs.Book.{IsHolding};
 ghost use Rattle.site_journal.specs.Tape.{IsAtStart};
-ghost use Rattle.serve_command.specs.Beginning.{HasSurvivors, IsAdded, IsBegun, lacking_of};
+ghost use Rattle.serve_command.specs.Beginning.{HasSurvivors, IsAdded, IsRecordBegun, lacking_of};
 
 use super::command::Ended;
 use super::fault::ProgramFault;
@@ -34,7 +34,7 @@ pub fn begin<T: Tape + Drop, E: Drain>(
 ) -> Result<(Journal<T>, Replica), Ended<'static>>
     requires { IsAtStart (T.image tape) (T.left tape) }
     ensures kept { IfOk result (λ begun. (ops : List Operation) × IsHolding begun.0 ops × IsSameSet begun.1 ops) }
-    ensures whole { IfOk result (λ begun. IfSome (T.image tape) (λ i. IsBegun i.contents loaded begun.1)) }
+    ensures whole { IfOk result (λ begun. IfSome (T.image tape) (λ i. IsRecordBegun i.contents loaded begun.1)) }
     ensures survivors { IfOk result (λ begun. IfSome (T.image tape) (λ i. HasSurvivors i.contents begun.1)) }
 {
     journals_have_one_reading();
@@ -50,7 +50,7 @@ fn open_and_add<T: Tape + Drop, E: Drain>(
 ) -> Result<(Journal<T>, Replica), Ended<'static>>
     requires { IsAtStart (T.image tape) (T.left tape) }
     ensures kept { IfOk result (λ begun. (ops : List Operation) × IsHolding begun.0 ops × IsSameSet begun.1 ops) }
-    ensures whole { IfOk result (λ begun. IfSome (T.image tape) (λ i. IsBegun i.contents loaded begun.1)) }
+    ensures whole { IfOk result (λ begun. IfSome (T.image tape) (λ i. IsRecordBegun i.contents loaded begun.1)) }
 {
     match Journal::open(alloc, tape) {
         Ok(started) => {

@@ -5,7 +5,7 @@ ghost use Rattle.replica_core.specs.Sets.{IsSameSet};
 ghost use Rattle.review_ops.specs.Operation.{Operation};
 ghost use Rattle.site_journal.specs.Book.{IsHolding};
 ghost use Rattle.site_journal.specs.Tape.{IsAtStart};
-ghost use Rattle.serve_command.specs.Beginning.{HasSurvivors, IsBegun};
+ghost use Rattle.serve_command.specs.Beginning.{HasSurvivors, IsRecordBegun};
 ghost use Rattle.serve_command.specs.Leaving.{HasRun, HasSaved, LeavesKept};
 ghost use Rattle.serve_command.specs.Printing.{prints_of};
 
@@ -82,7 +82,7 @@ fn begun_on<'a, T: Tape + Drop, E: Drain>(
     ensures kept { IfOk result
         (λ begun. (ops : List Operation) × IsHolding begun.0 ops × IsSameSet begun.1.replica ops) }
     ensures whole { IfOk result
-        (λ begun. IfSome (T.image tape) (λ i. IsBegun i.contents site.entry.replica begun.1.replica)) }
+        (λ begun. IfSome (T.image tape) (λ i. IsRecordBegun i.contents site.entry.replica begun.1.replica)) }
     ensures survivors { IfOk result
         (λ begun. IfSome (T.image tape) (λ i. HasSurvivors i.contents begun.1.replica)) }
 {

@@ -48,7 +48,7 @@ pub record IsHolding (book : Book) (ops : List Operation) : Type 0 where
   pub holds : IfSome book.image (λ i. IsSettled i × SaysJournal i.contents ops [])
 
 -- the lines of the operations were added, and all is synced
-pub record IsKept (old : Book) (ops : List Operation) (new : Book) : Type 0 where
+pub record IsKeptAfter (old : Book) (ops : List Operation) (new : Book) : Type 0 where
   pub before : old.is_spoiled ≡ false
   pub sound : new.is_spoiled ≡ false
   pub added : Changes old.image new.image

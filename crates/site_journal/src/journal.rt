@@ -6,7 +6,7 @@ ghost use Rattle.review_ops.specs.Operation.{Operation};
 ghost use Rattle.snapshot_text.specs.Snapshot.{operation_lines};
 ghost use Rattle.snapshot_text.specs.Sound.{AreSoundOperations};
 ghost use Rattle.byte_ends.specs.Failures.{most_failures};
-ghost use Rattle.site_journal.specs.Book.{CountsWritten, IsHolding, IsKept, IsNotKept, IsOpened, IsUnwritten};
+ghost use Rattle.site_journal.specs.Book.{CountsWritten, IsHolding, IsKeptAfter, IsNotKept, IsOpened, IsUnwritten};
 ghost use Rattle.site_journal.specs.Book.{IsWritten, SurvivesCrashes, TakesBack};
 ghost use Rattle.site_journal.specs.Fault.{CountsJournalFault, IsJournalRefusal};
 ghost use Rattle.site_journal.specs.Tape.{Changes, IsAtStart, IsSettled};
@@ -86,7 +86,7 @@ impl<T: Tape> Journal<T> {
     /// sync has failed, the journal keeps nothing any more. Whatever a crash leaves says what was acknowledged, and
     /// then the first so many of the operations. It costs O(n) for n bytes of their lines, and one sync.
     pub fn append(&mut self, ops: &[Op]) -> Result<(), KeepFault>
-        ensures ok { OnOk result (IsKept self.old ops.now self.new) }
+        ensures ok { OnOk result (IsKeptAfter self.old ops.now self.new) }
         ensures holds { OnOk result
             ((before : List Operation) → IsHolding self.old before → IsHolding self.new (before ++ ops.now)) }
         ensures err { IfErr result (λ fault. IsNotKept self.old fault self.new) }
