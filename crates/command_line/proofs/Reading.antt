@@ -147,8 +147,6 @@ pub no_events : (rows : List Row) → ((words : EventWords) → ¬ AreFeedOption
 no_events rows none (Events words) says = none words says.0
 no_events rows none asked says = says
 
--- ---- addresses
-
 -- ---- those of the texts that pass a test
 
 kept_later : {Y : Type 0} (R : Text → Y → Type 0) (passes : Bool) (text : Text) (rest : List Text) (named : List Y)

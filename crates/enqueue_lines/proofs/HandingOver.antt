@@ -1,16 +1,15 @@
 -- What groups hand over, one after the other.
-use Rattle.std.proofs.Common.{◌≡◌, ◌∙◌, ◌<◌, ◌++◌, ◌∷◌, [], ℕ, Bool, true, false, List, Option, None, Some, Result, Ok, Err, IfOk, IfErr}
-use Rattle.std.proofs.Common.{append_assoc, append-nil, arith, flat_map, All, refl, sym, ap, subst, inl, inr}
-use Rattle.std.specs.Prelude.{◌⊎◌}
+use Rattle.std.proofs.Common.{◌≡◌, ◌∙◌, ◌++◌, ◌∷◌, [], ℕ, Bool, true, false, List, Option, Some, Result, Ok, Err, IfOk}
+use Rattle.std.proofs.Common.{append_assoc, append-nil, arith, All, refl, sym, ap, subst}
 use Rattle.std.specs.Io.KnownBytes.{Appends, Consumes, IsAtEnd}
 use Rattle.std.proofs.KnownBytes.{Appends-nil, Appends-trans, Consumes-nil, Consumes-trans}
 use Rattle.std.proofs.lemmas.List.Concat.{flat_map-append}
 use Rattle.std.proofs.lemmas.List.Elements.{All-push}
 use Rattle.state_core.specs.declared.item.Item.{Item}
-use Rattle.enqueue_lines.specs.Groups.{Fits, ReadySoFar, GroupTold, fresh, handed_over, ready_first, ready_after, told_by}
+use Rattle.enqueue_lines.specs.Groups.{Fits, ReadySoFar, GroupTold, fresh, ready_first, ready_after, told_by}
 use Rattle.enqueue_lines.specs.Printing.{Pipe, item_line, item_lines, report_line, report_lines}
 use Rattle.enqueue_lines.specs.Running.{AllFit, AreWhole, KnownEnds, LineGroup, GroupComes, GroupIsHanded, HandsGroup, HandsOver, IsNoEnd}
-use Rattle.enqueue_lines.specs.Running.{PrintsGroups, SaysLines, all_say, group_says, handed_by, held_after, ready_in_turn, ready_then, starting}
+use Rattle.enqueue_lines.specs.Running.{SaysLines, all_say, group_says, handed_by, held_after, ready_then, starting}
 use Rattle.enqueue_lines.specs.declared.fault.EnqueueFault.{EnqueueFault}
 use Rattle.enqueue_lines.specs.declared.said.Said.{Said}
 use Rattle.enqueue_lines.proofs.Stream.{nothing_said, says_more}

@@ -61,9 +61,6 @@ pub added : {Y : Type 0} (start done more old new : List Y) → old ≡ start ++
     → new ≡ start ++ (done ++ more)
 added start done more old new so_far is = is ∙ ap (λ l. l ++ more) so_far ∙ append_assoc start done more
 
-module _ {X Y : Type 0} (make : ℕ → X → List Y) (xs : List X) (i : ℕ) where
-  -- one more is made, and the later ones are left
-
 -- ---- lines that several calls add
 
 module _ {Y E : Type 0} (result : Result (Unit {0}) E) (start a b : List Y) where

@@ -28,8 +28,6 @@ module _ {Y : Type 0} (tried : Clause → List Y) (patterns : List PatternRule) 
       let more : flat_map tried (approvals_from i (drop i patterns)) ≡ tried (Approval (i + 1)) ++ next = rw (add-one, drop-cons patterns i d inside) refl in
       ap (λ l. l ++ next) is ∙ append_assoc old (tried (Approval (i + 1))) next ∙ ap (λ l. old ++ l) (sym more) ∙ so_far
 
--- ---- a side in its four parts
-
 -- ---- which conditions are tried
 
 nothing_here : {X : Type 0} (x : X) → Contains [] x → ⊥

@@ -275,5 +275,3 @@ canonical_parts text stamp deed is numbered fits = (
   subst (λ bytes. SpellsDeed (form_of (Some stamp)) bytes (members_of (Some stamp) deed) deed) (sym is) (written_text_spells (Some stamp) deed numbered fits),
   holds_written stamp deed,
 )
-
--- ---- an operation of parts that are spelled

@@ -124,8 +124,6 @@ module _ (s : Sealing) (next : ℕ) (held since : List ℕ) where
     pub taken_line : Appends (written_texts s next false held since) (written_texts s (next + 1) false [] (since ++ as_line line)) (as_line piece)
     taken_line = sent_line (is_in_step s next since) refl
 
-  -- a piece of a line
-
   -- a line that was sent in part
   sent_part : (step : Bool) (later : ℕ) (part : List ℕ) → HasNoLf part → is_in_step s next since ≡ step
       → Keeps (cond step (Some (opened s since ++ held)) None) (written_texts s later true held (since ++ part))

@@ -54,7 +54,3 @@ whole_lines-none (b ∷ piece) plain =
     let other : (b == 10) ≡ false = ne_eqb b 10 (plain 0 0 (omega arith)) in
     let rest = whole_lines-none piece (λ k d lt. plain (suc k) d (omega (arith, lt))) in
     rw (other, rest) refl
-
-pub opened_none : (s : Sealing) (piece : List ℕ) → HasNoLf piece → opened s piece ≡ []
-unfolding opened_texts
-opened_none s piece plain = ap (opened_texts s) (whole_lines-none piece plain)

@@ -16,8 +16,6 @@ use Rattle.sealed_link.specs.Lines.{IsBatch, IsHeldUp, OpensFront, SealTo, Seals
 use Rattle.sealed_link.specs.Wires.{Wiring, waiting_limit}
 use Rattle.sealed_link.proofs.Opens.{front_more, front_none}
 
--- ---- a text
-
 -- ---- texts
 
 seal_more : (old now new : Wiring) (texts : List (List ℕ)) (text : List ℕ) → SealTo old texts now → length now.waiting < waiting_limit

@@ -1,1 +1,0 @@
--- What adding an argument or a subcommand makes of a command.
