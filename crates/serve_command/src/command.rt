@@ -174,7 +174,7 @@ where
     L: KeyReader + Sync,
 {
     match SnapshotFile::new(rt, alloc, site.serving.save) {
-        Ok(shelf) => run_saved(rt, alloc, site, outside, keys, shelf),
+        Ok(snapshot_file) => run_saved(rt, alloc, site, outside, keys, snapshot_file),
         Err(_) => Err(Ended::Site(ServeFault::NoMemory)),
     }
 }
@@ -186,7 +186,7 @@ fn run_saved<R, I, N, E, L>(
     site: Site<'_>,
     outside: Outside<I, N, E>,
     keys: &L,
-    shelf: SnapshotFile<R>,
+    snapshot_file: SnapshotFile<R>,
 ) -> Result<(), Ended<'static>>
 where
     R: Net<Listener = TcpListener, Stream = TcpStream> + RandomSource,
@@ -197,10 +197,19 @@ where
     E: Drain + Send + Drop + 'static,
     L: KeyReader + Sync,
 {
-    let mut shelf = shelf;
+    let mut snapshot_file = snapshot_file;
     match site.serving.journal {
-        Some(name) => run_on_file(rt, alloc, name, site, outside, keys, &mut shelf),
-        None => run_kept(rt, alloc, site, outside, keys, &mut shelf, NoJournal).ended,
+        Some(name) => run_on_file(rt, alloc, name, site, outside, keys, &mut snapshot_file),
+        None => run_kept(
+            rt,
+            alloc,
+            site,
+            outside,
+            keys,
+            &mut snapshot_file,
+            NoJournal,
+        )
+        .ended,
     }
 }
 
@@ -212,7 +221,7 @@ fn run_on_file<R, I, N, E, L>(
     site: Site<'_>,
     outside: Outside<I, N, E>,
     keys: &L,
-    shelf: &mut SnapshotFile<R>,
+    snapshot_file: &mut SnapshotFile<R>,
 ) -> Result<(), Ended<'static>>
 where
     R: Net<Listener = TcpListener, Stream = TcpStream> + RandomSource,
@@ -224,7 +233,7 @@ where
     L: KeyReader + Sync,
 {
     match FileTape::open(&rt, name) {
-        Ok(tape) => ended_of(run_taped(rt, alloc, site, outside, keys, shelf, tape)),
+        Ok(tape) => ended_of(run_taped(rt, alloc, site, outside, keys, snapshot_file, tape)),
         Err(fault) => Err(tape_fault(fault)),
     }
 }

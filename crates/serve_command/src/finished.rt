@@ -37,17 +37,17 @@ pub fn unrun<K: Keeps>(keeper: K, ended: Ended<'static>) -> Finished<K>
 }
 
 /// Saves what a site has left, also where its output failed, or where it ended because its start is taken.
-pub fn finish<S: Saves, K>(shelf: &mut S, closed: Closed<K>) -> Finished<K>
+pub fn finish<S: Saves, K>(snapshot_file: &mut S, closed: Closed<K>) -> Finished<K>
     ensures keeper { result.keeper ≡ closed.keeper }
     ensures left { IsLeftOf closed.served result.left }
-    ensures saved { HasSaved S.saves shelf.old result.left result.ended shelf.new }
+    ensures saved { HasSaved S.saves snapshot_file.old result.left result.ended snapshot_file.new }
     ensures ends { EndsBy closed.served result.ended }
 {
     let Closed { keeper, served } = closed;
     match served {
         Ok(served) => Finished {
             keeper,
-            ended: saved(shelf, &served),
+            ended: saved(snapshot_file, &served),
             left: Some(served.replica),
         },
         Err(fault) => Finished {
@@ -59,11 +59,11 @@ pub fn finish<S: Saves, K>(shelf: &mut S, closed: Closed<K>) -> Finished<K>
 }
 
 /// Saves what a site has left. How the site ends.
-fn saved<S: Saves>(shelf: &mut S, served: &Served) -> Result<(), Ended<'static>>
-    ensures saved { IsSavedOr S.saves shelf.old served.now.replica result shelf.new }
+fn saved<S: Saves>(snapshot_file: &mut S, served: &Served) -> Result<(), Ended<'static>>
+    ensures saved { IsSavedOr S.saves snapshot_file.old served.now.replica result snapshot_file.new }
     ensures ends { EndsBy (Ok served.now) result }
 {
-    match shelf.save(&served.replica) {
+    match snapshot_file.save(&served.replica) {
         Ok(()) => ending_of(served.is_start_taken, served.written),
         Err(_) => Err(Ended::Program(ProgramFault::NoSave)),
     }

@@ -45,7 +45,7 @@ pub fn run_taped<R, I, N, E, L, S, T>(
     site: Site<'_>,
     outside: Outside<I, N, E>,
     keys: &L,
-    shelf: &mut S,
+    snapshot_file: &mut S,
     tape: T,
 ) -> Result<Finished<Journal<T>>, Ended<'static>>
 where
@@ -61,12 +61,12 @@ where
     requires { IsAtStart (T.image tape) (T.left tape) }
     ensures ran { IfOk result
         (λ finished. HasRun (T.image tape) site.entry.replica finished.keeper finished.left) }
-    ensures saved { IfOk result (λ finished. HasSaved S.saves shelf.old finished.left finished.ended shelf.new) }
-    ensures refused { OnErr result (shelf.new ≡ shelf.old) }
+    ensures saved { IfOk result (λ finished. HasSaved S.saves snapshot_file.old finished.left finished.ended snapshot_file.new) }
+    ensures refused { OnErr result (snapshot_file.new ≡ snapshot_file.old) }
 {
     let mut outside = outside;
     match begun_on(alloc, tape, site, &mut outside.errors) {
-        Ok((journal, site)) => Ok(run_kept(rt, alloc, site, outside, keys, shelf, journal)),
+        Ok((journal, site)) => Ok(run_kept(rt, alloc, site, outside, keys, snapshot_file, journal)),
         Err(ended) => Err(ended),
     }
 }
@@ -113,7 +113,7 @@ pub fn run_kept<R, I, N, E, L, S, K>(
     site: Site<'_>,
     outside: Outside<I, N, E>,
     keys: &L,
-    shelf: &mut S,
+    snapshot_file: &mut S,
     keeper: K,
 ) -> Finished<K>
 where
@@ -128,10 +128,10 @@ where
     K: Keeps,
     requires { (first : List Operation) × K.holds keeper first }
     ensures kept { LeavesKept K.survives (K.holds keeper) site.entry.replica result.keeper result.left }
-    ensures saved { HasSaved S.saves shelf.old result.left result.ended shelf.new }
+    ensures saved { HasSaved S.saves snapshot_file.old result.left result.ended snapshot_file.new }
 {
     match prepare(rt, alloc, site, outside) {
-        Ok(prepared) => run_prepared(rt, alloc, prepared, keys, shelf, keeper),
+        Ok(prepared) => run_prepared(rt, alloc, prepared, keys, snapshot_file, keeper),
         Err(ended) => unrun(keeper, ended),
     }
 }
@@ -142,7 +142,7 @@ fn run_prepared<R, E, O, L, S, K>(
     alloc: Global,
     prepared: Prepared<'_, R, E, O>,
     keys: &L,
-    shelf: &mut S,
+    snapshot_file: &mut S,
     keeper: K,
 ) -> Finished<K>
 where
@@ -156,7 +156,7 @@ where
     K: Keeps,
     requires { (first : List Operation) × K.holds keeper first }
     ensures kept { LeavesKept K.survives (K.holds keeper) prepared.entry.opened.site.replica result.keeper result.left }
-    ensures saved { HasSaved S.saves shelf.old result.left result.ended shelf.new }
+    ensures saved { HasSaved S.saves snapshot_file.old result.left result.ended snapshot_file.new }
 {
     let Prepared {
         opened,
@@ -183,7 +183,7 @@ where
     let closed = serve_keeping(
         &rt, alloc, listeners, setup, &stop, output, errors, &host, keeper,
     );
-    let finished = finish(shelf, closed);
+    let finished = finish(snapshot_file, closed);
     leave(&rt, sockets.as_slice());
     finished
 }
