@@ -97,7 +97,6 @@ refused_here values place value flaw within is refused before = record {
 -- ---- the list of the members
 
 module _ (ms : Members) where
-
   module _ (d : Data) (found : Some d ≡ get_member (codes "bases") ms) where
     is_array : (bad : BadBase) (h : IsBadItem ms bad) → d ≡ array h.items
     is_array bad h = let e : Some d ≡ Some (array h.items) = found ∙ h.list in cc

@@ -59,7 +59,6 @@ kept_same journal after lines after_lines latest same are kept = record {
 module _ (journal after : List Operation) (lines after_lines : List RowLine) (latest : ℕ) (op : Operation)
     (taken : Taken) (is : taken ≡ taken_of (has journal op)) (came : after ≡ arrived journal op)
     (are : AreLines after after_lines) (kept : IsKept journal lines latest) where
-
   pub kept_new : taken ≡ New → (after_latest : ℕ) → after_latest ≡ max latest op.stamp.time
       → IsKept after after_lines after_latest
   kept_new e after_latest latest_is =
