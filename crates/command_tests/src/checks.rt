@@ -1,9 +1,9 @@
 //! What `check` prints of gate files, worked out by hand.
 
+use super::program::MEMORY;
 use super::reports::assert_prints;
 use std::alloc::Global;
 use std::process::Abort;
-use std::test::Fail;
 
 /// A gate without anything to warn of.
 const GATE: &str =
@@ -19,6 +19,18 @@ require /require/gerrit/approval/1 verified 1 or 2 by "zuul"
 reject /reject/gerrit/status status "MERGED" or "ABANDONED"
 reject /reject/gerrit/approval/0 code-review -2
 "#;
+
+/// The same with these lines after it.
+fn asked_with(rt: &impl Abort, alloc: Global, end: &str) -> String {
+    joined(alloc, ASKED, end).expect(rt, MEMORY)
+}
+
+/// A text behind another one.
+fn joined(alloc: Global, first: &str, second: &str) -> Option<String> {
+    let mut text = String::from_str(alloc, first).ok()?;
+    text.push_str(second).ok()?;
+    Some(text)
+}
 
 /// A record with a vote of zuul, and a withdrawn one of ann.
 const RECORD: &str = r#"reviewgate 2
@@ -65,9 +77,9 @@ fn assert_with_record(
 }
 
 #[test]
-fn a_gate_is_put_in_words(rt: HostRuntime) -> Result<(), Fail> {
+fn a_gate_is_put_in_words(rt: HostRuntime) {
     let alloc = rt.alloc();
-    let text = format!(in alloc; "{ASKED}end 6 0\n")?;
+    let text = asked_with(&rt, alloc, "end 6 0\n");
     assert_check(&rt, alloc, GATE, 0, text.as_str(), "");
     let bare = r#"{"bases":["https://r/"]}"#;
     assert_check(&rt, alloc, bare, 0, "end 0 0\n", "");
@@ -83,23 +95,25 @@ reject /reject/a~1b~0/approval/2 verified 1 and workflow -1 or 1 by "a\nb"
 end 6 0
 "#;
     assert_check(&rt, alloc, empty, 0, lines, "");
-    Ok(())
 }
 
 #[test]
-fn names_are_looked_for_in_a_record(rt: HostRuntime) -> Result<(), Fail> {
+fn names_are_looked_for_in_a_record(rt: HostRuntime) {
     let alloc = rt.alloc();
     let words = ["check", "gate", "-"];
-    let text = format!(in alloc;
-        "{ASKED}warning 2 UnknownLabel /reject/gerrit/approval/0 \"code-review\"\nend 6 1\n"
-    )?;
+    let text = asked_with(
+        &rt,
+        alloc,
+        "warning 2 UnknownLabel /reject/gerrit/approval/0 \"code-review\"\nend 6 1\n",
+    );
     assert_with_record(&rt, alloc, words.as_slice(), RECORD, 0, text.as_str(), "");
-    let text = format!(in alloc;
-        "{ASKED}warning 2 UnknownLabel /require/gerrit/approval/0 \"workflow\"\nwarning 2 UnknownLabel /require/gerrit/approval/1 \"verified\"\nwarning 3 UnknownVoter /require/gerrit/approval/1 \"zuul\"\nwarning 2 UnknownLabel /reject/gerrit/approval/0 \"code-review\"\nend 6 4\n"
-    )?;
+    let text = asked_with(
+        &rt,
+        alloc,
+        "warning 2 UnknownLabel /require/gerrit/approval/0 \"workflow\"\nwarning 2 UnknownLabel /require/gerrit/approval/1 \"verified\"\nwarning 3 UnknownVoter /require/gerrit/approval/1 \"zuul\"\nwarning 2 UnknownLabel /reject/gerrit/approval/0 \"code-review\"\nend 6 4\n",
+    );
     let empty = "reviewgate 2\nend 0\n";
     assert_with_record(&rt, alloc, words.as_slice(), empty, 0, text.as_str(), "");
-    Ok(())
 }
 
 /// A record with votes of some labels and voters.
@@ -148,50 +162,67 @@ end 8 9
     );
 }
 
-/// What `check` warns of bases, of a record with these two messages.
-fn assert_bases(
-    rt: &impl Abort,
-    alloc: Global,
-    first: &str,
-    second: &str,
-    lines: &str,
-) -> Result<(), Fail> {
-    let gate = r#"{"bases":["https://r/","http://s/"]}"#;
-    let record = format!(in alloc;
-        "reviewgate 2\n{{\"change\":101,\"message\":\"{first}\",\"op\":\"patchset\",\"seq\":1,\"set\":1,\"site\":1,\"start\":1,\"time\":1}}\n{{\"change\":102,\"message\":\"m\",\"op\":\"patchset\",\"seq\":2,\"set\":1,\"site\":1,\"start\":1,\"time\":2}}\n{{\"change\":102,\"message\":\"{second}\",\"op\":\"patchset\",\"seq\":3,\"set\":2,\"site\":1,\"start\":1,\"time\":3}}\nend 3\n"
-    )?;
-    let words = ["check", "gate", "-"];
-    assert_prints(
-        rt,
-        alloc,
-        words.as_slice(),
-        gate,
-        record.as_str(),
-        0,
-        lines,
-        "",
-    );
-    Ok(())
+/// A record of two changes, of which the first has this message, and the second first another one and then this.
+fn record_with(alloc: Global, first: &str, second: &str) -> Option<String> {
+    let mut text = String::from_str(alloc, "reviewgate 2\n{\"change\":101,\"message\":\"").ok()?;
+    text.push_str(first).ok()?;
+    text.push_str(
+        "\",\"op\":\"patchset\",\"seq\":1,\"set\":1,\"site\":1,\"start\":1,\"time\":1}\n{\"change\":102,\"message\":\"m\",\"op\":\"patchset\",\"seq\":2,\"set\":1,\"site\":1,\"start\":1,\"time\":2}\n{\"change\":102,\"message\":\"",
+    ).ok()?;
+    text.push_str(second).ok()?;
+    text.push_str(
+        "\",\"op\":\"patchset\",\"seq\":3,\"set\":2,\"site\":1,\"start\":1,\"time\":3}\nend 3\n",
+    ).ok()?;
+    Some(text)
 }
 
+/// What `check` warns of bases, of a record with these two messages.
+fn assert_bases(rt: &impl Abort, alloc: Global, first: &str, second: &str, lines: &str) {
+    let gate = r#"{"bases":["https://r/","http://s/"]}"#;
+    let record = record_with(alloc, first, second).expect(rt, MEMORY);
+    let words = ["check", "gate", "-"];
+    let input = record.as_str();
+    assert_prints(rt, alloc, words.as_slice(), gate, input, 0, lines, "");
+}
+
+/// A message that names a change at another base, one that names none at a base, and one that names one.
+const ELSEWHERE: &str = "Fix\\n\\nDepends-On: https://t/1";
+
+const OTHER: &str = "depends-on:http://s/x\\nDepends-On: https://r/g/c/p/+/7";
+
+const USED: &str = "Depends-On: https://r/c/p/+/7";
+
+/// One that names its own change, and others.
+const OWN: &str = "Depends-On: http://s/102\\nDepends-On: https://t/1\\nDepends-On: https://r/9";
+
+/// Two messages, and what is warned of bases.
+const MESSAGES: [(&str, &str, &str); 7] = [
+    ("m", "m", "end 0 0\n"),
+    (
+        ELSEWHERE,
+        "m",
+        "warning 5 UnusedBase /bases/0 \"https://r/\"\nwarning 5 UnusedBase /bases/1 \"http://s/\"\nend 0 2\n",
+    ),
+    (
+        "m",
+        OTHER,
+        "warning 5 UnusedBase /bases/0 \"https://r/\"\nwarning 5 UnusedBase /bases/1 \"http://s/\"\nend 0 2\n",
+    ),
+    (
+        USED,
+        ELSEWHERE,
+        "warning 5 UnusedBase /bases/1 \"http://s/\"\nend 0 1\n",
+    ),
+    (USED, "Depends-On: I0123", "end 0 0\n"),
+    ("See https://t/1", USED, "end 0 0\n"),
+    ("m", OWN, "end 0 0\n"),
+];
+
 #[test]
-fn bases_are_looked_for_in_a_record(rt: HostRuntime) -> Result<(), Fail> {
-    let alloc = rt.alloc();
-    let both =
-        "warning 5 UnusedBase /bases/0 \"https://r/\"\nwarning 5 UnusedBase /bases/1 \"http://s/\"\nend 0 2\n";
-    let second = "warning 5 UnusedBase /bases/1 \"http://s/\"\nend 0 1\n";
-    let none = "end 0 0\n";
-    let elsewhere = "Fix\\n\\nDepends-On: https://t/1";
-    let other = "depends-on:http://s/x\\nDepends-On: https://r/g/c/p/+/7";
-    let used = "Depends-On: https://r/c/p/+/7";
-    assert_bases(&rt, alloc, "m", "m", none)?;
-    assert_bases(&rt, alloc, elsewhere, "m", both)?;
-    assert_bases(&rt, alloc, "m", other, both)?;
-    assert_bases(&rt, alloc, used, elsewhere, second)?;
-    assert_bases(&rt, alloc, used, "Depends-On: I0123", none)?;
-    assert_bases(&rt, alloc, "See https://t/1", used, none)?;
-    let own = "Depends-On: http://s/102\\nDepends-On: https://t/1\\nDepends-On: https://r/9";
-    assert_bases(&rt, alloc, "m", own, none)
+fn bases_are_looked_for_in_a_record(rt: HostRuntime) {
+    for (first, second, lines) in MESSAGES {
+        assert_bases(&rt, rt.alloc(), first, second, lines);
+    }
 }
 
 #[test]
@@ -250,12 +281,14 @@ end 10 5
 }
 
 #[test]
-fn a_strict_check_refuses_warnings(rt: HostRuntime) -> Result<(), Fail> {
+fn a_strict_check_refuses_warnings(rt: HostRuntime) {
     let alloc = rt.alloc();
     let strict = ["check", "gate", "-", "--strict"];
-    let text = format!(in alloc;
-        "{ASKED}warning 2 UnknownLabel /reject/gerrit/approval/0 \"code-review\"\nend 6 1\n"
-    )?;
+    let text = asked_with(
+        &rt,
+        alloc,
+        "warning 2 UnknownLabel /reject/gerrit/approval/0 \"code-review\"\nend 6 1\n",
+    );
     let errors = "reviewgate: check 1 Warnings 1\n";
     assert_with_record(
         &rt,
@@ -266,10 +299,9 @@ fn a_strict_check_refuses_warnings(rt: HostRuntime) -> Result<(), Fail> {
         text.as_str(),
         errors,
     );
-    let clean = format!(in alloc; "{ASKED}end 6 0\n")?;
+    let clean = asked_with(&rt, alloc, "end 6 0\n");
     let words = ["check", "--strict", "gate"];
     assert_with_record(&rt, alloc, words.as_slice(), "", 0, clean.as_str(), "");
-    Ok(())
 }
 
 #[test]

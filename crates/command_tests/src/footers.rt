@@ -1,11 +1,10 @@
 //! Messages with footers, and what is printed of them, worked out by hand.
 
 use super::one_file::OneFile;
-use super::program::run_words;
+use super::program::{Reported, assert_printed, assert_reported, printed_by, reported_by};
 use byte_ends::{Broken, Ends};
 use std::alloc::Global;
 use std::process::Abort;
-use std::test::Fail;
 
 /// A gate file with one base.
 const GATE: &str = "{\"bases\":[\"https://review.example.org/\"]}";
@@ -13,6 +12,16 @@ const GATE: &str = "{\"bases\":[\"https://review.example.org/\"]}";
 /// A message with footers in many forms.
 const MESSAGE: &str =
     "Fix it\n\nDEPENDS-ON:https://review.example.org/#/c/12/3/\r\nDepends-On: https://review.example.org/c/a/b/+/12\ndepends-on:   https://review.example.org/12  \n  Depends-On: https://review.example.org/13\nDepends-On: https://other.example.org/14\nDepends-On: https://review.example.org/4294967296\nDepends-On: https://review.example.org/9\n";
+
+/// A file named `message` with this text.
+fn message_file(alloc: Global, message: &[u8]) -> OneFile<'_> {
+    OneFile {
+        name: "message",
+        text: message,
+        alloc,
+        failures: 0,
+    }
+}
 
 /// What the command prints for a gate file on the input and a message file, and the status.
 fn assert_prints(
@@ -25,25 +34,9 @@ fn assert_prints(
     output: &str,
     errors: &str,
 ) {
-    let mut written = Ends::new(Vec::new(alloc));
-    let mut error_output = Ends::new(Vec::new(alloc));
-    let mut files = OneFile {
-        name: "message",
-        text: message,
-        alloc,
-        failures: 0,
-    };
-    let ended = run_words(
-        alloc,
-        words,
-        &mut Ends::new(gate),
-        &mut written,
-        &mut error_output,
-        &mut files,
-    );
-    assert_eq!(rt; written.get_ref().as_slice(), output.as_bytes());
-    assert_eq!(rt; error_output.get_ref().as_slice(), errors.as_bytes());
-    assert_eq!(rt; ended, status);
+    let mut files = message_file(alloc, message);
+    let printed = printed_by(alloc, words, &mut Ends::new(gate), &mut files);
+    assert_printed(rt, output, &printed, output, errors, status);
 }
 
 /// What `footers` prints of a gate file on the input and a message.
@@ -167,28 +160,20 @@ fn what_is_wrong_is_printed(rt: HostRuntime) {
     );
 }
 
-#[test]
-fn a_broken_output_is_reported(rt: HostRuntime) -> Result<(), Fail> {
-    let alloc = rt.alloc();
-    let mut error_output = Ends::new(Vec::new(alloc));
-    let mut files = OneFile {
-        name: "message",
-        text: MESSAGE.as_bytes(),
+/// What `footers` reports where its output fails at the first call.
+fn footers_to_broken_output(alloc: Global) -> Reported {
+    let words = ["footers", "-", "message"];
+    reported_by(
         alloc,
-        failures: 0,
-    };
-    let ended = run_words(
-        alloc,
-        ["footers", "-", "message"].as_slice(),
+        words.as_slice(),
         &mut Ends::new(GATE.as_bytes()),
         &mut Broken::at_call(Ends::new(Vec::new(alloc)), 1),
-        &mut error_output,
-        &mut files,
-    );
-    assert_eq!(rt; ended, 1);
-    assert_eq!(rt;
-        error_output.get_ref().as_slice(),
-        b"reviewgate: output 1 WriteFault\n".as_slice()
-    );
-    Ok(())
+        &mut message_file(alloc, MESSAGE.as_bytes()),
+    )
+}
+
+#[test]
+fn a_broken_output_is_reported(rt: HostRuntime) {
+    let reported = footers_to_broken_output(rt.alloc());
+    assert_reported(&rt, &reported, "reviewgate: output 1 WriteFault\n", 1);
 }

@@ -1,11 +1,11 @@
 //! Snapshots that are merged, and what is printed, worked out by hand.
 
 use super::one_file::{BrokenFile, OneFile};
-use super::program::run_words;
+use super::program::{MEMORY, Reported, assert_printed, assert_reported, printed_by, reported_by};
+use assertions::assert_found;
 use byte_ends::{Broken, Ends};
 use std::alloc::{AllocError, Global};
 use std::process::Abort;
-use std::test::Fail;
 
 /// Two operations written backwards, and the first of them again.
 const BACKWARDS: &str =
@@ -23,6 +23,16 @@ const OTHER: &str =
 const ALL: &str =
     "reviewgate 2\n{\"change\":5,\"op\":\"merged\",\"seq\":1,\"site\":1,\"start\":1,\"time\":1}\n{\"change\":7,\"op\":\"abandon\",\"seq\":1,\"site\":2,\"start\":1,\"time\":1}\n{\"change\":6,\"op\":\"merged\",\"seq\":2,\"site\":1,\"start\":1,\"time\":2}\nend 3\n";
 
+/// A file named `kept` with this text.
+fn kept_file(alloc: Global, kept: &str) -> OneFile<'_> {
+    OneFile {
+        name: "kept",
+        text: kept.as_bytes(),
+        alloc,
+        failures: 0,
+    }
+}
+
 /// What merging two names prints on the output and on the error output, and the status. The file `kept` has one text,
 /// and the input another.
 fn assert_merges(
@@ -35,34 +45,12 @@ fn assert_merges(
     output: &str,
     errors: &str,
 ) {
-    let mut written = Ends::new(Vec::new(alloc));
-    let mut error_output = Ends::new(Vec::new(alloc));
     let [first, second] = names;
     let words = ["merge", first, second];
-    let ended = run_words(
-        alloc,
-        words.as_slice(),
-        &mut Ends::new(input.as_bytes()),
-        &mut written,
-        &mut error_output,
-        &mut OneFile {
-            name: "kept",
-            text: kept.as_bytes(),
-            alloc,
-            failures: 0,
-        },
-    );
-    assert_eq!(rt;
-        written.get_ref().as_slice(),
-        output.as_bytes(),
-        "{kept}{input}"
-    );
-    assert_eq!(rt;
-        error_output.get_ref().as_slice(),
-        errors.as_bytes(),
-        "{kept}{input}"
-    );
-    assert_eq!(rt; ended, status, "{kept}{input}");
+    let mut input_end = Ends::new(input.as_bytes());
+    let mut file = kept_file(alloc, kept);
+    let printed = printed_by(alloc, words.as_slice(), &mut input_end, &mut file);
+    assert_printed(rt, input, &printed, output, errors, status);
 }
 
 #[test]
@@ -185,117 +173,89 @@ fn the_first_snapshot_is_judged_first(rt: HostRuntime) {
     assert_merges(&rt, alloc, ["-", "-"], "", BOTH, 1, "", bad_header);
 }
 
-/// What merging the input and itself under another name prints, where the ends break.
-fn broken_merge(alloc: Global, reads: u64, writes: u64) -> Result<(u8, Vec<u8>), Fail> {
-    let mut error_output = Ends::new(Vec::new(alloc));
+/// What merging the input and itself under another name reports, where the ends break.
+fn broken_merge(alloc: Global, reads: u64, writes: u64) -> Reported {
     let words = ["merge", "-", "kept"];
-    let ended = run_words(
+    reported_by(
         alloc,
         words.as_slice(),
         &mut Broken::before_byte(Ends::new(BOTH.as_bytes()), reads),
         &mut Broken::before_byte(Ends::new(Vec::new(alloc)), writes),
-        &mut error_output,
-        &mut OneFile {
-            name: "kept",
-            text: BOTH.as_bytes(),
-            alloc,
-            failures: 0,
-        },
-    );
-    Ok((ended, error_output.into_inner()))
+        &mut kept_file(alloc, BOTH),
+    )
 }
 
+const UNREAD: &str = "reviewgate: snapshot 7 ReadFault\n";
+
+const UNWRITTEN: &str = "reviewgate: output 1 WriteFault\n";
+
 #[test]
-fn broken_ends_are_reported(rt: HostRuntime) -> Result<(), Fail> {
+fn broken_ends_are_reported(rt: HostRuntime) {
+    let alloc = rt.alloc();
     let length = BOTH.len() as u64;
     for byte in 1..=length {
-        let (status, errors) = broken_merge(rt.alloc(), byte, length + 1)?;
-        assert_eq!(rt; status, 1);
-        assert_eq!(rt;
-            errors.as_slice(),
-            b"reviewgate: snapshot 7 ReadFault\n".as_slice()
-        );
-        let (status, errors) = broken_merge(rt.alloc(), length + 2, byte)?;
-        assert_eq!(rt; status, 1);
-        assert_eq!(rt;
-            errors.as_slice(),
-            b"reviewgate: output 1 WriteFault\n".as_slice()
-        );
+        assert_reported(&rt, &broken_merge(alloc, byte, length + 1), UNREAD, 1);
+        assert_reported(&rt, &broken_merge(alloc, length + 2, byte), UNWRITTEN, 1);
     }
-    let (status, errors) = broken_merge(rt.alloc(), length + 2, length + 1)?;
-    assert_eq!(rt; status, 0);
-    assert!(rt; errors.is_empty());
-    Ok(())
+    assert_reported(&rt, &broken_merge(alloc, length + 2, length + 1), "", 0);
+}
+
+/// Adds the merge of change 5 with this sequence number and time.
+fn push_merge(text: &mut String, seq: u64) -> Result<(), AllocError> {
+    write!(text, "{{\"change\":5,\"op\":\"merged\",\"seq\":{seq},")?;
+    write!(text, "\"site\":1,\"start\":1,\"time\":{seq}}}\n")
 }
 
 /// A snapshot of so many operations, in their order.
-pub(super) fn snapshot_of(alloc: Global, count: u64) -> Result<String, AllocError> {
-    let mut text = format!(in alloc; "reviewgate 2\n")?;
+pub(super) fn snapshot_of(alloc: Global, count: u64) -> Option<String> {
+    let mut text = String::from_str(alloc, "reviewgate 2\n").ok()?;
     for seq in 1..=count {
-        write!(
-            text,
-            "{{\"change\":5,\"op\":\"merged\",\"seq\":{seq},\"site\":1,\"start\":1,\"time\":{seq}}}\n"
-        )?;
+        push_merge(&mut text, seq).ok()?;
     }
-    write!(text, "end {count}\n")?;
-    Ok(text)
+    write!(text, "end {count}\n").ok()?;
+    Some(text)
 }
 
 // A snapshot of several blocks of 64 KiB, whose lines lie across them.
 #[test]
-fn long_snapshots_are_merged(rt: HostRuntime) -> Result<(), Fail> {
+fn long_snapshots_are_merged(rt: HostRuntime) {
     let alloc = rt.alloc();
-    let text = snapshot_of(alloc, 2000)?;
+    let text = snapshot_of(alloc, 2000).expect(&rt, MEMORY);
     let long = text.as_str();
-    assert!(rt; long.len() > 131_072);
+    assert_found(&rt, long.len() > 131_072, true);
     let empty = "reviewgate 2\nend 0\n";
     assert_merges(&rt, alloc, ["kept", "kept"], long, "", 0, long, "");
     assert_merges(&rt, alloc, ["kept", "-"], long, empty, 0, long, "");
     assert_merges(&rt, alloc, ["-", "kept"], empty, long, 0, long, "");
-    Ok(())
 }
 
+/// A snapshot with a line that is none.
+const BAD: &str = "reviewgate 2\n{\nend 1\n";
+
 /// How merging the input and a file is refused, where a read of either fails before this byte.
-fn broken_after(alloc: Global, text: &[u8], input: u64, file: u64) -> (u8, Vec<u8>) {
-    let mut error_output = Ends::new(Vec::new(alloc));
+fn broken_after(alloc: Global, text: &str, input: u64, file: u64) -> Reported {
     let words = ["merge", "-", "kept"];
-    let ended = run_words(
+    reported_by(
         alloc,
         words.as_slice(),
-        &mut Broken::before_byte(Ends::new(text), input),
+        &mut Broken::before_byte(Ends::new(text.as_bytes()), input),
         &mut Ends::new(Vec::new(alloc)),
-        &mut error_output,
         &mut BrokenFile {
-            text: b"reviewgate 2\n{\nend 1\n",
+            text: BAD.as_bytes(),
             byte: file,
             failures: 0,
         },
-    );
-    (ended, error_output.into_inner())
+    )
 }
 
 // A line that is refused doesn't hide that a read fails after it, of the input or of a file.
 #[test]
 fn a_failure_after_a_bad_line_is_reported(rt: HostRuntime) {
-    let bad = b"reviewgate 2\n{\nend 1\n".as_slice();
+    let alloc = rt.alloc();
     for byte in 15..=22u64 {
-        let (status, errors) = broken_after(rt.alloc(), bad, byte, 99);
-        assert_eq!(rt; status, 1);
-        assert_eq!(rt;
-            errors.as_slice(),
-            b"reviewgate: snapshot 7 ReadFault\n".as_slice()
-        );
-        let (status, errors) = broken_after(rt.alloc(), BOTH.as_bytes(), 999, byte);
-        assert_eq!(rt; status, 1);
-        assert_eq!(rt;
-            errors.as_slice(),
-            b"reviewgate: snapshot 7 ReadFault\n".as_slice()
-        );
+        assert_reported(&rt, &broken_after(alloc, BAD, byte, 99), UNREAD, 1);
+        assert_reported(&rt, &broken_after(alloc, BOTH, 999, byte), UNREAD, 1);
     }
-    let (status, errors) = broken_after(rt.alloc(), BOTH.as_bytes(), 999, 99);
-    assert_eq!(rt; status, 1);
-    assert_eq!(rt;
-        errors.as_slice(),
-        b"reviewgate: snapshot 2 BadLine 2 NotJson\n".as_slice()
-    );
+    let line = "reviewgate: snapshot 2 BadLine 2 NotJson\n";
+    assert_reported(&rt, &broken_after(alloc, BOTH, 999, 99), line, 1);
 }

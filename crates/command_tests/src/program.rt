@@ -1,10 +1,15 @@
 //! The program, over words, inputs and files.
 
-use byte_ends::{Drain, Source};
+use assertions::assert_found;
+use byte_ends::{Drain, Ends, Source};
 use command_line::{Asked, read_words};
 use commands::{print_text, report, report_usage, run_command};
 use console::{Named, Refusal};
 use std::alloc::Global;
+use std::process::Abort;
+
+/// What a test lacks where memory is refused that it counts on.
+pub const MEMORY: &str = "memory";
 
 /// What the program does for words that ask for a command over files, or for none: it ends with this status.
 pub fn run_words<I: Source, O: Drain, E: Drain, N: Named>(
@@ -23,4 +28,56 @@ pub fn run_words<I: Source, O: Drain, E: Drain, N: Named>(
         Asked::Usage(text) => report_usage(text.as_str(), errors),
         _ => report(alloc, &Err(Refusal::Memory), errors),
     }
+}
+
+/// What the program printed on its output and on its error output, and its status.
+pub type Printed = (Vec<u8>, Vec<u8>, u8);
+
+/// What the program prints for these words.
+pub fn printed_by<I: Source, N: Named>(
+    alloc: Global,
+    words: &[&str],
+    input: &mut I,
+    files: &mut N,
+) -> Printed {
+    let mut output = Ends::new(Vec::new(alloc));
+    let mut errors = Ends::new(Vec::new(alloc));
+    let status = run_words(alloc, words, input, &mut output, &mut errors, files);
+    (output.into_inner(), errors.into_inner(), status)
+}
+
+/// For what it was asked the program printed this on its output and on its error output, and ended with this status.
+pub fn assert_printed(
+    rt: &impl Abort,
+    asked: &str,
+    printed: &Printed,
+    output: &str,
+    errors: &str,
+    status: u8,
+) {
+    let found = (printed.0.as_slice(), printed.1.as_slice(), printed.2);
+    let wanted = (output.as_bytes(), errors.as_bytes(), status);
+    assert_found(rt, (asked, found), (asked, wanted));
+}
+
+/// What the program printed on its error output, and its status.
+pub type Reported = (Vec<u8>, u8);
+
+/// What the program reports for these words to an output.
+pub fn reported_by<I: Source, O: Drain, N: Named>(
+    alloc: Global,
+    words: &[&str],
+    input: &mut I,
+    output: &mut O,
+    files: &mut N,
+) -> Reported {
+    let mut errors = Ends::new(Vec::new(alloc));
+    let status = run_words(alloc, words, input, output, &mut errors, files);
+    (errors.into_inner(), status)
+}
+
+/// The program reported this, and ended with this status.
+pub fn assert_reported(rt: &impl Abort, reported: &Reported, errors: &str, status: u8) {
+    let found = (reported.0.as_slice(), reported.1);
+    assert_found(rt, found, (errors.as_bytes(), status));
 }

@@ -1,7 +1,7 @@
 //! Commands over the record of a running site, worked out by hand.
 
 use super::one_file::OneSite;
-use super::program::run_words;
+use super::program::{assert_printed, printed_by};
 use byte_ends::Ends;
 use std::alloc::Global;
 use std::process::Abort;
@@ -28,28 +28,13 @@ fn assert_answers(
     output: &str,
     errors: &str,
 ) {
-    let mut written = Ends::new(Vec::new(alloc));
-    let mut error_output = Ends::new(Vec::new(alloc));
     let mut site = OneSite {
         port: 8101,
         record: RECORD.as_bytes(),
         failures: 0,
     };
-    let ended = run_words(
-        alloc,
-        words,
-        &mut Ends::new(input.as_bytes()),
-        &mut written,
-        &mut error_output,
-        &mut site,
-    );
-    assert_eq!(rt; written.get_ref().as_slice(), output.as_bytes(), "{errors}");
-    assert_eq!(rt;
-        error_output.get_ref().as_slice(),
-        errors.as_bytes(),
-        "{output}"
-    );
-    assert_eq!(rt; ended, status, "{output}{errors}");
+    let printed = printed_by(alloc, words, &mut Ends::new(input.as_bytes()), &mut site);
+    assert_printed(rt, input, &printed, output, errors, status);
 }
 
 #[test]

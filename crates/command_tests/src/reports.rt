@@ -1,11 +1,10 @@
 //! Reports of sites and of snapshots, worked out by hand.
 
 use super::one_file::OneFile;
-use super::program::run_words;
+use super::program::{Reported, assert_printed, assert_reported, printed_by, reported_by};
 use byte_ends::{Broken, Ends};
 use std::alloc::Global;
 use std::process::Abort;
-use std::test::Fail;
 
 /// A gate that wants two approvals on the current patch set of an open change, and allows no cycles.
 const GATE: &str =
@@ -14,6 +13,16 @@ const GATE: &str =
 /// The same, with cycles.
 const CYCLES: &str =
     r#"{"allow-circular-dependencies":true,"bases":["https://review.example.org/"],"reject":{"gerrit":{"approval":[{"Code-Review":-2}]}},"require":{"gerrit":{"open":true,"current-patchset":true,"approval":[{"Workflow":1},{"Verified":[1,2],"username":"zuul"}]}}}"#;
+
+/// A file named `gate` with this text.
+fn gate_file(alloc: Global, gate: &str) -> OneFile<'_> {
+    OneFile {
+        name: "gate",
+        text: gate.as_bytes(),
+        alloc,
+        failures: 0,
+    }
+}
 
 /// What the program prints of a file named `gate` and of the input, and the status.
 pub(super) fn assert_prints(
@@ -26,29 +35,9 @@ pub(super) fn assert_prints(
     output: &str,
     errors: &str,
 ) {
-    let mut written = Ends::new(Vec::new(alloc));
-    let mut error_output = Ends::new(Vec::new(alloc));
-    let mut files = OneFile {
-        name: "gate",
-        text: gate.as_bytes(),
-        alloc,
-        failures: 0,
-    };
-    let ended = run_words(
-        alloc,
-        words,
-        &mut Ends::new(input.as_bytes()),
-        &mut written,
-        &mut error_output,
-        &mut files,
-    );
-    assert_eq!(rt; written.get_ref().as_slice(), output.as_bytes(), "{input}");
-    assert_eq!(rt;
-        error_output.get_ref().as_slice(),
-        errors.as_bytes(),
-        "{input}"
-    );
-    assert_eq!(rt; ended, status, "{input}");
+    let mut files = gate_file(alloc, gate);
+    let printed = printed_by(alloc, words, &mut Ends::new(input.as_bytes()), &mut files);
+    assert_printed(rt, input, &printed, output, errors, status);
 }
 
 /// What a script on the input prints under a gate.
@@ -233,30 +222,20 @@ fn faults_of_reports_are_printed(rt: HostRuntime) {
     assert_prints(&rt, alloc, words.as_slice(), GATE, "", 1, "", line);
 }
 
-#[test]
-fn a_failing_output_is_reported(rt: HostRuntime) -> Result<(), Fail> {
-    let alloc = rt.alloc();
-    let mut files = OneFile {
-        name: "gate",
-        text: GATE.as_bytes(),
-        alloc,
-        failures: 0,
-    };
-    let mut broken = Broken::at_call(Ends::new(Vec::new(alloc)), 1);
-    let mut error_output = Ends::new(Vec::new(alloc));
+/// What `ready` reports where its output fails at the first call.
+fn report_to_failing_output(alloc: Global) -> Reported {
     let words = ["ready", "gate", "-"];
-    let ended = run_words(
+    reported_by(
         alloc,
         words.as_slice(),
         &mut Ends::new("reviewgate 2\nend 0\n".as_bytes()),
-        &mut broken,
-        &mut error_output,
-        &mut files,
-    );
-    assert_eq!(rt; ended, 1);
-    assert_eq!(rt;
-        error_output.get_ref().as_slice(),
-        b"reviewgate: output 1 WriteFault\n".as_slice()
-    );
-    Ok(())
+        &mut Broken::at_call(Ends::new(Vec::new(alloc)), 1),
+        &mut gate_file(alloc, GATE),
+    )
+}
+
+#[test]
+fn a_failing_output_is_reported(rt: HostRuntime) {
+    let reported = report_to_failing_output(rt.alloc());
+    assert_reported(&rt, &reported, "reviewgate: output 1 WriteFault\n", 1);
 }

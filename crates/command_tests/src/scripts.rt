@@ -2,7 +2,10 @@
 
 ghost use Rattle.std.specs.Prelude.{[]};
 
-use super::program::run_words;
+use super::program::{
+    MEMORY, Printed, Reported, assert_printed, assert_reported, printed_by, reported_by,
+};
+use assertions::assert_found;
 use byte_ends::{Broken, BytesFault, Ends};
 use console::{Named, PullFault};
 use replica_core::Gathering;
@@ -10,7 +13,6 @@ use site_address::Address;
 use snapshot_text::SnapFault;
 use std::alloc::Global;
 use std::process::Abort;
-use std::test::Fail;
 
 /// Files of which none is there.
 #[derive(Drop)]
@@ -61,24 +63,11 @@ fn assert_plays(
     output: &str,
     errors: &str,
 ) {
-    let mut written = Ends::new(Vec::new(alloc));
-    let mut error_output = Ends::new(Vec::new(alloc));
     let words = ["simulate", "-"];
-    let ended = run_words(
-        alloc,
-        words.as_slice(),
-        &mut Ends::new(script.as_bytes()),
-        &mut written,
-        &mut error_output,
-        &mut NoFiles { failures: 0 },
-    );
-    assert_eq!(rt; written.get_ref().as_slice(), output.as_bytes(), "{script}");
-    assert_eq!(rt;
-        error_output.get_ref().as_slice(),
-        errors.as_bytes(),
-        "{script}"
-    );
-    assert_eq!(rt; ended, status, "{script}");
+    let mut input = Ends::new(script.as_bytes());
+    let mut files = NoFiles { failures: 0 };
+    let printed = printed_by(alloc, words.as_slice(), &mut input, &mut files);
+    assert_printed(rt, script, &printed, output, errors, status);
 }
 
 #[test]
@@ -153,19 +142,37 @@ fn sites_go_back_to_what_they_saved(rt: HostRuntime) {
     );
 }
 
-#[test]
-fn long_journals_take_several_packets(rt: HostRuntime) -> Result<(), Fail> {
-    let alloc = rt.alloc();
-    let mut script = String::from_str(alloc, "sites 2\n")?;
+/// A script of 257 intakes, and of packets with them.
+fn long_script(alloc: Global) -> Option<String> {
+    let mut script = String::from_str(alloc, "sites 2\n").ok()?;
+    for _ in 1..=257u64 {
+        script
+            .push_str("intake 1 {\"change\":5,\"op\":\"merged\"}\n")
+            .ok()?;
+    }
+    script
+        .push_str("send 1 []\ndeliver 1 2\nsend 1 @2\ndeliver 2 2\ndeliver 1 2\n")
+        .ok()?;
+    Some(script)
+}
+
+/// What it prints.
+fn long_output(alloc: Global) -> Option<String> {
     let mut output = String::new(alloc);
     for time in 1..=257u64 {
-        script.push_str("intake 1 {\"change\":5,\"op\":\"merged\"}\n")?;
-        write!(&mut output, "ok {time},1,1,{time}\n")?;
+        write!(&mut output, "ok {time},1,1,{time}\n").ok()?;
     }
-    script.push_str("send 1 []\ndeliver 1 2\nsend 1 @2\ndeliver 2 2\ndeliver 1 2\n")?;
-    output.push_str("packet 1 256 more\ntook 256\npacket 2 1 done\ntook 1\ntook 0\n")?;
-    assert_plays(&rt, alloc, script.as_str(), 0, output.as_str(), "");
-    Ok(())
+    output
+        .push_str("packet 1 256 more\ntook 256\npacket 2 1 done\ntook 1\ntook 0\n")
+        .ok()?;
+    Some(output)
+}
+
+#[test]
+fn long_journals_take_several_packets(rt: HostRuntime) {
+    let script = long_script(rt.alloc()).expect(&rt, MEMORY);
+    let output = long_output(rt.alloc()).expect(&rt, MEMORY);
+    assert_plays(&rt, rt.alloc(), script.as_str(), 0, output.as_str(), "");
 }
 
 #[test]
@@ -227,89 +234,54 @@ fn faults_come_after_the_answers_before_them(rt: HostRuntime) {
     }
 }
 
+/// What one word prints.
+fn printed_for(alloc: Global, word: &str) -> Printed {
+    let words: [&str; 1] = [word];
+    let mut input = Ends::new(b"".as_slice());
+    printed_by(
+        alloc,
+        words.as_slice(),
+        &mut input,
+        &mut NoFiles { failures: 0 },
+    )
+}
+
+/// Whether there is anything on the output and on the error output, and the status.
+fn is_printed(printed: &Printed) -> (bool, bool, u8) {
+    (!printed.0.is_empty(), !printed.1.is_empty(), printed.2)
+}
+
 #[test]
 fn words_that_ask_for_nothing_are_printed(rt: HostRuntime) {
-    let words: [&str; 1] = ["serve"];
-    let mut written = Ends::new(Vec::new(rt.alloc()));
-    let mut error_output = Ends::new(Vec::new(rt.alloc()));
-    let ended = run_words(
-        rt.alloc(),
-        words.as_slice(),
-        &mut Ends::new(b"".as_slice()),
-        &mut written,
-        &mut error_output,
-        &mut NoFiles { failures: 0 },
-    );
-    assert_eq!(rt; ended, 2);
-    assert!(rt; written.get_ref().is_empty());
-    assert!(rt; error_output.get_ref().len() > 0);
+    let printed = printed_for(rt.alloc(), "serve");
+    assert_found(&rt, is_printed(&printed), (false, true, 2));
 }
 
 #[test]
 fn help_is_printed_on_the_output(rt: HostRuntime) {
-    let words: [&str; 1] = ["--help"];
-    let mut written = Ends::new(Vec::new(rt.alloc()));
-    let mut error_output = Ends::new(Vec::new(rt.alloc()));
-    let ended = run_words(
-        rt.alloc(),
+    let printed = printed_for(rt.alloc(), "--help");
+    assert_found(&rt, is_printed(&printed), (true, false, 0));
+}
+
+/// What a script of this name reports, from an input that fails before this byte to an output that fails at this call,
+/// where these aren't 0.
+fn reported_of(alloc: Global, name: &str, byte: u64, call: u64) -> Reported {
+    let words: [&str; 2] = ["simulate", name];
+    reported_by(
+        alloc,
         words.as_slice(),
-        &mut Ends::new(b"".as_slice()),
-        &mut written,
-        &mut error_output,
+        &mut Broken::before_byte(Ends::new(b"sites 1\nstate 1\n".as_slice()), byte),
+        &mut Broken::at_call(Ends::new(Vec::new(alloc)), call),
         &mut NoFiles { failures: 0 },
-    );
-    assert_eq!(rt; ended, 0);
-    assert!(rt; written.get_ref().len() > 0);
-    assert!(rt; error_output.get_ref().is_empty());
+    )
 }
 
 #[test]
-fn a_missing_file_and_broken_ends_are_refusals(rt: HostRuntime) -> Result<(), Fail> {
-    let missing: [&str; 2] = ["simulate", "no.script"];
-    let given: [&str; 2] = ["simulate", "-"];
-    let mut error_output = Ends::new(Vec::new(rt.alloc()));
-    let ended = run_words(
-        rt.alloc(),
-        missing.as_slice(),
-        &mut Ends::new(b"".as_slice()),
-        &mut Ends::new(Vec::new(rt.alloc())),
-        &mut error_output,
-        &mut NoFiles { failures: 0 },
-    );
-    assert_eq!(rt; ended, 1);
-    assert_eq!(rt;
-        error_output.get_ref().as_slice(),
-        b"reviewgate: file 7 ReadFault no.script\n".as_slice()
-    );
-
-    let mut error_output = Ends::new(Vec::new(rt.alloc()));
-    let ended = run_words(
-        rt.alloc(),
-        given.as_slice(),
-        &mut Broken::before_byte(Ends::new(b"sites 1\nstate 1\n".as_slice()), 3),
-        &mut Ends::new(Vec::new(rt.alloc())),
-        &mut error_output,
-        &mut NoFiles { failures: 0 },
-    );
-    assert_eq!(rt; ended, 1);
-    assert_eq!(rt;
-        error_output.get_ref().as_slice(),
-        b"reviewgate: file 7 ReadFault\n".as_slice()
-    );
-
-    let mut error_output = Ends::new(Vec::new(rt.alloc()));
-    let ended = run_words(
-        rt.alloc(),
-        given.as_slice(),
-        &mut Ends::new(b"sites 1\nstate 1\n".as_slice()),
-        &mut Broken::at_call(Ends::new(Vec::new(rt.alloc())), 1),
-        &mut error_output,
-        &mut NoFiles { failures: 0 },
-    );
-    assert_eq!(rt; ended, 1);
-    assert_eq!(rt;
-        error_output.get_ref().as_slice(),
-        b"reviewgate: output 1 WriteFault\n".as_slice()
-    );
-    Ok(())
+fn a_missing_file_and_broken_ends_are_refusals(rt: HostRuntime) {
+    let missing = reported_of(rt.alloc(), "no.script", 0, 0);
+    assert_reported(&rt, &missing, "reviewgate: file 7 ReadFault no.script\n", 1);
+    let unread = reported_of(rt.alloc(), "-", 3, 0);
+    assert_reported(&rt, &unread, "reviewgate: file 7 ReadFault\n", 1);
+    let unwritten = reported_of(rt.alloc(), "-", 0, 1);
+    assert_reported(&rt, &unwritten, "reviewgate: output 1 WriteFault\n", 1);
 }

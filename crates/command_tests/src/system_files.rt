@@ -1,7 +1,8 @@
 //! Real files, opened by their names.
 
 use super::merges::snapshot_of;
-use super::program::run_words;
+use super::program::{MEMORY, printed_by};
+use assertions::assert_found;
 use byte_ends::Ends;
 use console::Named;
 use record_pull::SystemFiles;
@@ -11,12 +12,12 @@ use std::process::Abort;
 use std::test::Fail;
 
 /// A script of so many bytes, which prints nothing.
-fn script_of(alloc: Global, length: usize) -> Result<Vec<u8>, Fail> {
-    let mut script = vec![in alloc; b'#'; length]?;
+fn script_of(rt: &impl Abort, alloc: Global, length: usize) -> Vec<u8> {
+    let mut script = vec![in alloc; b'#'; length].ok().expect(rt, MEMORY);
     for (byte, first) in script.as_mut_slice().iter_mut().zip(b"sites 1\n") {
         *byte = *first;
     }
-    Ok(script)
+    script
 }
 
 /// Playing the script of a name writes this to the error output.
@@ -27,25 +28,19 @@ fn assert_plays(
     name: &str,
     line: &[u8],
 ) {
-    let mut errors = Ends::new(Vec::new(alloc));
-    let status = run_words(
-        alloc,
-        ["simulate", name].as_slice(),
-        &mut Ends::new(b"".as_slice()),
-        &mut Ends::new(Vec::new(alloc)),
-        &mut errors,
-        files,
-    );
-    assert_eq!(rt; errors.get_ref().as_slice(), line, "{name}");
-    assert_eq!(rt; status > 0, !line.is_empty(), "{name}");
+    let words = ["simulate", name];
+    let mut input = Ends::new(b"".as_slice());
+    let (_, errors, status) = printed_by(alloc, words.as_slice(), &mut input, files);
+    let found = (name, errors.as_slice(), status > 0);
+    assert_found(rt, found, (name, line, !line.is_empty()));
 }
 
 // A file that is there, one byte more than the limit, a folder, and one that isn't there.
 #[test]
 fn real_files_are_read_by_name(rt: HostRuntime) -> Result<(), Fail> {
     let alloc = rt.alloc();
-    let whole = script_of(alloc, 1_048_576)?;
-    let longer = script_of(alloc, 1_048_577)?;
+    let whole = script_of(&rt, alloc, 1_048_576);
+    let longer = script_of(&rt, alloc, 1_048_577);
     fs::write(&rt, "reviewgate_whole.tmp", whole.as_slice())?;
     fs::write(&rt, "reviewgate_longer.tmp", longer.as_slice())?;
     let mut files = SystemFiles::new(rt);
@@ -64,7 +59,7 @@ fn real_files_are_read_by_name(rt: HostRuntime) -> Result<(), Fail> {
     for (name, line) in cases {
         assert_plays(&rt, alloc, &mut files, name, line);
     }
-    assert!(rt; files.failures() == 2);
+    assert_found(&rt, files.failures(), 2);
     fs::remove_file(&rt, "reviewgate_whole.tmp")?;
     fs::remove_file(&rt, "reviewgate_longer.tmp")?;
     Ok(())
@@ -79,27 +74,19 @@ fn assert_merges(
     output: &[u8],
     line: &[u8],
 ) {
-    let mut printed = Ends::new(Vec::new(alloc));
-    let mut errors = Ends::new(Vec::new(alloc));
     let [first, second] = names;
-    let status = run_words(
-        alloc,
-        ["merge", first, second].as_slice(),
-        &mut Ends::new(b"reviewgate 2\nend 0\n".as_slice()),
-        &mut printed,
-        &mut errors,
-        files,
-    );
-    assert_eq!(rt; printed.get_ref().as_slice(), output, "{first}");
-    assert_eq!(rt; errors.get_ref().as_slice(), line, "{first}");
-    assert_eq!(rt; status > 0, !line.is_empty(), "{first}");
+    let words = ["merge", first, second];
+    let mut input = Ends::new(b"reviewgate 2\nend 0\n".as_slice());
+    let (printed, errors, status) = printed_by(alloc, words.as_slice(), &mut input, files);
+    let found = (first, printed.as_slice(), errors.as_slice(), status > 0);
+    assert_found(rt, found, (first, output, line, !line.is_empty()));
 }
 
 // A file of several blocks of 64 KiB, a folder, and one that isn't there.
 #[test]
 fn real_snapshots_are_read_by_name(rt: HostRuntime) -> Result<(), Fail> {
     let alloc = rt.alloc();
-    let text = snapshot_of(alloc, 2000)?;
+    let text = snapshot_of(alloc, 2000).expect(&rt, MEMORY);
     fs::write(&rt, "reviewgate_snapshot.tmp", text.as_bytes())?;
     let mut files = SystemFiles::new(rt);
     let name = "reviewgate_snapshot.tmp";
@@ -115,7 +102,7 @@ fn real_snapshots_are_read_by_name(rt: HostRuntime) -> Result<(), Fail> {
         b"",
         unread,
     );
-    assert!(rt; files.failures() == 2);
+    assert_found(&rt, files.failures(), 2);
     fs::remove_file(&rt, name)?;
     Ok(())
 }

@@ -1,5 +1,6 @@
 //! What findings bring to a record, what has to be asked for, and what has vanished, worked out by hand.
 
+use assertions::assert_found;
 use deeds::{Deed, draft_of, op_of};
 use event_filter::{
     asked, brought, is_moot, vanished, what_a_row_says_is_what_the_record_says,
@@ -13,14 +14,18 @@ use state_core::State;
 use std::alloc::Global;
 use std::collections::BTreeSet;
 use std::process::Abort;
-use std::test::Fail;
+
+/// Takes the operation of a deed on a change, where memory suffices for it.
+fn take(alloc: Global, state: &mut State, time: u64, change: u32, deed: Deed) -> Option<()> {
+    let op = op_of(alloc, time, change, deed)?;
+    state.take(&op).ok()
+}
 
 /// The state of deeds on changes, one after the other.
 fn state_of(alloc: Global, deeds: &[(u32, Deed)]) -> Option<State> {
     let mut state = State::new(alloc);
     for (time, (change, deed)) in (1u64..).zip(deeds) {
-        let op = op_of(alloc, time, *change, *deed)?;
-        state.take(&op).ok()?;
+        take(alloc, &mut state, time, *change, *deed)?;
     }
     Some(state)
 }
@@ -40,14 +45,25 @@ enum Found {
     Refuses,
 }
 
-/// A listing of these ballots.
-fn listing_of(alloc: Global, change: u32, set: u32, votes: &[(&str, &str)]) -> Option<Listing> {
+/// A ballot.
+fn ballot_of(alloc: Global, label: &str, voter: &str) -> Option<Ballot> {
+    let label = String::from_str(alloc, label).ok()?;
+    let voter = String::from_str(alloc, voter).ok()?;
+    Some(Ballot { label, voter })
+}
+
+/// The ballots.
+fn ballots_of(alloc: Global, votes: &[(&str, &str)]) -> Option<Vec<Ballot>> {
     let mut ballots = Vec::new(alloc);
     for (label, voter) in votes {
-        let label = String::from_str(alloc, label).ok()?;
-        let voter = String::from_str(alloc, voter).ok()?;
-        ballots.push(Ballot { label, voter }).ok()?;
+        ballots.push(ballot_of(alloc, label, voter)?).ok()?;
     }
+    Some(ballots)
+}
+
+/// A listing of these ballots.
+fn listing_of(alloc: Global, change: u32, set: u32, votes: &[(&str, &str)]) -> Option<Listing> {
+    let ballots = ballots_of(alloc, votes)?;
     Some(Listing {
         change,
         set,
@@ -77,13 +93,19 @@ fn push_bodies(alloc: Global, text: &mut String, bodies: &[Body]) -> Option<()> 
     Some(())
 }
 
+/// Bodies, each on a line.
+fn text_of(alloc: Global, bodies: &[Body]) -> Option<String> {
+    let mut text = String::new(alloc);
+    push_bodies(alloc, &mut text, bodies)?;
+    Some(text)
+}
+
 /// What a finding brings to the record of these deeds, a body a line.
 fn brought_by(alloc: Global, record: &[(u32, Deed)], found: Found) -> Option<String> {
     let state = state_of(alloc, record)?;
-    let bodies = brought(alloc, &state, finding_of(alloc, found)?).ok()?;
-    let mut text = String::new(alloc);
-    push_bodies(alloc, &mut text, bodies.as_slice())?;
-    Some(text)
+    let finding = finding_of(alloc, found)?;
+    let bodies = brought(alloc, &state, finding).ok()?;
+    text_of(alloc, bodies.as_slice())
 }
 
 /// A record, a finding, and what it brings.
@@ -94,8 +116,7 @@ fn assert_brought(rt: &impl Abort, alloc: Global, cases: &[Case]) {
     for (number, case) in (1u64..).zip(cases) {
         let (record, found, wanted) = *case;
         let text = brought_by(alloc, record, found);
-        let is_so = text.is_some_and(|text| text.as_str() == wanted);
-        assert!(rt; is_so, "case {number}");
+        assert_found(rt, (number, text.as_deref()), (number, Some(wanted)));
     }
 }
 
@@ -224,25 +245,40 @@ fn what_comes_after_a_merge_is_moot(rt: HostRuntime) {
         (Deed::Merged, false),
         (VETO.1, false),
     ] {
-        assert_eq!(rt; moot(rt.alloc(), &[MERGED], deed), Some(wanted));
-        assert_eq!(rt; moot(rt.alloc(), &[FIRST], deed), Some(false));
+        assert_found(&rt, moot(rt.alloc(), &[MERGED], deed), Some(wanted));
+        assert_found(&rt, moot(rt.alloc(), &[FIRST], deed), Some(false));
     }
 }
 
-/// What is asked for where a line with these findings is to be met by the record of these deeds.
-fn asks_of(alloc: Global, record: &[(u32, Deed)], part: Part, found: &[Found]) -> Option<Vec<u32>> {
-    let state = state_of(alloc, record)?;
-    let bases = Bases::new(alloc, &["https://r/"]).ok()?;
+/// The findings.
+fn findings_of(alloc: Global, found: &[Found]) -> Option<Vec<Finding>> {
     let mut findings = Vec::new(alloc);
     for one in found {
         findings.push(finding_of(alloc, *one)?).ok()?;
     }
-    let asks = asked(alloc, &state, Some(&bases), &Told { part, findings }).ok()?;
+    Some(findings)
+}
+
+/// What is asked for where a line is to be met by a record.
+fn asked_of(alloc: Global, state: &State, told: &Told) -> Option<BTreeSet<u32>> {
+    let bases = Bases::new(alloc, &["https://r/"]).ok()?;
+    asked(alloc, state, Some(&bases), told).ok()
+}
+
+/// Numbers, in their order.
+fn numbers_of(alloc: Global, asks: BTreeSet<u32>) -> Option<Vec<u32>> {
     let mut numbers = Vec::new(alloc);
     for number in &asks {
         numbers.push(*number).ok()?;
     }
     Some(numbers)
+}
+
+/// What is asked for where a line with these findings is to be met by the record of these deeds.
+fn asks_of(alloc: Global, record: &[(u32, Deed)], part: Part, found: &[Found]) -> Option<Vec<u32>> {
+    let state = state_of(alloc, record)?;
+    let findings = findings_of(alloc, found)?;
+    numbers_of(alloc, asked_of(alloc, &state, &Told { part, findings })?)
 }
 
 const NEEDY: Deed = Deed::PatchSet(
@@ -368,22 +404,25 @@ fn what_is_unknown_is_asked_for(rt: HostRuntime) {
     for (number, question) in (1u64..).zip(QUESTIONS) {
         let (record, part, found, wanted) = *question;
         let asks = asks_of(rt.alloc(), record, part, found);
-        let is_so = asks.is_some_and(|asks| asks.as_slice() == wanted);
-        assert!(rt; is_so, "question {number}");
+        assert_found(&rt, (number, asks.as_deref()), (number, Some(wanted)));
     }
+}
+
+/// The numbers as a set.
+fn set_of(alloc: Global, listed: &[u32]) -> Option<BTreeSet<u32>> {
+    let mut numbers = BTreeSet::new(alloc);
+    for number in listed {
+        numbers.insert(*number).ok()?;
+    }
+    Some(numbers)
 }
 
 /// The abandons of what has vanished from an answer that lists these changes, a body a line.
 fn vanished_from(alloc: Global, record: &[(u32, Deed)], listed: &[u32]) -> Option<String> {
     let state = state_of(alloc, record)?;
-    let mut numbers = BTreeSet::new(alloc);
-    for number in listed {
-        numbers.insert(*number).ok()?;
-    }
+    let numbers = set_of(alloc, listed)?;
     let bodies = vanished(alloc, &state, &numbers).ok()?;
-    let mut text = String::new(alloc);
-    push_bodies(alloc, &mut text, bodies.as_slice())?;
-    Some(text)
+    text_of(alloc, bodies.as_slice())
 }
 
 const SEVERAL: &[(u32, Deed)] = &[
@@ -408,7 +447,7 @@ fn open_changes_that_are_not_listed_have_vanished(rt: HostRuntime) {
         ([5u32, 6, 7].as_slice(), ""),
     ] {
         let text = vanished_from(rt.alloc(), SEVERAL, listed);
-        assert!(rt; text.is_some_and(|text| text.as_str() == wanted));
+        assert_found(&rt, text.as_deref(), Some(wanted));
     }
 }
 

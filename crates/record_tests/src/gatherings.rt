@@ -1,5 +1,6 @@
 //! Records whose state is joined after all operations came.
 
+use assertions::assert_found;
 use deeds::{Deed, op_of};
 use lattice_core::Join;
 use replica_core::{Gathering, Replica, Taken};
@@ -97,8 +98,8 @@ fn is_stated(alloc: Global, places: &[usize], before: usize) -> Option<bool> {
 /// Of the operations at these places those from each one on may be gathered.
 fn assert_gathered(rt: &impl Abort, alloc: Global, places: &[usize]) {
     for before in 0..=places.len() {
-        assert_eq!(rt; is_gathered(alloc, places, before), Some(true));
-        assert_eq!(rt; is_stated(alloc, places, before), Some(true));
+        assert_found(rt, is_gathered(alloc, places, before), Some(true));
+        assert_found(rt, is_stated(alloc, places, before), Some(true));
     }
 }
 
@@ -121,7 +122,11 @@ fn answers(alloc: Global) -> Option<([Taken; 3], usize)> {
 #[test]
 fn a_gathering_says_what_it_had(rt: HostRuntime) {
     let (taken, len) = answers(rt.alloc()).expect(&rt, MEMORY);
-    assert_eq!(rt; (taken, len), ([Taken::Known, Taken::New, Taken::Known], 2));
+    assert_found(
+        &rt,
+        (taken, len),
+        ([Taken::Known, Taken::New, Taken::Known], 2),
+    );
 }
 
 /// Whether a new gathering is empty, and then has the operations at these places as a replica has them.
@@ -138,6 +143,6 @@ fn is_listed(alloc: Global, places: &[usize]) -> Option<bool> {
 #[test]
 fn a_gathering_lists_what_came(rt: HostRuntime) {
     for places in ORDERS {
-        assert_eq!(rt; is_listed(rt.alloc(), places), Some(true));
+        assert_found(&rt, is_listed(rt.alloc(), places), Some(true));
     }
 }

@@ -1,12 +1,12 @@
 //! What a record says, worked out by hand.
 
+use assertions::assert_found;
 use deeds::{Deed, draft_of, op_of};
 use event_filter::{is_recorded, what_is_recorded_changes_no_view, what_is_taken_in_is_recorded};
 use review_ops::Body;
 use state_core::State;
 use std::alloc::Global;
 use std::process::Abort;
-use std::test::Fail;
 
 /// Takes the operation of a deed, where memory suffices for it.
 fn take(alloc: Global, state: &mut State, time: u64, deed: Deed) -> Option<()> {
@@ -36,7 +36,8 @@ type Case = (&'static [Deed], Deed, bool);
 /// The record of a case says its deed just where it is to say it.
 fn assert_case(rt: &impl Abort, alloc: Global, number: u64, case: Case) {
     let (record, deed, wanted) = case;
-    assert_eq!(rt; says(alloc, record, deed), Some(wanted), "case {number}");
+    let said = says(alloc, record, deed);
+    assert_found(rt, (number, said), (number, Some(wanted)));
 }
 
 /// Records say those of the deeds that they are to say, and no others.

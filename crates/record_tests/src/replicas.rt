@@ -1,13 +1,13 @@
 //! Records worked out by hand.
 
 use super::plain_replica::Plain;
+use assertions::assert_found;
 use deeds::{Deed, op_of};
 use lattice_core::NoMemory;
-use replica_core::{Front, Missing, Replica, Row, Taken};
+use replica_core::{Front, Replica, Row, Taken};
 use review_ops::{Body, Draft, Op, Stamp};
 use std::alloc::Global;
 use std::process::Abort;
-use std::test::Fail;
 
 /// What a test lacks where memory is refused that it counts on.
 const MEMORY: &str = "memory";
@@ -49,7 +49,7 @@ fn take_step(alloc: Global, replica: &mut Replica, step: Step) -> Option<Taken> 
 
 /// Takes the operation of a step, of which the replica says whether it had it.
 fn assert_takes(rt: &impl Abort, alloc: Global, replica: &mut Replica, step: Step, wanted: Taken) {
-    assert_eq!(rt; take_step(alloc, replica, step), Some(wanted));
+    assert_found(rt, take_step(alloc, replica, step), Some(wanted));
 }
 
 /// Takes operations, all of which the replica lacked.
@@ -85,7 +85,7 @@ fn compared(first: Replica, second: Replica) -> (usize, usize, bool) {
 /// state.
 fn assert_state(rt: &impl Abort, alloc: Global, steps: &[Step]) {
     let compared = compared(forth(rt, alloc, steps), back(rt, alloc, steps));
-    assert_eq!(rt; compared, (steps.len(), steps.len(), true));
+    assert_found(rt, compared, (steps.len(), steps.len(), true));
 }
 
 /// Operations whose order counts for nothing.
@@ -124,9 +124,10 @@ fn next_of(replica: &Replica, row: Row) -> Option<(u64, u16, u32, u64)> {
 
 /// The next stamp of a row has this time and sequence number.
 fn assert_next(rt: &impl Abort, replica: &Replica, row: Row, time: u64, seq: u64) {
-    assert_eq!(rt;
+    assert_found(
+        rt,
         next_of(replica, row),
-        Some((time, row.site, row.start, seq))
+        Some((time, row.site, row.start, seq)),
     );
 }
 
@@ -165,73 +166,59 @@ fn take_greatest(replica: &mut Replica) -> Option<Taken> {
 #[test]
 fn no_stamp_is_above_the_greatest_sequence_number(rt: HostRuntime) {
     let mut replica = forth(&rt, rt.alloc(), &[Step::Vote(7, 1)]);
-    assert_eq!(rt; take_greatest(&mut replica), Some(Taken::New));
-    assert_eq!(rt; next_of(&replica, FIRST_ROW), None);
+    assert_found(&rt, take_greatest(&mut replica), Some(Taken::New));
+    assert_found(&rt, next_of(&replica, FIRST_ROW), None);
     assert_next(&rt, &replica, SECOND_ROW, 10, 1);
 }
 
 /// How far a front goes in the first two rows of site 1, of which the first was raised to 1 and then to 0.
-fn raised(alloc: Global) -> Result<(u64, u64), NoMemory> {
+fn raised(alloc: Global) -> Option<(u64, u64)> {
     let mut front = Front::new(alloc);
-    front.raise(FIRST_ROW, 1)?;
-    front.raise(FIRST_ROW, 0)?;
-    Ok((front.reach(FIRST_ROW), front.reach(SECOND_ROW)))
+    front.raise(FIRST_ROW, 1).ok()?;
+    front.raise(FIRST_ROW, 0).ok()?;
+    Some((front.reach(FIRST_ROW), front.reach(SECOND_ROW)))
 }
 
 #[test]
-fn what_a_front_is_raised_to_is_reached(rt: HostRuntime) -> Result<(), Fail> {
-    let reached = raised(rt.alloc())?;
-    assert_eq!(rt; reached, (1, 0));
-    Ok(())
+fn what_a_front_is_raised_to_is_reached(rt: HostRuntime) {
+    assert_found(&rt, raised(rt.alloc()), Some((1, 0)));
 }
 
-/// Sequence numbers of operations, in their order.
-fn assert_seqs(rt: &impl Abort, ops: &[Op], wanted: &[u64]) {
-    assert_eq!(rt; ops.len(), wanted.len());
-    for (op, seq) in ops.iter().zip(wanted) {
-        assert_eq!(rt; op.stamp().seq(), *seq);
+/// Sequence numbers of operations, in their order, and 0 for each that there isn't.
+fn seqs_of(ops: &[Op]) -> [u64; 3] {
+    let mut found = [0; 3];
+    for place in 0..ops.len().min(found.len()) {
+        found[place] = ops[place].stamp().seq();
     }
+    found
 }
 
-/// These operations are missing, by their sequence numbers, and whether others are left.
-fn assert_found(rt: &impl Abort, missing: Missing, wanted: &[u64], more: bool) {
-    assert_eq!(rt; missing.more, more);
-    assert_seqs(rt, missing.ops.as_slice(), wanted);
-}
-
-/// Up to the limit these operations are missing, by their sequence numbers, and whether others are left.
-fn assert_missing(
-    rt: &impl Abort,
-    replica: &Replica,
-    front: &Front,
-    limit: usize,
-    wanted: &[u64],
-    more: bool,
-) -> Result<(), Fail> {
-    let missing = replica.missing(front, limit)?;
-    assert_found(rt, missing, wanted, more);
-    Ok(())
-}
-
-/// Past a front the operations 2 and 3 are missing.
-fn assert_two_missing(rt: &impl Abort, replica: &Replica, front: &Front) -> Result<(), Fail> {
-    assert_missing(rt, replica, front, 1, &[2], true)?;
-    assert_missing(rt, replica, front, 2, &[2, 3], false)
+/// How many operations are missing up to the limit, the first sequence numbers of them, and whether others are left.
+fn missing(replica: &Replica, front: &Front, limit: usize) -> Option<(usize, [u64; 3], bool)> {
+    let missing = replica.missing(front, limit).ok()?;
+    Some((
+        missing.ops.len(),
+        seqs_of(missing.ops.as_slice()),
+        missing.more,
+    ))
 }
 
 /// The front that goes as far as 1 in the first row of site 1.
-fn first_front(alloc: Global) -> Result<Front, NoMemory> {
+fn first_front(alloc: Global) -> Option<Front> {
     let mut front = Front::new(alloc);
-    front.raise(FIRST_ROW, 1)?;
-    Ok(front)
+    front.raise(FIRST_ROW, 1).ok()?;
+    Some(front)
 }
 
 #[test]
-fn what_a_front_lacks_comes_in_order(rt: HostRuntime) -> Result<(), Fail> {
-    let front = first_front(rt.alloc())?;
+fn what_a_front_lacks_comes_in_order(rt: HostRuntime) {
+    let front = first_front(rt.alloc()).expect(&rt, MEMORY);
     let steps = [Step::Vote(3, 1), Step::Vote(1, 1), Step::Vote(2, 1)];
     let replica = forth(&rt, rt.alloc(), &steps);
-    assert_two_missing(&rt, &replica, &front)
+    let one = missing(&replica, &front, 1);
+    let two = missing(&replica, &front, 2);
+    assert_found(&rt, one, Some((1, [2, 0, 0], true)));
+    assert_found(&rt, two, Some((2, [2, 3, 0], false)));
 }
 
 /// A place in a record: a site, a start and a sequence number.
@@ -258,38 +245,30 @@ fn take_places(replica: &mut Replica, places: &[Place]) -> Option<()> {
 }
 
 /// The places that a front reaches, row by row.
-fn places_of(alloc: Global, front: &Front) -> Result<Vec<Place>, NoMemory> {
+fn places_of(alloc: Global, front: &Front) -> Option<Vec<Place>> {
     let mut places = Vec::new(alloc);
     for (row, reach) in front.rows().iter() {
-        places.push((row.site, row.start, reach.seq()))?;
+        places.push((row.site, row.start, reach.seq())).ok()?;
     }
-    Ok(places)
+    Some(places)
 }
 
 /// The places that the front of a replica reaches, row by row.
-fn front_places(alloc: Global, replica: &Replica) -> Result<Vec<Place>, NoMemory> {
-    let front = replica.front()?;
+fn front_places(alloc: Global, replica: &Replica) -> Option<Vec<Place>> {
+    let front = replica.front().ok()?;
     places_of(alloc, &front)
 }
 
-/// The front reaches some places, row by row, once merges with others are taken.
-fn assert_front(
-    rt: &impl Abort,
-    alloc: Global,
-    replica: &mut Replica,
-    places: &[Place],
-    wanted: &[Place],
-) -> Result<(), Fail> {
-    take_places(replica, places).ok_or(MEMORY)?;
-    let reached = front_places(alloc, replica)?;
-    assert_eq!(rt; reached.as_slice(), wanted);
-    Ok(())
+/// The places that the front reaches, row by row, once merges with others are taken.
+fn front_after(alloc: Global, replica: &mut Replica, places: &[Place]) -> Option<Vec<Place>> {
+    take_places(replica, places)?;
+    front_places(alloc, replica)
 }
 
-/// The replica's own front lacks nothing.
-fn assert_nothing_lacked(rt: &impl Abort, replica: &Replica) -> Result<(), Fail> {
-    let front = replica.front()?;
-    assert_missing(rt, replica, &front, 9, &[], false)
+/// What the replica's own front lacks.
+fn lacked(replica: &Replica) -> Option<(usize, [u64; 3], bool)> {
+    let front = replica.front().ok()?;
+    missing(replica, &front, 9)
 }
 
 /// The places of operations that come one after the other, and the front after each.
@@ -304,29 +283,29 @@ const FRONTS: [(&[Place], &[Place]); 4] = [
 ];
 
 /// The front reaches what it is to reach after each of some merges.
-fn assert_fronts(rt: &impl Abort, alloc: Global, replica: &mut Replica) -> Result<(), Fail> {
+fn assert_fronts(rt: &impl Abort, alloc: Global, replica: &mut Replica) {
     for (places, wanted) in FRONTS {
-        assert_front(rt, alloc, replica, places, wanted)?;
+        let reached = front_after(alloc, replica, places);
+        assert_found(rt, reached.as_deref(), Some(wanted));
     }
-    Ok(())
 }
 
 #[test]
-fn a_front_goes_as_far_as_there_is_no_gap(rt: HostRuntime) -> Result<(), Fail> {
+fn a_front_goes_as_far_as_there_is_no_gap(rt: HostRuntime) {
     let mut replica = Replica::new(rt.alloc());
-    assert_fronts(&rt, rt.alloc(), &mut replica)?;
-    assert_nothing_lacked(&rt, &replica)
+    assert_fronts(&rt, rt.alloc(), &mut replica);
+    assert_found(&rt, lacked(&replica), Some((0, [0, 0, 0], false)));
 }
 
 /// A patch set that a replica has before it is copied.
 const FIRST: [Step; 1] = [Step::PatchSet(1, "m", None)];
 
 /// A copy of the replica that took votes with the times 3 and 2 after it.
-fn with_two_votes(rt: &impl Abort, alloc: Global, replica: &Replica) -> Result<Replica, Fail> {
-    let mut copied = replica.copy()?;
+fn with_two_votes(rt: &impl Abort, alloc: Global, replica: &Replica) -> Replica {
+    let mut copied = replica.copy().ok().expect(rt, MEMORY);
     let votes = [Step::Vote(3, 1), Step::Vote(2, 1)];
     assert_takes_all(rt, alloc, &mut copied, &votes);
-    Ok(copied)
+    copied
 }
 
 /// How many operations a copy has, whether it has the state of another replica, and whether it has the same arrivals.
@@ -336,15 +315,15 @@ fn likeness(copied: Replica, replica: &Replica) -> (usize, bool, bool) {
 }
 
 /// The likeness of a copy of a replica and that.
-fn likeness_of_copy(replica: Replica) -> Result<(usize, bool, bool), NoMemory> {
-    Ok(likeness(replica.copy()?, &replica))
+fn likeness_of_copy(replica: Replica) -> Option<(usize, bool, bool)> {
+    let copied = replica.copy().ok()?;
+    Some(likeness(copied, &replica))
 }
 
 #[test]
-fn a_copy_is_equal(rt: HostRuntime) -> Result<(), Fail> {
-    let likeness = likeness_of_copy(forth(&rt, rt.alloc(), &FIRST))?;
-    assert_eq!(rt; likeness, (1, true, true));
-    Ok(())
+fn a_copy_is_equal(rt: HostRuntime) {
+    let likeness = likeness_of_copy(forth(&rt, rt.alloc(), &FIRST));
+    assert_found(&rt, likeness, Some((1, true, true)));
 }
 
 /// Whether two replicas have one state, and whether the first and the second have an operation with a stamp.
@@ -353,22 +332,28 @@ fn having(first: Replica, second: Replica, stamp: Stamp) -> (bool, bool, bool) {
     (same, first.has_stamp(stamp), second.has_stamp(stamp))
 }
 
+/// Whether a replica of a patch set and a copy that took two votes after it have one state, and whether each has the
+/// later vote.
+fn gained(rt: &impl Abort, alloc: Global) -> Option<(bool, bool, bool)> {
+    let third = Stamp::new(3, 1, 1, 3)?;
+    let first = forth(rt, alloc, &FIRST);
+    let second = with_two_votes(rt, alloc, &first);
+    Some(having(first, second, third))
+}
+
 #[test]
-fn what_a_copy_gains_is_its_own(rt: HostRuntime) -> Result<(), Fail> {
-    let third = Stamp::new(3, 1, 1, 3).ok_or("a stamp")?;
-    let first = forth(&rt, rt.alloc(), &FIRST);
-    let second = with_two_votes(&rt, rt.alloc(), &first)?;
-    assert_eq!(rt; having(first, second, third), (false, false, true));
-    Ok(())
+fn what_a_copy_gains_is_its_own(rt: HostRuntime) {
+    let found = gained(&rt, rt.alloc());
+    assert_found(&rt, found, Some((false, false, true)));
 }
 
 /// The replica that absorbed what a copy gained, after it had taken a withdrawal.
-fn with_gains(rt: &impl Abort, alloc: Global) -> Result<Replica, Fail> {
+fn with_gains(rt: &impl Abort, alloc: Global) -> Option<Replica> {
     let mut first = forth(rt, alloc, &FIRST);
-    let second = with_two_votes(rt, alloc, &first)?;
+    let second = with_two_votes(rt, alloc, &first);
     assert_takes(rt, alloc, &mut first, Step::Withdraw(4), Taken::New);
-    first.absorb(second)?;
-    Ok(first)
+    first.absorb(second).ok()?;
+    Some(first)
 }
 
 /// The sequence number of the operation that came second, where there is one.
@@ -380,12 +365,17 @@ fn second_seq(replica: &Replica) -> Option<u64> {
     }
 }
 
+/// How many operations came to a replica, the sequence number of the one that came second, and whether these are all.
+fn gains(replica: Replica) -> (usize, Option<u64>, bool) {
+    let seqs = replica.iter().map(|op| op.stamp().seq());
+    let are_all = seqs.eq([1, 4, 2, 3]);
+    (replica.arrivals(), second_seq(&replica), are_all)
+}
+
 #[test]
-fn what_a_copy_gains_is_absorbed(rt: HostRuntime) -> Result<(), Fail> {
-    let first = with_gains(&rt, rt.alloc())?;
-    assert_eq!(rt; (first.arrivals(), second_seq(&first)), (4, Some(4)));
-    assert!(rt; first.iter().map(|op| op.stamp().seq()).eq([1, 4, 2, 3]));
-    Ok(())
+fn what_a_copy_gains_is_absorbed(rt: HostRuntime) {
+    let first = with_gains(&rt, rt.alloc()).expect(&rt, MEMORY);
+    assert_found(&rt, gains(first), (4, Some(4), true));
 }
 
 /// Takes a merge of the change with this number, stamped with it.
@@ -420,28 +410,28 @@ fn likeness_to_merges(alloc: Global, copied: Replica) -> (usize, bool, bool) {
 }
 
 /// The replica of the first three merges, which hasn't the state of all, once it absorbed that of all five.
-fn with_all_merges(rt: &impl Abort, alloc: Global) -> Result<Replica, Fail> {
+fn with_all_merges(rt: &impl Abort, alloc: Global) -> Option<Replica> {
     let mut part = merges(alloc, 3);
-    assert_eq!(rt; merged(alloc, &part), (3, false));
-    part.absorb(merges(alloc, 5))?;
-    Ok(part)
+    assert_found(rt, merged(alloc, &part), (3, false));
+    part.absorb(merges(alloc, 5)).ok()?;
+    Some(part)
 }
 
 /// What a replica and a copy of it have of all five merges.
 fn merged_and_copied(
     alloc: Global,
     replica: Replica,
-) -> Result<((usize, bool), (usize, bool, bool)), NoMemory> {
-    let copied = likeness_to_merges(alloc, replica.copy()?);
-    Ok((merged(alloc, &replica), copied))
+) -> Option<((usize, bool), (usize, bool, bool))> {
+    let copied = replica.copy().ok()?;
+    let of_copy = likeness_to_merges(alloc, copied);
+    Some((merged(alloc, &replica), of_copy))
 }
 
 #[test]
-fn what_has_all_is_absorbed_into_a_part_of_it(rt: HostRuntime) -> Result<(), Fail> {
-    let whole = with_all_merges(&rt, rt.alloc())?;
-    let found = merged_and_copied(rt.alloc(), whole)?;
-    assert_eq!(rt; found, ((5, true), (5, true, true)));
-    Ok(())
+fn what_has_all_is_absorbed_into_a_part_of_it(rt: HostRuntime) {
+    let whole = with_all_merges(&rt, rt.alloc()).expect(&rt, MEMORY);
+    let found = merged_and_copied(rt.alloc(), whole);
+    assert_found(&rt, found, Some(((5, true), (5, true, true))));
 }
 
 /// Numbers that look thrown, the same in each run: Marsaglia's xorshift.
@@ -540,31 +530,32 @@ impl Both {
         Ok((of_lines, self.list_takes(op)?))
     }
 
-    /// Both take an operation that is thrown, and answer alike.
-    fn assert_throw(&mut self, rt: &impl Abort) -> Result<(), Fail> {
+    /// Whether both answer alike to an operation that is thrown, where one is.
+    fn throw(&mut self) -> Option<bool> {
         let Some(op) = thrown(&mut self.dice) else {
-            return Ok(());
+            return Some(true);
         };
-        let (of_lines, of_list) = self.take(op)?;
-        assert_eq!(rt; of_lines, of_list);
-        Ok(())
+        let (of_lines, of_list) = self.take(op).ok()?;
+        Some(of_lines == of_list)
+    }
+
+    /// Both take an operation that is thrown, and answer alike.
+    fn assert_throw(&mut self, rt: &impl Abort) {
+        assert_found(rt, self.throw(), Some(true));
     }
 
     /// Both absorb another record.
-    fn absorb(&mut self, alloc: Global, other: Replica) -> Result<(), Fail> {
-        self.plain.absorb(alloc, other.iter())?;
-        self.replica.absorb(other)?;
-        Ok(())
+    fn absorb(&mut self, alloc: Global, other: Replica) -> Option<()> {
+        self.plain.absorb(alloc, other.iter()).ok()?;
+        self.replica.absorb(other).ok()
     }
 
     /// Both answer alike how far each row reaches and what its next stamp is.
     fn assert_rows(&self, rt: &impl Abort, front: &Front) {
         for place in 0..12u16 {
             let row = row_at(place);
-            assert_eq!(rt;
-                row_of_lines(&self.replica, front, row),
-                (self.plain.reach(row), self.plain.next(row))
-            );
+            let of_list = (self.plain.reach(row), self.plain.next(row));
+            assert_found(rt, row_of_lines(&self.replica, front, row), of_list);
         }
     }
 
@@ -592,81 +583,79 @@ impl Both {
     }
 
     /// Both answer alike what a front lacks.
-    fn assert_lacked(&self, rt: &impl Abort, front: &Front, lacked: &[Op]) -> Result<(), Fail> {
+    fn assert_lacked(&self, rt: &impl Abort, front: &Front, lacked: &[Op]) {
         for limit in [0, 1, 256, lacked.len(), usize::MAX] {
-            let missing = self.missing(front, lacked, limit)?;
-            assert_eq!(rt; missing, (true, limit < lacked.len()));
+            let missing = self.missing(front, lacked, limit).ok();
+            assert_found(rt, missing, Some((true, limit < lacked.len())));
         }
-        Ok(())
     }
 
     /// Both answer alike past a front.
-    fn assert_past(&self, rt: &impl Abort, alloc: Global, front: &Front) -> Result<(), Fail> {
-        let lacked = self.plain.missing(alloc, front)?;
-        self.assert_lacked(rt, front, lacked.as_slice())
+    fn assert_past(&self, rt: &impl Abort, alloc: Global, front: &Front) {
+        let lacked = self.plain.missing(alloc, front).ok().expect(rt, MEMORY);
+        self.assert_lacked(rt, front, lacked.as_slice());
     }
 
     /// Both answer alike row by row. What comes back is a front that reaches into some rows.
-    fn assert_front(&mut self, rt: &impl Abort, alloc: Global) -> Result<Front, Fail> {
-        let front = self.replica.front()?;
+    fn assert_front(&mut self, rt: &impl Abort, alloc: Global) -> Front {
+        let front = self.replica.front().ok().expect(rt, MEMORY);
         self.assert_rows(rt, &front);
-        Ok(self.throw_front(alloc, &front)?)
+        self.throw_front(alloc, &front).ok().expect(rt, MEMORY)
     }
 
     /// Both answer alike, of the whole journal and past a front that reaches into some rows.
-    fn assert_alike(&mut self, rt: &impl Abort, alloc: Global) -> Result<(), Fail> {
-        assert!(rt; self.replica.iter().eq(self.plain.ops.iter()));
-        let front = self.assert_front(rt, alloc)?;
-        self.assert_past(rt, alloc, &front)
+    fn assert_alike(&mut self, rt: &impl Abort, alloc: Global) {
+        assert_found(rt, self.replica.iter().eq(self.plain.ops.iter()), true);
+        let front = self.assert_front(rt, alloc);
+        self.assert_past(rt, alloc, &front);
     }
 
     /// Both take operations that are thrown, and answer alike after every 64 of them.
-    fn assert_throws(&mut self, rt: &impl Abort, alloc: Global) -> Result<(), Fail> {
+    fn assert_throws(&mut self, rt: &impl Abort, alloc: Global) {
         for count in 0..4096u32 {
-            self.assert_throw(rt)?;
+            self.assert_throw(rt);
             if count % 64 == 0 {
-                self.assert_alike(rt, alloc)?;
+                self.assert_alike(rt, alloc);
             }
         }
-        Ok(())
     }
 
     /// A copy of the record, which takes its place, answers as the list does too.
-    fn assert_copy_alike(&mut self, rt: &impl Abort, alloc: Global) -> Result<(), Fail> {
-        self.replica = self.replica.copy()?;
-        self.assert_alike(rt, alloc)
+    fn assert_copy_alike(&mut self, rt: &impl Abort, alloc: Global) {
+        self.replica = self.replica.copy().ok().expect(rt, MEMORY);
+        self.assert_alike(rt, alloc);
     }
 }
 
 #[test]
-fn lines_answer_as_a_list_does(rt: HostRuntime) -> Result<(), Fail> {
+fn lines_answer_as_a_list_does(rt: HostRuntime) {
     let mut both = Both::new(rt.alloc(), 88172645463325252);
-    both.assert_throws(&rt, rt.alloc())?;
-    both.assert_copy_alike(&rt, rt.alloc())
+    both.assert_throws(&rt, rt.alloc());
+    both.assert_copy_alike(&rt, rt.alloc());
 }
 
 /// Takes an operation that is thrown.
-fn throw_into(replica: &mut Replica, dice: &mut Dice) -> Result<(), NoMemory> {
+fn throw_into(replica: &mut Replica, dice: &mut Dice) -> Option<()> {
     if let Some(op) = thrown(dice) {
-        replica.take(op)?;
+        let _taken = replica.take(op).ok()?;
     }
-    Ok(())
+    Some(())
 }
 
 /// Both and another record take operations that are thrown. What comes back is the other record.
-fn throw_all(rt: &impl Abort, alloc: Global, both: &mut Both) -> Result<Replica, Fail> {
+fn throw_all(rt: &impl Abort, alloc: Global, both: &mut Both) -> Replica {
     let mut other = Replica::new(alloc);
     for _ in 0..256u32 {
-        both.assert_throw(rt)?;
-        throw_into(&mut other, &mut both.dice)?;
+        both.assert_throw(rt);
+        assert_found(rt, throw_into(&mut other, &mut both.dice), Some(()));
     }
-    Ok(other)
+    other
 }
 
 #[test]
-fn what_is_absorbed_comes_in_order(rt: HostRuntime) -> Result<(), Fail> {
+fn what_is_absorbed_comes_in_order(rt: HostRuntime) {
     let mut both = Both::new(rt.alloc(), 362436069362436069);
-    let other = throw_all(&rt, rt.alloc(), &mut both)?;
-    both.absorb(rt.alloc(), other)?;
-    both.assert_alike(&rt, rt.alloc())
+    let other = throw_all(&rt, rt.alloc(), &mut both);
+    assert_found(&rt, both.absorb(rt.alloc(), other), Some(()));
+    both.assert_alike(&rt, rt.alloc());
 }

@@ -1,13 +1,10 @@
 //! Records whose copies share what they had when they were made.
 
+use assertions::assert_found;
 use deeds::{Deed, op_of};
 use replica_core::{Front, Replica, Taken};
 use review_ops::Op;
 use std::alloc::Global;
-use std::test::Fail;
-
-/// What a test lacks where memory is refused that it counts on.
-const MEMORY: &str = "memory";
 
 /// What is stamped with a time, from 1 on, on a change: the first three are there when copies are made.
 const DEEDS: [(u32, Deed); 6] = [
@@ -104,12 +101,14 @@ fn keep_apart(alloc: Global, replica: Replica) -> [bool; 3] {
     ]
 }
 
+/// The same of a replica of the first operations.
+fn kept_apart(alloc: Global) -> Option<[bool; 3]> {
+    Some(keep_apart(alloc, shared(alloc)?))
+}
+
 #[test]
-fn what_copies_gain_is_their_own(rt: HostRuntime) -> Result<(), Fail> {
-    let alloc = rt.alloc();
-    let apart = shared(alloc).map(|replica| keep_apart(alloc, replica));
-    assert_eq!(rt; apart.ok_or(MEMORY)?, [true, true, true]);
-    Ok(())
+fn what_copies_gain_is_their_own(rt: HostRuntime) {
+    assert_found(&rt, kept_apart(rt.alloc()), Some([true, true, true]));
 }
 
 /// A copy of what is shared, which outlives the replica, and took the operation at a place after it.
@@ -125,12 +124,14 @@ fn goes_on(alloc: Global, mut copied: Replica) -> [bool; 3] {
     [known, new, is_plain(alloc, &copied, &[0, 1, 2, 3, 5])]
 }
 
+/// The same of a copy that outlives the replica.
+fn gone_on(alloc: Global) -> Option<[bool; 3]> {
+    Some(goes_on(alloc, outliving(alloc, 3)?))
+}
+
 #[test]
-fn a_copy_outlives_the_replica(rt: HostRuntime) -> Result<(), Fail> {
-    let alloc = rt.alloc();
-    let gone_on = outliving(alloc, 3).map(|copied| goes_on(alloc, copied));
-    assert_eq!(rt; gone_on.ok_or(MEMORY)?, [true, true, true]);
-    Ok(())
+fn a_copy_outlives_the_replica(rt: HostRuntime) {
+    assert_found(&rt, gone_on(rt.alloc()), Some([true, true, true]));
 }
 
 /// The time of the operation that came at each place, and how many came since then.
@@ -150,12 +151,17 @@ fn counts(replica: &Replica) -> (usize, usize) {
     (replica.since(SHARED).count(), replica.since(9).count())
 }
 
+/// What came at each place to a copy that outlives the replica, and how much since.
+fn places_outliving(alloc: Global) -> Option<([(u64, usize); 5], (usize, usize))> {
+    let copied = outliving(alloc, 4)?;
+    Some((places(&copied), counts(&copied)))
+}
+
 #[test]
-fn places_go_on_past_what_is_shared(rt: HostRuntime) -> Result<(), Fail> {
-    let found = outliving(rt.alloc(), 4).map(|copied| (places(&copied), counts(&copied)));
-    let wanted = [(1, 4), (2, 3), (3, 2), (5, 1), (0, 0)];
-    assert_eq!(rt; found.ok_or(MEMORY)?, (wanted, (1, 0)));
-    Ok(())
+fn places_go_on_past_what_is_shared(rt: HostRuntime) {
+    let places = [(1, 4), (2, 3), (3, 2), (5, 1), (0, 0)];
+    let found = places_outliving(rt.alloc());
+    assert_found(&rt, found, Some((places, (1, 0))));
 }
 
 /// A replica that shares once more what it has and gained.
@@ -185,8 +191,8 @@ fn to_share_changes_nothing(rt: HostRuntime) {
     let alloc = rt.alloc();
     let from_nothing = copied_with(alloc, shared_again(Replica::new(alloc)), 5);
     let twice = copied_with(alloc, shared_twice(alloc), 5);
-    assert!(rt; are_plain(alloc, from_nothing, &[5]));
-    assert!(rt; are_plain(alloc, twice, &[0, 1, 2, 3, 5]));
+    assert_found(&rt, are_plain(alloc, from_nothing, &[5]), true);
+    assert_found(&rt, are_plain(alloc, twice, &[0, 1, 2, 3, 5]), true);
 }
 
 /// What a replica is that absorbed another one.
@@ -206,9 +212,13 @@ fn with_all(mut replica: Replica, other: Replica) -> Option<Replica> {
     }
 }
 
+/// The replica that absorbed a copy of what is shared.
+fn absorbed_copy(alloc: Global) -> Option<Replica> {
+    absorbed(alloc, outliving(alloc, 3)?)
+}
+
 #[test]
 fn what_is_shared_is_absorbed(rt: HostRuntime) {
-    let alloc = rt.alloc();
-    let both = outliving(alloc, 3).and_then(|other| absorbed(alloc, other));
-    assert!(rt; are_plain(alloc, both, &[5, 0, 1, 2, 3]));
+    let both = absorbed_copy(rt.alloc());
+    assert_found(&rt, are_plain(rt.alloc(), both, &[5, 0, 1, 2, 3]), true);
 }

@@ -1,11 +1,13 @@
 //! States worked out by hand.
 
+use assertions::assert_found;
 use deeds::{Deed, op_of};
 use lattice_core::Join;
 use state_core::{Item, State, a_journal_has_one_state, equal_journals_have_equal_states};
 use std::alloc::Global;
-use std::process::Abort;
-use std::test::Fail;
+
+/// What a test lacks where memory is refused that it counts on.
+const MEMORY: &str = "memory";
 
 /// What is done to a change.
 type Step = (u32, Deed);
@@ -53,38 +55,36 @@ fn standings(state: State) -> ([(bool, bool); 3], usize, bool) {
 }
 
 #[test]
-fn known_and_merged_changes(rt: HostRuntime) -> Result<(), Fail> {
-    let state = state_of(rt.alloc(), &STEPS).ok_or("memory")?;
+fn known_and_merged_changes(rt: HostRuntime) {
+    let state = state_of(rt.alloc(), &STEPS).expect(&rt, MEMORY);
     let changes = [(false, true), (true, false), (false, false)];
-    assert_eq!(rt; standings(state), (changes, 2, true));
-    Ok(())
+    assert_found(&rt, standings(state), (changes, 2, true));
 }
 
-/// The state of the first step covers less than the state of all.
-fn assert_covered(rt: &impl Abort, part: &State, whole: &State) {
-    assert!(rt; whole.covers(part) && !part.covers(whole));
+/// Whether the state of the first step covers less than the state of all.
+fn is_covered(part: &State, whole: &State) -> bool {
+    whole.covers(part) && !part.covers(whole)
 }
 
-/// The join of a state and a copy of another one is the same as that.
-fn assert_joined(rt: &impl Abort, mut joined: State, whole: &State) -> Result<(), Fail> {
-    joined.join(whole.copy()?)?;
-    assert!(rt; joined.same(whole));
-    Ok(())
+/// Whether the join of a state and a copy of another one is the same as that.
+fn is_joined(mut joined: State, whole: &State) -> Option<bool> {
+    joined.join(whole.copy().ok()?).ok()?;
+    Some(joined.same(whole))
 }
 
 #[test]
-fn states_join_change_by_change(rt: HostRuntime) -> Result<(), Fail> {
-    let whole = state_of(rt.alloc(), &STEPS).ok_or("memory")?;
-    let first = state_of(rt.alloc(), &STEPS[..1]).ok_or("memory")?;
-    assert_covered(&rt, &first, &whole);
-    assert_joined(&rt, first, &whole)
+fn states_join_change_by_change(rt: HostRuntime) {
+    let whole = state_of(rt.alloc(), &STEPS).expect(&rt, MEMORY);
+    let first = state_of(rt.alloc(), &STEPS[..1]).expect(&rt, MEMORY);
+    assert_found(&rt, is_covered(&first, &whole), true);
+    assert_found(&rt, is_joined(first, &whole), Some(true));
 }
 
 #[test]
 fn items_compare_by_their_numbers(rt: HostRuntime) {
     let item = Item { change: 5, set: 1 };
-    assert_eq!(rt; item, Item { change: 5, set: 1 });
-    assert_ne!(rt; item, Item { change: 5, set: 2 });
+    assert_found(&rt, item, Item { change: 5, set: 1 });
+    assert_found(&rt, item == Item { change: 5, set: 2 }, false);
     a_journal_has_one_state();
     equal_journals_have_equal_states();
 }

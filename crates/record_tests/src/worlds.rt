@@ -1,12 +1,11 @@
 //! Scripts worked out by hand.
 
+use assertions::assert_found;
 use deeds::{Deed, draft_of};
-use lattice_core::NoMemory;
 use replica_core::{Front, Row};
 use review_ops::{BodyFault, Draft, Stamp};
 use std::alloc::Global;
 use std::process::Abort;
-use std::test::Fail;
 use world_core::{Event, Reply, World, WorldFault};
 
 /// What a test lacks where memory is refused that it counts on.
@@ -95,24 +94,23 @@ fn event_of(alloc: Global, world: &World, step: Step) -> Option<Event> {
     }
 }
 
-/// What the world answers to a step.
-fn answer_to(alloc: Global, world: &mut World, step: Step) -> Result<Answer, Fail> {
-    let event = event_of(alloc, world, step).ok_or(MEMORY)?;
-    Ok(world.step(event))
+/// What the world answers to a step, where memory suffices for it.
+fn answer_to(alloc: Global, world: &mut World, step: Step) -> Option<Answer> {
+    let event = event_of(alloc, world, step)?;
+    Some(world.step(event))
 }
 
 /// The steps have these answers, one after the other.
-fn assert_answers(
-    rt: &impl Abort,
-    alloc: Global,
-    world: &mut World,
-    steps: &[(Step, Answer)],
-) -> Result<(), Fail> {
+fn assert_answers(rt: &impl Abort, alloc: Global, world: &mut World, steps: &[(Step, Answer)]) {
     for (number, (step, wanted)) in (1u64..).zip(steps) {
-        let answer = answer_to(alloc, world, *step)?;
-        assert_eq!(rt; answer, *wanted, "step {number}");
+        let answer = answer_to(alloc, world, *step);
+        assert_found(rt, (number, answer), (number, Some(*wanted)));
     }
-    Ok(())
+}
+
+/// A world of so many sites.
+fn world_of(rt: &impl Abort, alloc: Global, sites: u16) -> World {
+    World::new(alloc, sites).ok().expect(rt, MEMORY)
 }
 
 /// The answer of an intake.
@@ -149,15 +147,14 @@ fn assert_reach(
     world: &mut World,
     steps: &[(Step, Answer)],
     wanted: u64,
-) -> Result<(), Fail> {
-    assert_answers(rt, alloc, world, steps)?;
-    assert_eq!(rt; reach(world, 2), Some(wanted));
-    Ok(())
+) {
+    assert_answers(rt, alloc, world, steps);
+    assert_found(rt, reach(world, 2), Some(wanted));
 }
 
 #[test]
-fn fronts_ask_for_what_is_missing(rt: HostRuntime) -> Result<(), Fail> {
-    let mut world = World::new(rt.alloc(), 2)?;
+fn fronts_ask_for_what_is_missing(rt: HostRuntime) {
+    let mut world = world_of(&rt, rt.alloc(), 2);
     let apart = [
         (Step::Merged(1, 5), took(1, 1, 1, 1)),
         (Step::SendAll(1), packet(1, 1, false)),
@@ -169,8 +166,8 @@ fn fronts_ask_for_what_is_missing(rt: HostRuntime) -> Result<(), Fail> {
         (Step::SendTo(1, 2), packet(3, 2, false)),
         (Step::Deliver(3, 2), delivered(1)),
     ];
-    assert_reach(&rt, rt.alloc(), &mut world, &apart, 0)?;
-    assert_reach(&rt, rt.alloc(), &mut world, &together, 2)
+    assert_reach(&rt, rt.alloc(), &mut world, &apart, 0);
+    assert_reach(&rt, rt.alloc(), &mut world, &together, 2);
 }
 
 /// How many operations a packet has, where there is one of that number.
@@ -191,18 +188,18 @@ fn assert_lens(
     wanted: (Option<usize>, Option<usize>),
 ) {
     let packet = packet_len(world, u64::from(number));
-    assert_eq!(rt; (packet, site_len(world, number)), wanted);
+    assert_found(rt, (packet, site_len(world, number)), wanted);
 }
 
 #[test]
-fn sites_and_packets_are_numbered_from_one(rt: HostRuntime) -> Result<(), Fail> {
-    let mut world = World::new(rt.alloc(), 2)?;
+fn sites_and_packets_are_numbered_from_one(rt: HostRuntime) {
+    let mut world = world_of(&rt, rt.alloc(), 2);
     let steps = [
         (Step::Merged(2, 5), took(1, 2, 1, 1)),
         (Step::SendTo(2, 1), packet(1, 1, false)),
         (Step::SendTo(1, 1), packet(2, 0, false)),
     ];
-    assert_answers(&rt, rt.alloc(), &mut world, &steps)?;
+    assert_answers(&rt, rt.alloc(), &mut world, &steps);
     for (number, packets, sites) in [
         (0, None, None),
         (1, Some(1), Some(0)),
@@ -211,20 +208,19 @@ fn sites_and_packets_are_numbered_from_one(rt: HostRuntime) -> Result<(), Fail> 
     ] {
         assert_lens(&rt, &world, number, (packets, sites));
     }
-    Ok(())
 }
 
 /// Site 1 takes in that change 5 is merged, as often as that.
 fn take_merges(rt: &impl Abort, world: &mut World, count: u64) {
     for time in 1..count.saturating_add(1) {
         let answer = world.step(merged(1, 5));
-        assert_eq!(rt; answer, took(time, 1, 1, time));
+        assert_found(rt, answer, took(time, 1, 1, time));
     }
 }
 
 #[test]
-fn a_packet_has_256_operations_at_most(rt: HostRuntime) -> Result<(), Fail> {
-    let mut world = World::new(rt.alloc(), 2)?;
+fn a_packet_has_256_operations_at_most(rt: HostRuntime) {
+    let mut world = world_of(&rt, rt.alloc(), 2);
     take_merges(&rt, &mut world, 257);
     let steps = [
         (Step::SendTo(1, 2), packet(1, 256, true)),
@@ -233,46 +229,36 @@ fn a_packet_has_256_operations_at_most(rt: HostRuntime) -> Result<(), Fail> {
         (Step::Deliver(2, 2), delivered(1)),
         (Step::Deliver(1, 2), delivered(0)),
     ];
-    assert_reach(&rt, rt.alloc(), &mut world, &steps, 257)
+    assert_reach(&rt, rt.alloc(), &mut world, &steps, 257);
 }
 
 /// The events of steps.
-fn events_of(alloc: Global, world: &World, steps: &[(Step, Answer)]) -> Result<Vec<Event>, Fail> {
+fn events_of(alloc: Global, world: &World, steps: &[(Step, Answer)]) -> Option<Vec<Event>> {
     let mut events = Vec::new(alloc);
     for (step, _) in steps {
-        events.push(event_of(alloc, world, *step).ok_or(MEMORY)?)?;
+        events.push(event_of(alloc, world, *step)?).ok()?;
     }
-    Ok(events)
+    Some(events)
 }
 
 /// What the world answers to steps in one run.
-fn answers_to(
-    alloc: Global,
-    world: &mut World,
-    steps: &[(Step, Answer)],
-) -> Result<Vec<Answer>, Fail> {
+fn answers_to(alloc: Global, world: &mut World, steps: &[(Step, Answer)]) -> Option<Vec<Answer>> {
     let events = events_of(alloc, world, steps)?;
-    Ok(world.run(events)?)
+    world.run(events).ok()
 }
 
 /// The answers are those of the steps, one after the other.
 fn assert_each(rt: &impl Abort, answers: &[Answer], steps: &[(Step, Answer)]) {
+    assert_found(rt, answers.len(), steps.len());
     for (answer, (_, wanted)) in answers.iter().zip(steps) {
-        assert_eq!(rt; answer, wanted);
+        assert_found(rt, answer, wanted);
     }
 }
 
 /// The steps have these answers in one run.
-fn assert_run(
-    rt: &impl Abort,
-    alloc: Global,
-    world: &mut World,
-    steps: &[(Step, Answer)],
-) -> Result<(), Fail> {
-    let answers = answers_to(alloc, world, steps)?;
-    assert_eq!(rt; answers.len(), steps.len());
+fn assert_run(rt: &impl Abort, alloc: Global, world: &mut World, steps: &[(Step, Answer)]) {
+    let answers = answers_to(alloc, world, steps).expect(rt, MEMORY);
     assert_each(rt, answers.as_slice(), steps);
-    Ok(())
 }
 
 /// Whether a site knows a change, where there is such a site.
@@ -286,8 +272,8 @@ fn gone_back(world: World) -> (Option<u64>, Option<usize>, Option<bool>) {
 }
 
 #[test]
-fn a_restart_goes_back_to_the_save(rt: HostRuntime) -> Result<(), Fail> {
-    let mut world = World::new(rt.alloc(), 1)?;
+fn a_restart_goes_back_to_the_save(rt: HostRuntime) {
+    let mut world = world_of(&rt, rt.alloc(), 1);
     let steps = [
         (Step::Merged(1, 5), took(1, 1, 1, 1)),
         (Step::Save(1), Ok(Reply::Saved)),
@@ -302,9 +288,8 @@ fn a_restart_goes_back_to_the_save(rt: HostRuntime) -> Result<(), Fail> {
             Err(WorldFault::BadBody(BodyFault::BadChange)),
         ),
     ];
-    assert_run(&rt, rt.alloc(), &mut world, &steps)?;
-    assert_eq!(rt; gone_back(world), (Some(1), Some(2), Some(false)));
-    Ok(())
+    assert_run(&rt, rt.alloc(), &mut world, &steps);
+    assert_found(&rt, gone_back(world), (Some(1), Some(2), Some(false)));
 }
 
 /// Steps with several faults, and starts that are used.
@@ -320,11 +305,11 @@ const REFUSED: [(Step, Answer); 8] = [
 ];
 
 #[test]
-fn the_least_refusal_is_answered(rt: HostRuntime) -> Result<(), Fail> {
+fn the_least_refusal_is_answered(rt: HostRuntime) {
     let fault = WorldFault::NoPacket;
-    assert_eq!(rt; (fault.number(), fault.name()), (2, "NoPacket"));
-    let mut world = World::new(rt.alloc(), 1)?;
-    assert_answers(&rt, rt.alloc(), &mut world, &REFUSED)
+    assert_found(&rt, (fault.number(), fault.name()), (2, "NoPacket"));
+    let mut world = world_of(&rt, rt.alloc(), 1);
+    assert_answers(&rt, rt.alloc(), &mut world, &REFUSED);
 }
 
 /// Whether the sites 1 and 2 have equal states, where there are such sites.
@@ -339,15 +324,14 @@ fn assert_equal_states(
     world: &mut World,
     steps: &[(Step, Answer)],
     wanted: bool,
-) -> Result<(), Fail> {
-    assert_answers(rt, alloc, world, steps)?;
-    assert_eq!(rt; have_equal_states(world), Some(wanted));
-    Ok(())
+) {
+    assert_answers(rt, alloc, world, steps);
+    assert_found(rt, have_equal_states(world), Some(wanted));
 }
 
 #[test]
-fn sites_that_took_the_same_have_equal_states(rt: HostRuntime) -> Result<(), Fail> {
-    let mut world = World::new(rt.alloc(), 2)?;
+fn sites_that_took_the_same_have_equal_states(rt: HostRuntime) {
+    let mut world = world_of(&rt, rt.alloc(), 2);
     let votes = [
         (Step::Vote(1, 1), took(1, 1, 1, 1)),
         (Step::Vote(2, 2), took(1, 2, 1, 1)),
@@ -359,6 +343,6 @@ fn sites_that_took_the_same_have_equal_states(rt: HostRuntime) -> Result<(), Fai
         (Step::Deliver(1, 2), delivered(1)),
         (Step::Deliver(1, 1), delivered(0)),
     ];
-    assert_equal_states(&rt, rt.alloc(), &mut world, &votes, false)?;
-    assert_equal_states(&rt, rt.alloc(), &mut world, &exchanged, true)
+    assert_equal_states(&rt, rt.alloc(), &mut world, &votes, false);
+    assert_equal_states(&rt, rt.alloc(), &mut world, &exchanged, true);
 }

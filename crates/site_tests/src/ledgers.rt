@@ -3,6 +3,7 @@
 ghost use Rattle.review_ops.specs.Operation.{Operation};
 
 use super::running::patch_set;
+use assertions::assert_found;
 use replica_core::Replica;
 use review_ops::Op;
 use site_journal::KeepFault;
@@ -85,7 +86,7 @@ fn published<R: Wait>(rt: &R, alloc: Global, fault: KeepFault) -> Result<Publish
 fn what_is_not_kept_is_not_published(rt: HostRuntime) -> Result<(), Fail> {
     let over = Some(LedgerFault::NotKept);
     for fault in [KeepFault::Failed, KeepFault::Spoiled, KeepFault::TooLong] {
-        assert_eq!(rt; published(&rt, rt.alloc(), fault)?, (over, over, 0));
+        assert_found(&rt, published(&rt, rt.alloc(), fault)?, (over, over, 0));
     }
     Ok(())
 }
@@ -93,9 +94,10 @@ fn what_is_not_kept_is_not_published(rt: HostRuntime) -> Result<(), Fail> {
 #[test]
 fn what_memory_was_refused_for_is_published_later(rt: HostRuntime) -> Result<(), Fail> {
     let first = Some(LedgerFault::NoMemory);
-    assert_eq!(rt;
+    assert_found(
+        &rt,
         published(&rt, rt.alloc(), KeepFault::NoMemory)?,
-        (first, None, 1)
+        (first, None, 1),
     );
     Ok(())
 }

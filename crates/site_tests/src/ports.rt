@@ -1,5 +1,6 @@
 //! The faults of ports and sinks.
 
+use assertions::assert_found;
 use review_ops::BodyFault;
 use site_port::{PortFault, SinkFault, own_replies_are_one};
 
@@ -12,7 +13,7 @@ fn faults_have_numbers_and_names(rt: HostRuntime) {
         (PortFault::NoMemory, 3, "NoMemory"),
         (PortFault::Closed, 4, "Closed"),
     ] {
-        assert_eq!(rt; (fault.number(), fault.name()), (number, name));
+        assert_found(&rt, (fault.number(), fault.name()), (number, name));
     }
     for (fault, number, name) in [
         (SinkFault::NoMemory, 3, "NoMemory"),
@@ -20,6 +21,6 @@ fn faults_have_numbers_and_names(rt: HostRuntime) {
         (SinkFault::NotListed, 11, "NotListed"),
         (SinkFault::FarAhead, 12, "FarAhead"),
     ] {
-        assert_eq!(rt; (fault.number(), fault.name()), (number, name));
+        assert_found(&rt, (fault.number(), fault.name()), (number, name));
     }
 }

@@ -1,13 +1,15 @@
 //! Records that are pulled over texts, worked out by hand.
 
-use byte_ends::{Broken, Ends};
+use super::talks::MEMORY;
+use assertions::assert_found;
+use byte_ends::{Broken, Ends, Source};
 use console::PullFault;
 use gossip_line::LineFault;
 use op_text::read_op;
 use record_pull::pull_record;
+use replica_core::Replica;
 use std::alloc::Global;
 use std::process::Abort;
-use std::test::Fail;
 
 /// What a site says of two operations, in two answers, of which the second has the first operation again.
 const TWO: &str = "hello 2
@@ -24,28 +26,42 @@ const ASKED: &str = "hello 2\nfront []\nfront [[1,1,1]]\nquit\n";
 /// The operation that the second answer adds.
 const LAST: &[u8] = br#"{"change":6,"op":"merged","seq":2,"site":1,"start":1,"time":2}"#;
 
-#[test]
-fn a_record_is_pulled_answer_by_answer(rt: HostRuntime) -> Result<(), Fail> {
-    let alloc = rt.alloc();
-    let mut source = Ends::new(TWO.as_bytes());
+/// A record that is pulled over texts.
+type Pulled = Result<Replica, PullFault>;
+
+/// What is pulled of a source, and what it was asked.
+fn pulled_of<S: Source>(alloc: Global, source: &mut S) -> (Pulled, Vec<u8>) {
     let mut asked = Ends::new(Vec::new(alloc));
-    let pulled = pull_record(alloc, &mut source, &mut asked);
-    let last = read_op(alloc, LAST)?;
-    let found = match &pulled {
+    let pulled = pull_record(alloc, source, &mut asked);
+    (pulled, asked.into_inner())
+}
+
+/// How many operations were pulled, and whether the one that the second answer adds is one of them.
+fn counted(alloc: Global, pulled: &Pulled) -> Option<(usize, bool)> {
+    let last = read_op(alloc, LAST).ok()?;
+    match pulled {
         Ok(replica) => Some((replica.len(), replica.has(&last))),
         Err(_) => None,
-    };
-    assert_eq!(rt; found, Some((2, true)));
-    assert_eq!(rt; asked.get_ref().as_slice(), ASKED.as_bytes());
-    Ok(())
+    }
+}
+
+#[test]
+fn a_record_is_pulled_answer_by_answer(rt: HostRuntime) {
+    let (pulled, asked) = pulled_of(rt.alloc(), &mut Ends::new(TWO.as_bytes()));
+    assert_found(&rt, counted(rt.alloc(), &pulled), Some((2, true)));
+    assert_found(&rt, asked.as_slice(), ASKED.as_bytes());
+}
+
+/// Why a source isn't pulled from, if it isn't.
+fn unpulled<S: Source>(alloc: Global, source: &mut S) -> Option<PullFault> {
+    let (pulled, _) = pulled_of(alloc, source);
+    pulled.err()
 }
 
 /// A site that answers so isn't pulled from, for this reason.
 fn assert_unpulled(rt: &impl Abort, alloc: Global, answers: &str, fault: PullFault) {
-    let mut source = Ends::new(answers.as_bytes());
-    let mut asked = Ends::new(Vec::new(alloc));
-    let pulled = pull_record(alloc, &mut source, &mut asked);
-    assert_eq!(rt; pulled.err(), Some(fault), "{answers}");
+    let found = unpulled(alloc, &mut Ends::new(answers.as_bytes()));
+    assert_found(rt, found, Some(fault));
 }
 
 #[test]
@@ -64,27 +80,33 @@ fn answers_that_are_none_are_refused(rt: HostRuntime) {
     }
 }
 
+/// The answers of a site that says 65,536 times that more is left.
+fn answers_without_end(alloc: Global) -> Option<String> {
+    let mut answers = String::from_str(alloc, "hello 2\n").ok()?;
+    for _ in 0..65_536 {
+        answers.push_str("more\n").ok()?;
+    }
+    Some(answers)
+}
+
 // A site that says without end that more is left is asked 65,536 times.
 #[test]
-fn a_record_without_an_end_is_refused(rt: HostRuntime) -> Result<(), Fail> {
-    let alloc = rt.alloc();
-    let mut answers = String::from_str(alloc, "hello 2\n")?;
-    for _ in 0..65_536 {
-        answers.push_str("more\n")?;
-    }
-    assert_unpulled(&rt, alloc, answers.as_str(), PullFault::NoEnd);
-    Ok(())
+fn a_record_without_an_end_is_refused(rt: HostRuntime) {
+    let answers = answers_without_end(rt.alloc()).expect(&rt, MEMORY);
+    assert_unpulled(&rt, rt.alloc(), answers.as_str(), PullFault::NoEnd);
+}
+
+/// Why a record isn't pulled where what is asked fails before its third byte.
+fn unasked(alloc: Global) -> Option<PullFault> {
+    let mut asked = Broken::before_byte(Ends::new(Vec::new(alloc)), 3);
+    pull_record(alloc, &mut Ends::new(TWO.as_bytes()), &mut asked).err()
 }
 
 #[test]
 fn ends_that_fail_are_faults(rt: HostRuntime) {
-    let alloc = rt.alloc();
     let mut source = Broken::before_byte(Ends::new(TWO.as_bytes()), 20);
-    let mut asked = Ends::new(Vec::new(alloc));
-    let unread = pull_record(alloc, &mut source, &mut asked).err();
-    assert_eq!(rt; unread, Some(PullFault::Failed(LineFault::ReadFault)));
-    let mut source = Ends::new(TWO.as_bytes());
-    let mut asked = Broken::before_byte(Ends::new(Vec::new(alloc)), 3);
-    let unwritten = pull_record(alloc, &mut source, &mut asked).err();
-    assert_eq!(rt; unwritten, Some(PullFault::Failed(LineFault::WriteFault)));
+    let unread = unpulled(rt.alloc(), &mut source);
+    assert_found(&rt, unread, Some(PullFault::Failed(LineFault::ReadFault)));
+    let unwritten = Some(PullFault::Failed(LineFault::WriteFault));
+    assert_found(&rt, unasked(rt.alloc()), unwritten);
 }

@@ -1,10 +1,12 @@
 //! Journals that are recovered as a command: what is printed, what is reported, and the status.
 
+use super::talks::MEMORY;
+use assertions::assert_found;
 use byte_ends::{Broken, Drain, Ends, Source};
 use console::show_torn;
 use recover_command::{recover_named, recover_to, show_journal_fault};
 use site_journal::{JournalFault, LeftOut, LineCause, RecoverFault, recover};
-use std::alloc::{AllocError, Global};
+use std::alloc::Global;
 use std::fs;
 use std::process::Abort;
 use std::rt::Files;
@@ -44,13 +46,12 @@ fn assert_recovers(
     status: u8,
 ) {
     let recovery = recovery_of(alloc, Ends::new(journal));
-    assert_eq!(rt; said(&recovery), (printed, reported, status));
+    assert_found(rt, said(&recovery), (printed, reported, status));
 }
 
 #[test]
-fn each_operation_is_printed_once_and_in_order(rt: HostRuntime) -> Result<(), Fail> {
+fn each_operation_is_printed_once_and_in_order(rt: HostRuntime) {
     assert_recovers(&rt, rt.alloc(), JOURNAL, SNAPSHOT, b"", 0);
-    Ok(())
 }
 
 /// How many bytes are past the last line end.
@@ -71,37 +72,47 @@ fn snapshot_of(alloc: Global, journal: &[u8]) -> Result<Vec<u8>, RecoverFault> {
 }
 
 /// The line that reports a torn line of so many bytes, if any.
-fn torn_line(alloc: Global, torn: usize) -> Result<String, AllocError> {
+fn torn_line(alloc: Global, torn: usize) -> Option<String> {
     match torn {
-        0 => Ok(String::new(alloc)),
-        torn => format!(in alloc; "reviewgate: journal 6 Torn {torn}\n"),
+        0 => Some(String::new(alloc)),
+        torn => format!(in alloc; "reviewgate: journal 6 Torn {torn}\n").ok(),
     }
+}
+
+/// What is to be printed and reported of what is left of a journal.
+fn wanted_of(alloc: Global, left: &[u8]) -> Option<(Vec<u8>, String)> {
+    let printed = snapshot_of(alloc, left).ok()?;
+    let line = torn_line(alloc, torn_of(left))?;
+    Some((printed, line))
 }
 
 /// Cut at any byte a journal is recovered as `site_journal` does it, and a torn line is reported by its length.
 #[test]
-fn a_journal_is_recovered_wherever_it_is_cut(rt: HostRuntime) -> Result<(), Fail> {
+fn a_journal_is_recovered_wherever_it_is_cut(rt: HostRuntime) {
     let alloc = rt.alloc();
     for length in 0..=JOURNAL.len() {
         let left = JOURNAL.get(..length).unwrap_or(JOURNAL);
-        let printed = snapshot_of(alloc, left)?;
-        let line = torn_line(alloc, torn_of(left))?;
+        let (printed, line) = wanted_of(alloc, left).expect(&rt, MEMORY);
         assert_recovers(&rt, alloc, left, printed.as_slice(), line.as_bytes(), 0);
     }
-    Ok(())
+}
+
+/// The journal with a torn line at its end.
+fn torn_journal(alloc: Global) -> Option<Vec<u8>> {
+    let mut journal = JOURNAL.to_vec(alloc).ok()?;
+    journal.extend_from_slice(b"{\"chan").ok()?;
+    Some(journal)
 }
 
 #[test]
-fn a_torn_line_is_left_out(rt: HostRuntime) -> Result<(), Fail> {
-    let mut journal = JOURNAL.to_vec(rt.alloc())?;
-    journal.extend_from_slice(b"{\"chan")?;
+fn a_torn_line_is_left_out(rt: HostRuntime) {
+    let journal = torn_journal(rt.alloc()).expect(&rt, MEMORY);
     let line = b"reviewgate: journal 6 Torn 6\n";
     assert_recovers(&rt, rt.alloc(), journal.as_slice(), SNAPSHOT, line, 0);
-    Ok(())
 }
 
 #[test]
-fn what_is_no_journal_is_refused_and_nothing_is_printed(rt: HostRuntime) -> Result<(), Fail> {
+fn what_is_no_journal_is_refused_and_nothing_is_printed(rt: HostRuntime) {
     let cases: [(&[u8], &[u8]); 3] = [
         (b"reviewgate 1\n", b"reviewgate: journal 1 BadHeader\n"),
         (
@@ -113,7 +124,6 @@ fn what_is_no_journal_is_refused_and_nothing_is_printed(rt: HostRuntime) -> Resu
     for (journal, line) in cases {
         assert_recovers(&rt, rt.alloc(), journal, b"", line, 1);
     }
-    Ok(())
 }
 
 /// What is written to the errors where a journal is recovered to this output, and the status.
@@ -136,7 +146,7 @@ fn an_output_that_fails_has_taken_a_front(rt: HostRuntime) {
     let recovery = broken_recovery(rt.alloc());
     let printed = SNAPSHOT.get(..39).unwrap_or(SNAPSHOT);
     let reported = b"reviewgate: output 1 WriteFault\n".as_slice();
-    assert_eq!(rt; said(&recovery), (printed, reported, 1));
+    assert_found(&rt, said(&recovery), (printed, reported, 1));
 }
 
 #[test]
@@ -144,7 +154,7 @@ fn a_source_that_fails_is_a_journal_that_is_not_read(rt: HostRuntime) {
     let source = Broken::before_byte(Ends::new(JOURNAL), 50);
     let recovery = recovery_of(rt.alloc(), source);
     let reported = b"reviewgate: journal 4 Failed\n".as_slice();
-    assert_eq!(rt; said(&recovery), (b"".as_slice(), reported, 1));
+    assert_found(&rt, said(&recovery), (b"".as_slice(), reported, 1));
 }
 
 /// The recovery of the journal of a name, beside an input that has a torn first line.
@@ -167,7 +177,8 @@ fn assert_named<R: Files + Abort>(
     status: u8,
 ) {
     let recovery = recovery_named(rt, alloc, name);
-    assert_eq!(rt; said(&recovery), (printed, reported, status), "{name}");
+    let wanted = (name, (printed, reported, status));
+    assert_found(rt, (name, said(&recovery)), wanted);
 }
 
 // A file that is there, the input, one that isn't there, and a folder.
@@ -188,7 +199,7 @@ fn journals_are_recovered_by_name(rt: HostRuntime) -> Result<(), Fail> {
     );
     assert_named(&rt, alloc, "no/such/file", b"", failed, 1);
     assert_named(&rt, alloc, ".", b"", failed, 1);
-    assert_eq!(rt; fs::read(&rt, "recovered.tmp")?.as_slice(), JOURNAL);
+    assert_found(&rt, fs::read(&rt, "recovered.tmp")?.as_slice(), JOURNAL);
     fs::remove_file(&rt, "recovered.tmp")?;
     Ok(())
 }
@@ -206,7 +217,7 @@ fn reported_lines(alloc: Global) -> Vec<u8> {
 #[test]
 fn faults_and_torn_lines_have_a_line_each(rt: HostRuntime) {
     let lines = b"reviewgate: journal 2 BadLine 7 TooLong\nreviewgate: journal 6 Torn 3\n";
-    assert_eq!(rt; reported_lines(rt.alloc()).as_slice(), lines.as_slice());
+    assert_found(&rt, reported_lines(rt.alloc()).as_slice(), lines.as_slice());
 }
 
 /// A journal of two sites, of which the second has two starts, and the four operations in order.
@@ -226,39 +237,55 @@ const OP_7: &str =
 const OP_8: &str =
     "{\"change\":8,\"op\":\"merged\",\"seq\":2,\"site\":1,\"start\":2,\"time\":18446744073709551615}\n";
 
-/// What is recovered of that journal without these sites and starts, and what is above a time.
-fn recovered_without(
-    alloc: Global,
-    rows: &[(u16, u32)],
-    until: Option<u64>,
-) -> Result<Vec<u8>, Fail> {
-    let left_out = LeftOut {
-        rows: rows.to_vec(alloc)?,
-        until,
-    };
+/// What is recovered of that journal without what is left out.
+fn recovered_without(alloc: Global, left_out: &LeftOut) -> Vec<u8> {
     let mut output = Ends::new(Vec::new(alloc));
     let mut errors = Ends::new(Vec::new(alloc));
     let source = Ends::new(TWO_SITES);
-    let _status = recover_to(alloc, source, &left_out, &mut output, &mut errors);
-    Ok(output.into_inner())
+    let _status = recover_to(alloc, source, left_out, &mut output, &mut errors);
+    output.into_inner()
+}
+
+/// What is recovered of that journal without these sites and starts, and what is above a time.
+fn left_of(alloc: Global, rows: &[(u16, u32)], until: Option<u64>) -> Option<Vec<u8>> {
+    let rows = rows.to_vec(alloc).ok()?;
+    Some(recovered_without(alloc, &LeftOut { rows, until }))
+}
+
+/// Adds lines.
+fn push_lines(text: &mut String, lines: &[&str]) -> Option<()> {
+    for line in lines {
+        text.push_str(line).ok()?;
+    }
+    Some(())
 }
 
 /// A snapshot of these lines.
-fn snapshot_with(alloc: Global, lines: &[&str]) -> Result<String, AllocError> {
-    let mut text = String::from_str(alloc, "reviewgate 2\n")?;
-    for line in lines {
-        text.push_str(line)?;
-    }
+fn snapshot_with(alloc: Global, lines: &[&str]) -> Option<String> {
+    let mut text = String::from_str(alloc, "reviewgate 2\n").ok()?;
+    push_lines(&mut text, lines)?;
     let count = lines.len();
-    let end = format!(in alloc; "end {count}\n")?;
-    text.push_str(end.as_str())?;
-    Ok(text)
+    write!(text, "end {count}\n").ok()?;
+    Some(text)
+}
+
+/// What is recovered of that journal without what is left out is the snapshot of these lines.
+fn assert_left(
+    rt: &impl Abort,
+    alloc: Global,
+    rows: &[(u16, u32)],
+    until: Option<u64>,
+    lines: &[&str],
+) {
+    let wanted = snapshot_with(alloc, lines).expect(rt, MEMORY);
+    let printed = left_of(alloc, rows, until);
+    assert_found(rt, printed.as_deref(), Some(wanted.as_bytes()));
 }
 
 // What is left out is left out, and exactly that: of a site under a start, not under another, and not of another site
 // under the same start; and what is above a time, not what is at it.
 #[test]
-fn what_is_left_out_is_left_out_and_nothing_else(rt: HostRuntime) -> Result<(), Fail> {
+fn what_is_left_out_is_left_out_and_nothing_else(rt: HostRuntime) {
     let alloc = rt.alloc();
     let cases: [(&[(u16, u32)], Option<u64>, &[&str]); 7] = [
         (&[], None, &[OP_5, OP_6, OP_7, OP_8]),
@@ -270,9 +297,6 @@ fn what_is_left_out_is_left_out_and_nothing_else(rt: HostRuntime) -> Result<(), 
         (&[(2, 2)], Some(18_446_744_073_709_551_614), &[OP_5, OP_7]),
     ];
     for (rows, until, lines) in cases {
-        let wanted = snapshot_with(alloc, lines)?;
-        let printed = recovered_without(alloc, rows, until)?;
-        assert_eq!(rt; printed.as_slice(), wanted.as_bytes());
+        assert_left(&rt, alloc, rows, until, lines);
     }
-    Ok(())
 }

@@ -3,6 +3,7 @@
 ghost use Rattle.std.specs.Prelude.{◌≡◌, IfOk};
 ghost use Rattle.site_shared.specs.Accounts.{GoesOn, BearsOwn, watching};
 
+use assertions::assert_found;
 use gate_rules::Gate;
 use ready_core::Refusal;
 use replica_core::{Front, Replica, Row};
@@ -12,6 +13,7 @@ use site_shared::{
     later_journals_go_on, open_site, publishes_are_steps, stamps_are_above_all,
 };
 use std::alloc::{AllocError, Global};
+use std::process::Abort;
 use std::sync::Wait;
 use std::test::Fail;
 
@@ -58,27 +60,42 @@ fn faults_have_numbers_and_names(rt: HostRuntime) {
     publishes_are_steps();
     later_journals_go_on();
     stamps_are_above_all();
+    assert_open_faults(&rt);
+    assert_desk_faults(&rt);
+    assert_window_faults(&rt);
+    assert_found(&rt, (Stranger.number(), Stranger.name()), (1, "Stranger"));
+}
+
+/// The faults of openings have their numbers and names.
+fn assert_open_faults(rt: &impl Abort) {
     for (fault, number, name) in [
         (OpenFault::NoMemory, 1, "NoMemory"),
         (OpenFault::NoPlace, 2, "NoPlace"),
         (OpenFault::StartUsed, 3, "StartUsed"),
     ] {
-        assert_eq!(rt; (fault.number(), fault.name()), (number, name));
+        assert_found(rt, (fault.number(), fault.name()), (number, name));
     }
+}
+
+/// The faults of desks have their numbers and names.
+fn assert_desk_faults(rt: &impl Abort) {
     for (fault, number, name) in [
         (DeskFault::ClockSpent, 1, "ClockSpent"),
         (DeskFault::BadBody(BodyFault::BadSet), 2, "BadBody"),
         (DeskFault::NoMemory(1), 3, "NoMemory"),
     ] {
-        assert_eq!(rt; (fault.number(), fault.name()), (number, name));
+        assert_found(rt, (fault.number(), fault.name()), (number, name));
     }
+}
+
+/// The faults of windows have their numbers and names.
+fn assert_window_faults(rt: &impl Abort) {
     for (fault, number, name) in [
         (WindowFault::NoMemory, 2, "NoMemory"),
         (WindowFault::Closed, 3, "Closed"),
     ] {
-        assert_eq!(rt; (fault.number(), fault.name()), (number, name));
+        assert_found(rt, (fault.number(), fault.name()), (number, name));
     }
-    assert_eq!(rt; (Stranger.number(), Stranger.name()), (1, "Stranger"));
 }
 
 /// How an opening of a site over a merge of site 1 under start 2 is answered: 0 where it opens with one window.
@@ -95,11 +112,8 @@ fn opened<R: Wait>(rt: &R, alloc: Global, site: u16, start: u32) -> Result<u8, F
 #[test]
 fn a_start_is_used_once(rt: HostRuntime) -> Result<(), Fail> {
     for (site, start, number) in [(1, 2, 3), (1, 1, 3), (1, 3, 0), (2, 1, 0), (2, 2, 0)] {
-        assert_eq!(rt;
-            opened(&rt, rt.alloc(), site, start)?,
-            number,
-            "site {site}, start {start}"
-        );
+        let answered = opened(&rt, rt.alloc(), site, start)?;
+        assert_found(&rt, (site, start, answered), (site, start, number));
     }
     Ok(())
 }
@@ -179,7 +193,7 @@ fn a_window_looks_for_each_stamp(rt: HostRuntime) -> Result<(), Fail> {
     let (mut desk, mut first, _second) = open_two(&rt, 1, 1, Replica::new(rt.alloc()))?;
     let found = stamps_found(&rt, rt.alloc(), &mut desk, &mut first);
     desk.end(&rt);
-    assert_eq!(rt; found?, (true, true, false));
+    assert_found(&rt, found?, (true, true, false));
     Ok(())
 }
 
@@ -226,7 +240,7 @@ fn an_item_is_seen_by_two_windows(rt: HostRuntime) -> Result<(), Fail> {
     let done = take_in(&rt, rt.alloc(), &mut desk, &mut first, &mut second);
     desk.end(&rt);
     let sight = (true, 1, 1, 1);
-    assert_eq!(rt; done?, (sight, sight, true, (101, true)));
+    assert_found(&rt, done?, (sight, sight, true, (101, true)));
     Ok(())
 }
 
@@ -252,7 +266,7 @@ fn windows_see_what_they_have_not_learnt(rt: HostRuntime) -> Result<(), Fail> {
     let (mut desk, mut first, mut second) = open_two(&rt, 1, 1, Replica::new(rt.alloc()))?;
     let done = take_in_unlearnt(&rt, rt.alloc(), &mut desk, &mut first, &mut second);
     desk.end(&rt);
-    assert_eq!(rt; done?, ((true, 2, 2, 2), (true, 2, 2, 2)));
+    assert_found(&rt, done?, ((true, 2, 2, 2), (true, 2, 2, 2)));
     Ok(())
 }
 
@@ -282,7 +296,7 @@ fn a_pause_ends(rt: HostRuntime) -> Result<(), Fail> {
     let (desk, mut first, _second) = open_two(&rt, 1, 1, Replica::new(rt.alloc()))?;
     let found = report_paused(rt.alloc(), &mut first);
     desk.end(&rt);
-    assert_eq!(rt; found?, (0, 1_000_000));
+    assert_found(&rt, found?, (0, 1_000_000));
     Ok(())
 }
 
@@ -316,10 +330,50 @@ fn at_the_last_time(alloc: Global) -> Result<Replica, Fail> {
 #[test]
 fn bad_bodies_and_a_spent_clock_change_nothing(rt: HostRuntime) -> Result<(), Fail> {
     let spent = at_the_last_time(rt.alloc())?;
-    assert_eq!(rt; refused_over(&rt, spent)?, ((1, 0), 9));
+    assert_found(&rt, refused_over(&rt, spent)?, ((1, 0), 9));
     let empty = Replica::new(rt.alloc());
-    assert_eq!(rt; refused_over(&rt, empty)?, ((2, 0), 9));
+    assert_found(&rt, refused_over(&rt, empty)?, ((2, 0), 9));
     Ok(())
+}
+
+/// Two merges of another site.
+fn two_merges(alloc: Global) -> Result<Vec<Op>, Fail> {
+    let mut ops = Vec::new(alloc);
+    ops.push(merge(2, 1, 5)?)?;
+    ops.push(merge(2, 1, 6)?)?;
+    Ok(ops)
+}
+
+/// Holds two merges that came between two that are stamped: the times of the stamps.
+fn hold_four(alloc: Global, desk: &mut Desk) -> Result<(u64, u64), Fail>
+    ensures { desk.new.book ≡ desk.old.book }
+{
+    let ops = two_merges(alloc)?;
+    let first = desk.hold(Draft::Merged { change: 1 })?;
+    desk.hold_all(ops)?;
+    let second = desk.hold(Draft::Merged { change: 2 })?;
+    Ok((first.time(), second.time()))
+}
+
+/// Publishes what is held, of which the window learns.
+fn flush_learnt<R: Wait>(rt: &R, desk: &mut Desk, window: &mut Window) -> Result<(), Fail>
+    requires { desk.old.book ≡ window.old.book }
+{
+    let receipt = desk.flush(rt)?;
+    window.learn(&receipt)?;
+    Ok(())
+}
+
+/// How many operations a window sees.
+fn count_seen(window: &mut Window) -> Result<usize, WindowFault>
+    ensures { window.new.book ≡ window.old.book }
+{
+    Ok(window.snapshot()?.len())
+}
+
+/// How many operations a window has that an empty front lacks.
+fn count_lacked(alloc: Global, window: &mut Window) -> Result<usize, WindowFault> {
+    Ok(window.missing(&Front::new(alloc), 256)?.ops.len())
 }
 
 /// Holds what is stamped and what came, and publishes it: what a window sees of it before and after, and the times of
@@ -330,19 +384,13 @@ fn hold_and_flush<R: Wait>(
     desk: &mut Desk,
     window: &mut Window,
 ) -> Result<(usize, usize, u64, u64), Fail>
-    requires { window.old ≡ watching desk.old }
+    requires { desk.old.book ≡ window.old.book }
 {
-    let mut ops = Vec::new(alloc);
-    ops.push(merge(2, 1, 5)?)?;
-    ops.push(merge(2, 1, 6)?)?;
-    let first = desk.hold(Draft::Merged { change: 1 })?;
-    desk.hold_all(ops)?;
-    let second = desk.hold(Draft::Merged { change: 2 })?;
-    let before = window.snapshot()?.len();
-    let receipt = desk.flush(rt)?;
-    window.learn(&receipt)?;
-    let after = window.missing(&Front::new(alloc), 256)?.ops.len();
-    Ok((before, after, first.time(), second.time()))
+    let (first, second) = hold_four(alloc, desk)?;
+    let before = count_seen(window)?;
+    flush_learnt(rt, desk, window)?;
+    let after = count_lacked(alloc, window)?;
+    Ok((before, after, first, second))
 }
 
 #[test]
@@ -351,8 +399,8 @@ fn what_is_held_is_published_at_once(rt: HostRuntime) -> Result<(), Fail> {
     let done = hold_and_flush(&rt, rt.alloc(), &mut desk, &mut first);
     let left = desk.held().len();
     desk.end(&rt);
-    assert_eq!(rt; done?, (0, 4, 1, 7));
-    assert_eq!(rt; left, 0);
+    assert_found(&rt, done?, (0, 4, 1, 7));
+    assert_found(&rt, left, 0);
     Ok(())
 }
 
@@ -404,9 +452,7 @@ fn receipts_of_others_are_strange(rt: HostRuntime) -> Result<(), Fail> {
         Err(_) => false,
     };
     desk.end(&rt);
-    assert!(rt; are_refused);
-    assert_eq!(rt; row?, 0);
-    assert!(rt; own);
+    assert_found(&rt, (are_refused, row?, own), (true, 0, true));
     Ok(())
 }
 
@@ -414,10 +460,11 @@ fn receipts_of_others_are_strange(rt: HostRuntime) -> Result<(), Fail> {
 fn a_window_outlives_its_desk(rt: HostRuntime) -> Result<(), Fail> {
     let (desk, mut first, _second) = open_two(&rt, 1, 1, Replica::new(rt.alloc()))?;
     desk.end(&rt);
-    assert_eq!(rt; first.front().map_or(9, |_| 0), 9);
-    assert_eq!(rt;
+    assert_found(&rt, first.front().map_or(9, |_| 0), 9);
+    assert_found(
+        &rt,
         first.has(Stamp::new(1, 1, 1, 1).ok_or("a stamp")?),
-        Err(WindowFault::Closed)
+        Err(WindowFault::Closed),
     );
     Ok(())
 }

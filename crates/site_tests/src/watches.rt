@@ -3,6 +3,7 @@
 ghost use Rattle.std.specs.Prelude.{◌≡◌, IfOk};
 
 use super::running::{GATE, open_one, patch_set};
+use assertions::assert_found;
 use gate_rules::{Clause, Condition, Gate, Side};
 use ready_core::Refusal;
 use review_ops::Draft;
@@ -94,7 +95,7 @@ fn a_watch_follows_its_window(rt: HostRuntime) -> Result<(), Fail> {
         side: Side::Require,
         clause: Clause::OpenState,
     });
-    assert_eq!(rt; said?, (Some((101, None)), Some((101, Some(closed)))));
+    assert_found(&rt, said?, (Some((101, None)), Some((101, Some(closed)))));
     Ok(())
 }
 
@@ -123,11 +124,12 @@ fn watches_of_others_are_strange(rt: HostRuntime) -> Result<(), Fail> {
     let mut watch = watch?;
     let site = refresh_by(&rt, rt.alloc(), 2, 1, &mut watch)?;
     let start = refresh_by(&rt, rt.alloc(), 1, 2, &mut watch)?;
-    assert_eq!(rt;
+    assert_found(
+        &rt,
         (site, start),
-        (Err(RefreshFault::Stranger), Err(RefreshFault::Stranger))
+        (Err(RefreshFault::Stranger), Err(RefreshFault::Stranger)),
     );
-    assert!(rt; watch.verdicts().is_some());
+    assert_found(&rt, watch.verdicts().is_some(), true);
     Ok(())
 }
 
@@ -137,8 +139,8 @@ fn a_watch_outlives_its_desk(rt: HostRuntime) -> Result<(), Fail> {
     let watch = watched(rt.alloc(), &mut window);
     desk.end(&rt);
     let mut watch = watch?;
-    assert_eq!(rt; window.refresh(&mut watch), Err(RefreshFault::Closed));
-    assert!(rt; watch.verdicts().is_some());
+    assert_found(&rt, window.refresh(&mut watch), Err(RefreshFault::Closed));
+    assert_found(&rt, watch.verdicts().is_some(), true);
     Ok(())
 }
 
@@ -149,6 +151,6 @@ fn refresh_faults_have_numbers_and_names(rt: HostRuntime) {
         (RefreshFault::NoMemory, 2, "NoMemory"),
         (RefreshFault::Closed, 3, "Closed"),
     ] {
-        assert_eq!(rt; (fault.number(), fault.name()), (number, name));
+        assert_found(&rt, (fault.number(), fault.name()), (number, name));
     }
 }

@@ -1,9 +1,11 @@
 //! Texts of what changed from one report to the next, worked out by hand.
 
+use super::found::{MEMORY, assert_bytes};
+use assertions::assert_found;
 use byte_ends::{Broken, Ends};
 use deeds::{Deed, op_of};
 use gate_rules::{Clause, Condition, Gate, Side};
-use ready_core::{Refusal, evaluate};
+use ready_core::{Left, Refusal, evaluate};
 use report_changes::{
     Line, Listed, WriteChangesFault, groups_give_what_is_listed, groups_have_one_reading, is_over,
     lines_of, verdicts_name_each_once, write_changes, write_group,
@@ -11,7 +13,6 @@ use report_changes::{
 use state_core::{Item, State};
 use std::alloc::Global;
 use std::process::Abort;
-use std::test::Fail;
 
 /// A gate that wants open changes, current patch sets and a vote.
 const GATE: &str =
@@ -98,108 +99,157 @@ struct Followed {
 
 impl Followed {
     /// An empty record.
-    fn new(alloc: Global) -> Result<Followed, Fail> {
-        Ok(Followed {
+    fn new(alloc: Global) -> Option<Followed> {
+        let gate = Gate::read(alloc, GATE.as_bytes()).ok()?;
+        Some(Followed {
             alloc,
-            gate: Gate::read(alloc, GATE.as_bytes())?,
+            gate,
             state: State::new(alloc),
             time: 0,
             listed: Listed::new(alloc),
         })
     }
 
+    /// Does one thing to a change.
+    fn take_one(&mut self, change: u32, deed: Deed) -> Option<()> {
+        self.time = self.time.wrapping_add(1);
+        let op = op_of(self.alloc, self.time, change, deed)?;
+        self.state.take(&op).ok()
+    }
+
     /// Does so, one after the other.
-    fn take(&mut self, deeds: &[(u32, Deed)]) -> Result<(), Fail> {
+    fn take(&mut self, deeds: &[(u32, Deed)]) -> Option<()> {
         for (change, deed) in deeds {
-            self.time = self.time.wrapping_add(1);
-            let op = op_of(self.alloc, self.time, *change, *deed).ok_or("an operation")?;
-            self.state.take(&op)?;
+            self.take_one(*change, *deed)?;
         }
-        Ok(())
+        Some(())
     }
 
     /// What is listed of the record.
-    fn look(&self) -> Result<Listed, Fail> {
-        let verdicts = evaluate(self.alloc, &self.state, &self.gate)?;
-        Ok(Listed::of(self.alloc, &verdicts)?)
+    fn look(&self) -> Option<Listed> {
+        let verdicts = evaluate(self.alloc, &self.state, &self.gate).ok()?;
+        Listed::of(self.alloc, &verdicts).ok()
+    }
+
+    /// The group of what changed from what was listed last to what is listed.
+    fn group_to(&self, listed: &Listed) -> Option<Vec<u8>> {
+        let mut written = Ends::new(Vec::new(self.alloc));
+        write_changes(self.alloc, &self.listed, listed, &mut written).ok()?;
+        Some(written.into_inner())
     }
 
     /// The group of what changed since the last one.
-    fn group(&mut self) -> Result<Vec<u8>, Fail> {
+    fn group(&mut self) -> Option<Vec<u8>> {
         let listed = self.look()?;
-        let mut written = Ends::new(Vec::new(self.alloc));
-        write_changes(self.alloc, &self.listed, &listed, &mut written)?;
+        let group = self.group_to(&listed);
         self.listed = listed;
-        Ok(written.into_inner())
+        group
+    }
+
+    /// The group after deeds.
+    fn group_after(&mut self, deeds: &[(u32, Deed)]) -> Option<Vec<u8>> {
+        self.take(deeds)?;
+        self.group()
     }
 }
 
 #[test]
-fn groups_say_what_changed(rt: HostRuntime) -> Result<(), Fail> {
-    let mut followed = Followed::new(rt.alloc())?;
+fn groups_say_what_changed(rt: HostRuntime) {
+    let mut followed = Followed::new(rt.alloc()).expect(&rt, MEMORY);
     for (deeds, wanted) in GROUPS {
-        followed.take(deeds)?;
-        let group = followed.group()?;
-        assert_eq!(rt; group.as_slice(), wanted.as_bytes());
+        assert_bytes(&rt, followed.group_after(deeds), wanted.as_bytes());
     }
-    Ok(())
 }
 
 /// The record of the first groups.
-fn begun(alloc: Global) -> Result<Followed, Fail> {
+fn begun(alloc: Global) -> Option<Followed> {
     let mut followed = Followed::new(alloc)?;
-    if let Some((deeds, _)) = GROUPS.get(1) {
-        followed.take(deeds)?;
-    }
-    Ok(followed)
+    let (deeds, _) = GROUPS.get(1)?;
+    followed.take(deeds)?;
+    Some(followed)
+}
+
+/// The item that is ready.
+const READY: Item = Item {
+    change: 101,
+    set: 1,
+};
+
+/// The item that is merged.
+const MERGED: Item = Item {
+    change: 103,
+    set: 1,
+};
+
+/// Whether one item alone is ready and listed, without a refusal, and the merged one isn't listed.
+fn is_found_ready(listed: &Listed) -> [bool; 5] {
+    [
+        listed.ready() == [READY].as_slice(),
+        listed.is_ready(READY),
+        listed.is_listed(READY),
+        !listed.is_listed(MERGED),
+        listed.refusal(READY).is_none(),
+    ]
+}
+
+/// Whether what waits is found with its refusal.
+fn is_found_out(listed: &Listed, left: Left) -> [bool; 2] {
+    [
+        listed.refusal(left.item) == Some(left.refusal),
+        listed.is_out_for(left),
+    ]
+}
+
+/// The lines of the first group.
+fn first_lines(followed: &Followed, listed: &Listed) -> Option<Vec<Line>> {
+    lines_of(followed.alloc, &followed.listed, listed).ok()
+}
+
+/// How many bytes these lines are as a group.
+fn group_len(alloc: Global, lines: &[Line]) -> Option<usize> {
+    let mut written = Ends::new(Vec::new(alloc));
+    write_group(lines, 1, 1, &mut written).ok()?;
+    Some(written.into_inner().len())
 }
 
 // What is listed is found by item, and the lines of a group are known before they are written.
 #[test]
-fn a_listing_is_searched(rt: HostRuntime) -> Result<(), Fail> {
-    let followed = begun(rt.alloc())?;
-    let listed = followed.look()?;
-    let ready = Item {
-        change: 101,
-        set: 1,
-    };
-    let merged = Item {
-        change: 103,
-        set: 1,
-    };
-    assert_eq!(rt; listed.ready(), [ready].as_slice());
-    assert!(rt; listed.is_ready(ready) && listed.is_listed(ready) && !listed.is_listed(merged));
-    let left = listed.out().first().copied().ok_or("one that waits")?;
-    assert_eq!(rt; listed.refusal(left.item), Some(left.refusal));
-    assert!(rt; listed.is_out_for(left) && listed.refusal(ready).is_none());
-    let lines = lines_of(rt.alloc(), &followed.listed, &listed)?;
-    assert_eq!(rt;
-        lines.as_slice(),
-        [Line::Ready(ready), Line::Out(left)].as_slice()
-    );
-    let mut written = Ends::new(Vec::new(rt.alloc()));
-    write_group(lines.as_slice(), 1, 1, &mut written)?;
-    assert_eq!(rt; written.into_inner().len(), 50);
-    Ok(())
+fn a_listing_is_searched(rt: HostRuntime) {
+    let followed = begun(rt.alloc()).expect(&rt, MEMORY);
+    let listed = followed.look().expect(&rt, MEMORY);
+    assert_found(&rt, is_found_ready(&listed), [true, true, true, true, true]);
+    let left = listed.out().first().copied().expect(&rt, "one that waits");
+    assert_found(&rt, is_found_out(&listed, left), [true, true]);
+    let lines = first_lines(&followed, &listed).expect(&rt, MEMORY);
+    let wanted = [Line::Ready(READY), Line::Out(left)];
+    assert_found(&rt, lines.as_slice(), wanted.as_slice());
+    assert_found(&rt, group_len(rt.alloc(), lines.as_slice()), Some(50));
+}
+
+/// How the writing of the first group to a writer that fails ends, and how many bytes the writer has taken then.
+fn written_to(
+    followed: &Followed,
+    listed: &Listed,
+    mut drain: Broken<Ends<Vec<u8>>>,
+) -> (Result<(), WriteChangesFault>, u64) {
+    let written = write_changes(followed.alloc, &followed.listed, listed, &mut drain);
+    (written, drain.into_inner().into_inner().len() as u64)
 }
 
 /// Where the writer fails before this byte of the first group, it has taken those before the byte.
-fn assert_fails_before(rt: &impl Abort, followed: &Followed, byte: u64) -> Result<(), Fail> {
-    let listed = followed.look()?;
-    let mut drain = Broken::before_byte(Ends::new(Vec::new(followed.alloc)), byte);
-    let written = write_changes(followed.alloc, &followed.listed, &listed, &mut drain);
-    assert_eq!(rt; written, Err(WriteChangesFault::WriteFault));
-    assert_eq!(rt; drain.into_inner().into_inner().len() as u64 + 1, byte);
-    Ok(())
+fn assert_fails_before(rt: &impl Abort, followed: &Followed, listed: &Listed, byte: u64) {
+    let drain = Broken::before_byte(Ends::new(Vec::new(followed.alloc)), byte);
+    let wanted = (Err(WriteChangesFault::WriteFault), byte.saturating_sub(1));
+    assert_found(rt, written_to(followed, listed, drain), wanted);
 }
 
 #[test]
-fn a_failing_writer_has_taken_what_came_before(rt: HostRuntime) -> Result<(), Fail> {
-    let followed = begun(rt.alloc())?;
+fn a_failing_writer_has_taken_what_came_before(rt: HostRuntime) {
+    let followed = begun(rt.alloc()).expect(&rt, MEMORY);
+    let listed = followed.look().expect(&rt, MEMORY);
     for byte in [1, 30, 50] {
-        assert_fails_before(&rt, &followed, byte)?;
+        assert_fails_before(&rt, &followed, &listed, byte);
     }
-    Ok(())
 }
 
 #[test]
@@ -211,9 +261,17 @@ fn refusals_say_what_is_over(rt: HostRuntime) {
         (Clause::Approval(1), false),
     ] {
         let side = Side::Reject;
-        assert_eq!(rt; is_over(Refusal::Own(Condition { side, clause })), wanted);
+        assert_found(
+            &rt,
+            is_over(Refusal::Own(Condition { side, clause })),
+            wanted,
+        );
     }
-    assert!(rt; !is_over(Refusal::Cycle) && !is_over(Refusal::Unknown(7)));
+    assert_found(
+        &rt,
+        !is_over(Refusal::Cycle) && !is_over(Refusal::Unknown(7)),
+        true,
+    );
     groups_give_what_is_listed();
     groups_have_one_reading();
     verdicts_name_each_once();

@@ -1,19 +1,19 @@
 //! Sources and drains, those that fail among them, worked out by hand.
 
+use super::found::{MEMORY, assert_bytes};
+use assertions::assert_found;
 use byte_ends::{
     Broken, BytesFault, Drain, Ends, Failed, Lines, Source, broken_fails_once,
     none_failed_means_ok, read_all, write_all,
 };
 use std::alloc::Global;
 use std::process::Abort;
-use std::test::Fail;
 
 #[test]
 fn laws_are_called(rt: HostRuntime) {
     none_failed_means_ok();
     broken_fails_once();
-    assert_eq!(rt; Failed.number(), 1);
-    assert_eq!(rt; Failed.name(), "Failed");
+    assert_found(&rt, (Failed.number(), Failed.name()), (1, "Failed"));
 }
 
 #[test]
@@ -23,133 +23,130 @@ fn faults_of_bytes_have_numbers_and_names(rt: HostRuntime) {
         (BytesFault::ReadFault, 7, "ReadFault"),
         (BytesFault::NoMemory, 8, "NoMemory"),
     ] {
-        assert_eq!(rt; fault.number(), number);
-        assert_eq!(rt; fault.name(), name);
+        assert_found(&rt, (fault.number(), fault.name()), (number, name));
     }
 }
 
-fn assert_count(rt: &impl Abort, count: usize, wanted: usize) {
-    assert_eq!(rt; count, wanted);
+/// All that a source has, and how often the source has failed then.
+fn all_of<S: Source>(alloc: Global, source: &mut S, limit: usize) -> (Option<Vec<u8>>, u64) {
+    let bytes = read_all(alloc, source, limit).ok();
+    (bytes, source.failures())
 }
 
-fn assert_bytes(rt: &impl Abort, bytes: &[u8], wanted: &[u8]) {
-    assert_eq!(rt; bytes, wanted);
-}
-
-fn assert_fault(rt: &impl Abort, fault: Option<BytesFault>, wanted: BytesFault) {
-    assert_eq!(rt; fault, Some(wanted));
-}
-
-fn assert_moved(rt: &impl Abort, moved: Result<usize, Failed>, wanted: Result<usize, Failed>) {
-    assert_eq!(rt; moved, wanted);
-}
-
-fn assert_read(rt: &impl Abort, alloc: Global, text: &[u8], limit: usize) -> Result<(), Fail> {
-    let mut source = Ends::new(text);
-    let bytes = read_all(alloc, &mut source, limit)?;
-    assert_bytes(rt, bytes.as_slice(), text);
-    assert!(rt; source.failures() == 0);
-    Ok(())
+/// All of a text within a limit is read, and no read has failed.
+fn assert_read(rt: &impl Abort, alloc: Global, text: &[u8], limit: usize) {
+    let (bytes, failures) = all_of(alloc, &mut Ends::new(text), limit);
+    assert_bytes(rt, bytes, text);
+    assert_found(rt, failures, 0);
 }
 
 // A body that only answers want of memory meets the contract of `read_all`: with ample memory the bytes come.
 #[test]
-fn reads_all_within_the_limit(rt: HostRuntime) -> Result<(), Fail> {
-    assert_read(&rt, rt.alloc(), b"abc".as_slice(), 3)?;
-    assert_read(&rt, rt.alloc(), b"".as_slice(), 0)
+fn reads_all_within_the_limit(rt: HostRuntime) {
+    assert_read(&rt, rt.alloc(), b"abc".as_slice(), 3);
+    assert_read(&rt, rt.alloc(), b"".as_slice(), 0);
 }
 
 // A source that is lent is one too.
 #[test]
-fn reads_all_of_a_lent_source(rt: HostRuntime) -> Result<(), Fail> {
+fn reads_all_of_a_lent_source(rt: HostRuntime) {
     let mut lent = Ends::new(b"abc".as_slice());
-    let bytes = read_all(rt.alloc(), &mut &mut lent, 3)?;
-    assert_count(&rt, bytes.len(), 3);
-    Ok(())
+    let bytes = read_all(rt.alloc(), &mut &mut lent, 3).ok();
+    assert_bytes(&rt, bytes, b"abc".as_slice());
 }
 
-fn assert_too_long(rt: &impl Abort, alloc: Global, text: &[u8], limit: usize) {
+/// Why a text isn't read within a limit, and how many bytes of it are left then.
+fn refused_past(alloc: Global, text: &[u8], limit: usize) -> (Option<BytesFault>, usize) {
     let mut source = Ends::new(text);
     let fault = read_all(alloc, &mut source, limit).err();
-    assert_fault(rt, fault, BytesFault::TooLong);
-    assert_count(rt, source.get_ref().len(), 0);
+    (fault, source.get_ref().len())
 }
 
 #[test]
 fn a_text_past_the_limit_is_too_long(rt: HostRuntime) {
-    assert_too_long(&rt, rt.alloc(), b"abcd".as_slice(), 3);
-    assert_too_long(&rt, rt.alloc(), b"a".as_slice(), 0);
+    let wanted = (Some(BytesFault::TooLong), 0);
+    assert_found(&rt, refused_past(rt.alloc(), b"abcd".as_slice(), 3), wanted);
+    assert_found(&rt, refused_past(rt.alloc(), b"a".as_slice(), 0), wanted);
 }
 
 // More than one piece, and the greatest limit.
 #[test]
-fn reads_many_pieces(rt: HostRuntime) -> Result<(), Fail> {
-    let text = vec![in rt.alloc(); 7u8; 200_000]?;
-    let mut source = Ends::new(text.as_slice());
-    let bytes = read_all(rt.alloc(), &mut source, usize::MAX)?;
-    assert_bytes(&rt, bytes.as_slice(), text.as_slice());
-    Ok(())
+fn reads_many_pieces(rt: HostRuntime) {
+    let text = vec![in rt.alloc(); 7u8; 200_000].ok().expect(&rt, MEMORY);
+    let bytes = read_all(rt.alloc(), &mut Ends::new(text.as_slice()), usize::MAX).ok();
+    assert_bytes(&rt, bytes, text.as_slice());
 }
 
 // A text that fails once.
 type BrokenText<'a> = Broken<Ends<&'a [u8]>>;
 
-fn assert_fails(rt: &impl Abort, alloc: Global, source: &mut BrokenText<'_>) {
+/// Why a source isn't read, and how often it has failed then.
+fn failed(alloc: Global, source: &mut BrokenText<'_>) -> (Option<BytesFault>, u64) {
     let fault = read_all(alloc, source, 9).err();
-    assert_fault(rt, fault, BytesFault::ReadFault);
-    assert!(rt; source.failures() == 1);
+    (fault, source.failures())
 }
 
-fn assert_goes_on(
-    rt: &impl Abort,
-    alloc: Global,
-    source: &mut BrokenText<'_>,
-    rest: usize,
-) -> Result<(), Fail> {
-    let bytes = read_all(alloc, source, 9)?;
-    assert_count(rt, bytes.len(), rest);
-    assert!(rt; source.failures() == 1);
-    Ok(())
+/// How many bytes a source still has, and how often it has failed then.
+fn gone_on(alloc: Global, source: &mut BrokenText<'_>) -> (Option<usize>, u64) {
+    let (bytes, failures) = all_of(alloc, source, 9);
+    (len_of(bytes), failures)
+}
+
+/// How many bytes there are, where there are any.
+fn len_of(bytes: Option<Vec<u8>>) -> Option<usize> {
+    match bytes {
+        Some(bytes) => Some(bytes.len()),
+        None => None,
+    }
 }
 
 // The source fails before each byte in turn, and before the end; then it goes on.
 #[test]
-fn reading_fails_before_each_byte(rt: HostRuntime) -> Result<(), Fail> {
+fn reading_fails_before_each_byte(rt: HostRuntime) {
     for (byte, rest) in [(1, 4), (2, 3), (3, 2), (4, 1), (5, 0)] {
         let mut source = Broken::before_byte(Ends::new(b"abcd".as_slice()), byte);
-        assert_fails(&rt, rt.alloc(), &mut source);
-        assert_goes_on(&rt, rt.alloc(), &mut source, rest)?;
+        assert_found(
+            &rt,
+            failed(rt.alloc(), &mut source),
+            (Some(BytesFault::ReadFault), 1),
+        );
+        assert_found(&rt, gone_on(rt.alloc(), &mut source), (Some(rest), 1));
     }
-    Ok(())
 }
 
 #[test]
-fn reading_ends_before_a_later_failure(rt: HostRuntime) -> Result<(), Fail> {
+fn reading_ends_before_a_later_failure(rt: HostRuntime) {
     let mut whole = Broken::before_byte(Ends::new(b"abcd".as_slice()), 6);
-    let bytes = read_all(rt.alloc(), &mut whole, 9)?;
-    assert_bytes(&rt, bytes.as_slice(), b"abcd".as_slice());
-    Ok(())
+    let bytes = read_all(rt.alloc(), &mut whole, 9).ok();
+    assert_bytes(&rt, bytes, b"abcd".as_slice());
 }
 
+/// What reading into a piece gives, and the piece's first byte then.
+fn read_into(source: &mut BrokenText<'_>, piece: &mut [u8; 3]) -> (Result<usize, Failed>, u8) {
+    let moved = source.read(piece.as_mut_slice());
+    (moved, piece[0])
+}
+
+/// Reads into a piece give these, one after the other, each with the piece's first byte then.
 fn assert_reads(
     rt: &impl Abort,
     source: &mut BrokenText<'_>,
-    piece: &mut [u8],
-    wanted: &[Result<usize, Failed>],
+    piece: &mut [u8; 3],
+    wanted: &[(Result<usize, Failed>, u8)],
 ) {
-    for result in wanted {
-        assert_moved(rt, source.read(piece), *result);
+    for read in wanted {
+        assert_found(rt, read_into(source, piece), *read);
     }
 }
 
-/// A read without room moves nothing.
-fn assert_reads_nothing(rt: &impl Abort, source: &mut BrokenText<'_>) {
-    assert_moved(rt, source.read(&mut []), Ok(0));
+/// What a read without room gives.
+fn read_nothing(source: &mut BrokenText<'_>) -> Result<usize, Failed> {
+    source.read(&mut [])
 }
 
-/// The source has failed once.
-fn assert_failed_once(rt: &impl Abort, source: &BrokenText<'_>) {
-    assert!(rt; Source::failures(source) == 1);
+/// How often a source has failed.
+fn failures_of(source: &BrokenText<'_>) -> u64 {
+    Source::failures(source)
 }
 
 // A source fails at its second call.
@@ -161,60 +158,78 @@ fn a_source_that_breaks_at_a_call_goes_on(rt: HostRuntime) {
         &rt,
         &mut source,
         &mut piece,
-        &[Ok(3), Err(Failed), Ok(1), Ok(0)],
+        &[
+            (Ok(3), b'a'),
+            (Err(Failed), b'a'),
+            (Ok(1), b'd'),
+            (Ok(0), b'd'),
+        ],
     );
-    assert_failed_once(&rt, &source);
-    assert!(rt; piece[0] == b'd');
+    assert_found(&rt, failures_of(&source), 1);
 }
 
-// A source fails before its third byte.
+// A source fails before its third byte. A read without room moves nothing.
 #[test]
 fn a_source_that_breaks_before_a_byte_goes_on(rt: HostRuntime) {
     let mut piece = [0u8; 3];
     let mut source = Broken::before_byte(Ends::new(b"abcd".as_slice()), 3);
-    assert_reads(&rt, &mut source, &mut piece, &[Ok(2)]);
-    assert_reads_nothing(&rt, &mut source);
-    assert_reads(&rt, &mut source, &mut piece, &[Err(Failed), Ok(2)]);
-    assert_failed_once(&rt, &source);
-    assert!(rt; piece[0] == b'c');
+    assert_reads(&rt, &mut source, &mut piece, &[(Ok(2), b'a')]);
+    assert_found(&rt, read_nothing(&mut source), Ok(0));
+    assert_reads(
+        &rt,
+        &mut source,
+        &mut piece,
+        &[(Err(Failed), b'a'), (Ok(2), b'c')],
+    );
+    assert_found(&rt, failures_of(&source), 1);
 }
 
 #[test]
 fn a_source_that_never_breaks(rt: HostRuntime) {
     let mut piece = [0u8; 3];
     let mut never = Broken::at_call(Ends::new(b"abcd".as_slice()), 0);
-    assert_reads(&rt, &mut never, &mut piece, &[Ok(3), Ok(1)]);
+    assert_reads(&rt, &mut never, &mut piece, &[(Ok(3), b'a'), (Ok(1), b'd')]);
 }
 
 // A drain that fails once.
 type BrokenDrain = Broken<Ends<Vec<u8>>>;
 
+/// Writing these bytes ends so.
 fn assert_write(
     rt: &impl Abort,
     drain: &mut BrokenDrain,
     bytes: &[u8],
     wanted: Result<(), Failed>,
 ) {
-    let written = write_all(drain, bytes);
-    assert_eq!(rt; written, wanted);
+    assert_found(rt, write_all(drain, bytes), wanted);
 }
 
+/// How often a drain has failed, and the drain under it.
+fn drain_failures(drain: &BrokenDrain) -> (u64, u64) {
+    (Drain::failures(drain), drain.get_ref().failures())
+}
+
+/// A drain has taken these bytes.
 fn assert_written(rt: &impl Abort, drain: BrokenDrain, wanted: &[u8]) {
     let written = drain.into_inner().into_inner();
-    assert_bytes(rt, written.as_slice(), wanted);
+    assert_found(rt, written.as_slice(), wanted);
+}
+
+/// What writing nothing to a drain that is lent gives.
+fn write_nothing(drain: &mut BrokenDrain) -> Result<(), Failed> {
+    write_all(&mut &mut *drain, b"")
 }
 
 // The drain fails at its second call, and goes on.
 #[test]
-fn a_drain_that_breaks_at_a_call_goes_on(rt: HostRuntime) -> Result<(), Fail> {
+fn a_drain_that_breaks_at_a_call_goes_on(rt: HostRuntime) {
     let mut drain = Broken::at_call(Ends::new(Vec::new(rt.alloc())), 2);
     assert_write(&rt, &mut drain, b"ab".as_slice(), Ok(()));
     assert_write(&rt, &mut drain, b"cd".as_slice(), Err(Failed));
-    write_all(&mut &mut drain, b"")?;
+    assert_found(&rt, write_nothing(&mut drain), Ok(()));
     assert_write(&rt, &mut drain, b"ef".as_slice(), Ok(()));
-    assert!(rt; drain.failures() == 1 && drain.get_ref().failures() == 0);
+    assert_found(&rt, drain_failures(&drain), (1, 0));
     assert_written(&rt, drain, b"abef".as_slice());
-    Ok(())
 }
 
 // The drain fails before its second byte, and goes on.
@@ -226,14 +241,10 @@ fn a_drain_that_breaks_before_a_byte_goes_on(rt: HostRuntime) {
     assert_written(&rt, cut, b"abc".as_slice());
 }
 
-/// Writing these bytes moves so many, or fails.
-fn assert_writes(
-    rt: &impl Abort,
-    drain: &mut Ends<&mut [u8]>,
-    bytes: &[u8],
-    wanted: Result<usize, Failed>,
-) {
-    assert_moved(rt, drain.write(bytes), wanted);
+/// What writing these bytes moves, and how often the drain has failed then.
+fn write_some(drain: &mut Ends<&mut [u8]>, bytes: &[u8]) -> (Result<usize, Failed>, u64) {
+    let moved = drain.write(bytes);
+    (moved, Drain::failures(drain))
 }
 
 // A writer that takes nothing more.
@@ -241,27 +252,26 @@ fn assert_writes(
 fn a_full_writer_fails(rt: HostRuntime) {
     let mut room = [0u8; 2];
     let mut drain = Ends::new(room.as_mut_slice());
-    assert_writes(&rt, &mut drain, b"abc", Ok(2));
-    assert_writes(&rt, &mut drain, b"c", Err(Failed));
-    assert_writes(&rt, &mut drain, b"", Ok(0));
-    assert!(rt; Drain::failures(&drain) == 1);
-}
-
-fn assert_line(rt: &impl Abort, line: Option<&[u8]>, wanted: Option<&[u8]>) {
-    assert_eq!(rt; line, wanted);
+    assert_found(&rt, write_some(&mut drain, b"abc"), (Ok(2), 0));
+    assert_found(&rt, write_some(&mut drain, b"c"), (Err(Failed), 1));
+    assert_found(&rt, write_some(&mut drain, b""), (Ok(0), 1));
 }
 
 #[test]
 fn lines_end_before_a_line_feed(rt: HostRuntime) {
     let mut lines = Lines::new(b"one\r\n\ntwo\r".as_slice());
-    assert_line(&rt, lines.next_line(), Some(b"one".as_slice()));
-    assert_line(&rt, lines.next_line(), Some(b"".as_slice()));
-    assert_line(&rt, lines.next_line(), Some(b"two".as_slice()));
-    assert_line(&rt, lines.next_line(), None);
+    for wanted in [
+        Some(b"one".as_slice()),
+        Some(b"".as_slice()),
+        Some(b"two".as_slice()),
+        None,
+    ] {
+        assert_found(&rt, lines.next_line(), wanted);
+    }
 }
 
 #[test]
 fn an_empty_text_has_no_line(rt: HostRuntime) {
     let mut lines = Lines::new(b"".as_slice());
-    assert_line(&rt, lines.next_line(), None);
+    assert_found(&rt, lines.next_line(), None);
 }

@@ -1,5 +1,7 @@
 //! Lines as Gerrit writes them, and what is found in them.
 
+use super::found::{MEMORY, assert_text};
+use assertions::assert_found;
 use gerrit_events::{
     Ballot, EventFault, EventKey, Finding, Known, Listing, Part, Projects, read_event,
 };
@@ -7,7 +9,6 @@ use op_text::write_body;
 use review_ops::Body;
 use std::alloc::{AllocError, Global};
 use std::process::Abort;
-use std::test::Fail;
 
 /// Adds a fault, as `! NAME KEY`.
 fn push_fault(text: &mut String, fault: EventFault) -> Result<(), AllocError> {
@@ -26,26 +27,27 @@ fn push_key(text: &mut String, key: EventKey) -> Result<(), AllocError> {
 }
 
 /// Adds a body as it is written.
-fn push_body(alloc: Global, text: &mut String, body: &Body) -> Result<(), Fail> {
-    let written = write_body(alloc, body)?;
-    Ok(text.push_str(written.as_str())?)
+fn push_body(alloc: Global, text: &mut String, body: &Body) -> Option<()> {
+    let written = write_body(alloc, body).ok()?;
+    text.push_str(written.as_str()).ok()
 }
 
 /// Adds a body as it is written, behind a mark.
-fn push_shown(alloc: Global, text: &mut String, body: &Body) -> Result<(), Fail> {
-    text.push_str("~ ")?;
+fn push_shown(alloc: Global, text: &mut String, body: &Body) -> Option<()> {
+    text.push_str("~ ").ok()?;
     push_body(alloc, text, body)
 }
 
 /// Adds a ballot, as ` LABEL/VOTER`.
 fn push_ballot(text: &mut String, ballot: &Ballot) -> Result<(), AllocError> {
-    let label = ballot.label.as_str();
-    let voter = ballot.voter.as_str();
-    write!(text, " {label}/{voter}")
+    text.push(' ')?;
+    text.push_str(ballot.label.as_str())?;
+    text.push('/')?;
+    text.push_str(ballot.voter.as_str())
 }
 
 /// Adds the votes of a patch set, as `= CHANGE,SET LABEL/VOTER ..`.
-fn push_listing(text: &mut String, listing: &Listing) -> Result<(), Fail> {
+fn push_listing(text: &mut String, listing: &Listing) -> Result<(), AllocError> {
     let change = listing.change;
     let set = listing.set;
     write!(text, "= {change},{set}")?;
@@ -55,35 +57,41 @@ fn push_listing(text: &mut String, listing: &Listing) -> Result<(), Fail> {
     Ok(())
 }
 
-/// Adds what was found, on a line.
-fn push_finding(alloc: Global, text: &mut String, finding: &Finding) -> Result<(), Fail> {
+/// Adds what was found.
+fn push_finding(alloc: Global, text: &mut String, finding: &Finding) -> Option<()> {
     match finding {
-        Finding::Brings(body) => push_body(alloc, text, body)?,
-        Finding::Shows(body) => push_shown(alloc, text, body)?,
-        Finding::Lists(listing) => push_listing(text, listing)?,
-        Finding::Refuses(fault) => push_fault(text, *fault)?,
+        Finding::Brings(body) => push_body(alloc, text, body),
+        Finding::Shows(body) => push_shown(alloc, text, body),
+        Finding::Lists(listing) => push_listing(text, listing).ok(),
+        Finding::Refuses(fault) => push_fault(text, *fault).ok(),
     }
-    Ok(text.push('\n')?)
+}
+
+/// Adds what was found, each on a line.
+fn push_findings(alloc: Global, text: &mut String, findings: &[Finding]) -> Option<()> {
+    for finding in findings {
+        push_finding(alloc, text, finding)?;
+        text.push('\n').ok()?;
+    }
+    Some(())
+}
+
+/// What was found, as one text.
+fn text_of(alloc: Global, findings: &[Finding]) -> Option<String> {
+    let mut text = String::new(alloc);
+    push_findings(alloc, &mut text, findings)?;
+    Some(text)
 }
 
 /// What is found in a line where these projects are fed, as one text: the bodies as they are written, behind `~ ` where
 /// an event shows them, the listings as `= CHANGE,SET LABEL/VOTER ..`, and the faults as `! NAME KEY`, each on a line.
-fn found_of(
-    alloc: Global,
-    known: &mut Known,
-    projects: &Projects,
-    line: &[u8],
-) -> Result<String, Fail> {
-    let told = read_event(alloc, known, projects, line)?;
-    let mut text = String::new(alloc);
-    for finding in told.findings.as_slice() {
-        push_finding(alloc, &mut text, finding)?;
-    }
-    Ok(text)
+fn found_of(alloc: Global, known: &mut Known, projects: &Projects, line: &[u8]) -> Option<String> {
+    let told = read_event(alloc, known, projects, line).ok()?;
+    text_of(alloc, told.findings.as_slice())
 }
 
 /// What is found in a line where all projects are fed.
-fn found_in(alloc: Global, known: &mut Known, line: &[u8]) -> Result<String, Fail> {
+fn found_in(alloc: Global, known: &mut Known, line: &[u8]) -> Option<String> {
     found_of(alloc, known, &Projects::all(), line)
 }
 
@@ -95,22 +103,20 @@ struct Row {
 }
 
 /// What is found in the last of these lines.
-fn found_last(alloc: Global, lines: &[&str]) -> Result<String, Fail> {
+fn found_last(alloc: Global, lines: &[&str]) -> Option<String> {
     let mut known = Known::new(alloc);
     let mut found = String::new(alloc);
     for line in lines {
         found = found_in(alloc, &mut known, line.as_bytes())?;
     }
-    Ok(found)
+    Some(found)
 }
 
 /// In each row's last line is found what stands beside it.
-fn assert_rows(rt: &impl Abort, alloc: Global, rows: &[Row]) -> Result<(), Fail> {
+fn assert_rows(rt: &impl Abort, alloc: Global, rows: &[Row]) {
     for row in rows {
-        let found = found_last(alloc, row.lines)?;
-        assert_eq!(rt; found.as_str(), row.found);
+        assert_text(rt, found_last(alloc, row.lines), row.found);
     }
-    Ok(())
 }
 
 const CREATED: &str =
@@ -158,8 +164,8 @@ const PATCH_SETS: &[Row] = &[
 ];
 
 #[test]
-fn patch_sets_are_brought(rt: HostRuntime) -> Result<(), Fail> {
-    assert_rows(&rt, rt.alloc(), PATCH_SETS)
+fn patch_sets_are_brought(rt: HostRuntime) {
+    assert_rows(&rt, rt.alloc(), PATCH_SETS);
 }
 
 const COMMENTED: &str =
@@ -205,8 +211,8 @@ const APPROVALS: &[Row] = &[
 ];
 
 #[test]
-fn approvals_are_votes(rt: HostRuntime) -> Result<(), Fail> {
-    assert_rows(&rt, rt.alloc(), APPROVALS)
+fn approvals_are_votes(rt: HostRuntime) {
+    assert_rows(&rt, rt.alloc(), APPROVALS);
 }
 
 /// Changes that are abandoned, restored, merged and deleted.
@@ -238,8 +244,8 @@ const ENDS: &[Row] = &[
 ];
 
 #[test]
-fn changes_end_and_come_back(rt: HostRuntime) -> Result<(), Fail> {
-    assert_rows(&rt, rt.alloc(), ENDS)
+fn changes_end_and_come_back(rt: HostRuntime) {
+    assert_rows(&rt, rt.alloc(), ENDS);
 }
 
 /// Changes as a query answers them.
@@ -290,8 +296,8 @@ const QUERIES: &[Row] = &[
 ];
 
 #[test]
-fn queries_put_right(rt: HostRuntime) -> Result<(), Fail> {
-    assert_rows(&rt, rt.alloc(), QUERIES)
+fn queries_put_right(rt: HostRuntime) {
+    assert_rows(&rt, rt.alloc(), QUERIES);
 }
 
 /// Changes that are work in progress or private, or based on an outdated patch set, and an account that has the name of
@@ -350,14 +356,15 @@ const MARKS: &[Row] = &[
 ];
 
 #[test]
-fn what_gerrit_says_beside_is_voted(rt: HostRuntime) -> Result<(), Fail> {
-    assert_rows(&rt, rt.alloc(), MARKS)
+fn what_gerrit_says_beside_is_voted(rt: HostRuntime) {
+    assert_rows(&rt, rt.alloc(), MARKS);
 }
 
 /// What a line is.
-fn part_of(alloc: Global, line: &str) -> Result<Part, Fail> {
+fn part_of(alloc: Global, line: &str) -> Option<Part> {
     let mut known = Known::new(alloc);
-    Ok(read_event(alloc, &mut known, &Projects::all(), line.as_bytes())?.part)
+    let told = read_event(alloc, &mut known, &Projects::all(), line.as_bytes()).ok()?;
+    Some(told.part)
 }
 
 /// Lines, and what they are.
@@ -394,19 +401,24 @@ const PARTS: &[(&str, Part)] = &[
 ];
 
 #[test]
-fn lines_are_parts_of_what_gerrit_writes(rt: HostRuntime) -> Result<(), Fail> {
+fn lines_are_parts_of_what_gerrit_writes(rt: HostRuntime) {
     for (line, wanted) in PARTS {
-        assert_eq!(rt; part_of(rt.alloc(), line)?, *wanted);
+        assert_found(&rt, part_of(rt.alloc(), line), Some(*wanted));
     }
-    Ok(())
 }
 
-/// What is found in a line where the changes of one project alone are fed.
-fn found_fed(alloc: Global, project: &str, line: &str) -> Result<String, Fail> {
+/// The projects of one name.
+fn project_named(alloc: Global, name: &str) -> Option<Projects> {
     let mut names = Vec::new(alloc);
-    names.push(String::from_str(alloc, project)?)?;
-    let projects = Projects::named(names);
-    found_of(alloc, &mut Known::new(alloc), &projects, line.as_bytes())
+    names.push(String::from_str(alloc, name).ok()?).ok()?;
+    Some(Projects::named(names))
+}
+
+/// Whether something is found in a line where the changes of one project alone are fed.
+fn is_found_fed(alloc: Global, project: &str, line: &str) -> Option<bool> {
+    let projects = project_named(alloc, project)?;
+    let found = found_of(alloc, &mut Known::new(alloc), &projects, line.as_bytes())?;
+    Some(!found.is_empty())
 }
 
 /// Lines of changes of project `p` and of others, and whether something is found in them where that one is fed.
@@ -428,13 +440,11 @@ const FED: &[(&str, bool)] = &[
 ];
 
 #[test]
-fn projects_are_fed_by_their_names(rt: HostRuntime) -> Result<(), Fail> {
+fn projects_are_fed_by_their_names(rt: HostRuntime) {
     for (line, wanted) in FED {
-        let found = found_fed(rt.alloc(), "p", line)?;
-        assert_eq!(rt; !found.as_str().is_empty(), *wanted);
+        assert_found(&rt, is_found_fed(rt.alloc(), "p", line), Some(*wanted));
     }
-    assert!(rt; Projects::all().has("q"));
-    Ok(())
+    assert_found(&rt, Projects::all().has("q"), true);
 }
 
 /// Events of other types, and lines that are no events.
@@ -486,8 +496,16 @@ const OTHERS: &[Row] = &[
 ];
 
 #[test]
-fn other_lines_bring_little(rt: HostRuntime) -> Result<(), Fail> {
-    assert_rows(&rt, rt.alloc(), OTHERS)
+fn other_lines_bring_little(rt: HostRuntime) {
+    assert_rows(&rt, rt.alloc(), OTHERS);
+}
+
+/// Adds a letter so many times.
+fn push_times(text: &mut String, letter: char, times: usize) -> Result<(), AllocError> {
+    for _ in 0..times {
+        text.push(letter)?;
+    }
+    Ok(())
 }
 
 /// A patch set with a message of so many bytes.
@@ -496,60 +514,89 @@ fn long_event(alloc: Global, length: usize) -> Result<String, AllocError> {
         alloc,
         r#"{"type":"patchset-created","patchSet":{"number":1,"revision":"a1"},"change":{"number":101,"commitMessage":""#,
     )?;
-    for _ in 0..length {
-        line.push('x')?;
-    }
+    push_times(&mut line, 'x', length)?;
     line.push_str(r#""}}"#)?;
     Ok(line)
 }
 
-/// Whether the message of a patch set is refused where it has so many bytes. The revision is learned all the same.
-fn is_refused(rt: &impl Abort, alloc: Global, length: usize) -> Result<bool, Fail> {
-    let line = long_event(alloc, length)?;
+/// The change and the patch set of a revision, where it is known.
+type Place = Option<(u32, u32)>;
+
+/// What the revision of a line is known as once the line was read, and whether the line's message was refused.
+fn read_long(alloc: Global, line: &str) -> Option<(Place, bool)> {
     let mut known = Known::new(alloc);
     let found = found_in(alloc, &mut known, line.as_bytes())?;
-    assert_eq!(rt; known.place_of("a1"), Some((101, 1)));
-    Ok(found.as_str() == "! BadEvent commitMessage\n")
+    let is_refused = found.as_str() == "! BadEvent commitMessage\n";
+    Some((known.place_of("a1"), is_refused))
 }
 
+/// The same of a patch set with a message of so many bytes.
+fn read_message(alloc: Global, length: usize) -> Option<(Place, bool)> {
+    let line = long_event(alloc, length).ok()?;
+    read_long(alloc, line.as_str())
+}
+
+// The revision is learned all the same.
 #[test]
-fn long_messages_are_refused(rt: HostRuntime) -> Result<(), Fail> {
-    for length in [65536usize, 65537] {
-        assert_eq!(rt; is_refused(&rt, rt.alloc(), length)?, length == 65537);
+fn long_messages_are_refused(rt: HostRuntime) {
+    for (length, is_refused) in [(65536usize, false), (65537, true)] {
+        let wanted = (Some((101, 1)), is_refused);
+        assert_found(&rt, read_message(rt.alloc(), length), Some(wanted));
     }
-    Ok(())
 }
 
 /// Learns that this number is the revision of the change with this number.
-fn learn_number(alloc: Global, known: &mut Known, number: u32) -> Result<(), Fail> {
-    let revision = format!(in alloc; "{number}")?;
-    known.learn(revision.as_str(), number, 1)?;
-    Ok(())
+fn learn_number(alloc: Global, known: &mut Known, number: u32) -> Option<()> {
+    let revision = format!(in alloc; "{number}").ok()?;
+    known.learn(revision.as_str(), number, 1).ok()
 }
 
-/// The revision is known as that of this place, or isn't known.
-fn assert_place(rt: &impl Abort, known: &Known, revision: &str, wanted: Option<(u32, u32)>) {
-    assert_eq!(rt; known.place_of(revision), wanted);
-}
-
-#[test]
-fn the_oldest_revision_is_forgotten(rt: HostRuntime) -> Result<(), Fail> {
-    let mut known = Known::new(rt.alloc());
-    for number in 1..=100000u32 {
-        learn_number(rt.alloc(), &mut known, number)?;
+/// What is known once the first 100,000 revisions were learned.
+fn learned(alloc: Global) -> Option<Known> {
+    let mut known = Known::new(alloc);
+    for number in 1..=100_000u32 {
+        learn_number(alloc, &mut known, number)?;
     }
-    assert_place(&rt, &known, "1", Some((1, 1)));
-    learn_number(rt.alloc(), &mut known, 100001)?;
-    assert_place(&rt, &known, "1", None);
-    assert_place(&rt, &known, "2", Some((2, 1)));
-    assert_place(&rt, &known, "100001", Some((100001, 1)));
-    known.learn("2", 3, 4)?;
-    assert_place(&rt, &known, "2", Some((2, 1)));
-    Ok(())
+    Some(known)
+}
+
+/// What is known once one more was learned.
+fn with_one_more(alloc: Global, mut known: Known) -> Option<Known> {
+    learn_number(alloc, &mut known, 100_001)?;
+    Some(known)
+}
+
+/// The places of the first revision, of the second and of the last one, where they are known.
+fn places_of(known: &Known) -> [Place; 3] {
+    ["1", "2", "100001"].map(|revision| known.place_of(revision))
+}
+
+/// The place of the second revision once it was learned again, as that of another patch set.
+fn learned_again(mut known: Known) -> Option<Place> {
+    known.learn("2", 3, 4).ok()?;
+    Some(known.place_of("2"))
 }
 
 #[test]
-fn faults_have_numbers_and_names(rt: HostRuntime) -> Result<(), Fail> {
+fn the_oldest_revision_is_forgotten(rt: HostRuntime) {
+    let full = learned(rt.alloc()).expect(&rt, MEMORY);
+    assert_found(&rt, full.place_of("1"), Some((1, 1)));
+    let over = with_one_more(rt.alloc(), full).expect(&rt, MEMORY);
+    let places = [None, Some((2, 1)), Some((100_001, 1))];
+    assert_found(&rt, places_of(&over), places);
+    assert_found(&rt, learned_again(over), Some(Some((2, 1))));
+}
+
+/// The text of the key of a fault, if it has one.
+fn key_of(fault: EventFault) -> Option<&'static str> {
+    match fault.key() {
+        Some(key) => Some(key.text()),
+        None => None,
+    }
+}
+
+#[test]
+fn faults_have_numbers_and_names(rt: HostRuntime) {
     for (fault, number, name, key) in [
         (
             EventFault::BadEvent(EventKey::By),
@@ -559,9 +606,7 @@ fn faults_have_numbers_and_names(rt: HostRuntime) -> Result<(), Fail> {
         ),
         (EventFault::Dropped, 2, "Dropped", None),
     ] {
-        assert_eq!(rt; fault.number(), number);
-        assert_eq!(rt; fault.name(), name);
-        assert_eq!(rt; fault.key().map(|key| key.text()), key);
+        let found = (fault.number(), fault.name(), key_of(fault));
+        assert_found(&rt, found, (number, name, key));
     }
-    Ok(())
 }

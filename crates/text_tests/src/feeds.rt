@@ -1,11 +1,12 @@
 //! Feeds over texts, worked out by hand.
 
+use super::found::MEMORY;
+use assertions::assert_found;
 use byte_ends::{Broken, Drain, Ends, Source};
 use event_feed::{EventWriter, FeedFault, Input, Progress, Taker, events_run, feed_most};
 use gerrit_events::{Part, Projects, Told};
 use std::alloc::{AllocError, Global};
 use std::process::Abort;
-use std::test::Fail;
 
 /// Lines of a source, what is written for them to the two outputs, and how the feed ends.
 #[derive(Clone, Copy)]
@@ -66,9 +67,9 @@ fn fed_lines(alloc: Global, lines: &[u8]) -> Fed {
 
 /// A feed wrote what stands in the row.
 fn assert_fed(rt: &impl Abort, fed: &Fed, row: &Row) {
-    assert_eq!(rt; fed.fault, row.fault);
-    assert_eq!(rt; fed.output.as_slice(), row.output.as_bytes());
-    assert_eq!(rt; fed.errors.as_slice(), row.errors.as_bytes());
+    let found = (fed.fault, fed.output.as_slice(), fed.errors.as_slice());
+    let wanted = (row.fault, row.output.as_bytes(), row.errors.as_bytes());
+    assert_found(rt, found, wanted);
 }
 
 /// Feeds, to their end and up to an event that was dropped.
@@ -191,23 +192,28 @@ fn behind_blanks(alloc: Global, blanks: usize) -> Result<Vec<u8>, AllocError> {
     Ok(line)
 }
 
-/// A feed came to its end, and reported this.
-fn assert_reported(rt: &impl Abort, fed: &Fed, reported: &str) {
-    assert_eq!(rt; fed.fault, None);
-    assert_eq!(rt; fed.errors.as_slice(), reported.as_bytes());
+/// How a feed of one line behind so many blanks ended, and what it reported.
+fn reported(alloc: Global, blanks: usize) -> Option<(Option<FeedFault>, Vec<u8>)> {
+    let line = behind_blanks(alloc, blanks).ok()?;
+    let fed = fed_lines(alloc, line.as_slice());
+    Some((fed.fault, fed.errors))
+}
+
+/// A feed of one line behind so many blanks comes to its end, and reports this.
+fn assert_reported(rt: &impl Abort, alloc: Global, blanks: usize, wanted: &str) {
+    let (fault, errors) = reported(alloc, blanks).expect(rt, MEMORY);
+    assert_found(rt, (fault, errors.as_slice()), (None, wanted.as_bytes()));
 }
 
 /// A line of 1,048,576 bytes is read, and one that is longer by a byte isn't.
 #[test]
-fn lines_have_their_limit(rt: HostRuntime) -> Result<(), Fail> {
-    for (blanks, reported) in [
+fn lines_have_their_limit(rt: HostRuntime) {
+    for (blanks, wanted) in [
         (1048576usize - 16, ""),
         (1048577 - 16, "reviewgate: events 1 BadEvent 1 line\n"),
     ] {
-        let line = behind_blanks(rt.alloc(), blanks)?;
-        assert_reported(&rt, &fed_lines(rt.alloc(), line.as_slice()), reported);
+        assert_reported(&rt, rt.alloc(), blanks, wanted);
     }
-    Ok(())
 }
 
 /// A line that merges a change, and one that is no event.
@@ -290,63 +296,77 @@ const ANSWERS: &[Parts] = &[
 ];
 
 /// Lines one after the other.
-fn joined(alloc: Global, lines: &[&str]) -> Result<String, AllocError> {
+fn joined(alloc: Global, lines: &[&str]) -> Option<String> {
     let mut text = String::new(alloc);
     for line in lines {
-        text.push_str(line)?;
+        text.push_str(line).ok()?;
     }
-    Ok(text)
+    Some(text)
+}
+
+/// How the feed of a stream of these lines ends, and of an answer, and whether both write the same.
+fn ended_both(alloc: Global, lines: &[u8]) -> (Option<FeedFault>, Option<FeedFault>, bool) {
+    let stream = fed_lines(alloc, lines);
+    let answer = fed_input(alloc, Input::Answer, &Projects::all(), lines);
+    let is_same = answer.output.as_slice() == stream.output.as_slice();
+    (stream.fault, answer.fault, is_same)
+}
+
+/// The same of these lines, one after the other.
+fn ended_joined(
+    alloc: Global,
+    lines: &[&str],
+) -> Option<(Option<FeedFault>, Option<FeedFault>, bool)> {
+    let text = joined(alloc, lines)?;
+    Some(ended_both(alloc, text.as_bytes()))
 }
 
 #[test]
-fn an_answer_has_to_be_whole(rt: HostRuntime) -> Result<(), Fail> {
-    let alloc = rt.alloc();
+fn an_answer_has_to_be_whole(rt: HostRuntime) {
     for parts in ANSWERS {
-        let lines = joined(alloc, parts.lines)?;
-        let stream = fed_lines(alloc, lines.as_bytes());
-        assert_eq!(rt; stream.fault, parts.stream);
-        let answer = fed_input(alloc, Input::Answer, &Projects::all(), lines.as_bytes());
-        assert_eq!(rt; answer.fault, parts.answer);
-        assert_eq!(rt; answer.output.as_slice(), stream.output.as_slice());
+        let wanted = (parts.stream, parts.answer, true);
+        assert_found(&rt, ended_joined(rt.alloc(), parts.lines), Some(wanted));
     }
-    Ok(())
 }
+
+/// What is written where an error ends the feed.
+const UP_TO_AN_ERROR: Row = Row {
+    lines: "",
+    output: concat!(
+        "hello 2\n",
+        "take {\"change\":5,\"op\":\"merged\"}\n",
+        "take {\"change\":5,\"message\":\"m\",\"op\":\"patchset\",\"set\":1}\n",
+    ),
+    errors: "",
+    fault: Some(FeedFault::Incomplete),
+};
 
 /// An error ends the feed at once: what comes after it isn't read.
 #[test]
-fn an_error_ends_the_feed(rt: HostRuntime) -> Result<(), Fail> {
-    let alloc = rt.alloc();
-    let lines = joined(alloc, &[MERGED, ERROR, MERGED, "{", ENDS])?;
-    let row = Row {
-        lines: "",
-        output: concat!(
-            "hello 2\n",
-            "take {\"change\":5,\"op\":\"merged\"}\n",
-            "take {\"change\":5,\"message\":\"m\",\"op\":\"patchset\",\"set\":1}\n",
-        ),
-        errors: "",
-        fault: Some(FeedFault::Incomplete),
-    };
-    assert_fed(&rt, &fed_lines(alloc, lines.as_bytes()), &row);
-    Ok(())
+fn an_error_ends_the_feed(rt: HostRuntime) {
+    let lines = joined(rt.alloc(), &[MERGED, ERROR, MERGED, "{", ENDS]).expect(&rt, MEMORY);
+    assert_fed(
+        &rt,
+        &fed_lines(rt.alloc(), lines.as_bytes()),
+        &UP_TO_AN_ERROR,
+    );
+}
+
+/// How many bytes the feed of an answer writes where one project is fed, and how it ends.
+fn fed_for(alloc: Global, name: &str) -> Option<(usize, Option<FeedFault>)> {
+    let name = String::from_str(alloc, name).ok()?;
+    let projects = Projects::named(vec![in alloc; name].ok()?);
+    let fed = fed_input(alloc, Input::Answer, &projects, MERGED.as_bytes());
+    Some((fed.output.len(), fed.fault))
 }
 
 /// Of changes of other projects nothing is written, but their rows are rows.
 #[test]
-fn the_named_projects_are_fed(rt: HostRuntime) -> Result<(), Fail> {
-    let alloc = rt.alloc();
+fn the_named_projects_are_fed(rt: HostRuntime) {
     for (name, length) in [("p", 96usize), ("q", 8)] {
-        let names = vec![in alloc; String::from_str(alloc, name)?]?;
-        let fed = fed_input(
-            alloc,
-            Input::Answer,
-            &Projects::named(names),
-            MERGED.as_bytes(),
-        );
-        assert_eq!(rt; fed.output.len(), length);
-        assert_eq!(rt; fed.fault, Some(FeedFault::Incomplete));
+        let wanted = (length, Some(FeedFault::Incomplete));
+        assert_found(&rt, fed_for(rt.alloc(), name), Some(wanted));
     }
-    Ok(())
 }
 
 /// What was handed to a taker, as far as the tests look.
@@ -412,7 +432,11 @@ fn a_taker_rests_before_more_is_read(rt: HostRuntime) {
         let mut source = Ends::new(
             b"{\"type\":\"a\"}\n{\"type\":\"b\"}\n{\"type\":\"c\"}\n".as_slice(),
         );
-        assert_eq!(rt; counted(alloc, &mut source, last_rest, last_line), wanted);
+        assert_found(
+            &rt,
+            counted(alloc, &mut source, last_rest, last_line),
+            wanted,
+        );
     }
 }
 
@@ -432,7 +456,7 @@ fn rows_open_an_answer_and_statistics_end_it(rt: HostRuntime) {
         (Part::Row(Some(1)), Progress::Open),
     ] {
         progress = progress.after(part);
-        assert_eq!(rt; progress, wanted);
+        assert_found(&rt, progress, wanted);
     }
 }
 
@@ -458,9 +482,8 @@ fn fed_to_failing_output(alloc: Global, call: u64) -> Fed {
 
 /// A feed's output failed when it had taken so many bytes, and nothing was reported.
 fn assert_output_failed(rt: &impl Abort, fed: &Fed, length: usize) {
-    assert_eq!(rt; fed.fault, Some(FeedFault::WriteFault));
-    assert_eq!(rt; fed.output.len(), length);
-    assert!(rt; fed.errors.is_empty());
+    let found = (fed.fault, fed.output.len(), fed.errors.len());
+    assert_found(rt, found, (Some(FeedFault::WriteFault), length, 0));
 }
 
 #[test]
@@ -487,9 +510,10 @@ fn fault_of_failing_errors(alloc: Global) -> Option<FeedFault> {
 
 #[test]
 fn failing_reports_end_the_feed(rt: HostRuntime) {
-    assert_eq!(rt;
+    assert_found(
+        &rt,
         fault_of_failing_errors(rt.alloc()),
-        Some(FeedFault::WriteFault)
+        Some(FeedFault::WriteFault),
     );
 }
 
@@ -510,11 +534,9 @@ fn fed_from_failing_source(alloc: Global, byte: u64) -> Fed {
 #[test]
 fn a_failing_source_ends_the_feed(rt: HostRuntime) {
     let fed = fed_from_failing_source(rt.alloc(), 50);
-    assert_eq!(rt; fed.fault, Some(FeedFault::ReadFault));
-    assert_eq!(rt;
-        fed.output.as_slice(),
-        b"hello 2\ntake {\"change\":7,\"op\":\"merged\"}\n".as_slice()
-    );
+    let found = (fed.fault, fed.output.as_slice());
+    let output = b"hello 2\ntake {\"change\":7,\"op\":\"merged\"}\n".as_slice();
+    assert_found(&rt, found, (Some(FeedFault::ReadFault), output));
 }
 
 #[test]
@@ -528,7 +550,6 @@ fn faults_have_numbers_and_names(rt: HostRuntime) {
         (FeedFault::Ended, 8, "Ended"),
         (FeedFault::Incomplete, 9, "Incomplete"),
     ] {
-        assert_eq!(rt; fault.number(), number);
-        assert_eq!(rt; fault.name(), name);
+        assert_found(&rt, (fault.number(), fault.name()), (number, name));
     }
 }

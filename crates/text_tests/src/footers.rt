@@ -1,10 +1,10 @@
 //! Messages and their footers, worked out by hand.
 
+use super::found::MEMORY;
+use assertions::assert_found;
 use footer_text::{Bases, BasesFault, Footers, depends, footers_are_unique};
-use lattice_core::NoMemory;
 use std::alloc::{AllocError, Global};
 use std::process::Abort;
-use std::test::Fail;
 
 const REVIEW: &str = "https://review.example.org/";
 
@@ -25,9 +25,9 @@ fn footers_of<'m>(
     bases: &[&str],
     change: u32,
     message: &'m str,
-) -> Result<Footers<'m>, Fail> {
-    let bases = Bases::new(alloc, bases)?;
-    Ok(depends(alloc, &bases, change, message)?)
+) -> Option<Footers<'m>> {
+    let bases = Bases::new(alloc, bases).ok()?;
+    depends(alloc, &bases, change, message).ok()
 }
 
 /// A message of a change, the bases that read it, and what its footers say.
@@ -40,18 +40,17 @@ struct Row {
 }
 
 /// The footers of each row's message say what stands beside it.
-fn assert_rows(rt: &impl Abort, alloc: Global, rows: &[Row]) -> Result<(), Fail> {
+fn assert_rows(rt: &impl Abort, alloc: Global, rows: &[Row]) {
     for row in rows {
-        let found = footers_of(alloc, row.bases, row.change, row.message)?;
+        let found = footers_of(alloc, row.bases, row.change, row.message).expect(rt, MEMORY);
         assert_footers(rt, &found, row);
     }
-    Ok(())
 }
 
 /// The footers are those of the row.
 fn assert_footers(rt: &impl Abort, found: &Footers<'_>, row: &Row) {
-    assert_eq!(rt; found.needs.as_slice(), row.needs);
-    assert_eq!(rt; found.ignored.as_slice(), row.ignored);
+    let found = (found.needs.as_slice(), found.ignored.as_slice());
+    assert_found(rt, found, (row.needs, row.ignored));
 }
 
 /// The message as that of change 9, which its last line names, and as that of a change with no number.
@@ -80,15 +79,15 @@ const NINE_LINES: &[Row] = &[
 ];
 
 #[test]
-fn nine_lines(rt: HostRuntime) -> Result<(), Fail> {
+fn nine_lines(rt: HostRuntime) {
     footers_are_unique();
-    assert_rows(&rt, rt.alloc(), NINE_LINES)
+    assert_rows(&rt, rt.alloc(), NINE_LINES);
 }
 
 /// What one line names under three bases; 0 where its value is ignored, and nothing where it is no footer.
-fn named(alloc: Global, line: &str) -> Result<Option<u32>, Fail> {
+fn named(alloc: Global, line: &str) -> Option<Option<u32>> {
     let found = footers_of(alloc, &["https://r/", "https://r/c/", "ssh://r/"], 7, line)?;
-    Ok(first_named(&found))
+    Some(first_named(&found))
 }
 
 /// The first change that the footers need, where they ignore nothing, and 0 where they ignore something alone.
@@ -104,11 +103,10 @@ fn first_named(found: &Footers<'_>) -> Option<u32> {
 type Named = (&'static str, Option<u32>);
 
 /// Each line names what stands beside it.
-fn assert_named(rt: &impl Abort, alloc: Global, rows: &[Named]) -> Result<(), Fail> {
+fn assert_named(rt: &impl Abort, alloc: Global, rows: &[Named]) {
     for (line, change) in rows {
-        assert_eq!(rt; named(alloc, line)?, *change, "{line:?}");
+        assert_found(rt, (*line, named(alloc, line)), (*line, Some(*change)));
     }
-    Ok(())
 }
 
 /// Values of a footer, with the change that each names.
@@ -144,8 +142,8 @@ const VALUES: &[Named] = &[
 ];
 
 #[test]
-fn values(rt: HostRuntime) -> Result<(), Fail> {
-    assert_named(&rt, rt.alloc(), VALUES)
+fn values(rt: HostRuntime) {
+    assert_named(&rt, rt.alloc(), VALUES);
 }
 
 /// Lines, with the change that each names. The second base reads `https://r/c/12` too, and the first doesn't; the first
@@ -171,8 +169,8 @@ const LINES: &[Named] = &[
 ];
 
 #[test]
-fn lines(rt: HostRuntime) -> Result<(), Fail> {
-    assert_named(&rt, rt.alloc(), LINES)
+fn lines(rt: HostRuntime) {
+    assert_named(&rt, rt.alloc(), LINES);
 }
 
 /// Messages that two bases read. Where the first names the message's own change, the second isn't asked.
@@ -209,8 +207,8 @@ const TWO_BASES: &[Row] = &[
 
 // The first base that reads a value counts, in the order in which the bases come.
 #[test]
-fn first_base(rt: HostRuntime) -> Result<(), Fail> {
-    assert_rows(&rt, rt.alloc(), TWO_BASES)
+fn first_base(rt: HostRuntime) {
+    assert_rows(&rt, rt.alloc(), TWO_BASES);
 }
 
 /// Adds a footer of 32 bytes, for a number of nine digits.
@@ -228,22 +226,19 @@ fn long_message(alloc: Global) -> Result<String, AllocError> {
     Ok(message)
 }
 
-/// How many changes footers need, which is the first, and how many values they ignore.
-fn counts(found: &Footers<'_>) -> (usize, Option<u32>, usize) {
-    (
-        found.needs.len(),
-        found.needs.first().copied(),
-        found.ignored.len(),
-    )
+/// How many changes the footers of a message need, which is the first, and how many values they ignore.
+fn counts(alloc: Global, message: &str) -> Option<(usize, Option<u32>, usize)> {
+    let found = footers_of(alloc, &["https://r/"], 0, message)?;
+    let first = found.needs.first().copied();
+    Some((found.needs.len(), first, found.ignored.len()))
 }
 
 #[test]
-fn many_footers(rt: HostRuntime) -> Result<(), Fail> {
-    let message = long_message(rt.alloc())?;
-    assert_eq!(rt; message.len(), 65_536);
-    let found = footers_of(rt.alloc(), &["https://r/"], 0, message.as_str())?;
-    assert_eq!(rt; counts(&found), (1024, Some(999_998_976), 0));
-    Ok(())
+fn many_footers(rt: HostRuntime) {
+    let message = long_message(rt.alloc()).ok().expect(&rt, MEMORY);
+    assert_found(&rt, message.len(), 65_536);
+    let wanted = (1024, Some(999_998_976), 0);
+    assert_found(&rt, counts(rt.alloc(), message.as_str()), Some(wanted));
 }
 
 /// Why these texts are no bases.
@@ -262,48 +257,43 @@ fn long_base(alloc: Global, end: &str) -> Result<String, AllocError> {
 }
 
 /// Why a base of 255 letters and this end is none behind another one.
-fn long_fault(alloc: Global, end: &str) -> Result<Option<BasesFault>, AllocError> {
-    let text = long_base(alloc, end)?;
-    Ok(fault(alloc, &["/", text.as_str()]))
+fn long_fault(alloc: Global, end: &str) -> Option<Option<BasesFault>> {
+    let text = long_base(alloc, end).ok()?;
+    Some(fault(alloc, &["/", text.as_str()]))
 }
 
 // A base of 256 bytes, and one of 257.
 #[test]
-fn long_bases(rt: HostRuntime) -> Result<(), Fail> {
-    assert_eq!(rt; long_fault(rt.alloc(), "/")?, None);
-    assert_eq!(rt; long_fault(rt.alloc(), "//")?, Some(BasesFault::BadBase(1)));
-    Ok(())
+fn long_bases(rt: HostRuntime) {
+    let faults = (long_fault(rt.alloc(), "/"), long_fault(rt.alloc(), "//"));
+    let wanted = (Some(None), Some(Some(BasesFault::BadBase(1))));
+    assert_found(&rt, faults, wanted);
 }
 
-/// The base at this place is this one.
-fn assert_base(rt: &impl Abort, bases: &Bases, place: usize, wanted: Option<&str>) {
-    assert_eq!(rt; bases.get(place), wanted);
+/// How many bases there are, also by going over them, and whether the second one is `x/` and there is no fourth one.
+fn counted(bases: &Bases) -> (usize, usize, bool, bool) {
+    let is_second = bases.get(1) == Some("x/");
+    (
+        bases.len(),
+        bases.iter().count(),
+        is_second,
+        bases.get(3).is_none(),
+    )
 }
 
-/// There are so many bases, also by going over them.
-fn assert_count(rt: &impl Abort, bases: &Bases, count: usize) {
-    assert_eq!(rt; (bases.len(), bases.iter().count()), (count, count));
-}
-
-/// The copy of the bases has this one at this place.
-fn assert_copied(
-    rt: &impl Abort,
-    bases: &Bases,
-    place: usize,
-    wanted: Option<&str>,
-) -> Result<(), Fail> {
-    let copy = bases.copy()?;
-    assert_base(rt, &copy, place, wanted);
-    Ok(())
+/// Whether the copy of the bases has this one at this place.
+fn is_copied(bases: &Bases, place: usize, wanted: &str) -> Option<bool> {
+    let copy = bases.copy().ok()?;
+    Some(copy.get(place) == Some(wanted))
 }
 
 #[test]
-fn bases(rt: HostRuntime) -> Result<(), Fail> {
-    let bases = Bases::new(rt.alloc(), &[GOOD, "x/", "/"])?;
-    assert_count(&rt, &bases, 3);
-    assert_base(&rt, &bases, 1, Some("x/"));
-    assert_base(&rt, &bases, 3, None);
-    assert_copied(&rt, &bases, 2, Some("/"))
+fn bases(rt: HostRuntime) {
+    let bases = Bases::new(rt.alloc(), &[GOOD, "x/", "/"])
+        .ok()
+        .expect(&rt, MEMORY);
+    assert_found(&rt, counted(&bases), (3, 3, true, true));
+    assert_found(&rt, is_copied(&bases, 2, "/"), Some(true));
 }
 
 const GOOD: &str = "https://r/";
@@ -329,7 +319,7 @@ const FAULTS: &[(&[&str], Option<BasesFault>)] = &[
 #[test]
 fn texts_that_are_no_bases(rt: HostRuntime) {
     for (texts, wanted) in FAULTS {
-        assert_eq!(rt; fault(rt.alloc(), texts), *wanted);
+        assert_found(&rt, fault(rt.alloc(), texts), *wanted);
     }
 }
 
@@ -339,7 +329,6 @@ fn faults_have_numbers_and_names(rt: HostRuntime) {
         (BasesFault::BadBase(8), 1u8, "BadBase"),
         (BasesFault::NoMemory, 2, "NoMemory"),
     ] {
-        assert_eq!(rt; fault.number(), number);
-        assert_eq!(rt; fault.name(), name);
+        assert_found(&rt, (fault.number(), fault.name()), (number, name));
     }
 }

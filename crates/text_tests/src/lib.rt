@@ -14,6 +14,8 @@ mod feeds;
 #[cfg(test)]
 mod footers;
 #[cfg(test)]
+mod found;
+#[cfg(test)]
 mod operation_texts;
 #[cfg(test)]
 mod plays;

@@ -1,10 +1,11 @@
 //! What the lines of scripts say, worked out by hand.
 
+use super::found::{MEMORY, assert_answer};
+use assertions::assert_found;
 use gate_rules::Gate;
-use script_text::{Script, ScriptFault, Step, read_script};
+use script_text::{ScriptFault, Step, read_script};
 use std::alloc::{AllocError, Global};
 use std::process::Abort;
-use std::test::Fail;
 use world_core::Event;
 
 /// A gate that wants open changes.
@@ -47,30 +48,27 @@ fn first_in_words(alloc: Global, steps: &[Step<'_>]) -> Result<String, AllocErro
 }
 
 /// A line behind `sites 1`.
-fn behind_sites(alloc: Global, line: &str) -> Result<String, AllocError> {
-    let mut text = String::from_str(alloc, "sites 1\n")?;
-    text.push_str(line)?;
-    Ok(text)
+fn behind_sites(alloc: Global, line: &str) -> Option<String> {
+    let mut text = String::from_str(alloc, "sites 1\n").ok()?;
+    text.push_str(line).ok()?;
+    Some(text)
+}
+
+/// What the first step of a text says, in words.
+fn first_said(alloc: Global, text: &[u8], gate: Option<&Gate>) -> Option<String> {
+    let script = read_script(alloc, text, gate).ok()?;
+    first_in_words(alloc, script.steps.as_slice()).ok()
 }
 
 /// What a line says behind `sites 1`, in words.
-fn said(alloc: Global, line: &str, gate: Option<&Gate>) -> Result<String, Fail> {
+fn said(alloc: Global, line: &str, gate: Option<&Gate>) -> Option<String> {
     let text = behind_sites(alloc, line)?;
-    let script = read_script(alloc, text.as_bytes(), gate)?;
-    Ok(first_in_words(alloc, script.steps.as_slice())?)
+    first_said(alloc, text.as_bytes(), gate)
 }
 
 /// A line says this behind `sites 1`.
-fn assert_said(
-    rt: &impl Abort,
-    alloc: Global,
-    line: &str,
-    gate: Option<&Gate>,
-    words: &str,
-) -> Result<(), Fail> {
-    let found = said(alloc, line, gate)?;
-    assert_eq!(rt; found.as_str(), words, "{line}");
-    Ok(())
+fn assert_said(rt: &impl Abort, alloc: Global, line: &str, gate: Option<&Gate>, words: &str) {
+    assert_answer(rt, line, said(alloc, line, gate), words);
 }
 
 /// Lines, with the steps that they say.
@@ -93,11 +91,10 @@ const STEPS: &[(&str, &str)] = &[
 ];
 
 #[test]
-fn lines_say_their_steps(rt: HostRuntime) -> Result<(), Fail> {
+fn lines_say_their_steps(rt: HostRuntime) {
     for (line, words) in STEPS {
-        assert_said(&rt, rt.alloc(), line, None, words)?;
+        assert_said(&rt, rt.alloc(), line, None, words);
     }
-    Ok(())
 }
 
 /// Lines that say no step.
@@ -117,31 +114,29 @@ const OTHERS: &[&str] = &[
 ];
 
 #[test]
-fn other_lines_say_nothing(rt: HostRuntime) -> Result<(), Fail> {
+fn other_lines_say_nothing(rt: HostRuntime) {
     for line in OTHERS {
-        assert_said(&rt, rt.alloc(), line, None, "nothing")?;
+        assert_said(&rt, rt.alloc(), line, None, "nothing");
     }
-    Ok(())
 }
 
 #[test]
-fn reports_are_asked_for_under_a_gate(rt: HostRuntime) -> Result<(), Fail> {
-    let gate = Gate::read(rt.alloc(), GATE)?;
-    assert_said(&rt, rt.alloc(), "ready 1", Some(&gate), "the report of 1")?;
-    assert_said(&rt, rt.alloc(), "ready 1", None, "nothing")
+fn reports_are_asked_for_under_a_gate(rt: HostRuntime) {
+    let gate = Gate::read(rt.alloc(), GATE).ok().expect(&rt, MEMORY);
+    assert_said(&rt, rt.alloc(), "ready 1", Some(&gate), "the report of 1");
+    assert_said(&rt, rt.alloc(), "ready 1", None, "nothing");
 }
 
 /// The sites of a script, how many steps it has, and its bad line.
-fn counts(script: &Script<'_>) -> (u16, usize, Option<u64>) {
-    (script.sites, script.steps.len(), script.bad_line)
+fn counts(alloc: Global, text: &[u8]) -> Option<(u16, usize, Option<u64>)> {
+    let script = read_script(alloc, text, None).ok()?;
+    Some((script.sites, script.steps.len(), script.bad_line))
 }
 
 #[test]
-fn a_bad_line_ends_a_script(rt: HostRuntime) -> Result<(), Fail> {
+fn a_bad_line_ends_a_script(rt: HostRuntime) {
     let text = b"# two\nsites 2\n\nstate 1\nstate\nstate 2\n".as_slice();
-    let script = read_script(rt.alloc(), text, None)?;
-    assert_eq!(rt; counts(&script), (2, 1, Some(5)));
-    Ok(())
+    assert_found(&rt, counts(rt.alloc(), text), Some((2, 1, Some(5))));
 }
 
 /// The refusal of a script.
@@ -158,10 +153,7 @@ fn a_script_begins_with_its_sites(rt: HostRuntime) {
         "sites 65\n",
         "state 1\nsites 1\n",
     ] {
-        assert_eq!(rt;
-            refusal_of(rt.alloc(), text),
-            Some(ScriptFault::BadSites),
-            "{text}"
-        );
+        let refusal = refusal_of(rt.alloc(), text);
+        assert_found(&rt, (text, refusal), (text, Some(ScriptFault::BadSites)));
     }
 }

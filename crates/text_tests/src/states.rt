@@ -1,13 +1,12 @@
 //! State texts worked out by hand, and what is written where the writer fails.
 
+use super::found::assert_bytes;
+use assertions::assert_found;
 use byte_ends::{Broken, Ends};
 use deeds::{Deed, op_of};
 use report_text::{WriteStateFault, write_state};
-use review_ops::Op;
 use state_core::State;
 use std::alloc::Global;
-use std::process::Abort;
-use std::test::Fail;
 
 /// What a site stamps on change 101 with a time, which is its sequence number too, as site 1 under start 1.
 #[derive(Clone, Copy)]
@@ -32,45 +31,36 @@ fn deed_of(step: Step) -> (u64, Deed) {
     }
 }
 
-/// The operation of a step.
-fn step_op(alloc: Global, step: Step) -> Result<Op, Fail> {
+/// Takes the operation of a step.
+fn take_step(alloc: Global, state: &mut State, step: Step) -> Option<()> {
     let (time, deed) = deed_of(step);
-    Ok(op_of(alloc, time, 101, deed).ok_or("memory")?)
+    let op = op_of(alloc, time, 101, deed)?;
+    state.take(&op).ok()
 }
 
-/// The state of the operations in their order, or in the other order and each twice.
-fn state_of(alloc: Global, steps: &[Step], is_turned: bool) -> Result<State, Fail> {
+/// The state of the operations in their order.
+fn forth(alloc: Global, steps: &[Step]) -> Option<State> {
     let mut state = State::new(alloc);
-    for place in 0..steps.len() {
-        let step = if is_turned {
-            steps[steps.len() - 1 - place]
-        } else {
-            steps[place]
-        };
-        state.take(&step_op(alloc, step)?)?;
+    for step in steps {
+        take_step(alloc, &mut state, *step)?;
     }
-    Ok(state)
+    Some(state)
+}
+
+/// The state of the operations in the other order.
+fn back(alloc: Global, steps: &[Step]) -> Option<State> {
+    let mut state = State::new(alloc);
+    for step in steps.iter().rev() {
+        take_step(alloc, &mut state, *step)?;
+    }
+    Some(state)
 }
 
 /// The text of a state.
-fn text_of(alloc: Global, state: &State) -> Result<Vec<u8>, Fail> {
+fn text_of(alloc: Global, state: Option<State>) -> Option<Vec<u8>> {
     let mut written = Ends::new(Vec::new(alloc));
-    write_state(state, &mut written)?;
-    Ok(written.into_inner())
-}
-
-/// The operations give this text, in their order or in the other one.
-fn assert_text(
-    rt: &impl Abort,
-    alloc: Global,
-    steps: &[Step],
-    is_turned: bool,
-    wanted: &str,
-) -> Result<(), Fail> {
-    let state = state_of(alloc, steps, is_turned)?;
-    let text = text_of(alloc, &state)?;
-    assert_eq!(rt; text.as_slice(), wanted.as_bytes());
-    Ok(())
+    write_state(&state?, &mut written).ok()?;
+    Some(written.into_inner())
 }
 
 /// Operations with the state text that they give in any order.
@@ -118,34 +108,37 @@ const ARRIVALS: &[(&[Step], &str)] = &[
 ];
 
 #[test]
-fn states_in_any_order_of_arrival(rt: HostRuntime) -> Result<(), Fail> {
+fn states_in_any_order_of_arrival(rt: HostRuntime) {
+    let alloc = rt.alloc();
     for (steps, wanted) in ARRIVALS {
-        assert_text(&rt, rt.alloc(), steps, false, wanted)?;
-        assert_text(&rt, rt.alloc(), steps, true, wanted)?;
+        assert_bytes(&rt, text_of(alloc, forth(alloc, steps)), wanted.as_bytes());
+        assert_bytes(&rt, text_of(alloc, back(alloc, steps)), wanted.as_bytes());
     }
-    Ok(())
 }
 
 /// A writer that fails once, and what it takes after that.
 type Failing = Broken<Ends<Vec<u8>>>;
 
-/// The first write fails, and the second doesn't.
-fn assert_fails_once(rt: &impl Abort, state: &State, failing: &mut Failing) {
-    let first = write_state(state, failing);
-    assert_eq!(rt; first, Err(WriteStateFault::WriteFault));
-    let second = write_state(state, failing);
-    assert_eq!(rt; second, Ok(()));
+/// How two writes of a state end, and what the writer has then.
+fn written_twice(
+    state: &State,
+    mut failing: Failing,
+) -> (
+    Result<(), WriteStateFault>,
+    Result<(), WriteStateFault>,
+    Vec<u8>,
+) {
+    let first = write_state(state, &mut failing);
+    let second = write_state(state, &mut failing);
+    (first, second, failing.into_inner().into_inner())
 }
 
-/// The writer has taken this.
-fn assert_taken(rt: &impl Abort, failing: &Failing, wanted: &[u8]) {
-    assert_eq!(rt; failing.get_ref().get_ref().as_slice(), wanted);
-}
-
+// The first write fails, and the second doesn't.
 #[test]
 fn a_failing_writer(rt: HostRuntime) {
-    let state = State::new(rt.alloc());
-    let mut failing = Broken::at_call(Ends::new(Vec::new(rt.alloc())), 1);
-    assert_fails_once(&rt, &state, &mut failing);
-    assert_taken(&rt, &failing, b"end 0\n");
+    let failing = Broken::at_call(Ends::new(Vec::new(rt.alloc())), 1);
+    let (first, second, taken) = written_twice(&State::new(rt.alloc()), failing);
+    let fault = Err(WriteStateFault::WriteFault);
+    let wanted = (fault, Ok(()), b"end 0\n".as_slice());
+    assert_found(&rt, (first, second, taken.as_slice()), wanted);
 }
