@@ -1,7 +1,7 @@
 //! Peers that hand over what would poison a record: it isn't let in, and the site goes on.
 
 use super::programs::{
-    GATE, UNTIL_INPUT_ENDS, WORDS, Way, Words, free_port, is_removed, is_written, serve_with,
+    BARE, GATE, UNTIL_INPUT_ENDS, Way, Words, free_port, is_removed, is_written, serve_with,
 };
 use super::restarts::TAKEN;
 use assertions::assert_found;
@@ -218,7 +218,7 @@ fn kept(port: u16) -> Words {
         pause_ms: 50,
         sessions: 1,
         journal: Some("guarded.tmp"),
-        ..WORDS
+        ..BARE
     }
 }
 

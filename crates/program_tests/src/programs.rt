@@ -62,7 +62,7 @@ pub struct Words {
 }
 
 /// A site whose gate file is the standard input.
-pub const WORDS: Words = Words {
+pub const BARE: Words = Words {
     gate: "-",
     keys: None,
     peer: None,
@@ -84,7 +84,7 @@ pub const WORDS: Words = Words {
 /// A site that ends with its input.
 pub const UNTIL_INPUT_ENDS: Words = Words {
     until_input_ends: true,
-    ..WORDS
+    ..BARE
 };
 
 /// A site that ends with its input, and keeps a journal in the file of this name.
@@ -278,7 +278,7 @@ pub fn is_there<R: Files>(rt: &R, name: &str) -> bool {
 fn a_gate_file_that_is_not_there_is_refused(rt: HostRuntime) {
     let words = Words {
         gate: "no/such/file",
-        ..WORDS
+        ..BARE
     };
     let ended = serve_input(rt, words, SystemFiles::new(rt));
     assert_found(&rt, ended, Way::Refused);
@@ -295,7 +295,7 @@ where
     let (_listener, port) = listening(&rt).ok()?;
     let words = Words {
         port: Some(port),
-        ..WORDS
+        ..BARE
     };
     Some(serve_input(rt, words, files))
 }

@@ -180,8 +180,8 @@ where
     text_of(&talk(rt, alloc, port, ASK_READY)) == wanted
 }
 
-/// How many clients that ask what is ready are answered under each of the two gates in turn, which are put in force just
-/// before; and whether the page of the site shows the item once the last one is.
+/// How many clients that ask what is ready are answered under each of the two gates in turn, which are put in force
+/// just before; and whether the page of the site shows the item once the last one is.
 fn ask_in_turn<R>(rt: &R, alloc: Global, ports: (u16, u16), reloads: &Reloads) -> (usize, bool)
 where
     R: Net<Listener = TcpListener, Stream = TcpStream> + Wait,
@@ -204,7 +204,8 @@ where
     (answered, is_put && is_shown)
 }
 
-/// Whether a client that asks what is ready is answered under one of the two gates, or before the patch set is taken in.
+/// Whether a client that asks what is ready is answered under one of the two gates, or before the patch set is taken
+/// in.
 fn is_answered<R>(rt: &R, alloc: Global, port: u16) -> bool
 where
     R: Net<Listener = TcpListener, Stream = TcpStream>,
@@ -255,7 +256,8 @@ where
     both
 }
 
-/// A site with two workers that shows itself, prints nothing and has these gates put in force; and the port of its page.
+/// A site with two workers that shows itself, prints nothing and has these gates put in force; and the port of its
+/// page.
 fn shown_reloading<R>(
     rt: &R,
     alloc: Global,
@@ -438,7 +440,7 @@ fn nothing_typed(alloc: Global) -> Option<Written> {
 }
 
 /// A site's desk, where memory suffices for it.
-fn desk<R: Wait + Copy>(rt: R, alloc: Global) -> Option<Desk<R>> {
+fn new_desk<R: Wait + Copy>(rt: R, alloc: Global) -> Option<Desk<R>> {
     let typed = nothing_typed(alloc)?;
     let keys = Arc::try_clone(&typed).ok()?;
     let (errors, written) = watched_end(rt, alloc).ok()?;
@@ -454,8 +456,8 @@ fn desk<R: Wait + Copy>(rt: R, alloc: Global) -> Option<Desk<R>> {
     })
 }
 
-/// How a site at this port ends, under a gate file that is read again when it reads that, which writes its errors there,
-/// with their times.
+/// How a site at this port ends, under a gate file that is read again when it reads that, which writes its errors
+/// there, with their times.
 fn serve_typed<R, N>(rt: R, port: u16, typed: Written, errors: Ends<Shared<R>>, files: N) -> Way
 where
     R: Net<Listener = TcpListener, Stream = TcpStream> + RandomSource,
@@ -473,8 +475,8 @@ where
     serve_with(rt, words, input, files, errors, &NoKeys)
 }
 
-/// A gate file that is read again is in force. One that is refused isn't: that is said, and the one before it stays. Lines
-/// with a time have that of when they were written.
+/// A gate file that is read again is in force. One that is refused isn't: that is said, and the one before it stays.
+/// Lines with a time have that of when they were written.
 #[test]
 fn a_gate_file_is_read_again(rt: HostRuntime) -> Result<(), Fail> {
     let port = free_port(&rt).ok_or("a port")?;
@@ -484,7 +486,7 @@ fn a_gate_file_is_read_again(rt: HostRuntime) -> Result<(), Fail> {
         errors,
         written,
         terminal,
-    } = desk(rt, rt.alloc()).ok_or("a desk")?;
+    } = new_desk(rt, rt.alloc()).ok_or("a desk")?;
     let typist = thread::spawn(&rt, move || type_reloads(&rt, rt.alloc(), port, &terminal))?;
     let ended = serve_typed(rt, port, typed, errors, SystemFiles::new(rt));
     assert_found(&rt, typist.join(&rt), true);

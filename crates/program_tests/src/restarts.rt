@@ -1,8 +1,8 @@
-//! What a site of `serve` does with its words: what it acknowledged is there when it begins again, by its journal or its
-//! snapshot, and its options have their effect.
+//! What a site of `serve` does with its words: what it acknowledged is there when it begins again, by its journal or
+//! its snapshot, and its options have their effect.
 
 use super::programs::{
-    GATE, UNTIL_INPUT_ENDS, WORDS, Way, Words, free_port, is_removed, is_written, serve_input,
+    BARE, GATE, UNTIL_INPUT_ENDS, Way, Words, free_port, is_removed, is_written, serve_input,
     serve_with,
 };
 use assertions::assert_found;
@@ -63,7 +63,7 @@ where
 fn what_is_acknowledged_is_there_by_a_journal(rt: HostRuntime) {
     let words = Words {
         journal: Some("again.tmp"),
-        ..WORDS
+        ..BARE
     };
     let taken = answers_once(rt, words, TAKE, TAKEN, SystemFiles::new(rt));
     assert_found(&rt, taken, Some((Way::Well, true)));
@@ -83,14 +83,14 @@ fn what_is_acknowledged_is_there_by_a_journal(rt: HostRuntime) {
 fn what_is_saved_is_loaded(rt: HostRuntime) {
     let words = Words {
         save: Some("saved.tmp"),
-        ..WORDS
+        ..BARE
     };
     let taken = answers_once(rt, words, TAKE, TAKEN, SystemFiles::new(rt));
     assert_found(&rt, taken, Some((Way::Well, true)));
     let words = Words {
         load: Some("saved.tmp"),
         start: Some(2),
-        ..WORDS
+        ..BARE
     };
     let passed = answers_once(rt, words, PASS_ON, PASSED, SystemFiles::new(rt));
     assert_found(&rt, passed, Some((Way::Well, true)));
@@ -146,8 +146,8 @@ fn a_line_stop_ends_a_site(rt: HostRuntime) {
     assert_found(&rt, (is_given, is_removed(&rt, "gate.tmp")), (true, true));
 }
 
-/// Gives the site at a port a merge, and runs another one that pulls from it under the same start: whether the merge was
-/// taken in, and how the other site ended. Then the first one is asked to stop.
+/// Gives the site at a port a merge, and runs another one that pulls from it under the same start: whether the merge
+/// was taken in, and how the other site ended. Then the first one is asked to stop.
 fn serve_twin<R, N>(rt: R, port: u16, files: N, stop: &Stop) -> (bool, Way)
 where
     R: Net<Listener = TcpListener, Stream = TcpStream> + RandomSource,
@@ -158,7 +158,7 @@ where
     let words = Words {
         peer: Some(port),
         pause_ms: 50,
-        ..WORDS
+        ..BARE
     };
     let is_taken = text_of(&talk(&rt, rt.alloc(), port, TAKE)) == TAKEN;
     let ended = serve_input(rt, words, files);

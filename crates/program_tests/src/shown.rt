@@ -1,6 +1,6 @@
 //! Sites that show themselves to browsers.
 
-use super::programs::{WORDS, Way, Words, free_port, had, is_there, is_written, serve_input};
+use super::programs::{BARE, Way, Words, free_port, had, is_there, is_written, serve_input};
 use super::sockets::{bits_of, talk_at};
 use assertions::assert_found;
 use command_line::SocketMode;
@@ -207,8 +207,8 @@ fn a_site_shows_how_it_is(rt: HostRuntime) {
 const READY: &str =
     r#"{"total":1,"page":1,"items":[{"change":101,"set":1,"subject":"<b>&","ready":true,"place":1}]}"#;
 
-/// What is seen of a site at its socket: whether it shows the item to this machine, and nothing to another host, and the
-/// socket's mode.
+/// What is seen of a site at its socket: whether it shows the item to this machine, and nothing to another host, and
+/// the socket's mode.
 type Seen = (bool, bool, Option<u32>);
 
 /// Takes a patch set in at a site, looks at its page over the socket, and has a second session.
@@ -240,7 +240,7 @@ fn a_site_shows_itself_at_a_socket(rt: HostRuntime) -> Result<(), Fail> {
         sessions: 2,
         mode: SocketMode::Group,
         page: Some("./page.tmp"),
-        ..WORDS
+        ..BARE
     };
     let browser = thread::spawn(&rt, move || look_between(&rt, rt.alloc(), port))?;
     let ended = serve_input(rt, words, SystemFiles::new(rt));
@@ -257,7 +257,7 @@ fn a_page_replaces_no_other_file(rt: HostRuntime) {
     let words = Words {
         sockets: &["./beside.tmp"],
         page: Some("./no_page.tmp"),
-        ..WORDS
+        ..BARE
     };
     let ended = serve_input(rt, words, SystemFiles::new(rt));
     assert_found(&rt, ended, Way::Program(ProgramFault::NoBind));

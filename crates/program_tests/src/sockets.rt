@@ -1,7 +1,7 @@
 //! Sites that listen at Unix sockets.
 
 use super::programs::{
-    UNTIL_INPUT_ENDS, WORDS, Way, Words, had, is_removed, is_there, is_written, serve_input,
+    BARE, UNTIL_INPUT_ENDS, Way, Words, had, is_removed, is_there, is_written, serve_input,
 };
 use assertions::assert_found;
 use byte_ends::Ends;
@@ -192,8 +192,8 @@ where
     is_answered_at(rt, alloc, path, PASS_ON, PASSED)
 }
 
-/// Gives the site at the first socket a merge, and runs another one at the second, which pulls from it: whether the merge
-/// was taken in, how many operations the other site had at its end, and whether it passed the merge on.
+/// Gives the site at the first socket a merge, and runs another one at the second, which pulls from it: whether the
+/// merge was taken in, how many operations the other site had at its end, and whether it passed the merge on.
 fn feed_and_pull<R>(rt: &R, alloc: Global, second: UnixListener) -> (bool, (Option<usize>, bool))
 where
     R: Net<Listener = TcpListener, Stream = TcpStream> + Threads + Wait + Clock + Sync,
@@ -260,7 +260,7 @@ fn a_site_removes_its_socket_at_its_end(rt: HostRuntime) {
 fn a_site_that_does_not_listen_leaves_no_socket(rt: HostRuntime) {
     let words = Words {
         sockets: &["./gone.tmp", "./no/such/folder/socket"],
-        ..WORDS
+        ..BARE
     };
     let ended = serve_input(rt, words, SystemFiles::new(rt));
     assert_found(&rt, ended, Way::Program(ProgramFault::NoBind));

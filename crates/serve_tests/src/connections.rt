@@ -1,13 +1,14 @@
 //! Connections over sockets of this machine.
 
 use assertions::assert_found;
+use running_sites::listening;
 use site_net::{Awaited, Patience, PatientReader, PatientWriter, Stop};
 use std::io::{Read, Write};
 use std::net::{Net, TcpListener, TcpStream};
 use std::sync::Wait;
+use std::thread;
 use std::thread::Threads;
 use std::time::{Clock, Duration, Instant};
-use std::{io, thread};
 
 /// A patience of these milliseconds.
 fn patience(limit: u64, idle: Option<u64>) -> Patience {
@@ -32,15 +33,21 @@ fn patience_ends_at_its_limit(rt: HostRuntime) {
     }
 }
 
+/// Whoever connects first to a listener.
+fn accepted(listener: &TcpListener) -> Option<TcpStream> {
+    let (stream, _address) = listener.accept().ok()?;
+    Some(stream)
+}
+
 /// A connection of this machine with itself: the side that asked for it and the side that was asked.
-fn both_sides<R: Net<Listener = TcpListener, Stream = TcpStream>>(
-    rt: &R,
-) -> io::Result<(TcpStream, TcpStream)> {
-    let listener = TcpListener::bind(rt, "127.0.0.1:0")?;
-    let address = listener.local_addr()?;
-    let asking = TcpStream::connect(rt, address)?;
-    let (asked, _address) = listener.accept()?;
-    Ok((asking, asked))
+fn both_sides<R>(rt: &R) -> Option<(TcpStream, TcpStream)>
+where
+    R: Net<Listener = TcpListener, Stream = TcpStream>,
+{
+    let (listener, port) = listening(rt).ok()?;
+    let asking = TcpStream::connect(rt, ("127.0.0.1", port)).ok()?;
+    let asked = accepted(&listener)?;
+    Some((asking, asked))
 }
 
 /// Whether one call reads just this text, and whether the reading fails then.
@@ -74,7 +81,7 @@ fn is_given_up<R>(rt: &R, patience: Patience, sent: &[u8]) -> Option<(bool, bool
 where
     R: Net<Listener = TcpListener, Stream = TcpStream> + Clock,
 {
-    let (asking, asked) = both_sides(rt).ok()?;
+    let (asking, asked) = both_sides(rt)?;
     let count = (&asking).write(sent).ok()?;
     let (is_text, fails) = is_read_so(rt, &asked, patience, sent);
     Some((is_text && count == sent.len(), fails))
@@ -100,7 +107,7 @@ fn silence_fails<R>(rt: &R, patience: Patience) -> Option<bool>
 where
     R: Net<Listener = TcpListener, Stream = TcpStream> + Clock,
 {
-    let (_asking, asked) = both_sides(rt).ok()?;
+    let (_asking, asked) = both_sides(rt)?;
     Some(fails_first(rt, &asked, patience))
 }
 
@@ -120,7 +127,7 @@ fn is_left<R>(rt: &R, patience: Patience, sent: &[u8]) -> Option<(bool, bool)>
 where
     R: Net<Listener = TcpListener, Stream = TcpStream> + Clock,
 {
-    let (asking, asked) = both_sides(rt).ok()?;
+    let (asking, asked) = both_sides(rt)?;
     let count = (&asking).write(sent).ok()?;
     drop(asking);
     let (is_text, fails) = is_read_so(rt, &asked, patience, sent);
@@ -156,7 +163,7 @@ fn deaf_side_is_refused<R>(rt: &R, patience: Patience) -> Option<bool>
 where
     R: Net<Listener = TcpListener, Stream = TcpStream> + Clock,
 {
-    let (_asking, asked) = both_sides(rt).ok()?;
+    let (_asking, asked) = both_sides(rt)?;
     Some(is_refused(rt, &asked, patience))
 }
 
@@ -190,7 +197,7 @@ fn both_end<R>(rt: &R) -> Option<(bool, bool)>
 where
     R: Net<Listener = TcpListener, Stream = TcpStream> + Threads + Wait + Clock + Sync,
 {
-    let (_asking, asked) = both_sides(rt).ok()?;
+    let (_asking, asked) = both_sides(rt)?;
     let stop = Stop::new();
     Some(thread::join(rt, || read_silence(rt, &asked, &stop), || end(rt, &stop)))
 }

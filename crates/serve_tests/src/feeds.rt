@@ -321,7 +321,11 @@ fn a_feed_ends_where_events_were_dropped(rt: HostRuntime) {
         count: 0,
     };
     let rows = [(lines, wanted), ("{", rest)];
-    assert_found(&rt, rows_of(rt.alloc(), Script::Takes, &rows, ""), (2, true));
+    assert_found(
+        &rt,
+        rows_of(rt.alloc(), Script::Takes, &rows, ""),
+        (2, true),
+    );
 }
 
 /// A merged change, that is abandoned and restored afterwards.

@@ -92,7 +92,7 @@ impl Write for Barred {
 
 /// What such an end has, of which this write fails, once these texts were written to it with times from the fourth second
 /// on, and how many of them were refused.
-fn barred(alloc: Global, failing: u64, texts: &[&str]) -> (Vec<u8>, usize) {
+fn write_barred(alloc: Global, failing: u64, texts: &[&str]) -> (Vec<u8>, usize) {
     let end = Barred {
         written: Vec::new(alloc),
         writes: 0,
@@ -106,7 +106,7 @@ fn barred(alloc: Global, failing: u64, texts: &[&str]) -> (Vec<u8>, usize) {
 /// A time is written together with its line. A line that isn't taken is lost, and the next one has a time.
 #[test]
 fn a_time_and_its_line_are_one_write(rt: HostRuntime) {
-    let (written, refused) = barred(rt.alloc(), 2, &["one\n", "two\n", "three\nfour\n"]);
+    let (written, refused) = write_barred(rt.alloc(), 2, &["one\n", "two\n", "three\nfour\n"]);
     let wanted = "1970-01-01T00:00:04.004Z one\n|1970-01-01T00:00:06.006Z three\n|\
         1970-01-01T00:00:07.007Z four\n|";
     assert_found(&rt, written.as_slice(), wanted.as_bytes());
@@ -119,7 +119,7 @@ fn a_long_line_has_one_time(rt: HostRuntime) {
     let mut line = [b'a'; 5_000];
     line[4_999] = b'\n';
     let text = str::from_utf8(line.as_slice()).unwrap_or("");
-    let (written, refused) = barred(rt.alloc(), 0, &[text]);
+    let (written, refused) = write_barred(rt.alloc(), 0, &[text]);
     assert_found(&rt, (written.len(), refused), (5_027, 0));
     let bar = written.iter().position(|byte| *byte == b'|');
     assert_found(&rt, bar, Some(4_081));
