@@ -106,7 +106,8 @@ fn add_session(alloc: Global, lines: &mut String, wanted: &mut String) -> Option
     add(wanted, &["bye\n"])
 }
 
-/// How many operations a site of one session has at its end, and whether these lines, sent at once, are answered just so.
+/// How many operations a site of one session has at its end, and whether these lines, sent at once, are answered just
+/// so.
 fn is_answered_so<R>(rt: &R, alloc: Global, lines: &str, wanted: &str) -> Option<(usize, bool)>
 where
     R: Net<Listener = TcpListener, Stream = TcpStream> + Threads + Wait + Clock + Sync,

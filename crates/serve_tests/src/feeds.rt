@@ -177,7 +177,8 @@ fn feed_for(alloc: Global, script: Script) -> Option<TestFeed> {
     }
 }
 
-/// What is wanted of a feed: what is asked for, what is reported, how it ends, and how many bodies were offered up to then.
+/// What is wanted of a feed: what is asked for, what is reported, how it ends, and how many bodies were offered up to
+/// then.
 #[derive(Clone, Copy)]
 struct Wanted {
     asks: &'static str,
@@ -437,8 +438,8 @@ fn is_completed(alloc: Global, lines: &str, wanted: Wanted) -> bool {
     }
 }
 
-/// Change 9, which was offered before, is asked for and abandoned where a whole answer doesn't list it, and each line of
-/// the answer was read.
+/// Change 9, which was offered before, is asked for and abandoned where a whole answer doesn't list it, and each line
+/// of the answer was read.
 #[test]
 fn what_an_answer_lacks_is_abandoned(rt: HostRuntime) {
     for (lines, asks, count) in [

@@ -157,8 +157,8 @@ fn send_once(listener: &TcpListener, text: &[u8]) -> io::Result<TcpStream> {
     Ok(stream)
 }
 
-/// What `why` answers of a port whose server sends this and then nothing, but leaves the connection open, where that is to
-/// be refused with this line.
+/// What `why` answers of a port whose server sends this and then nothing, but leaves the connection open, where that is
+/// to be refused with this line.
 fn why_after<R>(rt: R, alloc: Global, text: &[u8], line: &str) -> Option<Told>
 where
     R: Net<Listener = TcpListener, Stream = TcpStream> + Threads + Wait + Clock + Files,

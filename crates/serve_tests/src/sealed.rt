@@ -226,8 +226,8 @@ where
     count
 }
 
-/// Runs a site with these keys for those sessions: how many operations it had at its end, whether it wrote these errors,
-/// and how many of the sessions were answered so.
+/// Runs a site with these keys for those sessions: how many operations it had at its end, whether it wrote these
+/// errors, and how many of the sessions were answered so.
 fn run_talks<R, T>(
     rt: &R,
     alloc: Global,
@@ -339,8 +339,8 @@ where
     dial_and_forge(alloc, (Ends::new(reading), Ends::new(writing)))
 }
 
-/// Whether a site refuses lines that are sent as they are, few and many, and answers less than two lines of a session of
-/// which one was changed on its way.
+/// Whether a site refuses lines that are sent as they are, few and many, and answers less than two lines of a session
+/// of which one was changed on its way.
 fn send_unsealed<R>(rt: &R, alloc: Global, port: u16) -> (bool, bool, bool)
 where
     R: Net<Listener = TcpListener, Stream = TcpStream>,
@@ -376,8 +376,8 @@ where
     Some((ran.told(errors), are_refused))
 }
 
-/// Who sends lines as they are isn't let in, and a line that was changed on its way ends its session: it isn't answered,
-/// nor is what came with it.
+/// Who sends lines as they are isn't let in, and a line that was changed on its way ends its session: it isn't
+/// answered, nor is what came with it.
 #[test]
 fn what_is_not_sealed_is_refused(rt: HostRuntime) {
     let is_made = make_keys(&rt, "forged.tmp", 0o600).is_ok();

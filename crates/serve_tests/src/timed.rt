@@ -90,8 +90,8 @@ impl Write for Barred {
     }
 }
 
-/// What such an end has, of which this write fails, once these texts were written to it with times from the fourth second
-/// on, and how many of them were refused.
+/// What such an end has, of which this write fails, once these texts were written to it with times from the fourth
+/// second on, and how many of them were refused.
 fn write_barred(alloc: Global, failing: u64, texts: &[&str]) -> (Vec<u8>, usize) {
     let end = Barred {
         written: Vec::new(alloc),
