@@ -1,90 +1,100 @@
-//! What a site of `serve` does with its words: what it acknowledged is there when it begins again, by its journal or its
-//! snapshot, and its options have their effect.
+//! What a site of `serve` does with its words: what it acknowledged is there when it begins again, by its journal or
+//! its snapshot, and its options have their effect.
 
-use super::programs::{GATE, serve_input, site_words};
-use byte_ends::Ends;
-use command_line::ServeWords;
+use super::programs::{
+    BARE, GATE, UNTIL_INPUT_ENDS, Way, Words, free_port, is_removed, is_written, serve_input,
+    serve_with,
+};
+use assertions::assert_found;
+use byte_ends::{Ends, Source};
 use console::Named;
 use key_files::NoKeys;
 use record_pull::SystemFiles;
 use running_sites::{
-    NoTurn, PASS_ON, PASSED, TAKE, ending, listening, pulling, run_one, talk, talk_once_up,
+    NoTurn, PASS_ON, PASSED, TAKE, ending, listening, pulling, run_one, talk, talk_once_up, text_of,
 };
-use serve_command::{Ended, ProgramFault, serve};
-use site_address::{Address, PeerAddress};
+use serve_command::ProgramFault;
 use site_net::Stop;
 use site_serve::ServeFault;
+use std::alloc::Global;
 use std::fs::File;
 use std::io::{Print, Read};
 use std::net::{Net, TcpListener, TcpStream};
-use std::process::Abort;
 use std::random::RandomSource;
 use std::rt::Files;
 use std::sync::Wait;
 use std::test::Fail;
 use std::thread::Threads;
 use std::time::{Clock, Duration, Instant};
-use std::{fs, io, thread};
+use std::{io, thread};
 
 /// What the client is answered that takes in a merge.
 pub const TAKEN: &str = "hello 2\nok 1,1,1,1\nbye\n";
 
-/// Runs a site of these words for one session, of these lines: whether they are answered so, and it ends well. Its input
+/// Runs a site of these words for one session, of these lines: how it ends, and whether they are answered so. Its input
 /// has ended before, which ends no site that isn't to end with it.
 fn answers_once<R, N>(
     rt: R,
-    words: ServeWords<'_>,
+    words: Words,
     lines: &'static str,
     wanted: &str,
     files: N,
-) -> io::Result<bool>
+) -> Option<(Way, bool)>
 where
     R: Net<Listener = TcpListener, Stream = TcpStream> + RandomSource,
     R: Files<File = File> + Print + Threads + Wait + Clock + AllocGlobal,
     R: Copy + Send + Sync + 'static,
     N: Named + Send + Drop + 'static,
 {
-    let (listener, port) = listening(&rt)?;
-    drop(listener);
-    let mut words = words;
-    words.port = Some(port);
-    words.sessions = 1;
-    let client = thread::spawn(&rt, move || talk_once_up(&rt, rt.alloc(), port, lines))?;
-    let is_well = matches!(&serve_input(rt, words, files), Ended::Well);
-    let answers = client.join(&rt)?;
-    Ok(is_well && answers.as_str() == wanted)
+    let port = free_port(&rt)?;
+    let words = Words {
+        port: Some(port),
+        sessions: 1,
+        ..words
+    };
+    let client = thread::spawn(&rt, move || talk_once_up(&rt, rt.alloc(), port, lines)).ok()?;
+    let ended = serve_input(rt, words, files);
+    let is_answered = text_of(&client.join(&rt)) == wanted;
+    Some((ended, is_answered))
 }
 
 /// What was answered `ok` is in the journal, and the site has it when it begins again, under another start.
 #[test]
-fn what_is_acknowledged_is_there_by_a_journal(rt: HostRuntime) -> Result<(), Fail> {
-    let mut words = site_words(rt.alloc());
-    words.journal = Some("again.tmp");
-    assert!(rt; answers_once(rt, words, TAKE, TAKEN, SystemFiles::new(rt))?);
-    let mut words = site_words(rt.alloc());
-    words.journal = Some("again.tmp");
+fn what_is_acknowledged_is_there_by_a_journal(rt: HostRuntime) {
+    let words = Words {
+        journal: Some("again.tmp"),
+        ..BARE
+    };
+    let taken = answers_once(rt, words, TAKE, TAKEN, SystemFiles::new(rt));
+    assert_found(&rt, taken, Some((Way::Well, true)));
     let ended = serve_input(rt, words, SystemFiles::new(rt));
-    assert!(rt; matches!(&ended, Ended::Site(ServeFault::StartUsed)));
-    let mut words = site_words(rt.alloc());
-    words.journal = Some("again.tmp");
-    words.start = Some(2);
-    assert!(rt; answers_once(rt, words, PASS_ON, PASSED, SystemFiles::new(rt))?);
-    fs::remove_file(&rt, "again.tmp")?;
-    Ok(())
+    assert_found(&rt, ended, Way::Site(ServeFault::StartUsed));
+    let again = Words {
+        start: Some(2),
+        ..words
+    };
+    let passed = answers_once(rt, again, PASS_ON, PASSED, SystemFiles::new(rt));
+    assert_found(&rt, passed, Some((Way::Well, true)));
+    assert_found(&rt, is_removed(&rt, "again.tmp"), true);
 }
 
 /// What a site has at its end is in its snapshot, and a site that loads that has it.
 #[test]
-fn what_is_saved_is_loaded(rt: HostRuntime) -> Result<(), Fail> {
-    let mut words = site_words(rt.alloc());
-    words.save = Some("saved.tmp");
-    assert!(rt; answers_once(rt, words, TAKE, TAKEN, SystemFiles::new(rt))?);
-    let mut words = site_words(rt.alloc());
-    words.load = Some("saved.tmp");
-    words.start = Some(2);
-    assert!(rt; answers_once(rt, words, PASS_ON, PASSED, SystemFiles::new(rt))?);
-    fs::remove_file(&rt, "saved.tmp")?;
-    Ok(())
+fn what_is_saved_is_loaded(rt: HostRuntime) {
+    let words = Words {
+        save: Some("saved.tmp"),
+        ..BARE
+    };
+    let taken = answers_once(rt, words, TAKE, TAKEN, SystemFiles::new(rt));
+    assert_found(&rt, taken, Some((Way::Well, true)));
+    let words = Words {
+        load: Some("saved.tmp"),
+        start: Some(2),
+        ..BARE
+    };
+    let passed = answers_once(rt, words, PASS_ON, PASSED, SystemFiles::new(rt));
+    assert_found(&rt, passed, Some((Way::Well, true)));
+    assert_found(&rt, is_removed(&rt, "saved.tmp"), true);
 }
 
 /// An input that says `stop`, and then nothing for 20 seconds.
@@ -106,51 +116,81 @@ impl<R: Clock> Read for SaysStop<R> {
     }
 }
 
+/// How a site ends with its input, and whether that takes less than 15 seconds.
+fn serve_quickly<R, I, N>(rt: R, words: Words, input: I, files: N) -> Option<(Way, bool)>
+where
+    R: Net<Listener = TcpListener, Stream = TcpStream> + RandomSource,
+    R: Files<File = File> + Print + Threads + Wait + Clock + AllocGlobal,
+    R: Copy + Send + Sync + 'static,
+    N: Named + Send + Drop + 'static,
+    I: Source + Send + Drop + 'static,
+{
+    let began = Instant::now(&rt).ok()?;
+    let errors = Ends::new(Vec::new(rt.alloc()));
+    let ended = serve_with(rt, words, input, files, errors, &NoKeys);
+    let took = began.elapsed(&rt).ok()?;
+    Some((ended, took < Duration::from_secs(15)))
+}
+
 /// A site that ends with its input ends at the line `stop`, before the input does.
 #[test]
-fn a_line_stop_ends_a_site(rt: HostRuntime) -> Result<(), Fail> {
-    fs::write(&rt, "gate.tmp", GATE.as_bytes())?;
-    let began = Instant::now(&rt)?;
-    let mut words = site_words(rt.alloc());
-    words.gate = "gate.tmp";
-    words.until_input_ends = true;
+fn a_line_stop_ends_a_site(rt: HostRuntime) {
+    let is_given = is_written(&rt, "gate.tmp", GATE.as_bytes());
+    let words = Words {
+        gate: "gate.tmp",
+        ..UNTIL_INPUT_ENDS
+    };
     let input = Ends::new(SaysStop { rt, is_said: false });
-    let errors = Ends::new(Vec::new(rt.alloc()));
-    let ended = serve(
-        rt,
-        rt.alloc(),
-        words,
-        input,
-        SystemFiles::new(rt),
-        errors,
-        &NoKeys,
-    );
-    assert!(rt; matches!(&ended, Ended::Well));
-    assert!(rt; began.elapsed(&rt)? < Duration::from_secs(15));
-    fs::remove_file(&rt, "gate.tmp")?;
-    Ok(())
+    let found = serve_quickly(rt, words, input, SystemFiles::new(rt));
+    assert_found(&rt, found, Some((Way::Well, true)));
+    assert_found(&rt, (is_given, is_removed(&rt, "gate.tmp")), (true, true));
+}
+
+/// Gives the site at a port a merge, and runs another one that pulls from it under the same start: whether the merge
+/// was taken in, and how the other site ended. Then the first one is asked to stop.
+fn serve_twin<R, N>(rt: R, port: u16, files: N, stop: &Stop) -> (bool, Way)
+where
+    R: Net<Listener = TcpListener, Stream = TcpStream> + RandomSource,
+    R: Files<File = File> + Print + Threads + Wait + Clock + AllocGlobal,
+    R: Copy + Send + Sync + 'static,
+    N: Named + Send + Drop + 'static,
+{
+    let words = Words {
+        peer: Some(port),
+        pause_ms: 50,
+        ..BARE
+    };
+    let is_taken = text_of(&talk(&rt, rt.alloc(), port, TAKE)) == TAKEN;
+    let ended = serve_input(rt, words, files);
+    stop.ask(&rt);
+    (is_taken, ended)
+}
+
+/// How a site of one start ends.
+fn run_endless<R>(
+    rt: &R,
+    alloc: Global,
+    listener: TcpListener,
+    stop: &Stop,
+) -> Option<(usize, bool, bool)>
+where
+    R: Net<Listener = TcpListener, Stream = TcpStream> + Threads + Wait + Clock + Sync,
+{
+    let setup = pulling(alloc, 1, &[]).ok()?;
+    ending(run_one(rt, alloc, listener, setup, stop, &NoTurn))
 }
 
 /// A site pulls from the peers of its words: where one of them has the site's own start, it ends and says so.
 #[test]
 fn a_start_that_a_peer_has_ends_a_site(rt: HostRuntime) -> Result<(), Fail> {
     let (listener, port) = listening(&rt)?;
-    let twin = pulling(rt.alloc(), 1, &[])?;
     let stop = Stop::new();
-    let mut words = site_words(rt.alloc());
-    words.peers.push(PeerAddress::Here(Address::Port(port)))?;
-    words.pause_ms = 50;
-    let (served, (is_taken, ended)) = thread::join(
+    let (ended, twin) = thread::join(
         &rt,
-        || ending(run_one(&rt, rt.alloc(), listener, twin, &stop, &NoTurn)),
-        || {
-            let is_taken = talk(&rt, rt.alloc(), port, TAKE).is_ok();
-            let ended = serve_input(rt, words, SystemFiles::new(rt));
-            stop.ask(&rt);
-            (is_taken, ended)
-        },
+        || run_endless(&rt, rt.alloc(), listener, &stop),
+        || serve_twin(rt, port, SystemFiles::new(rt), &stop),
     );
-    assert!(rt; served.is_some() && is_taken);
-    assert!(rt; matches!(&ended, Ended::Program(ProgramFault::StartTaken)));
+    assert_found(&rt, ended, Some((1, true, false)));
+    assert_found(&rt, twin, (true, Way::Program(ProgramFault::StartTaken)));
     Ok(())
 }

@@ -1,24 +1,25 @@
 //! Sites that show themselves to browsers.
 
-use super::programs::{serve_input, site_words};
+use super::programs::{BARE, Way, Words, free_port, had, is_there, is_written, serve_input};
 use super::sockets::{bits_of, talk_at};
-use command_line::{PageAddress, SocketMode};
+use assertions::assert_found;
+use command_line::SocketMode;
 use page_server::open_endpoint;
 use record_pull::SystemFiles;
 use running_sites::{NoTurn, ending, listening, one_session, run_one, talk, talk_once_up, text_of};
-use serve_command::{Ended, ProgramFault};
+use serve_command::ProgramFault;
 use site_address::{Address, PeerAddress};
 use site_net::{Stop, listen_at_path};
 use site_serve::{PageSetup, Setup};
 use std::alloc::Global;
 use std::net::{Net, TcpListener, TcpStream};
-use std::process::Abort;
 use std::random::RandomSource;
 use std::rt::Files;
 use std::sync::Wait;
 use std::test::Fail;
+use std::thread::Threads;
 use std::time::{Clock, Duration};
-use std::{fs, io, thread};
+use std::{io, thread};
 
 /// A client that takes in a patch set, whose subject has markup.
 const TAKE_PATCH: &str =
@@ -37,63 +38,98 @@ const HEALTH: &str = "GET /healthz HTTP/1.1\r\nHost: 127.0.0.1\r\n\r\n";
 const SHOWN: &str =
     r#"{"total":1,"page":1,"items":[{"change":101,"set":1,"subject":"<b>&","ready":false,"refusal":"require approval 1"}]}"#;
 
-/// A site without a limit of sessions that shows itself, also by another name, and the port of its page.
-pub fn shown<R>(rt: &R, alloc: Global) -> Result<(Setup<'static>, u16), Fail>
+/// The names by which browsers may call a site.
+fn names(alloc: Global) -> Option<Vec<String>> {
+    let name = String::from_str(alloc, "gate.example.org").ok()?;
+    let mut names = Vec::new(alloc);
+    match names.push(name) {
+        Ok(()) => Some(names),
+        Err(_) => None,
+    }
+}
+
+/// Where a site shows itself, also by another name, and the port of that.
+fn page_setup<R>(rt: &R, alloc: Global) -> Option<(PageSetup, u16)>
 where
     R: Net<Listener = TcpListener, Stream = TcpStream> + RandomSource,
 {
-    let (listener, port) = listening(rt)?;
-    let (endpoint, waker) = open_endpoint(rt, listener)?;
-    let mut hosts = Vec::new(alloc);
-    hosts.push(String::from_str(alloc, "gate.example.org")?)?;
-    let mut setup = one_session(alloc, 1)?;
-    setup.sessions = 0;
-    setup.page = Some(PageSetup {
-        endpoint,
-        waker,
-        hosts,
-    });
-    Ok((setup, port))
+    let hosts = names(alloc)?;
+    let (listener, port) = listening(rt).ok()?;
+    let (endpoint, waker) = open_endpoint(rt, listener).ok()?;
+    Some((
+        PageSetup {
+            endpoint,
+            waker,
+            hosts,
+        },
+        port,
+    ))
 }
 
-/// What a site's page answers once the site took a patch set in; then the site is asked to stop.
-fn looked_at<R>(
-    rt: &R,
-    alloc: Global,
-    ports: (u16, u16),
-    stop: &Stop,
-) -> (io::Result<String>, io::Result<String>, io::Result<String>)
+/// A site without a limit of sessions that shows itself there.
+pub fn shown<R>(rt: &R, alloc: Global) -> Option<(Setup<'static>, u16)>
+where
+    R: Net<Listener = TcpListener, Stream = TcpStream> + RandomSource,
+{
+    let (page, port) = page_setup(rt, alloc)?;
+    let mut setup = one_session(alloc, 1).ok()?;
+    setup.sessions = 0;
+    setup.page = Some(page);
+    Some((setup, port))
+}
+
+/// Whether a page's answer has a status, an end and a part like these.
+fn is_shown(answer: &io::Result<String>, front: &str, end: &str) -> bool {
+    let text = text_of(answer);
+    text.starts_with(front) && text.ends_with(end)
+}
+
+/// Whether a page shows the subject escaped alone.
+fn is_escaped(answer: &io::Result<String>) -> bool {
+    let text = text_of(answer);
+    text.contains("&lt;b&gt;&amp;") && !text.contains("<b>")
+}
+
+/// Whether a site's page shows, once the site took a patch set in, the item as data, its subject escaped, and that the
+/// site is well; then the site is asked to stop.
+fn look_at<R>(rt: &R, alloc: Global, ports: (u16, u16), stop: &Stop) -> (bool, bool, bool)
 where
     R: Net<Listener = TcpListener, Stream = TcpStream> + Wait,
 {
     let (port, page) = ports;
     let _taken = talk(rt, alloc, port, TAKE_PATCH);
-    let items = talk(rt, alloc, page, ITEMS);
-    let list = talk(rt, alloc, page, LIST);
-    let health = talk(rt, alloc, page, HEALTH);
+    let items = is_shown(&talk(rt, alloc, page, ITEMS), "HTTP/1.1 200 OK\r\n", SHOWN);
+    let is_escaped = is_escaped(&talk(rt, alloc, page, LIST));
+    let is_well = is_shown(&talk(rt, alloc, page, HEALTH), "", "\r\n\r\nok\n");
     stop.ask(rt);
-    (items, list, health)
+    (items, is_escaped, is_well)
+}
+
+/// How a site ended: how many operations it had, whether all reports were written, and whether its start was taken.
+pub type Ending = Option<(usize, bool, bool)>;
+
+/// How such a site ends, and what is seen of it.
+fn run_shown<R>(rt: &R, alloc: Global) -> Option<(Ending, (bool, bool, bool))>
+where
+    R: Net<Listener = TcpListener, Stream = TcpStream> + RandomSource,
+    R: Threads + Wait + Clock + Sync,
+{
+    let (listener, port) = listening(rt).ok()?;
+    let (setup, page) = shown(rt, alloc)?;
+    let stop = Stop::new();
+    Some(thread::join(
+        rt,
+        || ending(run_one(rt, alloc, listener, setup, &stop, &NoTurn)),
+        || look_at(rt, alloc, (port, page), &stop),
+    ))
 }
 
 /// A site shows what it took in, as data and escaped on a page, and ends when it is asked to.
 #[test]
-fn a_site_shows_what_it_took(rt: HostRuntime) -> Result<(), Fail> {
-    let alloc = rt.alloc();
-    let (setup, page) = shown(&rt, alloc)?;
-    let (listener, port) = listening(&rt)?;
-    let stop = Stop::new();
-    let (ended, (items, list, health)) = thread::join(
-        &rt,
-        || ending(run_one(&rt, alloc, listener, setup, &stop, &NoTurn)),
-        || looked_at(&rt, alloc, (port, page), &stop),
-    );
-    assert_eq!(rt; ended, Some((1, true, false)));
-    assert!(rt; text_of(&items).starts_with("HTTP/1.1 200 OK\r\n"));
-    assert!(rt; text_of(&items).ends_with(SHOWN));
-    assert!(rt; text_of(&list).contains("&lt;b&gt;&amp;"));
-    assert!(rt; !text_of(&list).contains("<b>"));
-    assert!(rt; text_of(&health).ends_with("\r\n\r\nok\n"));
-    Ok(())
+fn a_site_shows_what_it_took(rt: HostRuntime) {
+    let found = run_shown(&rt, rt.alloc());
+    let seen = (true, true, true);
+    assert_found(&rt, found, Some((Some((1, true, false)), seen)));
 }
 
 /// What a site's page answers of the site once a session has ended with a fault; then the site is asked to stop.
@@ -120,90 +156,119 @@ where
     status
 }
 
-/// A site shows what feeds it heard, which sessions failed, and which peers it doesn't reach.
-#[test]
-fn a_site_shows_how_it_is(rt: HostRuntime) -> Result<(), Fail> {
-    let alloc = rt.alloc();
-    let (mut setup, page) = shown(&rt, alloc)?;
-    setup
-        .peers
-        .push(PeerAddress::Here(Address::Path("./no/such/socket")))?;
-    let (listener, port) = listening(&rt)?;
+/// A site that shows itself and has a peer that it doesn't reach.
+fn shown_with_peer<R>(rt: &R, alloc: Global) -> Option<(Setup<'static>, u16)>
+where
+    R: Net<Listener = TcpListener, Stream = TcpStream> + RandomSource,
+{
+    let (mut setup, page) = shown(rt, alloc)?;
+    let peer = PeerAddress::Here(Address::Path("./no/such/socket"));
+    match setup.peers.push(peer) {
+        Ok(()) => Some((setup, page)),
+        Err(_) => None,
+    }
+}
+
+/// What such a site's page answers of it.
+fn status_of<R>(rt: &R, alloc: Global) -> Option<String>
+where
+    R: Net<Listener = TcpListener, Stream = TcpStream> + RandomSource,
+    R: Threads + Wait + Clock + Sync,
+{
+    let (listener, port) = listening(rt).ok()?;
+    let (setup, page) = shown_with_peer(rt, alloc)?;
     let stop = Stop::new();
     let (_ended, status) = thread::join(
-        &rt,
-        || ending(run_one(&rt, alloc, listener, setup, &stop, &NoTurn)),
-        || status_after_fault(&rt, alloc, (port, page), &stop),
+        rt,
+        || ending(run_one(rt, alloc, listener, setup, &stop, &NoTurn)),
+        || status_after_fault(rt, alloc, (port, page), &stop),
     );
-    let status = text_of(&status);
-    assert!(rt; status.contains("\"session_faults\":1"), "{status}");
-    assert!(rt;
-        status.contains("\"heard_ms\":") && !status.contains("\"heard_ms\":null"),
-        "{status}"
-    );
-    assert!(rt; status.contains("\"journal\":null"), "{status}");
-    assert!(rt; status.contains("\"workers\":1"), "{status}");
-    assert!(rt; status.contains("\"refused_connections\":0"), "{status}");
-    assert!(rt;
-        status.contains("\"peer\":\"./no/such/socket\""),
-        "{status}"
-    );
-    Ok(())
+    status.ok()
+}
+
+/// What of a site's status is to be there.
+const STATUS_PARTS: [&str; 6] = [
+    "\"session_faults\":1",
+    "\"heard_ms\":",
+    "\"journal\":null",
+    "\"workers\":1",
+    "\"refused_connections\":0",
+    "\"peer\":\"./no/such/socket\"",
+];
+
+/// A site shows what feeds it heard, which sessions failed, and which peers it doesn't reach.
+#[test]
+fn a_site_shows_how_it_is(rt: HostRuntime) {
+    let status = status_of(&rt, rt.alloc());
+    let text = match &status {
+        Some(status) => status.as_str(),
+        None => "",
+    };
+    for part in STATUS_PARTS {
+        assert_found(&rt, (part, text.contains(part)), (part, true));
+    }
+    assert_found(&rt, text.contains("\"heard_ms\":null"), false);
 }
 
 /// The items of a site that took it under a gate that wants nothing.
 const READY: &str =
     r#"{"total":1,"page":1,"items":[{"change":101,"set":1,"subject":"<b>&","ready":true,"place":1}]}"#;
 
-/// Takes a patch set in at a site, looks at its page over the socket, and has a second session: what is shown, to this
-/// machine and to another host, and the socket's mode.
-fn look_between<R>(rt: &R, alloc: Global, port: u16) -> io::Result<(String, String, u32)>
+/// What is seen of a site at its socket: whether it shows the item to this machine, and nothing to another host, and
+/// the socket's mode.
+type Seen = (bool, bool, Option<u32>);
+
+/// Takes a patch set in at a site, looks at its page over the socket, and has a second session.
+fn look_between<R>(rt: &R, alloc: Global, port: u16) -> Seen
 where
     R: Net<Listener = TcpListener, Stream = TcpStream> + Files + Wait + Clock,
 {
     let _taken = talk_once_up(rt, alloc, port, TAKE_PATCH);
-    let items = talk_at(rt, alloc, "./page.tmp", ITEMS);
+    let is_ready = is_shown(&talk_at(rt, alloc, "./page.tmp", ITEMS), "", READY);
     let list = talk_at(rt, alloc, "./page.tmp", LIST);
     let mode = bits_of(rt, "./page.tmp");
     let _ended = talk(rt, alloc, port, "hello 2\nquit\n");
-    Ok((items?, list?, mode?))
+    (is_ready, is_shown(&list, "HTTP/1.1 421 ", ""), mode.ok())
+}
+
+/// Leaves a socket at a path, at which nothing listens any more: whether it was made.
+fn leaves_socket<R: Net + Files>(rt: &R, alloc: Global, path: &str) -> bool {
+    listen_at_path(rt, alloc, path, 0o600).is_ok()
 }
 
 /// A site shows itself at a socket, in place of an old one, with its mode, to those hosts alone that were named; and
 /// removes it at its end.
 #[test]
 fn a_site_shows_itself_at_a_socket(rt: HostRuntime) -> Result<(), Fail> {
-    drop(listen_at_path(&rt, rt.alloc(), "./page.tmp", 0o600)?);
-    let (listener, port) = listening(&rt)?;
-    drop(listener);
-    let mut words = site_words(rt.alloc());
-    words.port = Some(port);
-    words.sessions = 2;
-    words.mode = SocketMode::Group;
-    words.http = Some(PageAddress::Path("./page.tmp"));
+    let port = free_port(&rt).ok_or("a port")?;
+    assert_found(&rt, leaves_socket(&rt, rt.alloc(), "./page.tmp"), true);
+    let words = Words {
+        port: Some(port),
+        sessions: 2,
+        mode: SocketMode::Group,
+        page: Some("./page.tmp"),
+        ..BARE
+    };
     let browser = thread::spawn(&rt, move || look_between(&rt, rt.alloc(), port))?;
-    let is_well = matches!(&serve_input(rt, words, SystemFiles::new(rt)), Ended::Well);
-    let (items, list, mode) = browser.join(&rt)?;
-    assert!(rt; is_well);
-    assert!(rt; items.as_str().ends_with(READY));
-    assert!(rt; list.as_str().starts_with("HTTP/1.1 421 "));
-    assert_eq!(rt; mode, 0o660);
-    assert!(rt; fs::metadata(&rt, "./page.tmp").is_err());
+    let ended = serve_input(rt, words, SystemFiles::new(rt));
+    assert_found(&rt, browser.join(&rt), (true, true, Some(0o660)));
+    assert_found(&rt, ended, Way::Well);
+    assert_found(&rt, is_there(&rt, "./page.tmp"), false);
     Ok(())
 }
 
 /// A site doesn't run where another file is at the path of its page. That stays, and no socket is left.
 #[test]
-fn a_page_replaces_no_other_file(rt: HostRuntime) -> Result<(), Fail> {
-    fs::write(&rt, "./no_page.tmp", b"contents")?;
-    let mut words = site_words(rt.alloc());
-    words.sockets.push("./beside.tmp")?;
-    words.http = Some(PageAddress::Path("./no_page.tmp"));
+fn a_page_replaces_no_other_file(rt: HostRuntime) {
+    let is_given = is_written(&rt, "./no_page.tmp", b"contents");
+    let words = Words {
+        sockets: &["./beside.tmp"],
+        page: Some("./no_page.tmp"),
+        ..BARE
+    };
     let ended = serve_input(rt, words, SystemFiles::new(rt));
-    let contents = fs::read(&rt, "./no_page.tmp")?;
-    fs::remove_file(&rt, "./no_page.tmp")?;
-    assert!(rt; matches!(&ended, Ended::Program(ProgramFault::NoBind)));
-    assert_eq!(rt; contents.as_slice(), b"contents".as_slice());
-    assert!(rt; fs::metadata(&rt, "./beside.tmp").is_err());
-    Ok(())
+    assert_found(&rt, ended, Way::Program(ProgramFault::NoBind));
+    let is_left = had(&rt, "./no_page.tmp", b"contents");
+    assert_found(&rt, (is_given, is_left), (true, true));
+    assert_found(&rt, is_there(&rt, "./beside.tmp"), false);
 }

@@ -15,6 +15,8 @@ mod gossip;
 #[cfg(test)]
 mod records;
 #[cfg(test)]
+mod scripts;
+#[cfg(test)]
 mod sealed;
 #[cfg(test)]
 mod sealed_feeds;
