@@ -6,8 +6,11 @@ use Rattle.gossip_line.specs.declared.fault.LineFault.{LineFault}
 use Rattle.review_ops.specs.Operation.{Operation}
 use Rattle.site_port.specs.Ports.{Call, Reply}
 use Rattle.site_port.specs.declared.fault.PortFault.TheVariants.{Closed}
+use Rattle.gossip_line.specs.declared.step.Look.{Look}
 use Rattle.site_serve.specs.Outboxes.{Adds}
 use Rattle.site_serve.specs.SitePorts.{SiteGives}
+use Rattle.site_serve.specs.declared.jobs.Task.{Task}
+use Rattle.site_serve.specs.declared.jobs.Task.TheVariants as task
 use Rattle.site_serve.specs.declared.jobs.Work.{Work}
 use Rattle.site_serve.specs.declared.jobs.Work.TheVariants.{Looked}
 use Rattle.site_shared.specs.Accounts.{GoesOn, Outlook}
@@ -16,6 +19,11 @@ use Rattle.site_shared.specs.Accounts.{GoesOn, Outlook}
 abbrev pub IsLooked : (List ℕ → Result Bool LineFault → Type 0) → Work → Type 0
 IsLooked Shows (Looked text answered) = Shows text.items answered
 IsLooked Shows work = ⊥
+
+-- what has to be of a task that is a look
+abbrev pub IfLook : Task → (Look → Type 0) → Type 0
+IfLook (task.Look look) P = P look
+IfLook other P = Unit {0}
 
 -- the site's reply is shown, at a moment that goes on from what the window had seen; or memory is refused for its text
 abbrev pub ShowsReply : GateRules → Outlook → Call → Outlook → List ℕ → Result Bool LineFault → Type 0

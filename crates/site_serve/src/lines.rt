@@ -1,6 +1,8 @@
 //! Does the lines of a session.
 
-ghost use Rattle.std.specs.Prelude.{◌≡◌, ◌⊎◌, ◌<◌, ◌+◌, Bool, MatchBool, Ok, Result, drop, length, nat_eq, take, true};
+ghost use Rattle.std.specs.Prelude.{◌≡◌, ◌⊎◌, ◌<◌, ◌+◌, Bool, IfOk, MatchBool, Ok, Result, drop, length, nat_eq, take, true};
+ghost use Rattle.std.specs.Arc.{arc_value};
+ghost use Rattle.std.specs.Option.{option_map};
 ghost use Rattle.byte_ends.specs.Lines.{without_cr};
 ghost use Rattle.gossip_line.specs.Texts.{no_memory_line};
 ghost use Rattle.gossip_line.specs.declared.fault.LineFault.{LineFault};
@@ -9,6 +11,7 @@ ghost use Rattle.site_serve.specs.Acknowledged.{AddsOwn, session_at};
 ghost use Rattle.site_serve.specs.Outboxes.{Adds};
 ghost use Rattle.review_ops.specs.Draft.{deed_of};
 ghost use Rattle.site_serve.specs.Doing.{DoesBody, DoesLine};
+ghost use Rattle.site_serve.specs.declared.jobs.Task.TheVariants as task;
 
 use super::ask::{Ask, Asker};
 use super::channel::Credential;
@@ -23,7 +26,7 @@ use line_reader::LINE_LIMIT;
 use review_ops::Draft;
 use site_ledger::Keeps;
 use site_shared::Naming;
-use std::alloc::Global;
+use std::alloc::{AllocError, Global};
 use std::sync::Wait;
 use std::time::Duration;
 
@@ -254,16 +257,29 @@ fn begin_look<R: Wait, J: Naming>(
     ensures waits { session.new.waiting ≡ session.old.waiting }
 {
     session.pass(size);
-    let Ok(receipt) = session.receipt_again() else {
+    let Ok(job) = look_job(context, session, look) else {
         session.say(context.alloc, Saying::NoMemory);
         return;
     };
     session.go_away();
-    let job = Job {
+    let _sent = context.jobs.send(rt, job);
+}
+
+/// A look for a session, which is to see no less than what its newest receipt has seen published.
+fn look_job<J: Naming>(
+    context: &LineContext<'_, J>,
+    session: &Session<J>,
+    look: Look,
+) -> Result<Job<J>, AllocError>
+    ensures own { IfOk result (λ job. (job.place ≡ context.now.place) × (job.session ≡ context.now.number)) }
+    ensures receipt { IfOk result (λ job. option_map arc_value job.receipt ≡ option_map arc_value session.now.receipt) }
+    ensures look { IfOk result (λ job. job.task ≡ task.Look look) }
+{
+    let receipt = session.receipt_again()?;
+    Ok(Job {
         place: context.place,
         session: context.number,
         receipt,
         task: Task::Look(look),
-    };
-    let _sent = context.jobs.send(rt, job);
+    })
 }

@@ -8,7 +8,7 @@ ghost use Rattle.gossip_line.specs.Texts.{reply_text};
 ghost use Rattle.replica_core.specs.JournalLaws.{IsPartOf};
 ghost use Rattle.site_port.specs.Ports.{reply_by, stamped};
 ghost use Rattle.site_serve.specs.InForce.{ruling_gate};
-ghost use Rattle.site_serve.specs.Looks.{IsLooked, LooksAfter, ShowsReply};
+ghost use Rattle.site_serve.specs.Looks.{IfLook, IsLooked, LooksAfter, ShowsReply};
 ghost use Rattle.site_serve.specs.Outboxes.{Adds};
 ghost use Rattle.site_shared.specs.Accounts.{GoesOn};
 ghost use Rattle.site_shared.specs.Publishes.{arrive};
@@ -57,7 +57,7 @@ pub(super) fn do_jobs<R: Wait, E: Drain, T: Turn, J: Naming>(
     }
 }
 
-/// Does a job of a session.
+/// Does a job of a session: a look of it sees no less than what the job's receipt has seen published.
 fn done<R: Wait, E: Drain, T: Turn, J: Naming>(
     rt: &R,
     alloc: Global,
@@ -67,23 +67,50 @@ fn done<R: Wait, E: Drain, T: Turn, J: Naming>(
     metrics: &Metrics,
     errors: &Errors<E>,
     turn: &T,
-) -> Reply {
+) -> Reply
+    ensures own { (result.place ≡ job.place) × (result.session ≡ job.session) }
+    ensures looked { IfLook job.task (λ look. IsLooked (LooksAfter (ruling_gate port.old.ruling) port.old.window.window (call_of look)
+        (λ seen. ForSome job.receipt (λ receipt. IsPartOf (arrive (arc_value receipt).published) (arrive seen)))
+        port.new.window.window) result.work) }
+{
     let Job {
         place,
         session,
         receipt,
         task,
     } = job;
-    let work = match task {
-        Task::Enter => entered(turn, session),
-        Task::Admit(credential) => admission.answer(rt, alloc, credential, errors),
-        Task::Look(look) => noted(alloc, &look, &receipt, port, metrics),
-        Task::Leave(ended) => left(rt, alloc, session, ended, metrics, errors, turn),
-    };
+    let work = worked(
+        rt, alloc, admission, session, &receipt, task, port, metrics, errors, turn,
+    );
     Reply {
         place,
         session,
         work,
+    }
+}
+
+/// Does a task of a session, which sees no less than what the receipt has seen published.
+fn worked<R: Wait, E: Drain, T: Turn, J: Naming>(
+    rt: &R,
+    alloc: Global,
+    admission: &Admission<'_, T>,
+    session: u64,
+    receipt: &Option<Arc<BrandedReceipt<J>, Global>>,
+    task: Task,
+    port: &mut SitePort<'_, '_, R, J>,
+    metrics: &Metrics,
+    errors: &Errors<E>,
+    turn: &T,
+) -> Work
+    ensures { IfLook task (λ look. IsLooked (LooksAfter (ruling_gate port.old.ruling) port.old.window.window (call_of look)
+        (λ seen. ForSome receipt.now (λ receipt. IsPartOf (arrive (arc_value receipt).published) (arrive seen)))
+        port.new.window.window) result) }
+{
+    match task {
+        Task::Enter => entered(turn, session),
+        Task::Admit(credential) => admission.answer(rt, alloc, credential, errors),
+        Task::Look(look) => noted(alloc, &look, receipt, port, metrics),
+        Task::Leave(ended) => left(rt, alloc, session, ended, metrics, errors, turn),
     }
 }
 
@@ -100,7 +127,11 @@ fn noted<R: Wait, J: Naming>(
     receipt: &Option<Arc<BrandedReceipt<J>, Global>>,
     port: &mut SitePort<'_, '_, R, J>,
     metrics: &Metrics,
-) -> Work {
+) -> Work
+    ensures { IsLooked (LooksAfter (ruling_gate port.old.ruling) port.old.window.window (call_of look.now)
+        (λ seen. ForSome receipt.now (λ receipt. IsPartOf (arrive (arc_value receipt).published) (arrive seen)))
+        port.new.window.window) result }
+{
     metrics.begin_look();
     let work = looked(alloc, look, receipt, port);
     metrics.end_look();

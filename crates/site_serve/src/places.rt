@@ -53,15 +53,6 @@ impl<J: Naming> Places<J> {
         }
     }
 
-    /// Frees a place.
-    pub(super) fn vacate(&mut self, place: usize) {
-        if let Some(slot) = self.sessions.get_mut(place) {
-            *slot = None;
-            // There is room for each place.
-            let _kept = self.free.push(place);
-        }
-    }
-
     /// The session at a place.
     pub(super) fn session(&mut self, place: usize) -> Option<&mut Session<J>> {
         match self.sessions.get_mut(place) {
@@ -165,38 +156,29 @@ impl<J: Naming> Places<J> {
         }
     }
 
-    /// Takes what a worker has done for a session, unless that has gone. Whether the session has ended.
-    pub(super) fn take_reply(&mut self, reply: Reply, now: Duration) -> bool {
+    /// Takes what a worker has done for a session, unless that has gone. Whether the session has ended. No other
+    /// session goes on with it.
+    pub(super) fn take_reply(&mut self, reply: Reply, now: Duration) -> bool
+        ensures others { (other : ℕ) → other ≢ reply.place
+            → slice_get self.new.sessions.items other ≡ slice_get self.old.sessions.items other }
+        ensures strangers { (session : _) → slice_get self.old.sessions.items reply.place ≡ Some (Some session)
+            → session.number ≢ reply.session
+            → slice_get self.new.sessions.items reply.place ≡ Some (Some session) }
+    {
         let Reply {
             place,
             session: number,
             work,
         } = reply;
-        if !self.is_at(place, number) {
+        let Some(slot) = self.sessions.get_mut(place) else {
+            return false;
+        };
+        if !leaves_with(slot, &mut self.listed, place, number, work, now) {
             return false;
         }
-        if matches!(&work, Work::Left) {
-            self.vacate(place);
-            return true;
-        }
-        self.note_work(place, work, now);
-        self.list(place);
-        false
-    }
-
-    /// Whether the session of a number is at a place.
-    fn is_at(&self, place: usize, number: u64) -> bool {
-        match self.sessions.get(place) {
-            Some(Some(session)) => session.number == number,
-            _ => false,
-        }
-    }
-
-    /// Has the session at a place go on with what a worker has done for it.
-    fn note_work(&mut self, place: usize, work: Work, now: Duration) {
-        if let Some(session) = self.session(place) {
-            go_on(session, work, now);
-        }
+        // There is room for each place.
+        let _kept = self.free.push(place);
+        true
     }
 
     /// How many bytes of answers wait to be read.
@@ -256,6 +238,33 @@ fn empty_places<J: Naming>(
         sessions.push(None)?;
     }
     Ok(sessions)
+}
+
+/// Has the session of a number at its place go on with what a worker has done for it, unless it has gone. Whether it
+/// leaves its place.
+fn leaves_with<J: Naming>(
+    slot: &mut Option<Session<J>>,
+    listed: &mut Vec<usize>,
+    place: usize,
+    number: u64,
+    work: Work,
+    now: Duration,
+) -> bool
+    ensures { (session : _) → slot.old ≡ Some session → session.number ≢ number → slot.new ≡ Some session }
+{
+    let Some(session) = slot else {
+        return false;
+    };
+    if session.number != number {
+        return false;
+    }
+    if matches!(&work, Work::Left) {
+        *slot = None;
+        return true;
+    }
+    go_on(session, work, now);
+    enlist(session, listed, place);
+    false
 }
 
 /// Has a session go on with what a worker has done for it.

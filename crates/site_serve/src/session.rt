@@ -3,6 +3,7 @@
 ghost use Rattle.std.specs.Prelude.{◌≡◌, ◌⊎◌, ◌↔◌, ◌<◌, ◌≤◌, ◌+◌, ◌-◌, ◌++◌, [], Bool, Err, IfErr, IfOk, IfSome, IsTrue, MatchBool, MatchOption, None, Ok, Result, Some, drop, length, nat_eq, not, true};
 ghost use Rattle.key_file.specs.declared.key.Role.TheVariants.{Feed};
 ghost use Rattle.std.specs.Arc.{arc_value};
+ghost use Rattle.std.specs.Option.{option_map};
 ghost use Rattle.gossip_line.specs.Steps.{answer_of};
 ghost use Rattle.gossip_line.specs.Texts.{answer_text, long_line, next_of, refusal_line, reply_text, stamp_line};
 ghost use Rattle.gossip_line.specs.declared.fault.LineFault.{LineFault};
@@ -535,9 +536,9 @@ impl<J: Naming> Session<J> {
     }
 
     /// Its newest receipt once more.
-    pub(super) fn receipt_again(
-        &self,
-    ) -> Result<Option<Arc<BrandedReceipt<J>, Global>>, AllocError> {
+    pub(super) fn receipt_again(&self) -> Result<Option<Arc<BrandedReceipt<J>, Global>>, AllocError>
+        ensures { IfOk result (λ again. option_map arc_value again ≡ option_map arc_value self.now.receipt) }
+    {
         match &self.receipt {
             Some(receipt) => Ok(Some(Arc::try_clone(receipt)?)),
             None => Ok(None),
