@@ -19,6 +19,9 @@ const FIRST: &str =
 
 const SECOND: &str = r#"{"change":101,"op":"abandon","seq":1,"site":2,"start":1,"time":3}"#;
 
+/// The most bytes of a text of these tests that is read without a source.
+const LONGEST: usize = 1_000;
+
 /// The first fault of what a source has: its number, line and cause.
 fn fault_in<S: Source>(alloc: Global, source: &mut S) -> (u8, u64, u8) {
     match read_snapshot(alloc, source) {
@@ -162,6 +165,9 @@ fn unended(alloc: Global) -> Option<String> {
 
 /// Whether the operations of a snapshot that was read elsewhere have these times, in their order.
 fn is_snapshot_of(alloc: Global, text: &[u8], times: &[u64]) -> Option<bool> {
+    if text.len() > LONGEST {
+        return None;
+    }
     let replica = snapshot_of(alloc, text).ok()?;
     Some(have_times(replica.iter(), times))
 }
@@ -231,6 +237,9 @@ fn one_and_both(alloc: Global) -> Option<(String, String)> {
 
 /// The replica of a text onto which another one was read.
 fn read_onto(alloc: Global, one: &[u8], both: &[u8]) -> Option<Replica> {
+    if one.len() > LONGEST || both.len() > LONGEST {
+        return None;
+    }
     snapshot_onto(snapshot_of(alloc, one).ok()?, both).ok()
 }
 
