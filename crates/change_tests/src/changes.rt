@@ -1,6 +1,6 @@
 //! Changes worked out by hand, each public function once.
 
-use assertions::assert_found;
+use super::asserts::assert_found;
 use change_core::{ChangeState, Life, Status, operations_add_up};
 use chunk_list::Entries;
 use deeds::{Deed, op_of};

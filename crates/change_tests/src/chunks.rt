@@ -2,7 +2,7 @@
 //! refused.
 ghost use Rattle.std.specs.Prelude.{false, true};
 
-use assertions::assert_found;
+use super::asserts::assert_found;
 use chunk_list::{ChunkList, Probe};
 use lattice_core::NoMemory;
 use std::alloc::Global;

@@ -1,7 +1,7 @@
 //! Maps kept as lists: few keys and a thousand, upwards and downwards, joined, copied and walked.
 
+use super::asserts::assert_found;
 use super::changes::counted;
-use assertions::assert_found;
 use chunk_list::{Entries, JoinList};
 use lattice_core::{Join, Keep, NoMemory, Register};
 use std::alloc::Global;

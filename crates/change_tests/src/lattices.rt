@@ -1,6 +1,6 @@
 //! Worked examples, each type at concrete types.
 
-use assertions::assert_found;
+use super::asserts::assert_found;
 use lattice_core::{
     Both, Flag, Greatest, Join, JoinMap, Keep, NoMemory, Register,
     covering_is_the_order_of_the_join, join_all, lists_join_in_any_order, maps_join_key_by_key,

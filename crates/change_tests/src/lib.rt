@@ -5,6 +5,7 @@
 #![tactic(auto)]
 
 #[cfg(test)]
+mod asserts;
 #[cfg(test)]
 mod changes;
 #[cfg(test)]

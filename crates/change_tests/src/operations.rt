@@ -2,8 +2,8 @@
 //!
 //! Each test compares values of functions that have few exits: what a test lacks where memory is refused is none.
 
+use super::asserts::assert_found;
 use super::lattices::is_copied;
-use assertions::assert_found;
 use deeds::{Deed, draft_of};
 use review_ops::{Body, Draft, Op, Stamp};
 use std::alloc::Global;

@@ -1,8 +1,8 @@
 //! Snapshots that are merged, and what is printed, worked out by hand.
 
+use super::asserts::assert_found;
 use super::one_file::{BrokenFile, OneFile};
 use super::program::{MEMORY, Reported, assert_printed, assert_reported, printed_by, reported_by};
-use assertions::assert_found;
 use byte_ends::{Broken, Ends};
 use std::alloc::{AllocError, Global};
 use std::process::Abort;

@@ -1,6 +1,6 @@
 //! The program, over words, inputs and files.
 
-use assertions::assert_found;
+use super::asserts::assert_found;
 use byte_ends::{Drain, Ends, Source};
 use command_line::{Asked, read_words};
 use commands::{print_text, report, report_usage, run_command};

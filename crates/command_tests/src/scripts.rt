@@ -2,10 +2,10 @@
 
 ghost use Rattle.std.specs.Prelude.{[]};
 
+use super::asserts::assert_found;
 use super::program::{
     MEMORY, Printed, Reported, assert_printed, assert_reported, printed_by, reported_by,
 };
-use assertions::assert_found;
 use byte_ends::{Broken, BytesFault, Ends};
 use console::{Named, PullFault};
 use replica_core::Gathering;

@@ -1,8 +1,8 @@
 //! Real files, opened by their names.
 
+use super::asserts::assert_found;
 use super::merges::snapshot_of;
 use super::program::{MEMORY, printed_by};
-use assertions::assert_found;
 use byte_ends::Ends;
 use console::Named;
 use record_pull::SystemFiles;

@@ -2,8 +2,8 @@
 
 ghost use Rattle.gate_rules.specs.Spelling.{SpellsGate};
 
+use super::asserts::assert_found;
 use super::record::{Patch, is_text, takes_deed, takes_patch};
-use assertions::assert_found;
 use deeds::Deed;
 use gate_rules::Gate;
 use ready_core::evaluate;

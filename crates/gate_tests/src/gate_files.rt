@@ -1,7 +1,7 @@
 //! Gate files and their faults, and own conditions, worked out by hand.
 
+use super::asserts::assert_found;
 use super::record::takes_deed;
-use assertions::assert_found;
 use deeds::Deed;
 use gate_rules::{Clause, Condition, Gate, GateFault, Side, the_first_fault_is_found};
 use state_core::{Item, State};

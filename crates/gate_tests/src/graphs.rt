@@ -1,7 +1,7 @@
 //! Graphs of small records, worked out by hand.
 
+use super::asserts::assert_found;
 use super::record::{Patch, is_text, takes_deed, takes_patch};
-use assertions::assert_found;
 use deeds::Deed;
 use gate_rules::Gate;
 use graph_core::{Graph, names_of};

@@ -1,7 +1,7 @@
 //! Pictures of small records, drawn by hand.
 
+use super::asserts::assert_found;
 use super::record::{Patch, is_text, takes_deed, takes_patch};
-use assertions::assert_found;
 use deeds::Deed;
 use gate_rules::Gate;
 use graph_text::graph_text;

@@ -1,10 +1,10 @@
 //! Peers that hand over what would poison a record: it isn't let in, and the site goes on.
 
+use super::asserts::assert_found;
 use super::programs::{
     BARE, GATE, UNTIL_INPUT_ENDS, Way, Words, free_port, is_removed, is_written, serve_with,
 };
 use super::restarts::TAKEN;
-use assertions::assert_found;
 use byte_ends::Ends;
 use console::Named;
 use key_files::NoKeys;

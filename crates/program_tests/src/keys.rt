@@ -1,7 +1,7 @@
 //! `serve` with a file of keys.
 
+use super::asserts::assert_found;
 use super::programs::{UNTIL_INPUT_ENDS, Way, Words, is_removed, serve_keyed};
-use assertions::assert_found;
 use key_file::KeyFault;
 use key_files::SystemKeys;
 use record_pull::SystemFiles;

@@ -1,6 +1,6 @@
 //! `serve` by what words ask for, over files and sockets of this machine.
 
-use assertions::assert_found;
+use super::asserts::assert_found;
 use byte_ends::{Drain, Ends, Source};
 use command_line::{PageAddress, Printing, ServeWords, SocketMode};
 use console::Named;

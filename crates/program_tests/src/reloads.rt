@@ -1,10 +1,10 @@
 //! Gates that are put in force while a site runs.
 
+use super::asserts::assert_found;
 use super::programs::{
     UNTIL_INPUT_ENDS, Way, Words, free_port, is_removed, is_written, serve_with,
 };
 use super::shown::{Ending, ITEMS, shown};
-use assertions::assert_found;
 use byte_ends::Ends;
 use console::Named;
 use gate_rules::Gate;

@@ -1,11 +1,11 @@
 //! What a site of `serve` does with its words: what it acknowledged is there when it begins again, by its journal or
 //! its snapshot, and its options have their effect.
 
+use super::asserts::assert_found;
 use super::programs::{
     BARE, GATE, UNTIL_INPUT_ENDS, Way, Words, free_port, is_removed, is_written, serve_input,
     serve_with,
 };
-use assertions::assert_found;
 use byte_ends::{Ends, Source};
 use console::Named;
 use key_files::NoKeys;

@@ -1,8 +1,8 @@
 //! Sites that show themselves to browsers.
 
+use super::asserts::assert_found;
 use super::programs::{BARE, Way, Words, free_port, had, is_there, is_written, serve_input};
 use super::sockets::{bits_of, talk_at};
-use assertions::assert_found;
 use command_line::SocketMode;
 use page_server::open_endpoint;
 use record_pull::SystemFiles;

@@ -1,9 +1,9 @@
 //! Sites that listen at Unix sockets.
 
+use super::asserts::assert_found;
 use super::programs::{
     BARE, UNTIL_INPUT_ENDS, Way, Words, had, is_removed, is_there, is_written, serve_input,
 };
-use assertions::assert_found;
 use byte_ends::Ends;
 use record_pull::SystemFiles;
 use running_sites::{NoTurn, PASS_ON, PASSED, TAKE, one_session, text_of};

@@ -1,6 +1,6 @@
 //! What findings bring to a record, what has to be asked for, and what has vanished, worked out by hand.
 
-use assertions::assert_found;
+use super::asserts::assert_found;
 use deeds::{Deed, draft_of, op_of};
 use event_filter::{
     asked, brought, is_moot, vanished, what_a_row_says_is_what_the_record_says,

@@ -1,6 +1,6 @@
 //! Records whose state is joined after all operations came.
 
-use assertions::assert_found;
+use super::asserts::assert_found;
 use deeds::{Deed, op_of};
 use lattice_core::Join;
 use replica_core::{Gathering, Replica, Taken};

@@ -1,6 +1,6 @@
 //! What a record says, worked out by hand.
 
-use assertions::assert_found;
+use super::asserts::assert_found;
 use deeds::{Deed, draft_of, op_of};
 use event_filter::{is_recorded, what_is_recorded_changes_no_view, what_is_taken_in_is_recorded};
 use review_ops::Body;

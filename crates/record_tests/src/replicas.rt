@@ -1,7 +1,7 @@
 //! Records worked out by hand.
 
+use super::asserts::assert_found;
 use super::plain_replica::Plain;
-use assertions::assert_found;
 use deeds::{Deed, op_of};
 use lattice_core::NoMemory;
 use replica_core::{Front, Replica, Row, Taken};

@@ -1,6 +1,6 @@
 //! Records whose copies share what they had when they were made.
 
-use assertions::assert_found;
+use super::asserts::assert_found;
 use deeds::{Deed, op_of};
 use replica_core::{Front, Replica, Taken};
 use review_ops::Op;

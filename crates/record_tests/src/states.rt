@@ -1,6 +1,6 @@
 //! States worked out by hand.
 
-use assertions::assert_found;
+use super::asserts::assert_found;
 use deeds::{Deed, op_of};
 use lattice_core::Join;
 use state_core::{Item, State, a_journal_has_one_state, equal_journals_have_equal_states};

@@ -1,6 +1,6 @@
 //! Scripts worked out by hand.
 
-use assertions::assert_found;
+use super::asserts::assert_found;
 use deeds::{Deed, draft_of};
 use replica_core::{Front, Row};
 use review_ops::{BodyFault, Draft, Stamp};

@@ -1,7 +1,7 @@
 //! Sites that print what changed, and sites whose output fails.
 
+use super::asserts::assert_found;
 use super::scripts::Ending;
-use assertions::assert_found;
 use byte_ends::Ends;
 use gate_rules::Gate;
 use key_file::{KeyFault, Keys};

@@ -1,6 +1,6 @@
 //! Connections over sockets of this machine.
 
-use assertions::assert_found;
+use super::asserts::assert_found;
 use running_sites::listening;
 use site_net::{Awaited, Patience, PatientReader, PatientWriter, Stop};
 use std::io::{Read, Write};

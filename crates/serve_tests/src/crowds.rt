@@ -1,10 +1,10 @@
 //! Sessions side by side, and lines that come at once or in pieces.
 
+use super::asserts::assert_found;
 use super::scripts::{
     ONE_SESSION, Plan, Step, endless, play_one, play_reporting, play_within, run_plan, send_pieces,
     staged,
 };
-use assertions::assert_found;
 use running_sites::{PASS_ON, listening};
 use std::alloc::Global;
 use std::net::{Net, TcpListener, TcpStream};

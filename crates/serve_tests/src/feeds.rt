@@ -1,6 +1,6 @@
 //! Feeds of sites that answer by a script, in this process or over sockets of this machine.
 
-use assertions::assert_found;
+use super::asserts::assert_found;
 use byte_ends::{Broken, Drain, Ends};
 use event_feed::{FeedFault, Input};
 use feed_client::{

@@ -1,10 +1,10 @@
 //! Sites that pull from each other, and others that don't answer, don't read or don't go.
 
+use super::asserts::assert_found;
 use super::scripts::{
     Ending, Plan, Reported, SPARE, Stage, Step, endless, play, play_one, play_reporting, run_plan,
     serve_plan, staged,
 };
-use assertions::assert_found;
 use running_sites::{listening, stall, talk};
 use site_serve::Served;
 use std::alloc::Global;

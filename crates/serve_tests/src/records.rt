@@ -1,7 +1,7 @@
 //! Commands over the record of a running site, and over ports where none answers as one.
 
+use super::asserts::assert_found;
 use super::scripts::Ending;
-use assertions::assert_found;
 use byte_ends::Ends;
 use command_line::{Asked, read_words};
 use commands::run_command;

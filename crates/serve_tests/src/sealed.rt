@@ -1,7 +1,7 @@
 //! Sites at ports whose connections are sealed.
 
+use super::asserts::assert_found;
 use super::scripts::Ending;
-use assertions::assert_found;
 use byte_ends::{Drain, Ends, Source, read_all, write_all};
 use key_file::{KeyFault, Keys};
 use key_files::{KeyReader, SystemKeys};

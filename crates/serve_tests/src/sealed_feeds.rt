@@ -1,8 +1,8 @@
 //! Feeds of sites over connections that are sealed.
 
+use super::asserts::assert_found;
 use super::feeds::{BAD_LINE, Fed, feed_sealed};
 use super::sealed::{SystemHost, Told, UNPROVED, answer_one, keyed, run_sealed};
-use assertions::assert_found;
 use event_feed::FeedFault;
 use running_sites::{FEEDER, READER, STRANGER, listening, make_keys};
 use site_serve::Turn;

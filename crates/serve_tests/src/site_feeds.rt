@@ -1,7 +1,7 @@
 //! Feeds of sites that run, over sockets of this machine.
 
+use super::asserts::assert_found;
 use super::feeds::{BAD_LINE, Told, feed, feed_from, silent_input};
-use assertions::assert_found;
 use feed_client::Feeds;
 use gate_rules::Gate;
 use op_text::read_op;

@@ -1,10 +1,10 @@
 //! Sites that run, over sockets of this machine.
 
+use super::asserts::assert_found;
 use super::scripts::{
     Ending, ONE_SESSION, Plan, Stage, Step, endless, play_one, play_three, play_two, play_within,
     run_plan, staged,
 };
-use assertions::assert_found;
 use byte_ends::Ends;
 use key_file::{KeyFault, Keys};
 use key_files::{KeyReader, NoKeys};

@@ -1,6 +1,6 @@
 //! Lines that begin with the time at which they are written.
 
-use assertions::assert_found;
+use super::asserts::assert_found;
 use byte_ends::{Drain, Ends, write_all};
 use jiff::Timestamp;
 use std::alloc::Global;

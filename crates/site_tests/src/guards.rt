@@ -1,7 +1,7 @@
 //! What a site lets in of a peer's answer, worked out by hand: all of it or nothing.
 
+use super::asserts::assert_found;
 use super::talks::{MEMORY, MERGE_5, port_of, replica_of};
-use assertions::assert_found;
 use byte_ends::Ends;
 use gossip_line::{LineFault, Pulled, pull_run};
 use op_text::read_op;

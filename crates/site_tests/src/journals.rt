@@ -1,7 +1,7 @@
 //! Journals over tapes in memory.
 
+use super::asserts::assert_found;
 use super::talks::MEMORY;
-use assertions::assert_found;
 use byte_ends::{Broken, Ends};
 use op_text::read_op;
 use review_ops::Op;

@@ -2,8 +2,8 @@
 
 ghost use Rattle.review_ops.specs.Operation.{Operation};
 
+use super::asserts::assert_found;
 use super::running::patch_set;
-use assertions::assert_found;
 use replica_core::Replica;
 use review_ops::Op;
 use site_journal::KeepFault;

@@ -1,7 +1,7 @@
 //! Lines of sources, worked out by hand.
 
+use super::asserts::assert_found;
 use super::talks::MEMORY;
-use assertions::assert_found;
 use byte_ends::{Broken, BytesFault, Ends, Source};
 use line_reader::LineReader;
 use linked_list_allocator::LocalHeap;

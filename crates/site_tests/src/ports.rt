@@ -1,6 +1,6 @@
 //! The faults of ports and sinks.
 
-use assertions::assert_found;
+use super::asserts::assert_found;
 use review_ops::BodyFault;
 use site_port::{PortFault, SinkFault, own_replies_are_one};
 

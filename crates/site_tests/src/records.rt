@@ -1,7 +1,7 @@
 //! Records that are pulled over texts, worked out by hand.
 
+use super::asserts::assert_found;
 use super::talks::MEMORY;
-use assertions::assert_found;
 use byte_ends::{Broken, Ends, Source};
 use console::PullFault;
 use gossip_line::LineFault;

@@ -1,7 +1,7 @@
 //! Journals that are recovered as a command: what is printed, what is reported, and the status.
 
+use super::asserts::assert_found;
 use super::talks::MEMORY;
-use assertions::assert_found;
 use byte_ends::{Broken, Drain, Ends, Source};
 use console::show_torn;
 use recover_command::{recover_named, recover_to, show_journal_fault};

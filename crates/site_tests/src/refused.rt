@@ -5,9 +5,9 @@
 
 ghost use Rattle.std.specs.Prelude.{◌≡◌, IfOk};
 
+use super::asserts::assert_found;
 use super::running::{GATE, ROW, merge, open_one, patch_set};
 use super::talks::{MERGE_5, MERGE_6};
-use assertions::assert_found;
 use byte_ends::Ends;
 use gate_rules::Gate;
 use gossip_line::{LineFault, session_run};

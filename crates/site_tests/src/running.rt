@@ -3,7 +3,7 @@
 ghost use Rattle.std.specs.Prelude.{◌≡◌, IfOk};
 ghost use Rattle.site_shared.specs.Accounts.{GoesOn, BearsOwn, watching};
 
-use assertions::assert_found;
+use super::asserts::assert_found;
 use gate_rules::Gate;
 use ready_core::Refusal;
 use replica_core::{Front, Replica, Row};

@@ -1,6 +1,6 @@
 //! Sessions and pulls over texts, worked out by hand.
 
-use assertions::assert_found;
+use super::asserts::assert_found;
 use byte_ends::{Broken, Drain, Ends, Source};
 use gate_rules::Gate;
 use gossip_line::{LineFault, Pulled, answer_lines, pull_run, pulls_pass_on_all, session_run};

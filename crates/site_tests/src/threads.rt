@@ -3,8 +3,8 @@
 ghost use Rattle.std.specs.Prelude.{◌≡◌};
 ghost use Rattle.site_shared.specs.Accounts.{watching};
 
+use super::asserts::assert_found;
 use super::running::{GATE, ROW, open_two, patch_set};
-use assertions::assert_found;
 use crossbeam_channel::{Receiver, Sender, unbounded};
 use gate_rules::Gate;
 use replica_core::Replica;

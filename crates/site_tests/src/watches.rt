@@ -2,8 +2,8 @@
 
 ghost use Rattle.std.specs.Prelude.{◌≡◌, IfOk};
 
+use super::asserts::assert_found;
 use super::running::{GATE, open_one, patch_set};
-use assertions::assert_found;
 use gate_rules::{Clause, Condition, Gate, Side};
 use ready_core::Refusal;
 use review_ops::Draft;

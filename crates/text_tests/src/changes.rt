@@ -1,7 +1,7 @@
 //! Texts of what changed from one report to the next, worked out by hand.
 
+use super::asserts::assert_found;
 use super::found::{MEMORY, assert_bytes};
-use assertions::assert_found;
 use byte_ends::{Broken, Ends};
 use deeds::{Deed, op_of};
 use gate_rules::{Clause, Condition, Gate, Side};

@@ -1,7 +1,7 @@
 //! Sources and drains, those that fail among them, worked out by hand.
 
+use super::asserts::assert_found;
 use super::found::{MEMORY, assert_bytes};
-use assertions::assert_found;
 use byte_ends::{
     Broken, BytesFault, Drain, Ends, Failed, Lines, Source, broken_fails_once,
     none_failed_means_ok, read_all, write_all,

@@ -1,7 +1,7 @@
 //! Lines as Gerrit writes them, and what is found in them.
 
+use super::asserts::assert_found;
 use super::found::{MEMORY, assert_text};
-use assertions::assert_found;
 use gerrit_events::{
     Ballot, EventFault, EventKey, Finding, Known, Listing, Part, Projects, read_event,
 };

@@ -1,7 +1,7 @@
 //! Feeds over texts, worked out by hand.
 
+use super::asserts::assert_found;
 use super::found::MEMORY;
-use assertions::assert_found;
 use byte_ends::{Broken, Drain, Ends, Source};
 use event_feed::{EventWriter, FeedFault, Input, Progress, Taker, events_run, feed_most};
 use gerrit_events::{Part, Projects, Told};

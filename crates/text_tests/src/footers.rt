@@ -1,7 +1,7 @@
 //! Messages and their footers, worked out by hand.
 
+use super::asserts::assert_found;
 use super::found::MEMORY;
-use assertions::assert_found;
 use footer_text::{Bases, BasesFault, Footers, depends, footers_are_unique};
 use std::alloc::{AllocError, Global};
 use std::process::Abort;

@@ -1,6 +1,6 @@
 //! Assertions of texts that are there where memory suffices for them.
 
-use assertions::assert_found;
+use super::asserts::assert_found;
 use std::process::Abort;
 
 /// What a test lacks where memory is refused that it counts on.

@@ -1,7 +1,7 @@
 //! Texts of operations and fronts, worked out by hand.
 
+use super::asserts::assert_found;
 use super::found::{MEMORY, assert_answer, assert_bytes, assert_text};
-use assertions::assert_found;
 use op_text::{
     OpTextFault, append_op, read_body, read_front, read_op, write_body, write_front, write_op,
 };

@@ -1,7 +1,7 @@
 //! Texts of reports, worked out by hand, and what is written where the writer fails.
 
+use super::asserts::assert_found;
 use super::found::{MEMORY, assert_bytes};
-use assertions::assert_found;
 use byte_ends::{Broken, Ends};
 use gate_rules::{Clause, Condition, Side};
 use ready_core::{Left, Refusal, Verdicts};

@@ -1,7 +1,7 @@
 //! What the lines of scripts say, worked out by hand.
 
+use super::asserts::assert_found;
 use super::found::{MEMORY, assert_answer};
-use assertions::assert_found;
 use gate_rules::Gate;
 use script_text::{ScriptFault, Step, read_script};
 use std::alloc::{AllocError, Global};

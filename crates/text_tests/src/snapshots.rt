@@ -1,8 +1,8 @@
 //! Snapshots worked out by hand, and what is answered where an end fails or memory is refused.
 
+use super::asserts::assert_found;
 use super::found::{MEMORY, assert_bytes};
 use super::sips::Sips;
-use assertions::assert_found;
 use byte_ends::{Broken, Ends, Source};
 use op_text::OpTextFault;
 use replica_core::{Gathering, Iter, Replica};

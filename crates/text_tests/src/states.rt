@@ -1,7 +1,7 @@
 //! State texts worked out by hand, and what is written where the writer fails.
 
+use super::asserts::assert_found;
 use super::found::assert_bytes;
-use assertions::assert_found;
 use byte_ends::{Broken, Ends};
 use deeds::{Deed, op_of};
 use report_text::{WriteStateFault, write_state};

@@ -4,7 +4,7 @@
 ghost use Rattle.std.specs.Prelude.{IfSome, OnSome};
 ghost use Rattle.watch_core.specs.Watching.{Extends, FollowsJournal, Precedes};
 
-use assertions::assert_found;
+use super::asserts::assert_found;
 use deeds::{Deed, draft_of};
 use gate_rules::Gate;
 use ready_core::{Verdicts, evaluate};

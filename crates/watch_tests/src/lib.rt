@@ -3,6 +3,7 @@
 #![tactic(auto)]
 
 #[cfg(test)]
+mod asserts;
 #[cfg(test)]
 mod histories;
 #[cfg(test)]

@@ -3,8 +3,8 @@
 ghost use Rattle.std.specs.Prelude.{◌<◌, ◌^◌, OnSome};
 ghost use Rattle.watch_core.specs.Watching.{Extends, Precedes};
 
+use super::asserts::assert_found;
 use super::histories::{CYCLES, GATE, fresh, patch_set, take};
-use assertions::assert_found;
 use deeds::{Deed, draft_of};
 use gate_rules::Gate;
 use ready_core::{Verdicts, evaluate};
