@@ -1,7 +1,5 @@
 //! Sites that print what changed, and sites whose output fails.
 
-use super::asserts::assert_found;
-use super::scripts::Ending;
 use byte_ends::Ends;
 use gate_rules::Gate;
 use key_file::{KeyFault, Keys};
@@ -12,7 +10,8 @@ use site_serve::{Prints, Setup, Turn, serve_run};
 use std::alloc::Global;
 use std::io::{ErrorKind, Write};
 use std::net::{Net, TcpListener, TcpStream};
-use std::sync::Wait;
+use std::sync::{Arc, Wait};
+use std::test::Fail;
 use std::thread::Threads;
 use std::time::{Clock, Duration};
 use std::{io, thread};
@@ -108,23 +107,21 @@ where
 }
 
 /// A site that prints what changed, for as many sessions as there are clients.
-fn changing(alloc: Global) -> Option<Setup<'static>> {
-    let gate = Gate::read(alloc, GATE).ok()?;
-    let mut setup = one_session(alloc, 1).ok()?;
-    setup.gate = gate;
+fn changing(alloc: Global) -> Result<Setup<'static>, Fail> {
+    let mut setup = one_session(alloc, 1)?;
+    setup.gate = Gate::read(alloc, GATE)?;
     setup.sessions = CLIENTS.len() as u64;
     setup.prints = Prints::Changes;
-    Some(setup)
+    Ok(setup)
 }
 
-/// How such a site ends that prints to this output, with this host.
+/// Runs such a site: whether all was answered and written.
 fn run_changing<R>(
     rt: &R,
     alloc: Global,
-    listener: TcpListener,
     output: Ends<Shared<R>>,
     turn: &AfterGroup<R>,
-) -> Ending
+) -> Result<bool, Fail>
 where
     R: Net<Listener = TcpListener, Stream = TcpStream>
         + Threads
@@ -135,80 +132,41 @@ where
         + Sync,
 {
     let setup = changing(alloc)?;
-    let errors = Ends::new(Vec::new(alloc));
+    let (listener, port) = listening(rt)?;
     let stop = Stop::new();
-    ending(serve_run(rt, alloc, listener, setup, &stop, output, errors, turn))
-}
-
-/// Runs such a site beside those clients: how it ended, and whether all were answered.
-fn run_in_turn<R>(
-    rt: &R,
-    alloc: Global,
-    output: Ends<Shared<R>>,
-    turn: &AfterGroup<R>,
-) -> Option<(Ending, bool)>
-where
-    R: Net<Listener = TcpListener, Stream = TcpStream>
-        + Threads
-        + Wait
-        + Clock
-        + Copy
-        + Send
-        + Sync,
-{
-    let (listener, port) = listening(rt).ok()?;
-    Some(thread::join(
+    let errors = Ends::new(Vec::new(alloc));
+    let (served, is_answered) = thread::join(
         rt,
-        || run_changing(rt, alloc, listener, output, turn),
+        || ending(serve_run(rt, alloc, listener, setup, &stop, output, errors, turn)),
         || talk_in_turn(rt, alloc, port),
-    ))
-}
-
-/// Whether a text is what is printed after each client, one after the other, and nothing more.
-fn is_each_group(text: &[u8]) -> bool {
-    let mut rest = text;
-    for (_, group) in CLIENTS {
-        match rest.strip_prefix(group.as_bytes()) {
-            Some(left) => rest = left,
-            None => return false,
-        }
-    }
-    rest.is_empty()
-}
-
-/// How such a site ended, whether all clients were answered, and whether all was printed.
-fn changes_of<R>(rt: R, alloc: Global) -> Option<((Ending, bool), bool)>
-where
-    R: Net<Listener = TcpListener, Stream = TcpStream>
-        + Threads
-        + Wait
-        + Clock
-        + Copy
-        + Send
-        + Sync,
-{
-    let (output, written) = watched_end(rt, alloc).ok()?;
-    let turn = AfterGroup { rt, written };
-    let ran = run_in_turn(&rt, alloc, output, &turn)?;
-    let are_printed = is_each_group(turn.written.lock(&rt).as_slice());
-    Some((ran, are_printed))
+    );
+    Ok(served == Some((3, true, false)) && is_answered)
 }
 
 // A patch set waits, a vote makes it ready, and a merge ends it.
 #[test]
-fn changes_are_printed(rt: HostRuntime) {
-    let found = changes_of(rt, rt.alloc());
-    assert_found(&rt, found, Some(((Some((3, true, false)), true), true)));
+fn changes_are_printed(rt: HostRuntime) -> Result<(), Fail> {
+    let (output, written) = watched_end(rt, rt.alloc())?;
+    let turn = AfterGroup {
+        rt,
+        written: Arc::try_clone(&written)?,
+    };
+    assert!(rt; run_changing(&rt, rt.alloc(), output, &turn)?);
+    let mut wanted = Vec::new(rt.alloc());
+    for (_, group) in CLIENTS {
+        wanted.extend_from_slice(group.as_bytes())?;
+    }
+    assert_eq!(rt; written.lock(&rt).as_slice(), wanted.as_slice());
+    Ok(())
 }
 
-/// How a site ends that has one session, prints so, and whose output is closed.
+/// Runs a site for one session, whose output is closed, and how it ended.
 fn run_closed<R>(
     rt: &R,
     alloc: Global,
-    listener: TcpListener,
     prints: Prints,
     errors: Ends<Shared<R>>,
-) -> Ending
+) -> Result<Option<(usize, bool, bool)>, Fail>
 where
     R: Net<Listener = TcpListener, Stream = TcpStream>
         + Threads
@@ -218,39 +176,21 @@ where
         + Send
         + Sync,
 {
-    let mut setup = one_session(alloc, 1).ok()?;
+    let mut setup = one_session(alloc, 1)?;
     setup.prints = prints;
-    let output = Ends::new(Closed);
+    let (listener, port) = listening(rt)?;
     let stop = Stop::new();
-    ending(serve_run(rt, alloc, listener, setup, &stop, output, errors, &NoTurn))
-}
-
-/// How such a site ends beside a client that takes in a patch set.
-fn run_closed_beside<R>(
-    rt: &R,
-    alloc: Global,
-    prints: Prints,
-    errors: Ends<Shared<R>>,
-) -> Option<(Ending, bool)>
-where
-    R: Net<Listener = TcpListener, Stream = TcpStream>
-        + Threads
-        + Wait
-        + Clock
-        + Copy
-        + Send
-        + Sync,
-{
-    let (listener, port) = listening(rt).ok()?;
-    Some(thread::join(
+    let output = Ends::new(Closed);
+    let (served, _answers) = thread::join(
         rt,
-        || run_closed(rt, alloc, listener, prints, errors),
-        || talk(rt, alloc, port, TAKE_PATCH).is_ok(),
-    ))
+        || ending(serve_run(rt, alloc, listener, setup, &stop, output, errors, &NoTurn)),
+        || talk(rt, alloc, port, TAKE_PATCH),
+    );
+    Ok(served)
 }
 
-/// How a site ends that prints so to a closed output, and whether this is all that it says of that.
-fn says_once<R>(rt: R, alloc: Global, prints: Prints, wanted: &str) -> Option<(Ending, bool)>
+/// Whether a site that prints so says this of a closed output, and ends well otherwise.
+fn says_once<R>(rt: &R, alloc: Global, prints: Prints, wanted: &str) -> Result<bool, Fail>
 where
     R: Net<Listener = TcpListener, Stream = TcpStream>
         + Threads
@@ -260,23 +200,22 @@ where
         + Send
         + Sync,
 {
-    let (errors, written) = watched_end(rt, alloc).ok()?;
-    let (ended, _is_answered) = run_closed_beside(&rt, alloc, prints, errors)?;
-    let is_said = written.lock(&rt).as_slice() == wanted.as_bytes();
-    Some((ended, is_said))
+    let (errors, written) = watched_end(*rt, alloc)?;
+    let served = run_closed(rt, alloc, prints, errors)?;
+    let is_said = written.lock(rt).as_slice() == wanted.as_bytes();
+    Ok(is_said && served == Some((1, wanted.is_empty(), false)))
 }
 
 // A closed output is said once, and the site goes on; where nothing is printed it doesn't matter.
 #[test]
-fn a_closed_output_is_said_once(rt: HostRuntime) {
+fn a_closed_output_is_said_once(rt: HostRuntime) -> Result<(), Fail> {
     let said = "reviewgate: output 1 WriteFault\n";
     for (prints, wanted) in [
         (Prints::Report, said),
         (Prints::Changes, said),
         (Prints::Nothing, ""),
     ] {
-        let found = says_once(rt, rt.alloc(), prints, wanted);
-        let ended = Some((1, wanted.is_empty(), false));
-        assert_found(&rt, found, Some((ended, true)));
+        assert!(rt; says_once(&rt, rt.alloc(), prints, wanted)?);
     }
+    Ok(())
 }

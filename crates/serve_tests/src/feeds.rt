@@ -1,6 +1,5 @@
 //! Feeds of sites that answer by a script, in this process or over sockets of this machine.
 
-use super::asserts::assert_found;
 use byte_ends::{Broken, Drain, Ends};
 use event_feed::{FeedFault, Input};
 use feed_client::{
@@ -18,8 +17,10 @@ use state_core::State;
 use std::alloc::Global;
 use std::io::{Read, Write};
 use std::net::{Net, TcpListener, TcpStream};
+use std::process::Abort;
 use std::random::RandomSource;
 use std::sync::Wait;
+use std::test::Fail;
 use std::thread::Threads;
 use std::time::Clock;
 use std::{io, thread};
@@ -119,7 +120,7 @@ impl Intake for Scripted {
 /// A feed of a site, whose outputs are texts.
 type TestFeed = SiteFeed<Scripted, Ends<Vec<u8>>, Ends<Vec<u8>>>;
 
-/// A feed of a site, which answers the body of this number so, that knows nothing yet.
+/// A feed of a site with this script that knows nothing yet.
 fn feed_of(alloc: Global, number: u64, answer: Result<Stamp, IntakeFault>) -> TestFeed {
     SiteFeed {
         alloc,
@@ -136,157 +137,75 @@ fn taking_feed(alloc: Global) -> TestFeed {
     feed_of(alloc, 0, Err(IntakeFault::Ended))
 }
 
-/// What the site of a feed does, and what the feed knows.
-#[derive(Clone, Copy)]
-enum Script {
-    /// It takes in all.
-    Takes,
-    /// It answers the second body so.
-    Answers(IntakeFault),
-    /// It takes in all, and another client brought that operation to it.
-    Brought(&'static [u8]),
-    /// It takes in all, and changes are named by this address.
-    Named(&'static str),
-}
-
-/// A feed of a site to which another client brought that operation.
-fn feed_with_news(alloc: Global, op: &[u8]) -> Option<TestFeed> {
-    let op = read_op(alloc, op).ok()?;
-    let mut feed = taking_feed(alloc);
-    match feed.site.news.push(op) {
-        Ok(()) => Some(feed),
-        Err(_) => None,
-    }
-}
-
-/// A feed of a site where changes are named by this address.
-fn feed_with_base(alloc: Global, base: &str) -> Option<TestFeed> {
-    let bases = Bases::new(alloc, &[base]).ok()?;
-    let mut feed = taking_feed(alloc);
-    feed.bases = Some(bases);
-    Some(feed)
-}
-
-/// A feed of a site with this script, where memory suffices for it.
-fn feed_for(alloc: Global, script: Script) -> Option<TestFeed> {
-    match script {
-        Script::Takes => Some(taking_feed(alloc)),
-        Script::Answers(fault) => Some(feed_of(alloc, 2, Err(fault))),
-        Script::Brought(op) => feed_with_news(alloc, op),
-        Script::Named(base) => feed_with_base(alloc, base),
-    }
-}
-
-/// What is wanted of a feed: what is asked for, what is reported, how it ends, and how many bodies were offered up to
-/// then.
+/// What is wanted of a feed: what is asked for, what is reported, and how it ends.
 #[derive(Clone, Copy)]
 struct Wanted {
     asks: &'static str,
     reports: &'static str,
     ended: Result<(), FeedFault>,
-    count: u64,
 }
 
-/// Whether a feed that ended so is as it is wanted.
-fn is_wanted(feed: &TestFeed, ended: Result<(), FeedFault>, wanted: Wanted) -> bool {
-    ended == wanted.ended
-        && feed.output.get_ref().as_slice() == wanted.asks.as_bytes()
-        && feed.errors.get_ref().as_slice() == wanted.reports.as_bytes()
-        && feed.site.count == wanted.count
+/// Asserts what is asked for and reported by a feed that ended so, and forgets both.
+fn assert_ended(
+    rt: &(impl Abort + AllocGlobal),
+    feed: &mut TestFeed,
+    ended: Result<(), FeedFault>,
+    wanted: Wanted,
+) {
+    assert_eq!(rt; ended, wanted.ended);
+    assert_eq!(rt; feed.output.get_ref().as_slice(), wanted.asks.as_bytes());
+    assert_eq!(rt; feed.errors.get_ref().as_slice(), wanted.reports.as_bytes());
+    feed.output = Ends::new(Vec::new(rt.alloc()));
+    feed.errors = Ends::new(Vec::new(rt.alloc()));
 }
 
-/// Feeds lines to a site, with outputs that have nothing yet: how that ends.
-fn feed_lines(alloc: Global, feed: &mut TestFeed, lines: &str) -> Result<(), FeedFault> {
-    feed.output = Ends::new(Vec::new(alloc));
-    feed.errors = Ends::new(Vec::new(alloc));
+/// Feeds lines to a site, and asserts what is asked for and reported and how the feed ends.
+fn assert_feed(rt: &(impl Abort + AllocGlobal), feed: &mut TestFeed, lines: &str, wanted: Wanted) {
     let mut source = Ends::new(lines.as_bytes());
-    feed_site(alloc, Input::Stream, &Projects::all(), &mut source, feed)
-}
-
-/// Lines that are fed, and what is wanted of the feed.
-type Row = (&'static str, Wanted);
-
-/// Feeds the lines of each row in turn to a site: how many of them were as they are wanted.
-fn feed_rows(alloc: Global, feed: &mut TestFeed, rows: &[Row]) -> usize {
-    let mut count = 0usize;
-    for (lines, wanted) in rows {
-        let ended = feed_lines(alloc, feed, lines);
-        if is_wanted(feed, ended, *wanted) {
-            count = count.saturating_add(1);
-        }
-    }
-    count
-}
-
-/// The same for a site with this script, and whether these bodies were offered to it in all.
-fn rows_of(alloc: Global, script: Script, rows: &[Row], offered: &str) -> (usize, bool) {
-    match feed_for(alloc, script) {
-        Some(mut feed) => {
-            let count = feed_rows(alloc, &mut feed, rows);
-            (count, feed.site.offered.as_str() == offered)
-        }
-        None => (0, false),
-    }
+    let ended = feed_site(
+        rt.alloc(),
+        Input::Stream,
+        &Projects::all(),
+        &mut source,
+        feed,
+    );
+    assert_ended(rt, feed, ended, wanted);
 }
 
 #[test]
 fn what_is_new_is_sent_once(rt: HostRuntime) {
+    let mut feed = taking_feed(rt.alloc());
     let wanted = Wanted {
         asks: "ask 7\n",
         reports: BAD_LINE,
         ended: Ok(()),
-        count: 4,
     };
+    assert_feed(&rt, &mut feed, EVENTS, wanted);
+    assert_eq!(rt; feed.site.offered.as_str(), BODIES);
     let again = Wanted { asks: "", ..wanted };
-    let rows = [(EVENTS, wanted), (EVENTS, again)];
-    assert_found(
-        &rt,
-        rows_of(rt.alloc(), Script::Takes, &rows, BODIES),
-        (2, true),
-    );
+    assert_feed(&rt, &mut feed, EVENTS, again);
+    assert_eq!(rt; feed.site.count, 4);
 }
-
-/// What is offered of the events where the vote is refused at first and offered again.
-const OFFERED_AGAIN: &str = concat!(
-    r#"{"change":7,"message":"m","op":"patchset","set":1}"#,
-    "\n",
-    r#"{"change":7,"label":"verified","op":"vote","set":1,"value":1,"voter":"zuul"}"#,
-    "\n",
-    r#"{"change":7,"op":"merged"}"#,
-    "\n",
-    r#"{"change":8,"op":"abandon"}"#,
-    "\n",
-    r#"{"change":7,"label":"verified","op":"vote","set":1,"value":1,"voter":"zuul"}"#,
-    "\n",
-);
 
 #[test]
 fn what_the_site_refuses_is_reported(rt: HostRuntime) {
+    let refused = Err(IntakeFault::Refused(Refusal::BadBody));
+    let mut feed = feed_of(rt.alloc(), 2, refused);
     let wanted = Wanted {
         asks: "ask 7\n",
         reports: "reviewgate: events 6 Refused 2 8 BadBody\nreviewgate: events 1 BadEvent 3 line\n",
         ended: Ok(()),
-        count: 4,
     };
+    assert_feed(&rt, &mut feed, EVENTS, wanted);
+    assert_eq!(rt; feed.site.count, 4);
     let again = Wanted {
         asks: "",
         reports: BAD_LINE,
         ended: Ok(()),
-        count: 5,
     };
-    let rows = [(EVENTS, wanted), (EVENTS, again)];
-    let script = Script::Answers(IntakeFault::Refused(Refusal::BadBody));
-    let found = rows_of(rt.alloc(), script, &rows, OFFERED_AGAIN);
-    assert_found(&rt, found, (2, true));
+    assert_feed(&rt, &mut feed, EVENTS, again);
+    assert_eq!(rt; feed.site.count, 5);
 }
-
-/// The first two bodies of the events.
-const FIRST_BODIES: &str = concat!(
-    r#"{"change":7,"message":"m","op":"patchset","set":1}"#,
-    "\n",
-    r#"{"change":7,"label":"verified","op":"vote","set":1,"value":1,"voter":"zuul"}"#,
-    "\n",
-);
 
 #[test]
 fn a_feed_ends_where_no_answer_comes(rt: HostRuntime) {
@@ -294,39 +213,34 @@ fn a_feed_ends_where_no_answer_comes(rt: HostRuntime) {
         (IntakeFault::Ended, FeedFault::Ended),
         (IntakeFault::NoMemory, FeedFault::NoMemory),
     ] {
+        let mut feed = feed_of(rt.alloc(), 2, Err(lost));
         let wanted = Wanted {
             asks: "ask 7\n",
             reports: "",
             ended: Err(fault),
-            count: 2,
         };
-        let rows = [(EVENTS, wanted)];
-        let found = rows_of(rt.alloc(), Script::Answers(lost), &rows, FIRST_BODIES);
-        assert_found(&rt, found, (1, true));
+        assert_feed(&rt, &mut feed, EVENTS, wanted);
+        assert_eq!(rt; feed.site.count, 2);
     }
 }
 
 #[test]
 fn a_feed_ends_where_events_were_dropped(rt: HostRuntime) {
+    let mut feed = taking_feed(rt.alloc());
     let lines = "{\"type\":\"stats\"}\n{\"type\":\"dropped-output\"}\n{}\n";
     let wanted = Wanted {
         asks: "",
         reports: "reviewgate: events 2 Dropped 2\n",
         ended: Err(FeedFault::Dropped),
-        count: 0,
     };
+    assert_feed(&rt, &mut feed, lines, wanted);
     let rest = Wanted {
         asks: "",
         reports: "reviewgate: events 1 BadEvent 1 line\n",
         ended: Ok(()),
-        count: 0,
     };
-    let rows = [(lines, wanted), ("{", rest)];
-    assert_found(
-        &rt,
-        rows_of(rt.alloc(), Script::Takes, &rows, ""),
-        (2, true),
-    );
+    assert_feed(&rt, &mut feed, "{", rest);
+    assert_eq!(rt; feed.site.count, 0);
 }
 
 /// A merged change, that is abandoned and restored afterwards.
@@ -341,18 +255,16 @@ const AFTER_ITS_MERGE: &str = concat!(
 
 #[test]
 fn a_merged_change_is_neither_abandoned_nor_restored(rt: HostRuntime) {
+    let mut feed = taking_feed(rt.alloc());
     let wanted = Wanted {
         asks: "",
         reports: "reviewgate: events 1 BadEvent 2 status\nreviewgate: events 1 BadEvent 3 status\n",
         ended: Ok(()),
-        count: 1,
     };
-    let offered = "{\"change\":7,\"op\":\"merged\"}\n";
-    let rows = [(AFTER_ITS_MERGE, wanted)];
-    assert_found(
-        &rt,
-        rows_of(rt.alloc(), Script::Takes, &rows, offered),
-        (1, true),
+    assert_feed(&rt, &mut feed, AFTER_ITS_MERGE, wanted);
+    assert_eq!(rt;
+        feed.site.offered.as_str(),
+        "{\"change\":7,\"op\":\"merged\"}\n"
     );
 }
 
@@ -360,19 +272,19 @@ fn a_merged_change_is_neither_abandoned_nor_restored(rt: HostRuntime) {
 const NEWS: &[u8] = br#"{"change":7,"op":"merged","seq":9,"site":2,"start":2,"time":9}"#;
 
 #[test]
-fn what_others_bring_is_not_sent(rt: HostRuntime) {
+fn what_others_bring_is_not_sent(rt: HostRuntime) -> Result<(), Fail> {
+    let mut feed = taking_feed(rt.alloc());
+    feed.site.news.push(read_op(rt.alloc(), NEWS)?)?;
+    let wanted = Wanted {
+        asks: "",
+        reports: "",
+        ended: Ok(()),
+    };
     let line = "{\"type\":\"change-merged\",\"change\":{\"number\":7}}\n";
-    let found = rows_of(rt.alloc(), Script::Brought(NEWS), &[(line, QUIET)], "");
-    assert_found(&rt, found, (1, true));
+    assert_feed(&rt, &mut feed, line, wanted);
+    assert_eq!(rt; feed.site.count, 0);
+    Ok(())
 }
-
-/// Nothing is asked for, reported or offered.
-const QUIET: Wanted = Wanted {
-    asks: "",
-    reports: "",
-    ended: Ok(()),
-    count: 0,
-};
 
 /// A new patch set on a parent that nothing is known of, which needs another change beside one that it names by
 /// something else.
@@ -384,74 +296,54 @@ const NEEDY: &str = concat!(
     "\n",
 );
 
-/// What is offered of it.
-const NEEDED: &str = concat!(
-    r#"{"change":9,"message":"m\n\nDepends-On: https://r/4\nDepends-On: https://s/5\n","op":"patchset","parent":3,"set":1}"#,
-    "\n",
-);
-
 #[test]
-fn what_is_unknown_is_asked_for(rt: HostRuntime) {
+fn what_is_unknown_is_asked_for(rt: HostRuntime) -> Result<(), Fail> {
+    let mut feed = taking_feed(rt.alloc());
+    feed.bases = Some(Bases::new(rt.alloc(), &["https://r/"])?);
     let wanted = Wanted {
         asks: "ask 3\nask 4\n",
-        count: 1,
-        ..QUIET
+        reports: "",
+        ended: Ok(()),
     };
-    let script = Script::Named("https://r/");
-    let found = rows_of(rt.alloc(), script, &[(NEEDY, wanted)], NEEDED);
-    assert_found(&rt, found, (1, true));
+    assert_feed(&rt, &mut feed, NEEDY, wanted);
+    Ok(())
 }
 
-/// A feed whose record has change 9 as new.
-fn feed_with_change(alloc: Global) -> Option<TestFeed> {
+/// Feeds the answer of a query that lists every open change, to a feed whose record has change 9 as new. Asserts what is
+/// asked for and reported, how that ends and how many bodies were offered.
+fn assert_completed(rt: &(impl Abort + AllocGlobal), lines: &str, wanted: Wanted, count: u64) {
+    let alloc = rt.alloc();
+    let mut feed = taking_feed(alloc);
     let known = Wanted {
         asks: "ask 3\n",
-        count: 1,
-        ..QUIET
+        reports: "",
+        ended: Ok(()),
     };
-    let mut feed = taking_feed(alloc);
-    match feed_rows(alloc, &mut feed, &[(NEEDY, known)]) {
-        1 => Some(feed),
-        _ => None,
-    }
-}
-
-/// Feeds the answer of a query that lists every open change, to a feed with outputs that have nothing yet: whether that
-/// is then as it is wanted.
-fn complete(alloc: Global, feed: TestFeed, lines: &str, wanted: Wanted) -> bool {
-    let mut feed = feed;
-    feed.output = Ends::new(Vec::new(alloc));
+    assert_feed(rt, &mut feed, NEEDY, known);
+    let before = feed.site.count;
     let mut listing = Listing {
         feed,
         noted: Noted::new(alloc),
     };
     let mut source = Ends::new(lines.as_bytes());
     let ended = complete_site(alloc, &Projects::all(), &mut source, &mut listing);
-    is_wanted(&listing.feed, ended, wanted)
+    assert_ended(rt, &mut listing.feed, ended, wanted);
+    assert_eq!(rt; listing.feed.site.count.wrapping_sub(before), count);
 }
 
-/// The same for a feed whose record has change 9 as new.
-fn is_completed(alloc: Global, lines: &str, wanted: Wanted) -> bool {
-    match feed_with_change(alloc) {
-        Some(feed) => complete(alloc, feed, lines, wanted),
-        None => false,
-    }
-}
-
-/// Change 9, which was offered before, is asked for and abandoned where a whole answer doesn't list it, and each line
-/// of the answer was read.
+/// Change 9 is asked for and abandoned where a whole answer doesn't list it, and each line of the answer was read.
 #[test]
 fn what_an_answer_lacks_is_abandoned(rt: HostRuntime) {
     for (lines, asks, count) in [
-        ("{\"type\":\"stats\"}\n", "ask 9\n", 2u64),
-        (NEEDY, "ask 3\n", 1),
+        ("{\"type\":\"stats\"}\n", "ask 9\n", 1u64),
+        (NEEDY, "ask 3\n", 0),
     ] {
         let wanted = Wanted {
             asks,
-            count,
-            ..QUIET
+            reports: "",
+            ended: Ok(()),
         };
-        assert_found(&rt, is_completed(rt.alloc(), lines, wanted), true);
+        assert_completed(&rt, lines, wanted, count);
     }
 }
 
@@ -474,9 +366,8 @@ fn an_answer_that_is_not_whole_abandons_nothing(rt: HostRuntime) {
             asks: "",
             reports,
             ended: Err(FeedFault::Incomplete),
-            count: 1,
         };
-        assert_found(&rt, is_completed(rt.alloc(), lines, wanted), true);
+        assert_completed(&rt, lines, wanted, 0);
     }
 }
 
@@ -506,24 +397,23 @@ fn ended_with<O: Drain + Drop, E: Drain + Drop>(
     )
 }
 
-/// An end that takes a text in, and one that fails at its first call.
-fn text_end(alloc: Global) -> Ends<Vec<u8>> {
-    Ends::new(Vec::new(alloc))
-}
-
-fn broken_end(alloc: Global) -> Broken<Ends<Vec<u8>>> {
-    Broken::at_call(text_end(alloc), 1)
-}
-
 #[test]
 fn ends_that_fail_end_the_feed(rt: HostRuntime) {
     let alloc = rt.alloc();
-    let ended = ended_with(alloc, true, text_end(alloc), text_end(alloc));
-    assert_found(&rt, ended, Err(FeedFault::ReadFault));
-    let ended = ended_with(alloc, false, broken_end(alloc), text_end(alloc));
-    assert_found(&rt, ended, Err(FeedFault::WriteFault));
-    let ended = ended_with(alloc, false, text_end(alloc), broken_end(alloc));
-    assert_found(&rt, ended, Err(FeedFault::WriteFault));
+    let text = || Ends::new(Vec::<u8>::new(alloc));
+    let broken = || Broken::at_call(Ends::new(Vec::<u8>::new(alloc)), 1);
+    assert_eq!(rt;
+        ended_with(alloc, true, text(), text()),
+        Err(FeedFault::ReadFault)
+    );
+    assert_eq!(rt;
+        ended_with(alloc, false, broken(), text()),
+        Err(FeedFault::WriteFault)
+    );
+    assert_eq!(rt;
+        ended_with(alloc, false, text(), broken()),
+        Err(FeedFault::WriteFault)
+    );
 }
 
 /// What the session of a site may answer, beside the greatest stamp, and how each is read.
@@ -547,38 +437,21 @@ const ANSWERS: [(&str, IntakeFault); 16] = [
 ];
 
 #[test]
-fn answers_are_read(rt: HostRuntime) {
+fn answers_are_read(rt: HostRuntime) -> Result<(), Fail> {
+    let stamp = Stamp::new(18446744073709551615, 65535, 4294967295, 1).ok_or("stamp")?;
     let line = b"ok 18446744073709551615,65535,4294967295,1";
-    let stamp = Stamp::new(18446744073709551615, 65535, 4294967295, 1);
-    assert_found(&rt, read_answer(rt.alloc(), line).ok(), stamp);
-    assert_found(&rt, stamp.is_some(), true);
+    assert_eq!(rt; read_answer(rt.alloc(), line), Ok(stamp));
     for (line, fault) in ANSWERS {
-        assert_found(&rt, read_answer(rt.alloc(), line.as_bytes()), Err(fault));
+        assert_eq!(rt; read_answer(rt.alloc(), line.as_bytes()), Err(fault));
     }
+    Ok(())
 }
 
 /// How a feed of a site ended, what it said on its output, and what was reported.
-#[derive(Drop)]
-pub struct Fed {
-    pub ended: Result<(), FeedFault>,
-    pub said: Vec<u8>,
-    pub reported: Vec<u8>,
-}
-
-/// How a feed ended, and whether it said and reported just what is wanted.
-pub type Told = (Result<(), FeedFault>, bool, bool);
-
-impl Fed {
-    /// How it ended, and whether it said and reported just this.
-    pub fn told(&self, said: &str, reported: &str) -> Told {
-        let is_said = self.said.as_slice() == said.as_bytes();
-        let is_reported = self.reported.as_slice() == reported.as_bytes();
-        (self.ended, is_said, is_reported)
-    }
-}
+pub type Ending = (Result<(), FeedFault>, Vec<u8>, Vec<u8>);
 
 /// Feeds an input to the site at a port.
-pub fn feed_from<R, I>(rt: R, alloc: Global, port: u16, feeds: Feeds, input: I) -> Fed
+pub fn feed_from<R, I>(rt: R, alloc: Global, port: u16, feeds: Feeds, input: I) -> Ending
 where
     R: Net<Stream = TcpStream> + Threads + Wait + Clock + RandomSource + Copy + Send + 'static,
     I: Read + Send + Drop + 'static,
@@ -587,7 +460,7 @@ where
 }
 
 /// Feeds an input to a site.
-fn feed_site_from<R, I>(rt: R, alloc: Global, site: FedSite<'_>, feeds: Feeds, input: I) -> Fed
+fn feed_site_from<R, I>(rt: R, alloc: Global, site: FedSite<'_>, feeds: Feeds, input: I) -> Ending
 where
     R: Net<Stream = TcpStream> + Threads + Wait + Clock + RandomSource + Copy + Send + 'static,
     I: Read + Send + Drop + 'static,
@@ -601,15 +474,11 @@ where
     let (mut output, mut errors) = (Ends::new(Vec::new(alloc)), Ends::new(Vec::new(alloc)));
     let input = Ends::new(input);
     let ended = feed_to(rt, alloc, order, input, &mut output, &mut errors);
-    Fed {
-        ended,
-        said: output.into_inner(),
-        reported: errors.into_inner(),
-    }
+    (ended, output.into_inner(), errors.into_inner())
 }
 
 /// Feeds the events to the site at a port of this machine, over a connection that is sealed by a secret.
-pub fn feed_sealed<R>(rt: R, alloc: Global, port: u16, secret: [u8; 32]) -> Fed
+pub fn feed_sealed<R>(rt: R, alloc: Global, port: u16, secret: [u8; 32]) -> Ending
 where
     R: Net<Stream = TcpStream> + Threads + Wait + Clock + RandomSource + Copy + Send + 'static,
 {
@@ -622,7 +491,7 @@ where
 }
 
 /// Feeds the events to the site at a port.
-pub fn feed<R>(rt: R, alloc: Global, port: u16) -> Fed
+pub fn feed<R>(rt: R, alloc: Global, port: u16) -> Ending
 where
     R: Net<Stream = TcpStream> + Threads + Wait + Clock + RandomSource + Copy + Send + 'static,
 {
@@ -659,35 +528,24 @@ fn go_away(listener: TcpListener, heard: &str, answer: &str) -> io::Result<()> {
     session.write_all(answer.as_bytes())
 }
 
-/// A feed of the events whose site goes with these answers.
-fn feed_that_ends<R>(rt: R, alloc: Global, heard: &str, answer: &str) -> Option<Fed>
+/// How a feed of the events ends whose site goes with these answers.
+fn feed_that_ends<R>(rt: R, heard: &str, answer: &str) -> io::Result<Ending>
 where
     R: Clock + Net<Listener = TcpListener, Stream = TcpStream> + Threads + Wait + RandomSource,
-    R: Copy + Send + Sync + 'static,
+    R: AllocGlobal + Copy + Send + Sync + 'static,
 {
-    let (listener, port) = listening(&rt).ok()?;
-    let (is_gone, fed) = thread::join(
+    let (listener, port) = listening(&rt)?;
+    let (gone, fed) = thread::join(
         &rt,
-        || go_away(listener, heard, answer).is_ok(),
-        || feed(rt, alloc, port),
+        || go_away(listener, heard, answer),
+        || feed(rt, rt.alloc(), port),
     );
-    if is_gone { Some(fed) } else { None }
-}
-
-/// How that ends, where it says this and reports nothing.
-fn told_by<R>(rt: R, alloc: Global, heard: &str, answer: &str, said: &str) -> Option<Told>
-where
-    R: Clock + Net<Listener = TcpListener, Stream = TcpStream> + Threads + Wait + RandomSource,
-    R: Copy + Send + Sync + 'static,
-{
-    match feed_that_ends(rt, alloc, heard, answer) {
-        Some(fed) => Some(fed.told(said, "")),
-        None => None,
-    }
+    gone?;
+    Ok(fed)
 }
 
 #[test]
-fn the_end_of_a_site_ends_the_feed(rt: HostRuntime) {
+fn the_end_of_a_site_ends_the_feed(rt: HostRuntime) -> Result<(), Fail> {
     for (heard, answer) in [
         ("noted\n", ""),
         ("noted\n", "what\n"),
@@ -695,33 +553,34 @@ fn the_end_of_a_site_ends_the_feed(rt: HostRuntime) {
         ("noted\n", "no 11 Else\n"),
         ("no 6 BadCommand\n", "no 11 Else\n"),
     ] {
-        let found = told_by(rt, rt.alloc(), heard, answer, "pulled 0\nask 7\n");
-        assert_found(&rt, found, Some((Err(FeedFault::Ended), true, true)));
+        let (ended, output, errors) = feed_that_ends(rt, heard, answer)?;
+        assert_eq!(rt; ended, Err(FeedFault::Ended));
+        assert_eq!(rt; output.as_slice(), b"pulled 0\nask 7\n".as_slice());
+        assert!(rt; errors.is_empty());
     }
+    Ok(())
 }
 
 /// A site that answers anything else where it should note that Gerrit was heard is none.
 #[test]
-fn a_site_notes_that_gerrit_was_heard(rt: HostRuntime) {
+fn a_site_notes_that_gerrit_was_heard(rt: HostRuntime) -> Result<(), Fail> {
     for heard in ["ok 1,2,3,4\n", "no 7 BadText\n"] {
-        let found = told_by(rt, rt.alloc(), heard, "", "pulled 0\n");
-        assert_found(&rt, found, Some((Err(FeedFault::Ended), true, true)));
+        let (ended, output, _errors) = feed_that_ends(rt, heard, "")?;
+        assert_eq!(rt; ended, Err(FeedFault::Ended));
+        assert_eq!(rt; output.as_slice(), b"pulled 0\n".as_slice());
     }
-}
-
-/// A port at which nothing listens.
-fn free_port<R: Net<Listener = TcpListener, Stream = TcpStream>>(rt: &R) -> Option<u16> {
-    let (_listener, port) = listening(rt).ok()?;
-    Some(port)
+    Ok(())
 }
 
 #[test]
-fn a_port_without_a_site_is_refused(rt: HostRuntime) {
-    let found = match free_port(&rt) {
-        Some(port) => Some(feed(rt, rt.alloc(), port).told("", "")),
-        None => None,
-    };
-    assert_found(&rt, found, Some((Err(FeedFault::NoSite), true, true)));
+fn a_port_without_a_site_is_refused(rt: HostRuntime) -> Result<(), Fail> {
+    let (listener, port) = listening(&rt)?;
+    drop(listener);
+    let (ended, output, errors) = feed(rt, rt.alloc(), port);
+    assert_eq!(rt; ended, Err(FeedFault::NoSite));
+    assert!(rt; output.is_empty());
+    assert!(rt; errors.is_empty());
+    Ok(())
 }
 
 /// An input that is silent until something is sent, and what sends it.
@@ -741,30 +600,21 @@ fn end_after_pull(listener: TcpListener) -> io::Result<()> {
     Ok(())
 }
 
-/// A feed whose session ends while its input is silent.
-fn feed_in_silence<R>(rt: R, alloc: Global, feeds: Feeds) -> Option<Fed>
-where
-    R: Clock + Net<Listener = TcpListener, Stream = TcpStream> + Threads + Wait + RandomSource,
-    R: Copy + Send + Sync + 'static,
-{
-    let (listener, port) = listening(&rt).ok()?;
-    let (_sender, input) = silent_input(&rt).ok()?;
-    let (is_gone, fed) = thread::join(
-        &rt,
-        || end_after_pull(listener).is_ok(),
-        || feed_from(rt, alloc, port, feeds, input),
-    );
-    if is_gone { Some(fed) } else { None }
-}
-
 /// Where the session ends while the input is silent the feed does, also one of a query.
 #[test]
-fn a_feed_sees_the_end_of_its_session(rt: HostRuntime) {
+fn a_feed_sees_the_end_of_its_session(rt: HostRuntime) -> Result<(), Fail> {
     for feeds in [Feeds::Stream, Feeds::Query, Feeds::Complete] {
-        let found = match feed_in_silence(rt, rt.alloc(), feeds) {
-            Some(fed) => Some(fed.told("pulled 0\n", "")),
-            None => None,
-        };
-        assert_found(&rt, found, Some((Err(FeedFault::Ended), true, true)));
+        let (listener, port) = listening(&rt)?;
+        let (sender, input) = silent_input(&rt)?;
+        let (gone, (ended, output, _errors)) = thread::join(
+            &rt,
+            || end_after_pull(listener),
+            || feed_from(rt, rt.alloc(), port, feeds, input),
+        );
+        gone?;
+        drop(sender);
+        assert_eq!(rt; ended, Err(FeedFault::Ended));
+        assert_eq!(rt; output.as_slice(), b"pulled 0\n".as_slice());
     }
+    Ok(())
 }

@@ -1,29 +1,25 @@
 //! Sites that pull from each other, and others that don't answer, don't read or don't go.
 
-use super::asserts::assert_found;
-use super::scripts::{
-    Ending, Plan, Reported, SPARE, Stage, Step, endless, play, play_one, play_reporting, run_plan,
-    serve_plan, staged,
-};
-use running_sites::{listening, stall, talk};
-use site_serve::Served;
+use byte_ends::Ends;
+use running_sites::{NoTurn, ending, listening, pulling, run_one, stall, talk, text_of};
+use site_net::Stop;
+use site_serve::{ServeFault, Served, Setup, serve_run};
 use std::alloc::Global;
+use std::io::Write;
 use std::net::{Net, TcpListener, TcpStream};
+use std::process::Abort;
 use std::sync::Wait;
-use std::thread;
+use std::test::Fail;
 use std::thread::Threads;
 use std::time::{Clock, Duration, Instant};
+use std::{io, thread};
 
-/// A client that takes in a patch set, and one that takes in a vote on it, and what they are answered.
+/// A client that takes in a patch set, and one that takes in a vote on it.
 const PATCH_SET: &str =
     "hello 2\ntake {\"change\":101,\"message\":\"m\",\"op\":\"patchset\",\"set\":1}\nquit\n";
 
 const VOTE: &str =
     "hello 2\ntake {\"change\":101,\"label\":\"Workflow\",\"op\":\"vote\",\"set\":1,\"value\":1,\"voter\":\"ann\"}\nquit\n";
-
-const TAKEN: &str = "hello 2\nok 1,1,1,1\nbye\n";
-
-const TAKEN_VOTE: &str = "hello 2\nok 2,2,1,1\nbye\n";
 
 /// A client that asks what is ready, and what it is answered before the vote and after it.
 const READY: &str = "hello 2\nready\nquit\n";
@@ -42,176 +38,248 @@ const BOTH: &str = "hello 2\n\
     op {\"change\":101,\"label\":\"workflow\",\"op\":\"vote\",\"seq\":1,\"set\":1,\"site\":2,\"start\":1,\"time\":2,\"value\":1,\"voter\":\"ann\"}\n\
     done\nbye\n";
 
-/// A site without end, with two workers, that pulls from the listener at a place.
-fn with_peer(site: u16, pulls: &'static [usize]) -> Plan {
-    Plan {
-        workers: 2,
-        ..endless(site, pulls)
-    }
+/// A site without end, with two workers, that pulls from the peer at a port.
+fn with_peer(alloc: Global, site: u16, peer: u16) -> Result<Setup<'static>, Fail> {
+    let mut setup = pulling(alloc, site, &[peer])?;
+    setup.workers = 2;
+    Ok(setup)
 }
 
-/// A patch set that the first of two sites takes in comes to the second, and a vote on it that the second takes in to
-/// the first, and both answer alike in the end.
-const AGREE: [Step; 7] = [
-    Step::Asks(0, PATCH_SET, TAKEN),
-    Step::Awaits(1, READY, WAITS),
-    Step::Asks(1, VOTE, TAKEN_VOTE),
-    Step::Awaits(0, READY, GOES_IN),
-    Step::Awaits(0, ALL, BOTH),
-    Step::Awaits(1, ALL, BOTH),
-    Step::Stops,
-];
-
-/// Runs the second of two sites beside that: what it left, and how many steps came to pass.
-fn run_second<R>(
+/// Whether a site comes to answer so.
+fn comes_to_answer<R: Net<Listener = TcpListener, Stream = TcpStream> + Wait + Clock>(
     rt: &R,
     alloc: Global,
-    listener: TcpListener,
-    stage: &Stage,
-) -> (Option<Served>, usize)
-where
-    R: Net<Listener = TcpListener, Stream = TcpStream> + Threads + Wait + Clock + Sync,
-{
-    thread::join(
-        rt,
-        || serve_plan(rt, alloc, listener, with_peer(2, &[0]), stage),
-        || play(rt, alloc, stage, &AGREE),
-    )
+    port: u16,
+    lines: &str,
+    wanted: &str,
+) -> bool {
+    for _ in 0..1_000 {
+        match talk(rt, alloc, port, lines) {
+            Ok(answer) if answer.as_str() == wanted => return true,
+            _ => {
+                let _ = thread::sleep(rt, Duration::from_millis(10));
+            }
+        }
+    }
+    false
 }
 
-/// Runs two sites that pull from each other beside that: whether they left equal states, and how many steps came to
-/// pass.
-fn run_both<R>(rt: &R, alloc: Global) -> Option<(bool, usize)>
+/// Whether a patch set that the first of two sites takes in comes to the second, and a vote on it that the second takes
+/// in to the first, and both answer alike in the end.
+fn come_to_agree<R: Net<Listener = TcpListener, Stream = TcpStream> + Wait + Clock>(
+    rt: &R,
+    alloc: Global,
+    one: u16,
+    other: u16,
+) -> bool {
+    talk(rt, alloc, one, PATCH_SET).is_ok()
+        && comes_to_answer(rt, alloc, other, READY, WAITS)
+        && talk(rt, alloc, other, VOTE).is_ok()
+        && comes_to_answer(rt, alloc, one, READY, GOES_IN)
+        && comes_to_answer(rt, alloc, one, ALL, BOTH)
+        && comes_to_answer(rt, alloc, other, ALL, BOTH)
+}
+
+/// Runs two sites that pull from each other until clients of both are answered alike: whether they were, and whether
+/// both sites then had equal states.
+fn run_two<R>(
+    rt: &R,
+    alloc: Global,
+    first: (TcpListener, Setup<'_>),
+    second: (TcpListener, Setup<'_>),
+    ports: (u16, u16),
+) -> (bool, bool)
 where
     R: Net<Listener = TcpListener, Stream = TcpStream> + Threads + Wait + Clock + Sync,
 {
-    let (first, one) = listening(rt).ok()?;
-    let (second, other) = listening(rt).ok()?;
-    let stage = staged(rt, [one, other, 0])?;
-    let (served, (pulled, count)) = thread::join(
+    let (stop, stops) = (Stop::new(), Stop::new());
+    let (served, (pulled, agree)) = thread::join(
         rt,
-        || serve_plan(rt, alloc, first, with_peer(1, &[1]), &stage),
-        || run_second(rt, alloc, second, &stage),
+        || run_one(rt, alloc, first.0, first.1, &stop, &NoTurn),
+        || {
+            thread::join(
+                rt,
+                || run_one(rt, alloc, second.0, second.1, &stops, &NoTurn),
+                || {
+                    let agree = come_to_agree(rt, alloc, ports.0, ports.1);
+                    stop.ask(rt);
+                    stops.ask(rt);
+                    agree
+                },
+            )
+        },
     );
-    Some((have_equal_states(served, pulled), count))
+    (agree, have_equal_states(served, pulled))
 }
 
-/// Whether two sites left equal states.
-fn have_equal_states(one: Option<Served>, other: Option<Served>) -> bool {
+/// Whether two sites ended with equal states.
+fn have_equal_states(one: Result<Served, ServeFault>, other: Result<Served, ServeFault>) -> bool {
     match (one, other) {
-        (Some(one), Some(other)) => one.replica.same_state(&other.replica),
+        (Ok(one), Ok(other)) => one.replica.same_state(&other.replica),
         _ => false,
     }
 }
 
 #[test]
-fn two_sites_that_pull_from_each_other_answer_alike(rt: HostRuntime) {
-    assert_found(&rt, run_both(&rt, rt.alloc()), Some((true, AGREE.len())));
+fn two_sites_that_pull_from_each_other_answer_alike(rt: HostRuntime) -> Result<(), Fail> {
+    let ((first, one), (second, other)) = (listening(&rt)?, listening(&rt)?);
+    let here = with_peer(rt.alloc(), 1, other)?;
+    let there = with_peer(rt.alloc(), 2, one)?;
+    let found = run_two(
+        &rt,
+        rt.alloc(),
+        (first, here),
+        (second, there),
+        (one, other),
+    );
+    assert_eq!(rt; found, (true, true));
+    Ok(())
 }
 
-/// Whether a site wrote all its reports, and how many steps came to pass beside it.
-fn written_of(played: Option<(Ending, usize)>) -> (bool, usize) {
-    match played {
-        Some((Some((_, is_written, _)), count)) => (is_written, count),
-        _ => (false, 0),
+/// Connects as a client that asks for 30 MB of answers and never reads.
+fn deaf<R: Net<Stream = TcpStream>>(rt: &R, alloc: Global, port: u16) -> io::Result<TcpStream> {
+    let mut message = String::new(alloc);
+    for _ in 0..60_000 {
+        message.push('m')?;
     }
+    let mut stream = stall(rt, port, "hello 2\ntake {\"change\":7,\"message\":\"")?;
+    stream.write_all(message.as_bytes())?;
+    stream.write_all(b"\",\"op\":\"patchset\",\"set\":1}\n")?;
+    for _ in 0..500 {
+        stream.write_all(b"front []\n")?;
+    }
+    Ok(stream)
 }
 
-/// One client asks for 30 MB of answers and never reads, and who connects to the peer waits for ever: nobody accepts.
+/// What a client is answered beside one that never reads.
+fn talk_beside_deaf<R: Net<Listener = TcpListener, Stream = TcpStream>>(
+    rt: &R,
+    alloc: Global,
+    port: u16,
+    stop: &Stop,
+) -> io::Result<String>
+where
+    R: Wait,
+{
+    let deaf = deaf(rt, alloc, port);
+    let answers = talk(rt, alloc, port, "hello 2\nquit\n");
+    drop(deaf);
+    stop.ask(rt);
+    answers
+}
+
 #[test]
-fn a_client_that_never_reads_and_a_mute_peer_hold_no_other(rt: HostRuntime) {
-    let steps = [
-        Step::IsDeaf(0),
-        Step::Asks(0, "hello 2\nquit\n", "hello 2\nbye\n"),
-        Step::Leave,
-        Step::Stops,
-    ];
-    let played = play_one(&rt, rt.alloc(), with_peer(1, &[SPARE]), &steps);
-    assert_found(&rt, written_of(played), (true, 4));
+fn a_client_that_never_reads_and_a_mute_peer_hold_no_other(rt: HostRuntime) -> Result<(), Fail> {
+    let alloc = rt.alloc();
+    // Who connects to it waits for ever: nobody accepts.
+    let (_mute, nobody) = listening(&rt)?;
+    let (listener, port) = listening(&rt)?;
+    let setup = with_peer(alloc, 1, nobody)?;
+    let stop = Stop::new();
+    let (ended, answers) = thread::join(
+        &rt,
+        || ending(run_one(&rt, alloc, listener, setup, &stop, &NoTurn)),
+        || talk_beside_deaf(&rt, alloc, port, &stop),
+    );
+    assert_eq!(rt; text_of(&answers), "hello 2\nbye\n");
+    assert!(rt; matches!(ended, Some((_, true, _))));
+    Ok(())
 }
 
-/// How a site ended, how many steps came to pass beside it, and whether what it wrote to its error output begins with
-/// the line of a peer, at the spare listener, that couldn't be read.
-fn left_by(alloc: Global, reported: &Reported) -> Option<(Ending, usize, bool)> {
-    let line = format!(in alloc; "reviewgate: peer 3 ReadFault {}\n", reported.spare).ok()?;
-    let is_said = reported.errors.starts_with(line.as_bytes());
-    Some((reported.ended, reported.count, is_said))
+/// Greets the site that connects to a listener, and says nothing more until the site leaves.
+fn fall_silent<R: Net<Listener = TcpListener, Stream = TcpStream> + Clock + Wait>(
+    rt: &R,
+    alloc: Global,
+    mute: &TcpListener,
+    stop: &Stop,
+) -> io::Result<String> {
+    let (stream, _address) = mute.accept()?;
+    let mut stream = stream;
+    stream.write_all(b"hello 2\n")?;
+    let asked = io::read_to_string(alloc, stream);
+    let _ = thread::sleep(rt, Duration::from_millis(300));
+    stop.ask(rt);
+    asked
 }
 
-/// That, of a site whose peer greets and then says nothing.
-fn run_beside_mute<R>(rt: &R, alloc: Global) -> Option<(Ending, usize, bool)>
+/// How a site ends that pulls from the peer at a port.
+fn run_beside<R>(
+    rt: &R,
+    alloc: Global,
+    listener: TcpListener,
+    peer: u16,
+    stop: &Stop,
+    errors: &mut Ends<Vec<u8>>,
+) -> Result<Option<(usize, bool, bool)>, Fail>
 where
     R: Net<Listener = TcpListener, Stream = TcpStream> + Threads + Wait + Clock + Sync,
 {
-    let steps = [
-        Step::IsMute("hello 2\nfront []\n"),
-        Step::Rests(300),
-        Step::Stops,
-    ];
-    let reported = play_reporting(rt, alloc, with_peer(1, &[SPARE]), &steps)?;
-    left_by(alloc, &reported)
+    let setup = with_peer(alloc, 1, peer)?;
+    let output = Ends::new(Vec::new(alloc));
+    Ok(ending(serve_run(rt, alloc, listener, setup, stop, output, errors, &NoTurn)))
 }
 
 /// A peer that has greeted a pull and then says nothing is left after ten seconds, and that is reported.
 #[test]
-fn a_peer_that_falls_silent_is_left(rt: HostRuntime) {
-    let found = run_beside_mute(&rt, rt.alloc());
-    assert_found(&rt, found, Some((Some((0, true, false)), 3, true)));
+fn a_peer_that_falls_silent_is_left(rt: HostRuntime) -> Result<(), Fail> {
+    let alloc = rt.alloc();
+    let (mute, peer) = listening(&rt)?;
+    let (listener, _port) = listening(&rt)?;
+    let stop = Stop::new();
+    let mut errors = Ends::new(Vec::new(alloc));
+    let (ended, asked) = thread::join(
+        &rt,
+        || run_beside(&rt, alloc, listener, peer, &stop, &mut errors),
+        || fall_silent(&rt, alloc, &mute, &stop),
+    );
+    assert_eq!(rt; ended?, Some((0, true, false)));
+    let line = format!(in alloc; "reviewgate: peer 3 ReadFault {peer}\n")?;
+    assert_eq!(rt; text_of(&asked), "hello 2\nfront []\n");
+    assert!(rt; errors.get_ref().starts_with(line.as_bytes()));
+    Ok(())
 }
 
 /// When a site was asked to end, beside an idle client and after another that it answered.
-fn ask_to_end<R>(rt: &R, alloc: Global, stage: &Stage) -> Option<Instant>
+fn ask_to_end<R>(rt: &R, alloc: Global, port: u16, stop: &Stop) -> io::Result<Instant>
 where
     R: Net<Listener = TcpListener, Stream = TcpStream> + Wait + Clock,
 {
-    let idle = stall(rt, stage.port(0), "hello 2\n");
-    let answers = talk(rt, alloc, stage.port(0), "hello 2\nquit\n");
+    let idle = stall(rt, port, "hello 2\n");
+    let answers = talk(rt, alloc, port, "hello 2\nquit\n");
     let asked = Instant::now(rt);
-    stage.stop().ask(rt);
-    if idle.is_ok() && answers.is_ok() {
-        asked.ok()
-    } else {
-        None
-    }
-}
-
-/// How long it took since then, if reports were written.
-fn time_since<R: Clock>(rt: &R, ended: Ending, asked: Option<Instant>) -> Option<Duration> {
-    match ended {
-        Some((_, true, _)) => asked?.elapsed(rt).ok(),
-        _ => None,
-    }
+    stop.ask(rt);
+    let _ended = (idle?, answers?);
+    asked
 }
 
 /// How long a site with an idle client and a mute peer takes to end once it is asked to, if its reports were written.
-fn time_to_end<R>(rt: &R, alloc: Global) -> Option<Duration>
+fn time_to_end<R>(rt: &R, alloc: Global) -> Result<Duration, Fail>
 where
     R: Net<Listener = TcpListener, Stream = TcpStream> + Threads + Wait + Clock + Sync,
 {
-    let (listener, port) = listening(rt).ok()?;
-    let stage = staged(rt, [port, 0, 0])?;
+    let (_mute, nobody) = listening(rt)?;
+    let (listener, port) = listening(rt)?;
+    let setup = with_peer(alloc, 1, nobody)?;
+    let stop = Stop::new();
     let (ended, asked) = thread::join(
         rt,
-        || run_plan(rt, alloc, listener, with_peer(1, &[SPARE]), &stage),
-        || ask_to_end(rt, alloc, &stage),
+        || ending(run_one(rt, alloc, listener, setup, &stop, &NoTurn)),
+        || ask_to_end(rt, alloc, port, &stop),
     );
-    time_since(rt, ended, asked)
-}
-
-/// Whether such a site ends within a second, where each of three tries ends at all.
-fn ends_soon<R>(rt: &R, alloc: Global) -> Option<bool>
-where
-    R: Net<Listener = TcpListener, Stream = TcpStream> + Threads + Wait + Clock + Sync,
-{
-    let mut quickest = Duration::MAX;
-    for _ in 0..3 {
-        quickest = quickest.min(time_to_end(rt, alloc)?);
+    match ended {
+        Some((_, true, _)) => Ok(asked?.elapsed(rt)?),
+        _ => Err(Fail::from("reports weren't written")),
     }
-    Some(quickest < Duration::from_secs(1))
 }
 
 // The quickest of three: the machine may be busy with others.
 #[test]
-fn a_site_ends_within_a_second(rt: HostRuntime) {
-    assert_found(&rt, ends_soon(&rt, rt.alloc()), Some(true));
+fn a_site_ends_within_a_second(rt: HostRuntime) -> Result<(), Fail> {
+    let alloc = rt.alloc();
+    let mut quickest = time_to_end(&rt, alloc)?;
+    for _ in 0..2 {
+        quickest = quickest.min(time_to_end(&rt, alloc)?);
+    }
+    assert!(rt; quickest < Duration::from_secs(1));
+    Ok(())
 }

@@ -3,8 +3,6 @@
 #![tactic(auto)]
 
 #[cfg(test)]
-mod asserts;
-#[cfg(test)]
 mod changes;
 #[cfg(test)]
 mod connections;
@@ -16,8 +14,6 @@ mod feeds;
 mod gossip;
 #[cfg(test)]
 mod records;
-#[cfg(test)]
-mod scripts;
 #[cfg(test)]
 mod sealed;
 #[cfg(test)]

@@ -1,21 +1,20 @@
 //! Commands over the record of a running site, and over ports where none answers as one.
 
-use super::asserts::assert_found;
-use super::scripts::Ending;
 use byte_ends::Ends;
 use command_line::{Asked, read_words};
 use commands::run_command;
 use op_text::read_op;
 use record_pull::SystemFiles;
-use replica_core::Replica;
 use running_sites::{NoTurn, ending, listening, one_session, run_one};
 use site_net::Stop;
 use site_serve::Setup;
 use std::alloc::Global;
 use std::io::Write;
 use std::net::{Net, TcpListener, TcpStream};
+use std::process::Abort;
 use std::rt::Files;
 use std::sync::Wait;
+use std::test::Fail;
 use std::thread::Threads;
 use std::time::Clock;
 use std::{io, thread};
@@ -29,22 +28,14 @@ const PATCH_SET: &[u8] =
     br#"{"change":101,"message":"m","op":"patchset","seq":1,"set":1,"site":1,"start":2,"time":1}"#;
 
 /// What a command printed on the output and on the error output, and its status.
-#[derive(Drop)]
-struct Answered {
-    status: u8,
-    printed: Vec<u8>,
-    errors: Vec<u8>,
-}
-
-/// The status of a command, and whether it printed what is wanted on the output and on the error output.
-type Told = (u8, bool, bool);
+type Answered = (u8, Vec<u8>, Vec<u8>);
 
 /// What `why` answers of change 101 over the record of the site at a port.
-fn why_of<R>(rt: R, alloc: Global, port: u16) -> Option<Answered>
+fn why_of<R>(rt: R, alloc: Global, port: u16) -> io::Result<Answered>
 where
     R: Files + Net<Stream = TcpStream> + Clock + AllocGlobal + Drop,
 {
-    let name = format!(in alloc; "@{port}").ok()?;
+    let name = format!(in alloc; "@{port}")?;
     let words = ["why", "-", name.as_str(), "101"];
     let mut output = Ends::new(Vec::new(alloc));
     let mut errors = Ends::new(Vec::new(alloc));
@@ -59,95 +50,77 @@ where
         ),
         _ => 2,
     };
-    Some(Answered {
-        status,
-        printed: output.into_inner(),
-        errors: errors.into_inner(),
-    })
+    Ok((status, output.into_inner(), errors.into_inner()))
 }
 
-/// How a command answered, where this was wanted.
-fn told_of(answered: Option<Answered>, output: &str, errors: &str) -> Option<Told> {
-    match answered {
-        Some(answered) => Some((
-            answered.status,
-            answered.printed.as_slice() == output.as_bytes(),
-            answered.errors.as_slice() == errors.as_bytes(),
-        )),
-        None => None,
-    }
+/// A command answered so.
+fn assert_answered(
+    rt: &impl Abort,
+    alloc: Global,
+    answered: &io::Result<Answered>,
+    status: u8,
+    output: &str,
+    line: &str,
+    port: u16,
+) -> Result<(), Fail> {
+    let wanted = if line.is_empty() {
+        String::new(alloc)
+    } else {
+        format!(in alloc; "reviewgate: peer {line} {port}\n")?
+    };
+    let found = match answered {
+        Ok((ended, printed, errors)) => {
+            *ended == status
+                && printed.as_slice() == output.as_bytes()
+                && errors.as_slice() == wanted.as_bytes()
+        }
+        Err(_) => false,
+    };
+    assert!(rt; found, "{line}");
+    Ok(())
 }
 
-/// How a command answered that was to be refused with this line of the peer at a port, and print nothing else.
-fn refused_of(alloc: Global, answered: Option<Answered>, line: &str, port: u16) -> Option<Told> {
-    let errors = format!(in alloc; "reviewgate: peer {line} {port}\n").ok()?;
-    told_of(answered, "", errors.as_str())
-}
-
-/// A record that has a patch set of change 101.
-fn with_patch_set(alloc: Global) -> Option<Replica> {
-    let op = read_op(alloc, PATCH_SET).ok()?;
-    let mut replica = Replica::new(alloc);
-    match replica.take(op) {
-        Ok(_) => Some(replica),
-        Err(_) => None,
-    }
-}
-
-/// A site with that record, which another one took in, that ends after one session.
-fn setup_with_patch_set(alloc: Global) -> Option<Setup<'static>> {
-    let replica = with_patch_set(alloc)?;
-    let mut setup = one_session(alloc, 2).ok()?;
-    setup.replica = replica;
-    Some(setup)
+/// A site that has a patch set of change 101, which another one took in, and ends after one session.
+fn with_patch_set(alloc: Global) -> Result<Setup<'static>, Fail> {
+    let mut setup = one_session(alloc, 2)?;
+    let _taken = setup.replica.take(read_op(alloc, PATCH_SET)?)?;
+    Ok(setup)
 }
 
 /// How such a site ends.
-fn run_with_patch_set<R>(rt: &R, alloc: Global, listener: TcpListener) -> Ending
+fn run_with_patch_set<R>(
+    rt: &R,
+    alloc: Global,
+    listener: TcpListener,
+) -> Result<Option<(usize, bool, bool)>, Fail>
 where
     R: Net<Listener = TcpListener, Stream = TcpStream> + Threads + Wait + Clock + Sync,
 {
-    let setup = setup_with_patch_set(alloc)?;
-    ending(run_one(rt, alloc, listener, setup, &Stop::new(), &NoTurn))
+    let setup = with_patch_set(alloc)?;
+    Ok(ending(run_one(rt, alloc, listener, setup, &Stop::new(), &NoTurn)))
 }
 
-/// How such a site ends, and what `why` answers over its record, where this is wanted.
-fn asked_why<R>(rt: R, alloc: Global, reason: &str) -> Option<(Ending, Option<Told>)>
-where
-    R: Net<Listener = TcpListener, Stream = TcpStream> + Threads + Wait + Clock + Files,
-    R: AllocGlobal + Copy + Drop + Sync,
-{
-    let (listener, port) = listening(&rt).ok()?;
+#[test]
+fn a_running_site_is_asked_why(rt: HostRuntime) -> Result<(), Fail> {
+    let alloc = rt.alloc();
+    let (listener, port) = listening(&rt)?;
     let (ended, answered) = thread::join(
         &rt,
         || run_with_patch_set(&rt, alloc, listener),
         || why_of(rt, alloc, port),
     );
-    Some((ended, told_of(answered, reason, "")))
-}
-
-#[test]
-fn a_running_site_is_asked_why(rt: HostRuntime) {
+    assert_eq!(rt; ended?, Some((1, true, false)));
     let reason = "101,1 require approval 1\nwant {\"Verified\":[1,2],\"username\":\"zuul\"}\n";
-    let found = asked_why(rt, rt.alloc(), reason);
-    let told = Some((0, true, true));
-    assert_found(&rt, found, Some((Some((1, true, false)), told)));
-}
-
-/// What `why` answers of a port where nothing listens, where that is to be refused with this line.
-fn why_of_nobody<R>(rt: R, alloc: Global, line: &str) -> Option<Told>
-where
-    R: Files + Net<Listener = TcpListener, Stream = TcpStream> + Clock + AllocGlobal + Drop,
-{
-    let (listener, port) = listening(&rt).ok()?;
-    drop(listener);
-    refused_of(alloc, why_of(rt, alloc, port), line, port)
+    assert_answered(&rt, alloc, &answered, 0, reason, "", port)
 }
 
 #[test]
-fn a_port_where_nothing_listens_is_refused(rt: HostRuntime) {
-    let found = why_of_nobody(rt, rt.alloc(), "8 Unreachable");
-    assert_found(&rt, found, Some((1, true, true)));
+fn a_port_where_nothing_listens_is_refused(rt: HostRuntime) -> Result<(), Fail> {
+    let alloc = rt.alloc();
+    let (listener, port) = listening(&rt)?;
+    drop(listener);
+    let answered = why_of(rt, alloc, port);
+    assert_answered(&rt, alloc, &answered, 1, "", "8 Unreachable", port)
 }
 
 /// Accepts one connection, and sends this.
@@ -157,35 +130,46 @@ fn send_once(listener: &TcpListener, text: &[u8]) -> io::Result<TcpStream> {
     Ok(stream)
 }
 
-/// What `why` answers of a port whose server sends this and then nothing, but leaves the connection open, where that is
-/// to be refused with this line.
-fn why_after<R>(rt: R, alloc: Global, text: &[u8], line: &str) -> Option<Told>
+/// What `why` answers of a port whose server sends this and then nothing, but leaves the connection open.
+fn why_after<R>(
+    rt: &R,
+    alloc: Global,
+    listener: TcpListener,
+    port: u16,
+    text: &[u8],
+) -> io::Result<Answered>
 where
     R: Net<Listener = TcpListener, Stream = TcpStream> + Threads + Wait + Clock + Files,
     R: AllocGlobal + Copy + Drop + Sync,
 {
-    let (listener, port) = listening(&rt).ok()?;
     let (sent, answered) = thread::join(
-        &rt,
+        rt,
         || send_once(&listener, text),
-        || why_of(rt, alloc, port),
+        || why_of(*rt, alloc, port),
     );
-    match sent {
-        Ok(_stream) => refused_of(alloc, answered, line, port),
-        Err(_) => None,
-    }
+    let _stream = sent?;
+    answered
 }
 
 #[test]
-fn a_server_of_another_kind_is_refused(rt: HostRuntime) {
-    let text = b"HTTP/1.1 400 Bad Request\r\n\r\n";
-    let found = why_after(rt, rt.alloc(), text, "6 BadAnswer");
-    assert_found(&rt, found, Some((1, true, true)));
+fn a_server_of_another_kind_is_refused(rt: HostRuntime) -> Result<(), Fail> {
+    let alloc = rt.alloc();
+    let (listener, port) = listening(&rt)?;
+    let answered = why_after(
+        &rt,
+        alloc,
+        listener,
+        port,
+        b"HTTP/1.1 400 Bad Request\r\n\r\n",
+    );
+    assert_answered(&rt, alloc, &answered, 1, "", "6 BadAnswer", port)
 }
 
 // It takes 10 seconds, the patience with a site.
 #[test]
-fn a_site_that_falls_silent_is_refused(rt: HostRuntime) {
-    let found = why_after(rt, rt.alloc(), b"hello 2\n", "3 ReadFault");
-    assert_found(&rt, found, Some((1, true, true)));
+fn a_site_that_falls_silent_is_refused(rt: HostRuntime) -> Result<(), Fail> {
+    let alloc = rt.alloc();
+    let (listener, port) = listening(&rt)?;
+    let answered = why_after(&rt, alloc, listener, port, b"hello 2\n");
+    assert_answered(&rt, alloc, &answered, 1, "", "3 ReadFault", port)
 }

@@ -1,118 +1,86 @@
 //! Feeds of sites over connections that are sealed.
 
-use super::asserts::assert_found;
-use super::feeds::{BAD_LINE, Fed, feed_sealed};
-use super::sealed::{SystemHost, Told, UNPROVED, answer_one, keyed, run_sealed};
+use super::feeds::{BAD_LINE, feed_sealed};
+use super::sealed::{SystemHost, UNPROVED, answer_one, keyed, run_sealed};
 use event_feed::FeedFault;
 use running_sites::{FEEDER, READER, STRANGER, listening, make_keys};
-use site_serve::Turn;
-use std::alloc::Global;
-use std::net::{Net, TcpListener, TcpStream};
-use std::random::RandomSource;
-use std::sync::Wait;
-use std::thread::Threads;
-use std::time::Clock;
+use std::test::Fail;
 use std::{fs, thread};
-
-/// Feeds the events to a site with these keys twice, with one secret and then with the other: how many operations the
-/// site had at its end, whether it wrote these errors, and both feeds.
-fn feed_twice<R, T>(
-    rt: R,
-    alloc: Global,
-    keys: &str,
-    secrets: ([u8; 32], [u8; 32]),
-    errors: &str,
-    host: &T,
-) -> Option<(Told, (Fed, Fed))>
-where
-    R: Net<Listener = TcpListener, Stream = TcpStream> + Threads + Wait + Clock + RandomSource,
-    R: Copy + Send + Sync + 'static,
-    T: Turn + Sync,
-{
-    let (listener, port) = listening(&rt).ok()?;
-    let (ran, fed) = thread::join(
-        &rt,
-        || run_sealed(&rt, alloc, listener, keyed(alloc, 1, 2, keys), host),
-        || {
-            (
-                feed_sealed(rt, alloc, port, secrets.0),
-                feed_sealed(rt, alloc, port, secrets.1),
-            )
-        },
-    );
-    Some((ran.told(errors), fed))
-}
 
 /// A site has what it was fed over a sealed connection, and nothing twice, as over any other.
 #[test]
-fn a_site_is_fed_over_a_sealed_connection(rt: HostRuntime) {
-    let is_made = make_keys(&rt, "fed.tmp", 0o600).is_ok();
-    let host = SystemHost::new(rt);
-    let secrets = (FEEDER, FEEDER);
-    let found = match feed_twice(rt, rt.alloc(), "fed.tmp", secrets, "", &host) {
-        Some((told, (first, again))) => Some((
-            told,
-            first.told("pulled 0\nask 7\n", BAD_LINE),
-            again.told("pulled 4\n", BAD_LINE),
-        )),
-        None => None,
-    };
-    let is_removed = fs::remove_file(&rt, "fed.tmp").is_ok();
-    let fed = (Ok(()), true, true);
-    assert_found(&rt, found, Some(((4, true), fed, fed)));
-    assert_found(&rt, (is_made, is_removed), (true, true));
+fn a_site_is_fed_over_a_sealed_connection(rt: HostRuntime) -> Result<(), Fail> {
+    let alloc = rt.alloc();
+    make_keys(&rt, "fed.tmp", 0o600)?;
+    let (listener, port) = listening(&rt)?;
+    let setup = keyed(alloc, 1, 2, "fed.tmp")?;
+    let (ran, (first, again)) = thread::join(
+        &rt,
+        || run_sealed(&rt, alloc, listener, setup, &SystemHost::new(rt)),
+        || {
+            (
+                feed_sealed(rt, alloc, port, FEEDER),
+                feed_sealed(rt, alloc, port, FEEDER),
+            )
+        },
+    );
+    fs::remove_file(&rt, "fed.tmp")?;
+    let (count, errors) = ran?;
+    assert_eq!(rt; (first.0, again.0), (Ok(()), Ok(())));
+    assert_eq!(rt; first.1.as_slice(), b"pulled 0\nask 7\n".as_slice());
+    assert_eq!(rt; again.1.as_slice(), b"pulled 4\n".as_slice());
+    assert_eq!(rt; first.2.as_slice(), BAD_LINE.as_bytes());
+    assert_eq!(rt; (count, errors.as_str()), (4, ""));
+    Ok(())
 }
 
 /// Who may only read is told so at the first body, and who has no key at once.
 #[test]
-fn a_feed_without_a_key_to_feed_with_ends(rt: HostRuntime) {
-    let is_made = make_keys(&rt, "unfed.tmp", 0o600).is_ok();
-    let host = SystemHost::new(rt);
-    let secrets = (READER, STRANGER);
-    let errors = "reviewgate: session 11 NoKey 2\n";
-    let found = match feed_twice(rt, rt.alloc(), "unfed.tmp", secrets, errors, &host) {
-        Some((told, (reader, stranger))) => Some((
-            told,
-            reader.told("pulled 0\nask 7\n", ""),
-            stranger.told("", ""),
-        )),
-        None => None,
-    };
-    let is_removed = fs::remove_file(&rt, "unfed.tmp").is_ok();
-    let reader = (Err(FeedFault::NotAllowed), true, true);
-    let stranger = (Err(FeedFault::NoKey), true, true);
-    assert_found(&rt, found, Some(((0, true), reader, stranger)));
-    assert_found(&rt, (is_made, is_removed), (true, true));
-}
-
-/// A feed of the events to who answers its greeting so.
-fn feed_squatter<R>(rt: R, alloc: Global, answer: &str) -> Option<Fed>
-where
-    R: Net<Listener = TcpListener, Stream = TcpStream> + Threads + Wait + Clock + RandomSource,
-    R: Copy + Send + Sync + 'static,
-{
-    let (squatter, port) = listening(&rt).ok()?;
-    let (is_answered, fed) = thread::join(
+fn a_feed_without_a_key_to_feed_with_ends(rt: HostRuntime) -> Result<(), Fail> {
+    let alloc = rt.alloc();
+    make_keys(&rt, "unfed.tmp", 0o600)?;
+    let (listener, port) = listening(&rt)?;
+    let setup = keyed(alloc, 1, 2, "unfed.tmp")?;
+    let (ran, (reader, stranger)) = thread::join(
         &rt,
-        || answer_one(&squatter, answer).is_ok(),
-        || feed_sealed(rt, alloc, port, FEEDER),
+        || run_sealed(&rt, alloc, listener, setup, &SystemHost::new(rt)),
+        || {
+            (
+                feed_sealed(rt, alloc, port, READER),
+                feed_sealed(rt, alloc, port, STRANGER),
+            )
+        },
     );
-    if is_answered { Some(fed) } else { None }
+    fs::remove_file(&rt, "unfed.tmp")?;
+    let (count, _errors) = ran?;
+    assert_eq!(rt; reader.0, Err(FeedFault::NotAllowed));
+    assert_eq!(rt; reader.1.as_slice(), b"pulled 0\nask 7\n".as_slice());
+    assert_eq!(rt; stranger.0, Err(FeedFault::NoKey));
+    assert!(rt; stranger.1.is_empty());
+    assert_eq!(rt; count, 0);
+    Ok(())
 }
 
 /// What a squatter at the site's address answers ends the feed before it says anything.
 #[test]
-fn a_squatter_is_not_fed(rt: HostRuntime) {
+fn a_squatter_is_not_fed(rt: HostRuntime) -> Result<(), Fail> {
+    let alloc = rt.alloc();
     for (answer, fault) in [
         (UNPROVED, FeedFault::NotProved),
         ("no 12 NoKey\n", FeedFault::NoKey),
         ("hello 2\n", FeedFault::Ended),
         ("", FeedFault::Ended),
     ] {
-        let found = match feed_squatter(rt, rt.alloc(), answer) {
-            Some(fed) => Some(fed.told("", "")),
-            None => None,
-        };
-        assert_found(&rt, found, Some((Err(fault), true, true)));
+        let (squatter, port) = listening(&rt)?;
+        let (answered, fed) = thread::join(
+            &rt,
+            || answer_one(&squatter, answer),
+            || feed_sealed(rt, alloc, port, FEEDER),
+        );
+        answered?;
+        assert_eq!(rt; fed.0, Err(fault));
+        assert!(rt; fed.1.is_empty());
+        assert!(rt; fed.2.is_empty());
     }
+    Ok(())
 }

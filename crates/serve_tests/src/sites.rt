@@ -1,86 +1,102 @@
 //! Sites that run, over sockets of this machine.
 
-use super::asserts::assert_found;
-use super::scripts::{
-    Ending, ONE_SESSION, Plan, Stage, Step, endless, play_one, play_three, play_two, play_within,
-    run_plan, staged,
-};
 use byte_ends::Ends;
 use key_file::{KeyFault, Keys};
 use key_files::{KeyReader, NoKeys};
 use op_text::read_op;
-use replica_core::Replica;
 use running_sites::{
-    NoTurn, PASS_ON, Shared, TAKE, Written, ending, listening, one_session, run_one, talk, text_of,
-    watched_end,
+    NoTurn, PASS_ON, Shared, TAKE, Written, ending, listening, one_session, pulling, run_one,
+    stall, talk, text_of, watched_end,
 };
 use site_net::Stop;
 use site_serve::{ServeFault, Setup, Turn, serve_run};
 use std::alloc::Global;
 use std::net::{Net, TcpListener, TcpStream};
+use std::process::Abort;
 use std::sync::Wait;
 use std::sync::atomic::{AtomicBool, Ordering};
-use std::thread;
+use std::test::Fail;
 use std::thread::Threads;
-use std::time::{Clock, Duration};
+use std::time::{Clock, Duration, Instant};
+use std::{io, thread};
 
 /// A merge of site 1 under its second start.
 const MERGED: &[u8] = br#"{"change":5,"op":"merged","seq":1,"site":1,"start":2,"time":1}"#;
 
+/// How a site ended, and what was answered beside it.
+#[derive(Drop)]
+struct Ran {
+    ending: Option<(usize, bool, bool)>,
+    answers: io::Result<String>,
+}
+
+/// Runs a site for one session, of these lines: what they are answered, and how the site ended.
+fn run_session<R, T>(
+    rt: &R,
+    alloc: Global,
+    setup: Setup<'_>,
+    turn: &T,
+    lines: &str,
+) -> io::Result<Ran>
+where
+    R: Net<Listener = TcpListener, Stream = TcpStream> + Threads + Wait + Clock + Sync,
+    T: Turn + Sync,
+{
+    let (listener, port) = listening(rt)?;
+    let stop = Stop::new();
+    let (served, answers) = thread::join(
+        rt,
+        || run_one(rt, alloc, listener, setup, &stop, turn),
+        || talk(rt, alloc, port, lines),
+    );
+    Ok(Ran {
+        ending: ending(served),
+        answers,
+    })
+}
+
 #[test]
-fn a_client_takes_a_patch_set_and_reads_its_report(rt: HostRuntime) {
-    let steps = [Step::Asks(
-        0,
-        "hello 2\ntake {\"change\":101,\"message\":\"m\",\"op\":\"patchset\",\"set\":1}\nready\nquit\n",
-        "hello 2\nok 1,1,1,1\nout 101,1 require approval 1\nend 0 1\nbye\n",
-    )];
-    let played = play_one(&rt, rt.alloc(), ONE_SESSION, &steps);
-    assert_found(&rt, played, Some((Some((1, true, false)), 1)));
+fn a_client_takes_a_patch_set_and_reads_its_report(rt: HostRuntime) -> Result<(), Fail> {
+    let lines =
+        "hello 2\ntake {\"change\":101,\"message\":\"m\",\"op\":\"patchset\",\"set\":1}\nready\nquit\n";
+    let setup = one_session(rt.alloc(), 1)?;
+    let ran = run_session(&rt, rt.alloc(), setup, &NoTurn, lines)?;
+    assert_eq!(rt; ran.ending, Some((1, true, false)));
+    assert_eq!(rt;
+        text_of(&ran.answers),
+        "hello 2\nok 1,1,1,1\nout 101,1 require approval 1\nend 0 1\nbye\n"
+    );
+    Ok(())
 }
 
 /// A body that isn't good is refused as that, and the next one is taken in.
 #[test]
-fn a_bad_body_is_answered_as_one(rt: HostRuntime) {
-    let steps = [Step::Asks(
-        0,
-        "hello 2\ntake {\"change\":0,\"op\":\"merged\"}\ntake {\"change\":7,\"op\":\"merged\"}\nquit\n",
-        "hello 2\nno 8 BadBody\nok 1,1,1,1\nbye\n",
-    )];
-    let played = play_one(&rt, rt.alloc(), ONE_SESSION, &steps);
-    assert_found(&rt, played, Some((Some((1, true, false)), 1)));
-}
-
-/// A record that has that merge.
-fn merged_once(alloc: Global) -> Option<Replica> {
-    let op = read_op(alloc, MERGED).ok()?;
-    let mut replica = Replica::new(alloc);
-    match replica.take(op) {
-        Ok(_) => Some(replica),
-        Err(_) => None,
-    }
+fn a_bad_body_is_answered_as_one(rt: HostRuntime) -> Result<(), Fail> {
+    let lines =
+        "hello 2\ntake {\"change\":0,\"op\":\"merged\"}\ntake {\"change\":7,\"op\":\"merged\"}\nquit\n";
+    let ran = run_session(&rt, rt.alloc(), one_session(rt.alloc(), 1)?, &NoTurn, lines)?;
+    assert_eq!(rt; ran.ending, Some((1, true, false)));
+    assert_eq!(rt;
+        text_of(&ran.answers),
+        "hello 2\nno 8 BadBody\nok 1,1,1,1\nbye\n"
+    );
+    Ok(())
 }
 
 /// A site under the start of the merge that it has.
-fn with_used_start(alloc: Global) -> Option<Setup<'static>> {
-    let replica = merged_once(alloc)?;
-    let mut setup = one_session(alloc, 1).ok()?;
-    setup.replica = replica;
-    Some(setup)
-}
-
-/// How such a site is refused.
-fn refusal<R>(rt: &R, alloc: Global) -> Option<ServeFault>
-where
-    R: Net<Listener = TcpListener, Stream = TcpStream> + Threads + Wait + Clock + Sync,
-{
-    let (listener, _port) = listening(rt).ok()?;
-    let setup = with_used_start(alloc)?;
-    run_one(rt, alloc, listener, setup, &Stop::new(), &NoTurn).err()
+fn with_used_start(alloc: Global) -> Result<Setup<'static>, Fail> {
+    let mut setup = one_session(alloc, 1)?;
+    let _taken = setup.replica.take(read_op(alloc, MERGED)?)?;
+    Ok(setup)
 }
 
 #[test]
-fn a_start_that_was_used_is_refused(rt: HostRuntime) {
-    assert_found(&rt, refusal(&rt, rt.alloc()), Some(ServeFault::StartUsed));
+fn a_start_that_was_used_is_refused(rt: HostRuntime) -> Result<(), Fail> {
+    let (listener, _port) = listening(&rt)?;
+    let setup = with_used_start(rt.alloc())?;
+    let served = run_one(&rt, rt.alloc(), listener, setup, &Stop::new(), &NoTurn);
+    assert_eq!(rt; served.err(), Some(ServeFault::StartUsed));
+    Ok(())
 }
 
 /// Holds the first session until the second has ended, for ten seconds at most.
@@ -120,200 +136,289 @@ impl<R: Clock + Copy> KeyReader for SecondFirst<R> {
     }
 }
 
-/// A site with two workers that ends after two sessions.
-fn two_sessions(alloc: Global) -> Option<Setup<'static>> {
-    let mut setup = one_session(alloc, 1).ok()?;
-    setup.workers = 2;
-    setup.sessions = 2;
-    Some(setup)
-}
-
-/// How such a site ends, with this host.
-fn run_two_sessions<R, T>(rt: &R, alloc: Global, listener: TcpListener, turn: &T) -> Ending
+/// Whether two sessions side by side are both answered by a site that holds the first until the second has ended.
+fn both_are_answered<R, T>(
+    rt: &R,
+    alloc: Global,
+    listener: TcpListener,
+    setup: Setup<'_>,
+    port: u16,
+    turn: &T,
+) -> bool
 where
     R: Net<Listener = TcpListener, Stream = TcpStream> + Threads + Wait + Clock + Sync,
     T: Turn + Sync,
 {
-    let setup = two_sessions(alloc)?;
-    ending(run_one(rt, alloc, listener, setup, &Stop::new(), turn))
-}
-
-/// Whether a site answers a client that only greets and leaves.
-fn is_greeted<R>(rt: &R, alloc: Global, port: u16) -> bool
-where
-    R: Net<Listener = TcpListener, Stream = TcpStream>,
-{
-    text_of(&talk(rt, alloc, port, "hello 2\nquit\n")) == "hello 2\nbye\n"
-}
-
-/// Whether two such clients side by side are both answered.
-fn are_greeted<R>(rt: &R, alloc: Global, port: u16) -> (bool, bool)
-where
-    R: Net<Listener = TcpListener, Stream = TcpStream> + Threads + Wait + Sync,
-{
-    thread::join(
+    let stop = Stop::new();
+    let (served, (one, other)) = thread::join(
         rt,
-        || is_greeted(rt, alloc, port),
-        || is_greeted(rt, alloc, port),
-    )
-}
-
-/// How a site ends that has two sessions side by side, with this host, and whether both are answered.
-fn run_for_both<R, T>(rt: &R, alloc: Global, turn: &T) -> Option<(Ending, (bool, bool))>
-where
-    R: Net<Listener = TcpListener, Stream = TcpStream> + Threads + Wait + Clock + Sync,
-    T: Turn + Sync,
-{
-    let (listener, port) = listening(rt).ok()?;
-    Some(thread::join(
-        rt,
-        || run_two_sessions(rt, alloc, listener, turn),
-        || are_greeted(rt, alloc, port),
-    ))
+        || run_one(rt, alloc, listener, setup, &stop, turn),
+        || {
+            thread::join(
+                rt,
+                || talk(rt, alloc, port, "hello 2\nquit\n"),
+                || talk(rt, alloc, port, "hello 2\nquit\n"),
+            )
+        },
+    );
+    ending(served).is_some()
+        && text_of(&one) == "hello 2\nbye\n"
+        && text_of(&other) == "hello 2\nbye\n"
 }
 
 #[test]
-fn a_held_session_holds_no_other(rt: HostRuntime) {
+fn a_held_session_holds_no_other(rt: HostRuntime) -> Result<(), Fail> {
+    let (listener, port) = listening(&rt)?;
+    let mut setup = one_session(rt.alloc(), 1)?;
+    setup.workers = 2;
+    setup.sessions = 2;
     let turn = SecondFirst {
         rt,
         is_second_over: AtomicBool::new(false),
         is_given_up: AtomicBool::new(false),
     };
-    let found = run_for_both(&rt, rt.alloc(), &turn);
-    assert_found(&rt, found, Some((Some((0, true, false)), (true, true))));
-    assert_found(&rt, turn.is_given_up.load(Ordering::SeqCst), false);
+    assert!(rt; both_are_answered(&rt, rt.alloc(), listener, setup, port, &turn));
+    assert!(rt; !turn.is_given_up.load(Ordering::SeqCst));
+    Ok(())
 }
 
-/// A client that takes in three merges, what it is answered, and all that a site has which pulled them.
+/// Asks a site until it answers so, and then asks it to stop.
+fn await_answer<R: Net<Listener = TcpListener, Stream = TcpStream> + Wait + Clock>(
+    rt: &R,
+    alloc: Global,
+    port: u16,
+    lines: &str,
+    wanted: &str,
+    stop: &Stop,
+) -> bool {
+    let mut is_answered = false;
+    for _ in 0..1_000 {
+        match talk(rt, alloc, port, lines) {
+            Ok(answer) if answer.as_str() == wanted => {
+                is_answered = true;
+                break;
+            }
+            _ => {
+                let _ = thread::sleep(rt, Duration::from_millis(10));
+            }
+        }
+    }
+    stop.ask(rt);
+    is_answered
+}
+
+/// A client that takes in three merges, and all that a site has which pulled them.
 const TAKE_THREE: &str =
     "hello 2\ntake {\"change\":7,\"op\":\"merged\"}\ntake {\"change\":8,\"op\":\"merged\"}\ntake {\"change\":9,\"op\":\"merged\"}\nquit\n";
-
-const TAKEN_THREE: &str = "hello 2\nok 1,1,1,1\nok 2,1,1,2\nok 3,1,1,3\nbye\n";
 
 const PASSED_THREE: &str =
     "hello 2\nop {\"change\":7,\"op\":\"merged\",\"seq\":1,\"site\":1,\"start\":1,\"time\":1}\nop {\"change\":8,\"op\":\"merged\",\"seq\":2,\"site\":1,\"start\":1,\"time\":2}\nop {\"change\":9,\"op\":\"merged\",\"seq\":3,\"site\":1,\"start\":1,\"time\":3}\ndone\nbye\n";
 
-#[test]
-fn a_site_pulls_what_its_peer_took(rt: HostRuntime) {
-    let steps = [
-        Step::Asks(0, TAKE_THREE, TAKEN_THREE),
-        Step::Awaits(1, PASS_ON, PASSED_THREE),
-        Step::Stops,
-    ];
-    let plans = (endless(1, &[]), endless(2, &[0]));
-    let played = play_two(&rt, rt.alloc(), plans, &steps);
-    let ended = Some((3, true, false));
-    assert_found(&rt, played, Some((ended, (ended, 3))));
+/// Whether a site passes on all that a client gives its peer; both are then asked to end.
+fn is_passed_on<R>(rt: &R, alloc: Global, from: u16, to: u16, stop: &Stop, stops: &Stop) -> bool
+where
+    R: Net<Listener = TcpListener, Stream = TcpStream> + Wait + Clock,
+{
+    let is_taken = talk(rt, alloc, from, TAKE_THREE).is_ok();
+    let is_passed = await_answer(rt, alloc, to, PASS_ON, PASSED_THREE, stops);
+    stop.ask(rt);
+    is_taken && is_passed
 }
 
-/// What a client is answered that takes in a merge at each of two sites, and all that a site has which pulled both.
-const TAKEN: &str = "hello 2\nok 1,1,1,1\nbye\n";
+#[test]
+fn a_site_pulls_what_its_peer_took(rt: HostRuntime) -> Result<(), Fail> {
+    let alloc = rt.alloc();
+    let ((first, one), (second, other)) = (listening(&rt)?, listening(&rt)?);
+    let (here, there) = (pulling(alloc, 1, &[])?, pulling(alloc, 2, &[one])?);
+    let (stop, stops) = (Stop::new(), Stop::new());
+    let (served, (pulled, is_answered)) = thread::join(
+        &rt,
+        || ending(run_one(&rt, alloc, first, here, &stop, &NoTurn)),
+        || {
+            thread::join(
+                &rt,
+                || ending(run_one(&rt, alloc, second, there, &stops, &NoTurn)),
+                || is_passed_on(&rt, alloc, one, other, &stop, &stops),
+            )
+        },
+    );
+    assert!(rt; is_answered);
+    assert_eq!(rt;
+        (served, pulled),
+        (Some((3, true, false)), Some((3, true, false)))
+    );
+    Ok(())
+}
 
-const TAKEN_BY_TWO: &str = "hello 2\nok 1,2,1,1\nbye\n";
-
+/// All that a site has which pulled a merge from each of two peers.
 const PASSED_BOTH: &str =
     "hello 2\nop {\"change\":7,\"op\":\"merged\",\"seq\":1,\"site\":1,\"start\":1,\"time\":1}\nop {\"change\":7,\"op\":\"merged\",\"seq\":1,\"site\":2,\"start\":1,\"time\":1}\ndone\nbye\n";
 
-#[test]
-fn each_peer_is_pulled(rt: HostRuntime) {
-    let steps = [
-        Step::Asks(0, TAKE, TAKEN),
-        Step::Asks(1, TAKE, TAKEN_BY_TWO),
-        Step::Awaits(2, PASS_ON, PASSED_BOTH),
-        Step::Stops,
-    ];
-    let plans = (endless(1, &[]), endless(2, &[]), endless(3, &[0, 1]));
-    let played = play_three(&rt, rt.alloc(), plans, &steps);
-    let ended = Some((1, true, false));
-    assert_found(
-        &rt,
-        played,
-        Some((ended, (ended, (Some((2, true, false)), 4)))),
+/// Runs two sites, to each of which a client gives a merge, and a third one that pulls from both: whether that has both.
+fn both_are_pulled<R>(rt: &R, alloc: Global) -> Result<bool, Fail>
+where
+    R: Net<Listener = TcpListener, Stream = TcpStream> + Threads + Wait + Clock + Sync,
+{
+    let ((first, one), (second, two)) = (listening(rt)?, listening(rt)?);
+    let (third, three) = listening(rt)?;
+    let (here, there) = (pulling(alloc, 1, &[])?, pulling(alloc, 2, &[])?);
+    let beyond = pulling(alloc, 3, &[one, two])?;
+    let stop = Stop::new();
+    let ((one_ended, two_ended), (pulled, is_answered)) = thread::join(
+        rt,
+        || {
+            thread::join(
+                rt,
+                || ending(run_one(rt, alloc, first, here, &stop, &NoTurn)),
+                || ending(run_one(rt, alloc, second, there, &stop, &NoTurn)),
+            )
+        },
+        || {
+            thread::join(
+                rt,
+                || ending(run_one(rt, alloc, third, beyond, &stop, &NoTurn)),
+                || gives_both(rt, alloc, [one, two], three, &stop),
+            )
+        },
     );
+    let are_ended = one_ended.is_some() && two_ended.is_some() && pulled.is_some();
+    Ok(are_ended && is_answered)
+}
+
+/// Gives a merge to each of two sites: whether a third one has both after a while. All are then asked to end.
+fn gives_both<R>(rt: &R, alloc: Global, from: [u16; 2], to: u16, stop: &Stop) -> bool
+where
+    R: Net<Listener = TcpListener, Stream = TcpStream> + Wait + Clock,
+{
+    let are_taken = talk(rt, alloc, from[0], TAKE).is_ok()
+        && talk(rt, alloc, from[1], TAKE).is_ok();
+    let is_passed = await_answer(rt, alloc, to, PASS_ON, PASSED_BOTH, stop);
+    are_taken && is_passed
+}
+
+#[test]
+fn each_peer_is_pulled(rt: HostRuntime) -> Result<(), Fail> {
+    assert!(rt; both_are_pulled(&rt, rt.alloc())?);
+    Ok(())
+}
+
+/// What a site without a body to take in is asked by a client that then says nothing: what it answers until it closes the
+/// connection.
+fn fall_silent<R: Net<Stream = TcpStream>>(rt: &R, alloc: Global, port: u16) -> io::Result<String> {
+    let stream = stall(rt, port, "hello 2\n")?;
+    io::read_to_string(alloc, stream)
 }
 
 /// A session that is silent for longer than the setup allows is ended.
 #[test]
-fn an_idle_session_is_ended(rt: HostRuntime) {
-    let plan = Plan {
-        idle_ms: 200,
-        ..ONE_SESSION
-    };
-    let steps = [Step::FallsSilent(0, "hello 2\n", "hello 2\n")];
-    let played = play_one(&rt, rt.alloc(), plan, &steps);
-    assert_found(&rt, played, Some((Some((0, true, false)), 1)));
+fn an_idle_session_is_ended(rt: HostRuntime) -> Result<(), Fail> {
+    let alloc = rt.alloc();
+    let (listener, port) = listening(&rt)?;
+    let mut setup = one_session(alloc, 1)?;
+    setup.idle_ms = 200;
+    let (ended, answers) = thread::join(
+        &rt,
+        || ending(run_one(&rt, alloc, listener, setup, &Stop::new(), &NoTurn)),
+        || fall_silent(&rt, alloc, port),
+    );
+    assert!(rt; ended.is_some());
+    assert_eq!(rt; text_of(&answers), "hello 2\n");
+    Ok(())
 }
 
-/// Between two pulls of a site there is the pause of its setup: the site that it pulls from, which ends after eight
-/// sessions, still answers after half a second.
-#[test]
-fn a_site_pauses_between_pulls(rt: HostRuntime) {
-    let pulled = Plan {
-        sessions: 8,
-        ..ONE_SESSION
-    };
-    let pulls = Plan {
-        pause_ms: 60_000,
-        ..endless(2, &[0])
-    };
-    let steps = [
-        Step::Rests(500),
-        Step::Asks(0, PASS_ON, "hello 2\ndone\nbye\n"),
-        Step::Stops,
-    ];
-    let played = play_two(&rt, rt.alloc(), (pulled, pulls), &steps);
-    let ended = Some((0, true, false));
-    assert_found(&rt, played, Some((ended, (ended, 3))));
-}
-
-/// Gives a site a merge, and runs another one under the same start that pulls from it: whether the merge was taken in,
-/// and how the other site ended. Then the first one is asked to stop.
-fn run_twin<R>(rt: &R, alloc: Global, second: TcpListener, stage: &Stage) -> (bool, Ending)
+/// Whether a site that ends after eight sessions still answers after half a second. It and another one are then asked to
+/// end.
+fn is_up<R>(rt: &R, alloc: Global, port: u16, stop: &Stop) -> bool
 where
-    R: Net<Listener = TcpListener, Stream = TcpStream> + Threads + Wait + Clock + Sync,
+    R: Net<Listener = TcpListener, Stream = TcpStream> + Wait + Clock,
 {
-    let is_taken = text_of(&talk(rt, alloc, stage.port(0), TAKE)) == TAKEN;
-    let ended = run_plan(rt, alloc, second, endless(1, &[0]), stage);
-    stage.stop().ask(rt);
-    (is_taken, ended)
+    let _ = thread::sleep(rt, Duration::from_millis(500));
+    let answers = talk(rt, alloc, port, PASS_ON);
+    stop.ask(rt);
+    text_of(&answers) == "hello 2\ndone\nbye\n"
 }
 
-/// How a site ended beside that, whether it took the merge in, and how its twin ended.
-fn run_twins<R>(rt: &R, alloc: Global) -> Option<(Ending, (bool, Ending))>
-where
-    R: Net<Listener = TcpListener, Stream = TcpStream> + Threads + Wait + Clock + Sync,
-{
-    let (first, one) = listening(rt).ok()?;
-    let (second, other) = listening(rt).ok()?;
-    let stage = staged(rt, [one, other, 0])?;
-    Some(thread::join(
-        rt,
-        || run_plan(rt, alloc, first, endless(1, &[]), &stage),
-        || run_twin(rt, alloc, second, &stage),
-    ))
+/// Between two pulls of a site there is the pause of its setup.
+#[test]
+fn a_site_pauses_between_pulls(rt: HostRuntime) -> Result<(), Fail> {
+    let alloc = rt.alloc();
+    let ((first, one), (second, _other)) = (listening(&rt)?, listening(&rt)?);
+    let (mut here, mut there) = (pulling(alloc, 1, &[])?, pulling(alloc, 2, &[one])?);
+    here.sessions = 8;
+    there.pause_ms = 60_000;
+    let stop = Stop::new();
+    let (ended, (pulled, is_answered)) = thread::join(
+        &rt,
+        || ending(run_one(&rt, alloc, first, here, &stop, &NoTurn)),
+        || {
+            thread::join(
+                &rt,
+                || ending(run_one(&rt, alloc, second, there, &stop, &NoTurn)),
+                || is_up(&rt, alloc, one, &stop),
+            )
+        },
+    );
+    assert!(rt; ended.is_some() && pulled.is_some());
+    assert!(rt; is_answered);
+    Ok(())
 }
 
 #[test]
-fn a_site_that_finds_its_own_start_elsewhere_ends(rt: HostRuntime) {
-    let found = run_twins(&rt, rt.alloc());
-    let taken = Some((0, true, true));
-    assert_found(&rt, found, Some((Some((1, true, false)), (true, taken))));
+fn a_site_that_finds_its_own_start_elsewhere_ends(rt: HostRuntime) -> Result<(), Fail> {
+    let alloc = rt.alloc();
+    let ((first, one), (second, _other)) = (listening(&rt)?, listening(&rt)?);
+    let (here, twin) = (pulling(alloc, 1, &[])?, pulling(alloc, 1, &[one])?);
+    let (stop, stops) = (Stop::new(), Stop::new());
+    let (served, (is_taken, ended)) = thread::join(
+        &rt,
+        || ending(run_one(&rt, alloc, first, here, &stop, &NoTurn)),
+        || {
+            let is_taken = talk(&rt, alloc, one, TAKE).is_ok();
+            let ended = ending(run_one(&rt, alloc, second, twin, &stops, &NoTurn));
+            stop.ask(&rt);
+            (is_taken, ended)
+        },
+    );
+    assert!(rt; is_taken);
+    assert_eq!(rt;
+        (served, ended),
+        (Some((1, true, false)), Some((0, true, true)))
+    );
+    Ok(())
+}
+
+/// What a client is answered beside two that stall.
+fn talk_beside<R: Net<Listener = TcpListener, Stream = TcpStream> + Wait + Clock>(
+    rt: &R,
+    alloc: Global,
+    port: u16,
+    stop: &Stop,
+) -> io::Result<String> {
+    let mute = stall(rt, port, "");
+    let stalled = stall(rt, port, "hello 2\nfro");
+    let answers = talk(rt, alloc, port, PASS_ON);
+    stop.ask(rt);
+    let _ended = (mute?, stalled?);
+    answers
 }
 
 #[test]
-fn clients_that_stall_hold_no_other_and_no_end(rt: HostRuntime) {
-    let plan = Plan {
-        workers: 3,
-        ..endless(1, &[])
-    };
-    let steps = [
-        Step::Stalls(0, ""),
-        Step::Stalls(0, "hello 2\nfro"),
-        Step::Asks(0, PASS_ON, "hello 2\ndone\nbye\n"),
-        Step::Stops,
-    ];
-    let played = play_within(&rt, rt.alloc(), plan, &steps, 10);
-    assert_found(&rt, played, Some(((Some((0, true, false)), 4), true)));
+fn clients_that_stall_hold_no_other_and_no_end(rt: HostRuntime) -> Result<(), Fail> {
+    let alloc = rt.alloc();
+    let began = Instant::now(&rt)?;
+    let (listener, port) = listening(&rt)?;
+    let mut setup = pulling(alloc, 1, &[])?;
+    setup.workers = 3;
+    let stop = Stop::new();
+    let (ended, answers) = thread::join(
+        &rt,
+        || ending(run_one(&rt, alloc, listener, setup, &stop, &NoTurn)),
+        || talk_beside(&rt, alloc, port, &stop),
+    );
+    assert!(rt; ended.is_some());
+    assert_eq!(rt; text_of(&answers), "hello 2\ndone\nbye\n");
+    assert!(rt; began.elapsed(&rt)? < Duration::from_secs(10));
+    Ok(())
 }
 
 /// Holds a session until a report was printed, and its end until more than that is.
@@ -370,37 +475,13 @@ const REPORTS: &str = "end 0 0\nout 101,1 require approval 1\nend 0 1\n";
 const TAKE_PATCH: &str =
     "hello 2\ntake {\"change\":101,\"message\":\"m\",\"op\":\"patchset\",\"set\":1}\nquit\n";
 
-/// How a site of one session ends that prints to this output, with this host.
-fn run_printing<R>(
-    rt: &R,
-    alloc: Global,
-    listener: TcpListener,
-    output: Ends<Shared<R>>,
-    turn: &AfterReport<R>,
-) -> Ending
-where
-    R: Net<Listener = TcpListener, Stream = TcpStream>
-        + Threads
-        + Wait
-        + Clock
-        + Copy
-        + Send
-        + Sync,
-{
-    let setup = one_session(alloc, 1).ok()?;
-    let errors = Ends::new(Vec::new(alloc));
-    let stop = Stop::new();
-    ending(serve_run(rt, alloc, listener, setup, &stop, output, errors, turn))
-}
-
-/// Runs a site for one session that waits for the site's first report: how it ended, and whether the session was
-/// answered.
+/// Runs a site for one session that waits for the site's first report: whether all was answered and written.
 fn run_after_report<R>(
     rt: &R,
     alloc: Global,
     output: Ends<Shared<R>>,
     turn: &AfterReport<R>,
-) -> Option<(Ending, bool)>
+) -> Result<bool, Fail>
 where
     R: Net<Listener = TcpListener, Stream = TcpStream>
         + Threads
@@ -410,49 +491,30 @@ where
         + Send
         + Sync,
 {
-    let (listener, port) = listening(rt).ok()?;
-    Some(thread::join(
+    let setup = one_session(alloc, 1)?;
+    let (listener, port) = listening(rt)?;
+    let stop = Stop::new();
+    let errors = Ends::new(Vec::new(alloc));
+    let (served, answers) = thread::join(
         rt,
-        || run_printing(rt, alloc, listener, output, turn),
-        || talk(rt, alloc, port, TAKE_PATCH).is_ok(),
-    ))
+        || ending(serve_run(rt, alloc, listener, setup, &stop, output, errors, turn)),
+        || talk(rt, alloc, port, TAKE_PATCH),
+    );
+    Ok(served == Some((1, true, false)) && answers.is_ok())
 }
 
-/// How a site ended for whose reports a session waited, whether that was answered, and whether a report was printed
-/// before it, another one before its end, and just those.
-fn reports_of<R>(rt: R, alloc: Global) -> Option<((Ending, bool), (bool, bool, bool))>
-where
-    R: Net<Listener = TcpListener, Stream = TcpStream>
-        + Threads
-        + Wait
-        + Clock
-        + Copy
-        + Send
-        + Sync,
-{
-    let (output, printed) = watched_end(rt, alloc).ok()?;
+/// A report is printed before anything comes, and the next one once that changes it.
+#[test]
+fn each_report_is_printed(rt: HostRuntime) -> Result<(), Fail> {
+    let (output, printed) = watched_end(rt, rt.alloc())?;
     let turn = AfterReport {
         rt,
         printed,
         is_printed: AtomicBool::new(false),
         is_followed: AtomicBool::new(false),
     };
-    let ran = run_after_report(&rt, alloc, output, &turn)?;
-    Some((ran, seen_by(&turn)))
-}
-
-/// What such a host saw.
-fn seen_by<R: Wait + Clock + Copy>(turn: &AfterReport<R>) -> (bool, bool, bool) {
-    let are_all = turn.printed.lock(&turn.rt).as_slice() == REPORTS.as_bytes();
-    let is_printed = turn.is_printed.load(Ordering::SeqCst);
-    let is_followed = turn.is_followed.load(Ordering::SeqCst);
-    (is_printed, is_followed, are_all)
-}
-
-/// A report is printed before anything comes, and the next one once that changes it.
-#[test]
-fn each_report_is_printed(rt: HostRuntime) {
-    let found = reports_of(rt, rt.alloc());
-    let ran = (Some((1, true, false)), true);
-    assert_found(&rt, found, Some((ran, (true, true, true))));
+    assert!(rt; run_after_report(&rt, rt.alloc(), output, &turn)?);
+    assert!(rt; turn.is_printed.load(Ordering::SeqCst) && turn.is_followed.load(Ordering::SeqCst));
+    assert_eq!(rt; turn.printed.lock(&rt).as_slice(), REPORTS.as_bytes());
+    Ok(())
 }
