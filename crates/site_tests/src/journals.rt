@@ -192,19 +192,14 @@ fn torn_journal(alloc: Global, texts: &[&[u8]]) -> Option<Vec<u8>> {
     Some(text)
 }
 
-/// Whether an opening of a tape fails, and how many operations a crash then leaves at least and at most.
-fn opening_of(alloc: Global, mut tape: MemoryTape) -> Option<(bool, usize, usize)> {
-    let is_refused = matches!(open_tape(alloc, &mut tape), Err(JournalFault::Failed));
-    let (synced, written) = left_on(alloc, &tape)?;
-    Some((is_refused, synced, written))
-}
-
 /// Whether an opening of two whole lines and a torn one is refused where one of its calls fails, counted from 0, and
 /// how many operations a crash then leaves at least and at most.
 fn opening_failing(alloc: Global, call: u32) -> Option<(bool, usize, usize)> {
     let mut tape = MemoryTape::new(torn_journal(alloc, &[FIRST, SECOND])?);
     tape.fail(1u64.wrapping_shl(call), 0);
-    opening_of(alloc, tape)
+    let is_refused = matches!(open_tape(alloc, &mut tape), Err(JournalFault::Failed));
+    let (synced, written) = left_on(alloc, &tape)?;
+    Some((is_refused, synced, written))
 }
 
 /// An opening reads, here three times, then cuts and syncs. Whichever of these fails, the whole lines are still there;
