@@ -1,8 +1,12 @@
 -- The session that is answered at a place is the one that was found there.
-use Rattle.std.proofs.Common.{◌≡◌, ◌<◌, true, ltb, ℕ, List, length, get_or, slice_get, slice_set, Option, Some, ap, refl, sym, ◌∙◌, subst}
+use Rattle.std.proofs.Common.{◌≡◌, ◌≢◌, ◌<◌, ◌≤◌, Bool, true, ltb, ℕ, List, length, get_or, slice_get, slice_set, Option, None, Some, ap, refl, sym, ◌∙◌}
+use Rattle.std.proofs.Common.{arith, subst}
+use Rattle.site_serve.specs.Answered.{GoesOnWith, IsSeatAfter}
+use Rattle.site_serve.specs.declared.jobs.Work.{Work}
+use Rattle.site_serve.specs.declared.jobs.Work.TheVariants.{Admitted, Barred, Entered, Left, Looked}
 use Rattle.std.proofs.lemmas.Bool.{ltb-true}
-use Rattle.std.proofs.lemmas.List.{get_or-set_same, length-set}
-use Rattle.std.proofs.lemmas.Option.{slice_get-get_or}
+use Rattle.std.proofs.lemmas.List.{get_or-set_other, get_or-set_same, length-set}
+use Rattle.std.proofs.lemmas.Option.{gets, slice_get-get_or, slice_get_past}
 
 same_one : {S : Type 0} (seat : Option S) (one mine : S) → seat ≡ Some one → seat ≡ Some mine → mine ≡ one
 same_one seat one mine is own = cc
@@ -41,3 +45,53 @@ seated_own seats place before now one Ok Err is value has own =
     let there : slice_get seats place ≡ Some before = slice_get-get_or seats place before within ∙ ap Some (sym value) in
     let left = own (same_seat (slice_get seats place) before one there has) in
     (left.0, found_at seats place now within ∙ ap Some left.1, left.2, left.3)
+
+-- who doesn't leave goes on with the work at its place
+moved : (work : Work) (old new last : List ℕ) (ends ending : Bool) → last ≡ new → ending ≡ ends
+    → GoesOnWith work old new ends → GoesOnWith work old last ending
+moved work old new last ends ending same ended goes =
+    subst (λ l. GoesOnWith work old l ending) (sym same) (subst (λ e. GoesOnWith work old new e) (sym ended) goes)
+
+seat_after : {S : Type 0} (outbox_of : S → List ℕ) (ends : S → Bool) (work : Work) (before after last : S) → work ≢ Left
+    → GoesOnWith work (outbox_of before) (outbox_of after) (ends after) → outbox_of last ≡ outbox_of after
+    → ends last ≡ ends after → IsSeatAfter outbox_of ends work before (Some last)
+seat_after outbox_of ends (Looked text answered) before after last stays goes outbox ending =
+    (last, refl, moved (Looked text answered) _ _ _ _ _ outbox ending goes)
+seat_after outbox_of ends (Admitted admitted) before after last stays goes outbox ending =
+    (last, refl, moved (Admitted admitted) _ _ _ _ _ outbox ending goes)
+seat_after outbox_of ends (Barred answer) before after last stays goes outbox ending =
+    (last, refl, moved (Barred answer) _ _ _ _ _ outbox ending goes)
+seat_after outbox_of ends Entered before after last stays goes outbox ending =
+    (last, refl, moved Entered _ _ _ _ _ outbox ending goes)
+seat_after outbox_of ends Left before after last stays goes outbox ending = absurd (stays refl)
+
+pub seat_goes_on : {S : Type 0} (outbox_of : S → List ℕ) (ends : S → Bool) (work : Work) (seat : Option S)
+    (one mine after last : S) → seat ≡ Some one → seat ≡ Some mine → work ≢ Left
+    → GoesOnWith work (outbox_of mine) (outbox_of after) (ends after) → outbox_of last ≡ outbox_of after
+    → ends last ≡ ends after → IsSeatAfter outbox_of ends work one (Some last)
+seat_goes_on outbox_of ends work seat one mine after last is own stays goes outbox ending =
+    seat_after outbox_of ends work one after last stays
+    (subst (λ s. GoesOnWith work (outbox_of s) (outbox_of after) (ends after)) (same_one seat one mine is own) goes)
+    outbox ending
+
+-- what holds of what is left of who was found at a place holds of what is found there then
+pub seat_found : {S : Type 0} (seats : List (Option S)) (place : ℕ) (before now : Option S) (one : S)
+    (P : Option S → Type 0) → true ≡ ltb place (length seats) → before ≡ get_or seats place before
+    → slice_get seats place ≡ Some (Some one) → (before ≡ Some one → P now)
+    → (seat : Option S) × (slice_get (slice_set seats place now) place ≡ Some seat) × P seat
+seat_found seats place before now one P is value has own =
+    let within : place < length seats = ltb-true place (length seats) (sym is) in
+    let there : slice_get seats place ≡ Some before = slice_get-get_or seats place before within ∙ ap Some (sym value) in
+    (now, found_at seats place now within, own (same_seat (slice_get seats place) before one there has))
+
+-- the others stay as they are
+pub others_stay : {X : Type 0} (seats : List X) (place other : ℕ) (now : X) → other ≢ place
+    → slice_get (slice_set seats place now) other ≡ slice_get seats other
+others_stay seats place other now apart = grind (arith, gets, slice_get_past, get_or-set_other, length-set)
+
+-- nobody is found past the last place
+pub none_there : {S : Type 0} (seats : List (Option S)) (place : ℕ) (one : S) (P : Type 0) → length seats ≤ place
+    → slice_get seats place ≡ Some (Some one) → P
+none_there seats place one P past has =
+    let none : slice_get seats place ≡ None = slice_get_past seats place past in
+    let clash : None ≡ Some (Some one) = sym none ∙ has in absurd (cc)

@@ -1,5 +1,6 @@
 -- What a session is answered of what the desk did for it.
-use Rattle.std.specs.Prelude.{◌≡◌, ◌≢◌, ◌⊎◌, ◌∷◌, [], ℕ, IfSome, List, Bool, true, Ok, Err, Option, Some, Result, slice_get}
+use Rattle.std.specs.Prelude.{◌≡◌, ◌≢◌, ◌⊎◌, ◌∷◌, ◌++◌, [], ℕ, IfSome, List, Bool, true, Ok, Err, None, Option, Some, Result}
+use Rattle.std.specs.Prelude.{slice_get}
 use Rattle.gossip_line.specs.Texts.{refusal_line, stamp_line}
 use Rattle.gossip_line.specs.declared.fault.LineFault.{LineFault}
 use Rattle.review_ops.specs.Timestamp.{Timestamp}
@@ -8,6 +9,8 @@ use Rattle.site_serve.specs.declared.ask.Asker.{Asker}
 use Rattle.site_serve.specs.declared.ask.Asker.TheVariants.{Puller, Session}
 use Rattle.site_serve.specs.declared.desk.Waiter.{Waiter}
 use Rattle.site_serve.specs.SitePorts.{port_fault_of}
+use Rattle.site_serve.specs.declared.jobs.Work.{Work}
+use Rattle.site_serve.specs.declared.jobs.Work.TheVariants.{Admitted, Barred, Entered, Left, Looked}
 use Rattle.site_shared.specs.declared.fault.DeskFault.{DeskFault}
 use Rattle.site_shared.specs.declared.fault.DeskFault.TheVariants.{NoMemory}
 
@@ -23,6 +26,22 @@ SaysFault fault old new = (result : Result Bool LineFault) × Adds (refusal_line
 abbrev pub SaysHeld : Result (Option Timestamp) DeskFault → List ℕ → List ℕ → Type 0
 SaysHeld (Ok stamp) old new = SaysStamp stamp old new ⊎ SaysFault (NoMemory 0) old new
 SaysHeld (Err fault) old new = SaysFault fault old new
+
+-- what a session is answered, and whether it ends, where a worker's work is done and it doesn't leave: a look's text is
+-- added, or memory is refused for it and the session ends; where it is or isn't let in, what it was answered may be given
+-- up
+abbrev pub GoesOnWith : Work → List ℕ → List ℕ → Bool → Type 0
+GoesOnWith (Looked text answered) old new ends = (new ≡ old ++ text.items) ⊎ ((new ≡ old) × (ends ≡ true))
+GoesOnWith (Admitted admitted) old new ends = (new ≡ old) ⊎ (new ≡ [])
+GoesOnWith (Barred answer) old new ends = (new ≡ old) ⊎ (new ≡ [])
+GoesOnWith Entered old new ends = new ≡ old
+GoesOnWith Left old new ends = new ≡ old
+
+-- what is at its place then: nothing where it leaves, else the session, which goes on with the work
+abbrev pub IsSeatAfter : {S : Type 0} → (S → List ℕ) → (S → Bool) → Work → S → Option S → Type 0
+IsSeatAfter outbox_of ends Left session seat = seat ≡ None
+IsSeatAfter outbox_of ends work session seat =
+    (after : _) × (seat ≡ Some after) × GoesOnWith work (outbox_of session) (outbox_of after) (ends after)
 
 module _ {S : Type 0} (number_of : S → ℕ) (outbox_of : S → List ℕ) where
   -- of the sessions at their places the one of this number at this place is answered, if it is still there, and no other

@@ -1,8 +1,10 @@
 -- What a worker answers to a look of a session: at one moment, which has all that the session has seen.
-use Rattle.std.specs.Prelude.{◌≡◌, ◌⊎◌, Bool, true, List, [], ℕ, Result, Ok}
+use Rattle.std.specs.Prelude.{◌≡◌, ◌⊎◌, Bool, true, List, [], ℕ, Option, Result, Ok}
 use Rattle.gate_rules.specs.Rules.{GateRules}
+use Rattle.gossip_line.specs.Steps.{call_of}
 use Rattle.gossip_line.specs.Texts.{no_memory_line, refusal_line, reply_text}
 use Rattle.gossip_line.specs.declared.fault.LineFault.{LineFault}
+use Rattle.replica_core.specs.JournalLaws.{IsPartOf}
 use Rattle.review_ops.specs.Operation.{Operation}
 use Rattle.site_port.specs.Ports.{Call, Reply}
 use Rattle.site_port.specs.declared.fault.PortFault.TheVariants.{Closed}
@@ -14,6 +16,8 @@ use Rattle.site_serve.specs.declared.jobs.Task.TheVariants as task
 use Rattle.site_serve.specs.declared.jobs.Work.{Work}
 use Rattle.site_serve.specs.declared.jobs.Work.TheVariants.{Looked}
 use Rattle.site_shared.specs.Accounts.{GoesOn, Outlook}
+use Rattle.site_shared.specs.Publishes.{arrive}
+use Rattle.std.specs.Option.{ForSome}
 
 -- the work is a look that is answered so
 abbrev pub IsLooked : (List ℕ → Result Bool LineFault → Type 0) → Work → Type 0
@@ -37,3 +41,11 @@ abbrev pub LooksAfter : GateRules → Outlook → Call → (List (List Operation
 LooksAfter gate old call Has new text answered =
     ((mid : Outlook) × GoesOn old mid × Has mid.seen × ShowsReply gate mid call new text answered)
     ⊎ Adds (refusal_line Closed) (Ok true) [] text answered
+
+-- the work answers a look so, after the window has seen all that was published when the receipt was made, where there is
+-- one
+abbrev pub AnswersLook : {T : Type 0} → GateRules → Outlook → Look → Option T → (T → List (List Operation)) → Outlook
+    → Work → Type 0
+AnswersLook gate old look receipt published_of new work =
+    IsLooked (LooksAfter gate old (call_of look)
+    (λ seen. ForSome receipt (λ receipt. IsPartOf (arrive (published_of receipt)) (arrive seen))) new) work

@@ -1,5 +1,5 @@
 -- What a page of a running site shows.
-use Rattle.std.specs.Prelude.{◌≡◌, ◌⊎◌, IfSome, List, Option, length}
+use Rattle.std.specs.Prelude.{◌≡◌, ◌⊎◌, List, length}
 use Rattle.gate_rules.specs.Rules.{GateRules}
 use Rattle.page_routes.specs.declared.page.Page.{Page}
 use Rattle.page_routes.specs.declared.page.Status.TheVariants.{Unavailable}

@@ -8,7 +8,7 @@ ghost use Rattle.gossip_line.specs.Texts.{reply_text};
 ghost use Rattle.replica_core.specs.JournalLaws.{IsPartOf};
 ghost use Rattle.site_port.specs.Ports.{reply_by, stamped};
 ghost use Rattle.site_serve.specs.InForce.{ruling_gate};
-ghost use Rattle.site_serve.specs.Looks.{IfLook, IsLooked, LooksAfter, ShowsReply};
+ghost use Rattle.site_serve.specs.Looks.{AnswersLook, IfLook, IsLooked, ShowsReply};
 ghost use Rattle.site_serve.specs.Outboxes.{Adds};
 ghost use Rattle.site_shared.specs.Accounts.{GoesOn};
 ghost use Rattle.site_shared.specs.Publishes.{arrive};
@@ -69,9 +69,8 @@ fn done<R: Wait, E: Drain, T: Turn, J: Naming>(
     turn: &T,
 ) -> Reply
     ensures own { (result.place ≡ job.place) × (result.session ≡ job.session) }
-    ensures looked { IfLook job.task (λ look. IsLooked (LooksAfter (ruling_gate port.old.ruling) port.old.window.window (call_of look)
-        (λ seen. ForSome job.receipt (λ receipt. IsPartOf (arrive (arc_value receipt).published) (arrive seen)))
-        port.new.window.window) result.work) }
+    ensures looked { IfLook job.task (λ look. AnswersLook (ruling_gate port.old.ruling) port.old.window.window look
+        job.receipt (λ receipt. (arc_value receipt).published) port.new.window.window result.work) }
 {
     let Job {
         place,
@@ -102,9 +101,8 @@ fn worked<R: Wait, E: Drain, T: Turn, J: Naming>(
     errors: &Errors<E>,
     turn: &T,
 ) -> Work
-    ensures { IfLook task (λ look. IsLooked (LooksAfter (ruling_gate port.old.ruling) port.old.window.window (call_of look)
-        (λ seen. ForSome receipt.now (λ receipt. IsPartOf (arrive (arc_value receipt).published) (arrive seen)))
-        port.new.window.window) result) }
+    ensures { IfLook task (λ look. AnswersLook (ruling_gate port.old.ruling) port.old.window.window look
+        receipt.now (λ receipt. (arc_value receipt).published) port.new.window.window result) }
 {
     match task {
         Task::Enter => entered(turn, session),
@@ -128,9 +126,8 @@ fn noted<R: Wait, J: Naming>(
     port: &mut SitePort<'_, '_, R, J>,
     metrics: &Metrics,
 ) -> Work
-    ensures { IsLooked (LooksAfter (ruling_gate port.old.ruling) port.old.window.window (call_of look.now)
-        (λ seen. ForSome receipt.now (λ receipt. IsPartOf (arrive (arc_value receipt).published) (arrive seen)))
-        port.new.window.window) result }
+    ensures { AnswersLook (ruling_gate port.old.ruling) port.old.window.window look.now
+        receipt.now (λ receipt. (arc_value receipt).published) port.new.window.window result }
 {
     metrics.begin_look();
     let work = looked(alloc, look, receipt, port);
@@ -163,9 +160,8 @@ fn looked<R: Wait, J: Naming>(
     receipt: &Option<Arc<BrandedReceipt<J>, Global>>,
     port: &mut SitePort<'_, '_, R, J>,
 ) -> Work
-    ensures { IsLooked (LooksAfter (ruling_gate port.old.ruling) port.old.window.window (call_of look.now)
-        (λ seen. ForSome receipt.now (λ receipt. IsPartOf (arrive (arc_value receipt).published) (arrive seen)))
-        port.new.window.window) result }
+    ensures { AnswersLook (ruling_gate port.old.ruling) port.old.window.window look.now
+        receipt.now (λ receipt. (arc_value receipt).published) port.new.window.window result }
 {
     if !has_learnt(receipt, port) {
         return said(alloc, Err(PortFault::Closed));

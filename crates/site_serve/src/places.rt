@@ -1,7 +1,7 @@
 //! The sessions that are open, each at its place.
 
-ghost use Rattle.std.specs.Prelude.{◌≡◌, ◌≢◌, ℕ, IfErr, IfOk, Some, slice_get};
-ghost use Rattle.site_serve.specs.Answered.{SaysFault, SaysStamp};
+ghost use Rattle.std.specs.Prelude.{◌≡◌, ◌≢◌, ℕ, IfErr, IfOk, Some, false, is_some, slice_get, true};
+ghost use Rattle.site_serve.specs.Answered.{GoesOnWith, IsSeatAfter, SaysFault, SaysStamp};
 
 use super::ask::Answer;
 use super::jobs::{Reply, Work};
@@ -164,6 +164,9 @@ impl<J: Naming> Places<J> {
         ensures strangers { (session : _) → slice_get self.old.sessions.items reply.place ≡ Some (Some session)
             → session.number ≢ reply.session
             → slice_get self.new.sessions.items reply.place ≡ Some (Some session) }
+        ensures own { (session : _) → slice_get self.old.sessions.items reply.place ≡ Some (Some session)
+            → session.number ≡ reply.session → (seat : _) × (slice_get self.new.sessions.items reply.place ≡ Some seat)
+            × IsSeatAfter (λ s. s.outbox) (λ s. is_some s.ending) reply.work session seat }
     {
         let Reply {
             place,
@@ -250,7 +253,9 @@ fn leaves_with<J: Naming>(
     work: Work,
     now: Duration,
 ) -> bool
-    ensures { (session : _) → slot.old ≡ Some session → session.number ≢ number → slot.new ≡ Some session }
+    ensures strangers { (session : _) → slot.old ≡ Some session → session.number ≢ number → slot.new ≡ Some session }
+    ensures own { (session : _) → slot.old ≡ Some session → session.number ≡ number
+        → IsSeatAfter (λ s. s.outbox) (λ s. is_some s.ending) work session slot.new }
 {
     let Some(session) = slot else {
         return false;
@@ -258,7 +263,7 @@ fn leaves_with<J: Naming>(
     if session.number != number {
         return false;
     }
-    if matches!(&work, Work::Left) {
+    if has_left(&work) {
         *slot = None;
         return true;
     }
@@ -267,8 +272,18 @@ fn leaves_with<J: Naming>(
     false
 }
 
+/// Whether the work is that the session has ended.
+fn has_left(work: &Work) -> bool
+    ensures left { result ≡ true → work.now ≡ Work.Left }
+    ensures stays { result ≡ false → work.now ≢ Work.Left }
+{
+    matches!(work, Work::Left)
+}
+
 /// Has a session go on with what a worker has done for it.
-fn go_on<J: Naming>(session: &mut Session<J>, work: Work, now: Duration) {
+fn go_on<J: Naming>(session: &mut Session<J>, work: Work, now: Duration)
+    ensures { GoesOnWith work session.old.outbox session.new.outbox (is_some session.new.ending) }
+{
     match work {
         Work::Entered => session.come_back(),
         Work::Admitted(admitted) => session.let_in(admitted, now),
@@ -304,7 +319,8 @@ fn answer_at<J: Naming>(
 
 /// Has a session looked at in the next turn. There is room for each place.
 fn enlist<J: Naming>(session: &mut Session<J>, listed: &mut Vec<usize>, place: usize)
-    ensures { session.new.outbox ≡ session.old.outbox }
+    ensures outbox { session.new.outbox ≡ session.old.outbox }
+    ensures ending { session.new.ending ≡ session.old.ending }
 {
     if session.is_listed {
         return;

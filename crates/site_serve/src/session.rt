@@ -1,6 +1,6 @@
 //! A session of a site, as a value: what was read of it, and what waits to be written.
 
-ghost use Rattle.std.specs.Prelude.{◌≡◌, ◌⊎◌, ◌↔◌, ◌<◌, ◌≤◌, ◌+◌, ◌-◌, ◌++◌, [], Bool, Err, IfErr, IfOk, IfSome, IsTrue, MatchBool, MatchOption, None, Ok, Result, Some, drop, length, nat_eq, not, true};
+ghost use Rattle.std.specs.Prelude.{◌≡◌, ◌⊎◌, ◌↔◌, ◌<◌, ◌≤◌, ◌+◌, ◌-◌, ◌++◌, [], Bool, Err, IfErr, IfOk, IfSome, IsTrue, MatchBool, MatchOption, None, Ok, Result, Some, drop, is_some, length, nat_eq, not, true};
 ghost use Rattle.key_file.specs.declared.key.Role.TheVariants.{Feed};
 ghost use Rattle.std.specs.Arc.{arc_value};
 ghost use Rattle.std.specs.Option.{option_map};
@@ -85,7 +85,7 @@ pub(super) struct Session<J: Naming> {
     is_closing: bool,
     is_read_out: bool,
     /// How it ends, once all that waits is written.
-    ending: Option<Result<(), SessionFault>>,
+    pub ending: Option<Result<(), SessionFault>>,
     /// Whether its connection took all that was written at once, and more may wait.
     takes_more: bool,
     awaited: Awaited,
@@ -224,7 +224,8 @@ impl<J: Naming> Session<J> {
 
     /// Is answered by a text that a worker made, and goes on or not.
     pub(super) fn take_text(&mut self, text: Vec<u8>, answered: Result<bool, LineFault>)
-        ensures says { (self.new.outbox ≡ self.old.outbox ++ text.items) ⊎ (self.new.outbox ≡ self.old.outbox) }
+        ensures says { (self.new.outbox ≡ self.old.outbox ++ text.items)
+            ⊎ ((self.new.outbox ≡ self.old.outbox) × (is_some self.new.ending ≡ true)) }
         ensures inbox { self.new.inbox ≡ self.old.inbox }
     {
         self.is_away = false;
@@ -235,7 +236,9 @@ impl<J: Naming> Session<J> {
     }
 
     /// Goes on, since its worker is done.
-    pub(super) fn come_back(&mut self) {
+    pub(super) fn come_back(&mut self)
+        ensures { self.new.outbox ≡ self.old.outbox }
+    {
         self.is_away = false;
     }
 
@@ -316,6 +319,7 @@ impl<J: Naming> Session<J> {
         ensures inbox { self.new.inbox ≡ self.old.inbox }
         ensures receipt { self.new.receipt ≡ self.old.receipt }
         ensures kept { (self.new.outbox ≡ self.old.outbox) × (self.new.waiting ≡ self.old.waiting) }
+        ensures ends { is_some self.new.ending ≡ true }
     {
         match ending {
             Ok(()) => self.end_as(Ok(())),
@@ -328,6 +332,7 @@ impl<J: Naming> Session<J> {
         ensures inbox { self.new.inbox ≡ self.old.inbox }
         ensures receipt { self.new.receipt ≡ self.old.receipt }
         ensures kept { (self.new.outbox ≡ self.old.outbox) × (self.new.waiting ≡ self.old.waiting) }
+        ensures ends { is_some self.new.ending ≡ true }
     {
         if self.ending.is_none() {
             self.ending = Some(ending);
@@ -507,7 +512,8 @@ impl<J: Naming> Session<J> {
 
     /// Is let in by a key: its lines are sealed from now on, the first of which has the time that a first line has.
     pub(super) fn let_in(&mut self, admitted: Admitted, now: Duration)
-        ensures { IsTrue self.new.may_take ↔ admitted.role ≡ Feed }
+        ensures role { IsTrue self.new.may_take ↔ admitted.role ≡ Feed }
+        ensures kept { (self.new.outbox ≡ self.old.outbox) ⊎ (self.new.outbox ≡ []) }
     {
         let Admitted { role, answer, wire } = admitted;
         if let Err(fault) = self.channel.let_in(answer, wire) {
@@ -520,7 +526,9 @@ impl<J: Naming> Session<J> {
     }
 
     /// Isn't let in, is answered so, and ends.
-    pub(super) fn keep_out(&mut self, answer: Vec<u8>) {
+    pub(super) fn keep_out(&mut self, answer: Vec<u8>)
+        ensures { (self.new.outbox ≡ self.old.outbox) ⊎ (self.new.outbox ≡ []) }
+    {
         self.is_away = false;
         self.end_as(Err(SessionFault::NoKey));
         if let Err(fault) = self.channel.keep_out(answer) {

@@ -1,4 +1,4 @@
-use Rattle.std.proofs.Common.{◌∙◌, ◌-◌, ◌≤◌, ap, arith, drop, length, length-drop, subst, sym}
+use Rattle.std.proofs.Common.{◌∙◌, ◌≤◌, ap, arith, drop, length, length-drop, subst, sym}
 use Rattle.line_reader.specs.Lines.{HasFirstLf, HasNoLf}
 use Rattle.site_serve.proofs.Boxes.{all_plain, first_after, plain_after, rest_is}
 use Rattle.site_serve.proofs.inbox.Inbox.next_line.Goals as goal
