@@ -7,9 +7,10 @@ use super::connection::pull_from;
 use super::joining::joined;
 use byte_ends::{BytesFault, Ends, read_all};
 use console::{Named, PullFault};
+use line_batches::{Batches, OneByOne};
 use replica_core::Gathering;
 use site_address::Address;
-use snapshot_text::{SnapFault, gather_onto};
+use snapshot_text::{SnapFault, gather_by};
 use std::alloc::Global;
 use std::fs;
 use std::net::{Net, TcpStream};
@@ -18,17 +19,32 @@ use std::time::Clock;
 
 /// The files of the system, and the sites that run on this machine. No contract can say what they contain.
 #[derive(Drop)]
-pub struct SystemFiles<R: Drop> {
+pub struct SystemFiles<R: Drop, B: Drop = OneByOne> {
     rt: R,
+    batches: B,
     failures: u64,
 }
 
-impl<R: Files + Net<Stream = TcpStream> + Clock + AllocGlobal + Drop> SystemFiles<R> {
-    /// The files that `rt` opens and the sites that it connects to, with no failure counted.
+impl<R: Drop> SystemFiles<R> {
+    /// The files that `rt` opens and the sites that it connects to, with no failure counted. The lines of snapshots are
+    /// read one by one.
     pub fn new(rt: R) -> SystemFiles<R>
         ensures { result.failures ≡ 0 }
     {
-        SystemFiles { rt, failures: 0 }
+        SystemFiles::read_by(rt, OneByOne)
+    }
+}
+
+impl<R: Drop, B: Batches + Drop> SystemFiles<R, B> {
+    /// The same, but the lines of snapshots are read in batches.
+    pub fn read_by(rt: R, batches: B) -> SystemFiles<R, B>
+        ensures { result.failures ≡ 0 }
+    {
+        SystemFiles {
+            rt,
+            batches,
+            failures: 0,
+        }
     }
 
     /// Counts a file that can't be opened or read.
@@ -39,7 +55,11 @@ impl<R: Files + Net<Stream = TcpStream> + Clock + AllocGlobal + Drop> SystemFile
     }
 }
 
-impl<R: Files + Net<Stream = TcpStream> + Clock + AllocGlobal + Drop> Named for SystemFiles<R> {
+impl<R, B> Named for SystemFiles<R, B>
+where
+    R: Files + Net<Stream = TcpStream> + Clock + AllocGlobal + Drop,
+    B: Batches + Drop,
+{
     ghost files = { λ files. [] };
 
     ghost sites = { λ files. [] };
@@ -60,7 +80,7 @@ impl<R: Files + Net<Stream = TcpStream> + Clock + AllocGlobal + Drop> Named for 
 
     fn read_snapshot(&mut self, gathering: Gathering, name: &str) -> Result<Gathering, SnapFault> {
         let answer = match fs::open(&self.rt, name) {
-            Ok(file) => gather_onto(gathering, &mut Ends::new(file)),
+            Ok(file) => gather_by(&self.batches, gathering, &mut Ends::new(file)),
             Err(_) => Err(SnapFault::ReadFault),
         };
         if matches!(&answer, Err(SnapFault::ReadFault)) {

@@ -14,6 +14,7 @@ use enqueue::enqueue;
 use events::feed;
 use key_files::{KeyReader, SystemKeys};
 use keys::report_keys;
+use line_batches::SideBySide;
 use record_pull::SystemFiles;
 use recover_command::{recover_named, show_journal_fault};
 use refusal_line::{Part, refusal_line};
@@ -54,7 +55,7 @@ fn main(rt: HostRuntime) -> ExitCode {
                 alloc,
                 words,
                 Ends::new(rt.reader()),
-                SystemFiles::new(rt),
+                SystemFiles::read_by(rt, SideBySide::new(rt)),
                 Timed::new(SystemMoments::new(rt, log_time), Ends::new(rt.stderr())),
                 &SystemKeys::new(rt),
                 &mut Timed::new(SystemMoments::new(rt, log_time), Ends::new(rt.stderr())),
@@ -82,7 +83,8 @@ fn main(rt: HostRuntime) -> ExitCode {
 /// Runs a command over files. Answers the status.
 fn run<R, E>(rt: R, alloc: Global, command: &Command<'_>, errors: &mut E) -> u8
 where
-    R: Input + Print + Files + Net<Stream = TcpStream> + Clock + AllocGlobal + Copy + Drop,
+    R: Input + Print + Files + Net<Stream = TcpStream> + Clock + Threads + Sync,
+    R: AllocGlobal + Copy + Drop,
     E: Drain,
 {
     run_command(
@@ -91,7 +93,7 @@ where
         &mut Ends::new(rt.reader()),
         &mut Ends::new(io::writer(&rt)),
         errors,
-        &mut SystemFiles::new(rt),
+        &mut SystemFiles::read_by(rt, SideBySide::new(rt)),
     )
 }
 

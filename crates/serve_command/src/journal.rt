@@ -12,6 +12,7 @@ use super::fault::ProgramFault;
 use super::tape::TapeFault;
 use byte_ends::Drain;
 use console::show_torn;
+use line_batches::Batches;
 use replica_core::Replica;
 use review_ops::Op;
 use site_journal::{Journal, JournalFault, KeepFault, Tape, journals_have_one_reading};
@@ -21,13 +22,14 @@ use std::alloc::Global;
 /// How many operations of a snapshot are added to a journal at once.
 const BATCH: usize = 4096;
 
-/// Begins a site's record by a journal on a tape that was just opened: it has what the journal says and what was loaded
+/// Begins a site's record by a journal on a tape that was just opened, whose lines are read in batches: it has what the journal says and what was loaded
 /// beside, which is added to the journal where that lacks it, and synced. So the journal says just the record, and the
 /// record has whatever was published by a site whose journal a crash left so. How many bytes of a torn line were cut off
 /// is written to `errors`. It costs O(n log n) for n operations, and a sync for each
 /// 4,096 that are added.
-pub fn begin<T: Tape + Drop, E: Drain>(
+pub fn begin<B: Batches, T: Tape + Drop, E: Drain>(
     alloc: Global,
+    batches: &B,
     tape: T,
     loaded: Replica,
     errors: &mut E,
@@ -38,12 +40,13 @@ pub fn begin<T: Tape + Drop, E: Drain>(
     ensures survivors { IfOk result (λ begun. IfSome (T.image tape) (λ i. HasSurvivors i.contents begun.1)) }
 {
     journals_have_one_reading();
-    open_and_add(alloc, tape, loaded, errors)
+    open_and_add(alloc, batches, tape, loaded, errors)
 }
 
 /// Opens a journal, and adds to it and to the record what was loaded.
-fn open_and_add<T: Tape + Drop, E: Drain>(
+fn open_and_add<B: Batches, T: Tape + Drop, E: Drain>(
     alloc: Global,
+    batches: &B,
     tape: T,
     loaded: Replica,
     errors: &mut E,
@@ -52,7 +55,7 @@ fn open_and_add<T: Tape + Drop, E: Drain>(
     ensures kept { IfOk result (λ begun. (ops : List Operation) × IsHolding begun.0 ops × IsSameSet begun.1 ops) }
     ensures whole { IfOk result (λ begun. IfSome (T.image tape) (λ i. IsRecordBegun i.contents loaded begun.1)) }
 {
-    match Journal::open(alloc, tape) {
+    match Journal::open_by(alloc, batches, tape) {
         Ok(started) => {
             show_torn(alloc, started.torn, errors);
             add_loaded(alloc, started.journal, started.replica, loaded)

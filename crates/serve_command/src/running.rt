@@ -21,6 +21,7 @@ use byte_ends::{Drain, Source};
 use command_line::{Printing, ServeWords};
 use console::Named;
 use key_files::KeyReader;
+use line_batches::SideBySide;
 use mio::Waker;
 use page_server::PageEndpoint;
 use site_journal::{Journal, Tape};
@@ -65,14 +66,15 @@ where
     ensures refused { OnErr result (snapshot_file.new ≡ snapshot_file.old) }
 {
     let mut outside = outside;
-    match begun_on(alloc, tape, site, &mut outside.errors) {
+    match begun_on(rt, alloc, tape, site, &mut outside.errors) {
         Ok((journal, site)) => Ok(run_kept(rt, alloc, site, outside, keys, snapshot_file, journal)),
         Err(ended) => Err(ended),
     }
 }
 
 /// A site that begins with what a journal says on a tape and with what was loaded, as `begin` does.
-fn begun_on<'a, T: Tape + Drop, E: Drain>(
+fn begun_on<'a, R: Threads + Sync + Drop, T: Tape + Drop, E: Drain>(
+    rt: R,
     alloc: Global,
     tape: T,
     site: Site<'a>,
@@ -91,7 +93,7 @@ fn begun_on<'a, T: Tape + Drop, E: Drain>(
         gate,
         replica,
     } = site;
-    match begin(alloc, tape, replica, errors) {
+    match begin(alloc, &SideBySide::new(rt), tape, replica, errors) {
         Ok((journal, replica)) => {
             let site = Site {
                 serving,

@@ -6,3 +6,4 @@ pub mod Keeping
 pub mod Starting
 pub mod Fronts
 mod Kept
+mod Batches

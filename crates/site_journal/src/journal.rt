@@ -14,8 +14,9 @@ ghost use Rattle.site_journal.specs.Text.{AreShort};
 
 use crate::fault::{JournalFault, KeepFault};
 use crate::laws::{crashes_lose_nothing_acknowledged, journals_say_their_operations};
-use crate::opening::{Opened, open_tape};
+use crate::opening::{Opened, open_tape_by};
 use crate::tape::Tape;
+use line_batches::{Batches, OneByOne};
 use line_reader::LINE_LIMIT;
 use op_text::append_op;
 use replica_core::Replica;
@@ -65,8 +66,26 @@ impl<T: Tape + Drop> Journal<T> {
         ensures counted { MatchResult result (λ started. started.journal.failed ≡ T.failed tape)
             (λ fault. (failed : ℕ) × CountsJournalFault (T.failed tape) failed fault) }
     {
+        Journal::open_by(alloc, &OneByOne, tape)
+    }
+
+    /// Opens the journal as `open` does, and reads its lines in batches.
+    pub fn open_by<B: Batches>(
+        alloc: Global,
+        batches: &B,
+        tape: T,
+    ) -> Result<Started<T>, JournalFault>
+        requires { IsAtStart (T.image tape) (T.left tape) }
+        ensures ok { IfOk result
+            (λ started. (started.journal.is_spoiled ≡ false) × Changes (T.image tape) started.journal.image
+            (λ i j. IsSettled j × IsOpened i.contents started.replica started.torn j.contents)) }
+        ensures holds { IfOk result (λ started. (ops : List Operation) × IsHolding started.journal ops) }
+        ensures refused { IfErr result (λ fault. IfSome (T.image tape) (λ i. IsJournalRefusal i.contents fault)) }
+        ensures counted { MatchResult result (λ started. started.journal.failed ≡ T.failed tape)
+            (λ fault. (failed : ℕ) × CountsJournalFault (T.failed tape) failed fault) }
+    {
         let mut tape = tape;
-        let Opened { replica, len, torn } = open_tape(alloc, &mut tape)?;
+        let Opened { replica, len, torn } = open_tape_by(alloc, batches, &mut tape)?;
         Ok(Started {
             journal: Journal {
                 alloc,

@@ -14,6 +14,7 @@ use crate::fault::JournalFault;
 use crate::reading::{Found, HEADER, read_text};
 use crate::tape::Tape;
 use byte_ends::Failed;
+use line_batches::{Batches, OneByOne};
 use replica_core::Replica;
 use std::alloc::Global;
 
@@ -43,7 +44,25 @@ pub fn open_tape<T: Tape>(alloc: Global, tape: &mut T) -> Result<Opened, Journal
     ensures counted { MatchResult result
         (λ _. T.failed tape.new ≡ T.failed tape.old) (CountsJournalFault (T.failed tape.old) (T.failed tape.new)) }
 {
-    match read_text(alloc, tape)? {
+    open_tape_by(alloc, &OneByOne, tape)
+}
+
+/// Reads the journal on a tape that was just opened as `open_tape` does, its lines in batches.
+pub fn open_tape_by<B: Batches, T: Tape>(
+    alloc: Global,
+    batches: &B,
+    tape: &mut T,
+) -> Result<Opened, JournalFault>
+    requires { IsAtStart (T.image tape.old) (T.left tape.old) }
+    ensures ok { IfOk result (λ opened. Changes (T.image tape.old) (T.image tape.new) (λ i j. IsSettled j
+        × (length j.contents ≡ opened.len) × IsOpened i.contents opened.replica opened.torn j.contents)) }
+    ensures refused { IfErr result (λ fault. IfSome (T.image tape.old) (λ i. IsJournalRefusal i.contents fault)) }
+    ensures untouched { IfErr result (λ fault. ¬ (fault ≡ JournalFault.Failed) → T.image tape.new ≡ T.image tape.old) }
+    ensures failed { IsErrOf result JournalFault.Failed → Changes (T.image tape.old) (T.image tape.new) IsUnharmed }
+    ensures counted { MatchResult result
+        (λ _. T.failed tape.new ≡ T.failed tape.old) (CountsJournalFault (T.failed tape.old) (T.failed tape.new)) }
+{
+    match read_text(alloc, batches, tape)? {
         Found::Fresh(bytes) => {
             begin(tape, bytes)?;
             Ok(Opened {

@@ -1,27 +1,27 @@
 //! Reads the text of a journal, block by block.
 
 ghost use Rattle.std.specs.Prelude.{IsErrOf, IsTrue, ◌↔◌, ◌≡◌, ◌≤◌, ◌<◌, ◌+◌, ◌++◌, ◌∷◌, [], ℕ, List, IfOk, IfErr};
-ghost use Rattle.std.specs.Prelude.{IfSome, MatchOption, MatchResult, OnOk, length, vec_len};
+ghost use Rattle.std.specs.Prelude.{IfSome, MatchResult, OnOk, length, vec_len};
 ghost use Rattle.std.specs.Io.KnownBytes.{Consumes, IsAtEnd};
 ghost use Rattle.byte_ends.specs.Lines.{as_line};
-ghost use Rattle.line_reader.specs.Lines.{HasFirstLf, HasNoLf};
+ghost use Rattle.line_batches.specs.Batches.{IsBatch};
+ghost use Rattle.line_reader.specs.Lines.{HasNoLf};
+ghost use Rattle.replica_core.specs.Journal.{all_arrived};
 ghost use Rattle.site_journal.specs.Fault.{CountsJournalFault, IsJournalRefusal, line_fault_of};
 ghost use Rattle.site_journal.specs.Reading.{HasRead, IsFoundText, IsJudged};
 ghost use Rattle.site_journal.specs.Text.{header_line};
 
 use crate::fault::{JournalFault, LineCause};
 use crate::tape::Feed;
+use line_batches::{Batches, first_lf, past_first_lf, past_last_lf};
 use line_reader::LINE_LIMIT;
-use memchr::memchr;
 use op_text::{OpTextFault, read_op};
 use replica_core::{Gathering, Replica};
+use review_ops::Op;
 use std::alloc::Global;
 
 /// The first line of a journal.
 pub const HEADER: &[u8] = b"reviewgate 2\n";
-
-/// How many bytes are read at once.
-const BLOCK: usize = 65_536;
 
 /// The most bytes of a journal.
 const TEXT_LIMIT: u64 = u64::MAX - 131_071;
@@ -36,8 +36,12 @@ pub enum Found {
     Lines(Replica, u64, usize),
 }
 
-/// Reads a journal to its end.
-pub fn read_text<F: Feed>(alloc: Global, feed: &mut F) -> Result<Found, JournalFault>
+/// Reads a journal to its end, its lines in batches.
+pub fn read_text<B: Batches, F: Feed>(
+    alloc: Global,
+    batches: &B,
+    feed: &mut F,
+) -> Result<Found, JournalFault>
     ensures found { IfOk result (λ found. IfSome (F.left feed.old) (λ text. IsFoundText text found)) }
     ensures refused { IfErr result (λ fault. IfSome (F.left feed.old) (λ text. IsJournalRefusal text fault)) }
     ensures same { F.image feed.new ≡ F.image feed.old }
@@ -46,7 +50,7 @@ pub fn read_text<F: Feed>(alloc: Global, feed: &mut F) -> Result<Found, JournalF
 {
     let head = read_head(alloc, feed)?;
     match judged(head.as_slice()) {
-        Head::Whole => read_lines(alloc, feed),
+        Head::Whole => read_lines(alloc, batches, feed),
         Head::Front => Ok(Found::Fresh(head.as_slice().len())),
         Head::Other => Err(JournalFault::BadHeader),
     }
@@ -133,20 +137,24 @@ fn read_piece<F: Feed>(
 }
 
 /// Reads the lines after the first to their end.
-fn read_lines<F: Feed>(alloc: Global, feed: &mut F) -> Result<Found, JournalFault>
+fn read_lines<B: Batches, F: Feed>(
+    alloc: Global,
+    batches: &B,
+    feed: &mut F,
+) -> Result<Found, JournalFault>
     ensures found { IfOk result (λ found. IfSome (F.left feed.old) (λ text. IsFoundText (header_line ++ text) found)) }
     ensures refused { IfErr result (λ fault. IfSome (F.left feed.old) (λ text. IsJournalRefusal (header_line ++ text) fault)) }
     ensures same { F.image feed.new ≡ F.image feed.old }
     ensures counted { MatchResult result
         (λ _. F.failed feed.new ≡ F.failed feed.old) (CountsJournalFault (F.failed feed.old) (F.failed feed.new)) }
 {
-    let mut piece = vec![in alloc; 0u8; BLOCK]?;
+    let mut piece = vec![in alloc; 0u8; batches.size()]?;
     let mut reading = Reading::new(alloc);
     let mut seen = 13u64;
     while seen <= TEXT_LIMIT {
-        match reading.read_block(feed, piece.as_mut_slice())? {
+        match reading.read_block(batches, feed, piece.as_mut_slice())? {
             0 => return reading.found(seen),
-            count => seen += count as u64,
+            count => seen = seen.saturating_add(count as u64),
         }
     }
     Err(JournalFault::TooLong)
@@ -192,7 +200,12 @@ impl Reading {
     }
 
     /// Reads some bytes, and what they say. 0 is the end.
-    fn read_block<F: Feed>(&mut self, feed: &mut F, piece: &mut [u8]) -> Result<usize, JournalFault>
+    fn read_block<B: Batches, F: Feed>(
+        &mut self,
+        batches: &B,
+        feed: &mut F,
+        piece: &mut [u8],
+    ) -> Result<usize, JournalFault>
         ensures read { IfOk result (λ count. (part : List ℕ) × (length part ≡ count)
             × Consumes (F.left feed.old) (F.left feed.new) part
             × ((came : List ℕ) → HasRead came self.old.gathering self.old.held.items self.old.next
@@ -209,14 +222,74 @@ impl Reading {
         let Ok(count) = feed.read(piece) else {
             return Err(JournalFault::Failed);
         };
-        match self.take_block(piece.split_at(count).0) {
+        match self.take_block(batches, piece.split_at(count).0) {
             Ok(()) => Ok(count),
             Err(fault) => Err(fault),
         }
     }
 
-    /// Reads what came.
-    fn take_block(&mut self, block: &[u8]) -> Result<(), JournalFault>
+    /// Reads what came: the rest of the line that is held, then whole lines, at once where they are operations', and the
+    /// beginning of the next one.
+    fn take_block<B: Batches>(&mut self, batches: &B, block: &[u8]) -> Result<(), JournalFault>
+        ensures ok { OnOk result ((came : List ℕ) → HasRead came self.old.gathering self.old.held.items self.old.next
+            → HasRead (came ++ block.now) self.new.gathering self.new.held.items self.new.next) }
+        ensures err { IfErr result
+            (λ fault. (came : List ℕ) → HasRead came self.old.gathering self.old.held.items self.old.next
+            → (later : List ℕ) → IsJournalRefusal ((came ++ block.now) ++ later) fault) }
+        ensures unfailing { IsErrOf result JournalFault.Failed → ⊥ }
+    {
+        let (first, rest) = block.split_at(past_first_lf(block));
+        self.take_lines(first)?;
+        let (whole, last) = rest.split_at(past_last_lf(rest));
+        self.take_whole(batches, whole)?;
+        self.take_lines(last)
+    }
+
+    /// Reads whole lines, at once where they are operations'.
+    fn take_whole<B: Batches>(&mut self, batches: &B, lines: &[u8]) -> Result<(), JournalFault>
+        ensures ok { OnOk result ((came : List ℕ) → HasRead came self.old.gathering self.old.held.items self.old.next
+            → HasRead (came ++ lines.now) self.new.gathering self.new.held.items self.new.next) }
+        ensures err { IfErr result
+            (λ fault. (came : List ℕ) → HasRead came self.old.gathering self.old.held.items self.old.next
+            → (later : List ℕ) → IsJournalRefusal ((came ++ lines.now) ++ later) fault) }
+        ensures unfailing { IsErrOf result JournalFault.Failed → ⊥ }
+    {
+        match self.operations(batches, lines) {
+            Some((ops, next)) => self.take_all(ops, next),
+            None => self.take_lines(lines),
+        }
+    }
+
+    /// The operations of whole lines that come next, where they are read at once, and the number of the line after them.
+    fn operations<B: Batches>(&self, batches: &B, lines: &[u8]) -> Option<(Vec<Op>, u64)>
+        ensures { IfSome result (λ read. IsBatch lines.now read.0.items × (self.now.held.items ≡ [])
+            × (read.1 ≡ self.now.next + length read.0.items)) }
+    {
+        if lines.is_empty() || !self.held.is_empty() {
+            return None;
+        }
+        let ops = batches.operations(self.alloc, lines)?;
+        let next = self.next.checked_add(ops.len() as u64)?;
+        Some((ops, next))
+    }
+
+    /// Takes operations, after which the line of this number comes.
+    fn take_all(&mut self, ops: Vec<Op>, next: u64) -> Result<(), JournalFault>
+        ensures ok { OnOk result (self.new ≡ record self.old {
+          gathering = all_arrived self.old.gathering ops.items;
+          next = next;
+        }) }
+        ensures err { IfErr result (λ fault. fault ≡ JournalFault.NoMemory) }
+    {
+        for op in ops {
+            let _arrived = self.gathering.take(op)?;
+        }
+        self.next = next;
+        Ok(())
+    }
+
+    /// Reads what came, one line after the other.
+    fn take_lines(&mut self, block: &[u8]) -> Result<(), JournalFault>
         ensures ok { OnOk result ((came : List ℕ) → HasRead came self.old.gathering self.old.held.items self.old.next
             → HasRead (came ++ block.now) self.new.gathering self.new.held.items self.new.next) }
         ensures err { IfErr result
@@ -294,11 +367,4 @@ fn line_fault(number: u64, cause: OpTextFault) -> JournalFault
         OpTextFault::NoMemory => JournalFault::NoMemory,
         cause => JournalFault::BadLine(number, LineCause::Text(cause)),
     }
-}
-
-/// The place of the first line end.
-fn first_lf(bytes: &[u8]) -> Option<usize>
-    ensures { MatchOption result (HasNoLf bytes.now) (HasFirstLf bytes.now) }
-{
-    memchr(b'\n', bytes)
 }

@@ -17,6 +17,7 @@ use crate::leaving::{LeftOut, without};
 use crate::reading::{Found, read_text};
 use crate::tape::SourceFeed;
 use byte_ends::{Drain, Source};
+use line_batches::OneByOne;
 use replica_core::Replica;
 use snapshot_text::{WriteSnapFault, write_snapshot};
 use std::alloc::Global;
@@ -66,7 +67,7 @@ fn read_journal<S: Source + Drop>(
     ensures err { IfErr result (λ fault. IfSome (S.left source) (λ text. IsJournalRefusal text fault)) }
 {
     let mut feed = SourceFeed::new(source);
-    match read_text(alloc, &mut feed)? {
+    match read_text(alloc, &OneByOne, &mut feed)? {
         Found::Fresh(bytes) => Ok((Replica::new(alloc), bytes)),
         Found::Lines(replica, _len, torn) => Ok((replica, torn)),
     }

@@ -38,7 +38,7 @@ one_piece byte (next ∷ piece) plain =
     (plain_head byte (next ∷ piece) plain)
     ∙ ap (put_before byte) (one_piece next piece (plain_tail byte (next ∷ piece) plain))
 
-first_line : (piece rest : List ℕ) → HasNoLf piece → lines_of (as_line piece ++ rest) ≡ without_cr piece ∷ lines_of rest
+pub first_line : (piece rest : List ℕ) → HasNoLf piece → lines_of (as_line piece ++ rest) ≡ without_cr piece ∷ lines_of rest
 first_line piece rest plain =
     ap (map without_cr) (ap pieces_of (append_assoc piece (10 ∷ []) rest) ∙ first_piece piece rest plain)
 

@@ -1,6 +1,7 @@
 mod Reading
 mod Standing
 mod Cutting
+mod Batches
 mod Endings
 mod Numerals
 mod Sorted

@@ -46,3 +46,22 @@ pub line_first : (rest piece later : List ℕ) (at : ℕ) → piece ≡ take at 
     → HasFirstLf rest at → rest ≡ as_line piece ++ later
 line_first rest piece later at front back first =
     first.whole ∙ ap (λ l. as_line l ++ drop (at + 1) rest) (sym front) ∙ ap (λ l. as_line piece ++ l) (sym back)
+
+-- a block in parts, of which each is read after those before it
+pub first_and_rest : (came first rest block : List ℕ) → block ≡ first ++ rest → (later : List ℕ)
+    → (came ++ first) ++ (rest ++ later) ≡ (came ++ block) ++ later
+first_and_rest came first rest block parts later =
+    sym (append_assoc (came ++ first) rest later)
+    ∙ ap (λ l. l ++ later) (append_assoc came first rest ∙ ap (λ l. came ++ l) (sym parts))
+
+pub three_are_all : (came first whole last rest block : List ℕ) → block ≡ first ++ rest → rest ≡ whole ++ last
+    → ((came ++ first) ++ whole) ++ last ≡ came ++ block
+three_are_all came first whole last rest block parts others =
+    append_assoc (came ++ first) whole last ∙ ap (λ l. (came ++ first) ++ l) (sym others)
+    ∙ append_assoc came first rest ∙ ap (λ l. came ++ l) (sym parts)
+
+pub second_and_rest : (came first whole last rest block : List ℕ) → block ≡ first ++ rest → rest ≡ whole ++ last
+    → (later : List ℕ) → ((came ++ first) ++ whole) ++ (last ++ later) ≡ (came ++ block) ++ later
+second_and_rest came first whole last rest block parts others later =
+    sym (append_assoc ((came ++ first) ++ whole) last later)
+    ∙ ap (λ l. l ++ later) (three_are_all came first whole last rest block parts others)

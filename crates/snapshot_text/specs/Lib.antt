@@ -4,3 +4,4 @@ pub mod Sound
 pub mod Reading
 pub mod Progress
 pub mod Going
+pub mod Arriving

@@ -1,19 +1,21 @@
 //! Reads the text of a snapshot, block by block.
 
 ghost use Rattle.std.specs.Prelude.{◌≡◌, ◌≤◌, ◌<◌, ◌+◌, ◌-◌, ◌^◌, ◌∷◌, ◌++◌, [], ℕ, List, length, IfOk, IfErr, OnOk};
-ghost use Rattle.std.specs.Prelude.{MatchOption};
+ghost use Rattle.std.specs.Prelude.{IfSome};
 ghost use Rattle.byte_ends.specs.Lines.{as_line, lines_of, without_cr};
-ghost use Rattle.line_reader.specs.Lines.{HasFirstLf, HasNoLf};
+ghost use Rattle.line_batches.specs.Batches.{IsBatch};
+ghost use Rattle.line_reader.specs.Lines.{HasNoLf};
 ghost use Rattle.review_ops.specs.Operation.{Operation};
 ghost use Rattle.replica_core.specs.Journal.{all_arrived};
 ghost use Rattle.snapshot_text.specs.Progress.{HasCut, HasRead, HasTaken, IsFaultIn};
 ghost use Rattle.snapshot_text.specs.Snapshot.{SaysOperations};
 
 use super::fault::SnapFault;
-use super::progress::Progress;
+use super::progress::{Progress, Stage};
 use byte_ends::Lines;
-use memchr::memchr;
+use line_batches::{Batches, first_lf, past_first_lf, past_last_lf};
 use replica_core::Gathering;
+use review_ops::Op;
 use std::alloc::Global;
 
 /// How far the text of a snapshot was read, or its first fault, after which nothing more of it is kept.
@@ -36,7 +38,7 @@ impl Blocks {
     }
 
     /// Reads the bytes that come next.
-    pub(super) fn take_block(&mut self, block: &[u8])
+    pub(super) fn take_block<B: Batches>(&mut self, batches: &B, block: &[u8])
         requires { self.old.cutter.progress.count + length block.now < 2 ^ 64 - 2 }
         ensures read { (base : List Operation) → (came : List ℕ) → HasRead base came self.old
             → HasRead base (came ++ block.now) self.new }
@@ -45,7 +47,7 @@ impl Blocks {
         if self.fault.is_some() {
             return;
         }
-        self.fault = self.cutter.take_block(block).err();
+        self.fault = self.cutter.take_block(batches, block).err();
     }
 
     /// All that was gathered, where no byte is left.
@@ -84,8 +86,51 @@ impl Cutter {
         }
     }
 
-    /// Takes the lines that end in the bytes that come next.
-    fn take_block(&mut self, block: &[u8]) -> Result<(), SnapFault>
+    /// Takes the lines that end in the bytes that come next: the first one by itself, since its beginning may be held,
+    /// and those after it at once where they are operations'.
+    fn take_block<B: Batches>(&mut self, batches: &B, block: &[u8]) -> Result<(), SnapFault>
+        requires { self.old.progress.count + length block.now < 2 ^ 64 - 2 }
+        ensures ok { OnOk result ((base : List Operation) → (came : List ℕ) → HasCut base came self.old
+            → HasCut base (came ++ block.now) self.new) }
+        ensures err { IfErr result (λ fault. (base : List Operation) → (came : List ℕ) → HasCut base came self.old
+            → (later : List ℕ) → IsFaultIn (lines_of ((came ++ block.now) ++ later)) fault) }
+        ensures few { self.new.progress.count ≤ self.old.progress.count + length block.now }
+    {
+        let (first, rest) = block.split_at(past_first_lf(block));
+        self.take_lines(first)?;
+        let (whole, last) = rest.split_at(past_last_lf(rest));
+        self.take_whole(batches, whole)?;
+        self.take_lines(last)
+    }
+
+    /// Takes whole lines, at once where they are operations'.
+    fn take_whole<B: Batches>(&mut self, batches: &B, lines: &[u8]) -> Result<(), SnapFault>
+        requires { self.old.progress.count + length lines.now < 2 ^ 64 - 2 }
+        ensures ok { OnOk result ((base : List Operation) → (came : List ℕ) → HasCut base came self.old
+            → HasCut base (came ++ lines.now) self.new) }
+        ensures err { IfErr result (λ fault. (base : List Operation) → (came : List ℕ) → HasCut base came self.old
+            → (later : List ℕ) → IsFaultIn (lines_of ((came ++ lines.now) ++ later)) fault) }
+        ensures few { self.new.progress.count ≤ self.old.progress.count + length lines.now }
+    {
+        match self.operations(batches, lines) {
+            Some(ops) => self.progress.take_all(ops),
+            None => self.take_lines(lines),
+        }
+    }
+
+    /// The operations of whole lines that come next, where they are read at once.
+    fn operations<B: Batches>(&self, batches: &B, lines: &[u8]) -> Option<Vec<Op>>
+        ensures { IfSome result (λ ops. IsBatch lines.now ops.items × (self.now.held.items ≡ [])
+            × (self.now.progress.stage ≡ Stage.Operations)) }
+    {
+        if lines.is_empty() || !self.held.is_empty() || !self.progress.is_among_operations() {
+            return None;
+        }
+        batches.operations(self.progress.gathering.allocator(), lines)
+    }
+
+    /// Takes the lines that end in the bytes that come next, one after the other.
+    fn take_lines(&mut self, block: &[u8]) -> Result<(), SnapFault>
         requires { self.old.progress.count + length block.now < 2 ^ 64 - 2 }
         ensures ok { OnOk result ((base : List Operation) → (came : List ℕ) → HasCut base came self.old
             → HasCut base (came ++ block.now) self.new) }
@@ -171,13 +216,6 @@ impl Cutter {
         }
         self.progress.take_line(line_of(self.held.as_slice()))
     }
-}
-
-/// The place of the first LF.
-fn first_lf(bytes: &[u8]) -> Option<usize>
-    ensures { MatchOption result (HasNoLf bytes.now) (HasFirstLf bytes.now) }
-{
-    memchr(b'\n', bytes)
 }
 
 /// The line of a piece without an LF: one carriage return at its end is dropped.

@@ -27,5 +27,5 @@ mod write;
 
 pub use fault::{SnapFault, WriteSnapFault};
 pub use laws::{lines_have_one_reading, snapshots_are_one, snapshots_say_their_operations};
-pub use read::{gather_onto, read_onto, read_snapshot, snapshot_of, snapshot_onto};
+pub use read::{gather_by, gather_onto, read_onto, read_snapshot, snapshot_of, snapshot_onto};
 pub use write::{write_gathered, write_snapshot};

@@ -1,7 +1,7 @@
 //! Takes the lines of a snapshot, one after the other.
 
 ghost use Rattle.std.specs.Prelude.{◌≡◌, ◌≢◌, ◌↔◌, ◌≤◌, ◌<◌, ◌+◌, ◌-◌, ◌^◌, ◌∷◌, ◌++◌, [], ℕ, List, IsTrue, IfOk};
-ghost use Rattle.std.specs.Prelude.{IfErr, MatchResult, OnOk};
+ghost use Rattle.std.specs.Prelude.{IfErr, MatchResult, OnOk, length, true};
 ghost use Rattle.review_ops.specs.Operation.{Operation};
 ghost use Rattle.op_text.specs.Spelling.{SpellsOperation};
 ghost use Rattle.replica_core.specs.Journal.{arrived, all_arrived};
@@ -13,6 +13,7 @@ use super::end_line::claimed;
 use super::fault::SnapFault;
 use op_text::{OpTextFault, read_op};
 use replica_core::Gathering;
+use review_ops::Op;
 use std::alloc::Global;
 
 /// Which line comes next.
@@ -65,6 +66,30 @@ impl Progress {
             },
             Stage::Ended => Err(SnapFault::AfterEnd),
         }
+    }
+
+    /// Whether the next line may be an operation's.
+    pub(super) fn is_among_operations(&self) -> bool
+        ensures { result ≡ true → self.now.stage ≡ Stage.Operations }
+    {
+        matches!(self.stage, Stage::Operations)
+    }
+
+    /// Takes the operations of the lines that come next.
+    pub(super) fn take_all(&mut self, ops: Vec<Op>) -> Result<(), SnapFault>
+        requires { self.old.count + length ops.items < 2 ^ 64 - 2 }
+        ensures ok { OnOk result (self.new ≡ record self.old {
+          gathering = all_arrived self.old.gathering ops.items;
+          count = self.old.count + length ops.items;
+        }) }
+        ensures err { IfErr result (λ fault. fault ≡ SnapFault.NoMemory) }
+        ensures few { self.new.count ≤ self.old.count + length ops.items }
+    {
+        for op in ops {
+            arrive(&mut self.gathering, op)?;
+            self.count += 1;
+        }
+        Ok(())
     }
 
     /// All that was gathered, where no line is left.
@@ -134,6 +159,14 @@ fn take_op(gathering: &mut Gathering, line: &[u8], number: u64) -> Result<(), Sn
         Ok(op) => op,
         Err(cause) => return Err(line_fault(number, cause)),
     };
+    arrive(gathering, op)
+}
+
+/// Takes an operation.
+fn arrive(gathering: &mut Gathering, op: Op) -> Result<(), SnapFault>
+    ensures ok { OnOk result (gathering.new ≡ arrived gathering.old op) }
+    ensures err { IfErr result (λ fault. fault ≡ SnapFault.NoMemory) }
+{
     match gathering.take(op) {
         Ok(_) => Ok(()),
         Err(_) => Err(SnapFault::NoMemory),

@@ -13,14 +13,12 @@ ghost use Rattle.snapshot_text.specs.Snapshot.{Brings, IsOutside, IsRefusedBy, C
 use super::blocks::Blocks;
 use super::fault::SnapFault;
 use byte_ends::Source;
+use line_batches::{Batches, OneByOne};
 use replica_core::{Gathering, Replica};
 use std::alloc::Global;
 
 /// The most bytes that a snapshot has: 1 GiB.
 const SNAPSHOT_LIMIT: usize = 1_073_741_824;
-
-/// How many bytes are read at once.
-const BLOCK: usize = 65_536;
 
 /// Reads a snapshot to the end of its source: the replica in which its operations have arrived in the order of their
 /// lines. It reads, refuses and costs what `read_onto` does.
@@ -92,13 +90,38 @@ pub fn gather_onto<S: Source>(gathering: Gathering, source: &mut S) -> Result<Ga
         (λ _. S.failed source.new ≡ S.failed source.old)
         (CountsSnapFault (S.failed source.old) (S.failed source.new)) }
 {
-    let Ok(mut block) = vec![in gathering.allocator(); 0u8; BLOCK] else {
+    gather_by(&OneByOne, gathering, source)
+}
+
+/// Reads a snapshot as `gather_onto` does, and the lines of its operations in batches: it reads up to a batch's size at
+/// once, and holds no more of the text than that and the beginning of a line.
+pub fn gather_by<B: Batches, S: Source>(
+    batches: &B,
+    gathering: Gathering,
+    source: &mut S,
+) -> Result<Gathering, SnapFault>
+    ensures ok { IfOk result (λ both. Brings (S.left source.old) gathering both) }
+    ensures err { IfErr result (λ fault. IsRefusedBy (S.left source.old) fault) }
+
+    // What says operations is read.
+    ensures only { (text : List ℕ) → (ops : List Operation)
+        → S.left source.old ≡ Some text → SaysOperations (lines_of text) ops
+        → MatchResult result (λ both. both ≡ all_arrived gathering ops) IsOutside }
+
+    // Unless it is refused for another reason than its text, it was read to its end.
+    ensures end { MatchResult result (λ _. IsAtEnd (S.left source.new))
+        (λ fault. IsOutside fault ⊎ IsAtEnd (S.left source.new)) }
+    ensures counted { MatchResult result
+        (λ _. S.failed source.new ≡ S.failed source.old)
+        (CountsSnapFault (S.failed source.old) (S.failed source.new)) }
+{
+    let Ok(mut block) = vec![in gathering.allocator(); 0u8; batches.size()] else {
         return Err(SnapFault::NoMemory);
     };
     let mut blocks = Blocks::onto(gathering);
     let mut seen = 0usize;
     while seen <= SNAPSHOT_LIMIT {
-        match read_block(source, block.as_mut_slice(), &mut blocks)? {
+        match read_block(batches, source, block.as_mut_slice(), &mut blocks)? {
             0 => return blocks.end(),
             count => seen += count,
         }
@@ -107,7 +130,8 @@ pub fn gather_onto<S: Source>(gathering: Gathering, source: &mut S) -> Result<Ga
 }
 
 /// Reads once, and what came. 0 is the end.
-fn read_block<S: Source>(
+fn read_block<B: Batches, S: Source>(
+    batches: &B,
     source: &mut S,
     block: &mut [u8],
     blocks: &mut Blocks,
@@ -128,7 +152,7 @@ fn read_block<S: Source>(
     let Ok(count) = source.read(block) else {
         return Err(SnapFault::ReadFault);
     };
-    blocks.take_block(block.split_at(count).0);
+    blocks.take_block(batches, block.split_at(count).0);
     Ok(count)
 }
 
@@ -162,7 +186,7 @@ pub fn snapshot_onto(replica: Replica, text: &[u8]) -> Result<Replica, SnapFault
         (λ both. both ≡ all_arrived replica ops) (λ fault. fault ≡ SnapFault.NoMemory) }
 {
     let mut blocks = Blocks::onto(Gathering::onto(replica));
-    blocks.take_block(text);
+    blocks.take_block(&OneByOne, text);
     match blocks.end() {
         Ok(gathering) => joined(gathering),
         Err(fault) => Err(fault),

@@ -26,7 +26,8 @@ pub loop-seen-init : goal.loop-seen-init
 loop-seen-init g c = record {
   came = [];
   read = Consumes-nil (g.F.Feed.left c.args.feed.now);
-  seen = sym (ap length (append-nil header_line) ∙ header_length);
+  seen = omega (arith, ap length (append-nil header_line), header_length);
+  exact = λ few. sym (ap length (append-nil header_line) ∙ header_length);
   has = subst (λ l. HasRead l c.new-reading.result.gathering c.new-reading.result.held.items c.new-reading.result.next)
       (sym (append-nil header_line)) c.new-reading.ensures;
   some = refl;
@@ -37,10 +38,12 @@ loop-seen-init g c = record {
 pub loop-seen-preserved : goal.loop-seen-preserved
 loop-seen-preserved g c =
     let before = c.loop-seen.invariant in
+    let exactly = before.exact (omega (arith, c.loop-seen-test.true)) in
     let read = c.in_ok-count.ensures.read in record {
       came = before.came ++ read.0;
       read = Consumes-trans _ _ _ before.came read.0 before.read read.2;
-      seen = omega (arith, before.seen, read.1, length-append header_line (before.came ++ read.0), length-append header_line before.came, length-append before.came read.0);
+      seen = omega (arith, exactly, read.1, c.saturating_add-seen.ensures, length-append header_line (before.came ++ read.0), length-append header_line before.came, length-append before.came read.0);
+      exact = λ few. omega (arith, few, exactly, read.1, c.saturating_add-seen.ensures, length-append header_line (before.came ++ read.0), length-append header_line before.came, length-append before.came read.0);
       has = subst
           (λ l. HasRead l c.read_block.new.self.gathering c.read_block.new.self.held.items c.read_block.new.self.next)
           (append_assoc header_line before.came read.0) (read.3 (header_line ++ before.came) before.has);
@@ -64,23 +67,25 @@ returns-in_err-count-clause-refused g c =
 pub found-requires : goal.found-requires
 found-requires g c =
     let before = c.loop-seen.invariant in
+    let exactly = before.exact (omega (arith, c.loop-seen-test.true)) in
     let read = c.in_ok-count.ensures.read in
     let few : length c.read_block.new.self.held.items ≤ length ((header_line ++ before.came) ++ read.0) =
     held_within ((header_line ++ before.came) ++ read.0) c.read_block.new.self.gathering c.read_block.new.self.held.items c.read_block.new.self.next (read.3 (header_line ++ before.came) before.has) in
-    omega (arith, few, read.1, c.in-0.is, before.seen, length-append (header_line ++ before.came) read.0)
+    omega (arith, few, read.1, c.in-0.is, exactly, length-append (header_line ++ before.came) read.0)
 
 pub returns-in-0-clause-found : goal.returns-in-0-clause-found
 returns-in-0-clause-found g c =
     let before = c.loop-seen.invariant in
+    let exactly = before.exact (omega (arith, c.loop-seen-test.true)) in
     let read = c.in_ok-count.ensures.read in
-    let some : 0 < length c.as_mut_slice.result.now = omega (arith, c.as_mut_slice.ensures.len, before.some, c.in_ok-piece.ensures.len) in
+    let some : 0 < length c.as_mut_slice.result.now = omega (arith, c.as_mut_slice.ensures.len, before.some, c.in_ok-piece.ensures.len, c.size.ensures.0) in
     IfOk-weaker c.found.result _ _ (λ found finds. Consumes-whole (g.F.Feed.left c.args.feed.now) (g.F.Feed.left c.read_block.new.feed) (before.came ++ read.0)
     (λ text. IsFoundText (header_line ++ text) found)
     (Consumes-trans _ _ _ before.came read.0 before.read read.2)
     (c.in_ok-count.ensures.end c.in-0.is some)
     (finds (header_line ++ (before.came ++ read.0))
     (subst (λ l. HasRead l c.read_block.new.self.gathering c.read_block.new.self.held.items c.read_block.new.self.next) (append_assoc header_line before.came read.0) (read.3 (header_line ++ before.came) before.has))
-    (omega (arith, before.seen, read.1, c.in-0.is, length-append header_line (before.came ++ read.0), length-append header_line before.came, length-append before.came read.0)))) c.found.ensures.found
+    (omega (arith, exactly, read.1, c.in-0.is, length-append header_line (before.came ++ read.0), length-append header_line before.came, length-append before.came read.0)))) c.found.ensures.found
 
 pub returns-in-0-clause-refused : goal.returns-in-0-clause-refused
 returns-in-0-clause-refused g c = IfErr-weaker c.found.result _ _ (λ fault is. subst (λ f. IfSome (g.F.Feed.left c.args.feed.now) (λ text. IsJournalRefusal (header_line ++ text) f)) (sym is) (unknown (g.F.Feed.left c.args.feed.now))) c.found.ensures.refused

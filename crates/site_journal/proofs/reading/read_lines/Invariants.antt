@@ -1,4 +1,4 @@
-use Rattle.std.proofs.Common.{◌≡◌, ◌+◌, ◌-◌, ◌++◌, List, ℕ, length, vec_len}
+use Rattle.std.proofs.Common.{◌≡◌, ◌≤◌, ◌+◌, ◌-◌, ◌++◌, List, ℕ, length, vec_len}
 use Rattle.std.specs.Io.KnownBytes.{Consumes}
 use Rattle.site_journal.specs.Fault.{most_text}
 use Rattle.site_journal.specs.Reading.{HasRead}
@@ -10,7 +10,8 @@ abbrev pub invariant-loop-seen : goal.invariant-loop-seen
 invariant-loop-seen g l = record {
   came : List ℕ;
   read : Consumes (g.F.Feed.left l.initial.feed) (g.F.Feed.left l.feed) came;
-  seen : l.seen ≡ length (header_line ++ came);
+  seen : l.seen ≤ length (header_line ++ came);
+  exact : l.seen ≤ most_text → l.seen ≡ length (header_line ++ came);
   has : HasRead (header_line ++ came) l.reading.gathering l.reading.held.items l.reading.next;
   some : vec_len l.piece ≡ vec_len l.initial.piece;
   same : g.F.Feed.image l.feed ≡ g.F.Feed.image l.initial.feed;

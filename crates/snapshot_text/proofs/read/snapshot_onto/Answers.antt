@@ -2,7 +2,7 @@ use Rattle.std.proofs.Common.{◌≡◌, ◌∙◌, [], List, ap, subst, refl}
 use Rattle.byte_ends.specs.Lines.{lines_of}
 use Rattle.review_ops.specs.Operation.{Operation}
 use Rattle.replica_core.specs.Journal.{all_arrived}
-use Rattle.snapshot_text.specs.Snapshot.{IsOfText, IsRefusal, SaysOperations}
+use Rattle.snapshot_text.specs.Snapshot.{SaysOperations}
 use Rattle.snapshot_text.specs.declared.fault.SnapFault.TheVariants.{NoMemory}
 use Rattle.snapshot_text.proofs.Endings.{joined_both, joined_ok}
 use Rattle.snapshot_text.proofs.OneReading.{one_reading}

@@ -7,13 +7,13 @@ use Rattle.snapshot_text.proofs.Cutting.{still_faulty, cut_or_faulty}
 use Rattle.snapshot_text.proofs.blocks.Blocks.take_block.Goals as goal
 
 pub returns-then-is_some-clause-read : goal.returns-then-is_some-clause-read
-returns-then-is_some-clause-read c = λ base came read.
+returns-then-is_some-clause-read g c = λ base came read.
     let old = c.args.self.now in
     still_faulty old.fault (HasCut base came old.cutter) (HasCut base (came ++ c.args.block.now) old.cutter) came c.args.block.now
     (sym c.is_some.ensures ∙ c.if-is_some.true) read
 
 pub returns-clause-read : goal.returns-clause-read
-returns-clause-read c = λ base came read.
+returns-clause-read g c = λ base came read.
     let old = c.args.self.now in
     let bytes = came ++ c.args.block.now in
     subst (λ f. MatchOption f (HasCut base bytes c.take_block.new.self) (λ fault. (later : List ℕ) → IsFaultIn (lines_of (bytes ++ later)) fault)) (sym c.err.ensures.value)

@@ -1,45 +1,53 @@
-use Rattle.std.proofs.Common.{◌+◌, refl, drop, arith}
-use Rattle.std.proofs.lemmas.Result.{err_from_is_err_and, on_ok_weaker}
-use Rattle.byte_ends.specs.Lines.{as_line, lines_of}
+use Rattle.std.proofs.Common.{◌++◌, subst}
+use Rattle.std.proofs.lemmas.Result.{err_from_is_err_and, on_ok_weaker, IfErr-weaker}
+use Rattle.byte_ends.specs.Lines.{lines_of}
+use Rattle.snapshot_text.specs.Going.{first_and_rest, second_and_rest, three_are_all}
 use Rattle.snapshot_text.specs.Progress.{HasCut, IsFaultIn}
-use Rattle.snapshot_text.specs.Going.{goes_start, goes_on, goes_out, goes_wrong, line_first}
 use Rattle.snapshot_text.proofs.blocks.Cutter.take_block.Goals as goal
 
-pub loop-at-init : goal.loop-at-init
-loop-at-init c = record {
-  goes = λ base. goes_start (λ came. HasCut base came c.args.self.now) c.args.block.now;
-  few = omega arith;
-}
-
-pub returns-in_err-take_piece-clause-err : goal.returns-in_err-take_piece-clause-err
-returns-in_err-take_piece-clause-err c =
+pub returns-in_err-take_lines-clause-err : goal.returns-in_err-take_lines-clause-err
+returns-in_err-take_lines-clause-err g c =
     let p = err_from_is_err_and c.from_residual.result c.from_residual.ensures.1 in
-    let later = drop (c.in-Some.at + 1) c.loop-at.rest.now in
-    rw (p.1, p.2) (λ base. goes_wrong
-    (λ came. HasCut base came c.args.self.now)
-    (λ came. HasCut base came c.loop-at.self)
-    (λ t. IsFaultIn (lines_of t) c.in_err-take_piece.field-0.0)
-    c.args.block.now c.loop-at.rest.now (as_line c.split_at.result.0.now) later (c.loop-at.invariant.goes base)
-    (line_first c.loop-at.rest.now c.split_at.result.0.now later c.in-Some.at c.split_at.ensures.front refl c.in-Some.ensures)
-    (c.in_err-take_piece.ensures.err base))
+    let first = c.split_at.result.0.now in
+    let rest = c.split_at.result.1.now in
+    rw (p.1, p.2) (λ base came has later.
+    subst (λ l. IsFaultIn (lines_of l) c.in_err-take_lines.field-0.0)
+    (first_and_rest came first rest c.args.block.now c.split_at.ensures.by_index.0 later)
+    (c.in_err-take_lines.ensures.err base came has (rest ++ later)))
 
-pub loop-at-preserved : goal.loop-at-preserved
-loop-at-preserved c = record {
-  goes = λ base. goes_on
-      (λ came. HasCut base came c.args.self.now)
-      (λ came. HasCut base came c.loop-at.self)
-      (λ came. HasCut base came c.take_piece.new.self)
-      c.args.block.now c.loop-at.rest.now c.split_at.result.0.now c.split_at-in-Some.result.1.now (c.loop-at.invariant.goes base)
-      (line_first c.loop-at.rest.now c.split_at.result.0.now c.split_at-in-Some.result.1.now c.in-Some.at c.split_at.ensures.front c.split_at-in-Some.ensures.back c.in-Some.ensures)
-      (c.in_ok-take_piece.ensures.ok base);
-  few = omega (arith, c.loop-at.invariant.few, c.take_piece.ensures.few, c.split_at-in-Some.ensures.back_len, c.in-Some.ensures.within);
-}
+pub returns-in_err-take_whole-clause-err : goal.returns-in_err-take_whole-clause-err
+returns-in_err-take_whole-clause-err g c =
+    let p = err_from_is_err_and c.from_residual-in_err-take_whole.result c.from_residual-in_err-take_whole.ensures.1 in
+    let first = c.split_at.result.0.now in
+    let rest = c.split_at.result.1.now in
+    let whole = c.split_at-2.result.0.now in
+    let last = c.split_at-2.result.1.now in
+    rw (p.1, p.2) (λ base came has later.
+    subst (λ l. IsFaultIn (lines_of l) c.in_err-take_whole.field-0.0)
+    (second_and_rest came first whole last rest c.args.block.now c.split_at.ensures.by_index.0 c.split_at-2.ensures.by_index.0 later)
+    (c.in_err-take_whole.ensures.err base (came ++ first) (c.in_ok-take_lines.ensures.ok base came has) (last ++ later)))
 
 pub returns-clause-ok : goal.returns-clause-ok
-returns-clause-ok c = on_ok_weaker c.hold.result
-    (λ step base. goes_out
-    (λ came. HasCut base came c.args.self.now)
-    (λ came. HasCut base came c.loop-at.self)
-    (λ came. HasCut base came c.hold.new.self)
-    c.args.block.now c.loop-at.rest.now (c.loop-at.invariant.goes base) (step base))
-    c.hold.ensures.ok
+returns-clause-ok g c =
+    let first = c.split_at.result.0.now in
+    let whole = c.split_at-2.result.0.now in
+    let last = c.split_at-2.result.1.now in
+    on_ok_weaker c.take_lines-2.result
+    (λ step base came has.
+    subst (λ l. HasCut base l c.take_lines-2.new.self)
+    (three_are_all came first whole last c.split_at.result.1.now c.args.block.now c.split_at.ensures.by_index.0 c.split_at-2.ensures.by_index.0)
+    (step base ((came ++ first) ++ whole)
+    (c.in_ok-take_whole.ensures.ok base (came ++ first) (c.in_ok-take_lines.ensures.ok base came has))))
+    c.take_lines-2.ensures.ok
+
+pub returns-clause-err : goal.returns-clause-err
+returns-clause-err g c =
+    let first = c.split_at.result.0.now in
+    let whole = c.split_at-2.result.0.now in
+    let last = c.split_at-2.result.1.now in
+    IfErr-weaker c.take_lines-2.result _ _ (λ fault fails base came has later.
+    subst (λ l. IsFaultIn (lines_of (l ++ later)) fault)
+    (three_are_all came first whole last c.split_at.result.1.now c.args.block.now c.split_at.ensures.by_index.0 c.split_at-2.ensures.by_index.0)
+    (fails base ((came ++ first) ++ whole)
+    (c.in_ok-take_whole.ensures.ok base (came ++ first) (c.in_ok-take_lines.ensures.ok base came has)) later))
+    c.take_lines-2.ensures.err

@@ -5,7 +5,7 @@ use Rattle.byte_ends.specs.Lines.{lines_of}
 use Rattle.replica_core.specs.Journal.{all_arrived}
 use Rattle.snapshot_text.specs.Snapshot.{SaysOperations, most_bytes}
 use Rattle.snapshot_text.proofs.Endings.{all_came, refused_by, at_end_anyway, only_reading, outside_only, reading_counts, known_text, too_much}
-use Rattle.snapshot_text.proofs.read.gather_onto.Goals as goal
+use Rattle.snapshot_text.proofs.read.gather_by.Goals as goal
 
 pub loop-seen-init : goal.loop-seen-init
 loop-seen-init g c = record {
@@ -15,7 +15,8 @@ loop-seen-init g c = record {
   has = c.onto-blocks.ensures.read;
   few = omega (arith, c.onto-blocks.ensures.count);
   most = omega arith;
-  some = c.in-Ok.ensures.len;
+  some = omega (arith, c.in-Ok.ensures.len, c.size.ensures.0);
+  large = omega (arith, c.in-Ok.ensures.len, c.size.ensures.1);
   counted = refl;
 }
 
@@ -29,8 +30,9 @@ loop-seen-preserved g c =
       seen = omega (arith, before.seen, part.1, length-append before.came part.0);
       has = part.3 c.args.gathering before.came before.has;
       few = omega (arith, before.few, c.in_ok-count.ensures.few);
-      most = omega (arith, c.loop-seen-test.true, c.in_ok-count.ensures.most, c.as_mut_slice.ensures.len, before.some);
+      most = omega (arith, c.loop-seen-test.true, c.in_ok-count.ensures.most, c.as_mut_slice.ensures.len, before.large);
       some = before.some;
+      large = before.large;
       counted = c.in_ok-count.ensures.counted ∙ before.counted;
     }
 

@@ -2,7 +2,7 @@ use Rattle.std.proofs.Common.{◌+◌, ◌≤◌, List, length}
 use Rattle.review_ops.specs.Operation.{Operation}
 use Rattle.snapshot_text.specs.Progress.{HasCut}
 use Rattle.snapshot_text.specs.Going.{Goes}
-use Rattle.snapshot_text.proofs.blocks.Cutter.take_block.Given as goal
+use Rattle.snapshot_text.proofs.blocks.Cutter.take_lines.Given as goal
 
 -- some of the block was read, and no more lines were taken than it had bytes
 abbrev pub invariant-loop-at : goal.invariant-loop-at

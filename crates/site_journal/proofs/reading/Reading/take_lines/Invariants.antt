@@ -1,7 +1,7 @@
 use Rattle.std.proofs.Common.{length}
 use Rattle.site_journal.specs.Reading.{HasRead}
 use Rattle.snapshot_text.specs.Going.{Goes}
-use Rattle.site_journal.proofs.reading.Reading.take_block.Given as goal
+use Rattle.site_journal.proofs.reading.Reading.take_lines.Given as goal
 
 -- some of the block was read
 abbrev pub invariant-loop-at : goal.invariant-loop-at

@@ -1,8 +1,8 @@
-use Rattle.std.proofs.Common.{◌≡◌, ◌≤◌, ◌+◌, ◌-◌, List, ℕ, length, vec_len}
+use Rattle.std.proofs.Common.{◌≡◌, ◌<◌, ◌≤◌, ◌+◌, ◌-◌, List, ℕ, length, vec_len}
 use Rattle.std.specs.Io.KnownBytes.{Consumes}
 use Rattle.snapshot_text.specs.Snapshot.{most_bytes}
 use Rattle.snapshot_text.specs.Progress.{HasRead}
-use Rattle.snapshot_text.proofs.read.gather_onto.Given as goal
+use Rattle.snapshot_text.proofs.read.gather_by.Given as goal
 
 -- what came was read, and no read failed
 abbrev pub invariant-loop-seen : goal.invariant-loop-seen
@@ -12,8 +12,9 @@ invariant-loop-seen g l = record {
   seen : l.seen ≡ length came;
   has : HasRead l.fn.gathering came l.blocks;
   few : l.blocks.cutter.progress.count ≤ l.seen;
-  most : l.seen ≤ most_bytes + 65536;
-  some : vec_len l.block ≡ 65536;
+  most : l.seen ≤ most_bytes + 1048576;
+  some : 0 < vec_len l.block;
+  large : vec_len l.block ≤ 1048576;
   counted : g.S.Source.failed l.source ≡ g.S.Source.failed l.initial.source;
 }
 

@@ -2,7 +2,7 @@ use Rattle.std.proofs.Common.{refl, subst}
 use Rattle.std.specs.Prelude.{IfSome}
 use Rattle.site_journal.specs.Reading.{IsFoundText}
 use Rattle.site_journal.proofs.Starting.{fresh_opens, lines_open, lines_fail}
-use Rattle.site_journal.proofs.opening.open_tape.Goals as goal
+use Rattle.site_journal.proofs.opening.open_tape_by.Goals as goal
 
 pub returns-in_err-settle-in-Lines-clause-failed : goal.returns-in_err-settle-in-Lines-clause-failed
 returns-in_err-settle-in-Lines-clause-failed g c = λ failed.

@@ -1,0 +1,74 @@
+//! How the operations of many lines are read at once.
+
+ghost use Rattle.std.specs.Prelude.{◌<◌, ◌≤◌, IfSome};
+ghost use Rattle.line_batches.specs.Batches.{IsBatch};
+
+use super::reading::{read_in_turn, read_parts};
+use review_ops::Op;
+use std::alloc::Global;
+use std::thread::Threads;
+
+/// How many bytes are read at once where lines are read one by one: 64 KiB.
+const SMALL: usize = 65_536;
+
+/// How many bytes are read at once where they are read side by side: 1 MiB.
+const LARGE: usize = 1_048_576;
+
+/// The fewest bytes that are worth threads: 128 KiB.
+const LEAST: usize = 131_072;
+
+/// In how many parts lines are read side by side.
+const PARTS: usize = 4;
+
+/// Reads the operations of many lines at once, or leaves them to be read one by one.
+pub trait Batches {
+    /// How many bytes it wants at once, from 1 to 1 MiB.
+    fn size(&self) -> usize
+        ensures { (0 < result) × (result ≤ 1048576) };
+
+    /// The operations of whole lines, in their order. `None` where a line isn't whole, is longer than 524,288 bytes, or
+    /// isn't an operation's from its first brace to its last; where memory is refused; or where they are left to be read
+    /// one by one.
+    fn operations(&self, alloc: Global, lines: &[u8]) -> Option<Vec<Op>>
+        ensures { IfSome result (λ ops. IsBatch lines.now ops.items) };
+}
+
+/// Leaves all lines to be read one by one.
+#[derive(Clone, Copy)]
+pub struct OneByOne;
+
+impl Batches for OneByOne {
+    fn size(&self) -> usize {
+        SMALL
+    }
+
+    fn operations(&self, _alloc: Global, _lines: &[u8]) -> Option<Vec<Op>> {
+        None
+    }
+}
+
+/// Reads lines by four threads side by side.
+#[derive(Drop)]
+pub struct SideBySide<R: Drop> {
+    rt: R,
+}
+
+impl<R: Threads + Drop> SideBySide<R> {
+    /// By this thread and three that `rt` starts.
+    pub fn new(rt: R) -> SideBySide<R> {
+        SideBySide { rt }
+    }
+}
+
+impl<R: Threads + Drop> Batches for SideBySide<R> {
+    fn size(&self) -> usize {
+        LARGE
+    }
+
+    fn operations(&self, alloc: Global, lines: &[u8]) -> Option<Vec<Op>> {
+        if lines.len() < LEAST {
+            return read_in_turn(alloc, lines);
+        }
+        read_parts(&self.rt, alloc, lines, PARTS)
+    }
+}

@@ -1,0 +1,12 @@
+use Rattle.std.proofs.Common.{◌≡◌, ◌+◌, ◌++◌, length}
+use Rattle.replica_core.specs.Journal.{all_arrived}
+use Rattle.snapshot_text.proofs.progress.Progress.take_all.Given as goal
+
+-- those that were handed out have arrived and are counted, and the others are left
+abbrev pub invariant-loop-op : goal.invariant-loop-op
+invariant-loop-op l =
+    (l.self ≡ record l.initial.self {
+      gathering = all_arrived l.initial.self.gathering l.yielded;
+      count = l.initial.self.count + length l.yielded;
+    })
+    × (l.fn.ops.items ≡ l.yielded ++ l.op-iterator.rest.items)
