@@ -83,7 +83,7 @@ fn main(rt: HostRuntime) -> ExitCode {
 /// Runs a command over files. Answers the status.
 fn run<R, E>(rt: R, alloc: Global, command: &Command<'_>, errors: &mut E) -> u8
 where
-    R: Input + Print + Files + Net<Stream = TcpStream> + Clock + Threads + Sync,
+    R: Input + Print + Files + Net<Stream = TcpStream> + Clock + Threads,
     R: AllocGlobal + Copy + Drop,
     E: Drain,
 {

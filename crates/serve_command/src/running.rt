@@ -73,7 +73,7 @@ where
 }
 
 /// A site that begins with what a journal says on a tape and with what was loaded, as `begin` does.
-fn begun_on<'a, R: Threads + Sync + Drop, T: Tape + Drop, E: Drain>(
+fn begun_on<'a, R: Threads + Drop, T: Tape + Drop, E: Drain>(
     rt: R,
     alloc: Global,
     tape: T,
