@@ -1,9 +1,8 @@
 -- How lines of operations are put together.
-use Rattle.std.proofs.Common.{◌≡◌, ◌+◌, ℕ, List, [], ◌∷◌, ◌++◌, refl, sym, ap, ◌∙◌, append-nil, take, drop}
+use Rattle.std.proofs.Common.{ℕ, List, [], ◌∷◌, ◌++◌, sym, ap, ◌∙◌, append-nil}
 use Rattle.std.specs.Prelude.{flat_map}
 use Rattle.std.proofs.lemmas.Grind.{flat_map-append}
 use Rattle.byte_ends.specs.Lines.{as_line}
-use Rattle.line_reader.specs.Lines.{HasFirstLf}
 use Rattle.review_ops.specs.Operation.{Operation}
 use Rattle.line_batches.specs.Batches.{ArePlainLines, IsBatch, IsPlainLine}
 
@@ -27,9 +26,3 @@ batch-append front back ops more first second = (
 -- a line is a batch
 pub one_line : (piece : List ℕ) (op : Operation) → IsPlainLine piece op → IsBatch (as_line piece) (op ∷ [])
 one_line piece op is = (piece ∷ [], sym (append-nil (as_line piece)), (is, tt))
-
--- bytes begin with the line that ends at their first LF
-pub line_first : (rest piece later : List ℕ) (at : ℕ) → piece ≡ take at rest → later ≡ drop (at + 1) rest
-    → HasFirstLf rest at → rest ≡ as_line piece ++ later
-line_first rest piece later at front back first =
-    first.whole ∙ ap (λ l. as_line l ++ drop (at + 1) rest) (sym front) ∙ ap (λ l. as_line piece ++ l) (sym back)

@@ -1,6 +1,7 @@
 -- Lines as they come from a source. A line ends at its LF; one carriage return before that is dropped.
 use Rattle.std.specs.Prelude.{◌≡◌, ◌≢◌, ◌≤◌, ◌<◌, ◌+◌, ℕ, Bool, true, false, List, [], ◌++◌, Result, Ok, Err, length}
 use Rattle.std.specs.Prelude.{take, drop, All}
+use Rattle.std.proofs.Common.{sym, ap, ◌∙◌}
 use Rattle.byte_ends.specs.Lines.{as_line, without_cr}
 use Rattle.byte_ends.specs.declared.faults.BytesFault.{BytesFault}
 use Rattle.byte_ends.specs.declared.faults.BytesFault.TheVariants.{TooLong, ReadFault, NoMemory}
@@ -17,6 +18,12 @@ pub record HasFirstLf (bytes : List ℕ) (at : ℕ) : Type 0 where
   pub within : at < length bytes
   pub before : HasNoLf (take at bytes)
   pub whole : bytes ≡ as_line (take at bytes) ++ drop (at + 1) bytes
+
+-- bytes begin with the line that ends at their first LF
+pub line_first : (rest piece later : List ℕ) (at : ℕ) → piece ≡ take at rest → later ≡ drop (at + 1) rest
+    → HasFirstLf rest at → rest ≡ as_line piece ++ later
+line_first rest piece later at front back first =
+    first.whole ∙ ap (λ l. as_line l ++ drop (at + 1) rest) (sym front) ∙ ap (λ l. as_line piece ++ l) (sym back)
 
 -- what a reader of lines shows: how long a line may be, the line that it handed out last, and what it read past that
 pub record Reading : Type 0 where

@@ -17,7 +17,8 @@ use Rattle.gossip_line.specs.declared.pull.Pulled.{Pulled}
 use Rattle.line_reader.specs.Lines.{line_limit}
 use Rattle.record_pull.specs.Pulling.{Comes, Gathers, most_rounds}
 use Rattle.replica_core.specs.Journal.{arrived, all_arrived, has}
-use Rattle.replica_core.specs.JournalLaws.{IsPartOf, has-all_arrived, has-first, has-later, same_operation_cases}
+use Rattle.replica_core.specs.JournalLaws.{IsPartOf, all_arrived-append, has-all_arrived, has-first, has-later}
+use Rattle.replica_core.specs.JournalLaws.{same_operation_cases}
 use Rattle.review_ops.specs.Operation.{Operation}
 use Rattle.snapshot_text.specs.Sound.{AreSoundOperations, IsSound}
 
@@ -33,11 +34,6 @@ pub sound-append : (ops others : List Operation) → AreSoundOperations ops → 
     → AreSoundOperations (ops ++ others)
 sound-append [] others sound more = more
 sound-append (op ∷ ops) others sound more = (sound.0, sound-append ops others sound.1 more)
-
-all_arrived-append : (journal ops others : List Operation)
-    → all_arrived journal (ops ++ others) ≡ all_arrived (all_arrived journal ops) others
-all_arrived-append journal [] others = refl
-all_arrived-append journal (op ∷ ops) others = all_arrived-append (arrived journal op) ops others
 
 -- ---- the operations of all rounds
 

@@ -149,3 +149,9 @@ has-take (suc n) (x ∷ ops) op h = elim (same_operation_cases x (take n ops) op
   | inl same ↦ ap (has (x ∷ ops)) (sym same) ∙ has-first x ops
   | inr later ↦ has-later x ops op (has-take n ops op later)
 ]
+
+-- operations that come in two parts arrive as the whole
+pub all_arrived-append : (journal ops more : List Operation)
+    → all_arrived journal (ops ++ more) ≡ all_arrived (all_arrived journal ops) more
+all_arrived-append journal [] more = refl
+all_arrived-append journal (op ∷ ops) more = all_arrived-append (arrived journal op) ops more

@@ -197,7 +197,7 @@ pub held_within : (came journal held : _) (next : ℕ) → HasRead came journal 
 held_within came journal held next read =
     omega (arith, ap length read.whole, length-append header_line (whole_lines read.pieces ++ held), length-append (whole_lines read.pieces) held)
 
--- ---- what is where the first line should
+-- ---- what is where the first line should be
 
 pub front_is_fresh : (head front header : List ℕ) → header ≡ header_line → front ≡ take (length head) header
     → length head ≤ 13 → (head ≡ header → ⊥) → head ≡ front → IsFresh head

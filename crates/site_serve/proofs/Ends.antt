@@ -3,8 +3,9 @@ use Rattle.std.proofs.Common.{◌≡◌, ◌∙◌, ◌∷◌, ◌++◌, [], tru
 use Rattle.std.proofs.Common.{append_assoc, drop, take}
 use Rattle.std.specs.Prelude.{IfOk, flat_map}
 use Rattle.logbook.specs.Pages.{Book}
-use Rattle.replica_core.specs.Journal.{all_arrived, arrived, has}
-use Rattle.replica_core.specs.JournalLaws.{IsPartOf, has-all_arrived, has-append_cases, has-append_left, has-append_right}
+use Rattle.replica_core.specs.Journal.{all_arrived, has}
+use Rattle.replica_core.specs.JournalLaws.{IsPartOf, all_arrived-append, has-all_arrived, has-append_cases}
+use Rattle.replica_core.specs.JournalLaws.{has-append_left, has-append_right}
 use Rattle.review_ops.specs.Operation.{Operation}
 use Rattle.review_ops.specs.Timestamp.{Timestamp}
 use Rattle.site_ledger.specs.Keeping.{Entries, kept_ops, published_ops}
@@ -14,11 +15,6 @@ use Rattle.site_serve.specs.declared.setup.ServeFault.{ServeFault}
 use Rattle.site_serve.specs.declared.setup.Served.{Served}
 use Rattle.site_shared.specs.Publishes.{arrive}
 use Rattle.site_serve.proofs.Held.{taken_on}
-
-all_arrived-append : (journal ops more : List Operation)
-    → all_arrived journal (ops ++ more) ≡ all_arrived (all_arrived journal ops) more
-all_arrived-append journal [] more = refl
-all_arrived-append journal (op ∷ ops) more = all_arrived-append (arrived journal op) ops more
 
 -- publishes arrive as their operations do, one after the other
 pub arrived_in_turn : (journal : List Operation) (later : List (List Operation))

@@ -34,17 +34,26 @@ found_at seats place now within =
     slice_get-get_or (slice_set seats place now) place now (subst (λ n. place < n) (sym (length-set seats place now)) within)
     ∙ ap Some (get_or-set_same seats place now now within)
 
--- the seat at a place is that of who was found there, and so is what is left at that place
+-- what holds of what is left of who was found at a place holds of what is found there then
+pub seat_found : {S : Type 0} (seats : List (Option S)) (place : ℕ) (before now : Option S) (one : S)
+    (P : Option S → Type 0) → true ≡ ltb place (length seats) → before ≡ get_or seats place before
+    → slice_get seats place ≡ Some (Some one) → (before ≡ Some one → P now)
+    → (seat : Option S) × (slice_get (slice_set seats place now) place ≡ Some seat) × P seat
+seat_found seats place before now one P is value has own =
+    let within : place < length seats = ltb-true place (length seats) (sym is) in
+    let there : slice_get seats place ≡ Some before = slice_get-get_or seats place before within ∙ ap Some (sym value) in
+    (now, found_at seats place now within, own (same_seat (slice_get seats place) before one there has))
+
+-- the same where somebody is left at that place
 pub seated_own : {S : Type 0} (seats : List (Option S)) (place : ℕ) (before now : Option S) (one : S)
     (Ok Err : S → Type 0) → true ≡ ltb place (length seats) → before ≡ get_or seats place before
     → slice_get seats place ≡ Some (Some one)
     → (before ≡ Some one → (after : S) × (now ≡ Some after) × Ok after × Err after)
     → (x : S) × (slice_get (slice_set seats place now) place ≡ Some (Some x)) × Ok x × Err x
 seated_own seats place before now one Ok Err is value has own =
-    let within : place < length seats = ltb-true place (length seats) (sym is) in
-    let there : slice_get seats place ≡ Some before = slice_get-get_or seats place before within ∙ ap Some (sym value) in
-    let left = own (same_seat (slice_get seats place) before one there has) in
-    (left.0, found_at seats place now within ∙ ap Some left.1, left.2, left.3)
+    let left = seat_found seats place before now one (λ seat. (after : _) × (seat ≡ Some after) × Ok after × Err after)
+    is value has own in
+    (left.2.0, left.1 ∙ ap Some left.2.1, left.2.2, left.2.3)
 
 -- who doesn't leave goes on with the work at its place
 moved : (work : Work) (old new last : List ℕ) (ends ending : Bool) → last ≡ new → ending ≡ ends
@@ -73,16 +82,6 @@ seat_goes_on outbox_of ends work seat one mine after last is own stays goes outb
     seat_after outbox_of ends work one after last stays
     (subst (λ s. GoesOnWith work (outbox_of s) (outbox_of after) (ends after)) (same_one seat one mine is own) goes)
     outbox ending
-
--- what holds of what is left of who was found at a place holds of what is found there then
-pub seat_found : {S : Type 0} (seats : List (Option S)) (place : ℕ) (before now : Option S) (one : S)
-    (P : Option S → Type 0) → true ≡ ltb place (length seats) → before ≡ get_or seats place before
-    → slice_get seats place ≡ Some (Some one) → (before ≡ Some one → P now)
-    → (seat : Option S) × (slice_get (slice_set seats place now) place ≡ Some seat) × P seat
-seat_found seats place before now one P is value has own =
-    let within : place < length seats = ltb-true place (length seats) (sym is) in
-    let there : slice_get seats place ≡ Some before = slice_get-get_or seats place before within ∙ ap Some (sym value) in
-    (now, found_at seats place now within, own (same_seat (slice_get seats place) before one there has))
 
 -- the others stay as they are
 pub others_stay : {X : Type 0} (seats : List X) (place other : ℕ) (now : X) → other ≢ place

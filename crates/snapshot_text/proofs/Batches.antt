@@ -6,8 +6,7 @@ use Rattle.byte_ends.specs.Lines.{as_line, lines_of, without_cr}
 use Rattle.line_batches.specs.Batches.{ArePlainLines, IsBatch, IsPlainLine}
 use Rattle.review_ops.specs.Operation.{Operation}
 use Rattle.replica_core.specs.Journal.{all_arrived, arrived}
-use Rattle.replica_core.specs.JournalLaws.{all_arrived-push}
-use Rattle.snapshot_text.specs.Arriving.{all_arrived-append}
+use Rattle.replica_core.specs.JournalLaws.{all_arrived-append, all_arrived-push}
 use Rattle.snapshot_text.specs.Progress.{HasCut, HasTaken, Stands}
 use Rattle.snapshot_text.specs.Snapshot.{AreOperationLines, BeginsWith, IsNoEndLine}
 use Rattle.snapshot_text.specs.declared.blocks.Cutter.{Cutter}

@@ -1,9 +1,8 @@
--- How far a block of bytes was read, line by line: R says how all before the block stands, and S how it stands with what
--- was read of the block.
-use Rattle.std.specs.Prelude.{◌≡◌, ◌+◌, ℕ, List, [], ◌++◌, take, drop}
+-- How far a block of bytes was read, line by line: R says how all before the block stands, and S how it stands with
+-- what was read of the block.
+use Rattle.std.specs.Prelude.{◌≡◌, ℕ, List, [], ◌++◌}
 use Rattle.std.proofs.Common.{refl, sym, ap, ◌∙◌, subst, append_assoc, append-nil}
 use Rattle.byte_ends.specs.Lines.{as_line}
-use Rattle.line_reader.specs.Lines.{HasFirstLf}
 
 pub record Goes (R S : List ℕ → Type 0) (block rest : List ℕ) : Type 0 where
   pub done : List ℕ
@@ -41,11 +40,6 @@ goes_wrong R S F block rest piece rest' goes is fails came r later =
     ∙ ap (λ l. came ++ l) (sym goes.whole)
     )
     ) (fails (came ++ goes.done) (goes.reads came r) (rest' ++ later))
-
-pub line_first : (rest piece later : List ℕ) (at : ℕ) → piece ≡ take at rest → later ≡ drop (at + 1) rest
-    → HasFirstLf rest at → rest ≡ as_line piece ++ later
-line_first rest piece later at front back first =
-    first.whole ∙ ap (λ l. as_line l ++ drop (at + 1) rest) (sym front) ∙ ap (λ l. as_line piece ++ l) (sym back)
 
 -- a block in parts, of which each is read after those before it
 pub first_and_rest : (came first rest block : List ℕ) → block ≡ first ++ rest → (later : List ℕ)

@@ -4,4 +4,3 @@ pub mod Sound
 pub mod Reading
 pub mod Progress
 pub mod Going
-pub mod Arriving

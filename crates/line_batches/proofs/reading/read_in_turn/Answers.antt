@@ -2,7 +2,8 @@ use Rattle.std.proofs.Common.{◌≡◌, ◌++◌, ◌∷◌, [], ap, append_ass
 use Rattle.std.specs.Prelude.{if◌then◌else◌}
 use Rattle.byte_ends.specs.Lines.{as_line}
 use Rattle.line_batches.specs.Batches.{IsBatch}
-use Rattle.line_batches.proofs.Lines.{batch-append, line_first, one_line}
+use Rattle.line_reader.specs.Lines.{line_first}
+use Rattle.line_batches.proofs.Lines.{batch-append, one_line}
 use Rattle.line_batches.proofs.reading.read_in_turn.Goals as goal
 
 pub loop-at-preserved : goal.loop-at-preserved

@@ -3,7 +3,8 @@ use Rattle.std.proofs.lemmas.Result.{err_from_is_err_and, on_ok_weaker, IfErr-we
 use Rattle.byte_ends.specs.Lines.{as_line}
 use Rattle.site_journal.specs.Fault.{IsJournalRefusal}
 use Rattle.site_journal.specs.Reading.{HasRead}
-use Rattle.snapshot_text.specs.Going.{goes_start, goes_on, goes_out, goes_wrong, line_first}
+use Rattle.line_reader.specs.Lines.{line_first}
+use Rattle.snapshot_text.specs.Going.{goes_start, goes_on, goes_out, goes_wrong}
 use Rattle.site_journal.proofs.reading.Reading.take_lines.Goals as goal
 
 pub loop-at-init : goal.loop-at-init

@@ -2,7 +2,8 @@ use Rattle.std.proofs.Common.{◌+◌, refl, drop, arith}
 use Rattle.std.proofs.lemmas.Result.{err_from_is_err_and, on_ok_weaker}
 use Rattle.byte_ends.specs.Lines.{as_line, lines_of}
 use Rattle.snapshot_text.specs.Progress.{HasCut, IsFaultIn}
-use Rattle.snapshot_text.specs.Going.{goes_start, goes_on, goes_out, goes_wrong, line_first}
+use Rattle.line_reader.specs.Lines.{line_first}
+use Rattle.snapshot_text.specs.Going.{goes_start, goes_on, goes_out, goes_wrong}
 use Rattle.snapshot_text.proofs.blocks.Cutter.take_lines.Goals as goal
 
 pub loop-at-init : goal.loop-at-init
