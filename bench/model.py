@@ -467,6 +467,14 @@ def read_under(base: bytes, value: bytes) -> int | None:
     return next((number for form in forms if (number := number_of(form))), None)
 
 
+def kept_message(message: str) -> bytes:
+    """A message, or the lines of a longer one that are footers."""
+    text = message.encode()
+    if len(text) <= 65536:
+        return text
+    return b"".join(line + b"\n" for line in text.split(b"\n") if line.lower().startswith(b"depends-on:"))
+
+
 def footers(bases: list, own: int, message: bytes):
     """The changes that a message needs, in order, and the values that it ignores."""
     needs, ignored = set(), []
@@ -927,7 +935,7 @@ class Event:
         lost = len(named) - bool(parents) if self.is_query else len(parents[1:])
         if isinstance(self.revision, str):
             self.known.setdefault(self.revision, (self.change, self.set))
-        deed = Deed("patchset", self.change, self.set, self.message.encode(), parents[0] if parents else None)
+        deed = Deed("patchset", self.change, self.set, kept_message(self.message), parents[0] if parents else None)
         says_all = self.is_query or is_new and parents
         keys = ["dependsOn" if self.is_query else "parents"] * lost
         return [deed if says_all else Shown(deed)] + keys + ([] if self.is_query else self.mark_votes())

@@ -7,5 +7,6 @@ pub mod Children
 pub mod Frames
 pub mod Truth
 pub mod Speaking
+pub mod Messages
 pub mod Rows
 pub mod RowsRead

@@ -33,6 +33,7 @@ use Rattle.gerrit_events.specs.Claims.{value_under, vote_claim, vote_claims, vot
 use Rattle.gerrit_events.specs.Kinds.{approvals_part, change_part, line_kind}
 use Rattle.gerrit_events.specs.Listings.{Ballot, ballot_by, ballot_of, ballots_in, mark_ballot, mark_ballots}
 use Rattle.gerrit_events.specs.Marks.{mark_label, marks_in, reserved_voter}
+use Rattle.gerrit_events.specs.Messages.{kept_message}
 use Rattle.gerrit_events.specs.Patches.{ShownPatch, brought_by, message_in, parents_in, patch_in, revision_in, set_in}
 use Rattle.gerrit_events.specs.Projects.{Choice}
 use Rattle.gerrit_events.specs.Reading.{ClaimsAreSettled, claims_of}
@@ -48,7 +49,7 @@ use Rattle.event_filter.proofs.Speaking.{AllOnly, Only, draft_said, only_append,
 
 -- ---- of what each part of a row's claims speaks
 
--- a score of one who is listed_values by approvals of a patch set
+-- a score of one who is listed by approvals of a patch set
 abbrev Listed : ℕ → ℕ → List Data → DeedPlace → Type 0
 Listed change set approvals place =
     (label voter : List ℕ) × (score_place change (record { set = set; label = label; voter = voter }) ≡ place)
@@ -274,7 +275,7 @@ commit_claims : (known : List Revision) (choice : Choice) (line : Data) (change 
     → IsFedRow choice line change set → message_in QueryLine line ≡ Some message
     → claims_of known choice (line_kind line) line
     ≡ Closing line change
-    ++ drafts (patch_set change set message (commit_parent known line)) ∷ (after_commit known line ++ query_claims line change set)
+    ++ drafts (patch_set change set (kept_message message) (commit_parent known line)) ∷ (after_commit known line ++ query_claims line change set)
 commit_claims known choice line change set message row has =
     row_claims known choice line change set row
     ∙ ap (λ patch. Closing line change ++ (brought_claims known QueryLine line patch ++ query_claims line change set))
@@ -283,11 +284,11 @@ commit_claims known choice line change set message row has =
 commit_said : (known : List Revision) (choice : Choice) (line : Data) (change set : ℕ) (findings : List Finding)
     (new : State) → IsFedRow choice line change set → ClaimsAreSettled (claims_of known choice (line_kind line) line) findings
     → AgreesWithAll findings new → (message : List ℕ) → message_in QueryLine line ≡ Some message
-    → IsFaultless (patch_set change set message (commit_parent known line))
-    → HasPatch (change_at new change) set (record { message = message; parent = commit_parent known line })
+    → IsFaultless (patch_set change set (kept_message message) (commit_parent known line))
+    → HasPatch (change_at new change) set (record { message = kept_message message; parent = commit_parent known line })
 commit_said known choice line change set findings new row settled all message has good =
     let claimed = subst (λ claims. ClaimsAreSettled claims findings) (commit_claims known choice line change set message row has) settled in
-    elim (draft_said (Closing line change) (patch_set change set message (commit_parent known line)) (after_commit known line ++ query_claims line change set) findings new NoCommit claimed all good
+    elim (draft_said (Closing line change) (patch_set change set (kept_message message) (commit_parent known line)) (after_commit known line ++ query_claims line change set) findings new NoCommit claimed all good
     (only_append NoCommit (after_commit known line) (query_claims line change set)
     (only_append NoCommit (replicate (lost_parents known QueryLine line) (bad DependsOn)) []
     (lost_only NoCommit (lost_parents known QueryLine line) DependsOn) tt)
@@ -380,7 +381,7 @@ merged_or New moot = absurd (moot (λ e. cc))
 merged_or Abandoned moot = absurd (moot (λ e. cc))
 merged_or Merged moot = refl
 
--- ---- who isn't listed_values
+-- ---- who isn't listed
 
 is_either : (a b : List Ballot) (label voter : List ℕ) → is_listed_vote (a ++ b) label voter ≡ false
     → (is_listed_vote a label voter ≡ false) × (is_listed_vote b label voter ≡ false)
@@ -390,7 +391,7 @@ is_either a b label voter e =
       neither true y e = absurd (false≢true (sym e))
       neither false y e = (refl, e)
 
--- what follows doesn't speak of a score that isn't listed_values
+-- what follows doesn't speak of a score that isn't listed
 abbrev Spoken : Data → ℕ → ℕ → List Data → DeedPlace → Type 0
 Spoken line change set approvals place = Listed change set approvals place ⊎ Aside line change set place
 

@@ -1,5 +1,5 @@
--- The changes of which too little is known, so that Gerrit has to be asked (Gerrit, "stream-events", shows the change of
--- an event alone).
+-- The changes of which too little is known, so that Gerrit has to be asked (Gerrit, "stream-events", shows the change
+-- of an event alone).
 use Rattle.std.specs.Prelude.{◌≡◌, ◌≢◌, ◌⊎◌, ◌↔◌, ◌<◌, ℕ, List, Bool, true, false, Option, Some, None, Contains}
 use Rattle.std.specs.BTreeSet.{BTreeSet, contains}
 use Rattle.std.specs.List.{list_any}
@@ -88,7 +88,7 @@ abbrev pub AskFor : State → Option (List (List ℕ)) → Part → Bool → Lis
 AskFor state bases part is_open findings number =
     (finding : Finding) × Contains findings finding × IsAskedBy state bases part is_open finding number
 
--- what is asked for when a line is met; of a row that does not say so nothing is
+-- what is asked for when a line is met; of a row that doesn't say that its change is open, nothing
 abbrev pub AsksFor : State → Option (List (List ℕ)) → Told → ℕ → Type 0
 AsksFor state bases told number =
     AskFor state bases told.part (list_any says_open told.findings) told.findings number

@@ -15,6 +15,7 @@ use Rattle.gerrit_events.specs.declared.kind.Kind.TheVariants.{QueryLine}
 use Rattle.gerrit_events.specs.Kinds.{approvals_part, line_kind}
 use Rattle.gerrit_events.specs.Listings.{ballot_of, ballots_in, mark_ballots}
 use Rattle.gerrit_events.specs.Marks.{reserved_voter}
+use Rattle.gerrit_events.specs.Messages.{kept_message}
 use Rattle.gerrit_events.specs.Patches.{change_in, message_in, parents_in, set_in}
 use Rattle.gerrit_events.specs.Projects.{Choice, feeds}
 use Rattle.gerrit_events.specs.Revisions.{Revision}
@@ -45,13 +46,14 @@ pub record IsApproval (approval : Data) (label voter : List ℕ) (value : ℤ) :
   pub real : bytes_eq voter reserved_voter ≡ false
   pub with_value : vote_value (get (codes "value") approval) ≡ Some value
 
--- the record says of the change what the row says: the commit of the current patch set; the status; each approval of
--- the current patch set, of two of one voter on one label the last one; and nobody else has a score on it
+-- the record says of the change what the row says: the commit of the current patch set, with what is kept of its
+-- message; the status; each approval of the current patch set, of two of one voter on one label the last one; and nobody
+-- else has a score on it
 pub record SaysRow (known : List Revision) (line : Data) (change set : ℕ) (state : State) : Type 0 where
   pub commit : (message : List ℕ) → message_in QueryLine line ≡ Some message
-      → IsFaultless (patch_set change set message (slice_get (parents_in known QueryLine line) 0))
+      → IsFaultless (patch_set change set (kept_message message) (slice_get (parents_in known QueryLine line) 0))
       → HasPatch (change_at state change) set
-      (record { message = message; parent = slice_get (parents_in known QueryLine line) 0 })
+      (record { message = kept_message message; parent = slice_get (parents_in known QueryLine line) 0 })
   pub merged : HasStatus line (codes "MERGED") → status_of (change_at state change) ≡ Merged
   pub new : HasStatus line (codes "NEW") → IsOrMerged state change New
   pub abandoned : HasStatus line (codes "ABANDONED") → IsOrMerged state change Abandoned

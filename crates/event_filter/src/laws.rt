@@ -1,10 +1,12 @@
 //! What follows of what a record holds, as functions that do nothing: their contracts are the laws.
 
-ghost use Rattle.std.specs.Prelude.{◌≡◌, ℕ, List};
+ghost use Rattle.std.specs.Prelude.{◌≡◌, ◌↔◌, ℕ, List};
 ghost use Rattle.event_filter.specs.Recorded.{change_at, IsRecorded, LookAlike};
 ghost use Rattle.event_filter.specs.Newest.{IsNewest, IsOpenTo};
 ghost use Rattle.event_filter.specs.Truth.{AgreesWithAll, AreMet, AreNothingNew};
+ghost use Rattle.footer_text.specs.Footers.{MessageNeeds};
 ghost use Rattle.gerrit_events.specs.declared.finding.Finding.{Finding};
+ghost use Rattle.gerrit_events.specs.Messages.{kept_message};
 ghost use Rattle.gerrit_events.specs.Projects.{Choice};
 ghost use Rattle.gerrit_events.specs.Reading.{IsLineObject, Reads, Told};
 ghost use Rattle.gerrit_events.specs.Revisions.{Revision};
@@ -29,8 +31,8 @@ pub fn what_is_taken_in_is_recorded()
 
 /// A law: once what was found in a line is met, one finding after the other, and what each brings is taken in under
 /// stamps above those before, the record says what the line says: each body of it is recorded, and on each patch set
-/// that it lists who isn't listed has no score; where two findings speak of the same, the last one counts. What can't be
-/// said of a change that the record has as merged is that it is open or abandoned.
+/// that it lists who isn't listed has no score; where two findings speak of the same, the last one counts. What can't
+/// be said of a change that the record has as merged is that it is open or abandoned.
 pub fn what_is_met_is_what_the_record_says()
     ensures { (state new : State) → (findings : List Finding) → AreMet state findings new
         → AgreesWithAll findings new }
@@ -51,4 +53,10 @@ pub fn what_a_row_says_is_what_the_record_says()
         → Reads known choice text told after → (members : Members) → IsLineObject text members
         → (change set : ℕ) → IsFedRow choice (object members) change set
         → (state new : State) → AreMet state told.findings new → SaysRow known (object members) change set new }
+{}
+
+/// A law: what is kept of a message names the same changes as the message, whatever the bases.
+pub fn what_is_kept_of_a_message_names_the_same()
+    ensures { (bases : List (List ℕ)) (own : ℕ) (message : List ℕ) (change : ℕ)
+        → MessageNeeds bases own (kept_message message) change ↔ MessageNeeds bases own message change }
 {}

@@ -21,6 +21,7 @@ use Rattle.gerrit_events.specs.declared.mark.Mark.TheVariants.{WorkInProgress, P
 use Rattle.gerrit_events.specs.Kinds.{account_part, account_key, approvals_part, change_key, set_key}
 use Rattle.gerrit_events.specs.Listings.{Ballot, Listing, ballots_in, mark_ballots}
 use Rattle.gerrit_events.specs.Marks.{is_private, is_wip, mark_label, marks_in, reserved_voter}
+use Rattle.gerrit_events.specs.Messages.{kept_message}
 use Rattle.gerrit_events.specs.Patches.{ShownPatch, change_in, set_in, brought_by, parents_part, parents_in}
 use Rattle.gerrit_events.specs.Revisions.{Revision}
 use Rattle.gerrit_events.specs.Values.{text_in, number_value, vote_value, user_in, listed_values}
@@ -59,13 +60,13 @@ patch_claim PatchSetCreated (Some parent) deed = drafts deed
 patch_claim kind parent deed = shows deed
 
 abbrev pub patch_deed : ShownPatch → Option ℕ → Deed
-patch_deed patch parent = patch_set patch.change patch.set patch.message parent
+patch_deed patch parent = patch_set patch.change patch.set (kept_message patch.message) parent
 
 -- the reserved voter's vote
 abbrev pub mark_claim : ℕ → ℕ → Mark → Claim
 mark_claim change set mark = drafts (vote change set (mark_label mark) reserved_voter (negsuc 0))
 
--- a patch set that an event brings has the marks of its change; a query's are listed_values with the votes
+-- a patch set that an event brings has the marks of its change; a query's are listed with the votes
 abbrev pub patch_marks : Kind → Data → ShownPatch → List Claim
 patch_marks QueryLine line patch = []
 patch_marks kind line patch = map (mark_claim patch.change patch.set) (marks_in kind line)

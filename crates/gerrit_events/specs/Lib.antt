@@ -7,6 +7,7 @@ pub mod RevisionsKept
 pub mod Patches
 pub mod PatchShown
 pub mod Marks
+pub mod Messages
 pub mod Listings
 pub mod Projects
 pub mod Parts

@@ -1,4 +1,4 @@
--- What the values of Gerrit's JSON say ("JSON Data"). A number may also be digits_written as a text.
+-- What the values of Gerrit's JSON say ("JSON Data"). A number may also be written as a text.
 use Rattle.std.specs.Prelude.{ℕ, ℤ, pos, negsuc, int_le, List, [], ◌∷◌, length, Bool, ◌&&◌, nat_lt, if◌then◌else◌}
 use Rattle.std.specs.Prelude.{Option, Some, None, option_and_then, option_map, codes}
 use Rattle.std.specs.Option.{option_or}

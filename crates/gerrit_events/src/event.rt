@@ -25,6 +25,7 @@ use super::known::Revisions;
 use super::line::Line;
 use super::listing::{Ballot, Listing};
 use super::mark::{Mark, RESERVED_VOTER};
+use super::message::kept_message;
 use super::patch::Patch;
 use super::tree::{member, text};
 use super::value::{listed, number_in, text_in, under, user_in, value_in};
@@ -211,7 +212,7 @@ impl<'k, 'v, 'a> Event<'k, 'v, 'a> {
     {
         let parents = self.parents()?;
         let parent = parents.first().copied();
-        let message = String::from_str(self.alloc, patch.message)?;
+        let message = kept_message(self.alloc, patch.message)?;
         let draft = Draft::PatchSet {
             change: patch.change,
             set: patch.set,

@@ -41,6 +41,7 @@ mod known;
 mod line;
 mod listing;
 mod mark;
+mod message;
 mod number;
 mod part;
 mod patch;

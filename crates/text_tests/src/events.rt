@@ -508,13 +508,14 @@ fn push_times(text: &mut String, letter: char, times: usize) -> Result<(), Alloc
     Ok(())
 }
 
-/// A patch set with a message of so many bytes.
-fn long_event(alloc: Global, length: usize) -> Result<String, AllocError> {
+/// A patch set with a message of so many letters and then this text, as JSON has it.
+fn long_event(alloc: Global, letters: usize, text: &str) -> Result<String, AllocError> {
     let mut line = String::from_str(
         alloc,
         r#"{"type":"patchset-created","patchSet":{"number":1,"revision":"a1"},"change":{"number":101,"commitMessage":""#,
     )?;
-    push_times(&mut line, 'x', length)?;
+    push_times(&mut line, 'x', letters)?;
+    line.push_str(text)?;
     line.push_str(r#""}}"#)?;
     Ok(line)
 }
@@ -522,26 +523,57 @@ fn long_event(alloc: Global, length: usize) -> Result<String, AllocError> {
 /// The change and the patch set of a revision, where it is known.
 type Place = Option<(u32, u32)>;
 
-/// What the revision of a line is known as once the line was read, and whether the line's message was refused.
-fn read_long(alloc: Global, line: &str) -> Option<(Place, bool)> {
+/// What the revision of a line is known as once the line was read, and whether just this was found in the line.
+fn read_long(alloc: Global, line: &str, wanted: &str) -> Option<(Place, bool)> {
     let mut known = Known::new(alloc);
     let found = found_in(alloc, &mut known, line.as_bytes())?;
-    let is_refused = found.as_str() == "! BadEvent commitMessage\n";
-    Some((known.place_of("a1"), is_refused))
+    Some((known.place_of("a1"), found.as_str() == wanted))
 }
 
-/// The same of a patch set with a message of so many bytes.
-fn read_message(alloc: Global, length: usize) -> Option<(Place, bool)> {
-    let line = long_event(alloc, length).ok()?;
-    read_long(alloc, line.as_str())
+/// The same of a patch set with a message of so many letters and then this text.
+fn read_message(alloc: Global, letters: usize, text: &str, wanted: &str) -> Option<(Place, bool)> {
+    let line = long_event(alloc, letters, text).ok()?;
+    read_long(alloc, line.as_str(), wanted)
+}
+
+/// The end of a message, of 55 bytes, and what is found of a longer message that ends so.
+const FOOTERS: &str = r"\nDepends-On: https://r/98\n Depends-On: no\ndepends-ON:97";
+
+const KEPT: &str =
+    "~ {\"change\":101,\"message\":\"Depends-On: https://r/98\\ndepends-ON:97\\n\",\"op\":\"patchset\",\"set\":1}\n";
+
+const EMPTY: &str = "~ {\"change\":101,\"message\":\"\",\"op\":\"patchset\",\"set\":1}\n";
+
+/// A message of 65,536 bytes is kept whole, and of a longer one the lines that are footers.
+#[test]
+fn of_a_long_message_the_footers_are_kept(rt: HostRuntime) {
+    for (letters, is_cut) in [(65_481usize, false), (65_482, true)] {
+        let read = read_message(rt.alloc(), letters, FOOTERS, KEPT);
+        assert_found(&rt, read, Some((Some((101, 1)), is_cut)));
+    }
+    let read = read_message(rt.alloc(), 65_537, "", EMPTY);
+    assert_found(&rt, read, Some((Some((101, 1)), true)));
+}
+
+/// A patch set with a footer of so many letters.
+fn long_footer(alloc: Global, letters: usize) -> Result<String, AllocError> {
+    let mut text = String::from_str(alloc, r"\nDepends-On:")?;
+    push_times(&mut text, 'y', letters)?;
+    long_event(alloc, 1, text.as_str())
+}
+
+/// What is read of it, and whether its message is refused.
+fn read_footer(alloc: Global, letters: usize) -> Option<(Place, bool)> {
+    let line = long_footer(alloc, letters).ok()?;
+    read_long(alloc, line.as_str(), "! BadEvent commitMessage\n")
 }
 
 // The revision is learned all the same.
 #[test]
-fn long_messages_are_refused(rt: HostRuntime) {
-    for (length, is_refused) in [(65536usize, false), (65537, true)] {
+fn footers_that_are_too_long_are_refused(rt: HostRuntime) {
+    for (letters, is_refused) in [(65_524usize, false), (65_525, true)] {
         let wanted = (Some((101, 1)), is_refused);
-        assert_found(&rt, read_message(rt.alloc(), length), Some(wanted));
+        assert_found(&rt, read_footer(rt.alloc(), letters), Some(wanted));
     }
 }
 
