@@ -258,7 +258,8 @@ end 4 3
     assert_check(&rt, alloc, statuses, 0, lines, "");
     let approvals =
         r#"{"bases":["https://r/"],"require":{"gerrit":{"approval":[{"Verified":1},{"Verified":[1,2]},
-{"Verified":1,"username":"zuul"},{"Workflow":1},{"Workflow":1,"Verified":2},{"username":"bob"},{"Review":[]}]}},
+{"Verified":1,"username":"zuul"},{"Workflow":1},{"Workflow":1,"Verified":2},{"username":"bob"},{"Review":[]},{"Gone":0},
+{"Verified":[0,2]}]}},
 "reject":{"gerrit":{"approval":[{"Verified":[0,1]},{"Workflow":1,"username":"zuul"},{"username":"bob"}]}}}"#;
     let lines = r#"require /require/gerrit/approval/0 verified 1
 require /require/gerrit/approval/1 verified 1 or 2
@@ -267,6 +268,8 @@ require /require/gerrit/approval/3 workflow 1
 require /require/gerrit/approval/4 verified 2 and workflow 1
 require /require/gerrit/approval/5 any vote by "bob"
 require /require/gerrit/approval/6 review none
+require /require/gerrit/approval/7 gone 0
+require /require/gerrit/approval/8 verified 0 or 2
 reject /reject/gerrit/approval/0 verified 0 or 1
 reject /reject/gerrit/approval/1 workflow 1 by "zuul"
 reject /reject/gerrit/approval/2 any vote by "bob"
@@ -275,7 +278,8 @@ warning 4 NeverMet /require/gerrit/approval/2
 warning 4 NeverMet /require/gerrit/approval/4
 warning 4 NeverMet /require/gerrit/approval/5
 warning 4 NeverMet /require/gerrit/approval/6
-end 10 5
+warning 4 NeverMet /require/gerrit/approval/7
+end 12 6
 "#;
     assert_check(&rt, alloc, approvals, 0, lines, "");
 }

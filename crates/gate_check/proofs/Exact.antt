@@ -1,5 +1,5 @@
--- A pattern of which every vote is rejected is found to be so: one that isn't takes a vote that no other one takes, by a
--- voter or of a label that none of them names.
+-- A pattern of which every vote is rejected is found to be so: one that isn't takes a vote that no other one takes, by
+-- a voter or of a label that none of them names.
 use Rattle.std.proofs.Common.{◌≡◌, ◌<◌, ℕ, zero, suc, ℤ, pos, List, [], ◌∷◌, ◌++◌, Bool, true, false, not, ◌&&◌, ◌||◌, length, map}
 use Rattle.std.proofs.Common.{Option, None, Some, is_some, ap, refl, ◌∙◌, sym, subst, arith}
 use Rattle.std.specs.Prelude.{if◌then◌else◌, slice_get, unwrap_or, option_map}
@@ -14,7 +14,7 @@ use Rattle.change_core.specs.Votes.{GivenApproval}
 use Rattle.gate_rules.specs.Own.{labels_take, matches, names, some, takes}
 use Rattle.gate_rules.specs.Reading.{each}
 use Rattle.gate_rules.specs.Rules.{LabelRule, PatternRule}
-use Rattle.gate_check.specs.Meeting.{IsRejected, has_none, is_as_wide, rejects_each, rejects_votes, wanted_vote}
+use Rattle.gate_check.specs.Meeting.{IsRejected, has_none, is_as_wide, is_no_vote, rejects_each, rejects_votes, wanted_vote}
 use Rattle.gate_check.proofs.Shut.{all_hold, both, some_at, some_in}
 
 -- ---- a text that differs from each of these: it is longer
@@ -103,19 +103,23 @@ each_all test [] all = refl
 each_all test (x ∷ xs) all =
     ap (λ b. if b then each test xs else false) (all 0 x refl) ∙ each_all test xs (λ k y at. all (suc k) y at)
 
+or_else : (a b : Bool) → (a ≡ false → b ≡ true) → (a || b) ≡ true
+or_else true b other = refl
+or_else false b other = other refl
+
 module _ (rejected : List PatternRule) (pattern : PatternRule) (all : IsRejected rejected pattern) where
   abbrev vote_on : List ℕ → ℤ → GivenApproval
   vote_on label value = record { label = label; voter = voter_for pattern.username rejected; value = value }
 
   -- one that takes a vote of the label and the value
-  one_takes : (label : List ℕ) (value : ℤ) → labels_take pattern.labels (vote_on label value) ≡ true
-      → (other : PatternRule) × (k : ℕ) × (slice_get rejected k ≡ Some other)
+  one_takes : (label : List ℕ) (value : ℤ) → is_no_vote value ≡ false
+      → labels_take pattern.labels (vote_on label value) ≡ true → (other : PatternRule) × (k : ℕ) × (slice_get rejected k ≡ Some other)
       × (is_as_wide other pattern ≡ true) × (names other.username (unwrap_or pattern.username []) ≡ true)
       × (labels_take other.labels (vote_on label value) ≡ true)
-  one_takes label value takes =
+  one_takes label value real takes =
       let vote = vote_on label value in
       let found = some_in (λ (other : PatternRule). matches other vote) rejected
-      (all vote (all_hold (names pattern.username vote.voter) (labels_take pattern.labels vote) (takes_voter pattern.username rejected) takes)) in
+      (all vote real (all_hold (names pattern.username vote.voter) (labels_take pattern.labels vote) (takes_voter pattern.username rejected) takes)) in
       let parts = both (names found.0.username vote.voter) (labels_take found.0.labels vote) found.3 in
       let enough = wide_enough pattern.username rejected found.0 found.1 found.2 parts.0 in
       (found.0, found.1, found.2, enough.0, enough.1, parts.1)
@@ -123,9 +127,9 @@ module _ (rejected : List PatternRule) (pattern : PatternRule) (all : IsRejected
   by_labels : (labels : List LabelRule) → labels ≡ pattern.labels → rejects_each rejected pattern labels ≡ true
   by_labels [] same =
       let label = fresh (map label_of rejected) in
-      let found = one_takes label (pos 0) (subst (λ ls. labels_take ls (vote_on label (pos 0)) ≡ true) same refl) in
+      let found = one_takes label (pos 1) refl (subst (λ ls. labels_take ls (vote_on label (pos 1)) ≡ true) same refl) in
       let there = slice_get-map label_of rejected found.1 ∙ ap (option_map label_of) found.2 in
-      let none = no_label found.0.labels (vote_on label (pos 0)) (differs (map label_of rejected) found.1 (label_of found.0) there) found.5 in
+      let none = no_label found.0.labels (vote_on label (pos 1)) (differs (map label_of rejected) found.1 (label_of found.0) there) found.5 in
       some_at
       (λ (other : PatternRule). is_as_wide other pattern && names other.username (unwrap_or pattern.username []) && has_none other.labels)
       rejected found.1 found.0 found.2
@@ -136,13 +140,14 @@ module _ (rejected : List PatternRule) (pattern : PatternRule) (all : IsRejected
       let of_rule : takes rule vote ≡ true = all_hold (bytes_eq rule.label rule.label) (some (λ v. int_eq v value) rule.values)
       ((bytes_eq-Decides rule.label rule.label).1 refl)
       (some_at (λ v. int_eq v value) rule.values k value at ((Decides-int_eq value value).1 refl)) in
-      let found = one_takes rule.label value (subst (λ ls. labels_take ls vote ≡ true) same of_rule) in
+      or_else (is_no_vote value) _ (λ real.
+      let found = one_takes rule.label value real (subst (λ ls. labels_take ls vote ≡ true) same of_rule) in
       some_at
       (λ (other : PatternRule). is_as_wide other pattern && matches other (wanted_vote pattern rule.label value))
       rejected found.1 found.0 found.2
       (all_hold (is_as_wide found.0 pattern) (matches found.0 (wanted_vote pattern rule.label value)) found.3
       (all_hold (names found.0.username (unwrap_or pattern.username [])) (labels_take found.0.labels (wanted_vote pattern rule.label value)) found.4
-      (of_any_voter found.0.labels rule.label (voter_for pattern.username rejected) (unwrap_or pattern.username []) value found.5))))
+      (of_any_voter found.0.labels rule.label (voter_for pattern.username rejected) (unwrap_or pattern.username []) value found.5)))))
   by_labels (rule ∷ other ∷ rules) same = refl
 
 pub is_found : (rejected : List PatternRule) (pattern : PatternRule) → IsRejected rejected pattern

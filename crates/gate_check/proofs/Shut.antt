@@ -1,14 +1,14 @@
 -- A gate with a condition that is never met lets nothing in.
 use Rattle.std.proofs.Common.{◌≡◌, ◌⊎◌, inl, inr, ℕ, ℤ, zero, suc, List, [], ◌∷◌, Bool, true, false, not, ◌&&◌, ◌||◌}
 use Rattle.std.proofs.Common.{Option, None, Some, is_some, option_map, ap, refl, ◌∙◌, sym, subst}
-use Rattle.std.specs.Prelude.{if◌then◌else◌, slice_get, unwrap_or}
+use Rattle.std.specs.Prelude.{filter, if◌then◌else◌, map, slice_get, unwrap_or}
 use Rattle.std.specs.Ordering.{int_eq}
 use Rattle.std.specs.Str.{bytes_eq}
 use Rattle.std.proofs.lemmas.Bool.Decides.{Decides-int_eq}
 use Rattle.std.proofs.lemmas.Slice.Eq.{bytes_eq-Decides}
 use Rattle.change_core.specs.Change.{Change}
 use Rattle.change_core.specs.Views.{status_of}
-use Rattle.change_core.specs.Votes.{GivenApproval, approvals_of}
+use Rattle.change_core.specs.Votes.{GivenApproval, GivenVote, approval_of, approvals_among, approvals_of, votes_of}
 use Rattle.change_core.specs.declared.life.Status.{Status}
 use Rattle.change_core.specs.declared.life.Status.TheVariants.{New, Abandoned, Merged}
 use Rattle.gate_rules.specs.Own.{IsBroken, compared, labels_take, matches, names, same_flag, some, standing_of}
@@ -18,7 +18,7 @@ use Rattle.gate_rules.specs.declared.condition.Clause.TheVariants.{Approval, Cur
 use Rattle.gate_rules.specs.declared.condition.Condition.{Condition}
 use Rattle.gate_rules.specs.declared.condition.Side.TheVariants.{Reject, Require}
 use Rattle.gate_check.specs.Meeting.{IsRejected, LetsNothingIn, comes_out, has_none, is_as_wide, lets_in, lets_none_in}
-use Rattle.gate_check.specs.Meeting.{is_current_never_met, rejects_each, rejects_votes, same_answer}
+use Rattle.gate_check.specs.Meeting.{is_current_never_met, is_no_vote, rejects_each, rejects_votes, same_answer}
 use Rattle.gate_check.specs.Meeting.{standing_with, wanted_vote}
 
 -- ---- tests
@@ -151,12 +151,16 @@ none_take : (labels : List LabelRule) (vote : GivenApproval) → has_none labels
 none_take [] vote is = refl
 none_take (rule ∷ rules) vote is = cc
 
+or_other : (a b : Bool) → a ≡ false → (a || b) ≡ true → b ≡ true
+or_other true b not_a either = cc
+or_other false b not_a either = either
+
 pub all_hold : (a b : Bool) → a ≡ true → b ≡ true → (a && b) ≡ true
 all_hold true b p q = q
 all_hold false b p q = cc
 
 module _ (rejected : List PatternRule) (pattern : PatternRule) (vote : GivenApproval)
-    (named : names pattern.username vote.voter ≡ true) where
+    (real : is_no_vote vote.value ≡ false) (named : names pattern.username vote.voter ≡ true) where
   -- one takes the vote that takes the pattern's vote of its label and value
   takes_too : (other : PatternRule) (label : List ℕ) (value : ℤ) → label ≡ vote.label → value ≡ vote.value
       → (is_as_wide other pattern && matches other (wanted_vote pattern label value)) ≡ true → matches other vote ≡ true
@@ -187,16 +191,52 @@ module _ (rejected : List PatternRule) (pattern : PatternRule) (vote : GivenAppr
   by_labels (rule ∷ []) all takes =
       let parts = both (bytes_eq rule.label vote.label) (some (λ value. int_eq value vote.value) rule.values) takes in
       let value = some_in _ rule.values parts.1 in
-      let found = some_in _ rejected (each_at (rejects_votes rejected pattern rule.label) rule.values value.1 value.0 all value.2) in
+      let same : value.0 ≡ vote.value = (Decides-int_eq value.0 vote.value).0 value.3 in
+      let found = some_in _ rejected (or_other (is_no_vote value.0) _ (ap is_no_vote same ∙ real)
+      (each_at (rejects_votes rejected pattern rule.label) rule.values value.1 value.0 all value.2)) in
       some_at (λ other. matches other vote) rejected found.1 found.0 found.2
-      (takes_too found.0 rule.label value.0 ((bytes_eq-Decides rule.label vote.label).0 parts.0) ((Decides-int_eq value.0 vote.value).0 value.3) found.3)
+      (takes_too found.0 rule.label value.0 ((bytes_eq-Decides rule.label vote.label).0 parts.0) same found.3)
   by_labels (rule ∷ other ∷ rules) all takes = cc
 
 pub is_rejected : (rejected : List PatternRule) (pattern : PatternRule)
     → rejects_each rejected pattern pattern.labels ≡ true → IsRejected rejected pattern
-is_rejected rejected pattern all vote takes =
+is_rejected rejected pattern all vote real takes =
     let parts = both (names pattern.username vote.voter) (labels_take pattern.labels vote) takes in
-    by_labels rejected pattern vote parts.0 pattern.labels all parts.1
+    by_labels rejected pattern vote real parts.0 pattern.labels all parts.1
+
+-- an approval isn't 0
+abbrev given : List GivenVote → List GivenApproval
+given votes = approvals_among votes
+
+given_at : (vote : GivenVote) (votes : List GivenVote) (k : ℕ) (approval : GivenApproval) → is_no_vote vote.value ≡ false
+    → slice_get (approval_of vote ∷ given votes) k ≡ Some approval
+    → ((j : ℕ) → slice_get (given votes) j ≡ Some approval → is_no_vote approval.value ≡ false)
+    → is_no_vote approval.value ≡ false
+given_at vote votes zero approval real at others =
+    let same : approval_of vote ≡ approval = cc in
+    sym (ap (λ (a : GivenApproval). is_no_vote a.value) same) ∙ real
+given_at vote votes (suc k) approval real at others = others k at
+
+-- the approvals of votes of which the first is none, or isn't
+abbrev given_if : GivenVote → List GivenVote → Bool → List GivenApproval
+given_if vote votes none = map approval_of (if not none
+    then vote ∷ filter (λ (v : GivenVote). not (is_no_vote v.value)) votes
+    else filter (λ (v : GivenVote). not (is_no_vote v.value)) votes)
+
+given_by : (vote : GivenVote) (votes : List GivenVote) (k : ℕ) (approval : GivenApproval) (none : Bool)
+    → is_no_vote vote.value ≡ none → slice_get (given (vote ∷ votes)) k ≡ Some approval
+    → ((j : ℕ) → slice_get (given votes) j ≡ Some approval → is_no_vote approval.value ≡ false)
+    → is_no_vote approval.value ≡ false
+given_by vote votes k approval true none at others =
+    others k (sym (ap (λ t. slice_get (given_if vote votes t) k) none) ∙ at)
+given_by vote votes k approval false real at others =
+    given_at vote votes k approval real (sym (ap (λ t. slice_get (given_if vote votes t) k) real) ∙ at) others
+
+is_given : (votes : List GivenVote) (k : ℕ) (approval : GivenApproval) → slice_get (given votes) k ≡ Some approval
+    → is_no_vote approval.value ≡ false
+is_given [] k approval at = cc
+is_given (vote ∷ votes) k approval at =
+    given_by vote votes k approval (is_no_vote vote.value) refl at (λ j. is_given votes j approval)
 
 pub approval_shut : (gate : GateRules) (place : ℕ) (pattern : PatternRule)
     → slice_get gate.require.approvals place ≡ Some pattern → IsRejected gate.reject.approvals pattern
@@ -210,7 +250,8 @@ approval_shut gate place pattern at rejected = λ change current set. by_votes c
   )
   by_votes change current set true is =
       let vote = some_in (matches pattern) (approvals_of change current) is in
-      let other = some_in (λ (p : PatternRule). matches p vote.0) gate.reject.approvals (rejected vote.0 vote.3) in (
+      let other = some_in (λ (p : PatternRule). matches p vote.0) gate.reject.approvals
+      (rejected vote.0 (is_given (votes_of change current) vote.1 vote.0 vote.2) vote.3) in (
         record { side = Reject; clause = Approval (suc other.1) },
         ap (option_map (λ (p : PatternRule). some (matches p) (approvals_of change current))) other.2
             ∙ ap Some (some_at (matches other.0) (approvals_of change current) vote.1 vote.0 vote.2 other.3),

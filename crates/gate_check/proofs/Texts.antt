@@ -1,4 +1,4 @@
--- Texts that are joined_by, and lines that are added one after another.
+-- Texts that are joined, and lines that are added one after another.
 use Rattle.std.proofs.Common.{◌≡◌, ◌∙◌, ◌+◌, ◌<◌, ℕ, List, [], ◌∷◌, ◌++◌, Bool, false, Result, length, map, flat_map, take, get_or, sym, ap, refl}
 use Rattle.std.proofs.Common.{append-nil, append_assoc, arith}
 use Rattle.std.specs.List.{join_by}

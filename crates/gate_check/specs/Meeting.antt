@@ -1,5 +1,7 @@
 -- Which conditions of a gate no item can meet beside the gate's others.
-use Rattle.std.specs.Prelude.{◌≡◌, ℕ, ℤ, List, [], ◌∷◌, Bool, true, false, not, ◌&&◌, ◌||◌, Option, None, Some, is_some, unwrap_or}
+use Rattle.std.specs.Prelude.{◌≡◌, ℕ, ℤ, pos, List, [], ◌∷◌, Bool, true, false, not, ◌&&◌, ◌||◌, Option, None, Some, is_some}
+use Rattle.std.specs.Prelude.{unwrap_or}
+use Rattle.std.specs.Ordering.{int_eq}
 use Rattle.change_core.specs.Change.{Change}
 use Rattle.change_core.specs.Status.{status_name}
 use Rattle.change_core.specs.Votes.{GivenApproval}
@@ -55,10 +57,14 @@ wanted_vote pattern label value = record { label = label; voter = unwrap_or patt
 abbrev pub is_as_wide : PatternRule → PatternRule → Bool
 is_as_wide other pattern = not (is_some other.username) || is_some pattern.username
 
--- the votes of this label and value that the pattern takes are rejected
+-- a vote of 0 is a withdrawn one, and so none
+abbrev pub is_no_vote : ℤ → Bool
+is_no_vote value = int_eq value (pos 0)
+
+-- the votes of this label and value that the pattern takes are rejected, or there are none
 abbrev pub rejects_votes : List PatternRule → PatternRule → List ℕ → ℤ → Bool
 rejects_votes rejected pattern label value =
-    some (λ other. is_as_wide other pattern && matches other (wanted_vote pattern label value)) rejected
+    is_no_vote value || some (λ other. is_as_wide other pattern && matches other (wanted_vote pattern label value)) rejected
 
 abbrev pub has_none : {A : Type 0} → List A → Bool
 has_none [] = true
@@ -101,5 +107,5 @@ LetsNothingIn gate = (change : Change) (current set : ℕ)
 
 -- every vote that the pattern takes is taken by one that is rejected
 abbrev pub IsRejected : List PatternRule → PatternRule → Type 0
-IsRejected rejected pattern =
-    (vote : GivenApproval) → matches pattern vote ≡ true → some (λ other. matches other vote) rejected ≡ true
+IsRejected rejected pattern = (vote : GivenApproval) → is_no_vote vote.value ≡ false → matches pattern vote ≡ true
+    → some (λ other. matches other vote) rejected ≡ true

@@ -1,4 +1,4 @@
--- The labels and the voters of a record: those that some vote has_known, be it withdrawn or not.
+-- The labels and the voters of a record: those that some vote has, be it withdrawn or not.
 use Rattle.std.specs.Prelude.{◌≡◌, ℕ, List, [], ◌∷◌, Bool, map, flat_map}
 use Rattle.std.specs.BTreeSet.{insert_key}
 use Rattle.std.specs.Cmp.Lexicographic.{slice_cmp}

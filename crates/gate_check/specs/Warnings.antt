@@ -65,7 +65,7 @@ not_among warning place names name =
 abbrev pub warned : Bool → Found → List Found
 warned is_so found = if is_so then found ∷ [] else []
 
--- ---- 1 Pattern: the username has_known a character that a regular expression would have, and is compared as it is
+-- ---- 1 Pattern: the username has a character that a regular expression would have, and is compared as it is
 
 abbrev pub is_sign : ℕ → Bool
 is_sign byte = some (nat_eq byte) (codes "^$*+?()[]{}|\\")
@@ -74,7 +74,7 @@ abbrev pub pattern_warnings : List ℕ → Option (List ℕ) → List Found
 pattern_warnings place None = []
 pattern_warnings place (Some voter) = warned (some is_sign voter) (about_text Pattern place voter)
 
--- ---- 2 UnknownLabel and 3 UnknownVoter: no vote of the record has_known the label, or the voter
+-- ---- 2 UnknownLabel and 3 UnknownVoter: no vote of the record has the label, or the voter
 
 abbrev pub unknown_name : Warning → List ℕ → List (List ℕ) → List ℕ → List Found
 unknown_name warning place names name = warned (not (has_known names name)) (not_among warning place names name)
@@ -97,7 +97,7 @@ unknown_warnings place (Some names) pattern =
 abbrev pub never_met : Bool → List ℕ → List Found
 never_met is_so place = warned is_so (of_place NeverMet place)
 
--- ---- 5 UnusedBase: no footer of the record has_known the base, while one has_known a URL that is under none
+-- ---- 5 UnusedBase: no footer of the record has the base, while one has a URL that is under none
 
 abbrev pub base_place : ℕ → List ℕ
 base_place place = codes "/bases/" ++ decimal place

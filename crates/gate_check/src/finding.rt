@@ -22,8 +22,8 @@ use lattice_core::NoMemory;
 use std::alloc::Global;
 use std::collections::BTreeSet;
 
-/// The warnings of a gate: condition by condition, and then those of its bases; where it is given what a record shows, of
-/// that, too.
+/// The warnings of a gate: condition by condition, and then those of its bases; where it is given what a record shows,
+/// of that, too.
 pub fn findings_of(
     alloc: Global,
     gate: &Gate,

@@ -13,8 +13,8 @@ use lattice_core::NoMemory;
 use std::alloc::Global;
 use std::marker::Model;
 
-/// A warning: its kind, a place of the gate file, what it is about, where it is about something, and the nearest name that
-/// the record has, where one is near enough.
+/// A warning: its kind, a place of the gate file, what it is about, where it is about something, and the nearest name
+/// that the record has, where one is near enough.
 #[derive(Drop)]
 pub struct Finding {
     warning: Warning,

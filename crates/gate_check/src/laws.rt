@@ -9,7 +9,7 @@ ghost use Rattle.gate_check.specs.Nearest.{FindsNearest};
 ghost use Rattle.gate_check.specs.Meeting.{is_open_never_met, is_status_never_met};
 
 /// Where a gate has a condition that is never met, an item of any change breaks some condition of the gate. An approval
-/// is never met just where each vote that it takes is taken by one that is rejected.
+/// is never met just where each vote that it takes, of which none is 0, is taken by one that is rejected.
 pub fn what_is_never_met_lets_nothing_in()
     ensures opening { (gate : GateRules) → is_open_never_met gate ≡ true → LetsNothingIn gate }
     ensures current { (gate : GateRules) → is_current_never_met gate ≡ true → LetsNothingIn gate }

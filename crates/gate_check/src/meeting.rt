@@ -136,10 +136,13 @@ fn rejects_values(rejected: &[Pattern], pattern: &Pattern, rule: &LabelValues) -
     true
 }
 
-/// Whether the votes of this label and value that the pattern takes are rejected.
+/// Whether the votes of this label and value that the pattern takes are rejected. A vote of 0 is none.
 fn rejects_votes(rejected: &[Pattern], pattern: &Pattern, label: &str, value: i8) -> bool
     ensures { result ≡ rejects_votes rejected.now pattern.now label.now value }
 {
+    if value == 0 {
+        return true;
+    }
     let vote = Approval {
         label,
         voter: pattern.username().unwrap_or(""),

@@ -25,8 +25,8 @@ pub enum Sought<'g> {
     Elsewhere(&'g Bases),
 }
 
-/// Of each base, in their order, whether no footer of the record names a change under it, while one has a URL that names
-/// none under any base. It costs O(n) for each base and messages of n bytes.
+/// Of each base, in their order, whether no footer of the record names a change under it, while one has a URL that
+/// names none under any base. It costs O(n) for each base and messages of n bytes.
 pub fn unused_bases(alloc: Global, bases: &Bases, state: &State) -> Result<Vec<bool>, NoMemory>
     ensures { IfOk result (λ unused. AllZip
         (λ base is_so. MatchBool is_so
