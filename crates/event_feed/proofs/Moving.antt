@@ -16,7 +16,7 @@ use Rattle.event_feed.specs.Steps.{BreaksPassing, IsHanded, IsLineTaken, IsPasse
 use Rattle.event_feed.specs.Steps.{PassesOver, with_more}
 use Rattle.event_feed.specs.declared.fault.FeedFault.{FeedFault}
 use Rattle.event_feed.specs.declared.fault.FeedFault.TheVariants.{Dropped, ReadFault, WriteFault, NoMemory, NoSite, Ended}
-use Rattle.event_feed.specs.declared.fault.FeedFault.TheVariants.{Incomplete, NoKey, NotAllowed, NotProved}
+use Rattle.event_feed.specs.declared.fault.FeedFault.TheVariants.{Incomplete, NoEnd, NoKey, NotAllowed, NotProved}
 use Rattle.event_feed.specs.declared.progress.Input.{Input}
 
 module _ {Taker : Type 0} (takes : Taker → ℕ → Told → Result (Unit {0}) FeedFault → Taker → Type 0) where
@@ -191,6 +191,7 @@ module _ {Taker : Type 0} (takes : Taker → ℕ → Told → Result (Unit {0}) 
     broken_off NoKey more plain h = absurd h
     broken_off NotProved more plain h = absurd h
     broken_off NotAllowed more plain h = absurd h
+    broken_off NoEnd more plain h = absurd h
 
     unpassed : (result : Result Bool FeedFault)
         → IsUnpassed takes mid new.source old.progress new.progress old.taker new.taker result

@@ -5,7 +5,7 @@ use Rattle.byte_ends.specs.Failures.{OneFailed}
 use Rattle.line_reader.specs.Lines.{HasNoLf}
 use Rattle.event_feed.specs.declared.fault.FeedFault.{FeedFault}
 use Rattle.event_feed.specs.declared.fault.FeedFault.TheVariants.{Dropped, ReadFault, WriteFault, NoMemory, NoSite, Ended}
-use Rattle.event_feed.specs.declared.fault.FeedFault.TheVariants.{Incomplete, NoKey, NotAllowed, NotProved}
+use Rattle.event_feed.specs.declared.fault.FeedFault.TheVariants.{Incomplete, NoEnd, NoKey, NotAllowed, NotProved}
 
 -- ---- what is written to
 
@@ -39,6 +39,7 @@ SendsText text old new (Err Incomplete) = ⊥
 SendsText text old new (Err NoKey) = ⊥
 SendsText text old new (Err NotProved) = ⊥
 SendsText text old new (Err NotAllowed) = ⊥
+SendsText text old new (Err NoEnd) = ⊥
 
 -- ---- the source
 

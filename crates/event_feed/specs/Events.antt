@@ -8,7 +8,7 @@ use Rattle.event_feed.specs.Feed.{Feeds}
 use Rattle.event_feed.specs.Texts.{refusal_lines, take_lines}
 use Rattle.event_feed.specs.declared.fault.FeedFault.{FeedFault}
 use Rattle.event_feed.specs.declared.fault.FeedFault.TheVariants.{Dropped, ReadFault, WriteFault, NoMemory, NoSite, Ended}
-use Rattle.event_feed.specs.declared.fault.FeedFault.TheVariants.{Incomplete, NoKey, NotAllowed, NotProved}
+use Rattle.event_feed.specs.declared.fault.FeedFault.TheVariants.{Incomplete, NoEnd, NoKey, NotAllowed, NotProved}
 use Rattle.event_feed.specs.declared.progress.Input.{Input}
 
 pub record Outputs : Type 0 where
@@ -40,6 +40,7 @@ IsLineWritten number findings old new (Err Incomplete) = ⊥
 IsLineWritten number findings old new (Err NoKey) = ⊥
 IsLineWritten number findings old new (Err NotProved) = ⊥
 IsLineWritten number findings old new (Err NotAllowed) = ⊥
+IsLineWritten number findings old new (Err NoEnd) = ⊥
 
 abbrev pub hello_event : List ℕ
 hello_event = codes "hello 2\n"

@@ -3,7 +3,7 @@
 use Rattle.std.specs.Prelude.{ℕ, List, codes}
 use Rattle.event_feed.specs.declared.fault.FeedFault.{FeedFault}
 use Rattle.event_feed.specs.declared.fault.FeedFault.TheVariants.{Dropped, ReadFault, WriteFault, NoMemory, NoSite, Ended}
-use Rattle.event_feed.specs.declared.fault.FeedFault.TheVariants.{Incomplete, NoKey, NotAllowed, NotProved}
+use Rattle.event_feed.specs.declared.fault.FeedFault.TheVariants.{Incomplete, NoEnd, NoKey, NotAllowed, NotProved}
 
 abbrev pub number_of : FeedFault → ℕ
 number_of Dropped = 2
@@ -16,6 +16,7 @@ number_of Incomplete = 9
 number_of NoKey = 10
 number_of NotProved = 11
 number_of NotAllowed = 12
+number_of NoEnd = 13
 
 abbrev pub name_of : FeedFault → List ℕ
 name_of Dropped = codes "Dropped"
@@ -28,3 +29,4 @@ name_of Incomplete = codes "Incomplete"
 name_of NoKey = codes "NoKey"
 name_of NotProved = codes "NotProved"
 name_of NotAllowed = codes "NotAllowed"
+name_of NoEnd = codes "NoEnd"

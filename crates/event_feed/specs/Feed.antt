@@ -19,7 +19,7 @@ use Rattle.event_feed.specs.Progress.{after_part, end_of}
 use Rattle.event_feed.specs.Texts.{drops}
 use Rattle.event_feed.specs.declared.fault.FeedFault.{FeedFault}
 use Rattle.event_feed.specs.declared.fault.FeedFault.TheVariants.{Dropped, ReadFault, WriteFault, NoMemory, NoSite, Ended}
-use Rattle.event_feed.specs.declared.fault.FeedFault.TheVariants.{Incomplete, NoKey, NotAllowed, NotProved}
+use Rattle.event_feed.specs.declared.fault.FeedFault.TheVariants.{Incomplete, NoEnd, NoKey, NotAllowed, NotProved}
 use Rattle.event_feed.specs.declared.progress.Input.{Input}
 use Rattle.event_feed.specs.declared.progress.Progress.{Progress}
 use Rattle.event_feed.specs.declared.progress.Progress.TheVariants.{Unbegun}
@@ -35,8 +35,8 @@ pub record FeedTurn : Type 0 where
 abbrev pub no_event : Told
 no_event = record { part = Nothing; findings = Refuses (BadEvent Line) ∷ [] }
 
--- a line of at most so many bytes tells what is read of it, where the changes of these projects are fed; a longer one is
--- no event, and isn't read
+-- a line of at most so many bytes tells what is read of it, where the changes of these projects are fed; a longer one
+-- is no event, and isn't read
 abbrev pub IsFoundTurn : Choice → ℕ → List Revision → FeedTurn → List Revision → Type 0
 IsFoundTurn choice limit known turn after =
     ((length turn.piece ≤ limit) × Reads known choice (without_cr turn.piece) turn.told after)
@@ -82,6 +82,7 @@ BreaksOff limit bytes source later Incomplete = ⊥
 BreaksOff limit bytes source later NoKey = ⊥
 BreaksOff limit bytes source later NotProved = ⊥
 BreaksOff limit bytes source later NotAllowed = ⊥
+BreaksOff limit bytes source later NoEnd = ⊥
 
 -- reading a line broke off, and nothing of it was handed over
 pub record BreaksFeed {Taker : Type 0} (limit : ℕ) (old new : Standing Taker) (fault : FeedFault) : Type 0 where
@@ -142,7 +143,7 @@ module _ {Taker : Type 0} (takes : Taker → ℕ → Told → Result (Unit {0}) 
       ⊎ IsEnd input number old new (Err fault)
       ⊎ BreaksFeed limit old new fault
 
--- nothing is held of a source, known or feed_begun
+-- nothing is held of a source, known or begun
 abbrev pub feed_begun : {Taker : Type 0} → Option (List ℕ) → ℕ → Taker → Standing Taker
 feed_begun left failed taker =
     record { source = record { left = left; failed = failed; held = [] }; known = []; progress = Unbegun; taker = taker }

@@ -13,7 +13,7 @@ use Rattle.event_feed.specs.Feed.{Waits, ended_by, with_taker}
 use Rattle.event_feed.specs.Progress.{after_part}
 use Rattle.event_feed.specs.declared.fault.FeedFault.{FeedFault}
 use Rattle.event_feed.specs.declared.fault.FeedFault.TheVariants.{Dropped, ReadFault, WriteFault, NoMemory, NoSite, Ended}
-use Rattle.event_feed.specs.declared.fault.FeedFault.TheVariants.{Incomplete, NoKey, NotAllowed, NotProved}
+use Rattle.event_feed.specs.declared.fault.FeedFault.TheVariants.{Incomplete, NoEnd, NoKey, NotAllowed, NotProved}
 use Rattle.event_feed.specs.declared.progress.Input.{Input}
 use Rattle.event_feed.specs.declared.progress.Progress.{Progress}
 
@@ -39,6 +39,7 @@ BreaksPassing source later Incomplete = ⊥
 BreaksPassing source later NoKey = ⊥
 BreaksPassing source later NotProved = ⊥
 BreaksPassing source later NotAllowed = ⊥
+BreaksPassing source later NoEnd = ⊥
 
 module _ {Taker : Type 0} (rests : Taker → Result (Unit {0}) FeedFault → Taker → Type 0) where
   -- the taker rests where it has to

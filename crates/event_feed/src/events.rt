@@ -57,11 +57,12 @@ impl<D: Drain, E: Drain> Taker for EventWriter<D, E> {
     }
 }
 
-/// Reads the lines of a source, as `feed_lines` does, and writes what each brings, as a session takes it, to the output:
-/// `hello 2` first, then a line `take BODY` for each body. What is refused of the line of number n is reported on the
-/// errors: `reviewgate: events 1 BadEvent n KEY` or `reviewgate: events 2 Dropped n`. Refusals: those of `feed_lines`; 4
-/// `WriteFault`, one of the outputs failed; 5 `NoMemory`, memory was refused for a line, of which nothing was written.
-/// It costs O(n) for n bytes that are read and written, and a look-up for each parent that a line names.
+/// Reads the lines of a source, as `feed_lines` does, and writes what each brings, as a session takes it, to the
+/// output: `hello 2` first, then a line `take BODY` for each body. What is refused of the line of number n is reported
+/// on the errors: `reviewgate: events 1 BadEvent n KEY` or `reviewgate: events 2 Dropped n`. Refusals: those of
+/// `feed_lines`; 4 `WriteFault`, one of the outputs failed; 5 `NoMemory`, memory was refused for a line, of which
+/// nothing was written. It costs O(n) for n bytes that are read and written, and a look-up for each parent that a line
+/// names.
 pub fn events_run<S: Source, D: Drain, E: Drain>(
     alloc: Global,
     input: Input,

@@ -38,6 +38,9 @@ pub enum FeedFault {
     /// 12: who has the key may look, and not have bodies taken in.
     #[error("the key may only read")]
     NotAllowed,
+    /// 13: the site says again and again that more of its record is left, and answers nothing that it didn't before.
+    #[error("the pull of the site's record has no end")]
+    NoEnd,
 }
 
 impl FeedFault {
@@ -56,6 +59,7 @@ impl FeedFault {
             FeedFault::NoKey => 10,
             FeedFault::NotProved => 11,
             FeedFault::NotAllowed => 12,
+            FeedFault::NoEnd => 13,
         }
     }
 
@@ -74,6 +78,7 @@ impl FeedFault {
             FeedFault::NoKey => "NoKey",
             FeedFault::NotProved => "NotProved",
             FeedFault::NotAllowed => "NotAllowed",
+            FeedFault::NoEnd => "NoEnd",
         }
     }
 }

@@ -19,13 +19,13 @@ use std::alloc::Global;
 const LINE_LIMIT: usize = 1048576;
 
 /// Reads the lines of a source, one after the other, and hands to a taker what each tells, with its number, counted
-/// from 1, before the next one is read. Before more of the source is read the taker rests. A line of more than 1,048,576
-/// bytes is passed over without being held, and is no event, as is what comes last without an LF. Ends well at the end
-/// of the source. Refusals: 2 `Dropped`, a line says that Gerrit dropped events; 3 `ReadFault`, the source failed, or
-/// gave 2^64 - 1 lines or blocks of one line; 5 `NoMemory`, memory was refused for a line, which wasn't handed over; 9
-/// `Incomplete`, a line is an error in place of an answer, or the source ended where the answer of a query has begun
-/// and isn't whole, or, where one is awaited, hasn't begun; and those of the taker. It costs O(n) for n bytes, beside
-/// what the taker costs.
+/// from 1, before the next one is read. Before more of the source is read the taker rests. A line of more than
+/// 1,048,576 bytes is passed over without being held, and is no event, as is what comes last without an LF. Ends well
+/// at the end of the source. Refusals: 2 `Dropped`, a line says that Gerrit dropped events; 3 `ReadFault`, the source
+/// failed, or gave 2^64 - 1 lines or blocks of one line; 5 `NoMemory`, memory was refused for a line, which wasn't
+/// handed over; 9 `Incomplete`, a line is an error in place of an answer, or the source ended where the answer of a
+/// query has begun and isn't whole, or, where one is awaited, hasn't begun; and those of the taker. It costs O(n) for n
+/// bytes, beside what the taker costs.
 pub fn feed_lines<S: Source, T: Taker>(
     alloc: Global,
     input: Input,

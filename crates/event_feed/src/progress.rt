@@ -55,8 +55,8 @@ impl Input {
     }
 }
 
-/// A law: an answer is whole just where the last row or line of statistics is one of statistics, which says that no more
-/// is left; and it hasn't begun just where neither came.
+/// A law: an answer is whole just where the last row or line of statistics is one of statistics, which says that no
+/// more is left; and it hasn't begun just where neither came.
 pub fn answers_end_with_statistics()
     ensures whole { (parts : List Piece) → (progress_of parts ≡ Whole) ↔ EndsWhole parts }
     ensures unbegun { (parts : List Piece) → (progress_of parts ≡ Unbegun) ↔ AreBeside parts }

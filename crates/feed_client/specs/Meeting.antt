@@ -5,7 +5,7 @@ use Rattle.event_feed.specs.Ends.{End, FeedIsCutShort, IsWritten}
 use Rattle.event_feed.specs.Texts.{fault_line}
 use Rattle.event_feed.specs.declared.fault.FeedFault.{FeedFault}
 use Rattle.event_feed.specs.declared.fault.FeedFault.TheVariants.{Dropped, ReadFault, WriteFault, NoMemory, NoSite, Ended}
-use Rattle.event_feed.specs.declared.fault.FeedFault.TheVariants.{Incomplete, NoKey, NotAllowed, NotProved}
+use Rattle.event_feed.specs.declared.fault.FeedFault.TheVariants.{Incomplete, NoEnd, NoKey, NotAllowed, NotProved}
 use Rattle.event_filter.specs.Bringing.{IsBrought}
 use Rattle.event_filter.specs.Newest.{IsOpenTo}
 use Rattle.gerrit_events.specs.declared.fault.EventFault.{EventFault}
@@ -51,6 +51,7 @@ ReportsLoss text old new (Err Incomplete) = ⊥
 ReportsLoss text old new (Err NoKey) = ⊥
 ReportsLoss text old new (Err NotProved) = ⊥
 ReportsLoss text old new (Err NotAllowed) = ⊥
+ReportsLoss text old new (Err NoEnd) = ⊥
 
 abbrev pub refused_words : ℕ → List ℕ → List ℕ
 refused_words number text = (codes "Refused " ++ decimal number ++ codes " ") ++ text
@@ -76,6 +77,8 @@ TakesUp number deed (Err (Refused refusal)) old new errors after result =
     (new ≡ old) × ReportsLoss (refused_line number refusal) errors after result
 TakesUp number deed (Err intake.NotAllowed) old new errors after result =
     (result ≡ Err NotAllowed) × (new ≡ old) × (after ≡ errors)
+TakesUp number deed (Err intake.NoEnd) old new errors after result =
+    (result ≡ Err NoEnd) × (new ≡ old) × (after ≡ errors)
 TakesUp number deed (Err intake.Ended) old new errors after result =
     (result ≡ Err Ended) × (new ≡ old) × (after ≡ errors)
 TakesUp number deed (Err intake.NoMemory) old new errors after result =

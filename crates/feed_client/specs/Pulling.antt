@@ -1,9 +1,9 @@
--- A site's record is pulled in rounds into the state that a feed keeps of it. How far that goes is told by a front, which
--- goes on from one sequence number of a row to the next, and so over no gap.
+-- A site's record is pulled in rounds into the state that a feed keeps of it. How far that goes is told by a front,
+-- which goes on from one sequence number of a row to the next, and so over no gap.
 use Rattle.std.specs.Prelude.{◌≡◌, ◌⊎◌, ◌≤◌, ◌<◌, ◌+◌, ◌-◌, ◌==◌, ◌^◌, ℕ, Bool, true, false, List, [], ◌∷◌, Result, Ok, Err}
 use Rattle.std.specs.Prelude.{Contains, flat_map, fold, length, take, if◌then◌else◌}
 use Rattle.event_feed.specs.declared.fault.FeedFault.{FeedFault}
-use Rattle.event_feed.specs.declared.fault.FeedFault.TheVariants.{NoMemory, NotAllowed, Ended}
+use Rattle.event_feed.specs.declared.fault.FeedFault.TheVariants.{NoEnd, NoMemory, NotAllowed, Ended}
 use Rattle.replica_core.specs.Front.{Reaches, raised, reach_of}
 use Rattle.review_ops.specs.Operation.{Operation}
 use Rattle.review_ops.specs.Timestamp.{Timestamp}
@@ -43,6 +43,7 @@ all_ops rounds = flat_map (λ ops. ops) rounds
 abbrev pub ending_of : IntakeFault → FeedFault
 ending_of (Refused refusal) = Ended
 ending_of intake.NotAllowed = NotAllowed
+ending_of intake.NoEnd = NoEnd
 ending_of intake.Ended = Ended
 ending_of intake.NoMemory = NoMemory
 

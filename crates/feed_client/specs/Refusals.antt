@@ -33,6 +33,7 @@ abbrev pub IsRefusalText : List ℕ → IntakeFault → Type 0
 IsRefusalText text (Refused refusal) = text ≡ text_of refusal
 IsRefusalText text fault.NotAllowed = text ≡ not_allowed_text
 IsRefusalText text fault.Ended = (¬ (text ≡ not_allowed_text)) × ((refusal : Refusal) → ¬ (text ≡ text_of refusal))
+IsRefusalText text fault.NoEnd = ⊥
 IsRefusalText text fault.NoMemory = ⊥
 
 -- no session answers this line
@@ -48,4 +49,5 @@ IsTakeAnswer line (Ok stamp) = line ≡ ok_word ++ timestamp_text stamp
 IsTakeAnswer line (Err (Refused refusal)) = line ≡ no_word ++ text_of refusal
 IsTakeAnswer line (Err fault.NotAllowed) = line ≡ no_word ++ not_allowed_text
 IsTakeAnswer line (Err fault.Ended) = AnswersNothing line
+IsTakeAnswer line (Err fault.NoEnd) = ⊥
 IsTakeAnswer line (Err fault.NoMemory) = Unit {0}

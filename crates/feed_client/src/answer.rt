@@ -25,8 +25,8 @@ const REFUSALS: [Refusal; 5] = [
 const NOT_ALLOWED: &[u8] = b"11 NotAllowed";
 
 /// What a line answers: `ok STAMP`, or the refusal of `no NUMBER NAME`. Refusals: `Refused`, with what the site refused
-/// it for; `NotAllowed`, the key of the connection may only read; `Ended`, the line is no answer; `NoMemory`, memory was
-/// refused for reading the stamp.
+/// it for; `NotAllowed`, the key of the connection may only read; `Ended`, the line is no answer; `NoMemory`, memory
+/// was refused for reading the stamp.
 pub fn read_answer(alloc: Global, line: &[u8]) -> Result<Stamp, IntakeFault>
     ensures { IsTakeAnswer line.now result }
 {

@@ -52,14 +52,15 @@ struct Reading<I> {
     inlet: Arc<Inlet, Global>,
 }
 
-/// Feeds the lines of an input to a site, as `feed_site` and `complete_site` do, over a connection that is sealed where the
-/// site is on another machine. Its record is pulled first, of which the state is kept, and then `pulled N` is written to the
-/// output: the record has N operations. Only then the input is read, by a thread of its own. One session is held as long as
-/// the feed lasts, which ends with `quit` and `bye`. A feed of a stream pulls again over it, from its front, whenever its
-/// input was silent for a second. Where the session ends the feed does within a tenth of a second, also while the input is
-/// silent. Refusals, beside those of `feed_site` and `complete_site`: 7 `NoSite`, no site answers at the address; 8 `Ended`,
-/// also where the system gives no random bytes for sealing; 10 `NoKey`, the site has no such key; 11 `NotProved`, what
-/// answers didn't prove that it has it; 12 `NotAllowed`, the key may only read.
+/// Feeds the lines of an input to a site, as `feed_site` and `complete_site` do, over a connection that is sealed where
+/// the site is on another machine. Its record is pulled first, of which the state is kept, and then `pulled N` is
+/// written to the output: the record has N operations. Only then the input is read, by a thread of its own. One session
+/// is held as long as the feed lasts, which ends with `quit` and `bye`. A feed of a stream pulls again over it, from
+/// its front, whenever its input was silent for a second, or the last pull is a second ago. Where the session ends the
+/// feed does within a tenth of a second, also while the input is silent. Refusals, beside those of `feed_site` and `complete_site`: 7 `NoSite`, no
+/// site answers at the address; 8 `Ended`, also where the system gives no random bytes for sealing; 10 `NoKey`, the
+/// site has no such key; 11 `NotProved`, what answers didn't prove that it has it; 12 `NotAllowed`, the key may only
+/// read; 13 `NoEnd`, more than 256 operations lie past a gap of the site's record.
 pub fn feed_to<R, I, O, E>(
     rt: R,
     alloc: Global,

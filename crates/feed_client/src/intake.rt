@@ -27,6 +27,8 @@ pub enum IntakeFault {
     Refused(Refusal),
     /// The key of the connection may only read, so that the site refuses each body. It changed nothing.
     NotAllowed,
+    /// The site says that more is left, and answers nothing that it didn't before.
+    NoEnd,
     /// The connection ended, or what came over it was no answer. The body may have been taken in.
     Ended,
     /// Memory was refused here. The body may have been taken in.

@@ -48,8 +48,8 @@ impl<T: Taker> Taker for Listing<T> {
     }
 }
 
-/// Feeds the answer of a query to a site, as `feed_site` does, where it lists every open change: once it has come to its
-/// end, each change that the record has as NEW and that no row lists is asked for, since it may be merged, and then
+/// Feeds the answer of a query to a site, as `feed_site` does, where it lists every open change: once it has come to
+/// its end, each change that the record has as NEW and that no row lists is asked for, since it may be merged, and then
 /// abandoned, in the order of their numbers. Where a line of the answer couldn't be read nothing is asked for or
 /// abandoned, since it may have listed a change. What the site refuses of these abandons is reported with the number of
 /// the last line. Refusals: those of `feed_site`; 9 `Incomplete` also where a line couldn't be read. It costs what

@@ -144,6 +144,7 @@ fn take_up<E: Drain>(
         Ok(stamp) => keep(state, Op::new(stamp, body)),
         Err(IntakeFault::Refused(refusal)) => report_refusal(alloc, number, refusal, errors),
         Err(IntakeFault::NotAllowed) => Err(FeedFault::NotAllowed),
+        Err(IntakeFault::NoEnd) => Err(FeedFault::NoEnd),
         Err(IntakeFault::Ended) => Err(FeedFault::Ended),
         Err(IntakeFault::NoMemory) => Err(FeedFault::NoMemory),
     }
@@ -159,7 +160,7 @@ fn keep(state: &mut State, op: Op) -> Result<(), FeedFault>
     }
 }
 
-/// ReportsLoss that the site refused a body of the line of this number.
+/// Reports that the site refused a body of the line of this number.
 fn report_refusal<E: Drain>(
     alloc: Global,
     number: u64,
@@ -194,7 +195,7 @@ fn refused_words(alloc: Global, number: u64, text: &str) -> Result<String, Alloc
     Ok(words)
 }
 
-/// ReportsLoss what is lost of the line of this number.
+/// Reports what is lost of the line of this number.
 fn report_loss<E: Drain>(
     alloc: Global,
     number: u64,

@@ -21,8 +21,9 @@ struct Pulled {
 }
 
 /// Takes what came to a site into a state, round by round, until there is no more. Answers how many operations came. Of
-/// the record only the state is kept. Refusals: 5 `NoMemory`; 8 `Ended`, the site answered no round, or 2^64 - 1 of them
-/// without an end. Then those that came before were taken in.
+/// the record only the state is kept. Refusals: 5 `NoMemory`; 8 `Ended`, the site answered no round, or 2^64 - 1 of
+/// them without an end; 12 `NotAllowed` and 13 `NoEnd`, it answered so. Then the operations that came before were taken
+/// in.
 pub fn pull_all<T: Intake>(site: &mut T, state: &mut State) -> Result<u64, FeedFault>
     ensures { Pulls T.answers site.old state.old site.new state.new result }
 {
@@ -62,6 +63,7 @@ fn ending_of(fault: IntakeFault) -> FeedFault
     match fault {
         IntakeFault::Refused(_) | IntakeFault::Ended => FeedFault::Ended,
         IntakeFault::NotAllowed => FeedFault::NotAllowed,
+        IntakeFault::NoEnd => FeedFault::NoEnd,
         IntakeFault::NoMemory => FeedFault::NoMemory,
     }
 }

@@ -11,7 +11,7 @@ use event_feed::FeedFault;
 use gossip_line::{LineFault, greet, read_round, send_front};
 use line_reader::{LINE_LIMIT, LineReader};
 use op_text::write_body;
-use replica_core::{Front, Missing};
+use replica_core::{Front, Missing, Row};
 use review_ops::{Body, Stamp};
 use site_net::Patience;
 use std::alloc::Global;
@@ -22,11 +22,14 @@ use std::time::{Clock, Duration, Instant};
 /// How many milliseconds a site has for an answer.
 const PATIENCE_MS: u64 = 60_000;
 
-/// How many milliseconds a wait for the input takes before it is looked again whether the session lasts.
+/// How many milliseconds a wait for the input takes before it looks again whether the session lasts.
 const TICK_MS: u64 = 100;
 
 /// How many such waits make the input silent: a second.
 const SILENT_TICKS: u32 = 10;
+
+/// How many seconds after a pull it pulls again, however much comes from the input.
+const PULL_S: u64 = 1;
 
 /// How many seconds pass at least before the site is told again that Gerrit was heard.
 const HEARD_S: u64 = 10;
@@ -47,6 +50,8 @@ pub struct Session<'a, R: Wait + Clock> {
     is_pulled: bool,
     /// Whether a pull is under way.
     is_behind: bool,
+    /// When it pulled last.
+    pulled: Option<Instant>,
     /// Whether the site notes that Gerrit was heard, as far as is known, and when it did last.
     notes_heard: bool,
     heard: Option<Instant>,
@@ -91,6 +96,7 @@ impl<'a, R: Wait + Clock> Session<'a, R> {
             pulls_again,
             is_pulled: false,
             is_behind: false,
+            pulled: None,
             notes_heard: true,
             heard: None,
         };
@@ -136,12 +142,18 @@ impl<'a, R: Wait + Clock> Session<'a, R> {
     }
 
     /// Pulls a round: what the front lacks, at most 256 operations, and whether the site has more. The front goes on to
-    /// them.
+    /// them. Where it goes on to none, and more is left, the next round would be the same: more than 256 operations lie
+    /// past a gap of the site's record.
     fn pull(&mut self) -> Result<Missing, IntakeFault> {
         let round = self.read_round()?;
+        let mut goes_on = false;
         for op in &round.ops {
-            self.reach(op.stamp())?;
+            goes_on |= self.reach(op.stamp())?;
         }
+        if round.more && !goes_on {
+            return Err(IntakeFault::NoEnd);
+        }
+        self.pulled = Instant::now(self.rt).ok();
         Ok(round)
     }
 
@@ -152,10 +164,15 @@ impl<'a, R: Wait + Clock> Session<'a, R> {
         read_round(self.alloc, &mut self.reader, &mut self.source).map_err(line_fault)
     }
 
-    /// Lets the front go on to a stamp.
-    fn reach(&mut self, stamp: Stamp) -> Result<(), IntakeFault> {
+    /// Lets the front go on to a stamp, where that is the next of its row. Whether it is.
+    fn reach(&mut self, stamp: Stamp) -> Result<bool, IntakeFault> {
+        let row = Row {
+            site: stamp.site(),
+            start: stamp.start(),
+        };
+        let before = self.front.reach(row);
         match go_on(&mut self.front, stamp) {
-            Ok(()) => Ok(()),
+            Ok(()) => Ok(self.front.reach(row) > before),
             Err(_) => Err(IntakeFault::NoMemory),
         }
     }
@@ -187,6 +204,14 @@ impl<'a, R: Wait + Clock> Session<'a, R> {
         match self.heard {
             Some(heard) => now.duration_since(heard) < Duration::from_secs(HEARD_S),
             None => false,
+        }
+    }
+
+    /// Whether it pulled last a second ago or longer.
+    fn is_pull_due(&self) -> bool {
+        match (self.pulled, Instant::now(self.rt)) {
+            (Some(pulled), Ok(now)) => now.duration_since(pulled) >= Duration::from_secs(PULL_S),
+            _ => false,
         }
     }
 
@@ -230,11 +255,12 @@ impl<'a, R: Wait + Clock> Intake for Session<'a, R> {
         };
         self.ask(line.as_str())?;
         let stamp = read_answer(self.alloc, self.reader.line())?;
-        self.reach(stamp)?;
+        let _goes_on = self.reach(stamp)?;
         Ok(stamp)
     }
 
-    /// First the record, then, before more of the input is read, what came while it was silent.
+    /// First the record, then, before more of the input is read, what came to the site while it was silent, or since the
+    /// last pull, where that is a second ago.
     fn next_round(&mut self) -> Result<Missing, IntakeFault> {
         if !self.is_pulled {
             let round = self.pull()?;
@@ -248,10 +274,10 @@ impl<'a, R: Wait + Clock> Intake for Session<'a, R> {
         }
         let is_ready = self.await_input()?;
         self.say_heard()?;
-        self.is_behind = self.pulls_again && !is_ready;
+        self.is_behind = self.pulls_again && (!is_ready || self.is_pull_due());
         Ok(Missing {
             ops: Vec::new(self.alloc),
-            more: !is_ready,
+            more: self.is_behind || !is_ready,
         })
     }
 }

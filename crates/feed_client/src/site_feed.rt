@@ -76,12 +76,13 @@ impl<T: Intake, O: Drain, E: Drain> Taker for SiteFeed<T, O, E> {
 
 /// Reads the lines of a source, as `event_feed::feed_lines` does, and offers what each brings to a site, in order, but
 /// for what the state says already. What the site takes in is taken into the state, too, and so is, before more of the
-/// source is read, what others brought to the site. Which changes a line makes the feed ask for is written to the output
-/// before what it brings is offered, as `ask N` lines, in the order of their numbers. What is refused of the line of
-/// number n, counted from 1, is reported on the errors: by the line itself (`reviewgate: events 1 BadEvent n KEY`,
-/// `reviewgate: events 2 Dropped n`), for the record (`reviewgate: events 1 BadEvent n status`: an abandon or a restore
-/// of a change that is merged) or by the site (`reviewgate: events 6 Refused n NUMBER NAME`). Refusals: those of
-/// `feed_lines`; 4 `WriteFault`, an output failed; 5 `NoMemory`; 8 `Ended`, no answer came from the site. It costs O(n)
+/// source is read, what others brought to the site. Which changes a line makes the feed ask for is written to the
+/// output before what it brings is offered, as `ask N` lines, in the order of their numbers. What is refused of the
+/// line of number n, counted from 1, is reported on the errors: by the line itself (`reviewgate: events 1 BadEvent n
+/// KEY`, `reviewgate: events 2 Dropped n`), for the record (`reviewgate: events 1 BadEvent n status`: an abandon or a
+/// restore of a change that is merged) or by the site (`reviewgate: events 6 Refused n NUMBER NAME`). Refusals: those
+/// of `feed_lines`; 4 `WriteFault`, an output failed; 5 `NoMemory`; 8 `Ended`, no answer came from the site; 12
+/// `NotAllowed`, the key of the connection may only read; 13 `NoEnd`, the site has more than it answers. It costs O(n)
 /// for n bytes that are read and written, and O(log m) for each body, for m changes, patch sets and votes of the state.
 pub fn feed_site<S: Source, T: Intake, O: Drain, E: Drain>(
     alloc: Global,
