@@ -28,8 +28,8 @@ SaysHeld (Ok stamp) old new = SaysStamp stamp old new ⊎ SaysFault (NoMemory 0)
 SaysHeld (Err fault) old new = SaysFault fault old new
 
 -- what a session is answered, and whether it ends, where a worker's work is done and it doesn't leave: a look's text is
--- added, or memory is refused for it and the session ends; where it is or isn't let in, what it was answered may be given
--- up
+-- added, or memory is refused for it and the session ends; where it is or isn't let in, what it was answered may be
+-- given up
 abbrev pub GoesOnWith : Work → List ℕ → List ℕ → Bool → Type 0
 GoesOnWith (Looked text answered) old new ends = (new ≡ old ++ text.items) ⊎ ((new ≡ old) × (ends ≡ true))
 GoesOnWith (Admitted admitted) old new ends = (new ≡ old) ⊎ (new ≡ [])
@@ -44,7 +44,8 @@ IsSeatAfter outbox_of ends work session seat =
     (after : _) × (seat ≡ Some after) × GoesOnWith work (outbox_of session) (outbox_of after) (ends after)
 
 module _ {S : Type 0} (number_of : S → ℕ) (outbox_of : S → List ℕ) where
-  -- of the sessions at their places the one of this number at this place is answered, if it is still there, and no other
+  -- of the sessions at their places the one of this number at this place is answered, if it is still there, and no
+  -- other
   pub record IsSeatAnswered (place number : ℕ) (Says : List ℕ → List ℕ → Type 0) (old new : List (Option S)) : Type 0 where
     pub others : (other : ℕ) → other ≢ place → slice_get new other ≡ slice_get old other
     pub strangers : (session : S) → slice_get old place ≡ Some (Some session) → number_of session ≢ number

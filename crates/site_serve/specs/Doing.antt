@@ -26,7 +26,8 @@ pub record Scene : Type 0 where
 abbrev pub IsLeft : Scene → Scene → Type 0
 IsLeft old new = (new.waiters ≡ old.waiters) × (new.account ≡ old.account)
 
--- the line has an answer that is known, which is added to what waits to be sent, or as much of it as there is memory for
+-- the line has an answer that is known, which is added to what waits to be sent, or as much of it as there is memory
+-- for
 abbrev pub SaysLine : Bool → List ℕ → Scene → Scene → Type 0
 SaysLine first line old new =
     (saying : Saying) × IsStep first line (step.Says saying)
@@ -34,8 +35,8 @@ SaysLine first line old new =
     × Adds (answer_text (answer_of saying)) (next_of (answer_of saying)) old.answers new.answers result)
     × IsLeft old new
 
--- a body is held, or refused, and its session waits for the next publish, after those who wait already, for the answer to
--- just that; a session that may only look is answered that it isn't, and nothing of it is held
+-- a body is held, or refused, and its session waits for the next publish, after those who wait already, for the answer
+-- to just that; a session that may only look is answered that it isn't, and nothing of it is held
 abbrev pub DoesBody : Bool → Deed → Asker → Scene → Scene → Type 0
 DoesBody true deed asker old new =
     AddsOne asker (HoldsBody deed old.account new.account) old.waiters new.waiters × (new.answers ≡ old.answers)

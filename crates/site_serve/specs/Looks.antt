@@ -42,8 +42,8 @@ LooksAfter gate old call Has new text answered =
     ((mid : Outlook) × GoesOn old mid × Has mid.seen × ShowsReply gate mid call new text answered)
     ⊎ Adds (refusal_line Closed) (Ok true) [] text answered
 
--- the work answers a look so, after the window has seen all that was published when the receipt was made, where there is
--- one
+-- the work answers a look so, after the window has seen all that was published when the receipt was made, where there
+-- is one
 abbrev pub AnswersLook : {T : Type 0} → GateRules → Outlook → Look → Option T → (T → List (List Operation)) → Outlook
     → Work → Type 0
 AnswersLook gate old look receipt published_of new work =

@@ -51,8 +51,8 @@ abbrev pub HaveStamps : List Operation → List Timestamp → Type 0
 HaveStamps journal stamps = list_all (has_stamp journal) stamps ≡ true
 
 -- how a pull's offers are taken up: the front and the greatest time are those of a moment; once what is handed over is
--- taken, the window sees an operation with each of its stamps; what is declined may have been published, or held, by the
--- desk
+-- taken, the window sees an operation with each of its stamps; what is declined may have been published, or held, by
+-- the desk
 abbrev pub SiteSinks : Outlook → Offer → Uptake → Outlook → Type 0
 SiteSinks old fronts (reached front) new = GoesOn old new × IsFront (arrive new.seen) front
 SiteSinks old clocks (at_time latest) new = GoesOn old new × (latest ≡ greatest (times (arrive new.seen)))

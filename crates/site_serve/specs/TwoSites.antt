@@ -1,5 +1,5 @@
--- Two running sites that pulled from each other: where each had a whole answer of the other, after which nothing was left,
--- and nothing else came to either, both hold the union, and print the same.
+-- Two running sites that pulled from each other: where each had a whole answer of the other, after which nothing was
+-- left, and nothing else came to either, both hold the union, and print the same.
 use Rattle.std.specs.Prelude.{◌≡◌, false, List, ◌++◌, ℕ}
 use Rattle.gate_rules.specs.Rules.{GateRules}
 use Rattle.gossip_line.specs.PassingOn.{AreNumbered, IsLastOf, ShareNoTwins}
@@ -51,7 +51,8 @@ pub record Side : Type 0 where
 abbrev pub union : Side → Side → List Operation
 union one other = one.had ++ other.had
 
--- what the one was shown was the record of the other: it had all that the other had at first, and the other has it still
+-- what the one was shown was the record of the other: it had all that the other had at first, and the other has it
+-- still
 pub record IsShownBy (one other : Side) : Type 0 where
   pub had : IsPartOf other.had (arrive one.shown)
   pub has : IsPartOf (arrive one.shown) (record_seen other.end)

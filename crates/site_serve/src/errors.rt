@@ -65,6 +65,13 @@ impl<E: Drain> Errors<E> {
         }
     }
 
+    /// Writes that a peer says again and again that more is left, and hands over nothing new.
+    pub fn has_no_end(&self, rt: &impl Wait, alloc: Global, peer: PeerAddress<'_>) {
+        if let Ok(line) = line_of_peer(alloc, 10, "NoEnd", peer) {
+            self.write(rt, line.as_str());
+        }
+    }
+
     /// Writes that a pull from a peer ended well, after one that didn't.
     pub fn is_back(&self, rt: &impl Wait, alloc: Global, peer: PeerAddress<'_>) {
         if let Ok(line) = line_of_peer(alloc, 0, "Back", peer) {

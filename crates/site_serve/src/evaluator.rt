@@ -34,8 +34,8 @@ use std::time::{Clock, Duration, Instant};
 /// a window that is looked through, so that reports hold up takes for a twentieth of the time.
 const REST: u32 = 19;
 
-/// The longest such rest in seconds, and how many times as long as a report took it rests at least: where a report takes
-/// long, so that it is fresher, it may hold up takes for a fifth of the time.
+/// The longest such rest in seconds, and how many times as long as a report took it rests at least: where a report
+/// takes long, so that it is fresher, it may hold up takes for a fifth of the time.
 const LONG_REST_S: u64 = 5;
 
 const LEAST_REST: u32 = 4;
@@ -61,10 +61,10 @@ struct Shown {
 }
 
 /// Prints the report of what the window shows, and each one that differs from the last, or what changed from one to the
-/// next, until nothing new comes any more. After each it rests, unless another gate is put in force, under which the next
-/// one is made at once. The verdicts are kept from one look to the next, and brought up to date with what the window
-/// shows; those under another gate are made anew. Once the output has failed nothing more is printed, which is said on
-/// the error output.
+/// next, until nothing new comes any more. After each it rests, unless another gate is put in force, under which the
+/// next one is made at once. The verdicts are kept from one look to the next, and brought up to date with what the
+/// window shows; those under another gate are made anew. Once the output has failed nothing more is printed, which is
+/// said on the error output.
 pub fn print_reports<R: Wait + Clock, W: Drain + Drop, E: Drain, J: Naming>(
     rt: &R,
     alloc: Global,

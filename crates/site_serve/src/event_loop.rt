@@ -284,8 +284,8 @@ impl EventLoop {
         places.unlist();
     }
 
-    /// Ten times a second: has the listeners tried again, looks whether more answers may be made, and ends the sessions with
-    /// whom there is no patience left.
+    /// Ten times a second: has the listeners tried again, looks whether more answers may be made, and ends the sessions
+    /// with whom there is no patience left.
     fn look_at_clock<J: Naming>(&mut self, places: &mut Places<J>) {
         if self.now.saturating_sub(self.looked) < Duration::from_millis(TICK_MS) {
             return;
@@ -442,7 +442,7 @@ pub(super) fn serve_sessions<R: Wait + Clock, J: Opening, K: Keeps, E: Drain>(
     }
 }
 
-/// Serves the sessions at these places, as `serve_floor` does.
+/// Serves the sessions at these places, as `serve_sessions` does.
 fn serve_places<R: Wait + Clock, J: Opening, K: Keeps, E: Drain>(
     rt: &R,
     site: Site<'_, E, J>,

@@ -45,6 +45,8 @@ pub enum Condition {
     Well,
     Unreachable,
     Failed(LineFault),
+    /// It says that more is left, and handed over nothing that wasn't there.
+    Endless,
     /// It doesn't answer as who has the key.
     Undialed(DialFault),
     /// The key isn't there to be used.
@@ -158,6 +160,7 @@ fn report_condition<E: Drain>(
         Condition::Well => errors.is_back(rt, alloc, peer),
         Condition::Unreachable => errors.not_reached(rt, alloc, peer),
         Condition::Failed(fault) => errors.pull_failed(rt, alloc, fault, peer),
+        Condition::Endless => errors.has_no_end(rt, alloc, peer),
         Condition::Undialed(fault) => errors.not_dialed(rt, alloc, fault, peer),
         Condition::Unkeyed(fault) => errors.no_key_of(rt, alloc, fault, peer),
     }
@@ -271,8 +274,10 @@ fn pulled<R: Wait, T: KeyReader, J: Naming, S: Source, D: Drain>(
     drain: &mut D,
     port: &mut Guarded<'_, PullPort<'_, R, J>>,
 ) -> Condition {
+    port.sink.begin();
     match pull_run(pulling.alloc, source, drain, port) {
-        Ok(_pulled) => Condition::Well,
+        Ok(pulled) if pulled.more && !port.sink.has_brought() => Condition::Endless,
+        Ok(_) => Condition::Well,
         Err(fault) => Condition::Failed(fault),
     }
 }

@@ -27,9 +27,9 @@ pub const BATCH: usize = 4096;
 #[derive(Drop)]
 pub struct NotKept;
 
-/// The ledger of an opening, and all who wait until what is held for them is kept and published: a group commit (DeWitt,
-/// Katz, Olken, Shapiro, Stonebraker and Wood 1984). Whatever was held for one of them is among what the ledger has.
-/// Contracts see what the ledger has, and who waits.
+/// The ledger of an opening, and all who wait until what is held for them is kept and published: a group commit
+/// (DeWitt, Katz, Olken, Shapiro, Stonebraker and Wood 1984). Whatever was held for one of them is among what the
+/// ledger has. Contracts see what the ledger has, and who waits.
 pub struct GroupCommit<J: Opening, K: Keeps> {
     ledger: OwnLedger<J, K>,
     waiters: Vec<Waiter>,

@@ -91,7 +91,8 @@ impl Inbox {
         self.bytes.extend_from_slice(came)
     }
 
-    /// Keeps what opens of what came, in place of what is done. What opens is whole lines, so that none is looked at twice.
+    /// Keeps what opens of what came, in place of what is done. What opens is whole lines, so that none is looked at
+    /// twice.
     pub(super) fn keep_opened(&mut self, wire: &mut Wire, came: &[u8]) -> Result<(), WireFault>
         ensures { wire.old.fault ≡ None → (text : List ℕ) × (self.new ≡ self.old ++ text)
             × OpensCame wire.old came.now text result wire.new }

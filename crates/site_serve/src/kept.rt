@@ -15,8 +15,8 @@ use ready_core::Verdicts;
 use site_shared::{Naming, RefreshFault, WindowFault};
 use std::alloc::Global;
 
-/// The verdicts on what a window shows: those that were kept, brought up to date, or new ones, under a copy of the gate,
-/// where none were. It costs what `OwnWindow::refresh` does, or `OwnWindow::watch`.
+/// The verdicts on what a window shows: those that were kept, brought up to date, or new ones, under a copy of the
+/// gate, where none were. It costs what `OwnWindow::refresh` does, or `OwnWindow::watch`.
 pub fn brought_up<J: Naming>(
     gate: &Gate,
     window: &mut OwnWindow<J>,

@@ -79,8 +79,8 @@ impl<J: Naming> News<J> {
         slot.is_closed = true;
     }
 
-    /// Rests for so long, and then waits for a receipt that nobody has looked at. Another gate and the end are noticed at
-    /// once, also in the rest; after the end it doesn't rest.
+    /// Rests for so long, and then waits for a receipt that nobody has looked at. Another gate and the end are noticed
+    /// at once, also in the rest; after the end it doesn't rest.
     pub fn next<R: Wait + Clock>(&self, rt: &R, pause: Duration) -> Notice<J> {
         let wakeup = self.reloads.wakeup();
         if !self.is_closed(rt) && wakeup.wait_for(rt, pause) {

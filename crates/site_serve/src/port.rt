@@ -1,7 +1,9 @@
 //! The site, as a session or a pull of it sees it.
 
-ghost use Rattle.std.specs.Prelude.{◌≡◌, IfOk, OnOk, true};
+ghost use Rattle.std.specs.Prelude.{◌≡◌, ◌||◌, IfOk, OnOk, false, not, true};
+ghost use Rattle.std.specs.List.{list_all};
 ghost use Rattle.std.specs.Option.{ForSome};
+ghost use Rattle.replica_core.specs.Journal.{has_stamp};
 ghost use Rattle.replica_core.specs.JournalLaws.{IsPartOf};
 ghost use Rattle.site_port.specs.Ports.{IsLookingFault};
 ghost use Rattle.site_serve.specs.InForce.{ruling_gate};
@@ -119,6 +121,8 @@ pub struct PullPort<'a, R: Wait, J: Naming> {
     window: OwnWindow<J>,
     desk_link: DeskLink<J>,
     is_start_taken: bool,
+    /// Whether the pull that is under way has brought an operation that wasn't there.
+    has_brought: bool,
 }
 
 impl<'a, R: Wait, J: Naming> PullPort<'a, R, J> {
@@ -137,7 +141,23 @@ impl<'a, R: Wait, J: Naming> PullPort<'a, R, J> {
             window,
             desk_link,
             is_start_taken: false,
+            has_brought: false,
         }
+    }
+
+    /// Begins a pull, which has brought nothing yet.
+    pub fn begin(&mut self)
+        ensures window { self.new.window ≡ self.old.window }
+        ensures nothing { self.new.has_brought ≡ false }
+    {
+        self.has_brought = false;
+    }
+
+    /// Whether the pull that was begun last has brought an operation that wasn't there.
+    pub fn has_brought(&self) -> bool
+        ensures { result ≡ self.now.has_brought }
+    {
+        self.has_brought
     }
 
     /// Whether a peer has handed over an operation that another process took in as this site.
@@ -169,6 +189,21 @@ impl<'a, R: Wait, J: Naming> PullPort<'a, R, J> {
             Ok(true) => {
                 self.is_start_taken = true;
                 Err(SinkFault::Closed)
+            }
+            Err(fault) => Err(sink_fault(fault)),
+        }
+    }
+
+    /// Notes whether one of these stamps isn't there yet.
+    fn note_new(&mut self, stamps: &[Stamp]) -> Result<(), SinkFault>
+        ensures later { GoesOn self.old.window.window self.new.window.window }
+        ensures noted { OnOk result (self.new.has_brought
+            ≡ (self.old.has_brought || not (list_all (has_stamp (arrive self.new.window.window.seen)) stamps.now))) }
+    {
+        match self.window.has_stamps(stamps) {
+            Ok(are_there) => {
+                self.has_brought |= !are_there;
+                Ok(())
             }
             Err(fault) => Err(sink_fault(fault)),
         }
@@ -213,6 +248,10 @@ impl<'a, R: Wait, J: Naming> Sink for PullPort<'a, R, J> {
             Ok(stamps) => stamps,
             Err(_) => return Err(SinkFault::NoMemory),
         };
+        match self.note_new(stamps.as_slice()) {
+            Ok(()) => {}
+            Err(fault) => return Err(fault),
+        }
         let done = match self.ask(ops) {
             Some(Ok(done)) => done,
             Some(Err(_)) => return Err(SinkFault::NoMemory),

@@ -100,8 +100,8 @@ impl Reloads {
         }
     }
 
-    /// Puts a gate in force: from now on each thread of the site judges under it as soon as it looks at the record anew,
-    /// and what is printed is printed anew. Where memory is refused for that, the one before it stays in force.
+    /// Puts a gate in force: from now on each thread of the site judges under it as soon as it looks at the record
+    /// anew, and what is printed is printed anew. Where memory is refused for that, the one before it stays in force.
     pub fn put(&self, rt: &impl Wait, alloc: Global, gate: Gate) -> Result<(), AllocError> {
         let Ok(gate) = Arc::new(alloc, gate) else {
             return Err(AllocError);

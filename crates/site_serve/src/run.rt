@@ -44,7 +44,7 @@ use std::time::{Clock, Duration};
 /// How many workers look side by side at most.
 const MOST_WORKERS: usize = 6;
 
-/// How many windows a site has at most: for its workers, its reports and its pulls.
+/// How many windows a site has at most: for its workers, its reports, its pages and its pulls.
 const WINDOWS: usize = 64;
 
 /// How many connections may be open at most.
@@ -91,13 +91,13 @@ fn one_listener(alloc: Global, listener: TcpListener) -> Result<Vec<Listener>, A
 
 /// Runs a site until it is asked to stop, or until all its sessions have ended: its sessions, its pulls and its reports
 /// in threads of their own, and its desk in this one. The report of what it has is printed first, then each one that
-/// differs from the last, or what changed from one to the next, as the setup has it. What ended with a fault, which peer
-/// can't be reached, and that the output failed is written to `errors`. Refusals: 2
-/// `StartUsed`, the replica has a stamp of the site under this start or a later one; 3 `NoMemory`; 4 `NoPlace`, the
-/// system refused a thread or a place for one; 6 `NoJournal`, what was taken in couldn't be kept, and was neither shown
-/// nor acknowledged. Whatever the site takes in is kept first, then shown, then acknowledged. The keeper has to be one
-/// that has some operations, all of which stay: a journal that was just opened is, and `NoJournal`. It is given back:
-/// what it had survives in it, and after that all that came to the record.
+/// differs from the last, or what changed from one to the next, as the setup has it. What ended with a fault, which
+/// peer can't be reached, and that the output failed is written to `errors`. Refusals: 2 `StartUsed`, the replica has a
+/// stamp of the site under this start or a later one; 3 `NoMemory`; 4 `NoPlace`, the system refused a thread or a place
+/// for one; 6 `NoJournal`, what was taken in couldn't be kept, and was neither shown nor acknowledged. Whatever the
+/// site takes in is kept first, then shown, then acknowledged. The keeper has to be one that has some operations, all
+/// of which stay: a journal that was just opened is, and `NoJournal`. It is given back: what it had survives in it, and
+/// after that all that came to the record.
 pub fn serve_keeping<R, W, E, T, K>(
     rt: &R,
     alloc: Global,
@@ -119,8 +119,8 @@ where
     ensures used { list_any (is_used setup.entry.site setup.entry.start) setup.entry.replica ≡ true
         → IsErr result.served }
 
-    // Whatever the keeper had survives in what is given back, with `more` after it; and the record is the first one with
-    // just `more`.
+    // Whatever the keeper had survives in what is given back, with `more` after it; and the record is the first one
+    // with just `more`.
     ensures keeps { HasKept K.survives (K.holds keeper) setup.entry.replica result.keeper result.served }
 {
     match begin(rt, alloc, listeners, setup, stop, errors, turn) {
@@ -517,8 +517,8 @@ struct RunParts<J: Naming> {
     ready_loop: ReadyLoop,
 }
 
-/// What the threads of a site run with. Refusals: `NoPlace`, there are fewer windows than threads, or the system refused
-/// what wakes the loop; `NoMemory`.
+/// What the threads of a site run with. Refusals: `NoPlace`, there are fewer windows than threads, or the system
+/// refused what wakes the loop; `NoMemory`.
 fn run_parts_of<E: Drain, T: Turn, J: Naming>(
     common: &Common<'_, E, T>,
     loop_setup: LoopSetup,
@@ -541,7 +541,7 @@ fn run_parts_of<E: Drain, T: Turn, J: Naming>(
     }
 }
 
-/// The thread_ends of the threads.
+/// The ends of the threads.
 fn thread_ends_of<J: Naming>(
     alloc: Global,
     windows: Vec<Window>,

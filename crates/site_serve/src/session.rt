@@ -94,8 +94,8 @@ pub(super) struct Session<J: Naming> {
 }
 
 impl<J: Naming> Session<J> {
-    /// A session of which nothing was read, and which waits until it has begun; where its connection has to be let in by
-    /// a key, its lines are sealed.
+    /// A session of which nothing was read, and which waits until it has begun; where its connection has to be let in
+    /// by a key, its lines are sealed.
     pub(super) fn new(
         alloc: Global,
         number: u64,
@@ -370,8 +370,8 @@ impl<J: Naming> Session<J> {
                 false
             }
             Ok(count) => {
-                // Less than was asked for is all that is there, and what comes later is noted. But an end that came with
-                // it isn't noted again.
+                // Less than was asked for is all that is there, and what comes later is noted. But an end that came
+                // with it isn't noted again.
                 self.may_read = self.is_closing || count == buffer.len();
                 let came = buffer.get(..count).unwrap_or(&[]);
                 self.note(came, now);
@@ -432,7 +432,8 @@ impl<J: Naming> Session<J> {
         self.takes_more = true;
     }
 
-    /// Gives up a part of an answer for which memory was refused, and which is no line that could be sealed, once it ends.
+    /// Gives up a part of an answer for which memory was refused, and which is no line that could be sealed, once it
+    /// ends.
     fn drop_rest(&mut self) {
         if self.ending.is_some() {
             self.outbox.clear();

@@ -51,8 +51,8 @@ pub struct Setup<'a> {
     pub start: u32,
     /// The addresses of its peers.
     pub peers: Vec<PeerAddress<'a>>,
-    /// The name of the file of keys that connections are sealed by, if one is named. Without one nobody is let in at a port
-    /// whose connections are sealed, and no peer on another machine is reached.
+    /// The name of the file of keys that connections are sealed by, if one is named. Without one nobody is let in at a
+    /// port whose connections are sealed, and no peer on another machine is reached.
     pub keys: Option<&'a str>,
     /// The numbers of the sites whose operations it takes from its peers, beside its own; none stands for all.
     pub sites: Vec<u16>,
@@ -62,7 +62,8 @@ pub struct Setup<'a> {
     pub pause_ms: u64,
     /// After how many sessions it ends; without end where that is 0.
     pub sessions: u64,
-    /// How many milliseconds a session that has had no body taken in may send no whole line; without end where that is 0.
+    /// How many milliseconds a session that has had no body taken in may send no whole line; without end where that is
+    /// 0.
     pub idle_ms: u64,
     /// How many connections may be open at once, from 1 to 65,535: none is as 1, and more are as 65,535.
     pub connections: usize,
@@ -126,8 +127,8 @@ impl ServeFault {
     }
 }
 
-/// What a site asks of its host: it is called before and after each session, by the worker that answers it, and reads the
-/// keys by which connections are sealed. Sessions are numbered from 1, as they are accepted.
+/// What a site asks of its host: it is called before and after each session, by the worker that answers it, and reads
+/// the keys by which connections are sealed. Sessions are numbered from 1, as they are accepted.
 pub trait Turn: KeyReader {
     /// The session is answered from now on.
     fn enter(&self, session: u64);

@@ -1,4 +1,4 @@
-//! The thread_ends of the threads of a site: windows to look through, and ends of the channels to the desk.
+//! The ends of the threads of a site: windows to look through, and ends of the channels to the desk.
 
 ghost use Rattle.std.specs.Prelude.{◌≡◌, All};
 
@@ -36,8 +36,8 @@ pub struct LoopEnds<J: Naming> {
     pub answers: Vec<Sender<Answer<J>, Global>>,
 }
 
-/// The thread_ends of the threads: so many workers, and a puller at each window that is left. None where there are fewer windows
-/// than workers and two.
+/// The ends of the threads: so many workers, and a puller at each window that is left. None where there are fewer
+/// windows than workers and two.
 pub fn thread_ends_at<J: Naming>(
     alloc: Global,
     windows: Vec<Window>,
