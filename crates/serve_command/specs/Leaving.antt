@@ -14,8 +14,8 @@ use Rattle.serve_command.specs.declared.command.Ended.{Ended}
 use Rattle.serve_command.specs.declared.command.Ended.TheVariants.{Program, Site}
 use Rattle.serve_command.specs.declared.fault.ProgramFault.TheVariants.{NoSave}
 
--- whatever the keeper had at first survives, with some operations after it; and a record that was left is the one at the
--- beginning with these, and nothing else
+-- whatever the keeper had at first survives, with some operations after it; and a record that was left is the one at
+-- the beginning with these, and nothing else
 abbrev pub LeavesKept : {K : Type 0} → (K → List Operation → Type 0) → (List Operation → Type 0) → List Operation → K
     → Option (List Operation) → Type 0
 LeavesKept survives_by had begun keeper left =

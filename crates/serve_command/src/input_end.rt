@@ -51,9 +51,9 @@ pub fn lines_of_input(alloc: Global) -> Result<LineReader, AllocError> {
     LineReader::new(alloc, LINE_LIMIT).map_err(|_| AllocError)
 }
 
-/// Has a thread of its own hear what the lines of the input ask for: at a line `reload` the gate file is read again, and
-/// at a line `stop`, or at the end of the input, the site is asked to stop. Nobody waits for that thread. Whether the
-/// system gave it.
+/// Has a thread of its own hear what the lines of the input ask for: at a line `reload` the gate file is read again,
+/// and at a line `stop`, or at the end of the input, the site is asked to stop. Nobody waits for that thread. Whether
+/// the system gave it.
 pub fn hear_input<R, I, N, E>(
     rt: R,
     alloc: Global,
@@ -157,8 +157,8 @@ fn read_by<I: Source, O: Drain, N: Named, E: Drain>(
     read_again(alloc, name, &mut console, errors)
 }
 
-/// The gate of a name, read again. What was read from the input can't be. A gate that is refused is written to the error
-/// output as at the start; nothing else is.
+/// The gate of a name, read again. What was read from the input can't be. A gate that is refused is written to the
+/// error output as at the start; nothing else is.
 fn read_again<C: Console, E: Drain>(
     alloc: Global,
     name: &str,

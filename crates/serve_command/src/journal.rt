@@ -23,10 +23,10 @@ use std::alloc::Global;
 const BATCH: usize = 4096;
 
 /// Begins a site's record by a journal on a tape that was just opened, whose lines are read in batches: it has what the
-/// journal says and what was loaded beside, which is added to the journal where that lacks it, and synced. So the journal
-/// says just the record, and the record has whatever was published by a site whose journal a crash left so. How many
-/// bytes of a torn line were cut off is written to `errors`. It costs O(n log n) for n operations, and a sync for each
-/// 4,096 that are added.
+/// journal says and what was loaded beside, which is added to the journal where that lacks it, and synced. So the
+/// journal says just the record, and the record has whatever was published by a site whose journal a crash left so. How
+/// many bytes of a torn line were cut off is written to `errors`. It costs O(n log n) for n operations, and a sync for
+/// each 4,096 that are added.
 pub fn begin<B: Batches, T: Tape + Drop, E: Drain>(
     alloc: Global,
     batches: &B,

@@ -29,8 +29,8 @@ impl<L: KeyReader> Turn for Host<'_, L> {
     fn left(&self, _session: u64) {}
 }
 
-/// Judges the file of keys that the words name, if they name one: it has to be read, and to have a key of each name that
-/// a peer is to be dialed with.
+/// Judges the file of keys that the words name, if they name one: it has to be read, and to have a key of each name
+/// that a peer is to be dialed with.
 pub fn judge_keys<'a, L: KeyReader>(reader: &L, words: &ServeWords<'a>) -> Result<(), Ended<'a>> {
     let Some(name) = words.keys else {
         return Ok(());

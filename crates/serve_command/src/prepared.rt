@@ -58,9 +58,9 @@ pub struct Prepared<'a, R, E, O> {
     pub output: O,
 }
 
-/// Makes all that a site runs with and that may fail: says if its clock is late, finds its start, listens, has its input
-/// heard and makes its output. Where one of these fails the sockets that were made are removed. Refusals: `Site` with
-/// `StartUsed`, its start was used; `NoPlace`, the system refused a thread; `NoMemory`; and those of `listen`.
+/// Makes all that a site runs with and that may fail: says if its clock is late, finds its start, listens, has its
+/// input heard and makes its output. Where one of these fails the sockets that were made are removed. Refusals: `Site`
+/// with `StartUsed`, its start was used; `NoPlace`, the system refused a thread; `NoMemory`; and those of `listen`.
 pub fn prepare<'a, R, I, N, E>(
     rt: R,
     alloc: Global,

@@ -38,8 +38,8 @@ use std::thread::Threads;
 use std::time::Clock;
 
 /// Runs a site by a journal on a tape that was just opened, and saves what it has left. It begins with what the journal
-/// says and what was loaded, as `begin` does; and whatever a crash leaves of the journal that is given back says all that
-/// it began with and published. Refused where the journal isn't opened; then nothing is run or saved.
+/// says and what was loaded, as `begin` does; and whatever a crash leaves of the journal that is given back says all
+/// that it began with and published. Refused where the journal isn't opened; then nothing is run or saved.
 pub fn run_taped<R, I, N, E, L, S, T>(
     rt: R,
     alloc: Global,

@@ -54,21 +54,37 @@ impl<R: Files> Saves for SnapshotFile<R> {
     }
 }
 
-/// Writes the snapshot beside the file, readable by its owner alone, has the system keep it, and puts it in the file's
-/// place.
+/// Saves a record in a file's place. Of one that isn't saved nothing is left beside the file.
 fn save<R: Files>(rt: &R, alloc: Global, name: &str, replica: &Replica) -> io::Result<()> {
     let beside = format!(in alloc; "{name}.new")?;
+    let _absent = fs::remove_file(rt, beside.as_str());
+    match replace(rt, alloc, beside.as_str(), name, replica) {
+        Ok(()) => sync_folder(rt, name),
+        Err(error) => {
+            let _left = fs::remove_file(rt, beside.as_str());
+            Err(error)
+        }
+    }
+}
+
+/// Writes the snapshot to a new file beside the file, readable by its owner alone, has the system keep it, and puts it
+/// in the file's place. It fails where something is beside the file already.
+fn replace<R: Files>(
+    rt: &R,
+    alloc: Global,
+    beside: &str,
+    name: &str,
+    replica: &Replica,
+) -> io::Result<()> {
     let file = OpenOptions::new()
         .write(true)
-        .create(true)
-        .truncate(true)
+        .create_new(true)
         .mode(0o600)
-        .open(rt, beside.as_str())?;
+        .open(rt, beside)?;
     let mut drain = Ends::new(file);
     if write_snapshot(alloc, replica, &mut drain).is_err() {
         return Err(io::Error::from(ErrorKind::Other));
     }
     drain.into_inner().sync_all()?;
-    fs::rename(rt, beside.as_str(), name)?;
-    sync_folder(rt, name)
+    fs::rename(rt, beside, name)
 }
