@@ -51,8 +51,8 @@ put 644 "$source_folder/man/reviewgate.1" "$prefix/share/man/man1/reviewgate.1"
 put 644 "$source_folder/completions/reviewgate.bash" "$prefix/share/bash-completion/completions/reviewgate"
 put_unit reviewgate.service
 put_unit reviewgate-feed.service
-for page in README.md CHANGELOG.md LICENSE docs/OPERATING.md docs/FORMATS.md docs/RULES.md examples/gate.json \
-    examples/alerts.yml examples/dashboard.json; do
+for page in README.md CHANGELOG.md LICENSE docs/OPERATING.md docs/SECURITY.md docs/FORMATS.md docs/RULES.md \
+    examples/gate.json examples/alerts.yml examples/dashboard.json; do
     put 644 "$source_folder/$page" "$prefix/share/doc/reviewgate/$(basename "$page")"
 done
 for picture in list.png change.png list-dark.png narrow.png; do
