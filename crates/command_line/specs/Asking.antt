@@ -196,8 +196,8 @@ abbrev pub IsAskedByWords : Matched → Asked → Type 0
 IsAskedByWords matched asked =
     (name : Name) × (rows : List Row) × (matched ≡ Some (text_of name, rows)) × ArgumentsSay name rows asked
 
--- it is none, or they say nothing: a start, a site or a file of keys is missing, an item, an address, a word, or a site with a start is
--- none, or two options differ
+-- it is none, or they say nothing: a start, a site or a file of keys is missing, an item, an address, a word, or a site
+-- with a start is none, or two options differ
 abbrev pub IsNothing : Matched → Type 0
 IsNothing matched = (asked : Asked) → ¬ IsAskedByWords matched asked
 

@@ -34,8 +34,8 @@ pub enum Command<'a> {
         snapshot: &'a str,
         is_json: bool,
     },
-    /// To print the line of an item of a snapshot in the report under a gate file: of the patch set `set` of the change,
-    /// or its current one; as JSON where `is_json`.
+    /// To print the line of an item of a snapshot in the report under a gate file: of the patch set `set` of the
+    /// change, or its current one; as JSON where `is_json`.
     ReadyItem {
         gate: &'a str,
         snapshot: &'a str,
@@ -65,8 +65,8 @@ pub enum Command<'a> {
         first: &'a str,
         second: &'a str,
     },
-    /// To print what the footers of a message ask for under a gate file's bases, as JSON where `is_json`; `change` is the
-    /// message's own, or 0.
+    /// To print what the footers of a message ask for under a gate file's bases, as JSON where `is_json`; `change` is
+    /// the message's own, or 0.
     Footers {
         gate: &'a str,
         message: &'a str,
@@ -105,7 +105,8 @@ pub struct ServeWords<'a> {
     pub port: Option<u16>,
     /// The paths of the Unix sockets that it listens at.
     pub sockets: Vec<&'a str>,
-    /// The hosts and ports that it listens at for sealed connections; there are some only where a file of keys is named.
+    /// The hosts and ports that it listens at for sealed connections; there are some only where a file of keys is
+    /// named.
     pub hosts: Vec<HostPort<'a>>,
     /// Who may connect to the Unix sockets.
     pub mode: SocketMode,

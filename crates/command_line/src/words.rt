@@ -48,11 +48,11 @@ const NO_TARGET: &str =
     "error: --complete and --gate need --to\n\nFor more information, try '--help'.\n";
 
 /// Reads the words that follow the program's name: a command is answered only where `clap` finds no fault in them.
-/// `Usage` is a usage error: `clap` finds a fault other than a wish for help or for the version, an item or an address is
-/// invalid, an address on another machine is named without a file of keys, a word names nothing that a site prints or no
-/// mode of its sockets, a site has neither a start nor a journal, `--without` names no site with a start, two options of a
-/// feed exclude each other, or one of them needs a site that isn't named. Its text, and those of `Help` and `Version`, are
-/// `clap`'s, but for the last nine. It costs O(bytes of the words).
+/// `Usage` is a usage error: `clap` finds a fault other than a wish for help or for the version, an item or an address
+/// is invalid, an address on another machine is named without a file of keys, a word names nothing that a site prints
+/// or no mode of its sockets, a site has neither a start nor a journal, `--without` names no site with a start, two
+/// options of a feed exclude each other, or one of them needs a site that isn't named. Its text, and those of `Help`
+/// and `Version`, are `clap`'s, but for the last nine. It costs O(bytes of the words).
 pub fn read_words<'a, S: AsStr>(alloc: Global, words: &'a [S]) -> Asked<'a>
     ensures { WordsAsk (map S.text words.entry.now) result }
 {

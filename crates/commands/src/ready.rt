@@ -13,9 +13,9 @@ use report_json::report_line;
 use std::alloc::Global;
 use std::mem::ManuallyDrop;
 
-/// Prints which items of a snapshot may be enqueued under a gate, and why each other one waits, as JSON where `is_json`.
-/// Refusals: those of the gate file, then of the snapshot; `Memory`, memory was refused once both were read; `Output`. It
-/// costs what reading both costs, and what `evaluate` and `write_report` or `report_line` do.
+/// Prints which items of a snapshot may be enqueued under a gate, and why each other one waits, as JSON where
+/// `is_json`. Refusals: those of the gate file, then of the snapshot; `Memory`, memory was refused once both were read;
+/// `Output`. It costs what reading both costs, and what `evaluate` and `write_report` or `report_line` do.
 pub fn ready<'n, C: Console>(
     alloc: Global,
     gate: &'n str,

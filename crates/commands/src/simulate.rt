@@ -16,9 +16,9 @@ use world_core::World;
 /// Plays the script of a name, with reports under the gate of another, where that is named: its events happen in a new
 /// world one after the other, by `World::step`, and what a line answers is printed once it is known. Every such run
 /// keeps the promise of `the_same_operations_print_the_same`. Refusals: those of the script's bytes, then of the gate
-/// file; `Script` 1 `BadSites`; `Script` 2 `BadLine`, the script ends at a line that says nothing, once the lines before
-/// it are answered; `Script` 3 `NoMemory`, the script, the sites or an answer couldn't be held; `Output`. It costs what
-/// reading and the events cost.
+/// file; `Script` 1 `BadSites`; `Script` 2 `BadLine`, the script ends at a line that says nothing, once the lines
+/// before it are answered; `Script` 3 `NoMemory`, the script, the sites or an answer couldn't be held; `Output`. It
+/// costs what reading and the events cost.
 pub fn simulate<'n, C: Console>(
     alloc: Global,
     script: &'n str,

@@ -24,8 +24,8 @@ use why_text::{conditions_text, item_asked, why_text};
 /// Prints why an item of a snapshot waits under a gate: the patch set `set` of the change, or its current one where
 /// none is named; and then each condition of the gate, where `is_all`; as JSON where `is_json`. Refusals: those of the
 /// gate file, then of the snapshot; `NoItem`, the item isn't known; `Memory`, memory was refused once both were read;
-/// `Output`. It costs what reading both costs, and what `evaluate` and `why_text` do, or `why_line`, and, where `is_all`,
-/// `conditions_text`.
+/// `Output`. It costs what reading both costs, and what `evaluate` and `why_text` do, or `why_line`, and, where
+/// `is_all`, `conditions_text`.
 pub fn why<'n, C: Console>(
     alloc: Global,
     gate: &'n str,

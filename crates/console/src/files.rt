@@ -38,8 +38,8 @@ pub trait Named {
         ensures counted { CountsRead (failed self.old) (failed self.new) result };
 
     /// The gathering to which the operations of the snapshot in the file of a name came, after those that it has. The
-    /// text is read in blocks. The refusals and costs are those of `snapshot_text::gather_onto`; 7 `ReadFault` also where
-    /// the file can't be opened.
+    /// text is read in blocks. The refusals and costs are those of `snapshot_text::gather_onto`; 7 `ReadFault` also
+    /// where the file can't be opened.
     fn read_snapshot(&mut self, gathering: Gathering, name: &str) -> Result<Gathering, SnapFault>
         ensures ok { IfOk result (λ both. Brings (file_of (files self.old) name.now) gathering both) }
         ensures err { IfErr result (λ fault. IsRefusedBy (file_of (files self.old) name.now) fault) }
@@ -49,9 +49,9 @@ pub trait Named {
             (λ _. failed self.new ≡ failed self.old)
             (CountsSnapFault (failed self.old) (failed self.new)) };
 
-    /// The gathering to which the operations of the record of the running site at an address of this machine came, after
-    /// those that it has. Refusals: those of a pull, but for `Closed`; 8 `Unreachable`; 10 `NoEnd`, the site says again
-    /// and again that more is left. It is no call of a file.
+    /// The gathering to which the operations of the record of the running site at an address of this machine came,
+    /// after those that it has. Refusals: those of a pull, but for `Closed`, `NotListed` and `FarAhead`; 8
+    /// `Unreachable`; 10 `NoEnd`, the site says again and again that more is left. It is no call of a file.
     fn pull(&mut self, gathering: Gathering, address: Address<'_>) -> Result<Gathering, PullFault>
         ensures ok { IfOk result (λ both. BringsRecord (record_at (sites self.old) address.entry) gathering both) }
         ensures err { IfErr result IsPullFault }

@@ -123,8 +123,8 @@ pub fn read_script<'n, C: Console>(
     Ok(text)
 }
 
-/// The gathering to which the operations of the snapshot of a name came, after those that it has. Refusal: `Snapshot`, it
-/// isn't read, or says no operations.
+/// The gathering to which the operations of the snapshot of a name came, after those that it has. Refusal: `Snapshot`,
+/// it isn't read, or says no operations.
 pub fn read_snapshot<'n, C: Console>(
     gathering: Gathering,
     name: &'n str,
@@ -142,9 +142,9 @@ pub fn read_snapshot<'n, C: Console>(
     }
 }
 
-/// The gathering to which the operations of the record of a name came, after those that it has: for `@ADDRESS` the record
-/// of the running site at that address of this machine, for any other name that of a snapshot. Refusals: those of
-/// `read_snapshot`; `NoAddress`, there is no address behind the `@`; `Peer`, the record isn't pulled.
+/// The gathering to which the operations of the record of a name came, after those that it has: for `@ADDRESS` the
+/// record of the running site at that address of this machine, for any other name that of a snapshot. Refusals: those
+/// of `read_snapshot`; `NoAddress`, there is no address behind the `@`; `Peer`, the record isn't pulled.
 pub fn read_record<'n, C: Console>(
     gathering: Gathering,
     name: &'n str,

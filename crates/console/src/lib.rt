@@ -7,8 +7,8 @@
 //! `std`'s streams in the hands of each command, of which no contract could say that one was read before the other.
 //!
 //! The name `-` is that of the input, which is read once: a second `-` is empty. Each kind of input has its limit. A
-//! script, a gate file or a message is judged once it is read, and a snapshot as it is read, in blocks. The name `@ADDRESS`
-//! of a record is that of a running site, from which the record is pulled.
+//! script, a gate file or a message is judged once it is read, and a snapshot as it is read, in blocks. The name
+//! `@ADDRESS` of a record is that of a running site, from which the record is pulled.
 //!
 //! An example of its use:
 //!

@@ -8,7 +8,7 @@ use gossip_line::LineFault;
 /// Why the record of a running site isn't pulled.
 #[derive(Clone, Copy, Debug, PartialEq, Eq)]
 pub enum PullFault {
-    /// 1 to 7: the session failed, as a pull does.
+    /// 1 to 6: the session failed, as a pull does. `Closed`, `NotListed` and `FarAhead` never come.
     Failed(LineFault),
     /// 8: nothing that answers was reached at the address.
     Unreachable,

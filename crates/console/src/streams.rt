@@ -36,10 +36,10 @@ pub trait Console {
         ensures read { IfOk result (λ bytes. IsRead name.now limit (state self.old) (state self.new) bytes.items) }
         ensures unread { IfErr result (IsUnread name.now limit (state self.old) (state self.new)) };
 
-    /// The gathering to which the operations of the snapshot of a name came, after those that it has: of the file of the
-    /// name, or for `-` of what the input has left. A second `-` has nothing, and so no header. The text is read in
-    /// blocks. The refusals and costs are those of `snapshot_text::gather_onto`; 7 `ReadFault` also where the file can't
-    /// be opened.
+    /// The gathering to which the operations of the snapshot of a name came, after those that it has: of the file of
+    /// the name, or for `-` of what the input has left. A second `-` has nothing, and so no header. The text is read in
+    /// blocks. The refusals and costs are those of `snapshot_text::gather_onto`; 7 `ReadFault` also where the file
+    /// can't be opened.
     fn read_snapshot(&mut self, gathering: Gathering, name: &str) -> Result<Gathering, SnapFault>
         ensures had { IfOk result (λ both. (ops : List Operation) × (both ≡ all_arrived gathering ops)
             × IsHad (input snapshot_file name.now) (λ text. SaysOperations (lines_of text) ops)
@@ -47,8 +47,8 @@ pub trait Console {
         ensures refused { IfErr result (λ fault. IsRefused (input snapshot_file name.now)
             (state self.old) (state self.new) (Refusal.Snapshot fault)) };
 
-    /// The gathering to which the operations of the record of the running site at an address of this machine came, after
-    /// those that it has. Refusals: those of `Named::pull`.
+    /// The gathering to which the operations of the record of the running site at an address of this machine came,
+    /// after those that it has. Refusals: those of `Named::pull`.
     fn pull(&mut self, gathering: Gathering, address: Address<'_>) -> Result<Gathering, PullFault>
         ensures pulled { IfOk result (λ both. BringsRecord (record_at (state self.old).sites address.entry) gathering both) }
         ensures unpulled { IfErr result IsPullFault }

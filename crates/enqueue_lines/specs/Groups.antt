@@ -1,4 +1,4 @@
--- What is ready after a group of lines, which is a whole report or says what ready_following. The lines of both are the
+-- What is ready after a group of lines, which is a whole report or says what changed. The lines of both are the
 -- project's own (`report_text`, `report_changes`).
 use Rattle.std.specs.Prelude.{◌≡◌, ◌==◌, ◌&&◌, ◌||◌, ℕ, Bool, true, List, [], ◌∷◌, ◌++◌, filter, flat_map, length, not}
 use Rattle.std.specs.Prelude.{if◌then◌else◌, Contains}
@@ -60,7 +60,7 @@ ready_following before told = filter (λ item. not (is_among told.removed item))
 abbrev pub ready_after : List Item → GroupTold → ℕ → List Item
 ready_after before told count = if is_report told count then told.listed else ready_following before told
 
--- a report doesn't say what ready_following: it adds nothing, and takes nothing away from what it lists
+-- a report doesn't say what changed: it adds nothing, and takes nothing away from what it lists
 abbrev pub is_one_kind : GroupTold → ℕ → Bool
 is_one_kind told count =
     not (is_report told count) || (is_none told.added && (is_none told.listed || is_none told.removed))

@@ -30,8 +30,8 @@ pub data Mode : Type 0 where
   in_quotes : Mode
   escaped : Mode
 
--- what a shell reads as one word. A byte that ends the word, or has a meaning of its own, makes it none; so does a quote
--- or a backslash with nothing after it
+-- what a shell reads as one word. A byte that ends the word, or has a meaning of its own, makes it none; so does a
+-- quote or a backslash with nothing after it
 abbrev pub word_from : Mode → List ℕ → Option (List ℕ)
 word_from unquoted [] = Some []
 word_from in_quotes [] = None

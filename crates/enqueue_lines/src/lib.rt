@@ -2,10 +2,10 @@
 //!
 //! Its tests are in the crate `enqueue_tests`.
 //!
-//! It is a crate of its own so that it is proved apart from sites what is printed of a list of groups: the items that
-//! are ready after a group and weren't before, each once, in gate order. Not taken: a shell script over the lines, which
-//! would have to keep what is ready, and to quote what Gerrit calls a project; the kit's `regex`, since a line is read
-//! just where it is the text that a site writes.
+//! It is a crate of its own so that what is printed of a list of groups is proved apart from sites: the items that
+//! are ready after a group and weren't before, each once, in gate order. Not taken: a shell script over the lines,
+//! which would have to keep what is ready, and to quote what Gerrit calls a project; the kit's `regex`, since a line is
+//! read just where it is the text that a site writes.
 //!
 //! A [`Template`] says what is written for an item, [`Places`] where changes are to be merged, and an [`ItemSet`] what
 //! was handed over before. [`hand_over`] reads a source and writes to a drain, group by group.

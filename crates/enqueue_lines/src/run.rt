@@ -19,7 +19,7 @@ use line_reader::LineReader;
 use state_core::Item;
 use std::alloc::Global;
 
-/// How many bytes a line may have: one that a site prints has at most 96.
+/// How many bytes a line may have: more than any that a site prints.
 const LINE_LIMIT: usize = 4096;
 
 /// A group whose lines come: what they say, and how many came.

@@ -104,7 +104,8 @@ impl Template {
         Ok(Template { pieces })
     }
 
-    /// Adds the template's text with values put in, each as a word of a shell. It costs O(n) for n bytes that are added.
+    /// Adds the template's text with values put in, each as a word of a shell. It costs O(n) for n bytes that are
+    /// added.
     pub fn add_filled(
         &self,
         alloc: Global,

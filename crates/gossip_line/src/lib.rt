@@ -5,7 +5,7 @@
 //!
 //! It is a crate of its own so that the lines between sites are the same over memory, pipes and sockets. Not taken:
 //! HTTP and gRPC, whose headers and framing a shell can't write by hand; pushing to peers, which needs to know who is
-//! there: a pull needs only the own front.
+//! there: a pull needs only the puller's own front.
 //!
 //! | Line | Answer |
 //! |---|---|
@@ -14,6 +14,7 @@
 //! | `front FRONT` | up to 256 lines `op OPERATION`, then `more` or `done` |
 //! | `ready` | the report |
 //! | `state` | the state text |
+//! | `heard`, that what feeds the site heard from Gerrit | `noted` |
 //! | `quit` | `bye`; the session ends well |
 //!
 //! What is refused is answered `no NUMBER NAME`:

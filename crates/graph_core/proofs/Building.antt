@@ -118,7 +118,7 @@ module _ (gate : GateRules) (state : State) (items : List Item) (are : ArePart g
     );
   }
 
--- lists side by side, each pair with that the first list has its element
+-- lists side by side, and of each pair that the first list has its element
 each_of : {X Y : Type 0} (R : X → Y → Type 0) (xs : List X) (ys : List Y) → AllZip R xs ys
     → AllZip (λ x y. Contains xs x × R x y) xs ys
 each_of R xs ys all =

@@ -42,7 +42,7 @@ pub fn part_with(
     items_of(alloc, state)
 }
 
-/// FindsItem an item, and puts what it waits for ahead where it wasn't found before.
+/// Finds an item, and puts what it waits for ahead where it wasn't found before.
 fn find_item(
     alloc: Global,
     gate: &Gate,

@@ -31,8 +31,8 @@ fn other_parent(change: &ChangeState, item: Item) -> Option<u32>
 }
 
 /// The changes that an item names, merged or not, in no order, maybe more than once: by a footer of its message, or as
-/// the change of its Git parent; none of an item that isn't known. It costs O(n) for each base of the gate and a message of
-/// n bytes.
+/// the change of its Git parent; none of an item that isn't known. It costs O(n) for each base of the gate and a
+/// message of n bytes.
 pub fn names_of(alloc: Global, gate: &Gate, state: &State, item: Item) -> Result<Vec<u32>, NoMemory>
     ensures { IfOk result (λ names. (number : ℕ)
         → Contains names.items number ↔ Names gate.now state.now item number) }

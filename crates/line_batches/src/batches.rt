@@ -27,8 +27,8 @@ pub trait Batches {
         ensures { (0 < result) × (result ≤ 1048576) };
 
     /// The operations of whole lines, in their order. `None` where a line isn't whole, is longer than 524,288 bytes, or
-    /// isn't an operation's from its first brace to its last; where memory is refused; or where they are left to be read
-    /// one by one.
+    /// isn't an operation's from its first brace to its last; where memory is refused; or where they are left to be
+    /// read one by one.
     fn operations(&self, alloc: Global, lines: &[u8]) -> Option<Vec<Op>>
         ensures { IfSome result (λ ops. IsBatch lines.now ops.items) };
 }

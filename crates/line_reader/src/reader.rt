@@ -75,7 +75,7 @@ impl<A: Allocator + Copy> LineReader<A> {
         self.read_line(source)
     }
 
-    /// PassesLine over what comes up to the next LF, as the rest of a line that is too long, and says whether there was an
+    /// Passes over what comes up to the next LF, as the rest of a line that is too long, and says whether there was an
     /// LF: where not, the source is at its end. What was passed over isn't held: beside what was held before a block of
     /// the source is held at most. Refusals: 6 `TooLong`, no LF was among 2^64 - 1 blocks; 7 `ReadFault`, the source
     /// failed; 8 `NoMemory`. What was read until then is passed over. It costs O(n) for n bytes.

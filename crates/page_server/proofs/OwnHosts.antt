@@ -19,7 +19,7 @@ any_of_both test (x ∷ xs) ys = elim (test x) as (λ (b : Bool). (b || list_any
   | false ↦ any_of_both test xs ys
 ]
 
--- the value names_host this machine, or else one of the hosts that were given
+-- the value names this machine, or else one of the hosts that were given
 pub own_or_given : (hosts : List (String Global)) (value : List ℕ)
     → is_own (map string_bytes hosts) value
     ≡ (list_any (λ host. names_host host value) own_names || list_any (λ host. names_host (string_bytes host) value) hosts)

@@ -12,7 +12,7 @@ is_port rest = (length rest == 0) || ((slice_index rest 0 == 58) && list_all is_
 abbrev pub names_host : List ℕ → List ℕ → Bool
 names_host host value = str_eq_ignore_ascii_case (take (length host) value) host && is_port (drop (length host) value)
 
--- the names_host of this machine
+-- the names of this machine
 abbrev pub own_names : List (List ℕ)
 own_names = codes "localhost" ∷ codes "127.0.0.1" ∷ codes "[::1]" ∷ []
 

@@ -119,8 +119,8 @@ const STYLE: &str = "content-type: text/css; charset=utf-8\r\ncache-control: no-
 
 const KEPT: &str = "cache-control: no-cache\r\n";
 
-/// What a connection is sent; the line of the status, the fields of the kind and what comes after the fields that each page
-/// has, which it is answered; and how many pages were taken and hosts refused then.
+/// What a connection is sent; the line of the status, the fields of the kind and what comes after the fields that each
+/// page has, which it is answered; and how many pages were taken and hosts refused then.
 #[derive(Clone, Copy)]
 struct Row {
     sent: &'static str,
@@ -179,8 +179,8 @@ const MISDIRECTED: &str = "content-length: 24\r\n\r\n421 Misdirected Request\n";
 /// What a request with another method is answered.
 const NOT_ALLOWED: &str = "allow: GET, HEAD\r\ncontent-length: 23\r\n\r\n405 Method Not Allowed\n";
 
-/// What a request of the style is answered, with its entity tag, the SHA-256 of `abc` (FIPS 180-4, the first example): by
-/// who hasn't kept it, and by who has.
+/// What a request of the style is answered, with its entity tag, the SHA-256 of `abc` (FIPS 180-4, the first example):
+/// by who hasn't kept it, and by who has.
 const WHOLE_STYLE: &str =
     "etag: \"ba7816bf8f01cfea414140de5dae2223b00361a396177a9cb410ff61f20015ad\"\r\ncontent-length: 3\r\n\r\nabc";
 

@@ -1,5 +1,5 @@
-//! Tests of the routes of the page of a site, and of its server: over bytes in memory, and over sockets of this machine.
-//! A crate of tests alone, as `record_tests` is.
+//! Tests of the routes of the page of a site, and of its server: over bytes in memory, and over sockets of this
+//! machine. A crate of tests alone, as `record_tests` is.
 #![tactic(auto)]
 
 #[cfg(test)]

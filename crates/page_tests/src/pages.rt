@@ -30,8 +30,8 @@ fn is_page(alloc: Global, route: Route, status: Status, title: &str, main: &str)
     shows(alloc, route, status, Kind::Html, &parts)
 }
 
-/// What differs from list to list: the words that are searched for, the kinds of items, how the caption begins, the rows,
-/// and the links to other pages.
+/// What differs from list to list: the words that are searched for, the kinds of items, how the caption begins, the
+/// rows, and the links to other pages.
 #[derive(Clone, Copy)]
 struct List {
     words: &'static str,

@@ -1,4 +1,4 @@
--- Titles.
+-- The title of a page, step by step.
 use Rattle.std.proofs.Common.{◌≡◌, ◌∙◌, ℕ, List, ◌++◌, ap, append_assoc}
 use Rattle.std.specs.Prelude.{IfSome, Option, None, Some, codes}
 use Rattle.markup_text.specs.Adding.{none_is_some}

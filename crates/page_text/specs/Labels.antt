@@ -1,4 +1,5 @@
--- The value of a label (Prometheus, "Exposition formats", text-based format, "Comments, help text, and type information").
+-- The value of a label (Prometheus, "Exposition formats", text-based format, "Comments, help text, and type
+-- information").
 use Rattle.std.specs.Prelude.{ℕ, List, ◌==◌, codes, encode_utf8, flat_map, if◌then◌else◌}
 use Rattle.std.specs.Str.{chars}
 

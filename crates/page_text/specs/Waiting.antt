@@ -24,7 +24,7 @@ waiting_tokens items =
     key (codes "waiting") ∷ begin_array ∷ [] ++ flat_map (λ item. string (item_text item) ∷ []) items
     ++ end_array ∷ []
 
--- the text of an object whose last member are these items
+-- the text of an object whose last member is the list of these items
 pub record EndsInWaiting (items : List Item) (text : List ℕ) : Type 0 where
   pub before : List ℕ
   pub members : List Token

@@ -12,7 +12,7 @@ use report_changes::is_over;
 /// Which of the items that are left out are counted.
 #[derive(Clone, Copy)]
 pub enum Counted {
-    /// Those that are open, that is aren't over.
+    /// Those that are open, that is, those that aren't over.
     Open,
     /// Those that are open and wait for this reason.
     For(Reason),

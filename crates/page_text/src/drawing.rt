@@ -50,8 +50,8 @@ struct Node {
 }
 
 /// Adds the drawing: in the first column what waits for the item, then the item, then column by column what is named.
-/// There is none where nothing waits and nothing is named, and where it would have more than 60 nodes a line says so. It
-/// costs O(k) times what an item's names cost, and O(k log n), for k nodes of n items.
+/// There is none where nothing waits and nothing is named, and where it would have more than 60 nodes a line says so.
+/// It costs O(k) times what an item's names cost, and O(k log n), for k nodes of n items.
 pub fn add_drawing(
     alloc: Global,
     page: &mut Markup,

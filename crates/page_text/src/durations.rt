@@ -1,4 +1,4 @@
-//! How long something took, or ago it is, in words.
+//! How long something took, or how long ago it was, in words.
 
 /// A second, a minute, an hour and a day in milliseconds.
 const SECOND: u64 = 1_000;

@@ -49,7 +49,7 @@ pub struct JournalFacts {
 /// What a site knows of a site that it pulls from.
 #[derive(Drop)]
 pub struct PeerFacts {
-    /// How the command line names the site: its port, or the path of its socket.
+    /// How the command line names the site: its port, the path of its socket, or `NAME@HOST:PORT`.
     pub peer: String,
     /// Whether the last pull reached it.
     pub is_reachable: bool,

@@ -26,7 +26,8 @@ use state_core::State;
 use std::alloc::Global;
 
 /// The text of the figures: of the record, of the items that open ones are held by, of the site, of its peers, of what
-/// it served, of its threads, of its journal, and of what its feeds heard. It costs O(n k) for n items and k approvals of the gate.
+/// it served, of its threads, of its journal, and of what its feeds heard. It costs O(n k) for n items and k approvals
+/// of the gate.
 pub fn metrics_text(
     alloc: Global,
     gate: &Gate,

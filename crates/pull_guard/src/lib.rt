@@ -3,12 +3,12 @@
 //!
 //! Its tests are in the crate `site_tests`.
 //!
-//! It is a crate of its own so that the rule is one for every sink, and known to who counts starts. Not taken: a limit by
-//! the time of day (times are counters), and a list of trusted operations, which would have to be signed.
+//! It is a crate of its own so that the rule is one for every sink, and known to whoever counts starts. Not taken: a
+//! limit by the time of day (times are counters), and a list of trusted operations, which would have to be signed.
 //!
 //! | Bar | Of the first operation that isn't allowed |
 //! |---|---|
-//! | 11 `NotListed` | its site is neither the own one nor in the list |
+//! | 11 `NotListed` | its site is neither the guard's own nor in the list |
 //! | 12 `FarAhead` | its time is more than 2^40 above the record's greatest, or its start is 4,294,967,295 |
 //!
 //! An example of its use:

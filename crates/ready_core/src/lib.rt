@@ -15,7 +15,7 @@
 //! | `Own` | the first condition that the item breaks | 0 |
 //! | `Cycle` | it is on a cycle, and the gate allows none | 0 |
 //! | `Unknown` | the least change that it waits for and of which no patch set is known | 0 |
-//! | `Dependency` | the least change that begins a shortest walk to an item that isn't eligible | the length of that walk |
+//! | `Dependency` | the least change that begins a shortest walk to an item that isn't eligible | that walk's length |
 //!
 //! The ready items are in gate order: by how many ready items an item waits for, over others, itself among them; then
 //! by the least item of its cycle; then by change and patch set. So what an item waits for comes before it, and the

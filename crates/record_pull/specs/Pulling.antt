@@ -14,8 +14,8 @@ use Rattle.site_port.specs.Sinks.{Offer, Uptake, at_time, clocks, declined, fron
 use Rattle.site_port.specs.declared.fault.SinkFault.TheVariants as sink
 use Rattle.snapshot_text.specs.Sound.{AreSoundOperations}
 
--- the record says its front and its greatest time, and takes all that it is handed; where memory is refused, the first so many of the
--- operations
+-- the record says its front and its greatest time, and takes all that it is handed; where memory is refused, the first
+-- so many of the operations
 abbrev pub Gathers : List Operation → Offer → Uptake → List Operation → Type 0
 Gathers old fronts (reached front) new = IsFront old front × (new ≡ old)
 Gathers old fronts (declined sink.NoMemory) new = new ≡ old

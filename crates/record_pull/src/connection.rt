@@ -17,9 +17,9 @@ use std::time::{Clock, Duration};
 /// How many milliseconds a site has for each line, and to take in what it is sent.
 const PATIENCE_MS: u64 = 10_000;
 
-/// The record of the site at an address of this machine. Refusals: those of `pull_record`; 8 `Unreachable`, no connection
-/// is accepted there within 10 seconds. A site that is silent for 10 seconds where a line is awaited is 3 `ReadFault`.
-/// It costs what `pull_record` does.
+/// The record of the site at an address of this machine. Refusals: those of `pull_record`; 8 `Unreachable`, no
+/// connection is accepted there within 10 seconds. A site that is silent for 10 seconds where a line is awaited is 3
+/// `ReadFault`. It costs what `pull_record` does.
 pub fn pull_from<R: Net<Stream = TcpStream> + Clock>(
     rt: &R,
     alloc: Global,

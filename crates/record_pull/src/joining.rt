@@ -11,8 +11,8 @@ use lattice_core::NoMemory;
 use replica_core::{Gathering, Replica};
 use snapshot_text::snapshots_say_their_operations;
 
-/// A gathering with the operations of a record that was pulled after its own. Refusal: 5 `NoMemory`. Where the gathering is
-/// empty it costs nothing; else what a copy and `Gathering::take` cost for each operation.
+/// A gathering with the operations of a record that was pulled after its own. Refusal: 5 `NoMemory`. Where the
+/// gathering is empty it costs nothing; else what a copy and `Gathering::take` cost for each operation.
 pub fn joined(gathering: Gathering, pulled: Replica) -> Result<Gathering, PullFault>
     requires { Comes pulled }
     ensures ok { IfOk result (BringsRecord None gathering) }

@@ -17,10 +17,10 @@ use std::alloc::Global;
 /// How many answers a record may have: 16,777,216 operations, of 256 an answer.
 const ROUNDS: u32 = 65_536;
 
-/// The record of the site at the other side of a connection, answer by answer, until the site says that nothing is left.
-/// Refusals: 1 to 6, those of `gossip_line::pull_run`; 10 `NoEnd`, the 65,536th answer said that more is left, as those
-/// of a site do that answers the same operations again and again: more than 256 lie past a gap of its record. It costs
-/// what `Replica::take` costs for each operation, and O(n) for n bytes that are read and written.
+/// The record of the site at the other side of a connection, answer by answer, until the site says that nothing is
+/// left. Refusals: 1 to 6, those of `gossip_line::pull_run`; 10 `NoEnd`, the 65,536th answer said that more is left, as
+/// those of a site do that answers the same operations again and again: more than 256 lie past a gap of its record. It
+/// costs what `Replica::take` costs for each operation, and O(n) for n bytes that are read and written.
 pub fn pull_record<S: Source, D: Drain>(
     alloc: Global,
     source: &mut S,

@@ -1,4 +1,5 @@
-//! Tests of states, replicas, what a record holds already and what a line brings to it, and worlds, through the public functions of their crates.
+//! Tests of states, replicas, what a record holds already and what a line brings to it, and worlds, through the public
+//! functions of their crates.
 //!
 //! A crate of tests alone: the gate proves its tests over the libraries that it has proved already, where tests in a
 //! crate make it prove that crate twice.

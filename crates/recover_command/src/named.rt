@@ -15,7 +15,7 @@ use std::rt::Files;
 /// The name of the input.
 const INPUT: &str = "-";
 
-/// RecoversAs the journal of a name, or for `-` what the input has, as `recover_to` does. A file that can't be opened is
+/// Recovers the journal of a name, or for `-` what the input has, as `recover_to` does. A file that can't be opened is
 /// a journal that can't be read: 4 `Failed`. It is neither locked nor changed.
 pub fn recover_named<R: Files, I: Source + Drop, O: Drain, E: Drain>(
     rt: &R,

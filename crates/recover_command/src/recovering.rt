@@ -1,4 +1,4 @@
-//! RecoversAs a journal, and reports how that ended.
+//! Recovers a journal, and reports how that ended.
 
 ghost use Rattle.std.specs.Prelude.{◌≡◌};
 ghost use Rattle.console.specs.Showing.{ShowsLine, error_output};

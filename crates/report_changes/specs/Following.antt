@@ -15,7 +15,7 @@ pub data Stand : Type 0 where
   stands_ready : Stand
   stands_out : Refusal → Stand
 
--- how each item stands that is listed; of one that isn't, nothing_listed
+-- how each item stands that is listed; of one that isn't, nothing
 abbrev pub Held : Type 0
 Held = Item → Option Stand
 

@@ -24,7 +24,7 @@ abbrev pub group_lines : List Line → ℕ → ℕ → List GroupLine
 group_lines [] ready out = []
 group_lines (line ∷ lines) ready out = map says (line ∷ lines) ++ ends ready out ∷ []
 
--- what is entry_read of a line
+-- what is read of a line
 abbrev pub read_left : Left → Left
 read_left left = record left { rank = 0 }
 

@@ -26,8 +26,8 @@ pub fn verdicts_name_each_once()
         → NamesEachOnce verdicts }
 {}
 
-/// A law: the text of groups, one after the other, determines their lines, but for the rank of an item that is left out,
-/// and how each group ends.
+/// A law: the text of groups, one after the other, determines their lines, but for the rank of an item that is left
+/// out, and how each group ends.
 pub fn groups_have_one_reading()
     ensures groups { (lines : List Line) → (ready out : ℕ)
         → group_text lines ready out ≡ entries_text (group_lines lines ready out) }

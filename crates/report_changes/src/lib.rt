@@ -2,9 +2,9 @@
 //!
 //! Its tests are in the crate `text_tests`.
 //!
-//! It is a crate of its own so that the law of what its reader holds is proved apart from sites. Not taken: a difference
-//! of two texts, line by line, which would be long wherever the gate order changes, and of which a reader couldn't say
-//! what holds of an item.
+//! It is a crate of its own so that the law of what its reader holds is proved apart from sites. Not taken: a
+//! difference of two texts, line by line, which would be long wherever the gate order changes, and of which a reader
+//! couldn't say what holds of an item.
 //!
 //! Listed are the items that are ready, and each other one with its refusal, but those that are over: whose change has
 //! another status than the gate asks for, or which aren't its current patch set. A group of lines says what differs

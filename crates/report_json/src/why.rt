@@ -21,11 +21,12 @@ use state_core::{Item, State};
 use std::alloc::Global;
 use why_text::{Chain, chain_of, others_on_cycle};
 
-/// The line of why an item waits: one object with what `why_text` says and, where `is_all`, what `conditions_text` says.
-/// It has the item's change and patch set, whether it is ready, its refusal if not, and the items down to the cause, each
-/// with its refusal, the last one also with what the gate file asks and what the item's change has. The verdicts are those
-/// of the state under the gate, which the bytes of the gate file spell. It costs O(n + b + k log n) for n items, b bytes of
-/// the gate file and k steps, and where `is_all` O(c b) for c conditions; of a cycle also what building the graph costs.
+/// The line of why an item waits: one object with what `why_text` says and, where `is_all`, what `conditions_text`
+/// says. It has the item's change and patch set, whether it is ready, its refusal if not, and the items down to the
+/// cause, each with its refusal, the last one also with what the gate file asks and what the item's change has. The
+/// verdicts are those of the state under the gate, which the bytes of the gate file spell. It costs O(n + b + k log n)
+/// for n items, b bytes of the gate file and k steps, and where `is_all` O(c b) for c conditions; of a cycle also what
+/// building the graph costs.
 pub fn why_line(
     alloc: Global,
     file: &[u8],

@@ -29,8 +29,8 @@ pub fn add_number(page: &mut Page, number: u64)
     page.push_str(buffer.format(number));
 }
 
-/// Sends the page to the drain where it may not hold one more line, of at most 96 bytes. It costs O(n) for n bytes of the
-/// page, as `send`.
+/// Sends the page to the drain where it may not hold one more line, of at most 96 bytes. It costs O(n) for n bytes of
+/// the page, as `send`.
 pub fn make_room<D: Drain>(page: &mut Page, drain: &mut D) -> Result<(), Failed>
     ensures ok { OnOk result (PassesPage (D.taken drain.old) page.old.bytes (D.taken drain.new) page.new.bytes []) }
     ensures room { OnOk result (HasRoom page.new 96) }

@@ -9,8 +9,8 @@ use site_address::PeerAddress;
 use std::alloc::Global;
 use std::rt::Files;
 
-/// The site at an address, with the secret of its key where it is on another machine: that of the first key of the name in
-/// a file of keys. Refusals: those of `open_keys`; 3 `NoKey`, no key of the file has the name.
+/// The site at an address, with the secret of its key where it is on another machine: that of the first key of the name
+/// in a file of keys. Refusals: those of `open_keys`; 3 `NoKey`, no key of the file has the name.
 pub fn fed_site<'n, R: Files>(
     rt: &R,
     alloc: Global,

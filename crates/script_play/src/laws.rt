@@ -14,10 +14,10 @@ use report_text::equal_states_print_the_same;
 use std::alloc::Allocator;
 use world_core::worlds_converge;
 
-/// A law, which is the project's promise in one sentence: for every list of intakes, sends, deliveries that lose, repeat
-/// or reorder, saves and restarts, each site's journal is exactly the set of operations that came to it, its state is the
-/// state of that set, and two sites to which the same operations came hold equal states, print equal state texts, and
-/// equal reports under one gate file.
+/// A law, which is the project's promise in one sentence: for every list of intakes, sends, deliveries that lose,
+/// repeat or reorder, saves and restarts, each site's journal is exactly the set of operations that came to it, its
+/// state is the state of that set, and two sites to which the same operations came hold equal states, print equal state
+/// texts, and equal reports under one gate file.
 pub fn the_same_operations_print_the_same<A: Allocator + Copy>()
     ensures own { (sites : ℕ) (events : List (Event A)) (answers : List Answer) (world : WorldState)
         → Run (new_world sites) events answers world

@@ -9,7 +9,7 @@
 //! | Printed | Of what |
 //! |---|---|
 //! | `ok TIME,SITE,START,SEQ` | a body that was taken in |
-//! | `packet NUMBER COUNT more`, `packet NUMBER COUNT done` | a packet that was packed, and whether the sender has more |
+//! | `packet NUMBER COUNT more`, `packet NUMBER COUNT done` | a packet that was packed, and whether more is left |
 //! | `took COUNT` | a packet that came |
 //! | `saved`, `restarted` | a site that saved, or started again |
 //! | `no NUMBER NAME` | what was refused |

@@ -1,6 +1,6 @@
-//! Tests of the seal of connections between sites: tags, sealed lines, first lines, files of keys, connections from their
-//! first lines on and their ends, with the vectors of RFC 4231 and RFC 8439 and the rows that `bench/seal.py` prints. A
-//! crate of tests alone, as `record_tests` is.
+//! Tests of the seal of connections between sites: tags, sealed lines, first lines, files of keys, connections from
+//! their first lines on and their ends, with the vectors of RFC 4231 and RFC 8439 and the rows that `bench/seal.py`
+//! prints. A crate of tests alone, as `record_tests` is.
 #![tactic(auto)]
 
 #[cfg(test)]

@@ -263,7 +263,8 @@ fn what_waits_is_bounded(rt: HostRuntime) -> Result<(), Fail> {
     Ok(())
 }
 
-/// The sealed lines that a new wire makes of a text: how many bytes of it were sealed, the lines, and what they open to.
+/// The sealed lines that a new wire makes of a text: how many bytes of it were sealed, the lines, and what they open
+/// to.
 #[derive(Drop)]
 struct Sent {
     count: usize,

@@ -228,8 +228,8 @@ impl Reading {
         }
     }
 
-    /// Reads what came: the rest of the line that is held, then whole lines, at once where they are operations', and the
-    /// beginning of the next one.
+    /// Reads what came: the rest of the line that is held, then whole lines, at once where they are operations', and
+    /// the beginning of the next one.
     fn take_block<B: Batches>(&mut self, batches: &B, block: &[u8]) -> Result<(), JournalFault>
         ensures ok { OnOk result ((came : List ℕ) → HasRead came self.old.gathering self.old.held.items self.old.next
             → HasRead (came ++ block.now) self.new.gathering self.new.held.items self.new.next) }
@@ -260,7 +260,8 @@ impl Reading {
         }
     }
 
-    /// The operations of whole lines that come next, where they are read at once, and the number of the line after them.
+    /// The operations of whole lines that come next, where they are read at once, and the number of the line after
+    /// them.
     fn operations<B: Batches>(&self, batches: &B, lines: &[u8]) -> Option<(Vec<Op>, u64)>
         ensures { IfSome result (λ read. IsBatch lines.now read.0.items × (self.now.held.items ≡ [])
             × (read.1 ≡ self.now.next + length read.0.items)) }

@@ -30,8 +30,8 @@ published_ops account = flat_map (λ ops. ops) (drop 1 account.published)
 abbrev pub kept_ops : {K : Type 0} → Entries K → List Operation
 kept_ops entries = published_ops entries.account ++ take entries.kept entries.account.held
 
--- after these operations the keeper has just what was published since the opening and what of the held is kept, as long as
--- it goes on; and that survives, also where it doesn't
+-- after these operations the keeper has just what was published since the opening and what of the held is kept, as long
+-- as it goes on; and that survives, also where it doesn't
 pub record IsFaithful {K : Type 0} (held_by survives_by : K → List Operation → Type 0) (first : List Operation) (entries : Entries K) : Type 0 where
   pub survives : survives_by entries.keeper (first ++ kept_ops entries)
   pub holds : entries.is_over ≡ false → held_by entries.keeper (first ++ kept_ops entries)

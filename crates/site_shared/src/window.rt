@@ -198,8 +198,8 @@ impl Window {
         }
     }
 
-    /// Brings a watch up to date as `refresh` does, and shows what the window sees, with the verdicts on just that, to a
-    /// viewer, within the same look. Where it is refused nothing is shown.
+    /// Brings a watch up to date as `refresh` does, and shows what the window sees, with the verdicts on just that, to
+    /// a viewer, within the same look. Where it is refused nothing is shown.
     pub fn show<V: Viewer>(&mut self, watch: &mut Watch, viewer: &mut V) -> Result<(), RefreshFault>
         requires own { IsOwnWatch self.old watch.old → watch.old.book ≡ self.old.book }
         requires gate { watch.old.gate ≡ V.judged_by viewer.old }

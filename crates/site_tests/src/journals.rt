@@ -85,8 +85,8 @@ fn without_a_journal_nothing_is_refused(rt: HostRuntime) {
     assert_found(&rt, keep_all(&mut NoJournal, &[]).is_ok(), true);
 }
 
-/// Whether all that a journal has is synced, and counted, that was opened over so many bytes, with the torn ones as many as
-/// before.
+/// Whether all that a journal has is synced, and counted, that was opened over so many bytes, with the torn ones as
+/// many as before.
 fn is_synced(journal: &Journal<MemoryTape>, torn: usize, length: usize) -> bool {
     let synced = journal.tape().synced();
     let is_all = synced.len().checked_add(torn) == Some(length);

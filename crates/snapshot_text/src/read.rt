@@ -41,9 +41,9 @@ pub fn read_snapshot<S: Source>(alloc: Global, source: &mut S) -> Result<Replica
     read_onto(Replica::new(alloc), source)
 }
 
-/// Reads a snapshot to the end of its source, into a replica that is given up for it, as `gather_onto` does: its operations
-/// arrive, in the order of their lines, after what the replica has, and are joined into its state. It reads and refuses
-/// what that does, and costs what that does and a gathering's `joined`.
+/// Reads a snapshot to the end of its source, into a replica that is given up for it, as `gather_onto` does: its
+/// operations arrive, in the order of their lines, after what the replica has, and are joined into its state. It reads
+/// and refuses what that does, and costs what that does and a gathering's `joined`.
 pub fn read_onto<S: Source>(replica: Replica, source: &mut S) -> Result<Replica, SnapFault>
     ensures ok { IfOk result (λ both. Brings (S.left source.old) replica both) }
     ensures err { IfErr result (λ fault. IsRefusedBy (S.left source.old) fault) }
@@ -67,13 +67,13 @@ pub fn read_onto<S: Source>(replica: Replica, source: &mut S) -> Result<Replica,
 }
 
 /// Reads a snapshot to the end of its source, into a gathering that is given up for it: its operations arrive, in the
-/// order of their lines, after those of the gathering, and none is joined into a state. Lines may come in any order and be
-/// repeated. The first line says version 1 or 2; the end line has 1 to 20 digits. Refusals, of which the first in line
-/// order counts: 1 `BadHeader`, 2 `BadLine` with the line's number from 1 and the cause, 3 `NoEnd`, 4 `BadCount`,
-/// 5 `AfterEnd`; and before any of them 6 `TooLong`, more than 1,073,741,824 bytes, and 7 `ReadFault`, the source failed;
-/// 8 `NoMemory`. So what comes after a line that is refused is read to its end. Neither the gathering nor anything of a
-/// refused snapshot is handed out. It reads up to 64 KiB at once, and holds no more of the text than that and the beginning
-/// of a line. It costs O(n) for n bytes, beside what a gathering's `take` costs for each operation.
+/// order of their lines, after those of the gathering, and none is joined into a state. Lines may come in any order and
+/// be repeated. The first line says version 1 or 2; the end line has 1 to 20 digits. Refusals, of which the first in
+/// line order counts: 1 `BadHeader`, 2 `BadLine` with the line's number from 1 and the cause, 3 `NoEnd`, 4 `BadCount`,
+/// 5 `AfterEnd`; and before any of them 6 `TooLong`, more than 1,073,741,824 bytes, and 7 `ReadFault`, the source
+/// failed; 8 `NoMemory`. So what comes after a line that is refused is read to its end. Neither the gathering nor
+/// anything of a refused snapshot is handed out. It reads up to 64 KiB at once, and holds no more of the text than that
+/// and the beginning of a line. It costs O(n) for n bytes, beside what a gathering's `take` costs for each operation.
 pub fn gather_onto<S: Source>(gathering: Gathering, source: &mut S) -> Result<Gathering, SnapFault>
     ensures ok { IfOk result (λ both. Brings (S.left source.old) gathering both) }
     ensures err { IfErr result (λ fault. IsRefusedBy (S.left source.old) fault) }
@@ -129,7 +129,7 @@ pub fn gather_by<B: Batches, S: Source>(
     Err(SnapFault::TooLong)
 }
 
-/// Reads once, and what came. 0 is the end.
+/// Reads once, and takes what came. 0 is the end.
 fn read_block<B: Batches, S: Source>(
     batches: &B,
     source: &mut S,

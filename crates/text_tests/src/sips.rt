@@ -4,8 +4,8 @@ ghost use Rattle.std.specs.Prelude.{◌≤◌, length};
 
 use byte_ends::{Failed, Source};
 
-/// The bytes of a text, of which each read gives so many at most, and where it is endless whatever is in the slice after
-/// them.
+/// The bytes of a text, of which each read gives so many at most, and where it is endless whatever is in the slice
+/// after them.
 #[derive(Drop)]
 pub(super) struct Sips<'a> {
     rest: &'a [u8],

@@ -76,7 +76,7 @@ fn namers_at(namers: &Namers, number: u32) -> &[Item]
     }
 }
 
-/// AddsWaiting some items, and puts ahead the changes of those that are new and current.
+/// Adds some items, and puts ahead the changes of those that are new and current.
 fn add_all(
     state: &State,
     row: &[Item],
@@ -91,7 +91,7 @@ fn add_all(
     Ok(())
 }
 
-/// AddsWaiting an item, and puts its change ahead where it is new and current.
+/// Adds an item, and puts its change ahead where it is new and current.
 fn add_item(
     state: &State,
     item: Item,

@@ -15,8 +15,8 @@ use std::alloc::Global;
 
 /// The lines of each condition of a gate, in the order in which an item is judged by them: `meets CONDITION` or
 /// `breaks CONDITION`, and then, as `why_text` has them of a cause, what the gate file asks and what the item's change
-/// has. The bytes of the gate file spell the gate. It costs O(c b) for c conditions and b bytes of the gate file, beside
-/// the text.
+/// has. The bytes of the gate file spell the gate. It costs O(c b) for c conditions and b bytes of the gate file,
+/// beside the text.
 pub fn conditions_text(
     alloc: Global,
     file: &[u8],

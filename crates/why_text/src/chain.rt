@@ -48,9 +48,9 @@ fn step_after(state: &State, verdicts: &Verdicts, left: Left, change: u32) -> Le
     )
 }
 
-/// The items from one that is left out down to the cause, with why each is left out: the current item of the change that
-/// the one before waits for, as many that wait as the item's rank says, and the one that waits for no other. The verdicts
-/// are those of the state under the gate. It costs O(k log n) for k steps and n items.
+/// The items from one that is left out down to the cause, with why each is left out: the current item of the change
+/// that the one before waits for, as many that wait as the item's rank says, and the one that waits for no other. The
+/// verdicts are those of the state under the gate. It costs O(k log n) for k steps and n items.
 pub fn chain_of(
     alloc: Global,
     gate: &Gate,
