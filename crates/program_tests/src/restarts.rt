@@ -3,9 +3,10 @@
 
 use super::asserts::assert_found;
 use super::programs::{
-    BARE, GATE, UNTIL_INPUT_ENDS, Way, Words, free_port, is_removed, is_written, serve_input,
-    serve_with,
+    BARE, GATE, UNTIL_INPUT_ENDS, Way, Words, free_port, is_removed, is_there, is_written,
+    serve_input, serve_with,
 };
+use super::sockets::bits_of;
 use byte_ends::{Ends, Source};
 use console::Named;
 use key_files::NoKeys;
@@ -17,16 +18,17 @@ use serve_command::ProgramFault;
 use site_net::Stop;
 use site_serve::ServeFault;
 use std::alloc::Global;
-use std::fs::File;
+use std::fs::{File, Permissions};
 use std::io::{Print, Read};
 use std::net::{Net, TcpListener, TcpStream};
+use std::os::unix::fs::PermissionsExt;
 use std::random::RandomSource;
 use std::rt::Files;
 use std::sync::Wait;
 use std::test::Fail;
 use std::thread::Threads;
 use std::time::{Clock, Duration, Instant};
-use std::{io, thread};
+use std::{fs, io, thread};
 
 /// What the client is answered that takes in a merge.
 pub const TAKEN: &str = "hello 2\nok 1,1,1,1\nbye\n";
@@ -95,6 +97,38 @@ fn what_is_saved_is_loaded(rt: HostRuntime) {
     let passed = answers_once(rt, words, PASS_ON, PASSED, SystemFiles::new(rt));
     assert_found(&rt, passed, Some((Way::Well, true)));
     assert_found(&rt, is_removed(&rt, "saved.tmp"), true);
+}
+
+/// Whether a file could be written that everybody may read and write.
+fn is_left_open<R: Files<File = File>>(rt: &R, name: &str) -> bool {
+    is_written(rt, name, b"old")
+        && fs::set_permissions(rt, name, Permissions::from_mode(0o666)).is_ok()
+}
+
+/// What an earlier save left beside a snapshot is replaced, so that nobody else may read the snapshot.
+#[test]
+fn what_is_left_beside_a_snapshot_is_replaced(rt: HostRuntime) {
+    let words = Words {
+        save: Some("beside.tmp"),
+        ..UNTIL_INPUT_ENDS
+    };
+    assert_found(&rt, is_left_open(&rt, "beside.tmp.new"), true);
+    let ended = serve_input(rt, words, SystemFiles::new(rt));
+    assert_found(&rt, ended, Way::Well);
+    assert_found(&rt, bits_of(&rt, "beside.tmp").ok(), Some(0o600));
+    assert_found(&rt, is_removed(&rt, "beside.tmp"), true);
+}
+
+/// Of a snapshot that can't be put in its place, which is a folder's, nothing is left beside that.
+#[test]
+fn nothing_is_left_beside_a_folder(rt: HostRuntime) {
+    let words = Words {
+        save: Some("."),
+        ..UNTIL_INPUT_ENDS
+    };
+    let ended = serve_input(rt, words, SystemFiles::new(rt));
+    assert_found(&rt, ended, Way::Program(ProgramFault::NoSave));
+    assert_found(&rt, is_there(&rt, "..new"), false);
 }
 
 /// An input that says `stop`, and then nothing for 20 seconds.
