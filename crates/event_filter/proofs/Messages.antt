@@ -1,14 +1,14 @@
 -- What is kept of a message names the same changes as the message.
 use Rattle.std.proofs.Common.{◌≡◌, ◌<◌, ◌+◌, ◌++◌, ◌∷◌, [], ℕ, zero, suc, Bool, true, false, List, length, map, take, inl, inr}
 use Rattle.std.proofs.Common.{refl, sym, ap, ◌∙◌, subst, arith, append_assoc, eqb, length-append}
-use Rattle.std.specs.Prelude.{◌↔◌, ◌⊎◌, All, Contains, bytes_eq, codes, filter, flat_map, if◌then◌else◌, slice_index_or}
+use Rattle.std.specs.Prelude.{◌↔◌, ◌⊎◌, All, Contains, codes, filter, flat_map, if◌then◌else◌, slice_index_or}
 use Rattle.std.specs.Char.{to_ascii_lowercase}
-use Rattle.std.specs.List.{onto_first, slice_split}
+use Rattle.std.specs.List.{onto_first}
 use Rattle.std.proofs.lemmas.List.{map-append}
 use Rattle.std.proofs.lemmas.List.Elements.{All-cons, All-nil, Contains-append_left, Contains-push_cases}
 use Rattle.std.proofs.lemmas.List.Splits.{slice_split_at, slice_split-cons_no, slice_split-cons_yes}
 use Rattle.std.proofs.lemmas.Slice.Eq.{bytes_eq-Decides}
-use Rattle.footer_text.specs.Footers.{LineNeeds, LinesNeed, MessageNeeds}
+use Rattle.footer_text.specs.Footers.{LinesNeed, MessageNeeds}
 use Rattle.footer_text.specs.Lines.{IsFooter, lines_of}
 use Rattle.gerrit_events.specs.Messages.{footer_lines, is_footer_line, kept_message}
 

@@ -1,12 +1,12 @@
 -- The lines of messages, one after the other.
-use Rattle.std.proofs.Common.{◌≡◌, ◌≢◌, ◌<◌, ◌+◌, ◌++◌, ◌∷◌, [], ℕ, suc, Bool, true, false, List, length, Option, None, Some}
-use Rattle.std.proofs.Common.{get_or, lit<, refl, sym, ap, ◌∙◌, arith, append_assoc, eqb, eq-eqb, length-append, ne_eqb}
-use Rattle.std.specs.Prelude.{All, MatchOption, filter, flat_map, if◌then◌else◌}
+use Rattle.std.proofs.Common.{◌≡◌, ◌≢◌, ◌<◌, ◌∷◌, [], ℕ, suc, false, List, length, Option, None, Some}
+use Rattle.std.proofs.Common.{get_or, lit<, refl, ap, ◌∙◌, arith, eqb, eq-eqb, length-append, ne_eqb}
+use Rattle.std.specs.Prelude.{All}
 use Rattle.std.specs.Borrow.{Bor}
 use Rattle.std.proofs.lemmas.List.Elements.{All-nil, All-cons}
 use Rattle.std.proofs.lemmas.List.Splits.{slice_split_at, slice_split_none}
 use Rattle.std.proofs.lemmas.Str.Pattern.{IsSplitOnceResult, split_parts}
-use Rattle.gerrit_events.specs.Messages.{footer_lines, is_footer_line, message_lines}
+use Rattle.gerrit_events.specs.Messages.{footer_lines, message_lines}
 
 -- no byte is a line end where none at any place is
 no_end : (bytes : List ℕ) → ((i : ℕ) → i < length bytes → get_or bytes i 0 ≢ 10)
@@ -30,8 +30,6 @@ pub one_line : (text : List ℕ) → IsSplitOnceResult 10 text None → message_
 one_line text none =
     slice_split_none (λ byte. eqb byte 10) text (no_end text (split_parts 10 text None none (lit< tt)))
 
--- ---- what is kept
-
 -- what is kept of the text that is left, where some is
 abbrev pub kept_left : Option (List ℕ) → List ℕ
 kept_left None = []
@@ -40,13 +38,3 @@ kept_left (Some text) = footer_lines text
 abbrev pub left_length : Option (List ℕ) → ℕ
 left_length None = 0
 left_length (Some text) = suc (length text)
-
-abbrev ended : List ℕ → List ℕ
-ended line = line ++ 10 ∷ []
-
--- what is kept of lines is what is kept of the first one, and then of the others
-pub kept_first : (line : List ℕ) (lines : List (List ℕ)) (is : Bool) → is_footer_line line ≡ is
-    → flat_map ended (filter is_footer_line (line ∷ lines))
-    ≡ (if is then ended line else []) ++ flat_map ended (filter is_footer_line lines)
-kept_first line lines true is = ap (λ t. flat_map ended (if t then line ∷ filter is_footer_line lines else filter is_footer_line lines)) is
-kept_first line lines false is = ap (λ t. flat_map ended (if t then line ∷ filter is_footer_line lines else filter is_footer_line lines)) is
