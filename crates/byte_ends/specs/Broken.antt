@@ -37,7 +37,7 @@ abbrev pub moved : {E : Type 0} → Result ℕ E → ℕ
 moved (Ok n) = n
 moved (Err _) = 0
 
--- the calls that failed: those of the end within, and once it is past the own one
+-- the calls that failed: those of the end within, and, once it is past, its own one
 abbrev pub failed_with : Due → ℕ → ℕ
 failed_with (AtCall n) inner = inner
 failed_with (BeforeByte n) inner = inner

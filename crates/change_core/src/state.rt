@@ -71,8 +71,8 @@ impl<A: Allocator + Copy> ChangeState<A> {
         self.consume(op.copy()?)
     }
 
-    /// Joins the effect of an operation into the state, as `take` does, and keeps the texts of the operation itself. Where
-    /// memory is refused nothing changes but that the operation is dropped.
+    /// Joins the effect of an operation into the state, as `take` does, and keeps the texts of the operation itself.
+    /// Where memory is refused nothing changes but that the operation is dropped.
     pub fn consume(&mut self, op: Op<A>) -> Result<(), NoMemory>
         ensures ok { OnOk result (self.new ≡ change_joined self.old (effect_of op)) }
         ensures err { OnErr result (self.new ≡ self.old) }

@@ -1,4 +1,5 @@
--- A first chunk and the rest as one list: where in it the first item is that doesn't pass, and what an edit makes of it.
+-- A first chunk and the rest as one list: where in it the first item is that doesn't pass, and what an edit makes of
+-- it.
 use Rattle.std.proofs.Common.{◌≡◌, ◌≤◌, ◌<◌, ◌+◌, ◌-◌, ℕ, zero, suc, Bool, List, [], ◌∷◌, ◌++◌, Some}
 use Rattle.std.proofs.Common.{length, set, drop, refl, sym, ap, ◌∙◌, arith}
 use Rattle.std.specs.Prelude.{slice_get}

@@ -115,8 +115,8 @@ impl<K: Keep, V: Join, A: Allocator + Copy> JoinList<K, V, A> {
 
     /// Joins the state into the one at the key, in place, or adds it there. After a refusal the map lies between the
     /// old one and the join; where the join of states takes no memory nothing has changed, and only a new key can be
-    /// refused. The search costs O(log n) for n keys; beside it come the join of the states, or the pairs that a new key
-    /// moves, at most 512 of them and once in some hundred times the chunks.
+    /// refused. The search costs O(log n) for n keys; beside it come the join of the states, or the pairs that a new
+    /// key moves, at most 512 of them and once in some hundred times the chunks.
     pub fn join_at(&mut self, key: K, value: V) -> Result<(), NoMemory>
         ensures ok { let shape = map_of K.order K.shape V.shape in
             OnOk result (shape self.new ≡ put_joined V.joined (shape self.old) (K.shape key) (V.shape value)) }

@@ -19,7 +19,8 @@ use std::marker::Model;
 
 /// A list in an order that its owner keeps, in chunks of at most 512 items. Contracts see the list. A search costs
 /// O(log n) for n items; an item that comes last is a push, and one that comes or goes elsewhere moves those of its
-/// chunk, and once in some hundred times the chunks. A list of few items takes one allocation of little more than these.
+/// chunk, and once in some hundred times the chunks. A list of few items takes one allocation of little more than
+/// these.
 #[derive(Drop)]
 pub struct ChunkList<T, A: Allocator + Copy = Global> {
     first: Vec<T, A>,
@@ -119,8 +120,8 @@ impl<T: Drop, A: Allocator + Copy> ChunkList<T, A> {
 
 impl<T: Entry, A: Allocator + Copy> ChunkList<T, A> {
     /// Merges an entry into the one that it meets, in place, or adds it before the first that it doesn't pass. Where it
-    /// meets none and memory is refused nothing changes. The search costs O(log n) for n entries; beside it come the merge,
-    /// or what an item that is added moves.
+    /// meets none and memory is refused nothing changes. The search costs O(log n) for n entries; beside it come the
+    /// merge, or what an item that is added moves.
     pub fn merge(&mut self, entry: T) -> Result<(), NoMemory>
         requires { IsPartitionedBy (T.passes entry) self.old }
         ensures { IsMerged (T.passes entry) (T.meets entry) (T.merges entry) entry self.old result self.new }

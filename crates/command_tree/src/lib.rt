@@ -3,7 +3,7 @@
 //!
 //! Its tests are in the crate `words_tests`.
 //!
-//! It is a crate of its own so that only its proofs wait for those about `clap`. Not taken: an own reader of options,
+//! It is a crate of its own so that only its proofs wait for those about `clap`. Not taken: its own reader of options,
 //! whose help and messages would differ from what people know.
 //!
 //! An example of its use:

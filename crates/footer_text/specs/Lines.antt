@@ -1,6 +1,6 @@
 -- The lines of a message, and what a footer has. Zuul's documentation, "Cross-Project Dependencies", has the
--- footer `Depends-On: URL`. That its word may be in any case, that blanks may lack after the colon and are dropped
--- round the value, and that an indented line is no footer, are this project's own rules.
+-- footer `Depends-On: URL`. That its word may be in any case, that blanks may be missing after the colon and are
+-- dropped round the value, and that an indented line is no footer, are this project's own rules.
 use Rattle.std.specs.Prelude.{◌≡◌, ℕ, ◌⊎◌, ◌==◌, List, [], ◌∷◌, ◌++◌, map, codes}
 use Rattle.std.specs.Char.{to_ascii_lowercase}
 use Rattle.std.specs.List.{AllByRecursion, slice_split}

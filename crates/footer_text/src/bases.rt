@@ -112,8 +112,8 @@ impl<A: Allocator + Copy> Bases<A> {
         self.texts.iter()
     }
 
-    /// The change that the value of a footer names under the first base under which it names one. It costs O(n) for each
-    /// base and a value of n bytes, and takes no memory.
+    /// The change that the value of a footer names under the first base under which it names one. It costs O(n) for
+    /// each base and a value of n bytes, and takes no memory.
     pub fn named_change(&self, value: &str) -> Option<u32>
         ensures { MatchOption result ((change : ℕ) → ¬ (NamesChange self.now value.now change))
             (NamesChange self.now value.now) }

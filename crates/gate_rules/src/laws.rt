@@ -9,8 +9,8 @@ pub fn the_first_fault_is_found()
     ensures items { FindsFirstItem }
 {}
 
-/// Of the conditions that are tried for an item each is one that the gate has, with whether the item breaks it, and each
-/// condition that the gate has is among them.
+/// Of the conditions that are tried for an item each is one that the gate has, with whether the item breaks it, and
+/// each condition that the gate has is among them.
 pub fn each_condition_is_tried()
     ensures { TriesEach }
 {}

@@ -83,7 +83,7 @@ pub fn came_out(compared: Option<bool>, wanted: bool) -> bool
     }
 }
 
-/// Whether some pattern's value is that of the approval.
+/// Whether one of these values is that of the approval.
 pub fn has_value(values: &[i8], approval: &Approval<'_>) -> bool
     ensures { result ≡ some (λ value. int_eq value approval.now.value) values.now }
 {

@@ -21,8 +21,8 @@ pub struct Tried {
 }
 
 impl Gate {
-    /// Each condition of the gate with whether an item breaks it, in the order of `own`, which answers the first that is
-    /// broken. It costs O(v p) for v votes on the change and p patterns.
+    /// Each condition of the gate with whether an item breaks it, in the order of `own`, which answers the first that
+    /// is broken. It costs O(v p) for v votes on the change and p patterns.
     pub fn conditions(
         &self,
         alloc: Global,

@@ -1,5 +1,5 @@
--- What a line is in what Gerrit writes: an event, or a part of the answer to a query ("query": a row for each change, then
--- the statistics).
+-- What a line is in what Gerrit writes: an event, or a part of the answer to a query ("query": a row for each change,
+-- then the statistics).
 use Rattle.std.specs.Prelude.{true, Option, Some, None, codes}
 use Rattle.serde_json.specs.Data.{Data}
 use Rattle.serde_json.specs.Find.{get}

@@ -39,8 +39,8 @@ impl Keys {
         first_named(self.keys.as_slice(), name)
     }
 
-    /// The secret with which a name is dialed: that of the first key under it. Refusal: 3 `NoKey`, no key has the name. It
-    /// takes no memory.
+    /// The secret with which a name is dialed: that of the first key under it. Refusal: 3 `NoKey`, no key has the name.
+    /// It takes no memory.
     pub fn secret_of(&self, name: &[u8]) -> Result<[u8; 32], KeyFault>
         ensures { MatchResult result
             (λ secret. (key : KeyEntry) × IsFirstKey (λ key. key.name ≡ name.now) self.now key × (secret ≡ key.secret))

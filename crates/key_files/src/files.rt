@@ -12,9 +12,9 @@ use std::rt::Files;
 /// How many bytes a file of keys may have: 1 MiB.
 const FILE_LIMIT: usize = 1_048_576;
 
-/// The keys of the file of a name, which has to be the user's own, with no permission for group and others: what is looked
-/// at is the file that was opened. Refusals: 1 `Open`, it isn't; 2 `BadLine n`; 4 `ReadFault`, it can't be opened or read, or
-/// has more than 1 MiB; 5 `NoMemory`.
+/// The keys of the file of a name, which has to be the user's own, with no permission for group and others: what is
+/// looked at is the file that was opened. Refusals: 1 `Open`, it isn't; 2 `BadLine n`; 4 `ReadFault`, it can't be
+/// opened or read, or has more than 1 MiB; 5 `NoMemory`.
 pub fn open_keys<R: Files>(rt: &R, alloc: Global, name: &str) -> Result<Keys, KeyFault> {
     let Ok(file) = fs::open(rt, name) else {
         return Err(KeyFault::ReadFault);

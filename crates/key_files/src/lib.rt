@@ -2,8 +2,8 @@
 //!
 //! Its tests are in the crate `seal_tests`.
 //!
-//! It is here, beside `key_file`, so that what reads a file's text needs no files. Not taken: a check of the file by its
-//! name before it is opened, since another file could have that name by then.
+//! It is here, beside `key_file`, so that what reads a file's text needs no files. Not taken: a check of the file by
+//! its name before it is opened, since another file could have that name by then.
 //!
 //! An example of its use:
 //!

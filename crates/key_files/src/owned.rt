@@ -26,8 +26,8 @@ impl FileOwner {
     }
 }
 
-/// The keys of a file with this text, for this user. Refusals: 1 `Open`, the file is another user's, or its group or others
-/// have a permission for it; 2 `BadLine n`; 5 `NoMemory`. It costs O(n) for n bytes.
+/// The keys of a file with this text, for this user. Refusals: 1 `Open`, the file is another user's, or its group or
+/// others have a permission for it; 2 `BadLine n`; 5 `NoMemory`. It costs O(n) for n bytes.
 pub fn owned_keys(alloc: Global, owner: FileOwner, user: u32, text: &[u8]) -> Result<Keys, KeyFault>
     ensures own { IfOk result (λ _. IsUsersOwn owner user) }
     ensures ok { IfOk result (λ keys. Say (lines_of text.now) keys) }

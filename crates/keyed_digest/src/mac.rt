@@ -19,8 +19,8 @@ const INNER: u8 = 0x36;
 
 const OUTER: u8 = 0x5C;
 
-/// A key under which tags are made. Contracts see the key; nothing prints it. What hashed its pads is kept, so that no tag
-/// hashes them again.
+/// A key under which tags are made. Contracts see the key; nothing prints it. What hashed its pads is kept, so that no
+/// tag hashes them again.
 #[derive(Drop)]
 pub struct Mac {
     key: [u8; 32],

@@ -13,8 +13,8 @@ use std::marker::Model;
 /// The bytes of ASCII that are percent-encoded in a query: all but letters and digits.
 pub const ENCODED: AsciiSet = NON_ALPHANUMERIC;
 
-/// HTML that is being written. Contracts see its bytes, or `None` once memory was refused for it. It begins empty, and is
-/// added to at its end. Refused memory is remembered: from then on nothing is added, and the end answers it.
+/// HTML that is being written. Contracts see its bytes, or `None` once memory was refused for it. It begins empty, and
+/// is added to at its end. Refused memory is remembered: from then on nothing is added, and the end answers it.
 #[derive(Debug, Drop)]
 pub struct Markup {
     text: String,

@@ -29,10 +29,10 @@ use std::alloc::{AllocError, Global};
 ///
 /// N and P are numbers up to 4,294,967,295 in decimal, with no zero in front and no sign. `List` and `Items` take from
 /// the query, which is read as a form: `show`, which is `open`, `ready` or `all`; `reason`, which is `require`,
-/// `reject`, `cycle`, `unknown` or `dependency`; `q`, the words, of at most 200 bytes once they are decoded; and `page`,
-/// a number from 1. Of a key that is there more than once the first value counts, and other keys are ignored. An empty
-/// value says the same as none: `open`, no reason, no words, page 1. For any other value there is no such page. What
-/// isn't UTF-8 in a value becomes U+FFFD.
+/// `reject`, `cycle`, `unknown` or `dependency`; `q`, the words, of at most 200 bytes once they are decoded; and
+/// `page`, a number from 1. Of a key that is there more than once the first value counts, and other keys are ignored.
+/// An empty value says the same as none: `open`, no reason, no words, page 1. For any other value there is no such
+/// page. What isn't UTF-8 in a value becomes U+FFFD.
 ///
 /// It costs O(n) for n bytes.
 pub fn route_of(alloc: Global, path: &str, query: Option<&str>) -> Result<Option<Route>, AllocError>

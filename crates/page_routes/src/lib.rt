@@ -4,8 +4,8 @@
 //!
 //! It is a crate of its own so that who writes the pages and who serves them share these types and nothing else, and so
 //! that the table of the routes is proved apart from both. Not taken: a router with patterns, whose precedence a reader
-//! would have to know; own decoding of forms and percent signs, which `form_urlencoded` has; JSON bodies as requests,
-//! since the page is read only.
+//! would have to know; its own decoding of forms and percent signs, which `form_urlencoded` has; JSON bodies as
+//! requests, since the page is read only.
 //!
 //! An example of its use:
 //!

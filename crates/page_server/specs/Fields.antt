@@ -1,6 +1,6 @@
 -- The fields of a response: RFC 9110, sections 8.3 (Content-Type), 6.6.1 (Date) and 8.8.3 (ETag), RFC 9111, sections
--- 5.2.2.4 (no-cache) and 5.2.2.5 (no-store); the Fetch Standard (X-Content-Type-Options, Cross-Origin-Resource-Policy), Referrer Policy, and Content
--- Security Policy Level 3.
+-- 5.2.2.4 (no-cache) and 5.2.2.5 (no-store); the Fetch Standard (X-Content-Type-Options, Cross-Origin-Resource-Policy),
+-- Referrer Policy, and Content Security Policy Level 3.
 use Rattle.std.specs.Prelude.{ℕ, Bool, true, false, List, [], ◌∷◌, ◌++◌, Option, None, Some, codes}
 use Rattle.http1.specs.Fields.{Header}
 use Rattle.http_header.specs.FieldValue.{FieldValue}

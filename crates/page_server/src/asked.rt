@@ -24,10 +24,10 @@ pub enum Asked {
     Refused(Refusal),
 }
 
-/// What a request asks for, for this machine and these hosts. It has to name one `Host`, which is this machine or one of
-/// these, and so has the target's host where that is in absolute form: else it is refused by 400 and 421. Then its
-/// method has to be `GET` or `HEAD`, else it is refused by 405; and its target has to name a page, else by 404. Its body
-/// doesn't matter.
+/// What a request asks for, for this machine and these hosts. It has to name one `Host`, which is this machine or one
+/// of these, and so has the target's host where that is in absolute form: else it is refused by 400 and 421. Then its
+/// method has to be `GET` or `HEAD`, else it is refused by 405; and its target has to name a page, else by 404. Its
+/// body doesn't matter.
 pub fn asked_for(
     alloc: Global,
     hosts: &[String],

@@ -16,8 +16,8 @@ const REQUEST_LIMIT: u64 = 10;
 /// For how many seconds a connection may be silent: nothing comes, and nothing of what is sent is taken.
 const SILENCE_LIMIT: u64 = 60;
 
-/// For how many seconds what still comes is dropped once all is sent. A connection that is closed before would lose what
-/// was sent last (RFC 9112, section 9.6).
+/// For how many seconds what still comes is dropped once all is sent. A connection that is closed before would lose
+/// what was sent last (RFC 9112, section 9.6).
 const LEAVE_LIMIT: u64 = 1;
 
 /// How many reads and writes are done in a turn.

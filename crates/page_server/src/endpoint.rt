@@ -44,8 +44,8 @@ pub struct PageEndpoint {
     pub(crate) keys: RandomState,
 }
 
-/// The endpoint of a port's listener, and what wakes the thread that serves there: `Waker::wake`, after the stop was asked, ends
-/// the wait at once. It fails where the system refuses a poll or has no random bytes.
+/// The endpoint of a port's listener, and what wakes the thread that serves there: `Waker::wake`, after the stop was
+/// asked, ends the wait at once. It fails where the system refuses a poll or has no random bytes.
 pub fn open_endpoint<R: Net + RandomSource>(
     rt: &R,
     listener: TcpListener,

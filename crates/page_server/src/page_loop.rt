@@ -51,11 +51,11 @@ struct PageLoop {
     may_accept: bool,
 }
 
-/// Serves pages at an endpoint until the stop is asked, to this machine and to these hosts. It notices a stop at once where
-/// the endpoint's waker is woken after it, else within a second. At most 200 connections are open: one more takes the place
-/// of the one that has been silent longest. A request has 10 seconds to come from its first byte on, and a connection
-/// may be silent for 60. Neither a connection's failure nor the system's refusal of one ends this. Refusal: 1
-/// `NoMemory`, memory was refused before the first request.
+/// Serves pages at an endpoint until the stop is asked, to this machine and to these hosts. It notices a stop at once
+/// where the endpoint's waker is woken after it, else within a second. At most 200 connections are open: one more takes
+/// the place of the one that has been silent longest. A request has 10 seconds to come from its first byte on, and a
+/// connection may be silent for 60. Neither a connection's failure nor the system's refusal of one ends this. Refusal:
+/// 1 `NoMemory`, memory was refused before the first request.
 pub fn serve_pages<R: Wait + Clock, P: Pages + Drop>(
     rt: &R,
     alloc: Global,

@@ -74,8 +74,8 @@ impl<A: Allocator + Copy> Gathering<A> {
         }
     }
 
-    /// Adds an operation to the journal, as a replica's `take` does, and leaves its effect for `joined`. Where memory is
-    /// refused nothing changes. In O(log n) for n operations, whatever the order of arrival.
+    /// Adds an operation to the journal, as a replica's `take` does, and leaves its effect for `joined`. Where memory
+    /// is refused nothing changes. In O(log n) for n operations, whatever the order of arrival.
     pub fn take(&mut self, op: Op<A>) -> Result<Taken, NoMemory>
         ensures ok { IfOk result (λ taken. (self.new ≡ arrived self.old op) × (taken ≡ taken_of (has self.old op))) }
         ensures err { OnErr result (self.new ≡ self.old) }
@@ -111,8 +111,8 @@ impl<A: Allocator + Copy> Gathering<A> {
     }
 
     /// The replica of all that came. Where memory is refused all of it is dropped. It sorts references to what came
-    /// since `onto`, which takes O(n) memory and costs O(n log n) for n operations, beside what the state's `take` costs
-    /// for each.
+    /// since `onto`, which takes O(n) memory and costs O(n log n) for n operations, beside what the state's `take`
+    /// costs for each.
     pub fn joined(self) -> Result<Replica<A>, NoMemory>
         ensures { IfOk result (λ replica. replica ≡ self) }
     {
@@ -140,8 +140,8 @@ impl<A: Allocator + Copy> Gathering<A> {
     }
 
     /// The state of all that came, for whoever needs no journal: the texts of operations become those of the state, and
-    /// the journal's memory is given back. Where memory is refused all of it is dropped. It costs what `joined` costs but
-    /// for the copies of texts.
+    /// the journal's memory is given back. Where memory is refused all of it is dropped. It costs what `joined` costs
+    /// but for the copies of texts.
     pub fn into_state(self) -> Result<State<A>, NoMemory>
         ensures { IfOk result (λ state. state ≡ state_of self) }
     {

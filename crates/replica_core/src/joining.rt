@@ -13,9 +13,9 @@ use std::{cmp, mem};
 /// How many operations come before the first of them is joined.
 const GROUP: usize = 16;
 
-/// A state into which the effects of operations are joined in groups. The operations of a record lie far apart once they
-/// are put in the order of their changes, and the processor waits for each: it fetches those of a group side by side.
-/// Contracts see the state with the effects of all that came.
+/// A state into which the effects of operations are joined in groups. The operations of a record lie far apart once
+/// they are put in the order of their changes, and the processor waits for each: it fetches those of a group side by
+/// side. Contracts see the state with the effects of all that came.
 #[derive(Drop)]
 pub(super) struct Joining<A: Allocator + Copy> {
     state: State<A>,

@@ -164,8 +164,8 @@ impl<A: Allocator + Copy> Replica<A> {
     }
 
     /// An equal replica: the same arrivals in the same order. It shares the states of changes and the operations that
-    /// `share` made shared, and copies the other operations. It costs O(n) for n operations and changes and the bytes of
-    /// the operations that it copies.
+    /// `share` made shared, and copies the other operations. It costs O(n) for n operations and changes and the bytes
+    /// of the operations that it copies.
     pub fn copy(&self) -> Result<Replica<A>, NoMemory>
         ensures { IfOk result (λ copied. copied ≡ self.now) }
     {

@@ -29,8 +29,8 @@ IsFrontUnopened s held LongLine = ⊥
 IsFrontUnopened s held Spent = s.count ≡ last_count
 IsFrontUnopened s held NoMemory = Unit {0}
 
--- why what is held isn't opened, by the bytes that the source has left: its first line isn't the seal of one, it is a piece
--- of a line at the source's end, or a piece that is too long. That the source failed, its count says
+-- why what is held isn't opened, by the bytes that the source has left: its first line isn't the seal of one, it is a
+-- piece of a line at the source's end, or a piece that is too long. That the source failed, its count says
 abbrev pub IsUnreadSeal : Sealing → List ℕ → Option (List ℕ) → OpenFault → Type 0
 IsUnreadSeal s held left ReadFault = Unit {0}
 IsUnreadSeal s held left BadLine = IsFrontUnopened s held BadLine

@@ -16,8 +16,8 @@ pub fn first_lf(bytes: &[u8]) -> Option<usize>
     memchr(b'\n', bytes)
 }
 
-/// The place of the line end up to which lines are sealed at once: the last among so many bytes at the front, or the first
-/// of all where none is among these. It takes no memory.
+/// The place of the line end up to which lines are sealed at once: the last among so many bytes at the front, or the
+/// first of all where none is among these. It takes no memory.
 pub fn batch_end(bytes: &[u8], room: usize) -> Option<usize>
     ensures { MatchOption result (HasNoLf bytes.now) (EndsBatch room bytes.now) }
 {

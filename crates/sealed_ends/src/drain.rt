@@ -13,9 +13,9 @@ use line_reader::LINE_LIMIT;
 use sealed_line::Seal;
 use std::alloc::{AllocError, Global};
 
-/// Seals the lines that are written: those that are written at once, up to 16,384 bytes or one line, as one text. What is
-/// written is held until its line end comes, and that is taken once the drain within took the sealed line whole. Where that
-/// fails, a line may have been sent in part: each write fails from then on.
+/// Seals the lines that are written: those that are written at once, up to 16,384 bytes or one line, as one text. What
+/// is written is held until its line end comes, and that is taken once the drain within took the sealed line whole.
+/// Where that fails, a line may have been sent in part: each write fails from then on.
 #[derive(Drop)]
 pub struct SealedDrain<D> {
     alloc: Global,

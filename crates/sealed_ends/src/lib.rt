@@ -1,10 +1,10 @@
-//! The ends of a connection of sealed lines: a source, of which only what was verified is read, and a drain, which seals
-//! each line that is written.
+//! The ends of a connection of sealed lines: a source, of which only what was verified is read, and a drain, which
+//! seals each line that is written.
 //!
 //! Its tests are in the crate `seal_tests`.
 //!
-//! It is here so that sessions and pulls read and write sealed lines as they do plain ones. Not taken: an end where a line
-//! isn't sealed as it has to be, after which a session would look as if it had ended well.
+//! It is here so that sessions and pulls read and write sealed lines as they do plain ones. Not taken: an end where a
+//! line isn't sealed as it has to be, after which a session would look as if it had ended well.
 //!
 //! An example of its use:
 //!

@@ -1,5 +1,5 @@
--- The keystream of a line: ChaCha20 (RFC 8439) under the cipher key, with the line's count as the nonce, in the words 14
--- and 15 of the state, and blocks that are counted from 0, in the words 12 and 13. So a count that isn't used again
+-- The keystream of a line: ChaCha20 (RFC 8439) under the cipher key, with the line's count as the nonce, in the words
+-- 14 and 15 of the state, and blocks that are counted from 0, in the words 12 and 13. So a count that isn't used again
 -- meets no block that was used: `no_block_twice`.
 use Rattle.std.specs.Prelude.{ℕ, zero, suc, ◌+◌, ◌/◌, List, [], ◌∷◌, ◌++◌, length, take, bit_xor}
 use Rattle.std.specs.Int.{w32, to_le_bytes}

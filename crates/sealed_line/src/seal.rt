@@ -57,8 +57,8 @@ impl Seal {
     }
 
     /// Seals a text as the next line, and adds that to `into`, with its line end. Refusals: `LongLine`, the text has
-    /// more than 524,288 bytes; `Spent`, 2^64 - 1 lines were sealed; `NoMemory`. Where it is refused nothing changes. It
-    /// costs O(n) for n bytes.
+    /// more than 524,288 bytes; `Spent`, 2^64 - 1 lines were sealed; `NoMemory`. Where it is refused nothing changes.
+    /// It costs O(n) for n bytes.
     pub fn seal<A: Allocator + Copy>(
         &mut self,
         alloc: A,
@@ -90,8 +90,8 @@ impl Seal {
     }
 
     /// Opens the next line, which is given without its line end, and adds its text to `into`, with a line end.
-    /// Refusals: `BadSeal`, no text is sealed to that line under these keys and this count; `Spent`, 2^64 - 1 lines were
-    /// opened; `NoMemory`. Where it is refused nothing changes. It costs O(n) for n bytes.
+    /// Refusals: `BadSeal`, no text is sealed to that line under these keys and this count; `Spent`, 2^64 - 1 lines
+    /// were opened; `NoMemory`. Where it is refused nothing changes. It costs O(n) for n bytes.
     pub fn open<A: Allocator + Copy>(
         &mut self,
         alloc: A,

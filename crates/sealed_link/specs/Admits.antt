@@ -15,7 +15,8 @@ use Rattle.sealed_link.specs.declared.admitting.Admitted.{Admitted}
 abbrev pub new_wire : SessionKeys → Wiring
 new_wire keys = record { inward = keys.inward; held = []; fault = None; outward = keys.outward; waiting = [] }
 
--- who has this key is let in: it has the role of the key, and the answer and the seals are those of the key over both lines
+-- who has this key is let in: it has the role of the key, and the answer and the seals are those of the key over both
+-- lines
 pub record IsAdmitted (key : KeyEntry) (greeting : Greeting) (reply : Reply) (admitted : Admitted) : Type 0 where
   pub session : SessionKeys
   pub keys : AreKeys key.secret (both_lines greeting reply) session

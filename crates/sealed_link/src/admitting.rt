@@ -20,8 +20,8 @@ pub struct Admitted {
     pub wire: Wire,
 }
 
-/// Lets in whoever greets with a key of these; nothing where no key has the ID. The nonce is random bytes, other ones each
-/// time. It costs O(keys).
+/// Lets in whoever greets with a key of these; nothing where no key has the ID. The nonce is random bytes, other ones
+/// each time. It costs O(keys).
 pub fn admit(
     alloc: Global,
     keys: &Keys,

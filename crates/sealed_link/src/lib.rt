@@ -3,8 +3,8 @@
 //!
 //! Its tests are in the crate `seal_tests`.
 //!
-//! It is here so that what dials, what lets in, and what polls a site's sockets begin a connection by the same lines. Not
-//! taken: the next nonce made here, since the system's random bytes aren't for a crate that is proved over values.
+//! It is here so that what dials, what lets in, and what polls a site's sockets begin a connection by the same lines.
+//! Not taken: the next nonce made here, since the system's random bytes aren't for a crate that is proved over values.
 //!
 //! An example of its use:
 //!

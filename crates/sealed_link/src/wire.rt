@@ -19,9 +19,9 @@ use std::marker::Model;
 /// Up to how many bytes wait to be sent before no further line is sealed.
 const WAITING: usize = 65_536;
 
-/// A sealed connection on the side that answers, as a value, for a loop that polls sockets: bytes that came in become the
-/// texts of lines, and texts become bytes to be sent. Contracts see what opens the next line, what came of it, and why
-/// nothing is opened any more; and what seals the next line, and the bytes that wait.
+/// A sealed connection on the side that answers, as a value, for a loop that polls sockets: bytes that came in become
+/// the texts of lines, and texts become bytes to be sent. Contracts see what opens the next line, what came of it, and
+/// why nothing is opened any more; and what seals the next line, and the bytes that wait.
 #[derive(Drop)]
 pub struct Wire {
     alloc: Global,
@@ -67,10 +67,11 @@ impl Wire {
     }
 
     /// Opens each line that is whole now, what is held and what came, and adds their texts, each with a line end, to
-    /// `into`; the rest is held. Refusals: `BadLine`, a line isn't sealed as it has to be; `LongLine`, a line has more than
-    /// 699,096 bytes, whether its end came or not; `Spent`, 2^64 - 1 lines were opened; `NoMemory`. Where it is refused the
-    /// texts of the lines before that one are added, and nothing of it or after it, then or later: the wire fails so from
-    /// then on. It costs O(n) for the n bytes that came, and where a line became whole for those of it that were held.
+    /// `into`; the rest is held. Refusals: `BadLine`, a line isn't sealed as it has to be; `LongLine`, a line has more
+    /// than 699,096 bytes, whether its end came or not; `Spent`, 2^64 - 1 lines were opened; `NoMemory`. Where it is
+    /// refused the texts of the lines before that one are added, and nothing of it or after it, then or later: the wire
+    /// fails so from then on. It costs O(n) for the n bytes that came, and where a line became whole for those of it
+    /// that were held.
     pub fn open(&mut self, came: &[u8], into: &mut Vec<u8>) -> Result<(), WireFault>
         ensures opens { self.old.fault ≡ None → (text : List ℕ) × (into.new.items ≡ into.old.items ++ text)
             × OpensCame self.old came.now text result self.new }
@@ -90,11 +91,11 @@ impl Wire {
     }
 
     /// Seals whole lines at the front of a text until 65,536 bytes or more wait to be sent, or the text has no further
-    /// whole line; answers how many bytes of the text were sealed. Those of up to 16,384 bytes are sealed at once, as one
-    /// text, and a longer line by itself; none waits for a further one. Refusals, where the first of these texts isn't
-    /// sealed: `LongLine`, the first line has more than 524,288 bytes; `Spent`, 2^64 - 1 texts were sealed; `NoMemory`.
-    /// Where it is refused nothing changes; before a later text that isn't sealed it stops. It costs O(n) for n bytes that
-    /// are sealed or wait.
+    /// whole line; answers how many bytes of the text were sealed. Those of up to 16,384 bytes are sealed at once, as
+    /// one text, and a longer line by itself; none waits for a further one. Refusals, where the first of these texts
+    /// isn't sealed: `LongLine`, the first line has more than 524,288 bytes; `Spent`, 2^64 - 1 texts were sealed;
+    /// `NoMemory`. Where it is refused nothing changes; before a later text that isn't sealed it stops. It costs O(n)
+    /// for n bytes that are sealed or wait.
     pub fn seal(&mut self, text: &[u8]) -> Result<usize, WireFault>
         ensures ok { IfOk result (λ count. SealsFront self.old text.now count self.new) }
         ensures opens { IfOk result (λ count. SendsSealed self.old text.now count self.new) }
@@ -202,8 +203,8 @@ impl Wire {
         }
     }
 
-    /// Seals lines at the front of a text, as many as are sealed at once, and answers how many bytes these have, with their
-    /// line ends; 0 where it has no whole line, or enough waits to be sent.
+    /// Seals lines at the front of a text, as many as are sealed at once, and answers how many bytes these have, with
+    /// their line ends; 0 where it has no whole line, or enough waits to be sent.
     fn seal_batch(&mut self, text: &[u8]) -> Result<usize, WireFault>
         ensures none { result ≡ Ok 0
             → (self.new ≡ self.old) × (HasNoLf text.now ⊎ (waiting_limit ≤ length self.old.waiting)) }

@@ -1,4 +1,5 @@
--- A host and a port, and the words that name them: `HOST:PORT`, or `[V6]:PORT` with an address of IPv6 (RFC 3986, 3.2.2).
+-- A host and a port, and the words that name them: `HOST:PORT`, or `[V6]:PORT` with an address of IPv6 (RFC 3986,
+-- 3.2.2).
 use Rattle.std.specs.Prelude.{◌≡◌, ◌⊎◌, ◌<◌, ◌≤◌, ◌==◌, ◌&&◌, ◌||◌, nat_le, ℕ, Bool, true, List, [], ◌∷◌, ◌++◌}
 use Rattle.std.specs.Prelude.{decimal, length, if◌then◌else◌}
 use Rattle.std.specs.List.{list_all, list_any}

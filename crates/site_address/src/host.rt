@@ -18,7 +18,8 @@ pub struct HostPort<'a> {
 }
 
 impl<'a> HostPort<'a> {
-    /// Writes the host and the port as a word names them, a host with a colon in brackets. It costs O(n) for its length.
+    /// Writes the host and the port as a word names them, a host with a colon in brackets. It costs O(n) for its
+    /// length.
     pub fn write(self, text: &mut String) -> Result<(), AllocError>
         ensures { OnOk result (string_bytes text.new ≡ string_bytes text.old ++ host_port_text self.entry) }
     {
@@ -31,9 +32,9 @@ impl<'a> HostPort<'a> {
     }
 }
 
-/// The host and the port that a word names, as `HOST:PORT` or `[V6]:PORT`: HOST is letters, digits, `-`, `.` and `_`, at
-/// least one; V6 is hex digits, colons and dots, with at least one colon; PORT is a decimal from 0 to 65,535. Nothing
-/// where it names none. What is written of the answer names it again. It costs O(n) for n bytes.
+/// The host and the port that a word names, as `HOST:PORT` or `[V6]:PORT`: HOST is letters, digits, `-`, `.` and `_`,
+/// at least one; V6 is hex digits, colons and dots, with at least one colon; PORT is a decimal from 0 to 65,535.
+/// Nothing where it names none. What is written of the answer names it again. It costs O(n) for n bytes.
 pub fn host_port_of(word: &str) -> Option<HostPort<'_>>
     ensures named { MatchOption result ((at : AnyHostPort) → ¬ NamesHostPort word.now at) (NamesHostPort word.now) }
     ensures written { IfSome result (λ at. NamesHostPort (host_port_text at) at) }

@@ -41,9 +41,9 @@ impl<'a> PeerAddress<'a> {
     }
 }
 
-/// The address that a word names: `NAME@HOST:PORT`, with NAME of 1 to 64 letters, digits, `-`, `.` or `_` and a port from
-/// 1, where the word has an `@` and no slash, else as `address_of`. Nothing where it names none. What is written of the
-/// address names it again. It costs O(n) for n bytes.
+/// The address that a word names: `NAME@HOST:PORT`, with NAME of 1 to 64 letters, digits, `-`, `.` or `_` and a port
+/// from 1, where the word has an `@` and no slash, else as `address_of`. Nothing where it names none. What is written
+/// of the address names it again. It costs O(n) for n bytes.
 pub fn peer_of(word: &str) -> Option<PeerAddress<'_>>
     ensures named { MatchOption result ((peer : AnyPeer) → ¬ NamesPeer word.now peer) (NamesPeer word.now) }
     ensures told { IfSome result (λ peer. (is_there word.now ≡ is_elsewhere peer) × NamesPeer (peer_text peer) peer) }

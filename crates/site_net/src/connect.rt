@@ -31,8 +31,8 @@ fn connected_at_port<R: Net<Stream = TcpStream>>(
     connected_at(rt, &address, patience)
 }
 
-/// A connection to what listens at a port of a host. It looks the host's name up, and tries each address that it has, in
-/// turn, until one accepts. It fails where the name has no address, or where the last address is refused or doesn't
+/// A connection to what listens at a port of a host. It looks the host's name up, and tries each address that it has,
+/// in turn, until one accepts. It fails where the name has no address, or where the last address is refused or doesn't
 /// answer within the limit of the patience. How long a look-up takes is for the system alone.
 pub fn connected_to_host<R: Net<Stream = TcpStream>>(
     rt: &R,

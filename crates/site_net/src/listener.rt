@@ -29,8 +29,8 @@ pub fn listen_at_port<R: Net<Listener = TcpListener, Stream = TcpStream>>(
     TcpListener::bind(rt, ("127.0.0.1", port))
 }
 
-/// Listens at a port of a host of this machine, whose name it looks up; at one that the system chooses where it is 0. It
-/// fails where the host isn't this machine's, or the port isn't free.
+/// Listens at a port of a host of this machine, whose name it looks up; at one that the system chooses where it is 0.
+/// It fails where the host isn't this machine's, or the port isn't free.
 pub fn listen_at_host<R: Net<Listener = TcpListener, Stream = TcpStream>>(
     rt: &R,
     at: HostPort<'_>,
@@ -39,9 +39,9 @@ pub fn listen_at_host<R: Net<Listener = TcpListener, Stream = TcpStream>>(
 }
 
 /// Listens at a Unix socket with this mode, which it makes at a path of at most 101 bytes. Nobody can connect to it
-/// before it has the mode: it is made in a folder `PATH.new` that only its user may enter, and then renamed to the path.
-/// An old socket there that nobody listens at any more is replaced. It fails where anything else is at the path, a
-/// socket that answers too, or where the system refuses one of these steps.
+/// before it has the mode: it is made in a folder `PATH.new` that only its user may enter, and then renamed to the
+/// path. An old socket there that nobody listens at any more is replaced. It fails where anything else is at the path,
+/// a socket that answers too, or where the system refuses one of these steps.
 pub fn listen_at_path<R: Net + Files>(
     rt: &R,
     alloc: Global,

@@ -49,7 +49,8 @@ impl<A: Allocator + Copy> SharedChange<A> {
         &*self.change
     }
 
-    /// Joins the effect of an operation, as `ChangeState::take` does. It costs a copy of the state where that is shared.
+    /// Joins the effect of an operation, as `ChangeState::take` does. It costs a copy of the state where that is
+    /// shared.
     pub(super) fn take(&mut self, op: &Op<A>) -> Result<(), NoMemory>
         ensures ok { OnOk result (self.new ≡ change_joined self.old (effect_of op.now)) }
         ensures err { OnErr result (self.new ≡ self.old) }
@@ -74,8 +75,8 @@ impl<A: Allocator + Copy> SharedChange<A> {
         change.consume(op)
     }
 
-    /// Joins another state. After a refusal it lies between the old one and the join. It costs a copy of the state where
-    /// that is shared.
+    /// Joins another state. After a refusal it lies between the old one and the join. It costs a copy of the state
+    /// where that is shared.
     fn join_change(&mut self, other: ChangeState<A>) -> Result<(), NoMemory>
         ensures ok { OnOk result (self.new ≡ change_joined self.old other) }
         ensures err { OnErr result (IsBetween change_joined self.old self.new (change_joined self.old other)) }

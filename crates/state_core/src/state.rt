@@ -51,9 +51,9 @@ impl<A: Allocator + Copy> State<A> {
         join_effect(&mut self.changes, self.alloc, op)
     }
 
-    /// Joins the effect of an operation into the state of its change, as `take` does, and keeps the texts of the operation
-    /// itself. Where memory is refused nothing changes but that the operation is dropped. It costs what `take` costs but
-    /// for the copies of texts.
+    /// Joins the effect of an operation into the state of its change, as `take` does, and keeps the texts of the
+    /// operation itself. Where memory is refused nothing changes but that the operation is dropped. It costs what
+    /// `take` costs but for the copies of texts.
     pub fn consume(&mut self, op: Op<A>) -> Result<(), NoMemory>
         ensures ok { OnOk result (self.new ≡ with_effect self.old op) }
         ensures err { OnErr result (self.new ≡ self.old) }
@@ -112,8 +112,8 @@ impl<A: Allocator + Copy> State<A> {
     }
 }
 
-/// Joined change by change. After a refusal the state lies between the old one and the join. A copy shares the states of
-/// changes, so that it costs O(n) for n changes, however much is in them.
+/// Joined change by change. After a refusal the state lies between the old one and the join. A copy shares the states
+/// of changes, so that it costs O(n) for n changes, however much is in them.
 impl<A: Allocator + Copy> Join for State<A> {
     ghost use Rattle.lattice_core.specs.Keep.{numbers_exact};
     ghost use Rattle.lattice_core.specs.JoinMap.{maps_join};

@@ -23,8 +23,8 @@ is_open part = not (slice_index part (length part - 1) == 10)
 
 -- a clock, by its readings
 module _ {M : Type 0} (reads : M → Option ℤ → M → Type 0) where
-  -- what is written before the next byte: at the begin of a line the clock is read, and it is the stamp of the moment;
-  -- in a line it is nothing
+  -- what is written before the next byte: at the beginning of a line the clock is read, and it is the stamp of the
+  -- moment; in a line it is nothing
   abbrev pub Stamps : Bool → M → List ℕ → M → Type 0
   Stamps true old stamp new = (new ≡ old) × (stamp ≡ [])
   Stamps false old stamp new = (moment : Option ℤ) × reads old moment new × IsStamp moment stamp
