@@ -47,8 +47,9 @@ pub fn depends<'m, A: Allocator + Copy>(
     Ok(found)
 }
 
-/// The first line of a text, and what follows its end.
-fn first_line(text: &str) -> (&str, Option<&str>)
+/// The first line of a text, and what follows its LF; nothing follows where it has none. It costs O(n) for a line of n
+/// bytes, and takes no memory.
+pub fn first_line(text: &str) -> (&str, Option<&str>)
     ensures { MatchOption result.1 (lines_of text.now ≡ result.0.now ∷ [])
         (λ rest. (lines_of text.now ≡ result.0.now ∷ lines_of rest.now) × (length rest.now < length text.now)) }
 {

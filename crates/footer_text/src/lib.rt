@@ -22,7 +22,7 @@ mod footer;
 mod reading;
 
 pub use bases::{Bases, BasesFault, MOST_BASES};
-pub use depend::{Footers, depends, footers_are_unique};
+pub use depend::{Footers, depends, first_line, footers_are_unique};
 pub use flaw::{BaseFlaw, base_flaw, bases_have_no_flaw};
 pub use footer::footer_value;
 pub use reading::read_value;

@@ -1,14 +1,10 @@
 -- What is kept of a commit message. Gerrit has no limit for its length; a body does. Of a longer message the footers are
 -- kept, by which changes depend on each other (Zuul, "Cross-Project Dependencies"): its other lines say nothing that is
 -- judged. That is this project's own rule.
-use Rattle.std.specs.Prelude.{ℕ, ◌==◌, Bool, List, [], ◌∷◌, ◌++◌, bytes_eq, codes, filter, flat_map, length, map, nat_lt}
+use Rattle.std.specs.Prelude.{ℕ, Bool, List, [], ◌∷◌, ◌++◌, bytes_eq, codes, filter, flat_map, length, map, nat_lt}
 use Rattle.std.specs.Prelude.{take, if◌then◌else◌}
 use Rattle.std.specs.Char.{to_ascii_lowercase}
-use Rattle.std.specs.List.{slice_split}
-
--- the text is cut at each LF; what follows the last one is a line, too
-abbrev pub message_lines : List ℕ → List (List ℕ)
-message_lines text = slice_split (λ byte. byte == 10) text
+use Rattle.footer_text.specs.Lines.{lines_of}
 
 -- the line begins with the word of a footer and its colon, in whatever case
 abbrev pub is_footer_line : List ℕ → Bool
@@ -16,7 +12,7 @@ is_footer_line line = bytes_eq (take 11 (map to_ascii_lowercase line)) (codes "d
 
 -- the lines that are footers, each with its line end
 abbrev pub footer_lines : List ℕ → List ℕ
-footer_lines text = flat_map (λ line. line ++ 10 ∷ []) (filter is_footer_line (message_lines text))
+footer_lines text = flat_map (λ line. line ++ 10 ∷ []) (filter is_footer_line (lines_of text))
 
 -- a message is kept as it is, or, where it has more bytes than a body may, in its footers
 abbrev pub kept_message : List ℕ → List ℕ

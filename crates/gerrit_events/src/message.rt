@@ -1,8 +1,9 @@
 //! What is kept of a commit message.
 
-ghost use Rattle.std.specs.Prelude.{◌≡◌, ◌<◌, ◌∷◌, [], IfOk, MatchOption, length, string_bytes};
-ghost use Rattle.gerrit_events.specs.Messages.{footer_lines, is_footer_line, kept_message, message_lines};
+ghost use Rattle.std.specs.Prelude.{◌≡◌, IfOk, string_bytes};
+ghost use Rattle.gerrit_events.specs.Messages.{footer_lines, is_footer_line, kept_message};
 
+use footer_text::first_line;
 use lattice_core::NoMemory;
 use std::alloc::Global;
 
@@ -39,18 +40,6 @@ fn footer_lines(alloc: Global, message: &str) -> Result<String, NoMemory>
         rest = after;
     }
     Ok(kept)
-}
-
-/// The first line of a text, and what follows its end.
-fn first_line(text: &str) -> (&str, Option<&str>)
-    ensures { MatchOption result.1 (message_lines text.now ≡ result.0.now ∷ [])
-        (λ rest. (message_lines text.now ≡ result.0.now ∷ message_lines rest.now)
-        × (length rest.now < length text.now)) }
-{
-    match text.split_once('\n') {
-        Some((line, rest)) => (line, Some(rest)),
-        None => (text, None),
-    }
 }
 
 /// Whether a line begins as a footer does, in whatever case.
