@@ -67,7 +67,7 @@ impl ItemSet {
     pub fn as_slice(&self) -> &[Item]
         ensures { result.now ≡ self.now }
     {
-        self.items.as_slice()
+        &self.items
     }
 
     /// Whether an item is among them. It costs O(log n) for n items.

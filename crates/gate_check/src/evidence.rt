@@ -39,6 +39,6 @@ impl Evidence {
     pub fn unused(&self) -> &[bool]
         ensures { result.now ≡ (evidence_shown self.now).unused }
     {
-        self.unused.as_slice()
+        &self.unused
     }
 }

@@ -104,14 +104,14 @@ impl LabelValues {
     pub fn label(&self) -> &str
         ensures { result.now ≡ self.now.label }
     {
-        self.label.as_str()
+        &self.label
     }
 
     /// The values that are accepted.
     pub fn values(&self) -> &[i8]
         ensures { result.now ≡ self.now.values }
     {
-        self.values.as_slice()
+        &self.values
     }
 
     /// A label, which is in lower case, and its values.
@@ -153,7 +153,7 @@ impl Pattern {
     pub fn labels(&self) -> &[LabelValues]
         ensures { result.now ≡ self.now.labels }
     {
-        self.labels.as_slice()
+        &self.labels
     }
 
     /// Whether the pattern takes this voter.
@@ -238,7 +238,7 @@ impl Clauses {
     pub fn approvals(&self) -> &[Pattern]
         ensures { result.now ≡ self.now.approvals }
     {
-        self.approvals.as_slice()
+        &self.approvals
     }
 
     /// The conditions of a side.
@@ -429,7 +429,7 @@ impl Gate {
     pub fn connection(&self) -> &str
         ensures { result.now ≡ self.now.connection }
     {
-        self.connection.as_str()
+        &self.connection
     }
 
     /// The conditions of a side.

@@ -87,7 +87,7 @@ impl Graph {
     pub fn items(&self) -> &[Item]
         ensures { result.now ≡ self.now.items }
     {
-        self.items.as_slice()
+        &self.items
     }
 
     /// The changes that an item waits for, in order, each once. It costs O(log n) for n items.
@@ -138,6 +138,6 @@ impl Graph {
         ensures places { length self.now.on_cycle ≡ length self.now.items }
         ensures flags { result.now ≡ self.now.on_cycle }
     {
-        self.on_cycle.as_slice()
+        &self.on_cycle
     }
 }

@@ -40,7 +40,7 @@ impl Key {
     pub fn name(&self) -> &[u8]
         ensures { result.now ≡ self.now.name }
     {
-        self.name.as_slice()
+        &self.name
     }
 
     /// What who has it may do.

@@ -48,8 +48,8 @@ impl Mac {
     {
         Mac {
             key: *key,
-            inner: hasher_of(padded(key, INNER).as_slice()),
-            outer: hasher_of(padded(key, OUTER).as_slice()),
+            inner: Sha256::new_with_prefix(padded(key, INNER).as_slice()),
+            outer: Sha256::new_with_prefix(padded(key, OUTER).as_slice()),
         }
     }
 
@@ -85,13 +85,6 @@ pub fn is_same(left: &[u8], right: &[u8]) -> bool
         difference |= byte ^ right[i];
     }
     difference == 0
-}
-
-/// What has hashed these bytes.
-fn hasher_of(bytes: &[u8]) -> Sha256
-    ensures { Holds256 result bytes.now }
-{
-    Sha256::new_with_prefix(bytes)
 }
 
 /// SHA-256 of what was hashed and of two parts after that.

@@ -90,13 +90,13 @@ impl Verdicts {
     pub fn ready(&self) -> &[Item]
         ensures { result.now ≡ self.now.ready }
     {
-        self.ready.as_slice()
+        &self.ready
     }
 
     /// The other items, by change and patch set, each with its refusal and its rank.
     pub fn out(&self) -> &[Left]
         ensures { result.now ≡ self.now.out }
     {
-        self.out.as_slice()
+        &self.out
     }
 }

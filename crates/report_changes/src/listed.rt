@@ -70,14 +70,14 @@ impl Listed {
     pub fn ready(&self) -> &[Item]
         ensures { result.now ≡ self.now.ready }
     {
-        self.ready.as_slice()
+        &self.ready
     }
 
     /// The others that aren't over, in item order, each with its refusal.
     pub fn out(&self) -> &[Left]
         ensures { result.now ≡ self.now.out }
     {
-        self.out.as_slice()
+        &self.out
     }
 
     /// Whether an item is ready. It costs O(log n) for n items, as the next three.

@@ -185,7 +185,7 @@ impl Desk {
     pub fn held(&self) -> &[Op]
         ensures { result.now ≡ self.now.held }
     {
-        self.held.as_slice()
+        &self.held
     }
 
     /// Ends the site, and answers the record that was shown last: a window that is asked from now on answers that, or
