@@ -4,3 +4,4 @@ pub mod Shut
 pub mod Texts
 pub mod Nearby
 pub mod Sought
+pub mod Voters

@@ -1,7 +1,9 @@
 -- What looks mistaken in a gate: warnings, each with its number and name, the place of the condition, what it is about,
 -- and the nearest name that there is.
-use Rattle.std.specs.Prelude.{ℕ, List, [], ◌∷◌, ◌++◌, Bool, not, Option, None, Some, codes}
-use Rattle.std.specs.Prelude.{decimal, flat_map, if◌then◌else◌, nat_eq, slice_get}
+use Rattle.std.specs.Prelude.{ℕ, List, [], ◌∷◌, ◌++◌, Bool, not, ◌&&◌, Option, None, Some, codes}
+use Rattle.std.specs.Prelude.{decimal, flat_map, if◌then◌else◌, length, nat_eq, nat_le, slice_get}
+use Rattle.std.specs.Char.{is_ascii_graphic}
+use Rattle.std.specs.List.{list_all}
 use Rattle.json.specs.Print.{quoted}
 use Rattle.gate_rules.specs.Own.{some}
 use Rattle.gate_rules.specs.Rules.{GateRules, LabelRule, PatternRule}
@@ -13,7 +15,8 @@ use Rattle.gate_check.specs.Evidence.{Evidence, names_shown_by}
 use Rattle.gate_check.specs.Names.{KnownNames, has_known}
 use Rattle.gate_check.specs.Nearest.{nearest}
 use Rattle.gate_check.specs.declared.warning.Warning.{Warning}
-use Rattle.gate_check.specs.declared.warning.Warning.TheVariants.{Pattern, UnknownLabel, UnknownVoter, NeverMet, UnusedBase}
+use Rattle.gate_check.specs.declared.warning.Warning.TheVariants.{NeverMet, NoVoter, Pattern, UnknownLabel, UnknownVoter}
+use Rattle.gate_check.specs.declared.warning.Warning.TheVariants.{UnusedBase}
 
 abbrev pub number_of : Warning → ℕ
 number_of Pattern = 1
@@ -21,6 +24,7 @@ number_of UnknownLabel = 2
 number_of UnknownVoter = 3
 number_of NeverMet = 4
 number_of UnusedBase = 5
+number_of NoVoter = 6
 
 abbrev pub name_of : Warning → List ℕ
 name_of Pattern = codes "Pattern"
@@ -28,6 +32,7 @@ name_of UnknownLabel = codes "UnknownLabel"
 name_of UnknownVoter = codes "UnknownVoter"
 name_of NeverMet = codes "NeverMet"
 name_of UnusedBase = codes "UnusedBase"
+name_of NoVoter = codes "NoVoter"
 
 -- a warning: its kind, a place of the gate file, what it is about, where it is about something, and the nearest name
 -- that there is, where one is near enough
@@ -115,12 +120,25 @@ abbrev pub base_warnings : GateRules → Option Evidence → List Found
 base_warnings gate None = []
 base_warnings gate (Some evidence) = by_place (base_warning gate) 0 evidence.unused
 
+-- ---- 6 NoVoter: nobody can have the username, so that no vote is by it
+
+abbrev pub can_vote : List ℕ → Bool
+can_vote name = nat_le 1 (length name) && nat_le (length name) 64 && list_all is_ascii_graphic name
+
+abbrev pub nobody_warnings : List ℕ → Option (List ℕ) → List Found
+nobody_warnings place None = []
+nobody_warnings place (Some voter) = warned (not (can_vote voter)) (about_text NoVoter place voter)
+
 -- ---- the warnings of a gate
+
+-- of a username, whatever a record has
+abbrev pub username_warnings : List ℕ → Option (List ℕ) → List Found
+username_warnings place username = pattern_warnings place username ++ nobody_warnings place username
 
 -- of an approval at a place
 abbrev pub warnings_at : List ℕ → Option KnownNames → Bool → PatternRule → List Found
 warnings_at place names is_so pattern =
-    pattern_warnings place pattern.username ++ unknown_warnings place names pattern ++ never_met is_so place
+    username_warnings place pattern.username ++ unknown_warnings place names pattern ++ never_met is_so place
 
 abbrev pub approval_warnings : GateRules → Option KnownNames → Side → ℕ → PatternRule → List Found
 approval_warnings gate names side number pattern =

@@ -10,7 +10,9 @@ use super::asking::condition_lines;
 use super::evidence::Evidence;
 use super::finding::findings_of;
 use super::found::Finding;
-use super::laws::{the_nearest_name_is_found, what_is_never_met_lets_nothing_in};
+use super::laws::{
+    the_nearest_name_is_found, voters_are_those_who_can_vote, what_is_never_met_lets_nothing_in,
+};
 use gate_rules::Gate;
 use lattice_core::NoMemory;
 use state_core::State;
@@ -27,7 +29,7 @@ pub struct Checked {
 /// the order in which items are judged by them; a line for each warning, in that order, those of bases last; and `end`
 /// with how many there are of both. Where the state of a record is given, labels, voters and bases are looked for
 /// there, and of a label or a voter that it lacks the nearest is named. The warnings are 1 `Pattern`, 2 `UnknownLabel`,
-/// 3 `UnknownVoter`, 4 `NeverMet` and 5 `UnusedBase`. It costs O(b + p q + v log n + m) for b bytes of text, p values
+/// 3 `UnknownVoter`, 4 `NeverMet`, 5 `UnusedBase` and 6 `NoVoter`. It costs O(b + p q + v log n + m) for b bytes of text, p values
 /// of patterns that are required, q patterns that are rejected, v votes of n labels and voters and m bytes of messages
 /// for each base, and for each unknown name O(c d) for its c characters and d of all names.
 pub fn check_gate(alloc: Global, gate: &Gate, state: Option<&State>) -> Result<Checked, NoMemory>
@@ -36,6 +38,7 @@ pub fn check_gate(alloc: Global, gate: &Gate, state: Option<&State>) -> Result<C
 {
     what_is_never_met_lets_nothing_in();
     the_nearest_name_is_found();
+    voters_are_those_who_can_vote();
     let evidence = evidence_in(alloc, gate, state)?;
     let conditions = condition_lines(alloc, gate)?;
     let found = findings_of(alloc, gate, &evidence)?;

@@ -6,9 +6,10 @@ ghost use Rattle.gate_check.specs.Asking.{by_place};
 ghost use Rattle.gate_check.specs.Evidence.{names_shown_by};
 ghost use Rattle.gate_check.specs.Shown.{evidence_shown, names_shown};
 ghost use Rattle.gate_check.specs.Warnings.{approval_warnings, base_place, base_warning, base_warnings};
-ghost use Rattle.gate_check.specs.Warnings.{condition_warnings, first_warnings, is_sign, key_warnings, label_warning};
-ghost use Rattle.gate_check.specs.Warnings.{never_met, pattern_warnings, unknown_name, unknown_warnings};
-ghost use Rattle.gate_check.specs.Warnings.{voter_warnings, warnings_at, warnings_of};
+ghost use Rattle.gate_check.specs.Warnings.{can_vote, condition_warnings, first_warnings, is_sign, key_warnings};
+ghost use Rattle.gate_check.specs.Warnings.{label_warning, never_met, nobody_warnings, pattern_warnings, unknown_name};
+ghost use Rattle.gate_check.specs.Warnings.{unknown_warnings, username_warnings, voter_warnings, warnings_at};
+ghost use Rattle.gate_check.specs.Warnings.{warnings_of};
 
 use super::evidence::Evidence;
 use super::found::Finding;
@@ -19,6 +20,7 @@ use super::place::{approval_key, place_of};
 use super::warning::Warning;
 use gate_rules::{Gate, LabelValues, Pattern, Side};
 use lattice_core::NoMemory;
+use review_ops::is_voter;
 use std::alloc::Global;
 use std::collections::BTreeSet;
 
@@ -156,9 +158,49 @@ fn add_at(
     ensures { OnOk result (found.new.items ≡ found.old.items
         ++ warnings_at place.now (option_map (λ known. names_shown known.now) names.entry) is_never_met pattern.now) }
 {
-    add_pattern(alloc, place, pattern.username(), found)?;
+    add_username(alloc, place, pattern.username(), found)?;
     add_unknown(alloc, place, names, pattern, found)?;
     add_never_met(alloc, is_never_met, place, found)
+}
+
+/// Adds those of a username, whatever a record has.
+fn add_username(
+    alloc: Global,
+    place: &str,
+    username: Option<&str>,
+    found: &mut Vec<Finding>,
+) -> Result<(), NoMemory>
+    ensures { OnOk result (found.new.items
+        ≡ found.old.items ++ username_warnings place.now (option_map (λ name. name.now) username.entry)) }
+{
+    add_pattern(alloc, place, username, found)?;
+    add_nobody(alloc, place, username, found)
+}
+
+/// Adds that nobody can have a username, if it is so.
+fn add_nobody(
+    alloc: Global,
+    place: &str,
+    username: Option<&str>,
+    found: &mut Vec<Finding>,
+) -> Result<(), NoMemory>
+    ensures { OnOk result (found.new.items
+        ≡ found.old.items ++ nobody_warnings place.now (option_map (λ name. name.now) username.entry)) }
+{
+    let Some(voter) = username else {
+        return Ok(());
+    };
+    if !can_vote(voter) {
+        found.push(Finding::new(alloc, Warning::NoVoter, place, Some(voter), None)?)?;
+    }
+    Ok(())
+}
+
+/// Whether somebody can have a username.
+fn can_vote(username: &str) -> bool
+    ensures { result ≡ can_vote username.now }
+{
+    is_voter(username)
 }
 
 /// Adds that a username looks like a regular expression, if it does.

@@ -1,12 +1,14 @@
 //! What the tests of warnings mean.
 
-ghost use Rattle.std.specs.Prelude.{◌≡◌, ◌↔◌, ℕ, Some, slice_get, true};
+ghost use Rattle.std.specs.Prelude.{◌≡◌, ◌↔◌, ℕ, List, Some, slice_get, true};
 ghost use Rattle.gate_rules.specs.Rules.{GateRules, PatternRule};
 ghost use Rattle.gate_rules.specs.declared.condition.Side.TheVariants.{Require};
 ghost use Rattle.gate_check.specs.Meeting.{IsRejected, LetsNothingIn, is_current_never_met, is_never_met};
 ghost use Rattle.gate_check.specs.Names.{AreTheSameTexts};
 ghost use Rattle.gate_check.specs.Nearest.{FindsNearest};
 ghost use Rattle.gate_check.specs.Meeting.{is_open_never_met, is_status_never_met};
+ghost use Rattle.gate_check.specs.Warnings.{can_vote};
+ghost use Rattle.review_ops.specs.Good.{IsVoter};
 
 /// Where a gate has a condition that is never met, an item of any change breaks some condition of the gate. An approval
 /// is never met just where each vote that it takes, of which none is 0, is taken by one that is rejected.
@@ -19,6 +21,11 @@ pub fn what_is_never_met_lets_nothing_in()
         → LetsNothingIn gate }
     ensures exact { (gate : GateRules) (pattern : PatternRule)
         → (is_never_met gate Require pattern ≡ true) ↔ IsRejected gate.reject.approvals pattern }
+{}
+
+/// Just the names that a vote's voter may have are names that somebody can have.
+pub fn voters_are_those_who_can_vote()
+    ensures { (name : List ℕ) → (can_vote name ≡ true) ↔ IsVoter name }
 {}
 
 /// The name that is found to be nearest is one of the record's that is near enough, none of them is nearer, and those

@@ -8,7 +8,9 @@ use super::asking::condition_lines;
 use super::checking::evidence_in;
 use super::finding::findings_of;
 use super::found::Finding;
-use super::laws::{the_nearest_name_is_found, what_is_never_met_lets_nothing_in};
+use super::laws::{
+    the_nearest_name_is_found, voters_are_those_who_can_vote, what_is_never_met_lets_nothing_in,
+};
 use gate_rules::Gate;
 use json::Writer;
 use json_line::{close_list, close_object, line_of, open_list, open_object, put_texts};
@@ -35,6 +37,7 @@ pub fn check_line(
 {
     what_is_never_met_lets_nothing_in();
     the_nearest_name_is_found();
+    voters_are_those_who_can_vote();
     let evidence = evidence_in(alloc, gate, state)?;
     let conditions = condition_lines(alloc, gate)?;
     let found = findings_of(alloc, gate, &evidence)?;

@@ -16,6 +16,8 @@ pub enum Warning {
     NeverMet,
     /// No footer of the record has the base, while one has a URL that is under none.
     UnusedBase,
+    /// Nobody can have the username.
+    NoVoter,
 }
 
 impl Warning {
@@ -29,6 +31,7 @@ impl Warning {
             Warning::UnknownVoter => 3,
             Warning::NeverMet => 4,
             Warning::UnusedBase => 5,
+            Warning::NoVoter => 6,
         }
     }
 
@@ -42,6 +45,7 @@ impl Warning {
             Warning::UnknownVoter => "UnknownVoter",
             Warning::NeverMet => "NeverMet",
             Warning::UnusedBase => "UnusedBase",
+            Warning::NoVoter => "NoVoter",
         }
     }
 }

@@ -33,3 +33,4 @@ pub use draft::Draft;
 pub use fault::BodyFault;
 pub use operation::{Op, operations_are_ordered};
 pub use stamp::Stamp;
+pub use word::is_voter;
