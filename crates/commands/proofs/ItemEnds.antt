@@ -22,7 +22,7 @@ use Rattle.commands.specs.Running.{Reports}
 pub refused_so : (refusal : Refusal) (old new : ErrorOutput) → ¬ (refusal ≡ Waits)
     → ShowsLine (refusal_line refusal) old new → Reports old new (Err refusal) 1
 refused_so (Script fault) old new other shows = (shows, refl)
-refused_so (Snapshot fault) old new other shows = (shows, refl)
+refused_so (Snapshot fault name) old new other shows = (shows, refl)
 refused_so (Gate fault) old new other shows = (shows, refl)
 refused_so (File name fault) old new other shows = (shows, refl)
 refused_so (NotText name) old new other shows = (shows, refl)

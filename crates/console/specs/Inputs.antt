@@ -48,9 +48,13 @@ IsUnreadAs name fault refusal = (named : Bor (List ℕ)) × (named.now ≡ name)
 abbrev pub IsNoText : List ℕ → Refusal → Type 0
 IsNoText name refusal = (named : Bor (List ℕ)) × (named.now ≡ name) × (refusal ≡ NotText named)
 
--- the same of an input: a snapshot has faults of its own for that
+-- how a fault of the snapshot of a name is refused
+abbrev pub IsSnapshotFault : List ℕ → SnapFault → Refusal → Type 0
+IsSnapshotFault name fault refusal = (named : Bor (List ℕ)) × (named.now ≡ name) × (refusal ≡ Snapshot fault named)
+
+-- how an input is refused whose bytes can't be had: a snapshot has faults of its own for that
 abbrev pub IsUnreadOf : Kind → List ℕ → BytesFault → Refusal → Type 0
-IsUnreadOf snapshot_file name fault refusal = refusal ≡ Snapshot (snap_fault_of fault)
+IsUnreadOf snapshot_file name fault refusal = IsSnapshotFault name (snap_fault_of fault) refusal
 IsUnreadOf kind name fault refusal = IsUnreadAs name fault refusal
 
 -- a pull reads and prints nothing, and its text is that of the site's record, where that is known
@@ -79,7 +83,7 @@ IsFlawed gate_file name text refusal = (fault : GateFault) × (refusal ≡ Gate 
 IsFlawed message_file name text refusal = IsNoText name refusal × (¬ IsUtf8 text)
 IsFlawed script_file name text refusal = ⊥
 IsFlawed snapshot_file name text refusal =
-    (fault : SnapFault) × (refusal ≡ Snapshot fault) × IsRefusal text fault × IsOfText fault
+    (fault : SnapFault) × IsSnapshotFault name fault refusal × IsRefusal text fault × IsOfText fault
 IsFlawed pulled name text refusal = ⊥
 
 -- how a record is refused that isn't pulled: its name has no address, or a pull from that fails

@@ -1,5 +1,5 @@
 -- How a refusal is printed: the part that refused, the number of the fault, and its name with what is known of it.
-use Rattle.std.specs.Prelude.{ℕ, List, ◌++◌, Option, None, Some, codes, decimal, if◌then◌else◌}
+use Rattle.std.specs.Prelude.{ℕ, List, [], ◌++◌, Option, None, Some, codes, decimal, if◌then◌else◌}
 use Rattle.byte_ends.specs.ReadAll as bytes
 use Rattle.gate_rules.specs.Fault as gate
 use Rattle.refusal_line.specs.Line.{line_of}
@@ -16,7 +16,7 @@ use Rattle.console.specs.declared.refusals.Refusal.TheVariants.{Memory, NoAddres
 
 abbrev pub part_of : Refusal → Part
 part_of (Script fault) = part.Script
-part_of (Snapshot fault) = part.Snapshot
+part_of (Snapshot fault name) = part.Snapshot
 part_of (Gate fault) = part.Gate
 part_of (File name fault) = part.File
 part_of (NotText name) = part.File
@@ -30,7 +30,7 @@ part_of Memory = part.Memory
 
 abbrev pub number_of : Refusal → ℕ
 number_of (Script fault) = script.number_of fault
-number_of (Snapshot fault) = snapshot.number_of fault
+number_of (Snapshot fault name) = snapshot.number_of fault
 number_of (Gate fault) = gate.number_of fault
 number_of (File name fault) = bytes.number_of fault
 number_of (NotText name) = 9
@@ -42,9 +42,13 @@ number_of (Warnings count) = 1
 number_of Output = 1
 number_of Memory = 1
 
--- a fault of a file, with the file's name after that of the fault, which the input has none of
+-- the name of a file after what is said of it; the input has none
+abbrev pub name_words : List ℕ → List ℕ
+name_words name = if is_input name then [] else codes " " ++ name
+
+-- a fault of a file, with the file's name after that of the fault
 abbrev pub file_words : List ℕ → List ℕ → List ℕ
-file_words fault name = if is_input name then fault else fault ++ codes " " ++ name
+file_words fault name = fault ++ name_words name
 
 -- an item that isn't known: a patch set of a change, or the change
 abbrev pub item_words : ℕ → Option ℕ → List ℕ
@@ -53,7 +57,7 @@ item_words change (Some set) = codes "NoItem " ++ decimal change ++ codes "," ++
 
 abbrev pub words_of : Refusal → List ℕ
 words_of (Script fault) = script.words_of fault
-words_of (Snapshot fault) = snapshot.words_of fault
+words_of (Snapshot fault name) = file_words (snapshot.words_of fault) name.now
 words_of (Gate fault) = gate.words_of fault
 words_of (File name fault) = file_words (bytes.name_of fault) name.now
 words_of (NotText name) = file_words (codes "NotText") name.now

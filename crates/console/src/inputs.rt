@@ -138,7 +138,7 @@ pub fn read_snapshot<'n, C: Console>(
 {
     match console.read_snapshot(gathering, name) {
         Ok(both) => Ok(both),
-        Err(fault) => Err(Refusal::Snapshot(fault)),
+        Err(fault) => Err(Refusal::Snapshot(fault, name)),
     }
 }
 

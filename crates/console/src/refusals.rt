@@ -3,7 +3,9 @@
 ghost use Rattle.std.specs.Prelude.{◌≡◌, ◌++◌, IfOk, OnOk, codes, string_bytes};
 ghost use Rattle.console.specs.declared.refusals.Refusal.TheVariants.{Script as BadScript, Gate as BadGate};
 ghost use Rattle.site_address.specs.Address.{address_text};
-ghost use Rattle.console.specs.Refusals.{file_words, item_words, number_of, part_of, refusal_line, words_of};
+ghost use Rattle.snapshot_text.specs.Fault.{words_of as snap_words_of};
+ghost use Rattle.console.specs.Refusals.{file_words, item_words, name_words, number_of, part_of};
+ghost use Rattle.console.specs.Refusals.{refusal_line, words_of};
 
 use super::pulls::PullFault;
 use super::streams::is_input;
@@ -19,7 +21,8 @@ use std::alloc::{AllocError, Global};
 #[derive(Debug, Drop)]
 pub enum Refusal<'n> {
     Script(ScriptFault),
-    Snapshot(SnapFault),
+    /// The snapshot of this name, or that on the input.
+    Snapshot(SnapFault, &'n str),
     Gate(GateFault),
     /// The file of this name, or the input, isn't read.
     File(&'n str, BytesFault),
@@ -57,7 +60,7 @@ impl<'n> Refusal<'n> {
     {
         match self {
             Refusal::Script(_) => Part::Script,
-            Refusal::Snapshot(_) => Part::Snapshot,
+            Refusal::Snapshot(_, _) => Part::Snapshot,
             Refusal::Gate(_) => Part::Gate,
             Refusal::File(_, _) | Refusal::NotText(_) => Part::File,
             Refusal::Peer(_, _) | Refusal::NoAddress(_) => Part::Peer,
@@ -74,7 +77,7 @@ impl<'n> Refusal<'n> {
     {
         match self {
             Refusal::Script(fault) => fault.number(),
-            Refusal::Snapshot(fault) => fault.number(),
+            Refusal::Snapshot(fault, _) => fault.number(),
             Refusal::Gate(fault) => fault.number(),
             Refusal::File(_, fault) => fault.number(),
             Refusal::NotText(_) | Refusal::NoAddress(_) => 9,
@@ -90,7 +93,7 @@ impl<'n> Refusal<'n> {
     {
         match self {
             Refusal::Script(fault) => fault.write_words(words),
-            Refusal::Snapshot(fault) => fault.write_words(words),
+            Refusal::Snapshot(fault, name) => write_snapshot(words, fault, name),
             Refusal::Gate(fault) => fault.write_words(words),
             Refusal::File(name, fault) => write_file(words, fault.name(), name),
             Refusal::NotText(name) => write_file(words, "NotText", name),
@@ -110,6 +113,22 @@ fn write_file(words: &mut String, fault: &str, name: &str) -> Result<(), AllocEr
     ensures { OnOk result (string_bytes words.new ≡ string_bytes words.old ++ file_words fault.now name.now) }
 {
     words.push_str(fault)?;
+    write_name(words, name)
+}
+
+/// Writes the words of a snapshot's fault, and the name of its file as that of another file is written.
+fn write_snapshot(words: &mut String, fault: &SnapFault, name: &str) -> Result<(), AllocError>
+    ensures { OnOk result
+        (string_bytes words.new ≡ string_bytes words.old ++ file_words (snap_words_of fault.now) name.now) }
+{
+    fault.write_words(words)?;
+    write_name(words, name)
+}
+
+/// Writes the name of a file after what was said of it, and nothing of the input.
+fn write_name(words: &mut String, name: &str) -> Result<(), AllocError>
+    ensures { OnOk result (string_bytes words.new ≡ string_bytes words.old ++ name_words name.now) }
+{
     if is_input(name) {
         return Ok(());
     }

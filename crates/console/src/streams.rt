@@ -45,7 +45,7 @@ pub trait Console {
             × IsHad (input snapshot_file name.now) (λ text. SaysOperations (lines_of text) ops)
             (state self.old) (state self.new)) }
         ensures refused { IfErr result (λ fault. IsRefused (input snapshot_file name.now)
-            (state self.old) (state self.new) (Refusal.Snapshot fault)) };
+            (state self.old) (state self.new) (Refusal.Snapshot fault name.entry)) };
 
     /// The gathering to which the operations of the record of the running site at an address of this machine came,
     /// after those that it has. Refusals: those of `Named::pull`.
