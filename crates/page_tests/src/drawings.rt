@@ -73,18 +73,36 @@ fn cycles_end_and_long_chains_are_cut(rt: HostRuntime) {
     assert!(rt; is_cycle_whole && is_unknown_there && is_chain_cut);
 }
 
+/// Whether the page of a change has this part.
+fn is_on_page(alloc: Global, record: Record, change: u32, part: &str) -> bool {
+    let place = Place { change, set: None };
+    has_part(alloc, record, Route::Change(place), part)
+}
+
 /// Whether the page of change 1 of a record that is a chain has this part.
 fn is_drawn(alloc: Global, last: u32, parent: u32, part: &str) -> bool {
-    let place = Place {
-        change: 1,
-        set: None,
-    };
-    has_part(
-        alloc,
-        Record::Chain(last, parent),
-        Route::Change(place),
-        part,
-    )
+    is_on_page(alloc, Record::Chain(last, parent), 1, part)
+}
+
+/// Of a change without a patch set the drawing and the list say alike whether it is merged or unknown.
+#[test]
+fn a_change_without_a_patch_set_is_merged_or_unknown(rt: HostRuntime) {
+    for (record, drawn, listed) in [
+        (
+            Record::MergedEnd(3, 9),
+            ">9 merged</text>",
+            "9</a> MERGED</li>",
+        ),
+        (
+            Record::VotedEnd(3, 9),
+            ">9 unknown</text>",
+            "9</a> unknown</li>",
+        ),
+    ] {
+        let is_drawn = is_on_page(rt.alloc(), record, 1, drawn);
+        let is_listed = is_on_page(rt.alloc(), record, 3, listed);
+        assert!(rt; is_drawn && is_listed);
+    }
 }
 
 #[test]

@@ -62,6 +62,10 @@ pub enum Record {
     /// One in which each change from 1 on has a parent with the next number, up to the last one, which is given with
     /// its parent, under the gate that wants nothing.
     Chain(u32, u32),
+    /// Such a chain, of whose last parent nothing is known but that it has merged.
+    MergedEnd(u32, u32),
+    /// Such a chain, of whose last parent nothing is known but a vote.
+    VotedEnd(u32, u32),
 }
 
 /// The replica of a record.
@@ -78,6 +82,13 @@ fn take_record(alloc: Global, replica: &mut Replica, record: Record) -> Option<(
     match record {
         Record::Given => take_given(alloc, replica),
         Record::Chain(last, parent) => take_chain(alloc, replica, last, parent),
+        Record::MergedEnd(last, parent) => {
+            take_ended(alloc, replica, last, parent, Deed::Merged)
+        }
+        Record::VotedEnd(last, parent) => {
+            let vote = Deed::Vote(1, "Workflow", "ann", 1);
+            take_ended(alloc, replica, last, parent, vote)
+        }
     }
 }
 
@@ -101,6 +112,19 @@ fn take_chain(alloc: Global, replica: &mut Replica, last: u32, parent: u32) -> O
     Some(())
 }
 
+/// Takes in changes that are a chain, and what is done to the parent of the last one.
+fn take_ended(
+    alloc: Global,
+    replica: &mut Replica,
+    last: u32,
+    parent: u32,
+    deed: Deed,
+) -> Option<()> {
+    take_chain(alloc, replica, last, parent)?;
+    let time = u64::from(last).saturating_add(1);
+    take(alloc, replica, time, parent, deed)
+}
+
 /// Takes in what is done to a change at a time.
 fn take(alloc: Global, replica: &mut Replica, time: u64, change: u32, deed: Deed) -> Option<()> {
     let op = op_of(alloc, time, change, deed)?;
@@ -114,7 +138,7 @@ fn take(alloc: Global, replica: &mut Replica, time: u64, change: u32, deed: Deed
 fn gate(alloc: Global, record: Record) -> Option<Gate> {
     let text = match record {
         Record::Given => GATE,
-        Record::Chain(_, _) => OPEN_GATE,
+        Record::Chain(_, _) | Record::MergedEnd(_, _) | Record::VotedEnd(_, _) => OPEN_GATE,
     };
     Gate::read(alloc, text.as_bytes()).ok()
 }

@@ -319,8 +319,12 @@ fn add_need(page: &mut Markup, need: u32, status: &'static str) {
     );
 }
 
-/// The status of a change in a word.
+/// The status of a change in a word. One that isn't merged and of which no patch set is known is unknown, as a verdict
+/// says, whatever else the record has of it.
 fn status_of(state: &State, number: u32) -> &'static str {
+    if !state.is_known(number) && !state.is_merged(number) {
+        return "unknown";
+    }
     match state.change(number) {
         Some(change) => change.status().name(),
         None => "unknown",

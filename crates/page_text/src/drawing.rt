@@ -273,16 +273,19 @@ fn node_at(
     Node {
         change,
         item,
-        word: word_of(state, verdicts, item),
+        word: word_of(state, verdicts, change, item),
         column,
         row,
     }
 }
 
-/// How it is with an item, in a word.
-fn word_of(state: &State, verdicts: &Verdicts, item: Option<Item>) -> &'static str
+/// How it is with a change, and with its item, in a word. A change may be merged of which no patch set is known.
+fn word_of(state: &State, verdicts: &Verdicts, number: u32, item: Option<Item>) -> &'static str
     requires { IsStrictlySortedBy item_cmp (items_out verdicts.now.out) }
 {
+    if state.is_merged(number) {
+        return "merged";
+    }
     let Some(item) = item else {
         return "unknown";
     };
