@@ -1,10 +1,16 @@
 # Completes the commands and options of reviewgate in bash: source it, or put it into /etc/bash_completion.d.
 _reviewgate() {
-    local word=${COMP_WORDS[COMP_CWORD]} command=${COMP_WORDS[1]} words=""
+    local commands="ready why graph merge footers check simulate serve recover events enqueue help"
+    local word=${COMP_WORDS[COMP_CWORD]} before=${COMP_WORDS[COMP_CWORD - 1]} command=${COMP_WORDS[1]} words=""
     if [ "$COMP_CWORD" -eq 1 ]; then
-        words="ready why graph merge footers check simulate serve recover events enqueue help --help --version"
+        words="$commands --help --version"
+    elif [ "$before" = --print ]; then
+        words="report changes none"
+    elif [ "$before" = --mode ]; then
+        words="600 660"
     else
         case $command in
+            help) [ "$COMP_CWORD" -gt 2 ] || words="$commands" ;;
             check) words="--strict --json --help" ;;
             enqueue) words="--tenant --pipeline --template --projects --handed --help" ;;
             events) words="--to --keys --query --complete --project --projects --gate --help" ;;
@@ -19,7 +25,8 @@ _reviewgate() {
             *) words="--help" ;;
         esac
     fi
-    if [ "$COMP_CWORD" -gt 1 ] && [[ $word != -* ]]; then
+    if [[ $words == --* && $word != -* ]]; then
+        compopt -o filenames
         mapfile -t COMPREPLY < <(compgen -f -- "$word")
     else
         mapfile -t COMPREPLY < <(compgen -W "$words" -- "$word")

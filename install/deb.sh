@@ -4,9 +4,10 @@
 # Usage: install/deb.sh [PROGRAM [FOLDER]]      PROGRAM as install/install.sh has it; FOLDER is where the package goes,
 #                                               by default the present one
 #
-# MAINTAINER of the environment is the package's maintainer. The package depends on bash, openssh-client and util-linux, which examples/feed needs. Installing it makes the user of
-# the feed; it starts nothing.
+# MAINTAINER of the environment is the package's maintainer. The package depends on bash and util-linux, and recommends
+# openssh-client, which examples/feed needs. Installing it makes the user of the feed; it starts nothing.
 set -eu
+umask 022
 scripts=$(cd "$(dirname "$0")" && pwd)
 program=${1:-$scripts/../crates/reviewgate/out/reviewgate}
 folder=${2:-.}
@@ -17,6 +18,7 @@ trap 'rm -rf "$tree"' EXIT
 version=$("$program" --version)
 version=${version#reviewgate }
 version=${version%% *}
+glibc=$(grep -aoE 'GLIBC_2\.[0-9]+' "$program" | sort -Vu | tail -n 1)
 DESTDIR=$tree PREFIX=/usr UNITS=/lib/systemd/system "$scripts/install.sh" "$program"
 gzip -9n "$tree/usr/share/man/man1/reviewgate.1"
 mv "$tree/usr/share/doc/reviewgate/LICENSE" "$tree/usr/share/doc/reviewgate/copyright"
@@ -33,7 +35,7 @@ Maintainer: ${MAINTAINER:-reviewgate <root@localhost>}
 Section: devel
 Priority: optional
 Installed-Size: $(du -ks --exclude=DEBIAN "$tree" | cut -f 1)
-Depends: libc6, bash (>= 4.4), util-linux
+Depends: libc6 (>= ${glibc#GLIBC_}), bash (>= 4.4), util-linux
 Recommends: openssh-client
 Description: review record of Gerrit changes, kept at several sites
  Each site keeps its own copy of the review record (patch sets, votes, abandons,
