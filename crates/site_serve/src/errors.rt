@@ -45,6 +45,13 @@ impl<E: Drain> Errors<E> {
         }
     }
 
+    /// Writes that the system refused a connection, where so many are open.
+    pub fn not_accepted(&self, rt: &impl Wait, alloc: Global, open: u64) {
+        if let Ok(line) = line_about(alloc, Part::Session, 12, "NotAccepted", open) {
+            self.write(rt, line.as_str());
+        }
+    }
+
     /// Writes that a pull from a peer failed.
     pub fn pull_failed(
         &self,

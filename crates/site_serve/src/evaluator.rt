@@ -121,7 +121,7 @@ impl<W: Drain + Drop, J: Naming> Printing<'_, W, J> {
         let begun = Instant::now(rt);
         let shown = next_shown(
             self.alloc,
-            self.ruling.gate(),
+            self.ruling.in_force.gate(),
             self.prints,
             &mut self.window,
             &mut self.kept,

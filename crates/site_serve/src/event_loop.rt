@@ -25,6 +25,7 @@ use site_ledger::Keeps;
 use site_net::{Patience, Stop};
 use site_shared::{DeskFault, Naming};
 use std::alloc::{AllocError, Global};
+use std::io;
 use std::sync::Wait;
 use std::time::{Clock, Duration};
 
@@ -72,8 +73,8 @@ pub(super) struct EventLoop {
     is_woken: bool,
     /// Whether something was published, or is to be, of which no news was brought yet.
     is_news_due: bool,
-    /// How long the loop has run, when it last looked at the clock for its sessions, when it last said that all places
-    /// are taken, and when it was stopped.
+    /// How long the loop has run, when it last looked at the clock for its sessions, when it last said that a connection
+    /// was refused, and when it was stopped.
     now: Duration,
     looked: Duration,
     refused: Option<Duration>,
@@ -165,7 +166,11 @@ impl EventLoop {
         ends: &LoopEnds<J>,
     ) {
         for _connection in 0..PER_TURN {
-            let Some(connection) = self.next_connection() else {
+            let Ok(connection) = self.next_connection() else {
+                self.note_not_accepted(rt, site);
+                return;
+            };
+            let Some(connection) = connection else {
                 return;
             };
             match places.free_one() {
@@ -175,26 +180,47 @@ impl EventLoop {
         }
     }
 
-    /// The next connection that waits.
-    fn next_connection(&mut self) -> Option<Connection> {
+    /// The next connection that waits, if one does and may be accepted. It fails where the system refuses it.
+    fn next_connection(&mut self) -> io::Result<Option<Connection>> {
         if !self.may_accept || (self.most > 0 && self.accepted >= self.most) {
-            return None;
+            return Ok(None);
         }
-        let connection = self.listeners.as_ref()?.accept();
-        self.may_accept = connection.is_some();
+        let connection = match &self.listeners {
+            Some(listeners) => listeners.accept(),
+            None => Ok(None),
+        };
+        self.may_accept = match &connection {
+            Ok(found) => found.is_some(),
+            Err(_) => false,
+        };
         connection
     }
 
     /// Says that every place is taken, at most once a second.
     fn refuse<R: Wait, E: Drain, J: Naming>(&mut self, rt: &R, site: &Site<'_, E, J>) {
         site.metrics.note_refused();
+        if self.may_say_refused() {
+            site.errors.too_many(rt, self.alloc, self.connections);
+        }
+    }
+
+    /// Says that the system refused a connection, at most once a second. It waits for another try.
+    fn note_not_accepted<R: Wait, E: Drain, J: Naming>(&mut self, rt: &R, site: &Site<'_, E, J>) {
+        if self.may_say_refused() {
+            let open = self.accepted.wrapping_sub(self.ended);
+            site.errors.not_accepted(rt, self.alloc, open);
+        }
+    }
+
+    /// Whether nothing was said of refused connections for a second; then something is now.
+    fn may_say_refused(&mut self) -> bool {
         if let Some(refused) = self.refused {
             if self.now.saturating_sub(refused) < Duration::from_secs(1) {
-                return;
+                return false;
             }
         }
         self.refused = Some(self.now);
-        site.errors.too_many(rt, self.alloc, self.connections);
+        true
     }
 
     /// Begins a session at a place.
@@ -373,7 +399,7 @@ fn publish<R: Wait, J: Opening, K: Keeps, E: Drain>(
     if group.is_idle() {
         return Ok(());
     }
-    let is_more = group.held_count() > 0;
+    let is_more = group.has_held();
     event_loop.is_news_due |= is_more;
     let published = group.publish(rt, event_loop.alloc, places, pullers)?;
     if is_more {

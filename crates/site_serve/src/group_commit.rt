@@ -73,11 +73,11 @@ impl<J: Opening, K: Keeps> GroupCommit<J, K> {
         self.waiters.is_empty()
     }
 
-    /// How many operations are held.
-    pub fn held_count(&self) -> usize
-        ensures { result ≡ length self.now.entries.account.held }
+    /// Whether an operation is held.
+    pub fn has_held(&self) -> bool
+        ensures { IsTrue result ↔ (0 < length self.now.entries.account.held) }
     {
-        self.ledger.held_count()
+        self.ledger.held_count() > 0
     }
 
     /// How many bytes keep the operations, where a journal does.

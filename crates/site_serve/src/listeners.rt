@@ -6,6 +6,7 @@ use mio::{Interest, Poll, Token};
 use site_net::Listener;
 use std::alloc::Global;
 use std::io;
+use std::io::ErrorKind;
 use std::os::fd::OwnedFd;
 
 /// A listener that doesn't wait.
@@ -39,15 +40,29 @@ impl Listeners {
         Ok(Listeners { all })
     }
 
-    /// The next connection that waits at any of them; nothing where none waits, or none can be accepted now.
-    pub(super) fn accept(&self) -> Option<Connection> {
+    /// The next connection that waits at any of them, if one does. It fails where the system refuses one that waits,
+    /// as it does where no descriptor is left.
+    pub(super) fn accept(&self) -> io::Result<Option<Connection>> {
         for listener in &self.all {
-            if let Ok(connection) = accepted(listener) {
-                return Some(connection);
+            match accepted(listener) {
+                Ok(connection) => return Ok(Some(connection)),
+                Err(error) => {
+                    if !is_none(error.kind()) {
+                        return Err(error);
+                    }
+                }
             }
         }
-        None
+        Ok(None)
     }
+}
+
+/// Whether no connection waited, or the one that did has gone.
+fn is_none(kind: ErrorKind) -> bool {
+    matches!(
+        kind,
+        ErrorKind::WouldBlock | ErrorKind::Interrupted | ErrorKind::ConnectionAborted
+    )
 }
 
 /// A listener that the poll reports.

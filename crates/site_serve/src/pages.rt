@@ -133,7 +133,11 @@ impl<R: Wait + Clock, J: Naming> SitePages<'_, R, J> {
     {
         self.ruling.follow(self.context.rt, &mut self.kept);
         let begun = Instant::now(self.context.rt);
-        match brought_up(self.ruling.gate(), &mut self.window, self.kept.take()) {
+        match brought_up(
+            self.ruling.in_force.gate(),
+            &mut self.window,
+            self.kept.take(),
+        ) {
             Ok(watch) => {
                 self.update_us = micros_since(self.context.rt, begun, self.update_us);
                 self.show_watched(route, facts, watch)
@@ -158,7 +162,7 @@ impl<R: Wait + Clock, J: Naming> SitePages<'_, R, J> {
         let mut viewing = Viewing {
             alloc: self.context.alloc,
             route,
-            gate: self.ruling.gate(),
+            gate: self.ruling.in_force.gate(),
             facts,
             page: None,
         };

@@ -94,7 +94,11 @@ impl<'a, 'g, R: Wait, J: Naming> Port for SitePort<'a, 'g, R, J> {
     }
 
     fn report(&mut self) -> Result<Verdicts, PortFault> {
-        let watch = match brought_up(self.ruling.gate(), &mut self.window, self.kept.take()) {
+        let watch = match brought_up(
+            self.ruling.in_force.gate(),
+            &mut self.window,
+            self.kept.take(),
+        ) {
             Ok(watch) => watch,
             Err(fault) => return Err(window_fault(fault)),
         };
@@ -149,6 +153,7 @@ impl<'a, R: Wait, J: Naming> PullPort<'a, R, J> {
     pub fn begin(&mut self)
         ensures window { self.new.window ≡ self.old.window }
         ensures nothing { self.new.has_brought ≡ false }
+        ensures taken { self.new.is_start_taken ≡ self.old.is_start_taken }
     {
         self.has_brought = false;
     }
@@ -199,6 +204,7 @@ impl<'a, R: Wait, J: Naming> PullPort<'a, R, J> {
         ensures later { GoesOn self.old.window.window self.new.window.window }
         ensures noted { OnOk result (self.new.has_brought
             ≡ (self.old.has_brought || not (list_all (has_stamp (arrive self.new.window.window.seen)) stamps.now))) }
+        ensures taken { self.new.is_start_taken ≡ self.old.is_start_taken }
     {
         match self.window.has_stamps(stamps) {
             Ok(are_there) => {

@@ -6,7 +6,6 @@ ghost use Rattle.site_serve.specs.InForce.{IsNoOlder, gate_in, ruling_gate};
 
 use super::opening::OwnWatch;
 use super::reloads::{InForce, Reloads};
-use gate_rules::Gate;
 use site_shared::Naming;
 use std::sync::Wait;
 
@@ -14,7 +13,7 @@ use std::sync::Wait;
 #[derive(Drop)]
 pub struct Ruling<'a> {
     reloads: &'a Reloads,
-    in_force: InForce,
+    pub(super) in_force: InForce,
 }
 
 impl<'a> Ruling<'a> {
@@ -23,13 +22,6 @@ impl<'a> Ruling<'a> {
         ensures { ruling_gate result ≡ gate_in in_force }
     {
         Ruling { reloads, in_force }
-    }
-
-    /// The gate.
-    pub fn gate(&self) -> &Gate
-        ensures { result.now ≡ ruling_gate self.now }
-    {
-        self.in_force.gate()
     }
 
     /// Judges under the gate that is in force now, never under an older one than before. The verdicts that are kept are
