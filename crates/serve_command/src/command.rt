@@ -52,7 +52,7 @@ pub enum Ended<'n> {
 }
 
 /// Runs the site that words ask for. It reads and judges the gate file, then the snapshot and the keys, if they are
-/// named, opens the journal, asks whether the start was used, listens and prints `listening ADDRESS` for each address
+/// named, tries whether a snapshot could be saved, opens the journal, asks whether the start was used, listens and prints `listening ADDRESS` for each address
 /// and, where it shows itself to browsers, `listening http ADDRESS`, runs the site and saves what it has. What is wrong
 /// while it runs is written to `errors`. Where it is to end with its input it ends in order at that end and at a line
 /// `stop`, and at a line `reload` the gate file is read again, by `files` as before; else the input isn't read. Keys
@@ -174,9 +174,24 @@ where
     E: Drain + Send + Drop + 'static,
     L: KeyReader + Sync,
 {
-    match SnapshotFile::new(rt, alloc, site.serving.save) {
+    match snapshot_file_of(rt, alloc, site.serving.save) {
         Ok(snapshot_file) => run_saved(rt, alloc, site, outside, keys, snapshot_file),
-        Err(_) => Err(Ended::Site(ServeFault::NoMemory)),
+        Err(ended) => Err(ended),
+    }
+}
+
+/// The file that what a site leaves is saved in, if one is named, where it could be saved there now.
+fn snapshot_file_of<R: Files + Copy>(
+    rt: R,
+    alloc: Global,
+    name: Option<&str>,
+) -> Result<SnapshotFile<R>, Ended<'static>> {
+    let Ok(snapshot_file) = SnapshotFile::new(rt, alloc, name) else {
+        return Err(Ended::Site(ServeFault::NoMemory));
+    };
+    match snapshot_file.try_out() {
+        Ok(()) => Ok(snapshot_file),
+        Err(_) => Err(Ended::Program(ProgramFault::NoSave)),
     }
 }
 
@@ -233,9 +248,25 @@ where
     E: Drain + Send + Drop + 'static,
     L: KeyReader + Sync,
 {
-    match FileTape::open(&rt, name) {
+    match tape_of(&rt, name, site.serving.save) {
         Ok(tape) => ended_of(run_taped(rt, alloc, site, outside, keys, snapshot_file, tape)),
-        Err(fault) => Err(tape_fault(fault)),
+        Err(ended) => Err(ended),
+    }
+}
+
+/// The journal file of this name, unless a snapshot would be saved in its place.
+fn tape_of<R: Files<File = File>>(
+    rt: &R,
+    name: &str,
+    save: Option<&str>,
+) -> Result<FileTape, Ended<'static>> {
+    let tape = match FileTape::open(rt, name) {
+        Ok(tape) => tape,
+        Err(fault) => return Err(tape_fault(fault)),
+    };
+    match save {
+        Some(path) if tape.is_at(rt, path) => Err(Ended::Program(ProgramFault::NoSave)),
+        _ => Ok(tape),
     }
 }
 

@@ -22,6 +22,7 @@
 
 mod command;
 mod fault;
+mod file_number;
 mod finished;
 mod heard;
 mod input_end;

@@ -6,6 +6,7 @@ ghost use Rattle.site_address.specs.Host.{host_port_text};
 
 use super::command::Ended;
 use super::fault::ProgramFault;
+use super::file_number::FileNumber;
 use byte_ends::{Ends, write_all};
 use command_line::{PageAddress, ServeWords, SocketMode};
 use console::Refusal;
@@ -30,11 +31,18 @@ pub struct SiteListeners {
     pub page: Option<(PageEndpoint, Waker)>,
 }
 
-/// What a site listens at, and the paths of the sockets that it made for that.
+/// What a site listens at, and the sockets that it made for that.
 #[derive(Drop)]
 pub struct Listening<'a> {
     pub site_listeners: SiteListeners,
-    pub sockets: Vec<&'a str>,
+    pub sockets: Vec<MadeSocket<'a>>,
+}
+
+/// A Unix socket that a site made: its path, and which file it is, where that is known.
+#[derive(Clone, Copy, Debug)]
+pub struct MadeSocket<'a> {
+    path: &'a str,
+    number: Option<FileNumber>,
 }
 
 /// Listens at the port, the sockets and the hosts that the words name, at a port of this machine that the system
@@ -61,10 +69,13 @@ where
     }
 }
 
-/// Removes sockets. One that is gone already stays gone.
-pub fn leave<R: Files>(rt: &R, sockets: &[&str]) {
-    for path in sockets {
-        let _gone = fs::remove_file(rt, *path);
+/// Removes the sockets that a site made. One that is gone already stays gone, and what another site has made in its
+/// place stays there.
+pub fn leave<R: Files>(rt: &R, sockets: &[MadeSocket<'_>]) {
+    for socket in sockets {
+        if FileNumber::at(rt, socket.path) == socket.number {
+            let _gone = fs::remove_file(rt, socket.path);
+        }
     }
 }
 
@@ -73,7 +84,7 @@ fn site_listeners_of<'a, R>(
     rt: &R,
     alloc: Global,
     words: &ServeWords<'a>,
-    sockets: &mut Vec<&'a str>,
+    sockets: &mut Vec<MadeSocket<'a>>,
 ) -> Result<SiteListeners, Ended<'static>>
 where
     R: Net<Listener = TcpListener, Stream = TcpStream> + RandomSource + Files + Print,
@@ -91,7 +102,7 @@ fn page_of<'a, R>(
     rt: &R,
     alloc: Global,
     words: &ServeWords<'a>,
-    sockets: &mut Vec<&'a str>,
+    sockets: &mut Vec<MadeSocket<'a>>,
 ) -> Result<Option<(PageEndpoint, Waker)>, Ended<'static>>
 where
     R: Net<Listener = TcpListener, Stream = TcpStream> + RandomSource + Files + Print,
@@ -125,7 +136,7 @@ fn listen_at_all<'a, R>(
     alloc: Global,
     words: &ServeWords<'a>,
     listeners: &mut Vec<Listener>,
-    sockets: &mut Vec<&'a str>,
+    sockets: &mut Vec<MadeSocket<'a>>,
 ) -> Result<(), Ended<'static>>
 where
     R: Net<Listener = TcpListener, Stream = TcpStream> + Files + Print,
@@ -209,7 +220,7 @@ fn listen_at_socket<'a, R>(
     what: &str,
     path: &'a str,
     mode: SocketMode,
-    sockets: &mut Vec<&'a str>,
+    sockets: &mut Vec<MadeSocket<'a>>,
 ) -> Result<UnixListener, Ended<'static>>
 where
     R: Net<Listener = TcpListener, Stream = TcpStream> + Files + Print,
@@ -217,8 +228,12 @@ where
     let Ok(listener) = listen_at_path(rt, alloc, path, bits_of(mode)) else {
         return Err(Ended::Program(ProgramFault::NoBind));
     };
-    if let Err(ended) = add(sockets, path) {
-        leave(rt, [path].as_slice());
+    let made = MadeSocket {
+        path,
+        number: FileNumber::at(rt, path),
+    };
+    if let Err(ended) = add(sockets, made) {
+        leave(rt, [made].as_slice());
         return Err(ended);
     }
     say(rt, format!(in alloc; "listening {what}{path}\n"))?;

@@ -43,6 +43,17 @@ impl<R: Copy> SnapshotFile<R> {
     }
 }
 
+impl<R: Files> SnapshotFile<R> {
+    /// Tries whether a record could be saved in the file's place, if one is named: it is no folder, and a new file can
+    /// be made beside it.
+    pub fn try_out(&self) -> io::Result<()> {
+        match &self.name {
+            Some(name) => try_beside(&self.rt, self.alloc, name.as_str()),
+            None => Ok(()),
+        }
+    }
+}
+
 impl<R: Files> Saves for SnapshotFile<R> {
     ghost saves = { λ _ _ _. Unit {0} };
 
@@ -54,10 +65,37 @@ impl<R: Files> Saves for SnapshotFile<R> {
     }
 }
 
+/// Makes a new file beside a file that is no folder, and removes it.
+fn try_beside<R: Files>(rt: &R, alloc: Global, name: &str) -> io::Result<()> {
+    if is_folder(rt, name) {
+        return Err(io::Error::from(ErrorKind::IsADirectory));
+    }
+    let beside = format!(in alloc; "{name}.new")?;
+    let _new = new_file(rt, beside.as_str())?;
+    fs::remove_file(rt, beside.as_str())
+}
+
+/// Whether a folder is there.
+fn is_folder<R: Files>(rt: &R, name: &str) -> bool {
+    match fs::metadata(rt, name) {
+        Ok(found) => found.is_dir(),
+        Err(_) => false,
+    }
+}
+
+/// A new file of this name, readable by its owner alone, in the place of what a save that was cut off left there.
+fn new_file<R: Files>(rt: &R, name: &str) -> io::Result<R::File> {
+    let _absent = fs::remove_file(rt, name);
+    OpenOptions::new()
+        .write(true)
+        .create_new(true)
+        .mode(0o600)
+        .open(rt, name)
+}
+
 /// Saves a record in a file's place. Of one that isn't saved nothing is left beside the file.
 fn save<R: Files>(rt: &R, alloc: Global, name: &str, replica: &Replica) -> io::Result<()> {
     let beside = format!(in alloc; "{name}.new")?;
-    let _absent = fs::remove_file(rt, beside.as_str());
     match replace(rt, alloc, beside.as_str(), name, replica) {
         Ok(()) => sync_folder(rt, name),
         Err(error) => {
@@ -67,8 +105,7 @@ fn save<R: Files>(rt: &R, alloc: Global, name: &str, replica: &Replica) -> io::R
     }
 }
 
-/// Writes the snapshot to a new file beside the file, readable by its owner alone, has the system keep it, and puts it
-/// in the file's place. It fails where something is beside the file already.
+/// Writes the snapshot to a new file beside the file, has the system keep it, and puts it in the file's place.
 fn replace<R: Files>(
     rt: &R,
     alloc: Global,
@@ -76,12 +113,7 @@ fn replace<R: Files>(
     name: &str,
     replica: &Replica,
 ) -> io::Result<()> {
-    let file = OpenOptions::new()
-        .write(true)
-        .create_new(true)
-        .mode(0o600)
-        .open(rt, beside)?;
-    let mut drain = Ends::new(file);
+    let mut drain = Ends::new(new_file(rt, beside)?);
     if write_snapshot(alloc, replica, &mut drain).is_err() {
         return Err(io::Error::from(ErrorKind::Other));
     }

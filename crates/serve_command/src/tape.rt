@@ -2,11 +2,12 @@
 
 ghost use Rattle.byte_ends.specs.Failures.{CountsFailure, OneFailed};
 
+use super::file_number::FileNumber;
 use byte_ends::Failed;
 use site_journal::{Feed, Tape};
 use std::fs::{File, OpenFile, OpenOptions, TryLockError};
 use std::io::{Read, Write};
-use std::os::unix::fs::OpenOptionsExt;
+use std::os::unix::fs::{FileTypeExt, OpenOptionsExt};
 use std::rt::Files;
 use std::{fs, io};
 
@@ -28,9 +29,12 @@ pub struct FileTape {
 
 impl FileTape {
     /// Opens the file of this name, creates it with mode 0600 if it does not exist, locks it until it is closed, and
-    /// syncs its folder.
+    /// syncs its folder. A named pipe, whose end would never come, is no journal: `Failed`.
     pub fn open<R: Files<File = File>>(rt: &R, name: &str) -> Result<FileTape, TapeFault> {
         let file = opened(rt, name)?;
+        if is_pipe(&file) {
+            return Err(TapeFault::Failed);
+        }
         match file.try_lock() {
             Ok(()) => {}
             Err(TryLockError::WouldBlock) => return Err(TapeFault::Locked),
@@ -40,6 +44,22 @@ impl FileTape {
             return Err(TapeFault::Failed);
         }
         Ok(FileTape { file, failures: 0 })
+    }
+
+    /// Whether its file is the one at this path, which isn't followed where it is a link.
+    pub fn is_at<R: Files>(&self, rt: &R, path: &str) -> bool {
+        match self.file.metadata() {
+            Ok(metadata) => FileNumber::at(rt, path) == Some(FileNumber::of(&metadata)),
+            Err(_) => false,
+        }
+    }
+}
+
+/// Whether a file is a named pipe.
+fn is_pipe(file: &File) -> bool {
+    match file.metadata() {
+        Ok(metadata) => metadata.file_type().is_fifo(),
+        Err(_) => false,
     }
 }
 
