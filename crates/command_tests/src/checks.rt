@@ -92,7 +92,8 @@ reject /reject/a~1b~0/status status none
 reject /reject/a~1b~0/approval/0 any vote
 reject /reject/a~1b~0/approval/1 verified none
 reject /reject/a~1b~0/approval/2 verified 1 and workflow -1 or 1 by "a\nb"
-end 6 0
+warning 6 NoVoter /reject/a~1b~0/approval/2 "a\nb"
+end 6 1
 "#;
     assert_check(&rt, alloc, empty, 0, lines, "");
 }
@@ -145,9 +146,10 @@ warning 3 UnknownVoter /require/gerrit/approval/3 "Zuul" nearest "zuul"
 warning 3 UnknownVoter /require/gerrit/approval/4 "zuul3" nearest "zuul"
 warning 3 UnknownVoter /require/gerrit/approval/5 "zu"
 warning 3 UnknownVoter /require/gerrit/approval/6 "z"
+warning 6 NoVoter /reject/gerrit/approval/0 ""
 warning 2 UnknownLabel /reject/gerrit/approval/0 "code-st"
 warning 3 UnknownVoter /reject/gerrit/approval/0 ""
-end 8 9
+end 8 10
 "#;
     let words = ["check", "gate", "-"];
     assert_prints(
@@ -241,6 +243,27 @@ end 3 2
 }
 
 #[test]
+fn nobody_can_have_a_username(rt: HostRuntime) {
+    let gate = r#"{"bases":["https://r/"],"require":{"gerrit":{"approval":[{"username":"Zuul CI"},
+{"username":"0123456789012345678901234567890123456789012345678901234567890123"}]}},
+"reject":{"gerrit":{"approval":[{"username":"Jos\u00e9","Verified":-1},{"username":"(a b)"},
+{"username":"01234567890123456789012345678901234567890123456789012345678901234"}]}}}"#;
+    let lines = r#"require /require/gerrit/approval/0 any vote by "Zuul CI"
+require /require/gerrit/approval/1 any vote by "0123456789012345678901234567890123456789012345678901234567890123"
+reject /reject/gerrit/approval/0 verified -1 by "José"
+reject /reject/gerrit/approval/1 any vote by "(a b)"
+reject /reject/gerrit/approval/2 any vote by "01234567890123456789012345678901234567890123456789012345678901234"
+warning 6 NoVoter /require/gerrit/approval/0 "Zuul CI"
+warning 6 NoVoter /reject/gerrit/approval/0 "José"
+warning 1 Pattern /reject/gerrit/approval/1 "(a b)"
+warning 6 NoVoter /reject/gerrit/approval/1 "(a b)"
+warning 6 NoVoter /reject/gerrit/approval/2 "01234567890123456789012345678901234567890123456789012345678901234"
+end 5 5
+"#;
+    assert_check(&rt, rt.alloc(), gate, 0, lines, "");
+}
+
+#[test]
 fn what_is_never_met_is_said(rt: HostRuntime) {
     let alloc = rt.alloc();
     let statuses =
@@ -316,6 +339,6 @@ fn a_check_refuses_bad_inputs(rt: HostRuntime) {
     let errors = "reviewgate: snapshot 1 BadHeader\n";
     assert_with_record(&rt, alloc, strict.as_slice(), "", 1, "", errors);
     let words = ["check", "gate", "none"];
-    let errors = "reviewgate: snapshot 7 ReadFault\n";
+    let errors = "reviewgate: snapshot 7 ReadFault none\n";
     assert_with_record(&rt, alloc, words.as_slice(), RECORD, 1, "", errors);
 }

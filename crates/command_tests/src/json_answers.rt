@@ -63,12 +63,12 @@ fn a_check_is_one_object(rt: HostRuntime) {
     assert_prints(&rt, alloc, words.as_slice(), GATE, "", 0, line, "");
     let gate = r#"{"bases":["https://r/"],"reject":{"gerrit":{"approval":{"username":"a.*\n"}}}}"#;
     let line =
-        r#"{"conditions":["reject /reject/gerrit/approval/0 any vote by \"a.*\\n\""],"warnings":[{"number":1,"name":"Pattern","place":"/reject/gerrit/approval/0","about":"a.*\n"},{"number":3,"name":"UnknownVoter","place":"/reject/gerrit/approval/0","about":"a.*\n"}]}
+        r#"{"conditions":["reject /reject/gerrit/approval/0 any vote by \"a.*\\n\""],"warnings":[{"number":1,"name":"Pattern","place":"/reject/gerrit/approval/0","about":"a.*\n"},{"number":6,"name":"NoVoter","place":"/reject/gerrit/approval/0","about":"a.*\n"},{"number":3,"name":"UnknownVoter","place":"/reject/gerrit/approval/0","about":"a.*\n"}]}
 "#;
     let words = ["check", "--json", "gate", "-"];
     assert_prints(&rt, alloc, words.as_slice(), gate, RECORD, 0, line, "");
     let words = ["check", "--strict", "--json", "gate", "-"];
-    let errors = "reviewgate: check 1 Warnings 2\n";
+    let errors = "reviewgate: check 1 Warnings 3\n";
     assert_prints(&rt, alloc, words.as_slice(), gate, RECORD, 1, line, errors);
 }
 

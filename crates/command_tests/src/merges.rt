@@ -129,7 +129,8 @@ fn the_first_snapshot_is_judged_first(rt: HostRuntime) {
     let alloc = rt.alloc();
     let no_end = "reviewgate: snapshot 3 NoEnd\n";
     let bad_header = "reviewgate: snapshot 1 BadHeader\n";
-    let unread = "reviewgate: snapshot 7 ReadFault\n";
+    let kept = "reviewgate: snapshot 1 BadHeader kept\n";
+    let unread = "reviewgate: snapshot 7 ReadFault lost\n";
     assert_merges(
         &rt,
         alloc,
@@ -140,16 +141,7 @@ fn the_first_snapshot_is_judged_first(rt: HostRuntime) {
         "",
         no_end,
     );
-    assert_merges(
-        &rt,
-        alloc,
-        ["kept", "-"],
-        "",
-        "reviewgate 2\n",
-        1,
-        "",
-        bad_header,
-    );
+    assert_merges(&rt, alloc, ["kept", "-"], "", "reviewgate 2\n", 1, "", kept);
     assert_merges(
         &rt,
         alloc,
@@ -254,8 +246,9 @@ fn a_failure_after_a_bad_line_is_reported(rt: HostRuntime) {
     let alloc = rt.alloc();
     for byte in 15..=22u64 {
         assert_reported(&rt, &broken_after(alloc, BAD, byte, 99), UNREAD, 1);
-        assert_reported(&rt, &broken_after(alloc, BOTH, 999, byte), UNREAD, 1);
+        let unread = "reviewgate: snapshot 7 ReadFault kept\n";
+        assert_reported(&rt, &broken_after(alloc, BOTH, 999, byte), unread, 1);
     }
-    let line = "reviewgate: snapshot 2 BadLine 2 NotJson\n";
+    let line = "reviewgate: snapshot 2 BadLine 2 NotJson kept\n";
     assert_reported(&rt, &broken_after(alloc, BOTH, 999, 99), line, 1);
 }

@@ -76,8 +76,8 @@ fn refusals_of_a_running_site_are_printed(rt: HostRuntime) {
         ("@-1", "reviewgate: peer 9 NoAddress @-1\n"),
         ("@@8101", "reviewgate: peer 9 NoAddress @@8101\n"),
         ("@8101 ", "reviewgate: peer 9 NoAddress @8101 \n"),
-        ("./@8101", "reviewgate: snapshot 7 ReadFault\n"),
-        ("8101", "reviewgate: snapshot 7 ReadFault\n"),
+        ("./@8101", "reviewgate: snapshot 7 ReadFault ./@8101\n"),
+        ("8101", "reviewgate: snapshot 7 ReadFault 8101\n"),
     ];
     for (name, line) in cases {
         let words = ["ready", "-", name];

@@ -218,7 +218,7 @@ fn faults_of_reports_are_printed(rt: HostRuntime) {
     let line = "reviewgate: file 7 ReadFault lost\n";
     assert_prints(&rt, alloc, words.as_slice(), GATE, "", 1, "", line);
     let words = ["ready", "gate", "lost"];
-    let line = "reviewgate: snapshot 7 ReadFault\n";
+    let line = "reviewgate: snapshot 7 ReadFault lost\n";
     assert_prints(&rt, alloc, words.as_slice(), GATE, "", 1, "", line);
 }
 

@@ -90,17 +90,18 @@ fn real_snapshots_are_read_by_name(rt: HostRuntime) -> Result<(), Fail> {
     fs::write(&rt, "reviewgate_snapshot.tmp", text.as_bytes())?;
     let mut files = SystemFiles::new(rt);
     let name = "reviewgate_snapshot.tmp";
-    let unread = b"reviewgate: snapshot 7 ReadFault\n".as_slice();
+    let folder = b"reviewgate: snapshot 7 ReadFault .\n".as_slice();
+    let missing = b"reviewgate: snapshot 7 ReadFault reviewgate_missing.tmp\n".as_slice();
     assert_merges(&rt, alloc, &mut files, [name, "-"], text.as_bytes(), b"");
     assert_merges(&rt, alloc, &mut files, ["-", name], text.as_bytes(), b"");
-    assert_merges(&rt, alloc, &mut files, [".", name], b"", unread);
+    assert_merges(&rt, alloc, &mut files, [".", name], b"", folder);
     assert_merges(
         &rt,
         alloc,
         &mut files,
         [name, "reviewgate_missing.tmp"],
         b"",
-        unread,
+        missing,
     );
     assert_found(&rt, files.failures(), 2);
     fs::remove_file(&rt, name)?;
