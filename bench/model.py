@@ -577,6 +577,14 @@ def lines_of(text: bytes) -> list:
     return [line.removesuffix(b"\r") for line in lines]
 
 
+def read_snapshot_file(text: bytes, name: str) -> Record:
+    """A snapshot in the file of a name, which a refusal has after what is wrong."""
+    try:
+        return read_snapshot(text)
+    except Refused as cause:
+        raise Refused(f"{cause} {name}") from None
+
+
 def read_snapshot(text: bytes) -> Record:
     lines, record, count = lines_of(text), Record(), 0
     if not lines or lines[0] not in (b"reviewgate 1", b"reviewgate 2"):
