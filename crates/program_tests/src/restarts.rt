@@ -119,16 +119,52 @@ fn what_is_left_beside_a_snapshot_is_replaced(rt: HostRuntime) {
     assert_found(&rt, is_removed(&rt, "beside.tmp"), true);
 }
 
-/// Of a snapshot that can't be put in its place, which is a folder's, nothing is left beside that.
+/// An input that ends once a folder is in the place of a snapshot.
+#[derive(Drop)]
+struct MakesFolder<R: Files> {
+    rt: R,
+}
+
+impl<R: Files> Read for MakesFolder<R> {
+    fn read(&mut self, _into: &mut [u8]) -> io::Result<usize> {
+        fs::create_dir(&self.rt, "./late.tmp")?;
+        Ok(0)
+    }
+}
+
+/// Of a snapshot that can't be put in its place, which is a folder's by then, nothing is left beside that.
 #[test]
 fn nothing_is_left_beside_a_folder(rt: HostRuntime) {
+    let is_given = is_written(&rt, "folder.tmp", GATE.as_bytes());
     let words = Words {
-        save: Some("."),
+        gate: "folder.tmp",
+        save: Some("./late.tmp"),
         ..UNTIL_INPUT_ENDS
     };
-    let ended = serve_input(rt, words, SystemFiles::new(rt));
+    let errors = Ends::new(Vec::new(rt.alloc()));
+    let input = Ends::new(MakesFolder { rt });
+    let ended = serve_with(rt, words, input, SystemFiles::new(rt), errors, &NoKeys);
     assert_found(&rt, ended, Way::Program(ProgramFault::NoSave));
-    assert_found(&rt, is_there(&rt, "..new"), false);
+    assert_found(&rt, is_there(&rt, "./late.tmp.new"), false);
+    let are_removed = (
+        fs::remove_dir(&rt, "./late.tmp").is_ok(),
+        is_removed(&rt, "folder.tmp"),
+    );
+    assert_found(&rt, (is_given, are_removed), (true, (true, true)));
+}
+
+/// A site doesn't run whose snapshot couldn't be saved: where a folder is, or where no folder is.
+#[test]
+fn a_site_that_could_not_be_saved_does_not_run(rt: HostRuntime) {
+    for name in [".", "no/such/folder/record.snapshot"] {
+        let words = Words {
+            sockets: &["./no/such/folder/socket"],
+            save: Some(name),
+            ..UNTIL_INPUT_ENDS
+        };
+        let ended = serve_input(rt, words, SystemFiles::new(rt));
+        assert_found(&rt, ended, Way::Program(ProgramFault::NoSave));
+    }
 }
 
 /// An input that says `stop`, and then nothing for 20 seconds.

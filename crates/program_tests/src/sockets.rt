@@ -2,9 +2,11 @@
 
 use super::asserts::assert_found;
 use super::programs::{
-    BARE, UNTIL_INPUT_ENDS, Way, Words, had, is_removed, is_there, is_written, serve_input,
+    BARE, GATE, UNTIL_INPUT_ENDS, Way, Words, had, is_removed, is_there, is_written, serve_input,
+    serve_with,
 };
 use byte_ends::Ends;
+use key_files::NoKeys;
 use record_pull::SystemFiles;
 use running_sites::{NoTurn, PASS_ON, PASSED, TAKE, one_session, text_of};
 use serve_command::ProgramFault;
@@ -13,7 +15,8 @@ use site_ledger::NoJournal;
 use site_net::{Listener, Patience, Stop, connected, listen_at_path};
 use site_serve::{Closed, Served, Setup, serve_keeping};
 use std::alloc::Global;
-use std::io::Write;
+use std::fs::File;
+use std::io::{Read, Write};
 use std::net::{Net, Shutdown, TcpListener, TcpStream};
 use std::os::unix::fs::PermissionsExt;
 use std::os::unix::net::UnixListener;
@@ -253,6 +256,37 @@ fn a_site_removes_its_socket_at_its_end(rt: HostRuntime) {
     let ended = serve_input(rt, words, SystemFiles::new(rt));
     let refused = Way::Program(ProgramFault::NoBind);
     assert_found(&rt, (ended, is_there(&rt, path)), (refused, false));
+}
+
+/// An input that ends once another file is in the place of a socket.
+#[derive(Drop)]
+struct TakesPlace<R: Files> {
+    rt: R,
+}
+
+impl<R: Files<File = File>> Read for TakesPlace<R> {
+    fn read(&mut self, _into: &mut [u8]) -> io::Result<usize> {
+        fs::remove_file(&self.rt, "./taken.tmp")?;
+        fs::write(&self.rt, "./taken.tmp", b"another's")?;
+        Ok(0)
+    }
+}
+
+/// What takes the place of a site's socket stays there when the site ends.
+#[test]
+fn what_takes_the_place_of_a_socket_stays(rt: HostRuntime) {
+    let is_given = is_written(&rt, "place.tmp", GATE.as_bytes());
+    let words = Words {
+        gate: "place.tmp",
+        sockets: &["./taken.tmp"],
+        ..UNTIL_INPUT_ENDS
+    };
+    let errors = Ends::new(Vec::new(rt.alloc()));
+    let input = Ends::new(TakesPlace { rt });
+    let ended = serve_with(rt, words, input, SystemFiles::new(rt), errors, &NoKeys);
+    assert_found(&rt, ended, Way::Well);
+    assert_found(&rt, had(&rt, "./taken.tmp", b"another's"), true);
+    assert_found(&rt, (is_given, is_removed(&rt, "place.tmp")), (true, true));
 }
 
 /// A site that can't listen at its second socket removes the first.
