@@ -2,7 +2,7 @@
 //! reads of each line goes to a session of the site, but for what the site's record says already. The feed first pulls
 //! the record, and then keeps its state in step with what it sends and with what others bring to the site.
 //!
-//! Its tests are in the crate `serve_tests`.
+//! Its tests are in the crate `feed_tests`.
 //!
 //! It is a crate of its own so that a feed is a client like any other: a site doesn't know Gerrit. Not taken: Gerrit's
 //! REST interface and SSH as a library: `ssh` itself is better kept, and its output can be recorded and played.

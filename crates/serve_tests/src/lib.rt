@@ -1,7 +1,10 @@
-//! Tests over sockets of this machine: connections, sites that run, and feeds of sites, through the public functions of
-//! their crates. A crate of tests alone, as `record_tests` is; those of `serve` by its words are in `program_tests`.
+//! Tests over sockets of this machine: connections, and sites that run, through the public functions of their crates. A
+//! crate of tests alone, as `record_tests` is; those of feeds and of sealed connections are in `feed_tests`, those of
+//! `serve` by its words in `program_tests`.
 #![tactic(auto)]
 
+#[cfg(test)]
+mod asserts;
 #[cfg(test)]
 mod changes;
 #[cfg(test)]
@@ -9,17 +12,11 @@ mod connections;
 #[cfg(test)]
 mod crowds;
 #[cfg(test)]
-mod feeds;
-#[cfg(test)]
 mod gossip;
 #[cfg(test)]
+mod peers;
+#[cfg(test)]
 mod records;
-#[cfg(test)]
-mod sealed;
-#[cfg(test)]
-mod sealed_feeds;
-#[cfg(test)]
-mod site_feeds;
 #[cfg(test)]
 mod sites;
 #[cfg(test)]
