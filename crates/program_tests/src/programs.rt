@@ -415,18 +415,20 @@ fn a_journal_is_one_process_s(rt: HostRuntime) {
     assert_found(&rt, is_removed(&rt, "held.tmp"), true);
 }
 
-/// A snapshot isn't saved in the place of the journal, which stays as it is.
+/// A snapshot is neither saved in the place of the journal nor written there before; the journal stays as it is.
 #[test]
 fn a_snapshot_does_not_replace_the_journal(rt: HostRuntime) {
-    let is_given = is_written(&rt, "./both.tmp", JOURNAL);
-    let words = Words {
-        save: Some("both.tmp"),
-        ..keeping("./both.tmp")
-    };
-    let ended = serve_input(rt, words, SystemFiles::new(rt));
-    assert_found(&rt, ended, Way::Program(ProgramFault::NoSave));
-    let stays = had(&rt, "./both.tmp", JOURNAL);
-    assert_found(&rt, (is_given, stays), (true, true));
+    for journal in ["./both.tmp", "./both.tmp.new"] {
+        let is_given = is_written(&rt, journal, JOURNAL);
+        let words = Words {
+            save: Some("both.tmp"),
+            ..keeping(journal)
+        };
+        let ended = serve_input(rt, words, SystemFiles::new(rt));
+        assert_found(&rt, ended, Way::Program(ProgramFault::NoSave));
+        let stays = had(&rt, journal, JOURNAL);
+        assert_found(&rt, (is_given, stays), (true, true));
+    }
 }
 
 /// A journal that the system doesn't sync is refused: it answers so for a device that keeps nothing.

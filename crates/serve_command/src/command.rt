@@ -52,11 +52,11 @@ pub enum Ended<'n> {
 }
 
 /// Runs the site that words ask for. It reads and judges the gate file, then the snapshot and the keys, if they are
-/// named, tries whether a snapshot could be saved, opens the journal, asks whether the start was used, listens and prints `listening ADDRESS` for each address
-/// and, where it shows itself to browsers, `listening http ADDRESS`, runs the site and saves what it has. What is wrong
-/// while it runs is written to `errors`. Where it is to end with its input it ends in order at that end and at a line
-/// `stop`, and at a line `reload` the gate file is read again, by `files` as before; else the input isn't read. Keys
-/// are read by `keys`.
+/// named, tries whether a snapshot could be saved, opens the journal, asks whether the start was used, listens and
+/// prints `listening ADDRESS` for each address and, where it shows itself to browsers, `listening http ADDRESS`, runs
+/// the site and saves what it has. What is wrong while it runs is written to `errors`. Where it is to end with its input
+/// it ends in order at that end and at a line `stop`, and at a line `reload` the gate file is read again, by `files` as
+/// before; else the input isn't read. Keys are read by `keys`.
 pub fn serve<'n, R, I, N, E, L>(
     rt: R,
     alloc: Global,
@@ -248,7 +248,7 @@ where
     E: Drain + Send + Drop + 'static,
     L: KeyReader + Sync,
 {
-    match tape_of(&rt, name, site.serving.save) {
+    match tape_of(&rt, alloc, name, site.serving.save) {
         Ok(tape) => ended_of(run_taped(rt, alloc, site, outside, keys, snapshot_file, tape)),
         Err(ended) => Err(ended),
     }
@@ -257,6 +257,7 @@ where
 /// The journal file of this name, unless a snapshot would be saved in its place.
 fn tape_of<R: Files<File = File>>(
     rt: &R,
+    alloc: Global,
     name: &str,
     save: Option<&str>,
 ) -> Result<FileTape, Ended<'static>> {
@@ -265,9 +266,25 @@ fn tape_of<R: Files<File = File>>(
         Err(fault) => return Err(tape_fault(fault)),
     };
     match save {
-        Some(path) if tape.is_at(rt, path) => Err(Ended::Program(ProgramFault::NoSave)),
-        _ => Ok(tape),
+        Some(path) => apart_from(rt, alloc, tape, path),
+        None => Ok(tape),
     }
+}
+
+/// A journal file, unless a snapshot that is saved at a path would take its place, or be written in it before.
+fn apart_from<R: Files>(
+    rt: &R,
+    alloc: Global,
+    tape: FileTape,
+    path: &str,
+) -> Result<FileTape, Ended<'static>> {
+    let Ok(beside) = format!(in alloc; "{path}.new") else {
+        return Err(Ended::Site(ServeFault::NoMemory));
+    };
+    if tape.is_at(rt, path) || tape.is_at(rt, beside.as_str()) {
+        return Err(Ended::Program(ProgramFault::NoSave));
+    }
+    Ok(tape)
 }
 
 /// How a site with a journal ended, which may not have been opened.

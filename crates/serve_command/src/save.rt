@@ -65,14 +65,18 @@ impl<R: Files> Saves for SnapshotFile<R> {
     }
 }
 
-/// Makes a new file beside a file that is no folder, and removes it.
+/// Makes a new file beside a file that is no folder, and removes it. What is there already, which a save replaces, stays
+/// there: another site may be about to save.
 fn try_beside<R: Files>(rt: &R, alloc: Global, name: &str) -> io::Result<()> {
     if is_folder(rt, name) {
         return Err(io::Error::from(ErrorKind::IsADirectory));
     }
     let beside = format!(in alloc; "{name}.new")?;
-    let _new = new_file(rt, beside.as_str())?;
-    fs::remove_file(rt, beside.as_str())
+    match new_file(rt, beside.as_str()) {
+        Ok(_new) => fs::remove_file(rt, beside.as_str()),
+        Err(error) if error.kind() == ErrorKind::AlreadyExists => Ok(()),
+        Err(error) => Err(error),
+    }
 }
 
 /// Whether a folder is there.
@@ -83,9 +87,8 @@ fn is_folder<R: Files>(rt: &R, name: &str) -> bool {
     }
 }
 
-/// A new file of this name, readable by its owner alone, in the place of what a save that was cut off left there.
+/// A new file of this name, readable by its owner alone. It fails where something is there already.
 fn new_file<R: Files>(rt: &R, name: &str) -> io::Result<R::File> {
-    let _absent = fs::remove_file(rt, name);
     OpenOptions::new()
         .write(true)
         .create_new(true)
@@ -96,6 +99,7 @@ fn new_file<R: Files>(rt: &R, name: &str) -> io::Result<R::File> {
 /// Saves a record in a file's place. Of one that isn't saved nothing is left beside the file.
 fn save<R: Files>(rt: &R, alloc: Global, name: &str, replica: &Replica) -> io::Result<()> {
     let beside = format!(in alloc; "{name}.new")?;
+    let _absent = fs::remove_file(rt, beside.as_str());
     match replace(rt, alloc, beside.as_str(), name, replica) {
         Ok(()) => sync_folder(rt, name),
         Err(error) => {
@@ -105,7 +109,8 @@ fn save<R: Files>(rt: &R, alloc: Global, name: &str, replica: &Replica) -> io::R
     }
 }
 
-/// Writes the snapshot to a new file beside the file, has the system keep it, and puts it in the file's place.
+/// Writes the snapshot to a new file beside the file, has the system keep it, and puts it in the file's place. It fails
+/// where something is beside the file already.
 fn replace<R: Files>(
     rt: &R,
     alloc: Global,
