@@ -100,11 +100,11 @@ not_refused text entries (BadShape key) p h =
 not_refused text entries (BadBody fault) p h = absurd h
 not_refused text entries NoMemory p h = refl
 
-pub front_is_read : {T : Type 0} (shown : T → List Entry) (text : List ℕ) (result : Result T OpTextFault)
-    → IfOk result (λ x. SpellsEntries text (shown x)) → IfErr result (IsFrontRefusal text)
+pub entries_are_read : (text : List ℕ) (result : Result (List Entry) OpTextFault)
+    → IfOk result (SpellsEntries text) → IfErr result (IsFrontRefusal text)
     → (entries : List Entry) → SpellsEntries text entries
-    → MatchResult result (λ x. shown x ≡ entries) (λ fault. fault ≡ NoMemory)
-front_is_read shown text (Ok x) ok err entries p =
-    same_entries p.0 (shown x) entries
-    (subst (λ values. AreEntries values (shown x)) (same_list text ok.0 p.0 ok.1 p.1) ok.2) p.2
-front_is_read shown text (Err fault) ok err entries p = not_refused text entries fault p err
+    → MatchResult result (λ read. read ≡ entries) (λ fault. fault ≡ NoMemory)
+entries_are_read text (Ok read) ok err entries p =
+    same_entries p.0 read entries
+    (subst (λ values. AreEntries values read) (same_list text ok.0 p.0 ok.1 p.1) ok.2) p.2
+entries_are_read text (Err fault) ok err entries p = not_refused text entries fault p err

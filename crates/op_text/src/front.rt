@@ -74,16 +74,6 @@ fn front_of(alloc: Global, entries: Vec<(u16, u32, u64)>) -> Result<Front, OpTex
 fn read_entries(alloc: Global, bytes: &[u8]) -> Result<Vec<(u16, u32, u64)>, OpTextFault>
     ensures spelled { IfOk result (λ entries. SpellsEntries bytes.now entries.items) }
     ensures refused { IfErr result (IsFrontRefusal bytes.now) }
-    ensures only { (entries : List Entry) → SpellsEntries bytes.now entries
-        → MatchResult result (λ read. read.items ≡ entries) (λ fault. fault ≡ OpTextFault.NoMemory) }
-{
-    spelled_front(alloc, bytes)
-}
-
-/// The entries that the text of a front spells.
-fn spelled_front(alloc: Global, bytes: &[u8]) -> Result<Vec<(u16, u32, u64)>, OpTextFault>
-    ensures spelled { IfOk result (λ entries. SpellsEntries bytes.now entries.items) }
-    ensures refused { IfErr result (IsFrontRefusal bytes.now) }
 {
     let values = list_of(alloc, bytes)?;
     let mut entries = Vec::with_capacity(alloc, values.len())?;
