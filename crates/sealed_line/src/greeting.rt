@@ -53,7 +53,7 @@ impl Greeting {
     /// Reads such a line, given without its line end; nothing where it is none. It takes no memory.
     pub fn read(line: &[u8]) -> Option<Greeting>
         ensures { MatchOption result ((greeting : AnyGreeting) → IsGreeting greeting → line.now ≢ greeting_text greeting)
-            (λ greeting. line.now ≡ greeting_text greeting) }
+            (λ greeting. IsGreeting greeting × (line.now ≡ greeting_text greeting)) }
     {
         let Some((before, nonce)) = last_word(line, 32) else {
             return None;
@@ -101,7 +101,7 @@ impl Answer {
     /// Reads such a line, given without its line end; nothing where it is none. It takes no memory.
     pub fn read(line: &[u8]) -> Option<Answer>
         ensures { MatchOption result ((answer : AnyAnswer) → IsKeyAnswer answer → line.now ≢ key_answer_text answer)
-            (λ answer. line.now ≡ key_answer_text answer) }
+            (λ answer. IsKeyAnswer answer × (line.now ≡ key_answer_text answer)) }
     {
         if is_same(line, b"no 12 NoKey") {
             return Some(Answer::NoKey);

@@ -43,11 +43,12 @@ IsNoKeyAnswer line = (answer : Answer) → IsKeyAnswer answer → line ≢ key_a
 -- what the line of who answers comes to
 abbrev pub Judges : List ℕ → Greeting → List ℕ → Result SessionKeys DialFault → Type 0
 Judges secret greeting line (Ok keys) =
-    (reply : Reply) × (line ≡ key_answer_text (Proved reply keys.proof))
+    (reply : Reply) × IsKeyAnswer (Proved reply keys.proof) × (line ≡ key_answer_text (Proved reply keys.proof))
     × AreKeys secret (both_lines greeting reply) keys
 Judges secret greeting line (Err NoKey) = line ≡ key_answer_text HasNoKey
 Judges secret greeting line (Err NotProved) =
-    (reply : Reply) × (proof : List ℕ) × (line ≡ key_answer_text (Proved reply proof))
+    (reply : Reply) × (proof : List ℕ) × IsKeyAnswer (Proved reply proof)
+    × (line ≡ key_answer_text (Proved reply proof))
     × (proof ≢ proof_under secret greeting reply)
 Judges secret greeting line (Err BadAnswer) = IsNoKeyAnswer line
 Judges secret greeting line (Err ReadFault) = ⊥

@@ -4,7 +4,7 @@ ghost use Rattle.std.specs.Prelude.{◌≡◌, ◌≢◌, ◌++◌, [], ◌∷�
 ghost use Rattle.std.specs.Io.KnownBytes.{Consumes, IsAtEnd, Keeps};
 ghost use Rattle.byte_ends.specs.Lines.{as_line};
 ghost use Rattle.line_reader.specs.Lines.{HasNoLf};
-ghost use Rattle.sealed_line.specs.Greetings.{key_answer_text, greeting_text};
+ghost use Rattle.sealed_line.specs.Greetings.{IsKeyAnswer, key_answer_text, greeting_text};
 ghost use Rattle.sealed_link.specs.Begins.{AreSealedEnds, CountsReads, CountsWrites, Dials, DialsEnds, GreetsByKey, IsUnanswered, IsUnsentGreeting, Judges, greeting_of};
 ghost use Rattle.sealed_line.specs.declared.greeting.Answer.TheVariants.{Proved};
 
@@ -194,6 +194,7 @@ fn judged(
     greeting: &Greeting,
     answer: &Answer,
 ) -> Result<SessionKeys, DialFault>
+    requires { IsKeyAnswer answer.now }
     ensures { Judges secret.now greeting.now (key_answer_text answer.now) result }
 {
     match answer {
@@ -210,6 +211,7 @@ fn proved_keys(
     reply: &Reply,
     proof: &[u8; 32],
 ) -> Result<SessionKeys, DialFault>
+    requires { IsKeyAnswer (Proved reply.now proof.now) }
     ensures { Judges secret.now greeting.now (key_answer_text (Proved reply.now proof.now)) result }
 {
     let Ok(keys) = session_keys(alloc, secret, greeting, reply) else {
