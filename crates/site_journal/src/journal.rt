@@ -1,6 +1,6 @@
 //! A journal: operations are appended to it, and what is acknowledged stays.
 
-ghost use Rattle.std.specs.Prelude.{◌≡◌, ◌≤◌, ◌+◌, ◌++◌, ◌∷◌, [], ℕ, List, Some, false, IfOk, IfErr, IfSome, IsOk};
+ghost use Rattle.std.specs.Prelude.{◌≡◌, ◌≤◌, ◌+◌, ◌++◌, ◌∷◌, [], ℕ, List, Some, false, IfOk, IfErr, IfSome, IsOk, IsSome};
 ghost use Rattle.std.specs.Prelude.{MatchResult, OnOk, length, map, vec_len};
 ghost use Rattle.review_ops.specs.Operation.{Operation};
 ghost use Rattle.snapshot_text.specs.Snapshot.{operation_lines};
@@ -111,6 +111,9 @@ impl<T: Tape> Journal<T> {
         ensures err { IfErr result (λ fault. IsNotKept self.old fault self.new) }
         ensures any_crash { (before : List Operation) → IsHolding self.old before
             → SurvivesCrashes self.new before ops.now (IsOk result) }
+
+        // What is known of the tape stays known, also where the journal is spoiled.
+        ensures known { IfSome self.old.image (λ _. IsSome self.new.image) }
         ensures counted { OnOk result (self.new.failed ≡ self.old.failed) }
     {
         journals_say_their_operations();
