@@ -1,7 +1,9 @@
 //! A connection that is open.
 
 use super::endpoint::limits;
-use http_server::{Connection, Service};
+use super::pages::Pages;
+use super::service::PageService;
+use http_server::Connection;
 use mio::net::TcpStream;
 use std::alloc::Global;
 use std::hash::RandomState;
@@ -15,6 +17,9 @@ const REQUEST_LIMIT: u64 = 10;
 
 /// For how many seconds a connection may be silent: nothing comes, and nothing of what is sent is taken.
 const SILENCE_LIMIT: u64 = 60;
+
+/// For how many seconds nothing of an answer may be taken while there is no room for more answers.
+const STUCK_LIMIT: u64 = 1;
 
 /// For how many seconds what still comes is dropped once all is sent. A connection that is closed before would lose
 /// what was sent last (RFC 9112, section 9.6).
@@ -31,6 +36,10 @@ pub(crate) struct Client {
     /// Whether the socket may have more to read, and whether it may take more.
     may_read: bool,
     may_write: bool,
+    /// How many bytes of its answers wait to be sent, but for a few of their heads.
+    waiting: u64,
+    /// Whether there was room for more answers when it was looked at last.
+    has_room: bool,
     /// When something last came or went.
     heard: Duration,
     /// When a request began to come that isn't answered yet.
@@ -53,6 +62,8 @@ impl Client {
             connection: Connection::new(alloc, keys, limits()),
             may_read: true,
             may_write: true,
+            waiting: 0,
+            has_room: true,
             heard: now,
             begun: None,
             left: None,
@@ -71,26 +82,40 @@ impl Client {
         self.heard
     }
 
-    /// Whether there is something to do that doesn't wait for the other side.
+    /// How many bytes of its answers wait to be sent.
+    pub(crate) fn waiting(&self) -> u64 {
+        self.waiting
+    }
+
+    /// Whether there is something to do that doesn't wait for the other side, or for room.
     pub(crate) fn has_more(&self) -> bool {
         if self.left.is_some() {
             return self.may_read;
         }
         (self.may_write && self.connection.wants_write())
-            || (self.may_read && self.connection.wants_read())
+            || (self.may_read && self.has_room && self.connection.wants_read())
     }
 
     /// Whether the connection is to be closed: it failed, all is sent and the other side has seen that, or there is no
-    /// patience left with the other side.
-    pub(crate) fn is_over(&self, now: Duration) -> bool {
+    /// patience left with the other side, of which there is less where there is no room for more answers.
+    pub(crate) fn is_over(&self, now: Duration, has_room: bool) -> bool {
         self.is_over
+            || (!has_room && self.waiting > 0 && is_past(Some(self.heard), STUCK_LIMIT, now))
             || is_past(self.begun, REQUEST_LIMIT, now)
             || is_past(self.left, LEAVE_LIMIT, now)
             || is_past(Some(self.heard), SILENCE_LIMIT, now)
     }
 
-    /// Reads, answers and writes what can be done now, up to a few times.
-    pub(crate) fn work<S: Service>(&mut self, service: &mut S, scratch: &mut [u8], now: Duration) {
+    /// Reads, answers and writes what can be done now, up to a few times. It reads only where there is room for more
+    /// answers.
+    pub(crate) fn work<P: Pages>(
+        &mut self,
+        service: &mut PageService<'_, P>,
+        scratch: &mut [u8],
+        now: Duration,
+        has_room: bool,
+    ) {
+        self.has_room = has_room;
         for _ in 0..MOVES {
             if self.is_over || !self.has_more() {
                 return;
@@ -104,18 +129,28 @@ impl Client {
     }
 
     /// Writes what waits, or else reads, and answers.
-    fn go_on<S: Service>(&mut self, service: &mut S, now: Duration) {
+    fn go_on<P: Pages>(&mut self, service: &mut PageService<'_, P>, now: Duration) {
         if self.may_write && self.connection.wants_write() {
             self.write(now);
         } else {
             self.read(now);
         }
-        self.connection.advance(service);
-        if self.connection.wants_write() {
-            self.begun = None;
-        }
+        self.answer(service);
         if self.connection.is_done() {
             self.leave(now);
+        }
+    }
+
+    /// Answers what was read.
+    fn answer<P: Pages>(&mut self, service: &mut PageService<'_, P>) {
+        let made = service.made;
+        self.connection.advance(service);
+        let added = service.made.saturating_sub(made);
+        if self.connection.wants_write() {
+            self.waiting = self.waiting.saturating_add(added);
+            self.begun = None;
+        } else {
+            self.waiting = 0;
         }
     }
 
@@ -140,7 +175,10 @@ impl Client {
     fn write(&mut self, now: Duration) {
         match self.connection.write_to(&mut self.stream) {
             Ok(0) => self.is_over = true,
-            Ok(_) => self.heard = now,
+            Ok(count) => {
+                self.heard = now;
+                self.waiting = self.waiting.saturating_sub(count as u64);
+            }
             Err(error) => {
                 self.may_write = is_interrupted(&error);
                 self.note(&error);

@@ -3,12 +3,16 @@
 ghost use Rattle.std.specs.Prelude.{◌≡◌, ◌<◌, Some, slice_set, vec_len};
 
 use super::client::Client;
-use http_server::Service;
+use super::pages::Pages;
+use super::service::PageService;
 use std::alloc::{AllocError, Global};
 use std::time::Duration;
 
 /// How many connections may be open at once.
 pub(crate) const MOST: usize = 200;
+
+/// How many bytes of answers may wait to be sent before no more are made: 64 MiB.
+const MOST_WAITING: u64 = 67_108_864;
 
 /// The connections that are open, each at its place, of which there are 200.
 #[derive(Drop)]
@@ -34,20 +38,40 @@ impl Clients {
         }
     }
 
-    /// Reads, answers and writes what can be done now.
-    pub(crate) fn work<S: Service>(&mut self, service: &mut S, scratch: &mut [u8], now: Duration) {
+    /// Reads, answers and writes what can be done now. Nothing is read where too much waits to be sent.
+    pub(crate) fn work<P: Pages>(
+        &mut self,
+        service: &mut PageService<'_, P>,
+        scratch: &mut [u8],
+        now: Duration,
+    ) {
+        let mut waiting = self.waiting();
         for place in self.places.iter_mut() {
             if let Some(client) = place {
-                client.work(service, scratch, now);
+                let before = client.waiting();
+                client.work(service, scratch, now, waiting <= MOST_WAITING);
+                waiting = waiting
+                    .saturating_sub(before)
+                    .saturating_add(client.waiting());
             }
         }
     }
 
     /// Closes the connections that are over.
     pub(crate) fn close(&mut self, now: Duration) {
+        let has_room = self.waiting() <= MOST_WAITING;
         for place in self.places.iter_mut() {
-            close_if_over(place, now);
+            close_if_over(place, now, has_room);
         }
+    }
+
+    /// How many bytes of answers wait to be sent.
+    fn waiting(&self) -> u64 {
+        let mut waiting: u64 = 0;
+        for client in self.places.iter().flatten() {
+            waiting = waiting.saturating_add(client.waiting());
+        }
+        waiting
     }
 
     /// Whether a connection has something to do that doesn't wait for its other side.
@@ -88,8 +112,8 @@ fn note_ready(place: &mut Option<Client>) {
 }
 
 /// Closes the connection at a place if it is over.
-fn close_if_over(place: &mut Option<Client>, now: Duration) {
-    if is_over(place, now) {
+fn close_if_over(place: &mut Option<Client>, now: Duration, has_room: bool) {
+    if is_over(place, now, has_room) {
         put(place, None);
     }
 }
@@ -102,9 +126,9 @@ fn put(place: &mut Option<Client>, client: Option<Client>)
 }
 
 /// Whether the connection at a place is over.
-fn is_over(place: &Option<Client>, now: Duration) -> bool {
+fn is_over(place: &Option<Client>, now: Duration, has_room: bool) -> bool {
     match place {
-        Some(client) => client.is_over(now),
+        Some(client) => client.is_over(now, has_room),
         None => false,
     }
 }

@@ -54,7 +54,8 @@ struct PageLoop {
 /// Serves pages at an endpoint until the stop is asked, to this machine and to these hosts. It notices a stop at once
 /// where the endpoint's waker is woken after it, else within a second. At most 200 connections are open: one more takes
 /// the place of the one that has been silent longest. A request has 10 seconds to come from its first byte on, and a
-/// connection may be silent for 60. Neither a connection's failure nor the system's refusal of one ends this. Refusal:
+/// connection may be silent for 60. While more than 64 MiB of answers wait to be sent no request is read, and a
+/// connection that takes nothing of its answer for a second is closed. Neither a connection's failure nor the system's refusal of one ends this. Refusal:
 /// 1 `NoMemory`, memory was refused before the first request.
 pub fn serve_pages<R: Wait + Clock, P: Pages + Drop>(
     rt: &R,
@@ -72,6 +73,7 @@ pub fn serve_pages<R: Wait + Clock, P: Pages + Drop>(
         alloc,
         hosts,
         date: None,
+        made: 0,
         pages,
     };
     for _ in rt.forever() {

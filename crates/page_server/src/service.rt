@@ -29,6 +29,8 @@ pub struct PageService<'a, P: Pages> {
     pub hosts: &'a [String],
     /// The value of the field `Date`, where it is known.
     pub date: Option<HeaderValue>,
+    /// How many bytes the pages have had that were answered so far.
+    pub made: u64,
     /// Who makes the pages.
     pub pages: P,
 }
@@ -52,6 +54,7 @@ impl<P: Pages> Service for PageService<'_, P> {
             Asked::Page(route) => {
                 let for_programs = is_for_programs(request);
                 self.show(request.headers(), &route, for_programs, response);
+                self.made = self.made.saturating_add(response.body.len() as u64);
                 Ok(())
             }
             Asked::Refused(refusal) => self.refuse(refusal, is_for_programs(request), response),

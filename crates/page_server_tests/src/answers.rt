@@ -35,6 +35,7 @@ fn reply_with(
         alloc,
         hosts,
         date: None,
+        made: 0,
         pages: Shelf::new(alloc),
     };
     reply_by(alloc, keys, &mut service, sent)

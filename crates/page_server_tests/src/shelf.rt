@@ -59,8 +59,8 @@ fn text(alloc: Global, status: Status, kind: Kind, text: &str) -> Result<Page, A
     })
 }
 
-/// How many bytes the longest page has: 4 MiB, more than a socket takes at once.
-pub const LONG: usize = 4_194_304;
+/// How many bytes the longest page has: 16 MiB, more than a socket takes at once.
+pub const LONG: usize = 16_777_216;
 
 /// The longest page.
 fn long_text(alloc: Global) -> Result<Page, AllocError> {

@@ -17,6 +17,11 @@ use std::{fs, io, thread};
 
 const ASK: &str = "GET /healthz HTTP/1.1\r\nHost: localhost\r\nConnection: close\r\n\r\n";
 
+const ASK_LONG: &str = "GET /metrics HTTP/1.1\r\nHost: localhost\r\nConnection: close\r\n\r\n";
+
+/// How many clients ask for a long page and don't read it: more than the server makes pages for.
+const DEAF: usize = 8;
+
 /// Where the server has its Unix socket.
 const SOCKET: &str = "./door.tmp";
 
@@ -34,6 +39,8 @@ enum Client {
     Stuck,
     /// It asks for a long page and doesn't read it, and others ask meanwhile.
     Deaf,
+    /// It is many of these, and then one who asks.
+    DeafCrowd,
     /// It is many who are silent, and then one who asks.
     Crowd,
     /// It asks over the Unix socket.
@@ -143,8 +150,7 @@ fn is_about_ten(waited: io::Result<Duration>) -> bool {
 
 /// Whether others are answered while a client doesn't read its long page, and that one has it whole at the end.
 fn is_deaf_served<R: Net<Stream = TcpStream>>(rt: &R, alloc: Global, port: u16) -> bool {
-    let sent = "GET /metrics HTTP/1.1\r\nHost: localhost\r\nConnection: close\r\n\r\n";
-    match stall(rt, port, sent) {
+    match stall(rt, port, ASK_LONG) {
         Ok(deaf) => {
             let others = is_answered(rt, alloc, port);
             is_long(io::read_to_string(alloc, deaf)) && others
@@ -161,23 +167,55 @@ fn is_long(text: io::Result<String>) -> bool {
     }
 }
 
-/// Many clients who are silent.
+/// So many clients who send this and wait.
 fn crowd<R: Net<Stream = TcpStream>>(
     rt: &R,
     alloc: Global,
     port: u16,
+    count: usize,
+    sent: &str,
 ) -> io::Result<Vec<TcpStream>> {
     let mut crowd = Vec::new(alloc);
-    for _ in 0..SILENT {
-        let silent = stall(rt, port, "")?;
-        crowd.push(silent)?;
+    for _ in 0..count {
+        let waiting = stall(rt, port, sent)?;
+        crowd.push(waiting)?;
     }
     Ok(crowd)
 }
 
+/// Whether a client is answered beside a crowd who don't read their long pages, of which the first is left before it
+/// has its page.
+fn is_deaf_crowd_beaten<R>(rt: &R, alloc: Global, port: u16) -> bool
+where
+    R: Net<Stream = TcpStream> + Clock,
+{
+    match crowd(rt, alloc, port, DEAF, ASK_LONG) {
+        Ok(crowd) => is_page_cut(alloc, crowd, is_answered_later(rt, alloc, port)),
+        Err(_) => false,
+    }
+}
+
+/// Whether a client that comes three seconds later is answered.
+fn is_answered_later<R>(rt: &R, alloc: Global, port: u16) -> bool
+where
+    R: Net<Stream = TcpStream> + Clock,
+{
+    thread::sleep(rt, Duration::from_secs(3));
+    is_answered(rt, alloc, port)
+}
+
+/// Whether others were answered, and the first of a crowd gets its page in part.
+fn is_page_cut(alloc: Global, crowd: Vec<TcpStream>, others: bool) -> bool {
+    let mut crowd = crowd;
+    match crowd.first_mut() {
+        Some(first) => !is_long(io::read_to_string(alloc, first)) && others,
+        None => false,
+    }
+}
+
 /// Whether a client is answered beside a silent crowd, of which the first were left for the last.
 fn is_crowd_beaten<R: Net<Stream = TcpStream>>(rt: &R, alloc: Global, port: u16) -> bool {
-    match crowd(rt, alloc, port) {
+    match crowd(rt, alloc, port, SILENT, "") {
         Ok(crowd) => is_first_left(crowd, is_answered(rt, alloc, port)),
         Err(_) => false,
     }
@@ -222,17 +260,16 @@ fn asks(stream: &mut UnixStream) -> io::Result<()> {
 }
 
 /// Whether a client is served as it has to be.
-fn is_served<R: Net<Stream = TcpStream> + Clock>(
-    rt: &R,
-    alloc: Global,
-    port: u16,
-    client: Client,
-) -> bool {
+fn is_served<R>(rt: &R, alloc: Global, port: u16, client: Client) -> bool
+where
+    R: Net<Stream = TcpStream> + Clock,
+{
     match client {
         Client::Half => is_answered(rt, alloc, port),
         Client::Slow => is_slow_answered(rt, alloc, port),
         Client::Stuck => is_stuck_left(rt, alloc, port),
         Client::Deaf => is_deaf_served(rt, alloc, port),
+        Client::DeafCrowd => is_deaf_crowd_beaten(rt, alloc, port),
         Client::Crowd => is_crowd_beaten(rt, alloc, port),
         Client::Near => is_near_answered(rt, alloc),
     }
@@ -337,6 +374,12 @@ fn a_stuck_client_is_left(rt: HostRuntime) {
 #[test]
 fn a_client_that_does_not_read_holds_nobody_up(rt: HostRuntime) {
     let is_served = serves(&rt, rt.alloc(), Client::Deaf);
+    assert!(rt; is_served);
+}
+
+#[test]
+fn a_crowd_that_does_not_read_is_left(rt: HostRuntime) {
+    let is_served = serves(&rt, rt.alloc(), Client::DeafCrowd);
     assert!(rt; is_served);
 }
 
