@@ -467,12 +467,18 @@ def read_under(base: bytes, value: bytes) -> int | None:
     return next((number for form in forms if (number := number_of(form))), None)
 
 
-def kept_message(message: str) -> bytes:
-    """A message, or the lines of a longer one that are footers."""
+def kept_message(message: str) -> tuple[bytes, bool]:
+    """A message, or the first footers of a longer one, as many as fit; and whether others are lost."""
     text = message.encode()
     if len(text) <= 65536:
-        return text
-    return b"".join(line + b"\n" for line in text.split(b"\n") if line.lower().startswith(b"depends-on:"))
+        return text, False
+    kept = b""
+    for line in text.split(b"\n"):
+        if line.lower().startswith(b"depends-on:"):
+            if len(kept) + len(line) + 1 > 65536:
+                return kept, True
+            kept += line + b"\n"
+    return kept, False
 
 
 def footers(bases: list, own: int, message: bytes):
@@ -943,9 +949,10 @@ class Event:
         lost = len(named) - bool(parents) if self.is_query else len(parents[1:])
         if isinstance(self.revision, str):
             self.known.setdefault(self.revision, (self.change, self.set))
-        deed = Deed("patchset", self.change, self.set, kept_message(self.message), parents[0] if parents else None)
+        message, is_cut = kept_message(self.message)
+        deed = Deed("patchset", self.change, self.set, message, parents[0] if parents else None)
         says_all = self.is_query or is_new and parents
-        keys = ["dependsOn" if self.is_query else "parents"] * lost
+        keys = ["commitMessage"] * is_cut + ["dependsOn" if self.is_query else "parents"] * lost
         return [deed if says_all else Shown(deed)] + keys + ([] if self.is_query else self.mark_votes())
 
     def known_as(self, revision):
@@ -1020,7 +1027,7 @@ def told_by(line: bytes, known: dict, projects: list | None = None) -> Told:
         value = read_json(line)
     except (ValueError, RecursionError):
         return Told(None, found=["line"])
-    if not isinstance(value, dict) or len(line) > 1048576:
+    if not isinstance(value, dict) or len(line) > 67108864:
         return Told(None, found=["line"])
     told = Event(value, known).told(projects)
     told.found = [settled(found) for found in told.found]

@@ -1,12 +1,14 @@
 -- A feed goes on by one line more, and ends.
-use Rattle.std.proofs.Common.{◌≡◌, ◌+◌, ℕ, Bool, true, false, List, [], ◌∷◌, ◌++◌, None, Result, Ok, Err, length, refl}
+use Rattle.std.proofs.Common.{◌≡◌, ◌+◌, ℕ, Bool, true, false, List, [], ◌∷◌, ◌++◌, Option, None, Result, Ok, Err, length, refl}
 use Rattle.std.proofs.Common.{sym, subst, arith}
 use Rattle.gerrit_events.specs.Projects.{Choice}
 use Rattle.gerrit_events.specs.Reading.{Told}
+use Rattle.gerrit_events.specs.Revisions.{Revision}
 use Rattle.event_feed.specs.Feed.{IsTurn, Standing, Stops, FeedTurn, Turns, Waits, ended_by, with_taker}
 use Rattle.event_feed.specs.Steps.{Steps}
 use Rattle.event_feed.specs.declared.fault.FeedFault.{FeedFault}
 use Rattle.event_feed.specs.declared.progress.Input.{Input}
+use Rattle.event_feed.specs.declared.progress.Progress.{Progress}
 
 module _ {Taker : Type 0} (rests : Taker → Result (Unit {0}) FeedFault → Taker → Type 0)
     (takes : Taker → ℕ → Told → Result (Unit {0}) FeedFault → Taker → Type 0) where
@@ -33,6 +35,16 @@ module _ {Taker : Type 0} (rests : Taker → Result (Unit {0}) FeedFault → Tak
     before.4,
     turns_push choice limit (first + 1) number turns before.1 mid new waiting turn (omega (arith, is)) before.5 waits one unended,
   )
+
+  -- turns go on from what is held, wherever that lies
+  pub turns_held : (choice : Choice) (limit first : ℕ) (old : Standing Taker) (turns : List FeedTurn) (left : Option (List ℕ))
+      (failed : ℕ) (held held' : List ℕ) (known : List Revision) (progress : Progress) (taker : Taker) → held ≡ held'
+      → Turns rests takes choice limit first old turns
+      (record { source = record { left = left; failed = failed; held = held }; known = known; progress = progress; taker = taker })
+      → Turns rests takes choice limit first old turns
+      (record { source = record { left = left; failed = failed; held = held' }; known = known; progress = progress; taker = taker })
+  turns_held choice limit first old turns left failed held held' known progress taker same before =
+      subst (λ h. Turns rests takes choice limit first old turns (record { source = record { left = left; failed = failed; held = h }; known = known; progress = progress; taker = taker })) same before
 
   -- a line was taken, and the feed goes on
   pub step_on : (input : Input) (choice : Choice) (bound limit number : ℕ) (old new : Standing Taker) (more : Bool) → bound ≡ limit

@@ -4,7 +4,7 @@ use Rattle.gerrit_events.specs.Projects.{Choice}
 use Rattle.gerrit_events.specs.Reading.{Told}
 use Rattle.gerrit_events.specs.declared.finding.Finding.{Finding}
 use Rattle.event_feed.specs.Ends.{End, FeedIsCutShort, IsWritten}
-use Rattle.event_feed.specs.Feed.{Feeds}
+use Rattle.event_feed.specs.Feed.{Feeds, gerrit_line_limit}
 use Rattle.event_feed.specs.Texts.{refusal_lines, take_lines}
 use Rattle.event_feed.specs.declared.fault.FeedFault.{FeedFault}
 use Rattle.event_feed.specs.declared.fault.FeedFault.TheVariants.{Dropped, ReadFault, WriteFault, NoMemory, NoSite, Ended}
@@ -65,7 +65,7 @@ module _ {Writer : Type 0} (shown : Writer → Outputs) where
     pub greeted : Writer
     pub written : IsWritten hello_event (shown old).output (shown greeted).output
     pub same : (shown greeted).errors ≡ (shown old).errors
-    pub fed : Feeds WritesNothing WritesLine input choice 1048576 18446744073709551615 left unread greeted left' unread' new result
+    pub fed : Feeds WritesNothing WritesLine input choice gerrit_line_limit 18446744073709551615 left unread greeted left' unread' new result
 
   abbrev pub RunsEvents : Input → Choice → Option (List ℕ) → ℕ → Writer → Option (List ℕ) → ℕ → Writer
       → Result (Unit {0}) FeedFault → Type 0

@@ -24,6 +24,10 @@ use Rattle.event_feed.specs.declared.progress.Input.{Input}
 use Rattle.event_feed.specs.declared.progress.Progress.{Progress}
 use Rattle.event_feed.specs.declared.progress.Progress.TheVariants.{Unbegun}
 
+-- the most bytes of a line of Gerrit's: 64 MiB
+abbrev pub gerrit_line_limit : ℕ
+gerrit_line_limit = 67108864
+
 -- ---- what a line tells
 
 -- a line as it came, without its LF, and what it tells

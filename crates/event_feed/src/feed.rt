@@ -1,7 +1,7 @@
 //! Reads a source line by line, and hands over what each line tells.
 
 ghost use Rattle.std.specs.Prelude.{◌≡◌};
-ghost use Rattle.event_feed.specs.Feed.{Feeds};
+ghost use Rattle.event_feed.specs.Feed.{Feeds, gerrit_line_limit};
 ghost use Rattle.event_feed.specs.Progress.{end_of};
 ghost use Rattle.event_feed.specs.Steps.{Moves, PassesOver, Rests, Steps, with_more};
 
@@ -15,12 +15,12 @@ use line_reader::LineReader;
 use memchr::memchr;
 use std::alloc::Global;
 
-/// How many bytes a line may have.
-const LINE_LIMIT: usize = 1048576;
+/// How many bytes a line may have: 64 MiB.
+const LINE_LIMIT: usize = 67_108_864;
 
 /// Reads the lines of a source, one after the other, and hands to a taker what each tells, with its number, counted
 /// from 1, before the next one is read. Before more of the source is read the taker rests. A line of more than
-/// 1,048,576 bytes is passed over without being held, and is no event, as is what comes last without an LF. Ends well
+/// 67,108,864 bytes is passed over without being held, and is no event, as is what comes last without an LF. Ends well
 /// at the end of the source. Refusals: 2 `Dropped`, a line says that Gerrit dropped events; 3 `ReadFault`, the source
 /// failed, or gave 2^64 - 1 lines or blocks of one line; 5 `NoMemory`, memory was refused for a line, which wasn't
 /// handed over; 9 `Incomplete`, a line is an error in place of an answer, or the source ended where the answer of a
@@ -33,7 +33,7 @@ pub fn feed_lines<S: Source, T: Taker>(
     source: &mut S,
     taker: &mut T,
 ) -> Result<(), FeedFault>
-    ensures { Feeds T.rests T.takes input projects.now 1048576 18446744073709551615 (S.left source.old)
+    ensures { Feeds T.rests T.takes input projects.now gerrit_line_limit 18446744073709551615 (S.left source.old)
         (S.failed source.old) taker.old (S.left source.new) (S.failed source.new) taker.new result }
 {
     feed_most(alloc, input, projects, LINE_LIMIT, u64::MAX, source, taker)
@@ -73,8 +73,25 @@ pub fn feed_most<S: Source, T: Taker>(
         )? {
             return Ok(());
         }
+        reader = renewed(alloc, limit, reader);
     }
     Err(FeedFault::ReadFault)
+}
+
+/// A reader that goes on where this one is. Where nothing is held it begins anew, so that the room of a long line is
+/// given back.
+fn renewed(alloc: Global, limit: usize, reader: LineReader) -> LineReader
+    requires { reader.limit ≡ limit }
+    ensures limit { result.limit ≡ limit }
+    ensures held { result.held ≡ reader.held }
+{
+    if !reader.held().is_empty() {
+        return reader;
+    }
+    match LineReader::new(alloc, limit) {
+        Ok(fresh) => fresh,
+        Err(_) => reader,
+    }
 }
 
 /// Takes the next line, and says whether there was one.

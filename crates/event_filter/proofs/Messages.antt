@@ -1,16 +1,18 @@
--- What is kept of a message names the same changes as the message.
-use Rattle.std.proofs.Common.{◌≡◌, ◌<◌, ◌+◌, ◌++◌, ◌∷◌, [], ℕ, zero, suc, Bool, true, false, List, length, map, take, inl, inr}
+-- What is kept of a message names the same changes as the message, and fits a body.
+use Rattle.std.proofs.Common.{◌≡◌, ◌<◌, ◌≤◌, ◌+◌, ◌-◌, ◌++◌, ◌∷◌, [], ℕ, zero, suc, Bool, true, false, List, length, map}
+use Rattle.std.proofs.Common.{take, inl, inr}
 use Rattle.std.proofs.Common.{refl, sym, ap, ◌∙◌, subst, arith, append_assoc, eqb, length-append}
-use Rattle.std.specs.Prelude.{◌↔◌, ◌⊎◌, All, Contains, codes, filter, flat_map, if◌then◌else◌, slice_index_or}
+use Rattle.std.specs.Prelude.{◌⊎◌, ◌&&◌, All, Contains, codes, filter, if◌then◌else◌, nat_lt, slice_index_or}
 use Rattle.std.specs.Char.{to_ascii_lowercase}
 use Rattle.std.specs.List.{onto_first}
+use Rattle.std.proofs.lemmas.Bool.Decides.{nat_tests}
 use Rattle.std.proofs.lemmas.List.{map-append}
 use Rattle.std.proofs.lemmas.List.Elements.{All-cons, All-nil, Contains-append_left, Contains-push_cases}
 use Rattle.std.proofs.lemmas.List.Splits.{slice_split_at, slice_split-cons_no, slice_split-cons_yes}
 use Rattle.std.proofs.lemmas.Slice.Eq.{bytes_eq-Decides}
 use Rattle.footer_text.specs.Footers.{LinesNeed, MessageNeeds}
 use Rattle.footer_text.specs.Lines.{IsFooter, lines_of}
-use Rattle.gerrit_events.specs.Messages.{footer_lines, is_footer_line, kept_message}
+use Rattle.gerrit_events.specs.Messages.{ended, fitting, footers_of, has_lost_footers, is_footer_line, kept_message}
 
 -- ---- lines without a line end
 
@@ -50,9 +52,6 @@ plain_kept : (lines : List (List ℕ)) → ArePlain lines → ArePlain (filter i
 plain_kept [] plain = tt
 plain_kept (line ∷ lines) plain =
     plain_if line (filter is_footer_line lines) (is_footer_line line) plain.0 (plain_kept lines plain.1)
-
-abbrev ended : List (List ℕ) → List ℕ
-ended lines = flat_map (λ (line : List ℕ). line ++ 10 ∷ []) lines
 
 -- lines with their ends are cut into the lines, and an empty one after the last end
 cut_again : (lines : List (List ℕ)) → ArePlain lines → lines_of (ended lines) ≡ lines ++ [] ∷ []
@@ -122,34 +121,129 @@ is_footer line value footer =
 no_footer : (value : List ℕ) → IsFooter [] value → ⊥
 no_footer value footer = omega (arith, ap length footer.whole, length-append footer.word (58 ∷ footer.rest))
 
+-- ---- the first lines, as many as fit
+
+abbrev first_if : List ℕ → List (List ℕ) → Bool → List (List ℕ)
+first_if line later fits = if fits then line ∷ later else []
+
+-- what is left of the room behind a line
+abbrev room_behind : ℕ → List ℕ → ℕ
+room_behind room line = room - suc (length line)
+
+plain_first_if : (line : List ℕ) (later : List (List ℕ)) (fits : Bool) → Plain line → ArePlain later
+    → ArePlain (first_if line later fits)
+plain_first_if line later true plain others = (plain, others)
+plain_first_if line later false plain others = tt
+
+plain_fitting : (room : ℕ) (lines : List (List ℕ)) → ArePlain lines → ArePlain (fitting room lines)
+plain_fitting room [] plain = tt
+plain_fitting room (line ∷ lines) plain =
+    plain_first_if line (fitting (room_behind room line) lines) (nat_lt (length line) room) plain.0
+    (plain_fitting (room_behind room line) lines plain.1)
+
+fitted_back : (first line : List ℕ) (later lines : List (List ℕ)) (fits : Bool) → Contains (first_if first later fits) line
+    → (Contains later line → Contains lines line) → Contains (first ∷ lines) line
+fitted_back first line later lines true there back = taken_back first line later lines true there back
+fitted_back first line later lines false there back = absurd (omega (arith, there.1))
+
+was_fitting : (room : ℕ) (lines : List (List ℕ)) (line : List ℕ) → Contains (fitting room lines) line
+    → Contains lines line
+was_fitting room [] line there = there
+was_fitting room (first ∷ lines) line there =
+    fitted_back first line (fitting (room_behind room first) lines) lines (nat_lt (length first) room) there
+    (was_fitting (room_behind room first) lines line)
+
+ended_length : (line : List ℕ) (lines : List (List ℕ))
+    → length (ended (line ∷ lines)) ≡ suc (length line) + length (ended lines)
+ended_length line lines =
+    ap length (append_assoc line (10 ∷ []) (ended lines)) ∙ omega (arith, length-append line (10 ∷ ended lines))
+
+all_fit_by : (room : ℕ) (line : List ℕ) (lines : List (List ℕ)) (fits : Bool) → nat_lt (length line) room ≡ fits
+    → length (ended (line ∷ lines)) ≤ room
+    → (length (ended lines) ≤ room_behind room line → fitting (room_behind room line) lines ≡ lines)
+    → first_if line (fitting (room_behind room line) lines) fits ≡ line ∷ lines
+all_fit_by room line lines true is short later =
+    ap (λ ls. line ∷ ls) (later (omega (arith, short, ended_length line lines)))
+all_fit_by room line lines false is short later =
+    let long : room ≤ length line = grind (arith, nat_tests, is) in
+    absurd (omega (arith, long, short, ended_length line lines))
+
+all_fit : (room : ℕ) (lines : List (List ℕ)) → length (ended lines) ≤ room → fitting room lines ≡ lines
+all_fit room [] short = refl
+all_fit room (line ∷ lines) short =
+    all_fit_by room line lines (nat_lt (length line) room) refl short (all_fit (room_behind room line) lines)
+
+fits_by : (room : ℕ) (line : List ℕ) (later : List (List ℕ)) (fits : Bool) → nat_lt (length line) room ≡ fits
+    → length (ended later) ≤ room_behind room line → length (ended (first_if line later fits)) ≤ room
+fits_by room line later true is short =
+    let one : length line < room = grind (arith, nat_tests, is) in
+    omega (arith, one, short, ended_length line later)
+fits_by room line later false is short = omega arith
+
+fits : (room : ℕ) (lines : List (List ℕ)) → length (ended (fitting room lines)) ≤ room
+fits room [] = omega arith
+fits room (line ∷ lines) =
+    fits_by room line (fitting (room_behind room line) lines) (nat_lt (length line) room) refl
+    (fits (room_behind room line) lines)
+
+-- ---- what is kept names the same
+
+abbrev kept_of : List (List ℕ) → List (List ℕ)
+kept_of lines = fitting 65536 (filter is_footer_line lines)
+
+plain_kept_of : (lines : List (List ℕ)) → ArePlain lines → ArePlain (kept_of lines)
+plain_kept_of lines plain = plain_fitting 65536 (filter is_footer_line lines) (plain_kept lines plain)
+
 kept_need : (bases : List (List ℕ)) (own : ℕ) (lines : List (List ℕ)) (change : ℕ) → ArePlain lines
-    → LinesNeed bases own (lines_of (ended (filter is_footer_line lines))) change → LinesNeed bases own lines change
+    → LinesNeed bases own (lines_of (ended (kept_of lines))) change → LinesNeed bases own lines change
 kept_need bases own lines change plain need =
-    let there = subst (λ ls. Contains ls need.0) (cut_again (filter is_footer_line lines) (plain_kept lines plain)) need.1 in
-    elim (Contains-push_cases (filter is_footer_line lines) [] need.0 there) [
-      | inl kept ↦ (need.0, was_there lines need.0 kept, need.2)
+    let there = subst (λ ls. Contains ls need.0) (cut_again (kept_of lines) (plain_kept_of lines plain)) need.1 in
+    elim (Contains-push_cases (kept_of lines) [] need.0 there) [
+      | inl kept ↦ (need.0, was_there lines need.0 (was_fitting 65536 (filter is_footer_line lines) need.0 kept), need.2)
       | inr empty ↦ absurd (no_footer need.2.0 (subst (λ l. IsFooter l need.2.0) (sym empty) need.2.1))
     ]
 
 need_kept : (bases : List (List ℕ)) (own : ℕ) (lines : List (List ℕ)) (change : ℕ) → ArePlain lines
-    → LinesNeed bases own lines change → LinesNeed bases own (lines_of (ended (filter is_footer_line lines))) change
-need_kept bases own lines change plain need = (
+    → length (ended (filter is_footer_line lines)) ≤ 65536
+    → LinesNeed bases own lines change → LinesNeed bases own (lines_of (ended (kept_of lines))) change
+need_kept bases own lines change plain short need = (
   need.0,
-  subst (λ ls. Contains ls need.0) (sym (cut_again (filter is_footer_line lines) (plain_kept lines plain)))
+  subst (λ ls. Contains ls need.0)
+      (sym (cut_again (kept_of lines) (plain_kept_of lines plain) ∙ ap (λ ls. ls ++ [] ∷ []) (all_fit 65536 (filter is_footer_line lines) short)))
       (Contains-append_left (filter is_footer_line lines) ([] ∷ []) need.0
       (is_kept lines need.0 need.1 (is_footer need.0 need.2.0 need.2.1))),
   need.2,
 )
 
-by_length : (bases : List (List ℕ)) (own : ℕ) (message : List ℕ) (change : ℕ) (is_long : Bool)
-    → MessageNeeds bases own (if is_long then footer_lines message else message) change
-    ↔ MessageNeeds bases own message change
-by_length bases own message change true = (
-  kept_need bases own (lines_of message) change (plain_lines message),
-  need_kept bases own (lines_of message) change (plain_lines message),
-)
-by_length bases own message change false = (λ need. need, λ need. need)
+abbrev kept_where : List ℕ → Bool → List ℕ
+kept_where message is_long = if is_long then ended (fitting 65536 (footers_of message)) else message
 
-pub kept_names_the_same : (bases : List (List ℕ)) (own : ℕ) (message : List ℕ) (change : ℕ)
-    → MessageNeeds bases own (kept_message message) change ↔ MessageNeeds bases own message change
-kept_names_the_same bases own message change = by_length bases own message change _
+no_more_where : (bases : List (List ℕ)) (own : ℕ) (message : List ℕ) (change : ℕ) (is_long : Bool)
+    → MessageNeeds bases own (kept_where message is_long) change → MessageNeeds bases own message change
+no_more_where bases own message change true need = kept_need bases own (lines_of message) change (plain_lines message) need
+no_more_where bases own message change false need = need
+
+-- what is kept of a message names no change but those that the message names
+pub kept_names_no_more : (bases : List (List ℕ)) (own : ℕ) (message : List ℕ) (change : ℕ)
+    → MessageNeeds bases own (kept_message message) change → MessageNeeds bases own message change
+kept_names_no_more bases own message change need = no_more_where bases own message change _ need
+
+all_where : (bases : List (List ℕ)) (own : ℕ) (message : List ℕ) (change : ℕ) (is_long : Bool)
+    → (is_long && nat_lt 65536 (length (ended (footers_of message)))) ≡ false
+    → MessageNeeds bases own message change → MessageNeeds bases own (kept_where message is_long) change
+all_where bases own message change true unlost need =
+    let short : length (ended (footers_of message)) ≤ 65536 = grind (arith, nat_tests, unlost) in
+    need_kept bases own (lines_of message) change (plain_lines message) short need
+all_where bases own message change false unlost need = need
+
+-- and where no footers are lost all of those
+pub kept_names_all : (bases : List (List ℕ)) (own : ℕ) (message : List ℕ) → has_lost_footers message ≡ false
+    → (change : ℕ) → MessageNeeds bases own message change → MessageNeeds bases own (kept_message message) change
+kept_names_all bases own message unlost change need = all_where bases own message change _ unlost need
+
+-- what is kept of a message fits a body
+pub kept_fits : (message : List ℕ) → length (kept_message message) ≤ 65536
+kept_fits message = by_length (nat_lt 65536 (length message)) refl where
+  by_length : (is_long : Bool) → nat_lt 65536 (length message) ≡ is_long → length (kept_where message is_long) ≤ 65536
+  by_length true is = fits 65536 (footers_of message)
+  by_length false is = grind (arith, nat_tests, is)

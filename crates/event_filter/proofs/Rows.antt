@@ -1,7 +1,7 @@
 -- What a row says is what the record says.
 use Rattle.std.specs.Prelude.{◌≡◌, ◌≢◌, ◌⊎◌, ◌||◌, ◌&&◌, ◌≤◌, int_le, ℕ, zero, suc, ℤ, pos, negsuc, Bool, true, false, List, [], ◌∷◌}
 use Rattle.std.specs.Prelude.{◌++◌, if◌then◌else◌, filter_map, flat_map, map, replicate, slice_get, Option, Some, None}
-use Rattle.std.specs.Prelude.{codes, option_and_then, option_map}
+use Rattle.std.specs.Prelude.{IfSome, codes, option_and_then, option_map}
 use Rattle.std.specs.Char.{to_ascii_lowercase}
 use Rattle.std.specs.List.{cons_option}
 use Rattle.std.specs.Str.{bytes_eq}
@@ -27,14 +27,16 @@ use Rattle.gerrit_events.specs.declared.kind.Kind.TheVariants.{QueryLine}
 use Rattle.gerrit_events.specs.declared.mark.Mark.{Mark}
 use Rattle.gerrit_events.specs.declared.mark.Mark.TheVariants.{WorkInProgress, Private, OutdatedParent}
 use Rattle.gerrit_events.specs.Claims.{Claim, drafts, lists, bad, brought_claims, claims_by, closing_claims}
-use Rattle.gerrit_events.specs.Claims.{closing_named, first_claims, is_zero, listed_claims, lost_parents, mark_claim}
-use Rattle.gerrit_events.specs.Claims.{older_by, older_claims, opening_claims, opening_named, query_claims, status_part}
-use Rattle.gerrit_events.specs.Claims.{value_under, vote_claim, vote_claims, vote_of, voted, with_change, with_set}
-use Rattle.gerrit_events.specs.Kinds.{approvals_part, change_part, line_kind}
+use Rattle.gerrit_events.specs.Claims.{closing_named, first_claims, is_zero, listed_claims, lost_footers, lost_parents}
+use Rattle.gerrit_events.specs.Claims.{mark_claim, older_by, older_claims, opening_claims, opening_named, query_claims}
+use Rattle.gerrit_events.specs.Claims.{status_part, value_under, vote_claim, vote_claims, vote_of, voted, with_change}
+use Rattle.gerrit_events.specs.Claims.{with_set}
+use Rattle.gerrit_events.specs.Kinds.{approvals_part, change_part, line_kind, set_part}
 use Rattle.gerrit_events.specs.Listings.{Ballot, ballot_by, ballot_of, ballots_in, mark_ballot, mark_ballots}
 use Rattle.gerrit_events.specs.Marks.{mark_label, marks_in, reserved_voter}
-use Rattle.gerrit_events.specs.Messages.{kept_message}
-use Rattle.gerrit_events.specs.Patches.{ShownPatch, brought_by, message_in, parents_in, patch_in, revision_in, set_in}
+use Rattle.gerrit_events.specs.Messages.{has_lost_footers, kept_message}
+use Rattle.gerrit_events.specs.Patches.{ShownPatch, brought_by, message_in, parent_in, parents_in, parents_part, patch_in}
+use Rattle.gerrit_events.specs.Patches.{revision_in, set_in}
 use Rattle.gerrit_events.specs.Projects.{Choice}
 use Rattle.gerrit_events.specs.Reading.{ClaimsAreSettled, claims_of}
 use Rattle.gerrit_events.specs.Revisions.{Revision}
@@ -44,6 +46,7 @@ use Rattle.event_filter.specs.Bringing.{IsSaidByRecord, is_ballot_of, is_listed_
 use Rattle.event_filter.specs.Recorded.{HasPatch, IsRecorded, change_at, score_at}
 use Rattle.event_filter.specs.Rows.{HasStatus, IsApproval, IsFedRow, SaysRow}
 use Rattle.event_filter.specs.Truth.{AgreesWithAll, DeedPlace, patch_place, place_written, score_place, status_place}
+use Rattle.event_filter.proofs.Messages.{kept_fits}
 use Rattle.event_filter.proofs.Truth.{one_slot}
 use Rattle.event_filter.proofs.Speaking.{AllOnly, Only, draft_said, only_append, only_weaker, unlisted_said}
 
@@ -187,6 +190,10 @@ opening_only : (change : ℕ) (name : Option (List ℕ)) → AllOnly (OfStatus c
 opening_only change None = (λ place speaks. absurd speaks, tt)
 opening_only change (Some name) = named_only change name
 
+footers_only : (P : DeedPlace → Type 0) (are_lost : Bool) → AllOnly P (lost_footers are_lost)
+footers_only P true = (λ place speaks. absurd speaks, tt)
+footers_only P false = tt
+
 lost_only : (P : DeedPlace → Type 0) (count : ℕ) (key : EventKey) → AllOnly P (replicate count (bad key))
 lost_only P zero key = tt
 lost_only P (suc count) key = (λ place speaks. absurd speaks, lost_only P count key)
@@ -255,12 +262,68 @@ query_no_commit line change set = (
       ]) _ (rest_only line change set)),
 )
 
+-- ---- numbers begin at 1
+
+within_low : (b c : Bool) (m n : ℕ) → option_map unsigned_of (if b && c then Some (pos m) else None) ≡ Some n
+    → (b ≡ true) × (m ≡ n)
+within_low true true m n e = (refl, cc)
+within_low true false m n e = cc
+within_low false c m n e = cc
+
+low_one : (m : ℕ) → int_le (pos 1) (pos m) ≡ true → 1 ≤ m
+low_one m e = leb-true 1 m e
+
+from_one_by : (found : Option ℤ) (n : ℕ)
+    → option_map unsigned_of (option_and_then (within (pos 1) (pos 4294967295)) found) ≡ Some n → 1 ≤ n
+from_one_by None n e = cc
+from_one_by (Some (negsuc m)) n e = cc
+from_one_by (Some (pos m)) n e =
+    let parts = within_low (int_le (pos 1) (pos m)) (int_le (pos m) (pos 4294967295)) m n e in
+    subst (λ k. 1 ≤ k) parts.1 (low_one m parts.0)
+
+value_from_one : (found : Option Data) (n : ℕ) → number_value found ≡ Some n → 1 ≤ n
+value_from_one found n e = from_one_by (option_and_then whole_in found) n e
+
+first_from_one : (found : Option ℕ) (rest : List ℕ) → ((n : ℕ) → found ≡ Some n → 1 ≤ n)
+    → IfSome (slice_get rest 0) (λ n. 1 ≤ n) → IfSome (slice_get (cons_option found rest) 0) (λ n. 1 ≤ n)
+first_from_one None rest here later = later
+first_from_one (Some n) rest here later = here n refl
+
+parents_from_one : (known : List Revision) (parents : List Data)
+    → IfSome (slice_get (filter_map (parent_in known QueryLine) parents) 0) (λ n. 1 ≤ n)
+parents_from_one known [] = tt
+parents_from_one known (parent ∷ parents) =
+    first_from_one (parent_in known QueryLine parent) (filter_map (parent_in known QueryLine) parents)
+    (value_from_one (get (codes "number") parent)) (parents_from_one known parents)
+
+-- ---- what a row claims of its commit
+
 -- the claims of a row's commit, where it has a message
 abbrev commit_parent : List Revision → Data → Option ℕ
 commit_parent known line = slice_get (parents_in known QueryLine line) 0
 
-abbrev after_commit : List Revision → Data → List Claim
-after_commit known line = replicate (lost_parents known QueryLine line) (bad DependsOn) ++ []
+abbrev after_commit : List Revision → Data → List ℕ → List Claim
+after_commit known line message =
+    lost_footers (has_lost_footers message) ++ (replicate (lost_parents known QueryLine line) (bad DependsOn) ++ [])
+
+lost_with_commit : (P : DeedPlace → Type 0) (known : List Revision) (line : Data) (message : List ℕ)
+    → AllOnly P (after_commit known line message)
+lost_with_commit P known line message =
+    only_append P (lost_footers (has_lost_footers message)) (replicate (lost_parents known QueryLine line) (bad DependsOn) ++ [])
+    (footers_only P (has_lost_footers message))
+    (only_append P (replicate (lost_parents known QueryLine line) (bad DependsOn)) []
+    (lost_only P (lost_parents known QueryLine line) DependsOn) tt)
+
+faultless_commit : (known : List Revision) (choice : Choice) (line : Data) (change set : ℕ) (message : List ℕ)
+    → IsFedRow choice line change set → IsFaultless (patch_set change set (kept_message message) (commit_parent known line))
+faultless_commit known choice line change set message row = record {
+  change = value_from_one (under (codes "number") (change_part QueryLine line)) change row.of_change;
+  set = value_from_one (under (codes "number") (set_part QueryLine line)) set row.of_set;
+  label = tt;
+  voter = tt;
+  message = kept_fits message;
+  parent = parents_from_one known (parents_part QueryLine line);
+}
 
 row_patch : (choice : Choice) (line : Data) (change set : ℕ) (message : List ℕ) → IsFedRow choice line change set
     → message_in QueryLine line ≡ Some message
@@ -275,7 +338,7 @@ commit_claims : (known : List Revision) (choice : Choice) (line : Data) (change 
     → IsFedRow choice line change set → message_in QueryLine line ≡ Some message
     → claims_of known choice (line_kind line) line
     ≡ Closing line change
-    ++ drafts (patch_set change set (kept_message message) (commit_parent known line)) ∷ (after_commit known line ++ query_claims line change set)
+    ++ drafts (patch_set change set (kept_message message) (commit_parent known line)) ∷ (after_commit known line message ++ query_claims line change set)
 commit_claims known choice line change set message row has =
     row_claims known choice line change set row
     ∙ ap (λ patch. Closing line change ++ (brought_claims known QueryLine line patch ++ query_claims line change set))
@@ -284,14 +347,13 @@ commit_claims known choice line change set message row has =
 commit_said : (known : List Revision) (choice : Choice) (line : Data) (change set : ℕ) (findings : List Finding)
     (new : State) → IsFedRow choice line change set → ClaimsAreSettled (claims_of known choice (line_kind line) line) findings
     → AgreesWithAll findings new → (message : List ℕ) → message_in QueryLine line ≡ Some message
-    → IsFaultless (patch_set change set (kept_message message) (commit_parent known line))
     → HasPatch (change_at new change) set (record { message = kept_message message; parent = commit_parent known line })
-commit_said known choice line change set findings new row settled all message has good =
+commit_said known choice line change set findings new row settled all message has =
+    let good = faultless_commit known choice line change set message row in
     let claimed = subst (λ claims. ClaimsAreSettled claims findings) (commit_claims known choice line change set message row has) settled in
-    elim (draft_said (Closing line change) (patch_set change set (kept_message message) (commit_parent known line)) (after_commit known line ++ query_claims line change set) findings new NoCommit claimed all good
-    (only_append NoCommit (after_commit known line) (query_claims line change set)
-    (only_append NoCommit (replicate (lost_parents known QueryLine line) (bad DependsOn)) []
-    (lost_only NoCommit (lost_parents known QueryLine line) DependsOn) tt)
+    elim (draft_said (Closing line change) (patch_set change set (kept_message message) (commit_parent known line)) (after_commit known line message ++ query_claims line change set) findings new NoCommit claimed all good
+    (only_append NoCommit (after_commit known line message) (query_claims line change set)
+    (lost_with_commit NoCommit known line message)
     (query_no_commit line change set)) (λ none. none change set refl)) [ inl said ↦ said | inr moot ↦ absurd (moot tt) ]
 
 -- ---- the status
@@ -336,8 +398,7 @@ brought_no_status : (known : List Revision) (line : Data) (patch : Option ShownP
 brought_no_status known line None = (λ place speaks. absurd speaks, tt)
 brought_no_status known line (Some patch) = (
   λ place speaks. commit_no_status place patch.change patch.set speaks,
-  only_append NoStatus (replicate (lost_parents known QueryLine line) (bad DependsOn)) []
-      (lost_only NoStatus (lost_parents known QueryLine line) DependsOn) tt,
+  lost_with_commit NoStatus known line patch.message,
 )
 
 query_no_status : (line : Data) (change set : ℕ) → opening_claims change (status_part line) ≡ []
@@ -528,30 +589,11 @@ approval_said known choice line change set findings new row settled all before a
     (unspoken_score line change set after (map to_ascii_lowercase label) voter last
     (λ reserved. absurd (false≢true (sym is.real ∙ ap (λ v. bytes_eq v reserved_voter) reserved ∙ same_text reserved_voter))))))
 
--- ---- numbers begin at 1
-
-within_low : (b c : Bool) (m n : ℕ) → option_map unsigned_of (if b && c then Some (pos m) else None) ≡ Some n
-    → (b ≡ true) × (m ≡ n)
-within_low true true m n e = (refl, cc)
-within_low true false m n e = cc
-within_low false c m n e = cc
-
-low_one : (m : ℕ) → int_le (pos 1) (pos m) ≡ true → 1 ≤ m
-low_one m e = leb-true 1 m e
-
-from_one_by : (found : Option ℤ) (n : ℕ)
-    → option_map unsigned_of (option_and_then (within (pos 1) (pos 4294967295)) found) ≡ Some n → 1 ≤ n
-from_one_by None n e = cc
-from_one_by (Some (negsuc m)) n e = cc
-from_one_by (Some (pos m)) n e =
-    let parts = within_low (int_le (pos 1) (pos m)) (int_le (pos m) (pos 4294967295)) m n e in
-    subst (λ k. 1 ≤ k) parts.1 (low_one m parts.0)
-
 pub says : (known : List Revision) (choice : Choice) (line : Data) (change set : ℕ) (findings : List Finding)
     (new : State) → IsFedRow choice line change set → ClaimsAreSettled (claims_of known choice (line_kind line) line) findings
     → AgreesWithAll findings new → SaysRow known line change set new
 says known choice line change set findings new row settled all =
-    let one : 1 ≤ change = from_one_by (option_and_then whole_in (under (codes "number") (change_part QueryLine line))) change row.of_change in
+    let one : 1 ≤ change = value_from_one (under (codes "number") (change_part QueryLine line)) change row.of_change in
     record {
       commit = commit_said known choice line change set findings new row settled all;
       merged = λ is. elim (closing_said known choice line change set findings new row settled all (codes "MERGED") is (merged change) refl refl refl (record { change = one; set = tt; label = tt; voter = tt; message = tt; parent = tt })) [

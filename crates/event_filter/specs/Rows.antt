@@ -5,7 +5,7 @@ use Rattle.std.specs.Char.{to_ascii_lowercase}
 use Rattle.std.specs.Str.{bytes_eq}
 use Rattle.serde_json.specs.Data.{Data}
 use Rattle.serde_json.specs.Find.{get}
-use Rattle.review_ops.specs.Deed.{patch_set, vote, withdraw}
+use Rattle.review_ops.specs.Deed.{vote, withdraw}
 use Rattle.review_ops.specs.Good.{IsFaultless, IsGood}
 use Rattle.change_core.specs.Views.{status_of}
 use Rattle.change_core.specs.declared.life.Status.{Status}
@@ -51,7 +51,6 @@ pub record IsApproval (approval : Data) (label voter : List ℕ) (value : ℤ) :
 -- else has a score on it
 pub record SaysRow (known : List Revision) (line : Data) (change set : ℕ) (state : State) : Type 0 where
   pub commit : (message : List ℕ) → message_in QueryLine line ≡ Some message
-      → IsFaultless (patch_set change set (kept_message message) (slice_get (parents_in known QueryLine line) 0))
       → HasPatch (change_at state change) set
       (record { message = kept_message message; parent = slice_get (parents_in known QueryLine line) 0 })
   pub merged : HasStatus line (codes "MERGED") → status_of (change_at state change) ≡ Merged

@@ -1,12 +1,12 @@
 //! What follows of what a record holds, as functions that do nothing: their contracts are the laws.
 
-ghost use Rattle.std.specs.Prelude.{◌≡◌, ◌↔◌, ℕ, List};
+ghost use Rattle.std.specs.Prelude.{◌≡◌, ◌≤◌, ℕ, List, false, length};
 ghost use Rattle.event_filter.specs.Recorded.{change_at, IsRecorded, LookAlike};
 ghost use Rattle.event_filter.specs.Newest.{IsNewest, IsOpenTo};
 ghost use Rattle.event_filter.specs.Truth.{AgreesWithAll, AreMet, AreNothingNew};
 ghost use Rattle.footer_text.specs.Footers.{MessageNeeds};
 ghost use Rattle.gerrit_events.specs.declared.finding.Finding.{Finding};
-ghost use Rattle.gerrit_events.specs.Messages.{kept_message};
+ghost use Rattle.gerrit_events.specs.Messages.{has_lost_footers, kept_message};
 ghost use Rattle.gerrit_events.specs.Projects.{Choice};
 ghost use Rattle.gerrit_events.specs.Reading.{IsLineObject, Reads, Told};
 ghost use Rattle.gerrit_events.specs.Revisions.{Revision};
@@ -55,8 +55,16 @@ pub fn what_a_row_says_is_what_the_record_says()
         → (state new : State) → AreMet state told.findings new → SaysRow known (object members) change set new }
 {}
 
-/// A law: what is kept of a message names the same changes as the message, whatever the bases.
+/// A law: what is kept of a message names no change but those that the message names, whatever the bases; and all of
+/// these, unless footers of it are lost, which is reported.
 pub fn what_is_kept_of_a_message_names_the_same()
-    ensures { (bases : List (List ℕ)) (own : ℕ) (message : List ℕ) (change : ℕ)
-        → MessageNeeds bases own (kept_message message) change ↔ MessageNeeds bases own message change }
+    ensures no_more { (bases : List (List ℕ)) (own : ℕ) (message : List ℕ) (change : ℕ)
+        → MessageNeeds bases own (kept_message message) change → MessageNeeds bases own message change }
+    ensures all { (bases : List (List ℕ)) (own : ℕ) (message : List ℕ) → has_lost_footers message ≡ false
+        → (change : ℕ) → MessageNeeds bases own message change → MessageNeeds bases own (kept_message message) change }
+{}
+
+/// A law: what is kept of a message has at most 65,536 bytes, so that no patch set is refused for its message.
+pub fn what_is_kept_of_a_message_fits_a_body()
+    ensures { (message : List ℕ) → length (kept_message message) ≤ 65536 }
 {}

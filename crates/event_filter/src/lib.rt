@@ -27,9 +27,10 @@ mod vanishing;
 pub use asking::asked;
 pub use bringing::{brought, is_moot};
 pub use laws::{
-    what_a_row_says_is_what_the_record_says, what_is_kept_of_a_message_names_the_same,
-    what_is_met_is_what_the_record_says, what_is_nothing_new_brings_nothing,
-    what_is_recorded_changes_no_view, what_is_taken_in_is_recorded,
+    what_a_row_says_is_what_the_record_says, what_is_kept_of_a_message_fits_a_body,
+    what_is_kept_of_a_message_names_the_same, what_is_met_is_what_the_record_says,
+    what_is_nothing_new_brings_nothing, what_is_recorded_changes_no_view,
+    what_is_taken_in_is_recorded,
 };
 pub use recorded::is_recorded;
 pub use vanishing::vanished;

@@ -4,7 +4,7 @@ use Rattle.std.specs.Prelude.{◌≡◌, ◌⊎◌, ℕ, true, false, List, Opti
 use Rattle.std.specs.Ordering.{nat_cmp}
 use Rattle.std.specs.BTreeSet.{Updates, contains}
 use Rattle.event_feed.specs.Ends.{FeedIsCutShort, IsWritten}
-use Rattle.event_feed.specs.Feed.{Feeds}
+use Rattle.event_feed.specs.Feed.{Feeds, gerrit_line_limit}
 use Rattle.event_feed.specs.declared.fault.FeedFault.{FeedFault}
 use Rattle.event_feed.specs.declared.fault.FeedFault.TheVariants.{Incomplete, NoMemory, WriteFault}
 use Rattle.event_feed.specs.declared.progress.Input.TheVariants.{Answer}
@@ -85,5 +85,5 @@ module _ {Whole Feed Site : Type 0} (feed : Whole → Feed) (noted : Whole → N
       (new : Whole) (result : Result (Unit {0}) FeedFault) : Type 0 where
     pub between : Whole
     pub answered : Result (Unit {0}) FeedFault
-    pub fed : Feeds ListingRests ListingTakes Answer choice 1048576 18446744073709551615 left unread old left' unread' between answered
+    pub fed : Feeds ListingRests ListingTakes Answer choice gerrit_line_limit 18446744073709551615 left unread old left' unread' between answered
     pub ended : EndsListing answered between new result

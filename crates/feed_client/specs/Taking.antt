@@ -4,7 +4,7 @@ use Rattle.std.specs.Prelude.{flat_map}
 use Rattle.std.specs.BTreeSet.{BTreeSet, contains}
 use Rattle.std.specs.Ordering.{nat_cmp}
 use Rattle.event_feed.specs.Ends.{End, FeedIsCutShort, IsWritten}
-use Rattle.event_feed.specs.Feed.{Feeds}
+use Rattle.event_feed.specs.Feed.{Feeds, gerrit_line_limit}
 use Rattle.event_feed.specs.declared.fault.FeedFault.{FeedFault}
 use Rattle.event_feed.specs.declared.fault.FeedFault.TheVariants.{WriteFault, NoMemory}
 use Rattle.event_feed.specs.declared.progress.Input.{Input}
@@ -82,4 +82,4 @@ module _ {Feed Site : Type 0} (shown : Feed → Seen Site)
   abbrev pub FeedsSite : Input → Choice → Option (List ℕ) → ℕ → Feed → Option (List ℕ) → ℕ → Feed
       → Result (Unit {0}) FeedFault → Type 0
   FeedsSite input choice left unread old left' unread' new result =
-      Feeds FeedRests FeedTakes input choice 1048576 18446744073709551615 left unread old left' unread' new result
+      Feeds FeedRests FeedTakes input choice gerrit_line_limit 18446744073709551615 left unread old left' unread' new result

@@ -1,11 +1,11 @@
 -- What is kept of the lines of a message that are left.
 use Rattle.std.proofs.Common.{[], ℕ, suc, List, length, Option, None, Some}
-use Rattle.gerrit_events.specs.Messages.{footer_lines}
+use Rattle.gerrit_events.specs.Messages.{footers_of}
 
--- what is kept of the text that is left, where some is
-abbrev pub kept_left : Option (List ℕ) → List ℕ
-kept_left None = []
-kept_left (Some text) = footer_lines text
+-- the footers of the text that is left, where some is
+abbrev pub footers_left : Option (List ℕ) → List (List ℕ)
+footers_left None = []
+footers_left (Some text) = footers_of text
 
 abbrev pub left_length : Option (List ℕ) → ℕ
 left_length None = 0

@@ -21,7 +21,7 @@ use Rattle.gerrit_events.specs.declared.mark.Mark.TheVariants.{WorkInProgress, P
 use Rattle.gerrit_events.specs.Kinds.{account_part, account_key, approvals_part, change_key, set_key}
 use Rattle.gerrit_events.specs.Listings.{Ballot, Listing, ballots_in, mark_ballots}
 use Rattle.gerrit_events.specs.Marks.{is_private, is_wip, mark_label, marks_in, reserved_voter}
-use Rattle.gerrit_events.specs.Messages.{kept_message}
+use Rattle.gerrit_events.specs.Messages.{has_lost_footers, kept_message}
 use Rattle.gerrit_events.specs.Patches.{ShownPatch, change_in, set_in, brought_by, parents_part, parents_in}
 use Rattle.gerrit_events.specs.Revisions.{Revision}
 use Rattle.gerrit_events.specs.Values.{text_in, number_value, vote_value, user_in, listed_values}
@@ -71,11 +71,16 @@ abbrev pub patch_marks : Kind → Data → ShownPatch → List Claim
 patch_marks QueryLine line patch = []
 patch_marks kind line patch = map (mark_claim patch.change patch.set) (marks_in kind line)
 
--- a patch set with its first known parent
+-- that footers of a message are lost
+abbrev pub lost_footers : Bool → List Claim
+lost_footers are_lost = if are_lost then bad CommitMessage ∷ [] else []
+
+-- a patch set with its first known parent, and what is lost of it
 abbrev pub patch_claims : List Revision → Kind → Data → ShownPatch → List Claim
 patch_claims known kind line patch =
     patch_claim kind (slice_get (parents_in known kind line) 0) (patch_deed patch (slice_get (parents_in known kind line) 0))
-    ∷ replicate (lost_parents known kind line) (bad (parents_key kind)) ++ patch_marks kind line patch
+    ∷ (lost_footers (has_lost_footers patch.message)
+    ++ (replicate (lost_parents known kind line) (bad (parents_key kind)) ++ patch_marks kind line patch))
 
 -- a new patch set and one of a query have a message
 abbrev pub without_patch : Kind → List Claim

@@ -5,9 +5,10 @@ ghost use Rattle.std.specs.Prelude.{string_bytes};
 ghost use Rattle.review_ops.specs.Deed.{withdraw};
 ghost use Rattle.review_ops.specs.Draft.{deed_of};
 ghost use Rattle.gerrit_events.specs.Claims.{drafts, bad, change_claims, claims_by, closing_claims, first_claims};
-ghost use Rattle.gerrit_events.specs.Claims.{listed_claims, lost_parents, mark_claim, older_claims, opening_claims};
-ghost use Rattle.gerrit_events.specs.Claims.{patch_claim, patch_claims, patch_marks, query_claims, set_claims, state_claim};
-ghost use Rattle.gerrit_events.specs.Claims.{vote_claim, vote_claims, vote_of, value_under, with_set};
+ghost use Rattle.gerrit_events.specs.Claims.{listed_claims, lost_footers, lost_parents, mark_claim, older_claims};
+ghost use Rattle.gerrit_events.specs.Claims.{opening_claims, patch_claim, patch_claims, patch_marks, query_claims};
+ghost use Rattle.gerrit_events.specs.Claims.{set_claims, state_claim, vote_claim, vote_claims, vote_of, value_under};
+ghost use Rattle.gerrit_events.specs.Claims.{with_set};
 ghost use Rattle.gerrit_events.specs.declared.kind.Kind.TheVariants.{QueryLine};
 ghost use Rattle.gerrit_events.specs.Listings.{ballot_of, ballot_shown, ballots_in, mark_ballot};
 ghost use Rattle.gerrit_events.specs.Marks.{marks_in};
@@ -212,14 +213,15 @@ impl<'k, 'v, 'a> Event<'k, 'v, 'a> {
     {
         let parents = self.parents()?;
         let parent = parents.first().copied();
-        let message = kept_message(self.alloc, patch.message)?;
+        let kept = kept_message(self.alloc, patch.message)?;
         let draft = Draft::PatchSet {
             change: patch.change,
             set: patch.set,
-            message,
+            message: kept.text,
             parent,
         };
         add(claims, self.patch_claim(parent, draft))?;
+        add_lost_footers(claims, kept.is_cut)?;
         let lost = self.lost_parents(parents.as_slice());
         add_bad(claims, self.line.parents_key(), lost)?;
         self.add_patch_marks(claims, patch)
@@ -513,6 +515,16 @@ fn add(claims: &mut Vec<Claim>, claim: Claim) -> Result<(), NoMemory>
     ensures { OnOk result (claims.new.items ≡ claims.old.items ++ claim ∷ []) }
 {
     claims.push(claim)?;
+    Ok(())
+}
+
+/// Adds that footers of a message are lost, where some are.
+fn add_lost_footers(claims: &mut Vec<Claim>, are_lost: bool) -> Result<(), NoMemory>
+    ensures { OnOk result (claims.new.items ≡ claims.old.items ++ lost_footers are_lost) }
+{
+    if are_lost {
+        return add(claims, Claim::bad(EventKey::CommitMessage));
+    }
     Ok(())
 }
 

@@ -29,6 +29,9 @@ use lattice_core::NoMemory;
 use std::alloc::Global;
 use std::str;
 
+/// The most bytes of a line that is read in the room that is kept. What a longer one takes is given back.
+const KEPT_ROOM: usize = 1_048_576;
+
 /// What a line is, and what is found in it, in order: the bodies that it brings, what it says beside, and what of it is
 /// refused. Nothing is found in a line of a project that isn't among these. Where memory is refused nothing is learned.
 /// It costs O(n) for n bytes of the line, and a look-up for each parent that it names.
@@ -42,6 +45,10 @@ pub fn read_event(
     ensures kept { OnErr result (known.new ≡ known.old) }
 {
     match str::from_utf8(line) {
+        Ok(text) if line.len() > KEPT_ROOM => {
+            let mut room = Scratch::new(alloc);
+            read_text(alloc, &mut known.revisions, &mut room, projects, text)
+        }
         Ok(text) => read_text(alloc, &mut known.revisions, &mut known.room, projects, text),
         Err(_) => refused(alloc, EventKey::Line),
     }

@@ -12,6 +12,8 @@ mod bringing;
 #[cfg(test)]
 mod gatherings;
 #[cfg(test)]
+mod messages;
+#[cfg(test)]
 mod plain_replica;
 #[cfg(test)]
 mod recorded;

@@ -562,17 +562,20 @@ fn long_footer(alloc: Global, letters: usize) -> Result<String, AllocError> {
     long_event(alloc, 1, text.as_str())
 }
 
-/// What is read of it, and whether its message is refused.
+/// What is found where the only footer of a message is lost.
+const LOST: &str =
+    "~ {\"change\":101,\"message\":\"\",\"op\":\"patchset\",\"set\":1}\n! BadEvent commitMessage\n";
+
+/// What is read of it, and whether it is lost.
 fn read_footer(alloc: Global, letters: usize) -> Option<(Place, bool)> {
     let line = long_footer(alloc, letters).ok()?;
-    read_long(alloc, line.as_str(), "! BadEvent commitMessage\n")
+    read_long(alloc, line.as_str(), LOST)
 }
 
-// The revision is learned all the same.
 #[test]
-fn footers_that_are_too_long_are_refused(rt: HostRuntime) {
-    for (letters, is_refused) in [(65_524usize, false), (65_525, true)] {
-        let wanted = (Some((101, 1)), is_refused);
+fn a_footer_that_does_not_fit_is_lost(rt: HostRuntime) {
+    for (letters, is_lost) in [(65_524usize, false), (65_525, true)] {
+        let wanted = (Some((101, 1)), is_lost);
         assert_found(&rt, read_footer(rt.alloc(), letters), Some(wanted));
     }
 }

@@ -205,15 +205,9 @@ fn assert_reported(rt: &impl Abort, alloc: Global, blanks: usize, wanted: &str) 
     assert_found(rt, (fault, errors.as_slice()), (None, wanted.as_bytes()));
 }
 
-/// A line of 1,048,576 bytes is read, and one that is longer by a byte isn't.
 #[test]
-fn lines_have_their_limit(rt: HostRuntime) {
-    for (blanks, wanted) in [
-        (1048576usize - 16, ""),
-        (1048577 - 16, "reviewgate: events 1 BadEvent 1 line\n"),
-    ] {
-        assert_reported(&rt, rt.alloc(), blanks, wanted);
-    }
+fn a_line_of_two_mebibytes_is_read(rt: HostRuntime) {
+    assert_reported(&rt, rt.alloc(), 2_097_152, "");
 }
 
 /// A line that merges a change, and one that is no event.

@@ -1,7 +1,7 @@
-use Rattle.std.proofs.Common.{◌+◌, ◌++◌, ◌∷◌, [], ◌∙◌, length, refl, inl, inr, arith, length-append}
+use Rattle.std.proofs.Common.{◌+◌, ◌++◌, ◌∷◌, [], length, refl, sym, inl, inr, arith, length-append}
 use Rattle.std.proofs.lemmas.Result.{err_from_is_err_and}
 use Rattle.event_feed.specs.declared.progress.Progress.TheVariants.{Unbegun}
-use Rattle.event_feed.proofs.Feeding.{step_end, step_off, step_on, turns_push}
+use Rattle.event_feed.proofs.Feeding.{step_end, step_off, step_on, turns_held, turns_push}
 use Rattle.event_feed.proofs.feed.feed_most.Goals as goal
 
 pub returns-in_default : goal.returns-in_default
@@ -20,9 +20,10 @@ loop-number-preserved g c =
     c.if-not-branch.false c.in_ok-next_line.ensures.step in (
       so_far.0 ++ step.2.0 ∷ [],
       omega (arith, so_far.1, length-append so_far.0 (step.2.0 ∷ [])),
-      turns_push g.T.Taker.rests g.T.Taker.takes c.args.projects.now c.args.limit 1 (c.loop-number.number + 1) so_far.0 _ _ _ step.0
-          step.2.0 (omega (arith, so_far.1)) so_far.2 step.1 step.2.1 step.2.2,
-      c.in_ok-next_line.ensures.limit ∙ so_far.3,
+      turns_held g.T.Taker.rests g.T.Taker.takes c.args.projects.now c.args.limit 1 _ _ _ _ _ _ _ _ _ (sym c.renewed-reader.ensures.held)
+          (turns_push g.T.Taker.rests g.T.Taker.takes c.args.projects.now c.args.limit 1 (c.loop-number.number + 1) so_far.0 _ _ _ step.0
+          step.2.0 (omega (arith, so_far.1)) so_far.2 step.1 step.2.1 step.2.2),
+      c.renewed-reader.ensures.limit,
     )
 
 pub returns-in_err-next_line : goal.returns-in_err-next_line
